@@ -1,0 +1,14 @@
+//! Messages that can't be read.
+
+/// A hold message that can't be read, and what its refusal prints of it. Its values are slices of the body.
+#[derive(Clone, Copy)]
+pub struct Unreadable<'a> {
+    /// The transaction date, where the body is long enough for it.
+    pub date: Option<&'a [u8]>,
+    /// AA, the patron identifier.
+    pub patron: Option<&'a [u8]>,
+    /// AB, the item identifier; nothing where it is absent or empty.
+    pub copy: Option<&'a [u8]>,
+    /// AJ, the title identifier; nothing where it is absent or empty.
+    pub title: Option<&'a [u8]>,
+}

@@ -1,0 +1,34 @@
+//! Why a program stops.
+ghost use Rattle.std.specs.Prelude.{◌≡◌};
+ghost use Rattle.hd_server.specs.declared.fault.ServerFault.TheVariants.{Memory};
+
+use std::alloc::AllocError;
+use thiserror::Error;
+
+/// Why a program stops before its end, printed as one line on standard error; the exit status is 1.
+#[derive(Clone, Copy, Debug, PartialEq, Eq, Error)]
+pub enum ServerFault {
+    /// The input line with this number, counted from 1, doesn't begin with a session's number and one blank.
+    #[error("input line {line}: no session")]
+    NoSession { line: u64 },
+    /// The input has more than 16,777,216 bytes.
+    #[error("input too long")]
+    InputTooLong,
+    /// A read failed.
+    #[error("cannot read")]
+    Read,
+    /// A write failed, or took no byte.
+    #[error("cannot write")]
+    Write,
+    /// Want of memory.
+    #[error("no memory")]
+    Memory,
+}
+
+impl From<AllocError> for ServerFault {
+    ghost from_gives = { λ _ fault. fault ≡ Memory };
+
+    fn from(_: AllocError) -> ServerFault {
+        ServerFault::Memory
+    }
+}

@@ -1,0 +1,17 @@
+//! The programs of holddesk: `replay` answers the messages of a file as the server would.
+#![tactic(auto)]
+
+mod answer;
+mod fault;
+mod holding;
+mod journal;
+mod prefix;
+mod refusal;
+mod replaying;
+mod sessions;
+mod stream;
+#[cfg(test)]
+mod tests;
+
+pub use crate::fault::ServerFault;
+pub use crate::replaying::replay;

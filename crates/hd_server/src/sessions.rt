@@ -1,0 +1,128 @@
+//! The sessions of an input: its lines, answered in order.
+ghost use Rattle.std.specs.Prelude.{◌≤◌, IfOk, length};
+
+use crate::answer::answer;
+use crate::fault::ServerFault;
+use crate::journal::Journal;
+use crate::prefix::{SESSIONS, session_of};
+use hd_field::line;
+use itoa::Buffer;
+use memchr::memchr;
+use std::alloc::{AllocError, Allocator};
+
+/// The longest line of a message without its carriage return, in bytes. A longer one ends its session.
+const LONGEST_LINE: usize = 1024;
+
+/// The room that a line's reply may need, with its trailer and its session's number.
+const REPLY_ROOM: usize = 2_060;
+
+/// The sessions of an input, over one journal. Every session stands as the terminal t1 as yet.
+#[derive(Drop)]
+pub(crate) struct Sessions<A: Allocator> {
+    journal: Journal<A>,
+    /// Which sessions have ended; the first is at 0.
+    ended: [bool; SESSIONS],
+    /// How many lines of input have been answered or refused.
+    lines: u64,
+}
+
+impl<A: Allocator + Copy> Sessions<A> {
+    /// The sessions before any input.
+    pub(crate) fn new(alloc: A) -> Sessions<A> {
+        Sessions {
+            journal: Journal::new(alloc),
+            ended: [false; SESSIONS],
+            lines: 0,
+        }
+    }
+
+    /// Answers the lines of `input`, at the end of input also one that nothing ends. Says how many bytes they take.
+    ///
+    /// At a fault the replies to the lines before are in `out`.
+    pub(crate) fn answer_lines(
+        &mut self,
+        input: &[u8],
+        at_end: bool,
+        out: &mut Vec<u8, A>,
+    ) -> Result<usize, ServerFault>
+        ensures { IfOk result (λ used. used ≤ length input.now) }
+    {
+        let mut rest = input;
+        while let Some(end) = memchr(b'\n', rest) {
+            let (first, after) = rest.split_at(end);
+            self.answer_line(first, out)?;
+            rest = &after[1..];
+        }
+        if at_end && !rest.is_empty() {
+            self.answer_line(rest, out)?;
+            return Ok(input.len());
+        }
+        Ok(input.len() - rest.len())
+    }
+
+    /// Answers one line of input.
+    fn answer_line(&mut self, text: &[u8], out: &mut Vec<u8, A>) -> Result<(), ServerFault> {
+        self.lines = self.lines.saturating_add(1);
+        let Some((session, message)) = session_of(text) else {
+            return Err(ServerFault::NoSession { line: self.lines });
+        };
+        self.feed(session, message, out)?;
+        Ok(())
+    }
+
+    /// Answers the lines of a message: a carriage return inside it ends one, and its end another.
+    fn feed(
+        &mut self,
+        session: usize,
+        message: &[u8],
+        out: &mut Vec<u8, A>,
+    ) -> Result<(), AllocError>
+        requires from_one { 1 ≤ session }
+        requires known { session ≤ 64 }
+    {
+        let mut rest = message;
+        while let Some(found) = line(rest) {
+            if self.answer_part(session, found.text, out)? {
+                return Ok(());
+            }
+            rest = &rest[found.used..];
+        }
+        self.answer_part(session, rest, out)?;
+        Ok(())
+    }
+
+    /// Answers a line of a session, and says whether the session has ended.
+    fn answer_part(
+        &mut self,
+        session: usize,
+        text: &[u8],
+        out: &mut Vec<u8, A>,
+    ) -> Result<bool, AllocError>
+        requires from_one { 1 ≤ session }
+        requires known { session ≤ 64 }
+    {
+        out.reserve(REPLY_ROOM)?;
+        if text.len() > LONGEST_LINE {
+            self.ended[session - 1] = true;
+        }
+        if self.ended[session - 1] {
+            put_session(out, session)?;
+            out.extend_from_slice(b"ENDED\n")?;
+            return Ok(true);
+        }
+        if !text.is_empty() {
+            put_session(out, session)?;
+            answer(&mut self.journal, text, out)?;
+            out.push(b'\n')?;
+        }
+        Ok(false)
+    }
+}
+
+/// Appends the number of a session, and a blank.
+fn put_session<A: Allocator>(out: &mut Vec<u8, A>, session: usize) -> Result<(), AllocError> {
+    let mut buffer = Buffer::new();
+    out.extend_from_slice(buffer.format(session).as_bytes())?;
+    out.push(b' ')?;
+    Ok(())
+}
