@@ -3,8 +3,8 @@
 
 # The main job: the stored messages, answered.
 run:
-	cd crates/holddesk && rt run -- replay < stdin
+	@cd crates/holddesk && rt run -- replay < stdin
 
 # The gate: every proof from nothing, the wrong bodies that must be refused, the tests and the stored run.
 test:
-	rt ci
+	@rt ci

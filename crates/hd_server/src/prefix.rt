@@ -1,7 +1,6 @@
 //! The session of a line of input.
 ghost use Rattle.std.specs.Prelude.{◌≤◌, IfSome};
 
-
 /// How many sessions an input may have; they are numbered from 1.
 pub(crate) const SESSIONS: usize = 64;
 

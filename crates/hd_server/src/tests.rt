@@ -1,1 +1,241 @@
 //! Rows of messages and replies, through `replay`.
+use crate::{ServerFault, replay};
+use std::alloc::{AllocError, Global};
+use std::io::{self, ErrorKind, Read, Write};
+use std::test::Fail;
+
+/// What `replay` writes for an input, and how it ends.
+fn replayed(alloc: Global, input: &[u8]) -> (Vec<u8>, Result<(), ServerFault>) {
+    let mut from = input;
+    let mut out = Vec::new(alloc);
+    let end = replay(alloc, &mut from, &mut out);
+    (out, end)
+}
+
+#[test]
+fn rows_of_holds(rt: HostRuntime) {
+    for (input, wanted) in [
+        // A hold and its cancellation.
+        (
+            b"1 15+20260301    100000BSnorth|BY2|AOlib|AAp1|AJta|\n1 15-20260301    100000AOlib|AAp1|AJta|BIY|\n".as_slice(),
+            b"1 161Y20260301    100000BR1|BSnorth|AOlib|AAp1|AJta|\n1 161N20260301    100000AOlib|AAp1|AJta|AFCANCELLED 1|\n".as_slice(),
+        ),
+        // Unknown names.
+        (
+            b"1 15+20260301    100000BSnorth|BY2|AOlib|AAp1|AJtx|\n1 15+20260301    100000BSnorth|BY2|AOlib|AApx|AJtx|\n",
+            b"1 160N20260301    100000AOlib|AAp1|AJtx|AFUNKNOWN TITLE|\n1 160N20260301    100000AOlib|AApx|AJtx|AFUNKNOWN PATRON|\n",
+        ),
+        // Checksums of a hold, right and wrong.
+        (
+            b"1 15+20260301    100000BSnorth|BY2|AOlib|AAp1|AJta|AY1AZF097\n",
+            b"1 161Y20260301    100000BR1|BSnorth|AOlib|AAp1|AJta|AY1AZF03F\n",
+        ),
+        (
+            b"1 15+20260301    100000BSnorth|BY2|AOlib|AAp1|AJta|AY1AZF098\n",
+            b"1 96AZFEF6\n",
+        ),
+        // One copy's hold.
+        (
+            b"1 15+20260301    100000BSnorth|BY3|AOlib|AAp1|ABa1|\n1 15-20260301    100000AOlib|AAp1|ABa1|BIY|\n",
+            b"1 161Y20260301    100000BR1|BSnorth|AOlib|AAp1|ABa1|AJta|\n1 161N20260301    100000AOlib|AAp1|ABa1|AJta|AFCANCELLED 1|\n",
+        ),
+    ] {
+        let (out, end) = replayed(rt.alloc(), input);
+        assert!(rt; end.is_ok());
+        assert_eq!(rt; out.as_slice(), wanted);
+    }
+}
+
+#[test]
+fn what_a_later_hold_was_told_stands(rt: HostRuntime) {
+    let (out, end) = replayed(
+        rt.alloc(),
+        b"1 15+20260301    100000BSnorth|BY2|AAp1|AJta|
+2 15+20260301    100000BSsouth|BY4|AAp2|AJta|
+3 15+20260301    100000AAp2|AJta|
+1 15-20260301    100000AAp1|AJta|BIY|
+1 15-20260301    100000AAp2|AJta|BIY|
+1 15-20260301    100000AAp1|AJta|BIY|
+1 15-20260301    100000AAp1|AJta|BIY|
+1 15+20260301    100000AAp1|AJta|
+1 15-20260301    100000AAp1|AJta|BIY|
+",
+    );
+    assert!(rt; end.is_ok());
+    let wanted = b"1 161Y20260301    100000BR1|BSnorth|AOlib|AAp1|AJta|
+2 161Y20260301    100000BR2|BSsouth|AOlib|AAp2|AJta|
+3 160N20260301    100000AOlib|AAp2|AJta|AFHOLD EXISTS|
+1 160N20260301    100000AOlib|AAp1|AJta|AFDEPENDS 2|
+1 161N20260301    100000AOlib|AAp2|AJta|AFCANCELLED 2|
+1 161N20260301    100000AOlib|AAp1|AJta|AFCANCELLED 1|
+1 160N20260301    100000AOlib|AAp1|AJta|AFNOTHING TO CANCEL|
+1 161Y20260301    100000BR1|BSnorth|AOlib|AAp1|AJta|
+1 161N20260301    100000AOlib|AAp1|AJta|AFCANCELLED 3|
+"
+        .as_slice();
+    assert_eq!(rt; out.as_slice(), wanted);
+}
+
+#[test]
+fn refused_and_unread_messages(rt: HostRuntime) {
+    let (out, end) = replayed(
+        rt.alloc(),
+        b"1 15+20260301    100000BSwest|BY2|AAp2|AJtb|
+1 15+20260301    100000ABa1|AAp2|AJtb|
+1 15+20260301    100000ABa9|AAp2|
+1 15+20260301    100000BY3|AAp2|AJtb|
+1 15+2026
+1 15*20260301    100000AAp1|AJta|
+1 9900302.00AY1AZFCA5
+1 1
+1 \n1 97\r15-20260301    100000AAp1|AJta|BIY|",
+    );
+    assert!(rt; end.is_ok());
+    let wanted = b"1 160N20260301    100000AOlib|AAp2|AJtb|AFUNKNOWN BRANCH|
+1 160N20260301    100000AOlib|AAp2|ABa1|AJtb|AFUNKNOWN TITLE|
+1 160N20260301    100000AOlib|AAp2|ABa9|AFUNKNOWN ITEM|
+1 160N20260301    100000AOlib|AAp2|AJtb|AFMESSAGE UNREADABLE|
+1 160N00000101    000000AOlib|AA|AFMESSAGE UNREADABLE|
+1 96
+1 96AZFEF6
+1 96
+1 96
+1 160N20260301    100000AOlib|AAp1|AJta|AFNOTHING TO CANCEL|
+"
+        .as_slice();
+    assert_eq!(rt; out.as_slice(), wanted);
+}
+
+/// A hold in a session with a line of so many bytes, at least 33.
+fn line_of(alloc: Global, session: &[u8], length: usize) -> Result<Vec<u8>, AllocError> {
+    let mut line = Vec::new(alloc);
+    line.extend_from_slice(session)?;
+    line.extend_from_slice(b" 15+20260301    100000AAp1|AJta|AC")?;
+    for _ in 33..length {
+        line.push(b'x')?;
+    }
+    line.push(b'\n')?;
+    Ok(line)
+}
+
+#[test]
+fn a_long_line_ends_its_session(rt: HostRuntime) -> Result<(), Fail> {
+    let mut input = line_of(rt.alloc(), b"7", 1024)?;
+    input.extend_from_slice(line_of(rt.alloc(), b"64", 1025)?.as_slice())?;
+    input.extend_from_slice(b"64 97\n7 97\n64 \n")?;
+    let (out, end) = replayed(rt.alloc(), input.as_slice());
+    assert!(rt; end.is_ok());
+    let wanted = b"7 161Y20260301    100000BR1|BSnorth|AOlib|AAp1|AJta|
+64 ENDED
+64 ENDED
+7 96
+64 ENDED
+"
+        .as_slice();
+    assert_eq!(rt; out.as_slice(), wanted);
+    Ok(())
+}
+
+#[test]
+fn a_line_without_a_session_stops_the_input(rt: HostRuntime) {
+    for line in [
+        b"".as_slice(),
+        b"0 97",
+        b"01 97",
+        b"65 97",
+        b"100 97",
+        b"97",
+        b"1",
+        b"1\t97",
+        b"a 97",
+    ] {
+        let mut input = Vec::new(rt.alloc());
+        let _ = input.extend_from_slice(b"1 97\n");
+        let _ = input.extend_from_slice(line);
+        let _ = input.extend_from_slice(b"\n1 97\n");
+        let (out, end) = replayed(rt.alloc(), input.as_slice());
+        assert_eq!(rt; end, Err(ServerFault::NoSession { line: 2 }));
+        assert_eq!(rt; out.as_slice(), b"1 96\n".as_slice());
+    }
+}
+
+/// A reader that gives a byte at a time of its input over and over, until it fails.
+#[derive(Drop)]
+struct FailingReader {
+    calls: usize,
+}
+
+impl Read for FailingReader {
+    fn read(&mut self, piece: &mut [u8]) -> io::Result<usize> {
+        if self.calls == 0 {
+            return Err(io::Error::from(ErrorKind::Other));
+        }
+        self.calls -= 1;
+        let line = b"1 97\n";
+        if piece.len() < line.len() {
+            return Ok(0);
+        }
+        piece[..5].copy_from_slice(line);
+        Ok(5)
+    }
+}
+
+/// A writer that takes no byte.
+#[derive(Drop)]
+struct FullWriter;
+
+impl Write for FullWriter {
+    fn write(&mut self, _bytes: &[u8]) -> io::Result<usize> {
+        Ok(0)
+    }
+
+    fn flush(&mut self) -> io::Result<()> {
+        Ok(())
+    }
+}
+
+#[test]
+fn reads_and_writes_that_fail_are_named(rt: HostRuntime) {
+    let mut out = Vec::new(rt.alloc());
+    let mut from = FailingReader { calls: 2 };
+    assert_eq!(rt;
+        replay(rt.alloc(), &mut from, &mut out),
+        Err(ServerFault::Read)
+    );
+    assert_eq!(rt; out.as_slice(), b"1 96\n1 96\n".as_slice());
+    let mut from = b"1 97\n".as_slice();
+    assert_eq!(rt;
+        replay(rt.alloc(), &mut from, &mut FullWriter),
+        Err(ServerFault::Write)
+    );
+}
+
+/// A reader that gives so many bytes, none of which ends a line.
+#[derive(Drop)]
+struct EndlessLine {
+    left: usize,
+}
+
+impl Read for EndlessLine {
+    fn read(&mut self, piece: &mut [u8]) -> io::Result<usize> {
+        let count = self.left.min(piece.len());
+        for byte in piece.iter_mut() {
+            *byte = b'x';
+        }
+        self.left -= count;
+        Ok(count)
+    }
+}
+
+#[test]
+fn an_input_has_a_longest_length(rt: HostRuntime) {
+    for (length, wanted) in [
+        (16_777_216, ServerFault::NoSession { line: 1 }),
+        (16_777_217, ServerFault::InputTooLong),
+    ] {
+        let mut from = EndlessLine { left: length };
+        let mut out = Vec::new(rt.alloc());
+        assert_eq!(rt; replay(rt.alloc(), &mut from, &mut out), Err(wanted));
+        assert!(rt; out.is_empty());
+    }
+}
