@@ -9,10 +9,6 @@ use Rattle.hd_guard.specs.Check.{IsRight, check_number, four_digits, upper_digit
 pub complement_is_right : (bytes : List ℕ) → IsRight bytes (check_number bytes)
 complement_is_right bytes = omega arith
 
--- One number of 16 bits is right.
-pub one_right : (bytes : List ℕ) (m n : ℕ) → m < 65536 → n < 65536 → IsRight bytes m → IsRight bytes n → m ≡ n
-one_right bytes m n small_m small_n h g = omega arith
-
 -- a digit has its number as its value
 pub value_of_upper : (n : ℕ) → n < 16 → digit_value (upper_digit n) ≡ n
 value_of_upper n h = grind (arith, common_steps)

@@ -49,7 +49,8 @@ pub fn is_read_back<A: Allocator>(
     line.extend_from_slice(body)?;
     let digit = seq;
     seal(&mut line, 0, digit)?;
-    Ok(is_checked_with(&trailer(&line), body, seq))
+    let answer = trailer(&line);
+    Ok(is_checked_with(&answer, body, seq))
 }
 
 /// Whether an answer is checked, with this body and this digit.

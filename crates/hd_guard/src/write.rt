@@ -30,7 +30,8 @@ pub fn seal<A: Allocator>(
     ensures err { OnErr result (out.new.items ≡ out.old.items) }
 
     // Sealed with no digit, the text must not end in that of a digit itself.
-    ensures read_back { OnOk result (IfNone seq (¬ EndsInSequence (drop from out.old.items)) → IsChecked (drop from out.new.items) (drop from out.old.items) seq) }
+    ensures read_back { OnOk result (IfNone seq (¬ EndsInSequence (drop from out.old.items)) →
+        IsChecked (drop from out.new.items) (drop from out.old.items) seq) }
 
     // Where there is room it succeeds, and the room never shrinks.
     ensures full { OnErr result (vec_capacity out.old < vec_len out.old + trailer_len seq) }
