@@ -3,8 +3,8 @@
 
 # The main job: the stored messages, answered.
 run:
-	@cd crates/holddesk && rt run -- replay < stdin
+	@cd crates/holddesk && rt run -- replay --catalogue data/demonstration.catalogue --now '20260301    120000' < stdin
 
-# The gate: every proof from nothing, the wrong bodies that must be refused, the tests and the stored run.
+# The gate: every proof from nothing, the wrong bodies that must be refused, the tests and the stored runs.
 test:
 	@rt ci

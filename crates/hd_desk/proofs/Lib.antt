@@ -1,0 +1,4 @@
+pub mod Counts
+pub mod Queues
+pub mod Answering
+pub mod Fit

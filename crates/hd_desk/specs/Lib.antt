@@ -1,3 +1,3 @@
-pub mod Names
-pub mod Copies
-pub mod Desk
+pub mod DeskValue
+pub mod Desks
+pub mod Telling

@@ -1,136 +1,106 @@
-//! The desk: the holds that there are.
-ghost use Rattle.std.specs.Prelude.{◌≡◌, ◌↔◌, ◌+◌, [], ◌∷◌, ◌++◌, OnOk, OnErr, IfOk, IsErrOf, IsTrue};
-ghost use Rattle.hd_desk.specs.Desk.{admits, has_hold, holds_of, is_available, run, step};
+//! The desk.
+#![tactic(auto, unfolding(crate::specs::Desks::desk_of))]
 
-use crate::branches::BranchNo;
-use crate::copies::CopyNo;
-use crate::holds::{AddFault, Hold, HoldKind, Placed};
-use crate::patrons::PatronNo;
-use crate::titles::TitleNo;
-use std::alloc::{AllocError, Allocator};
+ghost use Rattle.std.specs.Prelude.{◌≡◌, ℕ, ◌<◌, IfOk, is_some};
+ghost use Rattle.std.specs.Arc.{arc_value};
+ghost use Rattle.hd_rules.specs.Desk.{opening};
+ghost use Rattle.hd_rules.specs.Choose.{count_below};
+ghost use Rattle.hd_rules.specs.Sound.{IsFit};
+ghost use Rattle.hd_rules.specs.Turns.{item_view};
+ghost use Rattle.hd_catalogue.specs.Contents.{facts_of};
+ghost use Rattle.hd_desk.specs.Desks.{IsQueue, desk_of, facts, queue_of};
+
+use hd_catalogue::Catalogue;
+use hd_queue::Queue;
+use hd_rules::{CopyNo, CopyState, Hold, ItemView, PatronNo, TitleNo};
+use std::alloc::{AllocError, Allocator, Global};
 use std::marker::Model;
+use std::sync::Arc;
 
-/// The holds that there are, by rising stamp.
+/// A desk: a catalogue, and the holds of its titles. Each copy stands on the open shelf of its home.
 #[derive(Drop)]
-pub struct Desk<A: Allocator> {
-    holds: Vec<Hold, A>,
+pub struct Desk<A: Allocator = Global> {
+    pub(crate) catalogue: Arc<Catalogue<A>, A>,
+    /// The holds of each title, by its number.
+    pub(crate) queues: Vec<Queue<A>, A>,
 }
 
 impl<A: Allocator> Model for Desk<A> {
-    ghost use Rattle.std.specs.Prelude.{List};
-    ghost use Rattle.hd_desk.specs.declared.holds.Hold.{Hold};
+    ghost use Rattle.std.specs.Arc.{arc_value};
+    ghost use Rattle.hd_catalogue.specs.Contents.{facts_of};
+    ghost use Rattle.hd_desk.specs.DeskValue.{DeskValue};
+    ghost use Rattle.hd_desk.specs.Desks.{AreQueues, holds_in};
 
-    ghost Value = { List Hold };
+    ghost Value = { DeskValue };
 
-    ghost view = { λ desk. desk.holds.items };
+    ghost view = { λ d. record { contents = arc_value d.catalogue; queues = holds_in d.queues.items } };
+
+    ghost invariant = { λ d. AreQueues (facts_of (arc_value d.catalogue)) (holds_in d.queues.items) };
 }
 
-impl<A: Allocator> Desk<A> {
-    /// The desk as the library opens: there are no holds.
-    pub fn open(alloc: A) -> Desk<A>
-        ensures { result ≡ [] }
+impl<A: Allocator + Copy> Desk<A> {
+    /// The opening desk of a catalogue: each copy at home, and no holds.
+    pub fn open(alloc: A, catalogue: Arc<Catalogue<A>, A>) -> Result<Desk<A>, AllocError>
+        ensures contents { IfOk result (λ desk. desk.contents ≡ arc_value catalogue) }
+        ensures opening { IfOk result (λ desk. desk_of desk ≡ opening (facts_of (arc_value catalogue))) }
     {
-        Desk {
-            holds: Vec::new(alloc),
+        let titles = catalogue.titles();
+        let mut queues = Vec::with_capacity(alloc, titles)?;
+        for _ in 0..titles {
+            queues.push(Queue::new(alloc))?;
+        }
+        Ok(Desk { catalogue, queues })
+    }
+
+    /// The catalogue.
+    pub fn catalogue(&self) -> &Arc<Catalogue<A>, A>
+        ensures { arc_value result.now ≡ self.now.contents }
+    {
+        &self.catalogue
+    }
+
+    /// The patron's hold of the title, or `None` where there is none.
+    pub fn hold(&self, title: TitleNo, patron: PatronNo) -> Option<Hold>
+        requires { title < (facts self.now).titles }
+        ensures { result ≡ (desk_of self.now).hold title patron }
+    {
+        self.queue(title).hold_of(patron)
+    }
+
+    /// How many holds the title has.
+    pub fn holds_of(&self, title: TitleNo) -> u32
+        requires { title < (facts self.now).titles }
+        ensures { result ≡ count_below (λ p. is_some ((desk_of self.now).hold title p)) (facts self.now).patrons }
+    {
+        self.catalogue.facts_are_in_range();
+        self.queue(title).len() as u32
+    }
+
+    /// Where the copy is, and how many holds its title has.
+    pub fn item(&self, copy: CopyNo) -> ItemView
+        requires { copy < (facts self.now).copies }
+        ensures { result ≡ item_view (facts self.now) (desk_of self.now) copy }
+    {
+        ItemView {
+            state: CopyState::Shelf(self.catalogue.home(copy)),
+            holds: self.holds_of(self.catalogue.title_of(copy)),
         }
     }
 
-    /// The desk after these adds, one after another; one that is refused changes nothing.
-    pub fn run(alloc: A, adds: &[Hold]) -> Result<Desk<A>, AllocError>
-        ensures { IfOk result (λ desk. desk ≡ run adds.now) }
+    /// Shows that the desk is fit: each hold stands under its own patron, no two holds of a title have one stamp, and no
+    /// two copies have one place.
+    pub fn desk_is_fit(&self)
+        ensures { IsFit (facts self.now) (desk_of self.now) }
     {
-        let mut desk = Desk::open(alloc);
-        for add in adds {
-            desk.step(add)?;
-        }
-        Ok(desk)
+        let _ = &self.queues;
     }
 
-    /// Adds a hold; one that is refused changes nothing.
-    fn step(&mut self, hold: &Hold) -> Result<(), AllocError>
-        ensures { OnOk result (self.new ≡ step self.old hold.now) }
+    /// The title's queue.
+    pub(crate) fn queue(&self, title: TitleNo) -> &Queue<A>
+        requires { title < (facts self.now).titles }
+        ensures holds { result.now.holds ≡ queue_of self.now.queues title }
+        ensures queue { IsQueue (facts self.now) (queue_of self.now.queues title) }
     {
-        match self.add(*hold) {
-            Ok(_) | Err(AddFault::HoldExists) => Ok(()),
-            Err(AddFault::Memory) => Err(AllocError),
-        }
+        &self.queues[title.number() as usize]
     }
-
-    /// Whether the patron has a hold of the title.
-    pub fn has_hold(&self, title: TitleNo, patron: PatronNo) -> bool
-        ensures { result ≡ has_hold self.now title patron }
-    {
-        self.holds
-            .iter()
-            .any(|hold| hold.title == title && hold.patron == patron)
-    }
-
-    /// Adds a hold, the last in its title's queue. An error changes nothing.
-    pub fn add(&mut self, hold: Hold) -> Result<Placed, AddFault>
-        ensures ok { OnOk result (self.new ≡ self.old ++ hold ∷ []) }
-        ensures position { IfOk result (λ placed. placed.position ≡ holds_of self.old hold.title + 1) }
-        ensures available { IfOk result (λ placed. placed.available ≡ is_available hold) }
-        ensures exists { IsErrOf result AddFault.HoldExists ↔ IsTrue (has_hold self.old hold.title hold.patron) }
-        ensures err { OnErr result (self.new ≡ self.old) }
-    {
-        if self.has_same(&hold) {
-            return Err(AddFault::HoldExists);
-        }
-        self.append(hold)?;
-        Ok(self.placed(&hold))
-    }
-
-    /// Whether the patron of a hold has one of its title.
-    fn has_same(&self, hold: &Hold) -> bool
-        ensures { result ≡ has_hold self.now hold.now.title hold.now.patron }
-    {
-        self.has_hold(hold.title, hold.patron)
-    }
-
-    /// What the terminal is told of the last hold of a title.
-    fn placed(&self, hold: &Hold) -> Placed
-        ensures position { result.position ≡ holds_of self.now hold.now.title }
-        ensures available { result.available ≡ is_available hold.now }
-    {
-        Placed {
-            position: self.holds_of(hold.title),
-            available: is_available(hold),
-        }
-    }
-
-    /// Puts a hold at the end.
-    fn append(&mut self, hold: Hold) -> Result<(), AllocError>
-        ensures ok { OnOk result (self.new ≡ self.old ++ hold ∷ []) }
-        ensures err { OnErr result (self.new ≡ self.old) }
-    {
-        self.holds.push(hold)?;
-        Ok(())
-    }
-
-    /// How many holds a title has.
-    fn holds_of(&self, title: TitleNo) -> usize
-        ensures { result ≡ holds_of self.now title }
-    {
-        self.holds.iter().filter(|hold| hold.title == title).count()
-    }
-}
-
-/// Whether a hold of this kind admits a copy of its title.
-fn admits(kind: HoldKind, pickup: BranchNo, copy: CopyNo) -> bool
-    ensures { result ≡ admits kind pickup copy }
-{
-    match kind {
-        HoldKind::Any => true,
-        HoldKind::One(one) => one == copy,
-        HoldKind::AtBranch => copy.home() == pickup,
-    }
-}
-
-/// Whether some copy that a hold admits stands on an open shelf: each copy does.
-fn is_available(hold: &Hold) -> bool
-    ensures { result ≡ is_available hold.now }
-{
-    CopyNo::all()
-        .iter()
-        .any(|copy| copy.title() == hold.title && admits(hold.kind, hold.pickup, *copy))
 }

@@ -1,20 +1,17 @@
-//! The holds of the demonstration library.
-//!
-//! Its names are built in for now: the catalogue file of docs/catalogue.md takes their place.
+//! The hold desk: where the copies are, the holds of each title, and the commands.
 #![tactic(auto)]
 
-mod branches;
-mod copies;
+mod adding;
 mod desk;
-mod holds;
-mod patrons;
+mod done;
+mod finding;
+mod refused;
+
+pub use crate::desk::Desk;
+pub use crate::done::Done;
+pub use crate::refused::Refused;
+pub use hd_catalogue::Catalogue;
+pub use hd_rules::{Action, Change, Command, Hold, ItemView, Refusal, Reply};
+
 #[cfg(test)]
 mod tests;
-mod titles;
-
-pub use crate::branches::BranchNo;
-pub use crate::copies::CopyNo;
-pub use crate::desk::Desk;
-pub use crate::holds::{AddFault, Hold, HoldKind, Placed};
-pub use crate::patrons::PatronNo;
-pub use crate::titles::TitleNo;

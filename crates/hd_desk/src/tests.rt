@@ -1,34 +1,56 @@
-//! Examples of holds.
-use crate::{AddFault, BranchNo, CopyNo, Desk, Hold, HoldKind, PatronNo, TitleNo};
+//! Desks, where memory is ample.
+
+use crate::{Action, Catalogue, Command, Desk, Reply};
+use hd_rules::HoldKind;
+use std::sync::Arc;
 use std::test::Fail;
 
+const CATALOGUE: &[u8] = b"H|1|lib|60|100\nB|north\nB|south\nP|p1|3\nT|ta|21|1\nC|a1|ta|north\n";
+
+/// The first hold of a title, while its copy stands at home.
 #[test]
-fn holds_of_a_title_queue_up(rt: HostRuntime) -> Result<(), Fail> {
-    let mut desk = Desk::open(rt.alloc());
-    let hold = Hold {
-        stamp: 1,
-        patron: PatronNo::named(b"p1").ok_or("no patron")?,
-        title: TitleNo::named(b"tb").ok_or("no title")?,
-        kind: HoldKind::AtBranch,
-        pickup: BranchNo::named(b"south").ok_or("no branch")?,
-    };
-    let Ok(first) = desk.add(hold) else {
+fn first_hold_is_accepted(rt: HostRuntime) -> Result<(), Fail> {
+    let Ok(catalogue) = Catalogue::read(rt.alloc(), CATALOGUE) else {
         return Err("refused".into());
     };
-    assert!(rt; first.position == 1 && !first.available);
-    assert!(rt; matches!(desk.add(hold), Err(AddFault::HoldExists)));
-    let copy = CopyNo::named(b"b2").ok_or("no copy")?;
-    assert!(rt; copy.title() == hold.title && copy.home().name() == b"north".as_slice());
-    let other = Hold {
-        stamp: 2,
-        patron: PatronNo::named(b"p2").ok_or("no patron")?,
-        kind: HoldKind::One(copy),
-        ..hold
+    let Ok(now) = hd_date::read(b"20260301    100000", catalogue.offset()) else {
+        return Err("no date".into());
     };
-    let Ok(second) = desk.add(other) else {
+    let (Some(patron), Some(title), Some(pickup)) = (
+        catalogue.patron(b"p1"),
+        catalogue.title(b"ta"),
+        catalogue.branch(b"north"),
+    ) else {
+        return Err("unknown".into());
+    };
+    let catalogue = Arc::new(rt.alloc(), catalogue)?;
+    let mut desk = Desk::open(rt.alloc(), catalogue)?;
+    let action = Action::Add {
+        patron,
+        title,
+        kind: HoldKind::Any,
+        pickup,
+        expiry: None,
+    };
+    let command = Command {
+        day: now.day(),
+        action,
+    };
+    let Ok(done) = desk.apply(1, &command) else {
         return Err("refused".into());
     };
-    assert!(rt; second.position == 2 && second.available);
-    assert!(rt; PatronNo::named(b"P1").is_none() && BranchNo::named(b"west").is_none());
+    let Reply::Held {
+        available,
+        position,
+        ..
+    } = done.reply()
+    else {
+        return Err("another reply".into());
+    };
+    assert!(rt; available);
+    assert_eq!(rt; position, 1);
+    assert_eq!(rt; done.changes().len(), 1);
+    assert!(rt; desk.hold(title, patron).is_some());
+    assert_eq!(rt; desk.holds_of(title), 1);
     Ok(())
 }

@@ -1,0 +1,11 @@
+pub mod DueLemmas
+pub mod LengthLemmas
+pub mod WrittenLemmas
+pub mod ReadBackLemmas
+pub mod ReadableLemmas
+pub mod ItemReadBack
+pub mod CheckoutReadBack
+pub mod CheckinReadBack
+pub mod HoldReadBack
+pub mod RenewReadBack
+pub mod LoginReadBack

@@ -1,8 +1,10 @@
--- The hold message as its body spells it: two bytes of code, the mode, 18 bytes of date, and fields.
-use Rattle.std.specs.Prelude.{◌≡◌, ℕ, ◌==◌, ◌||◌, ◌&&◌, not, Bool, true, false, List, [], ◌∷◌, Option, None, Some, MatchBool, codes, replicate, slice_index, slice_range, is_none, if◌then◌else◌}
+-- What a hold message holds.
+use Rattle.std.specs.Prelude.{◌≡◌, ℕ, ◌==◌, ◌||◌, ◌&&◌, not, Bool, true, false, List, [], ◌∷◌, Option, None, Some, MatchBool, codes, replicate, is_none, if◌then◌else◌}
 use Rattle.std.specs.Option.{option_copied}
 use Rattle.std.specs.Str.{bytes_eq}
-use Rattle.hd_message.specs.Values.{filled_value, first_value, is_yes, lacks}
+use Rattle.hd_message.specs.Table.{byte_of, column_of}
+use Rattle.hd_message.specs.Values.{filled_value, first_value, is_yes}
+use Rattle.hd_message.specs.declared.kind.Kind.TheVariants.{Hold}
 use Rattle.hd_message.specs.declared.request.Mode.{Mode}
 use Rattle.hd_message.specs.declared.request.Mode.TheVariants.{Add, Delete, Change}
 use Rattle.hd_message.specs.declared.request.Wanted.{Wanted}
@@ -60,10 +62,10 @@ AreWishesOf part (Some wishes) =
 abbrev pub AreWishes : List ℕ → Mode → Bool → Option Wishes → Type 0
 AreWishes part mode cancels wishes = MatchBool (has_wishes mode cancels) (AreWishesOf part wishes) (wishes ≡ None)
 
--- The hold request that a fixed part (with the code) and its fields state.
+-- 15: mode, transaction date; AA, and AB or AJ; BW, BS, BY, BI.
 pub record IsHold (fixed part : List ℕ) (hold : HoldRequest) : Type 0 where
-  pub mode : mode_of (slice_index fixed 2) ≡ Some hold.mode
-  pub date : hold.date.now ≡ slice_range fixed 3 21
+  pub mode : mode_of (byte_of Hold 0 fixed) ≡ Some hold.mode
+  pub date : hold.date.now ≡ column_of Hold 1 fixed
   pub patron : first_value part (codes "AA") ≡ Some hold.patron.now
   pub copy : option_copied hold.copy ≡ filled_value part (codes "AB")
   pub title : option_copied hold.title ≡ filled_value part (codes "AJ")
@@ -90,9 +92,9 @@ abbrev pub is_bad_mode : List ℕ → Option Mode → Bool → Bool
 is_bad_mode part None cancels = true
 is_bad_mode part (Some mode) cancels = has_bad_wishes part mode cancels
 
--- whether a hold message can't be read: a required field is missing, there is no such mode, or its wishes can't be read
+-- whether a hold message doesn't say what it must: it names neither a copy nor a title, there is no such mode, or its wishes can't
+-- be read
 abbrev pub is_bad_hold : List ℕ → List ℕ → Bool
 is_bad_hold fixed part =
-    lacks part (codes "AA")
-    || names_nothing part
-    || is_bad_mode part (mode_of (slice_index fixed 2)) (is_yes (first_value part (codes "BI")))
+    names_nothing part
+    || is_bad_mode part (mode_of (byte_of Hold 0 fixed)) (is_yes (first_value part (codes "BI")))

@@ -1,14 +1,21 @@
 -- The text of a reply's part.
-use Rattle.std.specs.Prelude.{ℕ, List, [], codes}
+use Rattle.std.specs.Prelude.{ℕ, List, codes}
 use Rattle.std.specs.Option.{option_copied}
-use Rattle.hd_message.specs.Reply.{field_text, numbered_text, optional_text}
+use Rattle.hd_message.specs.Fields.{bound_field, cancelled_field, field_text, holds_field, optional_text, place_field, position_field, reason_field, yes_no}
 use Rattle.hd_message.specs.declared.part.Part.{Part}
-use Rattle.hd_message.specs.declared.part.Part.TheVariants.{Text, Field, Optional, Position, Cancelled, Depends}
+use Rattle.hd_message.specs.declared.part.Part.TheVariants.{Text, YesNo, Field, Optional, Due, Expiry, Position, Holds, Place, Bound, Cancelled, Refused}
 
+-- the text of each part
 abbrev pub part_text : Part → List ℕ
 part_text (Text text) = text.now
+part_text (YesNo holds) = yes_no holds
 part_text (Field code value) = field_text code value.now
 part_text (Optional code value) = optional_text code (option_copied value)
-part_text (Position position) = numbered_text (codes "BR") [] position
-part_text (Cancelled number) = numbered_text (codes "AF") (codes "CANCELLED ") number
-part_text (Depends number) = numbered_text (codes "AF") (codes "DEPENDS ") number
+part_text (Due day) = field_text (codes "AH") day
+part_text (Expiry day) = optional_text (codes "BW") day
+part_text (Position position) = position_field position
+part_text (Holds holds) = holds_field holds
+part_text (Place place) = place_field place
+part_text (Bound branch) = bound_field branch.now
+part_text (Cancelled number) = cancelled_field number
+part_text (Refused reason) = reason_field reason

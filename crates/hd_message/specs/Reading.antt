@@ -1,42 +1,56 @@
 -- What a body is read as.
-use Rattle.std.specs.Prelude.{◌≡◌, ℕ, ◌≤◌, Bool, false, true, ◌||◌, List, Option, None, Some, codes, length, take, drop, nat_lt, slice_range, if◌then◌else◌}
+use Rattle.std.specs.Prelude.{◌≡◌, ◌≢◌, ℕ, Bool, true, false, ◌||◌, List, codes, length, take, nat_lt}
 use Rattle.std.specs.Option.{option_copied}
-use Rattle.std.specs.Str.{bytes_eq}
 use Rattle.hd_message.specs.Hold.{IsHold, is_bad_hold}
+use Rattle.hd_message.specs.Requests.{IsCheckin, IsCheckout, IsItem, IsLogin, IsRenew}
+use Rattle.hd_message.specs.Table.{code_of, date_at, date_start, fields_part, fixed_part, fixed_width, lacks_required}
 use Rattle.hd_message.specs.Values.{filled_value, first_value}
+use Rattle.hd_message.specs.declared.kind.Kind.{Kind}
+use Rattle.hd_message.specs.declared.kind.Kind.TheVariants as Kinds
 use Rattle.hd_message.specs.declared.request.Request.{Request}
-use Rattle.hd_message.specs.declared.request.Request.TheVariants.{Hold, Unsupported}
+use Rattle.hd_message.specs.declared.request.Request.TheVariants.{Login, Status, Checkout, Checkin, Hold, Renew, Item, Resend, Unsupported}
 use Rattle.hd_message.specs.declared.unreadable.Unreadable.{Unreadable}
 
--- whether the code of a message is that of a hold
-abbrev pub is_hold : List ℕ → Bool
-is_hold body = bytes_eq (take 2 body) (codes "15")
+-- whether a message whose fixed part is whole lacks what it must have: a required field, or what a hold must say
+abbrev pub is_incomplete : Kind → List ℕ → List ℕ → Bool
+is_incomplete Kinds.Hold fixed part = lacks_required Kinds.Hold part || is_bad_hold fixed part
+is_incomplete kind fixed part = lacks_required kind part
 
--- the code and the fixed part of a hold message: 15, the mode, 18 bytes of date; and the fields behind them
-abbrev pub fixed_part : List ℕ → List ℕ
-fixed_part body = take 21 body
+-- whether the body of a message of this kind can't be read: its fixed part is short, or it lacks what it must have
+abbrev pub is_unreadable : Kind → List ℕ → Bool
+is_unreadable kind body =
+    nat_lt (length body) (fixed_width kind)
+    || is_incomplete kind (fixed_part kind body) (fields_part kind body)
 
-abbrev pub fields_part : List ℕ → List ℕ
-fields_part body = drop 21 body
+-- a code, a fixed part with it and the fields state this request
+abbrev pub States : List ℕ → List ℕ → List ℕ → Request → Type 0
+States code fixed part (Login login) = (code ≡ codes "93") × IsLogin fixed part login
+States code fixed part Status = code ≡ codes "99"
+States code fixed part (Checkout checkout) = (code ≡ codes "11") × IsCheckout fixed part checkout
+States code fixed part (Checkin checkin) = (code ≡ codes "09") × IsCheckin fixed part checkin
+States code fixed part (Hold hold) = (code ≡ codes "15") × IsHold fixed part hold
+States code fixed part (Renew renew) = (code ≡ codes "29") × IsRenew fixed part renew
+States code fixed part (Item item) = (code ≡ codes "17") × IsItem fixed part item
+States code fixed part Resend = code ≡ codes "97"
+States code fixed part Unsupported = ⊥
 
--- whether a hold message can't be read: its fixed part is short, or its mode, its fields or its wishes are bad
-abbrev pub is_unreadable : List ℕ → Bool
-is_unreadable body = nat_lt (length body) 21 || is_bad_hold (fixed_part body) (fields_part body)
+-- The body is a readable message of some kind, and states the request.
+pub record IsMessage (body : List ℕ) (request : Request) : Type 0 where
+  pub kind : Kind
+  pub code : take 2 body ≡ code_of kind
+  pub readable : is_unreadable kind body ≡ false
+  pub states : States (code_of kind) (fixed_part kind body) (fields_part kind body) request
 
--- what a body is read as: a hold that is readable, or nothing that is read
+-- what a body is read as: a message, or nothing that is read where it has no such code
 abbrev pub IsRequest : List ℕ → Request → Type 0
-IsRequest body (Hold hold) = (is_hold body ≡ true) × (is_unreadable body ≡ false) × IsHold (fixed_part body) (fields_part body) hold
-IsRequest body Unsupported = is_hold body ≡ false
+IsRequest body Unsupported = (kind : Kind) → take 2 body ≢ code_of kind
+IsRequest body request = IsMessage body request
 
--- the transaction date, where the fixed part has it whole
-abbrev pub date_of : List ℕ → Option (List ℕ)
-date_of body = if nat_lt (length body) 21 then None else Some (slice_range body 3 21)
-
--- The body is a hold message that can't be read; its refusal prints this date and these values.
+-- The body is an unreadable message of that kind; its refusal prints this date, where the fixed part has it whole, and these values.
 pub record IsUnreadable (body : List ℕ) (message : Unreadable) : Type 0 where
-  pub code : is_hold body ≡ true
-  pub unreadable : is_unreadable body ≡ true
-  pub date : option_copied message.date ≡ date_of body
-  pub patron : option_copied message.patron ≡ first_value (fields_part body) (codes "AA")
-  pub copy : option_copied message.copy ≡ filled_value (fields_part body) (codes "AB")
-  pub title : option_copied message.title ≡ filled_value (fields_part body) (codes "AJ")
+  pub code : take 2 body ≡ code_of message.kind
+  pub unreadable : is_unreadable message.kind body ≡ true
+  pub date : option_copied message.date ≡ date_at body (date_start message.kind)
+  pub patron : option_copied message.patron ≡ first_value (fields_part message.kind body) (codes "AA")
+  pub copy : option_copied message.copy ≡ filled_value (fields_part message.kind body) (codes "AB")
+  pub title : option_copied message.title ≡ filled_value (fields_part message.kind body) (codes "AJ")

@@ -1,8 +1,10 @@
 //! Reading a hold message.
-ghost use Rattle.std.specs.Prelude.{◌≡◌, length, IfSome, is_none, codes};
+ghost use Rattle.std.specs.Prelude.{◌≡◌, ◌||◌, length, IfSome, is_none, codes};
 ghost use Rattle.std.specs.Option.{option_copied};
 ghost use Rattle.hd_message.specs.Hold.{AreWishes, IsHold, expiry_of, has_bad_wishes, is_bad_hold, mode_of, names_nothing, wanted_of};
+ghost use Rattle.hd_message.specs.Table.{lacks_required};
 ghost use Rattle.hd_message.specs.Values.{filled_value, first_value};
+ghost use Rattle.hd_message.specs.declared.kind.Kind.TheVariants.{Hold};
 
 use crate::request::{HoldRequest, Mode, Wanted, Wishes};
 use crate::values::{filled, is_cancel, value};
@@ -11,7 +13,7 @@ use crate::values::{filled, is_cancel, value};
 pub(crate) fn hold<'a>(fixed: &'a [u8], part: &'a [u8]) -> Option<HoldRequest<'a>>
     requires { length fixed.now ≡ 21 }
     ensures held { IfSome result (IsHold fixed.now part.now) }
-    ensures unreadable { is_none result ≡ is_bad_hold fixed.now part.now }
+    ensures unreadable { is_none result ≡ (lacks_required Hold part.now || is_bad_hold fixed.now part.now) }
 {
     let mode = mode(fixed[2])?;
     let patron = value(part, *b"AA")?;

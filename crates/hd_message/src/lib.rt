@@ -1,19 +1,43 @@
 //! The messages of SIP2 2.00: requests as they are read from the body of a message, and the texts of replies.
 #![tactic(auto)]
 
+mod appending;
+mod checkin_replies;
+mod checkout_replies;
+mod days;
 mod hold;
+mod hold_replies;
+mod item_replies;
+mod kind;
+mod laws;
+mod messages;
 mod part;
 mod reading;
+mod reason;
+mod renew_replies;
 mod reply;
+#[cfg(test)]
+mod reply_tests;
 mod request;
+mod table;
 #[cfg(test)]
 mod tests;
 mod unreadable;
 mod values;
 mod writing;
 
+pub use crate::kind::Kind;
+pub use crate::laws::{replies_are_short, requests_are_read_back, requests_are_readable};
 pub use crate::reading::read;
-pub use crate::reply::{HoldOutcome, HoldReply, Reason, Reply};
-pub use crate::request::{HoldRequest, Mode, Request, Wanted, Wishes};
+pub use crate::reason::Reason;
+pub use crate::reply::{
+    CheckinOutcome, CheckinReply, CheckoutOutcome, CheckoutReply, Circulation, HoldOutcome,
+    HoldReply, ItemOutcome, ItemReply, LoginReply, RenewOutcome, RenewReply, Reply, StatusReply,
+    Whereabouts,
+};
+pub use crate::request::{
+    CheckinRequest, CheckoutRequest, HoldRequest, ItemRequest, LoginRequest, Mode, RenewRequest,
+    Request, Wanted, Wishes,
+};
 pub use crate::unreadable::Unreadable;
 pub use crate::writing::write;

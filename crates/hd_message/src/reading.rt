@@ -1,73 +1,108 @@
 //! Reading the body of a message.
-ghost use Rattle.std.specs.Prelude.{◌≡◌, is_none, codes, IfSome, IfErr, IfOk};
+ghost use Rattle.std.specs.Prelude.{◌≡◌, ◌≢◌, length, take, codes, is_none, IfNone, IfSome, IfErr, IfOk};
 ghost use Rattle.std.specs.Option.{option_copied};
-ghost use Rattle.hd_message.specs.Hold.{IsHold};
-ghost use Rattle.hd_message.specs.Reading.{IsRequest, IsUnreadable, date_of, fields_part, fixed_part, is_hold, is_unreadable};
+ghost use Rattle.hd_message.specs.Reading.{IsMessage, IsRequest, IsUnreadable, States, is_incomplete, is_unreadable};
+ghost use Rattle.hd_message.specs.Table.{code_of, date_at, date_start, fields_part, fixed_width};
 ghost use Rattle.hd_message.specs.Values.{filled_value, first_value};
 
 use crate::hold::hold;
-use crate::request::{HoldRequest, Request};
+use crate::kind::Kind;
+use crate::messages::{checkin, checkout, item, login, renew};
+use crate::request::Request;
+use crate::table::{date_place, kind_of, width};
 use crate::unreadable::Unreadable;
 use crate::values::{filled, value};
 
-/// The bytes of a hold message's code and fixed part: 15, the mode and the transaction date.
-const FIXED: usize = 21;
-
-/// The place of a hold message's transaction date.
-const DATE: usize = 3;
+/// How many bytes a date has (SIP2 2.00, date fields).
+const DATE: usize = 18;
 
 /// The request of a body, or what its refusal prints of it where it can't be read (docs/protocol.md, "Messages read").
-/// It looks nothing up, reads no date and takes no memory.
+///
+/// The body is a message without its trailer and carriage return. Every value is the slice of the body behind the first of its
+/// identifiers. It looks nothing up, reads no date and takes no memory.
 pub fn read(body: &[u8]) -> Result<Request<'_>, Unreadable<'_>>
     ensures request { IfOk result (IsRequest body.now) }
     ensures unreadable { IfErr result (IsUnreadable body.now) }
 {
-    if !has_hold_code(body) {
+    let Some(kind) = kind(body) else {
         return Ok(Request::Unsupported);
+    };
+    match request(kind, body) {
+        Some(request) => Ok(request),
+        None => Err(unreadable(kind, body)),
     }
-    match hold_request(body) {
-        Some(request) => Ok(Request::Hold(request)),
-        None => Err(unreadable(body)),
+}
+
+/// The kind of a body's message, if it is one that is read.
+fn kind(body: &[u8]) -> Option<Kind>
+    ensures found { IfSome result (λ kind. take 2 body.now ≡ code_of kind) }
+    ensures none { IfNone result ((kind : Kind) → take 2 body.now ≢ code_of kind) }
+{
+    let [first, second, ..] = body else {
+        return None;
+    };
+    kind_of([*first, *second])
+}
+
+/// The request of a message of this kind, if it is readable.
+fn request(kind: Kind, body: &[u8]) -> Option<Request<'_>>
+    requires { take 2 body.now ≡ code_of kind }
+    ensures held { IfSome result (IsRequest body.now) }
+    ensures unreadable { is_none result ≡ is_unreadable kind body.now }
+{
+    let (fixed, part) = body.split_at_checked(width(kind))?;
+    stated(kind, fixed, part)
+}
+
+/// The request that a fixed part and fields state, if they are readable.
+fn stated<'a>(kind: Kind, fixed: &'a [u8], part: &'a [u8]) -> Option<Request<'a>>
+    requires { length fixed.now ≡ fixed_width kind }
+    ensures states { IfSome result (States (code_of kind) fixed.now part.now) }
+    ensures incomplete { is_none result ≡ is_incomplete kind fixed.now part.now }
+{
+    match kind {
+        Kind::Login => Some(Request::Login(login(fixed, part)?)),
+        Kind::Status => Some(Request::Status),
+        Kind::Checkout => Some(Request::Checkout(checkout(fixed, part)?)),
+        Kind::Checkin => Some(Request::Checkin(checkin(fixed, part)?)),
+        Kind::Hold => Some(Request::Hold(hold(fixed, part)?)),
+        Kind::Renew => Some(Request::Renew(renew(fixed, part)?)),
+        Kind::Item => Some(Request::Item(item(fixed, part)?)),
+        Kind::Resend => Some(Request::Resend),
     }
 }
 
-/// Whether a body begins with the code of a hold message.
-fn has_hold_code(body: &[u8]) -> bool
-    ensures { result ≡ is_hold body.now }
+/// What the refusal of a message prints of it.
+fn unreadable(kind: Kind, body: &[u8]) -> Unreadable<'_>
+    ensures kind { result.kind ≡ kind }
+    ensures date { option_copied result.date ≡ date_at body.now (date_start kind) }
+    ensures patron { option_copied result.patron ≡ first_value (fields_part kind body.now) (codes "AA") }
+    ensures copy { option_copied result.copy ≡ filled_value (fields_part kind body.now) (codes "AB") }
+    ensures title { option_copied result.title ≡ filled_value (fields_part kind body.now) (codes "AJ") }
 {
-    body.starts_with(b"15")
-}
-
-/// The hold request of a body, if it is readable.
-fn hold_request(body: &[u8]) -> Option<HoldRequest<'_>>
-    ensures held { IfSome result (IsHold (fixed_part body.now) (fields_part body.now)) }
-    ensures unreadable { is_none result ≡ is_unreadable body.now }
-{
-    let (fixed, part) = body.split_at_checked(FIXED)?;
-    hold(fixed, part)
-}
-
-/// What the refusal of a hold message prints of it. Fields begin behind a whole fixed part alone.
-fn unreadable(body: &[u8]) -> Unreadable<'_>
-    ensures date { option_copied result.date ≡ date_of body.now }
-    ensures patron { option_copied result.patron ≡ first_value (fields_part body.now) (codes "AA") }
-    ensures copy { option_copied result.copy ≡ filled_value (fields_part body.now) (codes "AB") }
-    ensures title { option_copied result.title ≡ filled_value (fields_part body.now) (codes "AJ") }
-{
-    let part = fields_part(body);
+    let part = fields_part(kind, body);
     Unreadable {
-        date: body.get(DATE..FIXED),
+        kind,
+        date: date(kind, body),
         patron: value(part, *b"AA"),
         copy: filled(part, *b"AB"),
         title: filled(part, *b"AJ"),
     }
 }
 
-/// What stands behind the fixed part of a hold message; nothing where that is short.
-fn fields_part(body: &[u8]) -> &[u8]
-    ensures { result.now ≡ fields_part body.now }
+/// The transaction date of a message of this kind, where the body has it.
+fn date(kind: Kind, body: &[u8]) -> Option<&[u8]>
+    ensures { option_copied result ≡ date_at body.now (date_start kind) }
 {
-    match body.split_at_checked(FIXED) {
+    let place = date_place(kind)?;
+    body.get(place..place + DATE)
+}
+
+/// What stands behind the fixed part of a message; nothing where that is short.
+fn fields_part(kind: Kind, body: &[u8]) -> &[u8]
+    ensures { result.now ≡ fields_part kind body.now }
+{
+    match body.split_at_checked(width(kind)) {
         Some((_, part)) => part,
         None => &[],
     }

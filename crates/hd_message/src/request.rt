@@ -52,11 +52,90 @@ pub struct HoldRequest<'a> {
     pub wishes: Option<Wishes<'a>>,
 }
 
+/// A login (93). Its values are slices of the body, as are those of the messages below.
+#[derive(Clone, Copy)]
+pub struct LoginRequest<'a> {
+    /// Whether both algorithms are `0`: name and password are written as they are.
+    pub clear: bool,
+    /// CN, the login user identifier.
+    pub name: &'a [u8],
+    /// CO, the login password.
+    pub password: &'a [u8],
+}
+
+/// A checkout (11).
+#[derive(Clone, Copy)]
+pub struct CheckoutRequest<'a> {
+    /// Renewal policy: whether the message may renew a loan of the patron.
+    pub renews: bool,
+    /// The 18 bytes of the transaction date.
+    pub date: &'a [u8],
+    /// The 18 bytes of the nb due date where the checkout took place off-line: no block is `Y`, and it cancels nothing.
+    pub due: Option<&'a [u8]>,
+    /// AA, the patron identifier; it may be empty.
+    pub patron: &'a [u8],
+    /// AB, the item identifier; it may be empty.
+    pub copy: &'a [u8],
+    /// BI: whether the message cancels an earlier checkin.
+    pub cancels: bool,
+}
+
+/// A checkin (09).
+#[derive(Clone, Copy)]
+pub struct CheckinRequest<'a> {
+    /// The 18 bytes of the transaction date.
+    pub date: &'a [u8],
+    /// AB, the item identifier; it may be empty.
+    pub copy: &'a [u8],
+    /// AP, the current location; nothing where it is absent or empty.
+    pub branch: Option<&'a [u8]>,
+    /// BI: whether the message cancels an earlier checkout.
+    pub cancels: bool,
+}
+
+/// A renewal (29).
+#[derive(Clone, Copy)]
+pub struct RenewRequest<'a> {
+    /// The 18 bytes of the transaction date.
+    pub date: &'a [u8],
+    /// AA, the patron identifier; it may be empty.
+    pub patron: &'a [u8],
+    /// AB, the item identifier; it may be empty.
+    pub copy: &'a [u8],
+    /// AJ, the title identifier; nothing where it is absent or empty.
+    pub title: Option<&'a [u8]>,
+    /// BI: whether the message cancels an earlier renewal.
+    pub cancels: bool,
+}
+
+/// A question about a copy (17).
+#[derive(Clone, Copy)]
+pub struct ItemRequest<'a> {
+    /// The 18 bytes of the transaction date.
+    pub date: &'a [u8],
+    /// AB, the item identifier; it may be empty.
+    pub copy: &'a [u8],
+}
+
 /// A message as it is read.
 #[derive(Clone, Copy)]
 pub enum Request<'a> {
+    /// 93, Login.
+    Login(LoginRequest<'a>),
+    /// 99, SC Status.
+    Status,
+    /// 11, Checkout.
+    Checkout(CheckoutRequest<'a>),
+    /// 09, Checkin.
+    Checkin(CheckinRequest<'a>),
     /// 15, Hold.
     Hold(HoldRequest<'a>),
-    /// No message that is read.
+    /// 29, Renew.
+    Renew(RenewRequest<'a>),
+    /// 17, Item Information.
+    Item(ItemRequest<'a>),
+    /// 97, Request ACS Resend.
+    Resend,
+    /// Another message, or a body shorter than a code.
     Unsupported,
 }

@@ -1,15 +1,82 @@
-//! Examples of requests and replies.
-use crate::{HoldOutcome, HoldReply, Mode, Reason, Reply, Request, Wanted, read, write};
-use std::alloc::{AllocError, Global};
+//! Examples of requests. The dates of the messages are 1 March 2026, ten o'clock.
+use crate::{
+    CheckoutRequest, HoldRequest, ItemRequest, Kind, Mode, Request, Unreadable, Wanted, read,
+};
 use std::test::Fail;
 
 const DATE: &[u8] = b"20260301    100000";
 
+/// The hold of a body.
+fn hold(body: &[u8]) -> Result<HoldRequest<'_>, Fail> {
+    match read(body) {
+        Ok(Request::Hold(hold)) => Ok(hold),
+        _ => Err("no hold".into()),
+    }
+}
+
+/// The checkout of a body.
+fn checkout(body: &[u8]) -> Result<CheckoutRequest<'_>, Fail> {
+    match read(body) {
+        Ok(Request::Checkout(checkout)) => Ok(checkout),
+        _ => Err("no checkout".into()),
+    }
+}
+
+/// The question of a body.
+fn item(body: &[u8]) -> Result<ItemRequest<'_>, Fail> {
+    match read(body) {
+        Ok(Request::Item(item)) => Ok(item),
+        _ => Err("no question".into()),
+    }
+}
+
+/// What is left of a body that can't be read.
+fn unreadable(body: &[u8]) -> Result<Unreadable<'_>, Fail> {
+    match read(body) {
+        Err(message) => Ok(message),
+        Ok(_) => Err("readable".into()),
+    }
+}
+
+#[test]
+fn a_login_is_read(rt: HostRuntime) -> Result<(), Fail> {
+    let Ok(Request::Login(login)) = read(b"9300CNt1|COpw|") else {
+        return Err("no login".into());
+    };
+    assert!(rt; login.clear);
+    assert_eq!(rt; login.name, b"t1".as_slice());
+    assert_eq!(rt; login.password, b"pw".as_slice());
+    let Ok(Request::Login(login)) = read(b"9301COpw|CNt1") else {
+        return Err("no login".into());
+    };
+    assert!(rt; !login.clear);
+    assert!(rt; unreadable(b"9300CNt1|")?.kind == Kind::Login);
+    Ok(())
+}
+
+#[test]
+fn a_status_and_a_resend_are_read(rt: HostRuntime) {
+    assert!(rt; matches!(read(b"9900302.00"), Ok(Request::Status)));
+    assert!(rt; matches!(read(b"99"), Ok(Request::Status)));
+    assert!(rt; matches!(read(b"97"), Ok(Request::Resend)));
+    assert!(rt; matches!(read(b"97AOlib|"), Ok(Request::Resend)));
+}
+
+#[test]
+fn other_messages_are_unsupported(rt: HostRuntime) {
+    assert!(rt; matches!(read(b""), Ok(Request::Unsupported)));
+    assert!(rt; matches!(read(b"1"), Ok(Request::Unsupported)));
+    assert!(rt;
+        matches!(
+            read(b"2300119960212    100239AOlib|AAp1|AC|AD|"),
+            Ok(Request::Unsupported)
+        )
+    );
+}
+
 #[test]
 fn an_add_is_read(rt: HostRuntime) -> Result<(), Fail> {
-    let Ok(Request::Hold(hold)) = read(b"15+20260301    100000BSnorth|BY2|AOlib|AAp1|AJta|") else {
-        return Err("unreadable".into());
-    };
+    let hold = hold(b"15+20260301    100000BSnorth|BY2|AOlib|AAp1|AJta|")?;
     assert!(rt; hold.mode == Mode::Add && !hold.cancels);
     assert_eq!(rt; hold.date, DATE);
     assert_eq!(rt; hold.patron, b"p1".as_slice());
@@ -29,100 +96,105 @@ fn a_cancellation_has_no_wishes(rt: HostRuntime) -> Result<(), Fail> {
         b"15-20260301    100000AOlib|AAp1|AJta|BIY".as_slice(),
         b"15-20260301    100000BIYAOlib|AAp1|AJta|BY9".as_slice(),
     ] {
-        let Ok(Request::Hold(hold)) = read(body) else {
-            return Err("unreadable".into());
-        };
+        let hold = hold(body)?;
         assert!(rt; hold.mode == Mode::Delete && hold.cancels && hold.wishes.is_none());
     }
     Ok(())
 }
 
 #[test]
-fn an_unreadable_hold_keeps_what_it_has(rt: HostRuntime) -> Result<(), Fail> {
-    let Err(message) = read(b"15+20260301    100000BY3|AAp1|AJta|") else {
-        return Err("readable".into());
+fn blanks_are_no_expiry(rt: HostRuntime) -> Result<(), Fail> {
+    let none = hold(b"15*20260301    100000BW                  AAp1|AJta|")?;
+    assert!(rt; none.wishes.ok_or("no wishes")?.expiry.is_none());
+    let one = hold(b"15*20260301    100000BW |AAp1|AJta|")?;
+    let expiry = one.wishes.ok_or("no wishes")?.expiry;
+    assert_eq!(rt; expiry.ok_or("no expiry")?, b" ".as_slice());
+    Ok(())
+}
+
+#[test]
+fn a_checkout_is_read(rt: HostRuntime) -> Result<(), Fail> {
+    let body = b"11NN20260301    10000020260310    100000AOlib|AAp1|ABa1|AC|";
+    let checkout = checkout(body)?;
+    assert!(rt; !checkout.renews && !checkout.cancels && checkout.due.is_none());
+    assert_eq!(rt; checkout.date, DATE);
+    assert_eq!(rt; checkout.patron, b"p1".as_slice());
+    assert_eq!(rt; checkout.copy, b"a1".as_slice());
+    Ok(())
+}
+
+#[test]
+fn an_off_line_checkout_has_its_due_date(rt: HostRuntime) -> Result<(), Fail> {
+    let offline = checkout(b"11YY20260301    10000020260310    100000AAp1|ABa1|BIN|BIY|")?;
+    assert!(rt; offline.renews && !offline.cancels);
+    assert_eq!(rt;
+        offline.due.ok_or("no due date")?,
+        b"20260310    100000".as_slice()
+    );
+    let cancels = checkout(b"11NY20260301    10000020260310    100000AAp1|ABa1|BIY|")?;
+    assert!(rt; cancels.cancels && cancels.due.is_none());
+    Ok(())
+}
+
+#[test]
+fn a_checkin_and_a_renewal_are_read(rt: HostRuntime) -> Result<(), Fail> {
+    let body = b"09N20260301    100000                  APnorth|AOlib|ABa1|AC|BIY|";
+    let Ok(Request::Checkin(checkin)) = read(body) else {
+        return Err("no checkin".into());
     };
+    assert!(rt; checkin.cancels);
+    assert_eq!(rt; checkin.date, DATE);
+    assert_eq!(rt; checkin.copy, b"a1".as_slice());
+    assert_eq!(rt; checkin.branch.ok_or("no branch")?, b"north".as_slice());
+    let body = b"29NN20260301    10000020260310    100000AAp1|ABa1|AJ|AJta|";
+    let Ok(Request::Renew(renew)) = read(body) else {
+        return Err("no renewal".into());
+    };
+    assert!(rt; !renew.cancels && renew.title.is_none());
+    assert_eq!(rt; renew.date, DATE);
+    assert_eq!(rt; renew.patron, b"p1".as_slice());
+    Ok(())
+}
+
+#[test]
+fn a_question_is_read(rt: HostRuntime) -> Result<(), Fail> {
+    let question = item(b"1720260301    100000AOlib|AB|ABa1|")?;
+    assert_eq!(rt; question.date, DATE);
+    assert_eq!(rt; question.copy, b"".as_slice());
+    Ok(())
+}
+
+#[test]
+fn damaged_lines(rt: HostRuntime) -> Result<(), Fail> {
+    let message = unreadable(b"11NN20260301    10000020260301    100000AOlib|AAp1")?;
+    assert!(rt; message.kind == Kind::Checkout);
     assert_eq!(rt; message.date.ok_or("no date")?, DATE);
     assert_eq!(rt; message.patron.ok_or("no patron")?, b"p1".as_slice());
     assert!(rt; message.copy.is_none());
-    let Err(message) = read(b"15+2026") else {
-        return Err("readable".into());
-    };
-    assert!(rt; message.date.is_none() && message.patron.is_none());
-    assert!(rt; matches!(read(b"1"), Ok(Request::Unsupported)));
-    assert!(rt; matches!(read(b"9900302.00"), Ok(Request::Unsupported)));
-    Ok(())
-}
-
-/// The text of the reply to a hold of p1.
-fn text_of(alloc: Global, outcome: HoldOutcome<'_>) -> Result<Vec<u8>, AllocError> {
-    let reply = HoldReply {
-        date: DATE,
-        institution: b"lib",
-        patron: b"p1",
-        copy: None,
-        outcome,
-    };
-    let mut out = Vec::new(alloc);
-    write(&Reply::Hold(reply), &mut out)?;
-    Ok(out)
-}
-
-#[test]
-fn replies_to_holds_are_written(rt: HostRuntime) -> Result<(), Fail> {
-    let held = HoldOutcome::Held {
-        available: true,
-        expiry: None,
-        position: 1,
-        pickup: b"north",
-        title: b"ta",
-    };
-    assert_eq!(rt;
-        text_of(rt.alloc(), held)?.as_slice(),
-        b"161Y20260301    100000BR1|BSnorth|AOlib|AAp1|AJta|".as_slice()
-    );
-    let expiring = HoldOutcome::Held {
-        available: true,
-        expiry: Some(b"20260401    235900"),
-        position: 1,
-        pickup: b"north",
-        title: b"ta",
-    };
-    assert_eq!(rt;
-        text_of(rt.alloc(), expiring)?.as_slice(),
-        b"161Y20260301    100000BW20260401    235900|BR1|BSnorth|AOlib|AAp1|AJta|".as_slice()
-    );
-    let cancelled = HoldOutcome::Cancelled {
-        title: b"ta",
-        number: 1,
-    };
-    assert_eq!(rt;
-        text_of(rt.alloc(), cancelled)?.as_slice(),
-        b"161N20260301    100000AOlib|AAp1|AJta|AFCANCELLED 1|".as_slice()
-    );
+    let whole = checkout(b"11NN20260301    10000020260301    100000AOlib|AAp1|ABa")?;
+    assert_eq!(rt; whole.copy, b"a".as_slice());
     Ok(())
 }
 
 #[test]
-fn refusals_of_holds_are_written(rt: HostRuntime) -> Result<(), Fail> {
-    let unknown = HoldOutcome::Refused {
-        title: Some(b"tx"),
-        reason: Reason::Text(b"UNKNOWN TITLE"),
-    };
-    assert_eq!(rt;
-        text_of(rt.alloc(), unknown)?.as_slice(),
-        b"160N20260301    100000AOlib|AAp1|AJtx|AFUNKNOWN TITLE|".as_slice()
-    );
-    let dependent = HoldOutcome::Refused {
-        title: Some(b"ta"),
-        reason: Reason::Depends { number: 4 },
-    };
-    assert_eq!(rt;
-        text_of(rt.alloc(), dependent)?.as_slice(),
-        b"160N20260301    100000AOlib|AAp1|AJta|AFDEPENDS 4|".as_slice()
-    );
-    let mut out = Vec::new(rt.alloc());
-    write(&Reply::RequestScResend, &mut out)?;
-    assert_eq!(rt; out.as_slice(), b"96".as_slice());
+fn a_short_fixed_part_keeps_a_whole_date(rt: HostRuntime) -> Result<(), Fail> {
+    let short = unreadable(b"11NN")?;
+    assert!(rt; short.kind == Kind::Checkout && short.date.is_none());
+    let dated = unreadable(b"11NN20260301    100000AAp1|ABa1|")?;
+    assert_eq!(rt; dated.date.ok_or("no date")?, DATE);
+    assert!(rt; dated.patron.is_none() && dated.copy.is_none());
+    Ok(())
+}
+
+#[test]
+fn an_unreadable_hold_keeps_what_it_has(rt: HostRuntime) -> Result<(), Fail> {
+    let message = unreadable(b"15+20260301    100000BY3|AAp1|AJta|")?;
+    assert!(rt; message.kind == Kind::Hold && message.copy.is_none());
+    assert_eq!(rt; message.date.ok_or("no date")?, DATE);
+    assert_eq!(rt; message.patron.ok_or("no patron")?, b"p1".as_slice());
+    assert_eq!(rt; message.title.ok_or("no title")?, b"ta".as_slice());
+    assert!(rt; read(b"15?20260301    100000AAp1|AJta|").is_err());
+    assert!(rt; read(b"15-20260301    100000AAp1|AB|AJ|").is_err());
+    assert!(rt; read(b"15*20260301    100000AAp1|AJta|BY5").is_err());
     Ok(())
 }

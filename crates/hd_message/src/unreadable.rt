@@ -1,9 +1,14 @@
 //! Messages that can't be read.
+use crate::kind::Kind;
 
-/// A hold message that can't be read, and what its refusal prints of it. Its values are slices of the body.
+/// A message that can't be read, and what its refusal prints of it. Its values are slices of the body.
+///
+/// Fields begin behind a whole fixed part alone: where that is short there are none.
 #[derive(Clone, Copy)]
 pub struct Unreadable<'a> {
-    /// The transaction date, where the body is long enough for it.
+    /// What kind of message it is.
+    pub kind: Kind,
+    /// The 18 bytes of the transaction date, where the body is long enough for it.
     pub date: Option<&'a [u8]>,
     /// AA, the patron identifier.
     pub patron: Option<&'a [u8]>,

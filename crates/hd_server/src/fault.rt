@@ -2,12 +2,20 @@
 ghost use Rattle.std.specs.Prelude.{◌≡◌};
 ghost use Rattle.hd_server.specs.declared.fault.ServerFault.TheVariants.{Memory};
 
-use std::alloc::AllocError;
+use hd_catalogue::CatFault;
+use std::alloc::{AllocError, AllocFailed};
 use thiserror::Error;
 
-/// Why a program stops before its end, printed as one line on standard error; the exit status is 1.
+/// Why a program stops before its end, printed as one line on standard error; the exit status is 1
+/// (docs/protocol.md, "The program replay").
 #[derive(Clone, Copy, Debug, PartialEq, Eq, Error)]
 pub enum ServerFault {
+    /// The catalogue file is refused, by this fault.
+    #[error("catalogue {0}")]
+    Catalogue(CatFault),
+    /// The stamp that is to be the present can't be read, or lies outside the years 0000 to 9999 in local time.
+    #[error("bad --now")]
+    BadNow,
     /// The input line with this number, counted from 1, doesn't begin with a session's number and one blank.
     #[error("input line {line}: no session")]
     NoSession { line: u64 },
@@ -29,6 +37,14 @@ impl From<AllocError> for ServerFault {
     ghost from_gives = { λ _ fault. fault ≡ Memory };
 
     fn from(_: AllocError) -> ServerFault {
+        ServerFault::Memory
+    }
+}
+
+impl<T: Drop> From<AllocFailed<T>> for ServerFault {
+    ghost from_gives = { λ _ fault. fault ≡ Memory };
+
+    fn from(_: AllocFailed<T>) -> ServerFault {
         ServerFault::Memory
     }
 }

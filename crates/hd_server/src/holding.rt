@@ -1,165 +1,283 @@
 //! What a hold message is answered.
-use crate::journal::{Add, Held, Journal, Outcome};
-use crate::refusal::Refusal;
-use hd_desk::{BranchNo, CopyNo, HoldKind, PatronNo, TitleNo};
-use hd_message::{
-    HoldOutcome, HoldReply, HoldRequest, Mode, Reason, Reply, Unreadable, Wanted, Wishes,
-};
+ghost use Rattle.std.specs.Prelude.{◌≡◌, ◌<◌, ◌≤◌, vec_len};
+ghost use Rattle.std.specs.Option.{ForSome};
+ghost use Rattle.hd_rules.specs.Known.{IsKnownAction, IsKnownCancel};
+ghost use Rattle.hd_rules.specs.Replies.{TellsOf};
+ghost use Rattle.hd_catalogue.specs.Contents.{facts_of};
+ghost use Rattle.hd_desk.specs.Desks.{AddsHold};
+
+use crate::asking::{Ask, ask_of};
+use crate::place::Place;
+use crate::reasons::reason_of;
+use hd_catalogue::Catalogue;
+use hd_date::{Stamp18, read};
+use hd_journal::{Journal, SeatNo};
+use hd_message::{HoldOutcome, HoldReply, HoldRequest, Mode, Reply, Unreadable, write};
+use hd_rules::{Action, Cancel, Command, Refusal, Reply as Told, TerminalNo, TitleNo, TurnReply};
 use std::alloc::{AllocError, Allocator};
 
-/// The institution of the demonstration catalogue.
-const INSTITUTION: &[u8] = b"lib";
-
-/// The branch of the terminal t1, as which every session stands as yet.
-const OWN_BRANCH: &[u8] = b"north";
-
-/// What stands for the date of a message that has none, until the program reads the time.
-const NO_DATE: &[u8] = b"00000101    000000";
-
-/// What a message asks of the journal.
+/// A hold message as it came.
 #[derive(Clone, Copy)]
-enum Ask<'a> {
-    /// To add a hold.
-    Add(Wishes<'a>),
-    /// To cancel an add.
-    CancelAdd,
-    /// To cancel a delete or a change, of which there is none as yet.
-    CancelOther,
+struct Incoming<'a> {
+    request: &'a HoldRequest<'a>,
+    /// The transaction date as the reply prints it.
+    date: &'a [u8; 18],
+    /// The whole line, where it carried a sequence digit: by it a repeat is known.
+    line: Option<&'a [u8]>,
 }
 
-/// What a message names, looked up.
-#[derive(Clone, Copy)]
-struct Named {
-    patron: PatronNo,
-    title: TitleNo,
-    copy: Option<CopyNo>,
+/// Whether a message is answered as yet: it adds a hold, or cancels.
+pub(crate) fn is_taken(request: &HoldRequest<'_>) -> bool {
+    request.cancels || request.mode == Mode::Add
 }
 
-/// The reply to a hold message.
-///
-/// Deletes and changes that cancel nothing, and adds that expire, are answered 96 as yet.
-pub(crate) fn hold_reply<'a, A: Allocator + Copy>(
+/// Appends the reply to a hold message from a session that stands at `place`; `line` is its line where it carried a
+/// sequence digit.
+pub(crate) fn answer_hold<'a, A: Allocator + Copy>(
+    catalogue: &'a Catalogue<A>,
     journal: &mut Journal<A>,
-    request: &HoldRequest<'a>,
-) -> Result<Reply<'a>, AllocError> {
-    let Some(ask) = ask_of(request) else {
-        return Ok(Reply::RequestScResend);
+    now: &Stamp18,
+    place: &Option<Place>,
+    request: &'a HoldRequest<'a>,
+    line: Option<&'a [u8]>,
+    out: &mut Vec<u8, A>,
+) -> Result<(), AllocError>
+    requires catalogue { journal.old.contents ≡ catalogue.now }
+    requires terminal { ForSome place.now (λ at. at.terminal < (facts_of catalogue.now).terminals) }
+    requires branch { ForSome place.now (λ at. at.branch < (facts_of catalogue.now).branches) }
+    ensures contents { journal.new.contents ≡ journal.old.contents }
+    ensures longer { vec_len out.old ≤ vec_len out.new }
+{
+    let stamp = read(request.date, catalogue.offset());
+    let date = match &stamp {
+        Ok(stamp) => stamp.print(),
+        Err(_) => now.print(),
     };
-    let named = match look_up(request) {
-        Ok(named) => named,
-        Err(refusal) => return Ok(reply(request, refused(request, refusal))),
+    let message = Incoming {
+        request,
+        date: &date,
+        line,
     };
-    let title = named.title.name();
-    let outcome = match outcome(journal, named, ask)? {
-        Outcome::Held(held) => held_outcome(held, title),
-        Outcome::Cancelled { number } => HoldOutcome::Cancelled { title, number },
-        Outcome::Refused(refusal) => refused(request, refusal),
+    let Some(place) = place else {
+        return write_refused(catalogue, &message, Refusal::NotLoggedIn, out);
     };
-    Ok(reply(request, outcome))
+    match ask_of(catalogue, place, &stamp, request) {
+        Ok(Ask::Add(command)) => add(catalogue, journal, place.terminal, &command, &message, out),
+        Ok(Ask::Cancel(what, title)) => {
+            cancel(
+                catalogue,
+                journal,
+                place.terminal,
+                &what,
+                title,
+                &message,
+                out,
+            )
+        }
+        Err(refusal) => write_refused(catalogue, &message, refusal, out),
+    }
 }
 
-/// The reply to a hold message that can't be read.
-pub(crate) fn unreadable_reply<'a>(message: &Unreadable<'a>) -> Reply<'a> {
-    Reply::Hold(HoldReply {
-        date: message.date.unwrap_or(NO_DATE),
-        institution: INSTITUTION,
+/// Appends the reply to a hold message that can't be read.
+pub(crate) fn answer_unreadable<A: Allocator + Copy>(
+    catalogue: &Catalogue<A>,
+    now: &Stamp18,
+    refusal: Refusal,
+    message: &Unreadable<'_>,
+    out: &mut Vec<u8, A>,
+) -> Result<(), AllocError>
+    ensures longer { vec_len out.old ≤ vec_len out.new }
+{
+    let request = HoldRequest {
+        mode: Mode::Add,
+        cancels: false,
+        date: b"",
         patron: message.patron.unwrap_or(b""),
         copy: message.copy,
-        outcome: HoldOutcome::Refused {
-            title: message.title,
-            reason: Reason::Text(b"MESSAGE UNREADABLE"),
-        },
-    })
+        title: message.title,
+        wishes: None,
+    };
+    let date = printed(message.date, catalogue, now);
+    let message = Incoming {
+        request: &request,
+        date: &date,
+        line: None,
+    };
+    write_refused(catalogue, &message, refusal, out)
 }
 
-/// What a message asks of the journal, if it is taken as yet.
-fn ask_of<'a>(request: &HoldRequest<'a>) -> Option<Ask<'a>> {
-    match (request.cancels, request.mode, request.wishes) {
-        (true, Mode::Delete, _) => Some(Ask::CancelAdd),
-        (true, _, _) => Some(Ask::CancelOther),
-        (false, Mode::Add, Some(wishes)) if wishes.expiry.is_none() => Some(Ask::Add(wishes)),
-        (false, _, _) => None,
+/// A date as a reply prints it: the present where there is none, or it can't be read.
+fn printed<A: Allocator + Copy>(
+    date: Option<&[u8]>,
+    catalogue: &Catalogue<A>,
+    now: &Stamp18,
+) -> [u8; 18] {
+    let Some(text) = date else {
+        return now.print();
+    };
+    match read(text, catalogue.offset()) {
+        Ok(stamp) => stamp.print(),
+        Err(_) => now.print(),
     }
 }
 
-/// What a message names, or the first refusal by its names.
-fn look_up(request: &HoldRequest<'_>) -> Result<Named, Refusal> {
-    let patron = PatronNo::named(request.patron).ok_or(Refusal::UnknownPatron)?;
-    let copy = match request.copy {
-        Some(name) => Some(CopyNo::named(name).ok_or(Refusal::UnknownItem)?),
-        None => None,
-    };
-    let title = match (request.title, copy) {
-        (Some(name), _) => TitleNo::named(name).ok_or(Refusal::UnknownTitle)?,
-        (None, Some(copy)) => copy.title(),
-        (None, None) => return Err(Refusal::UnknownTitle),
-    };
-    if copy.is_some_and(|copy| copy.title() != title) {
-        return Err(Refusal::UnknownTitle);
-    }
-    Ok(Named {
-        patron,
-        title,
-        copy,
-    })
-}
-
-/// What becomes of an ask.
-fn outcome<A: Allocator + Copy>(
+/// Submits an add, and appends its reply.
+fn add<A: Allocator + Copy>(
+    catalogue: &Catalogue<A>,
     journal: &mut Journal<A>,
-    named: Named,
-    ask: Ask<'_>,
-) -> Result<Outcome, AllocError> {
-    match ask {
-        Ask::CancelAdd => journal.cancel(named.patron, named.title),
-        Ask::CancelOther => Ok(Outcome::Refused(Refusal::NothingToCancel)),
-        Ask::Add(wishes) => match BranchNo::named(wishes.pickup.unwrap_or(OWN_BRANCH)) {
-            Some(pickup) => journal.submit(&Add {
-                patron: named.patron,
-                title: named.title,
-                kind: kind(wishes.wanted, named.copy),
-                pickup,
-            }),
-            None => Ok(Outcome::Refused(Refusal::UnknownBranch)),
+    terminal: TerminalNo,
+    command: &Command,
+    message: &Incoming<'_>,
+    out: &mut Vec<u8, A>,
+) -> Result<(), AllocError>
+    requires catalogue { journal.old.contents ≡ catalogue.now }
+    requires terminal { terminal < (facts_of catalogue.now).terminals }
+    requires adds { AddsHold command.now.action }
+    requires known { IsKnownAction (facts_of catalogue.now) command.now.action }
+    ensures contents { journal.new.contents ≡ journal.old.contents }
+    ensures longer { vec_len out.old ≤ vec_len out.new }
+{
+    let Ok(turn) = journal.submit(terminal, SeatNo::new(0), command, message.line) else {
+        return Err(AllocError);
+    };
+    match &turn.reply {
+        TurnReply::Done { reply, .. } => write_told(catalogue, message, command, reply, out),
+        TurnReply::Refused(refusal) => write_refused(catalogue, message, *refusal, out),
+        _ => unreachable!(),
+    }
+}
+
+/// Submits a cancellation, and appends its reply.
+fn cancel<A: Allocator + Copy>(
+    catalogue: &Catalogue<A>,
+    journal: &mut Journal<A>,
+    terminal: TerminalNo,
+    what: &Cancel,
+    title: TitleNo,
+    message: &Incoming<'_>,
+    out: &mut Vec<u8, A>,
+) -> Result<(), AllocError>
+    requires catalogue { journal.old.contents ≡ catalogue.now }
+    requires terminal { terminal < (facts_of catalogue.now).terminals }
+    requires title { title < (facts_of catalogue.now).titles }
+    requires known { IsKnownCancel (facts_of catalogue.now) what.now }
+    ensures contents { journal.new.contents ≡ journal.old.contents }
+    ensures longer { vec_len out.old ≤ vec_len out.new }
+{
+    let Ok(turn) = journal.cancel(terminal, SeatNo::new(0), what, message.line) else {
+        return Err(AllocError);
+    };
+    match turn.reply {
+        TurnReply::Cancelled { number } => write_cancelled(catalogue, message, title, number, out),
+        TurnReply::Refused(refusal) => write_refused(catalogue, message, refusal, out),
+        _ => unreachable!(),
+    }
+}
+
+/// Appends what the terminal is told of an add.
+fn write_told<A: Allocator + Copy>(
+    catalogue: &Catalogue<A>,
+    message: &Incoming<'_>,
+    command: &Command,
+    reply: &Told,
+    out: &mut Vec<u8, A>,
+) -> Result<(), AllocError>
+    requires adds { AddsHold command.now.action }
+    requires known { IsKnownAction (facts_of catalogue.now) command.now.action }
+    requires told { TellsOf command.now.action reply.now }
+    ensures longer { vec_len out.old ≤ vec_len out.new }
+{
+    match *reply {
+        Told::Held {
+            available,
+            position,
+            ..
+        } => write_held(catalogue, message, command, available, position, out),
+        _ => unreachable!(),
+    }
+}
+
+/// Appends the reply to an add that was accepted.
+fn write_held<'a, A: Allocator + Copy>(
+    catalogue: &'a Catalogue<A>,
+    message: &Incoming<'a>,
+    command: &'a Command,
+    available: bool,
+    position: u64,
+    out: &mut Vec<u8, A>,
+) -> Result<(), AllocError>
+    requires adds { AddsHold command.now.action }
+    requires known { IsKnownAction (facts_of catalogue.now) command.now.action }
+    ensures longer { vec_len out.old ≤ vec_len out.new }
+{
+    match &command.action {
+        Action::Add {
+            title,
+            pickup,
+            expiry,
+            ..
+        } => {
+            let reply = HoldReply {
+                date: message.date.as_slice(),
+                institution: catalogue.institution(),
+                patron: message.request.patron,
+                copy: message.request.copy,
+                outcome: HoldOutcome::Held {
+                    available,
+                    expiry: expiry.as_ref(),
+                    position,
+                    pickup: catalogue.branch_name(*pickup),
+                    title: catalogue.title_name(*title),
+                },
+            };
+            write(&Reply::Hold(reply), out)
+        }
+        _ => unreachable!(),
+    }
+}
+
+/// Appends the reply to a cancellation that was accepted.
+fn write_cancelled<'a, A: Allocator + Copy>(
+    catalogue: &'a Catalogue<A>,
+    message: &Incoming<'a>,
+    title: TitleNo,
+    number: u64,
+    out: &mut Vec<u8, A>,
+) -> Result<(), AllocError>
+    requires { title < (facts_of catalogue.now).titles }
+    ensures longer { vec_len out.old ≤ vec_len out.new }
+{
+    let reply = HoldReply {
+        date: message.date.as_slice(),
+        institution: catalogue.institution(),
+        patron: message.request.patron,
+        copy: message.request.copy,
+        outcome: HoldOutcome::Cancelled {
+            title: catalogue.title_name(title),
+            number,
         },
-    }
+    };
+    write(&Reply::Hold(reply), out)
 }
 
-/// Which copies a hold admits: where BY doesn't say so, the named copy or else any.
-fn kind(wanted: Option<Wanted>, copy: Option<CopyNo>) -> HoldKind {
-    match (wanted, copy) {
-        (Some(Wanted::AtBranch), _) => HoldKind::AtBranch,
-        (Some(Wanted::AnyCopy), _) | (_, None) => HoldKind::Any,
-        (Some(Wanted::OneCopy) | None, Some(copy)) => HoldKind::One(copy),
-    }
-}
-
-/// What the terminal is told of a hold that was added.
-fn held_outcome(held: Held, title: &'static [u8]) -> HoldOutcome<'static> {
-    HoldOutcome::Held {
-        available: held.placed.available,
-        expiry: None,
-        position: held.placed.position as u64,
-        pickup: held.pickup.name(),
-        title,
-    }
-}
-
-/// The reply to a message, with what became of it.
-fn reply<'a>(request: &HoldRequest<'a>, outcome: HoldOutcome<'a>) -> Reply<'a> {
-    Reply::Hold(HoldReply {
-        date: request.date,
-        institution: INSTITUTION,
-        patron: request.patron,
-        copy: request.copy,
-        outcome,
-    })
-}
-
-/// What a refused message is answered.
-fn refused<'a>(request: &HoldRequest<'a>, refusal: Refusal) -> HoldOutcome<'a> {
-    HoldOutcome::Refused {
-        title: request.title,
-        reason: refusal.reason(),
-    }
+/// Appends the reply to a message that was refused.
+fn write_refused<'a, A: Allocator + Copy>(
+    catalogue: &'a Catalogue<A>,
+    message: &Incoming<'a>,
+    refusal: Refusal,
+    out: &mut Vec<u8, A>,
+) -> Result<(), AllocError>
+    ensures longer { vec_len out.old ≤ vec_len out.new }
+{
+    let reply = HoldReply {
+        date: message.date.as_slice(),
+        institution: catalogue.institution(),
+        patron: message.request.patron,
+        copy: message.request.copy,
+        outcome: HoldOutcome::Refused {
+            title: message.request.title,
+            reason: reason_of(refusal),
+        },
+    };
+    write(&Reply::Hold(reply), out)
 }

@@ -2,11 +2,12 @@
 #![tactic(auto)]
 
 mod answer;
+mod asking;
 mod fault;
 mod holding;
-mod journal;
+mod place;
 mod prefix;
-mod refusal;
+mod reasons;
 mod replaying;
 mod sessions;
 mod stream;

@@ -1,11 +1,19 @@
 //! `replay`: the lines of an input, answered in order.
-ghost use Rattle.std.specs.Prelude.{◌≡◌, IfOk, vec_len};
+ghost use Rattle.std.specs.Prelude.{◌≡◌, ◌<◌, IfOk, vec_len};
+ghost use Rattle.std.specs.Option.{ForSome};
+ghost use Rattle.hd_catalogue.specs.Contents.{facts_of};
 
 use crate::fault::ServerFault;
+use crate::place::Place;
 use crate::sessions::Sessions;
 use crate::stream::{read_some, write_all};
+use hd_catalogue::Catalogue;
+use hd_desk::Desk;
+use hd_journal::Journal;
+use hd_rules::TerminalNo;
 use std::alloc::{AllocError, Allocator};
 use std::io::{Read, Write};
+use std::sync::Arc;
 
 /// The most bytes that an input may have.
 const LONGEST_INPUT: usize = 16_777_216;
@@ -13,23 +21,61 @@ const LONGEST_INPUT: usize = 16_777_216;
 /// How many bytes are read at once.
 const PIECE: usize = 65_536;
 
-/// Answers the messages that a reader gives, and writes the replies.
+/// Answers the messages that a reader gives, over the library of a catalogue file, and writes the replies.
 ///
-/// Each line of the input, ended by LF or by the end of input, is `<session> <message>`: a number from 1 to 64
-/// without leading zero, one blank, and a message without its carriage return. Each reply is written as
-/// `<session> <reply>` and LF, and a session that has ended is answered `<session> ENDED` (docs/protocol.md, "The
-/// program replay"). Whole lines are answered, and their replies written, before the next read.
+/// `now` is the present, a stamp of 18 bytes (docs/protocol.md, "Dates"); it stands in replies to unreadable dates. Each
+/// line of the input, ended by LF or by the end of input, is `<session> <message>`: a number from 1 to 64 without leading
+/// zero, one blank, and a message without its carriage return. Each reply is written as `<session> <reply>` and LF, and
+/// a session that has ended is answered `<session> ENDED` (docs/protocol.md, "The program replay"). Whole lines are
+/// answered, and their replies written, before the next read.
 ///
 /// # Errors
-/// `NoSession` at the first line with no session; the lines before it are answered. `InputTooLong` past 16,777,216
-/// bytes; the whole lines among them are answered. `Read` where a read fails; the whole lines read are answered.
-/// `Write` where a write fails. `Memory` for want of memory.
+/// `Catalogue` where the file is refused, and then `BadNow`; nothing is read then. `NoSession` at the first line with no
+/// session; the lines before it are answered. `InputTooLong` past 16,777,216 bytes; the whole lines among them are
+/// answered. `Read` where a read fails; the whole lines read are answered. `Write` where a write fails. `Memory` for want
+/// of memory.
 pub fn replay<A: Allocator + Copy, R: Read, W: Write>(
     alloc: A,
+    catalogue: &[u8],
+    now: &[u8],
     from: &mut R,
     to: &mut W,
 ) -> Result<(), ServerFault> {
-    let mut sessions = Sessions::new(alloc);
+    let catalogue = match Catalogue::read(alloc, catalogue) {
+        Ok(catalogue) => Arc::new(alloc, catalogue)?,
+        Err(fault) => return Err(ServerFault::Catalogue(fault)),
+    };
+    let Ok(now) = hd_date::read(now, catalogue.offset()) else {
+        return Err(ServerFault::BadNow);
+    };
+    let desk = Desk::open(alloc, Arc::try_clone(&catalogue)?)?;
+    let journal = Journal::new(alloc, desk);
+    let mut sessions = Sessions::new(&catalogue, journal, now, first_place(&catalogue));
+    answer_input(alloc, &mut sessions, from, to)
+}
+
+/// The first terminal of a catalogue, if it has one.
+fn first_place<A: Allocator + Copy>(catalogue: &Catalogue<A>) -> Option<Place>
+    ensures terminal { ForSome result (λ at. at.terminal < (facts_of catalogue.now).terminals) }
+    ensures branch { ForSome result (λ at. at.branch < (facts_of catalogue.now).branches) }
+{
+    if catalogue.terminals() == 0 {
+        return None;
+    }
+    let terminal = TerminalNo::new(0)?;
+    Some(Place {
+        terminal,
+        branch: catalogue.branch_of(terminal),
+    })
+}
+
+/// Answers the lines of an input.
+fn answer_input<A: Allocator + Copy, R: Read, W: Write>(
+    alloc: A,
+    sessions: &mut Sessions<'_, A>,
+    from: &mut R,
+    to: &mut W,
+) -> Result<(), ServerFault> {
     let mut input = Vec::new(alloc);
     let mut out = Vec::new(alloc);
     let mut piece = blank(alloc, PIECE)?;

@@ -1,11 +1,16 @@
 //! The sessions of an input: its lines, answered in order.
-ghost use Rattle.std.specs.Prelude.{◌≤◌, IfOk, length};
+ghost use Rattle.std.specs.Prelude.{◌≡◌, ◌≤◌, ◌<◌, IfOk, length};
+ghost use Rattle.std.specs.Option.{ForSome};
+ghost use Rattle.hd_catalogue.specs.Contents.{facts_of};
 
 use crate::answer::answer;
 use crate::fault::ServerFault;
-use crate::journal::Journal;
+use crate::place::Place;
 use crate::prefix::{SESSIONS, session_of};
+use hd_catalogue::Catalogue;
+use hd_date::Stamp18;
 use hd_field::line;
+use hd_journal::Journal;
 use itoa::Buffer;
 use memchr::memchr;
 use std::alloc::{AllocError, Allocator};
@@ -16,21 +21,39 @@ const LONGEST_LINE: usize = 1024;
 /// The room that a line's reply may need, with its trailer and its session's number.
 const REPLY_ROOM: usize = 2_060;
 
-/// The sessions of an input, over one journal. Every session stands as the terminal t1 as yet.
+/// The sessions of an input, over one journal. Every session stands as one terminal as yet.
 #[derive(Drop)]
-pub(crate) struct Sessions<A: Allocator> {
+pub(crate) struct Sessions<'a, A: Allocator> {
+    catalogue: &'a Catalogue<A>,
     journal: Journal<A>,
+    now: Stamp18,
+    place: Option<Place>,
     /// Which sessions have ended; the first is at 0.
     ended: [bool; SESSIONS],
     /// How many lines of input have been answered or refused.
     lines: u64,
+    ghost same: { journal.contents ≡ catalogue.now },
+    ghost terminal: { ForSome place (λ at. at.terminal < (facts_of catalogue.now).terminals) },
+    ghost branch: { ForSome place (λ at. at.branch < (facts_of catalogue.now).branches) },
 }
 
-impl<A: Allocator + Copy> Sessions<A> {
+impl<'a, A: Allocator + Copy> Sessions<'a, A> {
     /// The sessions before any input.
-    pub(crate) fn new(alloc: A) -> Sessions<A> {
+    pub(crate) fn new(
+        catalogue: &'a Catalogue<A>,
+        journal: Journal<A>,
+        now: Stamp18,
+        place: Option<Place>,
+    ) -> Sessions<'a, A>
+        requires same { journal.contents ≡ catalogue.now }
+        requires terminal { ForSome place (λ at. at.terminal < (facts_of catalogue.now).terminals) }
+        requires branch { ForSome place (λ at. at.branch < (facts_of catalogue.now).branches) }
+    {
         Sessions {
-            journal: Journal::new(alloc),
+            catalogue,
+            journal,
+            now,
+            place,
             ended: [false; SESSIONS],
             lines: 0,
         }
@@ -112,7 +135,14 @@ impl<A: Allocator + Copy> Sessions<A> {
         }
         if !text.is_empty() {
             put_session(out, session)?;
-            answer(&mut self.journal, text, out)?;
+            answer(
+                self.catalogue,
+                &mut self.journal,
+                &self.now,
+                &self.place,
+                text,
+                out,
+            )?;
             out.push(b'\n')?;
         }
         Ok(false)

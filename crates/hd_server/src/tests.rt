@@ -1,108 +1,51 @@
-//! Rows of messages and replies, through `replay`.
+//! What no row says: long lines, long inputs, a library without terminals, and faults of the reader and the writer.
 use crate::{ServerFault, replay};
 use std::alloc::{AllocError, Global};
 use std::io::{self, ErrorKind, Read, Write};
 use std::test::Fail;
 
+const CATALOGUE: &[u8] = b"H|1|lib|60|100
+B|north
+S|t1|pw|north
+P|p1|3
+T|ta|21|1
+C|a1|ta|north
+";
+
+const NOW: &[u8] = b"20260301    120000";
+
 /// What `replay` writes for an input, and how it ends.
-fn replayed(alloc: Global, input: &[u8]) -> (Vec<u8>, Result<(), ServerFault>) {
+fn replayed(alloc: Global, catalogue: &[u8], input: &[u8]) -> (Vec<u8>, Result<(), ServerFault>) {
     let mut from = input;
     let mut out = Vec::new(alloc);
-    let end = replay(alloc, &mut from, &mut out);
+    let end = replay(alloc, catalogue, NOW, &mut from, &mut out);
     (out, end)
 }
 
 #[test]
-fn rows_of_holds(rt: HostRuntime) {
-    for (input, wanted) in [
-        // A hold and its cancellation.
-        (
-            b"1 15+20260301    100000BSnorth|BY2|AOlib|AAp1|AJta|\n1 15-20260301    100000AOlib|AAp1|AJta|BIY|\n".as_slice(),
-            b"1 161Y20260301    100000BR1|BSnorth|AOlib|AAp1|AJta|\n1 161N20260301    100000AOlib|AAp1|AJta|AFCANCELLED 1|\n".as_slice(),
-        ),
-        // Unknown names.
-        (
-            b"1 15+20260301    100000BSnorth|BY2|AOlib|AAp1|AJtx|\n1 15+20260301    100000BSnorth|BY2|AOlib|AApx|AJtx|\n",
-            b"1 160N20260301    100000AOlib|AAp1|AJtx|AFUNKNOWN TITLE|\n1 160N20260301    100000AOlib|AApx|AJtx|AFUNKNOWN PATRON|\n",
-        ),
-        // Checksums of a hold, right and wrong.
-        (
-            b"1 15+20260301    100000BSnorth|BY2|AOlib|AAp1|AJta|AY1AZF097\n",
-            b"1 161Y20260301    100000BR1|BSnorth|AOlib|AAp1|AJta|AY1AZF03F\n",
-        ),
-        (
-            b"1 15+20260301    100000BSnorth|BY2|AOlib|AAp1|AJta|AY1AZF098\n",
-            b"1 96AZFEF6\n",
-        ),
-        // One copy's hold.
-        (
-            b"1 15+20260301    100000BSnorth|BY3|AOlib|AAp1|ABa1|\n1 15-20260301    100000AOlib|AAp1|ABa1|BIY|\n",
-            b"1 161Y20260301    100000BR1|BSnorth|AOlib|AAp1|ABa1|AJta|\n1 161N20260301    100000AOlib|AAp1|ABa1|AJta|AFCANCELLED 1|\n",
-        ),
-    ] {
-        let (out, end) = replayed(rt.alloc(), input);
-        assert!(rt; end.is_ok());
-        assert_eq!(rt; out.as_slice(), wanted);
-    }
-}
-
-#[test]
-fn what_a_later_hold_was_told_stands(rt: HostRuntime) {
+fn without_a_terminal_nobody_is_logged_in(rt: HostRuntime) {
     let (out, end) = replayed(
         rt.alloc(),
-        b"1 15+20260301    100000BSnorth|BY2|AAp1|AJta|
-2 15+20260301    100000BSsouth|BY4|AAp2|AJta|
-3 15+20260301    100000AAp2|AJta|
-1 15-20260301    100000AAp1|AJta|BIY|
-1 15-20260301    100000AAp2|AJta|BIY|
-1 15-20260301    100000AAp1|AJta|BIY|
-1 15-20260301    100000AAp1|AJta|BIY|
-1 15+20260301    100000AAp1|AJta|
-1 15-20260301    100000AAp1|AJta|BIY|
-",
+        b"H|1|lib|60|100\nP|p1|3\nT|ta|21|1\n",
+        b"1 15+20260301    100000AAp1|AJta|\n1 15+20260301    100000AJta|\n",
     );
     assert!(rt; end.is_ok());
-    let wanted = b"1 161Y20260301    100000BR1|BSnorth|AOlib|AAp1|AJta|
-2 161Y20260301    100000BR2|BSsouth|AOlib|AAp2|AJta|
-3 160N20260301    100000AOlib|AAp2|AJta|AFHOLD EXISTS|
-1 160N20260301    100000AOlib|AAp1|AJta|AFDEPENDS 2|
-1 161N20260301    100000AOlib|AAp2|AJta|AFCANCELLED 2|
-1 161N20260301    100000AOlib|AAp1|AJta|AFCANCELLED 1|
-1 160N20260301    100000AOlib|AAp1|AJta|AFNOTHING TO CANCEL|
-1 161Y20260301    100000BR1|BSnorth|AOlib|AAp1|AJta|
-1 161N20260301    100000AOlib|AAp1|AJta|AFCANCELLED 3|
+    let wanted = b"1 160N20260301    100000AOlib|AAp1|AJta|AFNOT LOGGED IN|
+1 160N20260301    100000AOlib|AA|AJta|AFNOT LOGGED IN|
 "
         .as_slice();
     assert_eq!(rt; out.as_slice(), wanted);
 }
 
 #[test]
-fn refused_and_unread_messages(rt: HostRuntime) {
+fn a_carriage_return_ends_a_line(rt: HostRuntime) {
     let (out, end) = replayed(
         rt.alloc(),
-        b"1 15+20260301    100000BSwest|BY2|AAp2|AJtb|
-1 15+20260301    100000ABa1|AAp2|AJtb|
-1 15+20260301    100000ABa9|AAp2|
-1 15+20260301    100000BY3|AAp2|AJtb|
-1 15+2026
-1 15*20260301    100000AAp1|AJta|
-1 9900302.00AY1AZFCA5
-1 1
-1 \n1 97\r15-20260301    100000AAp1|AJta|BIY|",
+        CATALOGUE,
+        b"1 97\r15-20260301    100000AAp1|AJta|BIY|\r",
     );
     assert!(rt; end.is_ok());
-    let wanted = b"1 160N20260301    100000AOlib|AAp2|AJtb|AFUNKNOWN BRANCH|
-1 160N20260301    100000AOlib|AAp2|ABa1|AJtb|AFUNKNOWN TITLE|
-1 160N20260301    100000AOlib|AAp2|ABa9|AFUNKNOWN ITEM|
-1 160N20260301    100000AOlib|AAp2|AJtb|AFMESSAGE UNREADABLE|
-1 160N00000101    000000AOlib|AA|AFMESSAGE UNREADABLE|
-1 96
-1 96AZFEF6
-1 96
-1 96
-1 160N20260301    100000AOlib|AAp1|AJta|AFNOTHING TO CANCEL|
-"
-        .as_slice();
+    let wanted = b"1 96\n1 160N20260301    100000AOlib|AAp1|AJta|AFNOTHING TO CANCEL|\n".as_slice();
     assert_eq!(rt; out.as_slice(), wanted);
 }
 
@@ -123,7 +66,7 @@ fn a_long_line_ends_its_session(rt: HostRuntime) -> Result<(), Fail> {
     let mut input = line_of(rt.alloc(), b"7", 1024)?;
     input.extend_from_slice(line_of(rt.alloc(), b"64", 1025)?.as_slice())?;
     input.extend_from_slice(b"64 97\n7 97\n64 \n")?;
-    let (out, end) = replayed(rt.alloc(), input.as_slice());
+    let (out, end) = replayed(rt.alloc(), CATALOGUE, input.as_slice());
     assert!(rt; end.is_ok());
     let wanted = b"7 161Y20260301    100000BR1|BSnorth|AOlib|AAp1|AJta|
 64 ENDED
@@ -153,13 +96,13 @@ fn a_line_without_a_session_stops_the_input(rt: HostRuntime) {
         let _ = input.extend_from_slice(b"1 97\n");
         let _ = input.extend_from_slice(line);
         let _ = input.extend_from_slice(b"\n1 97\n");
-        let (out, end) = replayed(rt.alloc(), input.as_slice());
+        let (out, end) = replayed(rt.alloc(), CATALOGUE, input.as_slice());
         assert_eq!(rt; end, Err(ServerFault::NoSession { line: 2 }));
         assert_eq!(rt; out.as_slice(), b"1 96\n".as_slice());
     }
 }
 
-/// A reader that gives a byte at a time of its input over and over, until it fails.
+/// A reader that gives one line over and over, until it fails.
 #[derive(Drop)]
 struct FailingReader {
     calls: usize,
@@ -199,13 +142,13 @@ fn reads_and_writes_that_fail_are_named(rt: HostRuntime) {
     let mut out = Vec::new(rt.alloc());
     let mut from = FailingReader { calls: 2 };
     assert_eq!(rt;
-        replay(rt.alloc(), &mut from, &mut out),
+        replay(rt.alloc(), CATALOGUE, NOW, &mut from, &mut out),
         Err(ServerFault::Read)
     );
     assert_eq!(rt; out.as_slice(), b"1 96\n1 96\n".as_slice());
     let mut from = b"1 97\n".as_slice();
     assert_eq!(rt;
-        replay(rt.alloc(), &mut from, &mut FullWriter),
+        replay(rt.alloc(), CATALOGUE, NOW, &mut from, &mut FullWriter),
         Err(ServerFault::Write)
     );
 }
@@ -235,7 +178,10 @@ fn an_input_has_a_longest_length(rt: HostRuntime) {
     ] {
         let mut from = EndlessLine { left: length };
         let mut out = Vec::new(rt.alloc());
-        assert_eq!(rt; replay(rt.alloc(), &mut from, &mut out), Err(wanted));
+        assert_eq!(rt;
+            replay(rt.alloc(), CATALOGUE, NOW, &mut from, &mut out),
+            Err(wanted)
+        );
         assert!(rt; out.is_empty());
     }
 }

@@ -1,8 +1,10 @@
 //! The words of the command line.
-use clap::{Command, Error};
+use clap::{Arg, ArgAction, Command, Error};
 use std::alloc::Global;
 
 const ABOUT: &str = "A hold desk for the self-service terminals of a library, over SIP2 2.00";
+
+const REPLAY_ABOUT: &str = "Answers messages from standard input as the server would";
 
 const REPLAY: &str = "Answers messages from standard input as the server would
 
@@ -10,35 +12,64 @@ Each line of the input is `<session> <message>`: the number of a session, 1 to 6
 without its carriage return. Each reply is printed as `<session> <reply>`. A session whose message is longer than
 1,024 bytes ends, and is answered `<session> ENDED` from then on.
 
-As yet the names are those of a demonstration library (patrons p1 to p3, titles ta and tb, copies a1 to a3, b1 and
-b2, branches north and south), messages 15 (Hold) that add a hold or cancel an add are answered, and every other
-message is answered 96.";
+As yet every session stands as the first terminal of the catalogue, messages 15 (Hold) that add a hold or cancel are
+answered, and every other message is answered 96.";
 
 const EXAMPLE: &str = "Example: a hold, and its cancellation
 
-  $ holddesk replay <<'END'
+  $ holddesk replay --catalogue demonstration.catalogue --now '20260301    120000' <<'END'
   1 15+20260301    100000BSnorth|BY2|AOlib|AAp1|AJta|
   1 15-20260301    100000AOlib|AAp1|AJta|BIY|
   END
   1 161Y20260301    100000BR1|BSnorth|AOlib|AAp1|AJta|
   1 161N20260301    100000AOlib|AAp1|AJta|AFCANCELLED 1|
 
-Exit status: 0 well; 1 a fault, printed as one line (`input line N: no session`, `input too long`, `cannot read`,
-`cannot write`, `no memory`); 2 the command line was refused.";
+Exit status: 0 well; 1 a fault, printed as one line (`catalogue line N: CAUSE`, `cannot read the catalogue`,
+`bad --now`, `input line N: no session`, `input too long`, `cannot read`, `cannot write`, `no memory`); 2 the command
+line was refused.";
+
+/// What `replay` is asked to do.
+#[derive(Clone, Copy)]
+pub(crate) struct Replay<'a> {
+    /// The path of the catalogue file.
+    pub(crate) catalogue: &'a str,
+    /// The stamp that is to be the present.
+    pub(crate) now: &'a str,
+}
 
 /// Reads the words of the command line, of which `replay` is the one command as yet.
 ///
 /// An error is a mistake in the words, or the text of a help that was asked for.
-pub(crate) fn parse(alloc: Global, words: &[String]) -> Result<(), Error> {
+pub(crate) fn parse<'a>(alloc: Global, words: &'a [String]) -> Result<Replay<'a>, Error> {
+    let catalogue = Arg::new(alloc, "catalogue")
+        .long("catalogue")
+        .value_name("FILE")
+        .help("The file of the library's branches, terminals, patrons, titles and copies")
+        .required(true)
+        .action(ArgAction::Set);
+    let now = Arg::new(alloc, "now")
+        .long("now")
+        .value_name("DATE")
+        .help("The present: 18 bytes, YYYYMMDD, four blanks (or three and Z), HHMMSS")
+        .required(true)
+        .action(ArgAction::Set);
     let replay = Command::new(alloc, "replay")
-        .about("Answers messages from standard input as the server would")
+        .about(REPLAY_ABOUT)
         .long_about(REPLAY)
-        .after_help(EXAMPLE);
+        .after_help(EXAMPLE)
+        .arg(catalogue)?
+        .arg(now)?;
     let command = Command::new(alloc, "holddesk")
         .about(ABOUT)
         .subcommand_required(true)
         .arg_required_else_help(true)
         .subcommand(replay)?;
-    let _matches = command.try_get_matches_from(words)?;
-    Ok(())
+    let matches = command.try_get_matches_from(words)?;
+    let replay = matches.subcommand_matches("replay");
+    Ok(Replay {
+        catalogue: replay
+            .and_then(|found| found.get_str("catalogue"))
+            .unwrap_or(""),
+        now: replay.and_then(|found| found.get_str("now")).unwrap_or(""),
+    })
 }

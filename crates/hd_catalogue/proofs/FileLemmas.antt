@@ -1,0 +1,164 @@
+-- Files and their lines.
+use Rattle.std.proofs.Common.{Option, ◌≡◌, ℕ, ◌+◌, ◌⊎◌, None, Some, Result, Ok, Err, List, [], ◌∷◌, ◌++◌, length, refl, sym, ap, subst, ◌∙◌, inl, inr, arith, append_assoc, append-nil, length-append}
+use Rattle.std.specs.Prelude.{fold}
+use Rattle.hd_catalogue.specs.Contents.{Contents}
+use Rattle.hd_catalogue.specs.Files.{EachPasses, IsAccepted, IsFirstBad, cause_of, contents_of}
+use Rattle.hd_catalogue.specs.Lines.{begun, header_cause, line_cause, with_line}
+use Rattle.hd_catalogue.specs.Reading.{Names}
+use Rattle.hd_catalogue.specs.declared.cause.CatFault.{CatFault}
+use Rattle.hd_catalogue.specs.declared.cause.Cause.{Cause}
+use Rattle.hd_catalogue.specs.declared.cause.Cause.TheVariants.{Memory}
+
+-- what follows from the lines that are left, the next of them with this number
+abbrev pub Follows : ℕ → List (List ℕ) → Contents → Result Contents CatFault → Type 0
+Follows n [] k r = r ≡ Ok k
+Follows n (line ∷ more) k r =
+    ((line_cause k line ≡ None) × Follows (n + 1) more (with_line k line) r)
+    ⊎ ((named : Cause) × Names (line_cause k line) named × (r ≡ Err (record { line = n; cause = named })))
+
+-- what a file's reading gives
+abbrev pub IsReading : List (List ℕ) → Result Contents CatFault → Type 0
+IsReading all (Ok k) = IsAccepted all k
+IsReading all (Err fault) = IsFirstBad all fault
+
+head_same : {A : Type 0} {x y : A} {xs ys : List A} → x ∷ xs ≡ y ∷ ys → x ≡ y
+head_same e = cc
+
+tail_same : {A : Type 0} {x y : A} {xs ys : List A} → x ∷ xs ≡ y ∷ ys → xs ≡ ys
+tail_same e = cc
+
+nil_split : {A : Type 0} (before : List A) (x : A) (after : List A) → [] ≡ before ++ x ∷ after → ⊥
+nil_split [] x after e = cc
+nil_split (b ∷ bs) x after e = cc
+
+-- a line of a list with one more is one of the list, or the one more
+last_or : (all : List (List ℕ)) (line : List ℕ) (before : List (List ℕ)) (x : List ℕ) (after : List (List ℕ)) → all ++ line ∷ [] ≡ before ++ x ∷ after →
+    ((rest : List (List ℕ)) × (all ≡ before ++ x ∷ rest)) ⊎ ((all ≡ before) × (line ≡ x))
+last_or [] line [] x after e = inr (refl, head_same e)
+last_or [] line (b ∷ bs) x after e = absurd (nil_split bs x after (tail_same e))
+last_or (a ∷ rest) line [] x after e = inl (rest, ap (λ y. y ∷ rest) (head_same e))
+last_or (a ∷ rest) line (b ∷ bs) x after e =
+    let first : a ≡ b = head_same e in
+    elim (last_or rest line bs x after (tail_same e)) [
+      | inl more ↦ inl (more.0, rw first (ap (λ ys. b ∷ ys) more.1))
+      | inr last ↦ inr (rw first (ap (λ ys. b ∷ ys) last.0), last.1)
+    ]
+
+pub passes-none : EachPasses []
+passes-none before x after e = absurd (nil_split before x after e)
+
+-- one more line that passes
+pub passes-push : (all : List (List ℕ)) (line : List ℕ) → EachPasses all → cause_of all line ≡ None → EachPasses (all ++ line ∷ [])
+passes-push all line passes here before x after e = elim (last_or all line before x after e) [
+  | inl more ↦ passes before x more.0 more.1
+  | inr last ↦ subst (λ y. cause_of before y ≡ None) last.1 (subst (λ b. cause_of b line ≡ None) last.0 here)
+]
+
+pub fold-push : {A B : Type 0} (f : A → B → A) (a : A) (xs : List B) (x : B) → fold f a (xs ++ x ∷ []) ≡ f (fold f a xs) x
+fold-push f a [] x = refl
+fold-push f a (y ∷ ys) x = fold-push f (f a y) ys x
+
+-- the reading of a file whose first lines pass
+pub follows_reading : (first : List ℕ) (done ls : List (List ℕ)) (n : ℕ) (k : Contents) (r : Result Contents CatFault) → n ≡ length done + 2 → k ≡ contents_of first done →
+    EachPasses (first ∷ done) → Follows n ls k r → IsReading (first ∷ (done ++ ls)) r
+follows_reading first done [] n k r count says passes f =
+    subst (IsReading (first ∷ (done ++ []))) (sym f)
+    record {
+      first = first;
+      more = done ++ [];
+      whole = refl;
+      passes = rw append-nil passes;
+      says = rw append-nil says;
+    }
+follows_reading first done (line ∷ more) n k r count says passes f = elim f [
+  | inl next ↦
+      let here : cause_of (first ∷ done) line ≡ None = subst (λ c. line_cause c line ≡ None) says next.0 in
+      let pushed : with_line k line ≡ contents_of first (done ++ line ∷ []) = ap (λ c. with_line c line) says ∙ sym (fold-push with_line (begun first) done line) in
+      let whole : (done ++ line ∷ []) ++ more ≡ done ++ line ∷ more = append_assoc done (line ∷ []) more in
+      subst (λ ls. IsReading (first ∷ ls) r) whole
+      (follows_reading first (done ++ line ∷ []) more (n + 1) (with_line k line) r (omega (arith, length-append done (line ∷ []))) pushed (passes-push (first ∷ done) line passes here) next.1)
+  | inr stop ↦
+      subst (IsReading (first ∷ (done ++ line ∷ more))) (sym stop.2)
+      record {
+        before = first ∷ done;
+        line = line;
+        after = more;
+        whole = refl;
+        counted = omega arith;
+        earlier = passes;
+        here = subst (λ c. Names (line_cause c line) stop.0) says stop.1;
+      }
+]
+
+-- the first line passes
+pub begun_reading : (first : List ℕ) (ls : List (List ℕ)) (all : List (List ℕ)) (k : Contents) (r : Result Contents CatFault) → all ≡ first ∷ ls → header_cause first ≡ None → k ≡ begun first →
+    Follows 2 ls k r → IsReading all r
+begun_reading first ls all k r whole none says f =
+    subst (λ all. IsReading all r) (sym whole) (follows_reading first [] ls 2 k r (omega arith) says (passes-push [] first passes-none none) f)
+
+-- the first line doesn't pass, or its memory was wanting
+pub first_refused : (first : List ℕ) (ls : List (List ℕ)) (all : List (List ℕ)) (named : Cause) → all ≡ first ∷ ls → Names (header_cause first) named → IsFirstBad all (record { line = 1; cause = named })
+first_refused first ls all named whole names = record {
+  before = [];
+  line = first;
+  after = ls;
+  whole = whole;
+  counted = omega arith;
+  earlier = passes-none;
+  here = names;
+}
+
+-- a file that is accepted has no bad line
+pub accepted_refused : (all : List (List ℕ)) (k : Contents) (fault : CatFault) → IsAccepted all k → IsFirstBad all fault → fault.cause ≡ Memory
+accepted_refused all k fault a b = elim b.here [
+  | inl some ↦ absurd (differ (sym (a.passes b.before b.line b.after b.whole) ∙ some))
+  | inr memory ↦ memory.0
+]
+  where
+    differ : {A : Type 0} {x : A} → None ≡ Some x → ⊥
+    differ e = cc
+
+-- and says one thing
+pub accepted_one : (all : List (List ℕ)) (k h : Contents) → IsAccepted all k → IsAccepted all h → k ≡ h
+accepted_one all k h a b =
+    let same : a.first ∷ a.more ≡ b.first ∷ b.more = sym a.whole ∙ b.whole in
+    a.says ∙ ap (λ f. contents_of f a.more) (head_same same) ∙ ap (contents_of b.first) (tail_same same) ∙ sym b.says
+
+-- of two places in a list one is earlier, or they are one
+split_cases : (b c : List (List ℕ)) (x y : List ℕ) (d e : List (List ℕ)) → b ++ x ∷ d ≡ c ++ y ∷ e →
+    ((rest : List (List ℕ)) × (c ≡ b ++ x ∷ rest)) ⊎ (((rest : List (List ℕ)) × (b ≡ c ++ y ∷ rest)) ⊎ ((b ≡ c) × (x ≡ y)))
+split_cases [] [] x y d e h = inr (inr (refl, head_same h))
+split_cases [] (z ∷ c) x y d e h = inl (c, ap (λ w. w ∷ c) (sym (head_same h)))
+split_cases (z ∷ b) [] x y d e h = inr (inl (b, ap (λ w. w ∷ b) (head_same h)))
+split_cases (z ∷ b) (w ∷ c) x y d e h =
+    let same : z ≡ w = head_same h in
+    elim (split_cases b c x y d e (tail_same h)) [
+      | inl more ↦ inl (more.0, rw same (ap (λ l. w ∷ l) more.1))
+      | inr (inl more) ↦ inr (inl (more.0, rw same (ap (λ l. w ∷ l) more.1)))
+      | inr (inr is) ↦ inr (inr (rw same (ap (λ l. w ∷ l) is.0), is.1))
+    ]
+
+own_cause : (cause : Option Cause) (named : Cause) → Names cause named → ¬ (named ≡ Memory) → cause ≡ Some named
+own_cause cause named (inl is) h = is
+own_cause cause named (inr memory) h = absurd (h memory.0)
+
+passed : {x : Option Cause} {y : Cause} → x ≡ None → x ≡ Some y → ⊥
+passed e h = cc
+
+-- a file has one first bad line, and that has one cause
+pub first_bad_one : (all : List (List ℕ)) (f g : CatFault) → IsFirstBad all f → IsFirstBad all g → ¬ (f.cause ≡ Memory) → ¬ (g.cause ≡ Memory) → f ≡ g
+first_bad_one all f g a b m n =
+    let mine : cause_of a.before a.line ≡ Some f.cause = own_cause (cause_of a.before a.line) f.cause a.here m in
+    let other : cause_of b.before b.line ≡ Some g.cause = own_cause (cause_of b.before b.line) g.cause b.here n in
+    elim (split_cases a.before b.before a.line b.line a.after b.after (sym a.whole ∙ b.whole)) [
+      | inl later ↦ absurd (passed (b.earlier a.before a.line later.0 later.1) mine)
+      | inr (inl earlier) ↦ absurd (passed (a.earlier b.before b.line earlier.0 earlier.1) other)
+      | inr (inr same) ↦
+          let line : f.line ≡ g.line = a.counted ∙ ap (λ l. length l + 1) same.0 ∙ sym b.counted in
+          let both : Some f.cause ≡ Some g.cause = sym mine ∙ ap (λ l. cause_of l a.line) same.0 ∙ ap (cause_of b.before) same.1 ∙ other in
+          let cause : f.cause ≡ g.cause = back both in
+          rw (line, cause) refl
+    ]
+  where
+    back : {x y : Cause} → Some x ≡ Some y → x ≡ y
+    back e = cc

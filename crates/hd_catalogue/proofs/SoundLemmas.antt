@@ -1,0 +1,163 @@
+-- A catalogue stays sound with one more name.
+use Rattle.std.proofs.Common.{◌≡◌, ℕ, zero, suc, ◌<◌, ◌≤◌, ◌⊎◌, List, [], ◌∷◌, ◌++◌, length, refl, sym, inl, inr, subst, arith, length-append, Result, Ok, Err, OnOk, is_err, false, Option, Some, IfSome}
+use Rattle.hd_rules.specs.declared.limits.TheConstants.{MOST_BRANCHES, MOST_COMMANDS, MOST_COPIES, MOST_LOANS, MOST_LOAN_DAYS, MOST_PATRONS, MOST_RENEWALS, MOST_TERMINALS, MOST_TITLES}
+use Rattle.hd_catalogue.specs.Contents.{Contents, IsSound, branch_of, facts_of, known, without_names}
+use Rattle.hd_catalogue.specs.Terminal.{Terminal}
+use Rattle.hd_catalogue.specs.declared.facts.BranchFacts.{BranchFacts}
+use Rattle.hd_catalogue.specs.declared.facts.CopyFacts.{CopyFacts}
+use Rattle.hd_catalogue.specs.declared.facts.PatronFacts.{PatronFacts}
+use Rattle.hd_catalogue.specs.declared.facts.Settings.{Settings}
+use Rattle.hd_catalogue.specs.declared.facts.TitleFacts.{TitleFacts}
+
+-- of a list with one more name each old number is known as before, and the new one by the new facts
+known-push : {F V : Type 0} (fact : F → V) (none : V) (names : List (List ℕ × F)) (e : List ℕ × F) (i : ℕ) → i < length (names ++ e ∷ []) →
+    ((i < length names) × (known fact none (names ++ e ∷ []) i ≡ known fact none names i)) ⊎ (known fact none (names ++ e ∷ []) i ≡ fact e.1)
+known-push fact none [] e zero h = inr refl
+known-push fact none [] e (suc i) h = absurd (omega arith)
+known-push fact none (x ∷ xs) e zero h = inl (omega arith, refl)
+known-push fact none (x ∷ xs) e (suc i) h = elim (known-push fact none xs e i (omega arith)) [ inl old ↦ inl (omega (arith, old.0), old.1) | inr new ↦ inr new ]
+
+-- what holds of each is kept, where it holds of the new one
+each-push : {F V : Type 0} (fact : F → V) (none : V) (P : V → Type 0) (names : List (List ℕ × F)) (e : List ℕ × F) →
+    ((i : ℕ) → i < length names → P (known fact none names i)) → P (fact e.1) → (i : ℕ) → i < length (names ++ e ∷ []) → P (known fact none (names ++ e ∷ []) i)
+each-push fact none P names e all new i h = elim (known-push fact none names e i h) [
+  | inl old ↦ subst P (sym old.1) (all i old.0)
+  | inr is ↦ subst P (sym is) new
+]
+
+room : {F : Type 0} (names : List (List ℕ × F)) (e : List ℕ × F) (most : ℕ) → length names < most → length (names ++ e ∷ []) ≤ most
+room names e most h = omega (arith, length-append names (e ∷ []))
+
+-- a catalogue without names
+pub sound-none : (settings : Settings) (institution : List ℕ) → 1 ≤ settings.command_limit → settings.command_limit ≤ MOST_COMMANDS → IsSound (without_names settings institution)
+unfolding facts_of branch_of
+sound-none settings institution some most = record {
+  facts = record {
+    branches = omega arith;
+    terminals = omega arith;
+    titles = omega arith;
+    copies = omega arith;
+    patrons = omega arith;
+    home = λ c h. absurd (omega arith);
+    title_of = λ c h. absurd (omega arith);
+    loan_days = λ t h. absurd (omega arith);
+    renewals = λ t h. absurd (omega arith);
+    loan_limit = λ p h. absurd (omega arith);
+    some_command = some;
+    command_limit = most;
+  };
+  terminals = λ t h. absurd (omega arith);
+}
+
+pub sound-branch : (k : Contents) (e : List ℕ × BranchFacts) → IsSound k → length k.branches < MOST_BRANCHES → IsSound (record k { branches = k.branches ++ e ∷ [] })
+unfolding facts_of branch_of
+sound-branch k e s h = record {
+  facts = record {
+    branches = room k.branches e MOST_BRANCHES h;
+    terminals = s.facts.terminals;
+    titles = s.facts.titles;
+    copies = s.facts.copies;
+    patrons = s.facts.patrons;
+    home = λ c l. omega (arith, s.facts.home c l, length-append k.branches (e ∷ []));
+    title_of = s.facts.title_of;
+    loan_days = s.facts.loan_days;
+    renewals = s.facts.renewals;
+    loan_limit = s.facts.loan_limit;
+    some_command = s.facts.some_command;
+    command_limit = s.facts.command_limit;
+  };
+  terminals = λ t l. omega (arith, s.terminals t l, length-append k.branches (e ∷ []));
+}
+
+pub sound-terminal : (k : Contents) (name : List ℕ) (facts : Terminal) → IsSound k → length k.terminals < MOST_TERMINALS → facts.branch < length k.branches →
+    IsSound (record k { terminals = k.terminals ++ (name, facts) ∷ [] })
+unfolding facts_of branch_of
+sound-terminal k name facts s h branch = record {
+  facts = record {
+    branches = s.facts.branches;
+    terminals = room k.terminals (name, facts) MOST_TERMINALS h;
+    titles = s.facts.titles;
+    copies = s.facts.copies;
+    patrons = s.facts.patrons;
+    home = s.facts.home;
+    title_of = s.facts.title_of;
+    loan_days = s.facts.loan_days;
+    renewals = s.facts.renewals;
+    loan_limit = s.facts.loan_limit;
+    some_command = s.facts.some_command;
+    command_limit = s.facts.command_limit;
+  };
+  terminals = each-push (λ terminal. terminal.branch) 0 (λ b. b < length k.branches) k.terminals (name, facts) s.terminals branch;
+}
+
+pub sound-patron : (k : Contents) (name : List ℕ) (facts : PatronFacts) → IsSound k → length k.patrons < MOST_PATRONS → facts.loan_limit ≤ MOST_LOANS →
+    IsSound (record k { patrons = k.patrons ++ (name, facts) ∷ [] })
+unfolding facts_of branch_of
+sound-patron k name facts s h limit = record {
+  facts = record {
+    branches = s.facts.branches;
+    terminals = s.facts.terminals;
+    titles = s.facts.titles;
+    copies = s.facts.copies;
+    patrons = room k.patrons (name, facts) MOST_PATRONS h;
+    home = s.facts.home;
+    title_of = s.facts.title_of;
+    loan_days = s.facts.loan_days;
+    renewals = s.facts.renewals;
+    loan_limit = each-push (λ patron. patron.loan_limit) 0 (λ n. n ≤ MOST_LOANS) k.patrons (name, facts) s.facts.loan_limit limit;
+    some_command = s.facts.some_command;
+    command_limit = s.facts.command_limit;
+  };
+  terminals = s.terminals;
+}
+
+pub sound-title : (k : Contents) (name : List ℕ) (facts : TitleFacts) → IsSound k → length k.titles < MOST_TITLES → facts.loan_days ≤ MOST_LOAN_DAYS → facts.renewals ≤ MOST_RENEWALS →
+    IsSound (record k { titles = k.titles ++ (name, facts) ∷ [] })
+unfolding facts_of branch_of
+sound-title k name facts s h days renewals = record {
+  facts = record {
+    branches = s.facts.branches;
+    terminals = s.facts.terminals;
+    titles = room k.titles (name, facts) MOST_TITLES h;
+    copies = s.facts.copies;
+    patrons = s.facts.patrons;
+    home = s.facts.home;
+    title_of = λ c l. omega (arith, s.facts.title_of c l, length-append k.titles ((name, facts) ∷ []));
+    loan_days = each-push (λ title. title.loan_days) 0 (λ n. n ≤ MOST_LOAN_DAYS) k.titles (name, facts) s.facts.loan_days days;
+    renewals = each-push (λ title. title.renewals) 0 (λ n. n ≤ MOST_RENEWALS) k.titles (name, facts) s.facts.renewals renewals;
+    loan_limit = s.facts.loan_limit;
+    some_command = s.facts.some_command;
+    command_limit = s.facts.command_limit;
+  };
+  terminals = s.terminals;
+}
+
+pub sound-copy : (k : Contents) (name : List ℕ) (facts : CopyFacts) → IsSound k → length k.copies < MOST_COPIES → facts.title < length k.titles → facts.home < length k.branches →
+    IsSound (record k { copies = k.copies ++ (name, facts) ∷ [] })
+unfolding facts_of branch_of
+sound-copy k name facts s h title home = record {
+  facts = record {
+    branches = s.facts.branches;
+    terminals = s.facts.terminals;
+    titles = s.facts.titles;
+    copies = room k.copies (name, facts) MOST_COPIES h;
+    patrons = s.facts.patrons;
+    home = each-push (λ copy. copy.home) 0 (λ b. b < length k.branches) k.copies (name, facts) s.facts.home home;
+    title_of = each-push (λ copy. copy.title) 0 (λ t. t < length k.titles) k.copies (name, facts) s.facts.title_of title;
+    loan_days = s.facts.loan_days;
+    renewals = s.facts.renewals;
+    loan_limit = s.facts.loan_limit;
+    some_command = s.facts.some_command;
+    command_limit = s.facts.command_limit;
+  };
+  terminals = s.terminals;
+}
+
+-- a fact of Ok, where the result is no Err
+pub when_ok : {T E : Type 0} (r : Result T E) (P : Type 0) → OnOk r P → is_err r ≡ false → P
+when_ok (Ok x) P h e = h
+when_ok (Err x) P h e = cc
+
+-- a fact of Some, where the option is that
+pub when_some : {T : Type 0} (o : Option T) (x : T) (P : T → Type 0) → IfSome o P → o ≡ Some x → P x
+when_some o x P h e = subst (λ p. IfSome p P) e h

@@ -1,0 +1,102 @@
+-- What a catalogue says: a list for each kind of name. A name's number is its place, from 0, in the order of first appearance.
+use Rattle.std.specs.Prelude.{◌≡◌, ℕ, ◌<◌, Bool, true, false, List, [], length, Option, None, Some, if◌then◌else◌, option_and_then}
+use Rattle.std.specs.Option.{option_map_or}
+use Rattle.std.specs.Str.{bytes_eq}
+use Rattle.hd_names.specs.Names.{AreDistinct, facts_at, name_at, number_of}
+use Rattle.hd_rules.specs.Facts.{AreInRange, Facts}
+use Rattle.hd_catalogue.specs.declared.facts.Settings.{Settings}
+use Rattle.hd_catalogue.specs.declared.facts.BranchFacts.{BranchFacts}
+use Rattle.hd_catalogue.specs.declared.facts.PatronFacts.{PatronFacts}
+use Rattle.hd_catalogue.specs.declared.facts.TitleFacts.{TitleFacts}
+use Rattle.hd_catalogue.specs.declared.facts.CopyFacts.{CopyFacts}
+use Rattle.hd_catalogue.specs.Terminal.{Terminal}
+
+pub record Contents : Type 0 where
+  pub settings : Settings
+  pub institution : List ℕ
+  pub branches : List (List ℕ × BranchFacts)
+  pub terminals : List (List ℕ × Terminal)
+  pub patrons : List (List ℕ × PatronFacts)
+  pub titles : List (List ℕ × TitleFacts)
+  pub copies : List (List ℕ × CopyFacts)
+
+-- a catalogue without names
+abbrev pub without_names : Settings → List ℕ → Contents
+without_names settings institution = record { settings = settings; institution = institution; branches = []; terminals = []; patrons = []; titles = []; copies = [] }
+
+-- what is known of the name with a number, and else a value that stands for nothing
+abbrev pub known : {F V : Type 0} → (F → V) → V → List (List ℕ × F) → ℕ → V
+known fact none names number = option_map_or fact (facts_at names number) none
+
+-- The facts of a catalogue, by number: the one view of it that the rules of the desk have.
+unfoldable pub facts_of : Contents → Facts
+facts_of k = record {
+  branches = length k.branches;
+  terminals = length k.terminals;
+  titles = length k.titles;
+  copies = length k.copies;
+  patrons = length k.patrons;
+  home = known (λ copy. copy.home) 0 k.copies;
+  title_of = known (λ copy. copy.title) 0 k.copies;
+  loan_days = known (λ title. title.loan_days) 0 k.titles;
+  renewals = known (λ title. title.renewals) 0 k.titles;
+  loan_limit = known (λ patron. patron.loan_limit) 0 k.patrons;
+  priority = known (λ title. title.local_priority) false k.titles;
+  command_limit = k.settings.command_limit;
+}
+
+-- the branch of a terminal
+unfoldable pub branch_of : Contents → ℕ → ℕ
+branch_of k = known (λ terminal. terminal.branch) 0 k.terminals
+
+-- the number of a name, None where there is no such name of its kind
+unfoldable pub branch_number : Contents → List ℕ → Option ℕ
+branch_number k name = number_of k.branches name
+
+unfoldable pub title_number : Contents → List ℕ → Option ℕ
+title_number k name = number_of k.titles name
+
+unfoldable pub copy_number : Contents → List ℕ → Option ℕ
+copy_number k name = number_of k.copies name
+
+unfoldable pub patron_number : Contents → List ℕ → Option ℕ
+patron_number k name = number_of k.patrons name
+
+-- whether the terminal with a number has this password
+unfoldable pub is_password : Contents → ℕ → List ℕ → Bool
+is_password k number password = option_map_or (λ terminal. bytes_eq terminal.password password) (facts_at k.terminals number) false
+
+-- the number of the terminal with this name, where it has this password
+unfoldable pub terminal_number : Contents → List ℕ → List ℕ → Option ℕ
+terminal_number k name password =
+    option_and_then (λ number. if is_password k number password then Some number else None) (number_of k.terminals name)
+
+-- the terminal with a number has this name and this password
+unfoldable pub IsTerminal : Contents → ℕ → List ℕ → List ℕ → Type 0
+IsTerminal k number name password = (name_at k.terminals number ≡ Some name) × (is_password k number password ≡ true)
+
+-- the name of a number, None where there is no such number
+unfoldable pub branch_name : Contents → ℕ → Option (List ℕ)
+branch_name k number = name_at k.branches number
+
+unfoldable pub title_name : Contents → ℕ → Option (List ℕ)
+title_name k number = name_at k.titles number
+
+unfoldable pub copy_name : Contents → ℕ → Option (List ℕ)
+copy_name k number = name_at k.copies number
+
+unfoldable pub patron_name : Contents → ℕ → Option (List ℕ)
+patron_name k number = name_at k.patrons number
+
+-- The facts keep to the limits, and each number that they name is one of the catalogue.
+pub record IsSound (k : Contents) : Type 0 where
+  pub facts : AreInRange (facts_of k)
+  pub terminals : (t : ℕ) → t < length k.terminals → branch_of k t < length k.branches
+
+-- no name is defined twice in its kind: each is found again by its bytes, at its own number
+pub record AreDistinctNames (k : Contents) : Type 0 where
+  pub branches : AreDistinct k.branches
+  pub terminals : AreDistinct k.terminals
+  pub patrons : AreDistinct k.patrons
+  pub titles : AreDistinct k.titles
+  pub copies : AreDistinct k.copies

@@ -1,0 +1,9 @@
+pub mod Text
+pub mod Values
+pub mod Terminal
+pub mod Contents
+pub mod Lines
+pub mod Headings
+pub mod Files
+pub mod Reading
+pub mod Causes

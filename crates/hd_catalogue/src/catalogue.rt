@@ -1,0 +1,53 @@
+//! The catalogue.
+ghost use Rattle.std.specs.Prelude.{◌≡◌, ◌≤◌};
+ghost use Rattle.hd_rules.specs.declared.limits.TheConstants.{MOST_COMMANDS};
+ghost use Rattle.hd_catalogue.specs.Contents.{without_names};
+
+use crate::facts::{BranchFacts, CopyFacts, PatronFacts, Settings, TitleFacts};
+use crate::terminal::TerminalFacts;
+use hd_names::Names;
+use std::alloc::{Allocator, Global};
+use std::marker::Model;
+
+/// What a catalogue file says, found by name or by number (docs/catalogue.md).
+///
+/// The names of each kind are numbered from 0, in the order in which they first appear in the file.
+#[derive(Drop)]
+pub struct Catalogue<A: Allocator = Global> {
+    pub(crate) settings: Settings,
+    pub(crate) institution: Vec<u8, A>,
+    pub(crate) branches: Names<BranchFacts, A>,
+    pub(crate) terminals: Names<TerminalFacts<A>, A>,
+    pub(crate) patrons: Names<PatronFacts, A>,
+    pub(crate) titles: Names<TitleFacts, A>,
+    pub(crate) copies: Names<CopyFacts, A>,
+}
+
+impl<A: Allocator> Model for Catalogue<A> {
+    ghost use Rattle.hd_catalogue.specs.Contents.{Contents, IsSound};
+
+    ghost Value = { Contents };
+
+    ghost view = { λ c. record { settings = c.settings; institution = c.institution.items; branches = c.branches; terminals = c.terminals; patrons = c.patrons; titles = c.titles; copies = c.copies } };
+
+    ghost invariant = { λ c. IsSound (record { settings = c.settings; institution = c.institution.items; branches = c.branches; terminals = c.terminals; patrons = c.patrons; titles = c.titles; copies = c.copies }) };
+}
+
+impl<A: Allocator + Copy> Catalogue<A> {
+    /// A catalogue without names.
+    pub(crate) fn new(alloc: A, settings: Settings, institution: Vec<u8, A>) -> Catalogue<A>
+        requires some_command { 1 ≤ settings.command_limit }
+        requires commands { settings.command_limit ≤ MOST_COMMANDS }
+        ensures { result ≡ without_names settings institution.items }
+    {
+        Catalogue {
+            settings,
+            institution,
+            branches: Names::new(alloc),
+            terminals: Names::new(alloc),
+            patrons: Names::new(alloc),
+            titles: Names::new(alloc),
+            copies: Names::new(alloc),
+        }
+    }
+}

@@ -1,0 +1,26 @@
+//! The catalogue of a library: its file, the numbers of its names, and what is known of each.
+#![tactic(auto)]
+
+mod catalogue;
+mod cause;
+mod facts;
+mod finding;
+mod header;
+mod kinds;
+mod law;
+mod lines;
+mod looking;
+mod printing;
+mod reading;
+mod terminal;
+mod text;
+mod values;
+
+pub use crate::catalogue::Catalogue;
+pub use crate::cause::{CatFault, Cause};
+pub use crate::law::accepted_or_refused;
+pub use hd_date::OffsetMinutes;
+pub use hd_rules::{BranchNo, CopyNo, PatronNo, TerminalNo, TitleNo};
+
+#[cfg(test)]
+mod tests;

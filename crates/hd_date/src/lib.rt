@@ -1,0 +1,25 @@
+//! Dates: texts of 18 bytes as stamps in local time, days by number, and their printing.
+#![tactic(auto)]
+
+mod calendar;
+mod day;
+mod digits;
+mod fault;
+mod law;
+mod local;
+mod numbers;
+mod offset;
+mod printing;
+mod reading;
+mod stamp;
+mod zone;
+
+pub use crate::day::Day;
+pub use crate::fault::DateFault;
+pub use crate::law::{days_are_dates, print_read, read_printed, texts_show_one_stamp};
+pub use crate::offset::OffsetMinutes;
+pub use crate::reading::read;
+pub use crate::stamp::Stamp18;
+
+#[cfg(test)]
+mod tests;

@@ -1,0 +1,33 @@
+use Rattle.std.proofs.Common.{◌≡◌, ◌∙◌, ◌+◌, ap, sym, subst, take, drop, ◌++◌, ◌∷◌, []}
+use Rattle.hd_rules.specs.Run.{run, step, Rising}
+use Rattle.hd_catalogue.specs.Contents.{Contents, facts_of}
+use Rattle.hd_desk.specs.Desks.{desk_of}
+use Rattle.hd_journal.specs.Running.{IsAdding}
+use Rattle.hd_journal.proofs.Runs.{adding_at, split_at, stamps_at, take_at, run_more}
+use Rattle.hd_journal.proofs.decision.replay.Goals as goal
+
+pub advance-requires-clause-adding : goal.advance-requires-clause-adding
+advance-requires-clause-adding g c =
+    subst (λ (x : Contents). IsAdding (facts_of x) c.survivor-item.result) (sym c.loop-survivor.invariant.contents)
+    (adding_at (facts_of c.args.other.now.contents) c.args.survivors.now c.loop-survivor.survivor-index c.survivor-item.result c.requires.adding c.loop-survivor-test.true c.survivor-item.is)
+
+pub advance-requires-clause-above : goal.advance-requires-clause-above
+advance-requires-clause-above g c =
+    let ss = c.args.survivors.now in
+    let i = c.loop-survivor.survivor-index in
+    stamps_at (facts_of c.args.other.now.contents) (take i ss) c.survivor-item.result (drop (i + 1) ss) _ c.loop-survivor.invariant.run
+    (subst (Rising 1) (split_at ss i c.survivor-item.result c.loop-survivor-test.true c.survivor-item.is) c.requires.rising)
+
+pub loop-survivor-preserved : goal.loop-survivor-preserved
+loop-survivor-preserved g c =
+    let ss = c.args.survivors.now in
+    let i = c.loop-survivor.survivor-index in
+    let s = c.survivor-item.result in
+    let k = facts_of c.args.other.now.contents in
+    let before = desk_of c.loop-survivor.desk in
+    record {
+      run = run_more k (take i ss) s before (desk_of c.advance.new.desk) c.loop-survivor.invariant.run
+          (c.in_ok-advance.ensures.ok ∙ ap (λ (x : Contents). step (facts_of x) before s) c.loop-survivor.invariant.contents)
+          ∙ ap (run k) (sym (take_at ss i s c.loop-survivor-test.true c.survivor-item.is));
+      contents = c.in_ok-advance.ensures.contents ∙ c.loop-survivor.invariant.contents;
+    }

@@ -1,0 +1,64 @@
+-- What a journal shows, and what it keeps.
+use Rattle.std.specs.Prelude.{◌≡◌, ℕ, zero, suc, ◌≤◌, Option, None, List, [], ◌∷◌, ◌++◌, length, slice_get}
+use Rattle.hd_rules.specs.declared.turns.Asked.{Asked}
+use Rattle.hd_rules.specs.Facts.{Facts}
+use Rattle.hd_rules.specs.Turns.{Message, Kept, State, Answered, turn_of}
+use Rattle.hd_rules.specs.Journal.{Turn, state_after, IsLegal, IsRunOfSurvivors}
+use Rattle.hd_rules.specs.Headline.{Headline}
+use Rattle.hd_rules.specs.Replies.{IsReplyTo}
+use Rattle.hd_rules.specs.Run.{IsAmong}
+use Rattle.hd_catalogue.specs.Contents.{Contents, facts_of}
+use Rattle.hd_journal.specs.declared.turn.Turn.{Turn as Made}
+use Rattle.hd_journal.specs.Running.{Running, state_at}
+
+-- A journal is its catalogue and its turns: all else follows from them.
+pub record Book : Type 0 where
+  pub contents : Contents
+  pub turns : List Turn
+
+abbrev pub facts : Book → Facts
+facts book = facts_of book.contents
+
+-- the machine's state after the turns
+abbrev pub state : Book → State
+state book = state_after (facts book) book.turns
+
+-- what the machine answers a message after the turns, and the state that this leaves
+abbrev pub answer : Book → Message → Answered
+answer book message = turn_of (facts book) (state book) message
+
+abbrev pub asking : ℕ → Asked → Option (List ℕ) → Message
+asking terminal asked line = record { terminal = terminal; asked = asked; line = line }
+
+-- the journal with one more turn: a seat's message, with the machine's reply
+abbrev pub with_message : Book → ℕ → Message → Book
+with_message book seat message = record {
+  contents = book.contents;
+  turns = book.turns ++ record { seat = seat; message = message; reply = (answer book message).reply } ∷ [];
+}
+
+-- the turn of a number, from 1
+abbrev pub turn_numbered : List Turn → ℕ → Option Turn
+turn_numbered turns zero = None
+turn_numbered turns (suc n) = slice_get turns n
+
+-- One turn was added: this message of this seat, with the machine's reply; and the state is the one that it leaves.
+pub record AddsTurn (old new : Book) (seat : ℕ) (message : Message) (made : Made) : Type 0 where
+  pub turns : new ≡ with_message old seat message
+  pub state : state new ≡ (answer old message).state
+  pub reply : made.reply ≡ (answer old message).reply
+  pub number : made.at ≡ length new.turns
+
+-- The turns are legal, so the desk is the run of the survivors, each with the reply that it got, the headline holds, and each
+-- reply is one to its message.
+pub record IsLegalBook (book : Book) : Type 0 where
+  pub legal : IsLegal (facts book) book.turns
+  pub run : IsRunOfSurvivors (facts book) book.turns (state book)
+  pub headline : Headline (facts book) book.turns
+  pub replies : (turn : Turn) → IsAmong turn book.turns → IsReplyTo turn.message.asked turn.reply
+
+-- The turns are legal, the machine has come to this state, and no more numbers are given than there are turns.
+pub record IsKept (turns : List Turn) (r : Running) (k : ℕ → Option Kept) : Type 0 where
+  pub legal : IsLegal (facts_of r.contents) turns
+  pub state : state_after (facts_of r.contents) turns ≡ state_at r k
+  pub last : r.last ≤ length turns

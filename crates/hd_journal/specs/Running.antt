@@ -1,0 +1,55 @@
+-- The commands that survive, and their run.
+use Rattle.std.specs.Prelude.{◌≡◌, ℕ, ◌+◌, ◌≤◌, Option, List, [], ◌∷◌, ◌++◌}
+use Rattle.hd_rules.specs.declared.commands.Survivor.{Survivor}
+use Rattle.hd_rules.specs.Facts.{Facts}
+use Rattle.hd_rules.specs.Desk.{Desk}
+use Rattle.hd_rules.specs.Known.{IsKnownAction}
+use Rattle.hd_rules.specs.Run.{run, outcome_of, Rising, next_number}
+use Rattle.hd_rules.specs.declared.commands.Cancel.{Cancel}
+use Rattle.hd_rules.specs.declared.commands.Command.{Command}
+use Rattle.hd_rules.specs.declared.replies.TurnReply.{TurnReply}
+use Rattle.hd_rules.specs.Target.{target}
+use Rattle.hd_rules.specs.Turns.{Kept, State, next_survivor, answered_command, answered_cancel}
+use Rattle.hd_catalogue.specs.Contents.{Contents, facts_of}
+use Rattle.hd_desk.specs.Desks.{AddsHold}
+
+-- the survivors and the last number given, over a catalogue
+pub record Running : Type 0 where
+  pub contents : Contents
+  pub survivors : List Survivor
+  pub last : ℕ
+
+-- the machine's state: the desk is the run of the survivors
+abbrev pub state_at : Running → (ℕ → Option Kept) → State
+state_at r kept = record { desk = run (facts_of r.contents) r.survivors; survivors = r.survivors; last = r.last; kept = kept }
+
+-- the survivor adds a hold, of things that the catalogue names
+abbrev pub IsAdding : Facts → Survivor → Type 0
+IsAdding k s = AddsHold s.command.action × IsKnownAction k s.command.action
+
+abbrev pub AllAdding : Facts → List Survivor → Type 0
+AllAdding k [] = Unit {0}
+AllAdding k (s ∷ ss) = IsAdding k s × AllAdding k ss
+
+-- a list of survivors that may be run: each adds a hold, and their numbers rise
+pub record MayRun (k : Facts) (survivors : List Survivor) : Type 0 where
+  pub rising : Rising 1 survivors
+  pub adding : AllAdding k survivors
+
+-- the desk is the survivors' run, and no number is above the last one given
+pub record IsRunning (r : Running) (d : Desk) : Type 0 where
+  pub desk : d ≡ run (facts_of r.contents) r.survivors
+  pub may_run : MayRun (facts_of r.contents) r.survivors
+  pub last : next_number 1 r.survivors ≤ r.last + 1
+
+-- The terminal's command is answered so, and this is left; whatever is kept beside it stays.
+abbrev pub Submitted : Running → ℕ → Command → TurnReply → Running → Type 0
+Submitted r terminal command reply next = (kept : ℕ → Option Kept) →
+    answered_command (state_at r kept) (next_survivor (state_at r kept) terminal command)
+    (outcome_of (facts_of r.contents) (run (facts_of r.contents) r.survivors) (next_survivor (state_at r kept) terminal command))
+    ≡ record { reply = reply; state = state_at next kept }
+
+-- The terminal's cancellation is answered so, and this is left.
+abbrev pub Withdrawn : Running → ℕ → Cancel → TurnReply → Running → Type 0
+Withdrawn r terminal what reply next = (kept : ℕ → Option Kept) →
+    answered_cancel (facts_of r.contents) (state_at r kept) (target terminal what r.survivors) ≡ record { reply = reply; state = state_at next kept }

@@ -1,0 +1,25 @@
+//! The journal of the hold desk: every turn, and the desk of the commands that were not cancelled.
+#![tactic(auto)]
+
+mod decision;
+mod entry;
+mod fault;
+mod journal;
+mod line;
+mod messages;
+mod numbers;
+mod room;
+mod running;
+mod told;
+mod turn;
+
+pub use crate::fault::Fault;
+pub use crate::journal::Journal;
+pub use crate::messages::{Ask, Message};
+pub use crate::numbers::SeatNo;
+pub use crate::turn::{Turn, TurnRef};
+pub use hd_desk::{Catalogue, Desk};
+pub use hd_rules::{Asked, Cancel, Command, Refusal, Reply, Survivor, TerminalNo, TurnReply};
+
+#[cfg(test)]
+mod tests;

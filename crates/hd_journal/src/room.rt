@@ -1,0 +1,29 @@
+//! Room that is made first.
+
+ghost use Rattle.std.specs.Prelude.{◌≡◌, ◌<◌, ◌++◌, ◌∷◌, [], ℕ, Option, None, OnOk, OnErr, length, vec_len, vec_capacity, slice_index_or};
+
+use std::alloc::{AllocError, Allocator};
+
+/// Adds an item for which there is room.
+pub(crate) fn push_ready<T: Drop, A: Allocator>(items: &mut Vec<T, A>, item: T)
+    requires { vec_len items.old < vec_capacity items.old }
+    ensures { items.new.items ≡ items.old.items ++ item ∷ [] }
+{
+    if items.push(item).is_err() {
+        unreachable!()
+    }
+}
+
+/// Makes the list reach to an index, by places that are none. A place that is read there is none before and afterwards.
+pub(crate) fn reach<A: Allocator>(
+    places: &mut Vec<Option<usize>, A>,
+    index: usize,
+) -> Result<(), AllocError>
+    ensures same { (t : ℕ) → slice_index_or places.new.items t None ≡ slice_index_or places.old.items t None }
+    ensures reached { OnOk result (index < length places.new.items) }
+{
+    while places.len() <= index {
+        places.push(None)?;
+    }
+    Ok(())
+}

@@ -1,0 +1,114 @@
+//! What was told: the turns, and what is kept of each terminal's last changing message.
+
+ghost use Rattle.std.specs.Prelude.{◌≡◌, ◌<◌, ◌+◌, ◌^◌, ◌++◌, ◌∷◌, [], OnOk, length, option_map, slice_get};
+ghost use Rattle.hd_rules.specs.Turns.{repeated_of};
+ghost use Rattle.hd_journal.specs.Shown.{shown};
+ghost use Rattle.hd_journal.specs.Telling.{kept_by, with_turn};
+
+use crate::entry::Entry;
+use crate::room::{push_ready, reach};
+use crate::turn::{Turn, TurnRef};
+use hd_rules::{Asked, TerminalNo, TurnReply};
+use std::alloc::{AllocError, Allocator};
+use std::marker::Model;
+
+/// The turns, and by terminal the place of its last changing turn.
+#[derive(Drop)]
+pub(crate) struct Told<A: Allocator> {
+    turns: Vec<Entry<A>, A>,
+    places: Vec<Option<usize>, A>,
+}
+
+impl<A: Allocator> Model for Told<A> {
+    ghost use Rattle.std.specs.Prelude.{vec_capacity};
+    ghost use Rattle.hd_journal.specs.Telling.{Told, AreTurns};
+
+    ghost Value = { Told };
+
+    ghost view = { λ told. record { turns = told.turns.items; places = told.places.items; room = vec_capacity told.turns } };
+
+    ghost invariant = { λ told. AreTurns told.turns.items told.places.items };
+}
+
+impl<A: Allocator + Copy> Told<A> {
+    /// No turns.
+    pub(crate) fn new(alloc: A) -> Told<A>
+        ensures turns { result.turns ≡ [] }
+        ensures places { result.places ≡ [] }
+    {
+        Told {
+            turns: Vec::new(alloc),
+            places: Vec::new(alloc),
+        }
+    }
+
+    /// How many turns there are.
+    pub(crate) fn len(&self) -> usize
+        ensures { result ≡ length self.now.turns }
+    {
+        self.turns.len()
+    }
+
+    /// The turn at a place, from 0, or `None` where there is none.
+    pub(crate) fn turn(&self, place: usize) -> Option<TurnRef<'_>>
+        ensures { option_map shown result ≡ slice_get self.now.turns place }
+    {
+        let turn = self.turns.get(place)?;
+        Some(turn.show())
+    }
+
+    /// Makes room for one more turn of the terminal.
+    pub(crate) fn ready(&mut self, terminal: TerminalNo) -> Result<(), AllocError>
+        ensures turns { self.new.turns ≡ self.old.turns }
+        ensures kept { kept_by self.new ≡ kept_by self.old }
+        ensures room { OnOk result (length self.new.turns < self.new.room) }
+        ensures terminal { OnOk result (terminal < length self.new.places) }
+        ensures number { OnOk result (length self.new.turns + 1 < 2 ^ 64) }
+    {
+        self.turns.reserve(1)?;
+        reach(&mut self.places, terminal.number() as usize)
+    }
+
+    /// The reply to a message that equals what is kept of its terminal's last.
+    pub(crate) fn repeated(
+        &self,
+        terminal: TerminalNo,
+        asked: &Asked,
+        line: Option<&[u8]>,
+    ) -> Option<TurnReply>
+        ensures { result ≡ repeated_of (kept_by self.now terminal) asked.now (option_map (λ bytes. bytes.now) line.entry) }
+    {
+        let line = line?;
+        let place = (*self.places.get(terminal.number() as usize)?)?;
+        let turn = self.turns.get(place)?;
+        turn.answered(asked, line)
+    }
+
+    /// A turn that leaves what is kept.
+    pub(crate) fn add_repeat(&mut self, again: Entry<A>) -> Turn
+        requires { length self.old.turns < self.old.room }
+        ensures turns { self.new.turns ≡ self.old.turns ++ again ∷ [] }
+        ensures kept { kept_by self.new ≡ kept_by self.old }
+        ensures made { result ≡ record { at = length self.new.turns; reply = again.reply } }
+    {
+        let reply = again.reply;
+        push_ready(&mut self.turns, again);
+        Turn::new(self.turns.as_slice().len(), reply)
+    }
+
+    /// A turn of which is kept what carried a line.
+    pub(crate) fn add(&mut self, turn: Entry<A>) -> Turn
+        requires room { length self.old.turns < self.old.room }
+        requires terminal { turn.message.terminal < length self.old.places }
+        ensures turns { self.new.turns ≡ self.old.turns ++ turn ∷ [] }
+        ensures kept { kept_by self.new ≡ with_turn turn (kept_by self.old) }
+        ensures made { result ≡ record { at = length self.new.turns; reply = turn.reply } }
+    {
+        let reply = turn.reply;
+        let terminal = turn.terminal.number() as usize;
+        let place = self.turns.as_slice().len();
+        push_ready(&mut self.turns, turn);
+        self.places[terminal] = Some(place);
+        Turn::new(self.turns.as_slice().len(), reply)
+    }
+}

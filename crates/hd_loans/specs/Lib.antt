@@ -1,0 +1,2 @@
+pub mod LoansValue
+pub mod Counts

@@ -1,0 +1,9 @@
+//! The loans of copies, and how many each patron has.
+#![tactic(auto)]
+
+mod loans;
+#[cfg(test)]
+mod tests;
+
+pub use crate::loans::Loans;
+pub use hd_rules::Loan;

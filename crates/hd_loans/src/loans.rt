@@ -1,0 +1,114 @@
+//! Loans by copy, and their number by patron.
+ghost use Rattle.std.specs.Prelude.{◌≡◌, ◌<◌, None, IfOk};
+ghost use Rattle.std.specs.FinMap as map;
+ghost use Rattle.hd_loans.specs.Counts.{loans_of, AreBelow, renewed, IsRenewable};
+
+use hd_rules::{CopyNo, Day, Loan, PatronNo};
+use hd_table::Table;
+use std::alloc::{AllocError, Allocator, Global};
+use std::marker::Model;
+
+/// The loans of a desk by copy, with the number of each patron's loans.
+///
+/// All its room is made by `new`. No other call takes memory.
+#[derive(Drop)]
+pub struct Loans<A: Allocator = Global> {
+    table: Table<Loan, A>,
+    counts: Vec<u32, A>,
+}
+
+impl<A: Allocator> Model for Loans<A> {
+    ghost use Rattle.std.specs.Prelude.{vec_len};
+    ghost use Rattle.hd_loans.specs.LoansValue.{LoansValue, loans_code};
+    ghost use Rattle.hd_loans.specs.Counts.{AreCounts};
+
+    ghost Value = { LoansValue };
+
+    ghost coded = { loans_code };
+
+    ghost view = { λ l. record { loans = l.table.entries; copies = l.table.size; patrons = vec_len l.counts } };
+
+    ghost invariant = { λ l. AreCounts l.table.entries l.table.size l.counts.items };
+}
+
+impl<A: Allocator + Copy> Loans<A> {
+    /// No loans, with room for the copies and the patrons below these numbers.
+    ///
+    /// Answers `AllocError` where there is no memory for them.
+    pub fn new(alloc: A, copies: u32, patrons: u32) -> Result<Loans<A>, AllocError>
+        ensures loans { IfOk result (λ made. made.loans ≡ map.empty) }
+        ensures copies { IfOk result (λ made. made.copies ≡ copies) }
+        ensures patrons { IfOk result (λ made. made.patrons ≡ patrons) }
+    {
+        let mut table = Table::new(alloc);
+        table.grow(copies as usize)?;
+        let counts = vec![in alloc; 0; patrons as usize]?;
+        Ok(Loans { table, counts })
+    }
+}
+
+impl<A: Allocator> Loans<A> {
+    /// Lends a copy (docs/desk-rules.md, "Checkout").
+    pub fn lend(&mut self, copy: CopyNo, loan: Loan)
+        requires free { map.get self.old.loans copy ≡ None }
+        requires copy { copy < self.old.copies }
+        requires patron { loan.patron < self.old.patrons }
+        ensures loans { self.new.loans ≡ map.insert self.old.loans copy loan }
+        ensures copies { self.new.copies ≡ self.old.copies }
+        ensures patrons { self.new.patrons ≡ self.old.patrons }
+    {
+        let patron = loan.patron.number() as usize;
+        self.table.set(copy.number() as usize, loan);
+        self.counts[patron] += 1;
+    }
+
+    /// Ends the loan of a copy and hands it out, if there is one.
+    pub fn end(&mut self, copy: CopyNo) -> Option<Loan>
+        ensures ended { result ≡ map.get self.old.loans copy }
+        ensures loans { self.new.loans ≡ map.remove self.old.loans copy }
+        ensures copies { self.new.copies ≡ self.old.copies }
+        ensures patrons { self.new.patrons ≡ self.old.patrons }
+    {
+        let loan = self.table.take(copy.number() as usize)?;
+        self.counts[loan.patron.number() as usize] -= 1;
+        Some(loan)
+    }
+
+    /// Gives the loan of a copy a new due day, and counts the renewal (docs/desk-rules.md, "Renew").
+    pub fn renew(&mut self, copy: CopyNo, due: Day)
+        requires lent { IsRenewable (map.get self.old.loans copy) }
+        ensures loans { self.new.loans ≡ renewed self.old.loans copy due }
+        ensures copies { self.new.copies ≡ self.old.copies }
+        ensures patrons { self.new.patrons ≡ self.old.patrons }
+    {
+        let at = copy.number() as usize;
+        if let Some(loan) = self.table.get(at).copied() {
+            let renewed = Loan {
+                patron: loan.patron,
+                due,
+                renewals: loan.renewals + 1,
+            };
+            self.table.set(at, renewed);
+        }
+    }
+
+    /// The loan of a copy, if it is on loan.
+    pub fn loan_of(&self, copy: CopyNo) -> Option<Loan>
+        ensures { result ≡ map.get self.now.loans copy }
+    {
+        self.table.get(copy.number() as usize).copied()
+    }
+
+    /// How many loans a patron has.
+    pub fn count(&self, patron: PatronNo) -> u32
+        ensures value { result ≡ loans_of self.now.loans self.now.copies patron }
+        ensures within { AreBelow self.now.loans self.now.copies self.now.patrons }
+    {
+        let at = patron.number() as usize;
+        if at < self.counts.len() {
+            self.counts[at]
+        } else {
+            0
+        }
+    }
+}

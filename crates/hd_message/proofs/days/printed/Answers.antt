@@ -1,0 +1,6 @@
+use Rattle.hd_message.proofs.DueLemmas.{printed_is}
+use Rattle.hd_message.proofs.days.printed.Goals as goal
+
+-- the date of the day is the one that is printed
+pub returns : goal.returns
+returns c = printed_is c.args.day.now c.print_due.result c.print_due.ensures

@@ -1,0 +1,37 @@
+-- The texts of replies.
+use Rattle.std.specs.Prelude.{ℕ, List, [], ◌∷◌, codes, if◌then◌else◌}
+use Rattle.std.specs.List.{concat}
+use Rattle.hd_message.specs.CheckinReplies.{checkin_text}
+use Rattle.hd_message.specs.Fields.{field_text}
+use Rattle.hd_message.specs.HoldReplies.{hold_text}
+use Rattle.hd_message.specs.ItemReplies.{item_text}
+use Rattle.hd_message.specs.LoanReplies.{checkout_text, renew_text}
+use Rattle.hd_message.specs.declared.reply.LoginReply.{LoginReply}
+use Rattle.hd_message.specs.declared.reply.StatusReply.{StatusReply}
+use Rattle.hd_message.specs.declared.reply.Reply.{Reply}
+use Rattle.hd_message.specs.declared.reply.Reply.TheVariants.{Login, Status, Checkout, Checkin, Hold, Renew, Item, RequestScResend}
+
+-- 94: accepted, refused
+abbrev pub login_text : LoginReply → List ℕ
+login_text reply = if reply.taken then codes "941" else codes "940"
+
+-- 98
+abbrev pub status_layout : StatusReply → List (List ℕ)
+status_layout reply =
+    codes "98YYYYNY100003"
+    ∷ reply.date.now
+    ∷ codes "2.00"
+    ∷ field_text (codes "AO") reply.institution.now
+    ∷ field_text (codes "BX") (codes "NYYNYYYNNNYNNYYN")
+    ∷ []
+
+-- a reply, without trailer and carriage return
+abbrev pub reply_text : Reply → List ℕ
+reply_text (Login reply) = login_text reply
+reply_text (Status reply) = concat (status_layout reply)
+reply_text (Checkout reply) = checkout_text reply
+reply_text (Checkin reply) = checkin_text reply
+reply_text (Hold reply) = hold_text reply
+reply_text (Renew reply) = renew_text reply
+reply_text (Item reply) = item_text reply
+reply_text RequestScResend = codes "96"

@@ -1,0 +1,23 @@
+//! Days as they are printed where something is due on them or ends with them.
+ghost use Rattle.std.specs.Prelude.{◌≡◌};
+ghost use Rattle.std.specs.Option.{option_copied, option_map};
+ghost use Rattle.hd_message.specs.Due.{due_text};
+
+use hd_date::Day;
+
+/// A day as it is printed.
+pub(crate) fn printed(day: &Day) -> [u8; 18]
+    ensures { result ≡ due_text day.now }
+{
+    day.print_due()
+}
+
+/// A day as it is printed, if there is one.
+pub(crate) fn printed_if_any(day: Option<&Day>) -> Option<[u8; 18]>
+    ensures { result ≡ option_map due_text (option_copied day.entry) }
+{
+    match day {
+        Some(day) => Some(printed(day)),
+        None => None,
+    }
+}

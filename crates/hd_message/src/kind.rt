@@ -1,0 +1,22 @@
+//! The kinds of messages that are read.
+
+/// The kind of a message that is read, by its code (SIP2 2.00, message identifiers).
+#[derive(Clone, Copy, Debug, PartialEq, Eq)]
+pub enum Kind {
+    /// 93, Login.
+    Login,
+    /// 99, SC Status.
+    Status,
+    /// 11, Checkout.
+    Checkout,
+    /// 09, Checkin.
+    Checkin,
+    /// 15, Hold.
+    Hold,
+    /// 29, Renew.
+    Renew,
+    /// 17, Item Information.
+    Item,
+    /// 97, Request ACS Resend.
+    Resend,
+}

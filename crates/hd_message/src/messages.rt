@@ -1,0 +1,88 @@
+//! Reading the messages that lend, renew, take back and ask for one copy, and the login.
+ghost use Rattle.std.specs.Prelude.{◌≡◌, length, IfSome, is_none};
+ghost use Rattle.hd_message.specs.Requests.{IsCheckin, IsCheckout, IsItem, IsLogin, IsRenew};
+ghost use Rattle.hd_message.specs.Table.{lacks_required};
+ghost use Rattle.hd_message.specs.declared.kind.Kind.TheVariants.{Login, Checkout, Checkin, Renew, Item};
+
+use crate::request::{CheckinRequest, CheckoutRequest, ItemRequest, LoginRequest, RenewRequest};
+use crate::values::{filled, is_cancel, value};
+
+/// The login of a fixed part and its fields, if it is readable.
+pub(crate) fn login<'a>(fixed: &'a [u8], part: &'a [u8]) -> Option<LoginRequest<'a>>
+    requires { length fixed.now ≡ 4 }
+    ensures held { IfSome result (IsLogin fixed.now part.now) }
+    ensures unreadable { is_none result ≡ lacks_required Login part.now }
+{
+    let name = value(part, *b"CN")?;
+    let password = value(part, *b"CO")?;
+    Some(LoginRequest {
+        clear: fixed[2] == b'0' && fixed[3] == b'0',
+        name,
+        password,
+    })
+}
+
+/// The checkout, if it is readable.
+pub(crate) fn checkout<'a>(fixed: &'a [u8], part: &'a [u8]) -> Option<CheckoutRequest<'a>>
+    requires { length fixed.now ≡ 40 }
+    ensures held { IfSome result (IsCheckout fixed.now part.now) }
+    ensures unreadable { is_none result ≡ lacks_required Checkout part.now }
+{
+    let patron = value(part, *b"AA")?;
+    let copy = value(part, *b"AB")?;
+    let cancels = is_cancel(part);
+    let offline = fixed[3] == b'Y' && !cancels;
+    Some(CheckoutRequest {
+        renews: fixed[2] == b'Y',
+        date: &fixed[4..22],
+        due: if offline { Some(&fixed[22..40]) } else { None },
+        patron,
+        copy,
+        cancels,
+    })
+}
+
+/// The checkin, if it is readable.
+pub(crate) fn checkin<'a>(fixed: &'a [u8], part: &'a [u8]) -> Option<CheckinRequest<'a>>
+    requires { length fixed.now ≡ 39 }
+    ensures held { IfSome result (IsCheckin fixed.now part.now) }
+    ensures unreadable { is_none result ≡ lacks_required Checkin part.now }
+{
+    let copy = value(part, *b"AB")?;
+    Some(CheckinRequest {
+        date: &fixed[3..21],
+        copy,
+        branch: filled(part, *b"AP"),
+        cancels: is_cancel(part),
+    })
+}
+
+/// The renewal, if it is readable.
+pub(crate) fn renew<'a>(fixed: &'a [u8], part: &'a [u8]) -> Option<RenewRequest<'a>>
+    requires { length fixed.now ≡ 40 }
+    ensures held { IfSome result (IsRenew fixed.now part.now) }
+    ensures unreadable { is_none result ≡ lacks_required Renew part.now }
+{
+    let patron = value(part, *b"AA")?;
+    let copy = value(part, *b"AB")?;
+    Some(RenewRequest {
+        date: &fixed[4..22],
+        patron,
+        copy,
+        title: filled(part, *b"AJ"),
+        cancels: is_cancel(part),
+    })
+}
+
+/// The question about a copy, if it is readable.
+pub(crate) fn item<'a>(fixed: &'a [u8], part: &'a [u8]) -> Option<ItemRequest<'a>>
+    requires { length fixed.now ≡ 20 }
+    ensures held { IfSome result (IsItem fixed.now part.now) }
+    ensures unreadable { is_none result ≡ lacks_required Item part.now }
+{
+    let copy = value(part, *b"AB")?;
+    Some(ItemRequest {
+        date: &fixed[2..20],
+        copy,
+    })
+}

@@ -1,0 +1,10 @@
+pub mod Changes
+pub mod Taken
+pub mod Kept
+pub mod Along
+pub mod Cancelled
+pub mod Turning
+pub mod Numbered
+pub mod Newest
+pub mod Walks
+pub mod LentOffLine

@@ -1,0 +1,10 @@
+use Rattle.std.proofs.Common.{Some, None}
+use Rattle.hd_rules.specs.declared.replies.Refusal.TheVariants as refusal
+use Rattle.hd_plain.proofs.Along.{asked_at, is_refused, ok_along}
+use Rattle.hd_plain.proofs.holding.delete.Goals as goal
+
+pub returns-in-None : goal.returns-in-None
+returns-in-None c = asked_at None (c.in_ok-ask_hold.ensures _) c.in-None.is (is_refused refusal.NoSuchHold)
+
+pub returns-in-Some : goal.returns-in-Some
+returns-in-Some c = ok_along c.delete_with.result c.delete_with.ensures (λ ending ends. asked_at (Some c.in-Some.hold) (c.in_ok-ask_hold.ensures _) c.in-Some.is ends)

@@ -1,0 +1,42 @@
+-- A desk gives each copy a place and each pair of title and patron a hold or none.
+use Rattle.std.specs.Prelude.{ℕ, Bool, false, ◌&&◌, ◌==◌, Option, None, List, [], ◌∷◌, if◌then◌else◌}
+use Rattle.hd_rules.specs.Words.{Hold, CopyState, Shelf, Cell, CopyCell, HoldCell, Value, CopyHas, HoldHas, Change}
+use Rattle.hd_rules.specs.Facts.{Facts}
+
+-- what each cell has
+pub record Desk : Type 0 where
+  pub copy : ℕ → CopyState
+  pub hold : ℕ → ℕ → Option Hold
+
+-- each copy at home, and no holds
+abbrev pub opening : Facts → Desk
+opening k = record { copy = λ c. Shelf (k.home c); hold = λ t p. None }
+
+-- what a cell has
+abbrev pub value : Desk → Cell → Value
+value d (CopyCell c) = CopyHas (d.copy c)
+value d (HoldCell t p) = HoldHas (d.hold t p)
+
+-- the two are one cell
+abbrev pub same_cell : Cell → Cell → Bool
+same_cell (CopyCell c) (CopyCell x) = c == x
+same_cell (CopyCell c) (HoldCell t p) = false
+same_cell (HoldCell t p) (CopyCell c) = false
+same_cell (HoldCell t p) (HoldCell u q) = (t == u) && (p == q)
+
+-- the desk with this value in this cell
+abbrev pub put : Desk → Cell → Value → Desk
+put d (CopyCell c) (CopyHas v) = record { copy = λ x. if c == x then v else d.copy x; hold = d.hold }
+put d (HoldCell t p) (HoldHas v) = record { copy = d.copy; hold = λ u q. if (t == u) && (p == q) then v else d.hold u q }
+put d (CopyCell c) (HoldHas v) = d
+put d (HoldCell t p) (CopyHas v) = d
+
+-- the desk after these changes, in order
+abbrev pub after : List Change → Desk → Desk
+after [] d = d
+after (change ∷ changes) d = after changes (put d change.cell change.new)
+
+-- the desk with these changes taken back, the last one first
+abbrev pub undone : List Change → Desk → Desk
+undone [] d = d
+undone (change ∷ changes) d = put (undone changes d) change.cell change.old

@@ -1,0 +1,58 @@
+-- What holds of every desk that commands lead to.
+use Rattle.std.specs.Prelude.{◌≡◌, ℕ, ◌<◌, ◌≤◌, Option, Some, None, List, [], ◌∷◌}
+use Rattle.hd_rules.specs.Words.{Change, Hold, HoldPlace, CopyState, Shelf, OnLoan, OnHoldShelf, InTransit}
+use Rattle.hd_rules.specs.Facts.{Facts}
+use Rattle.hd_rules.specs.Desk.{Desk, undone}
+
+-- the hold has this copy, and this pickup
+abbrev pub Has : Option Hold → ℕ → ℕ → Type 0
+Has None c b = ⊥
+Has (Some h) c b = (h.copy ≡ Some c) × (h.pickup ≡ b)
+
+-- the copy is kept for the patron at this branch, or is on the way there
+abbrev pub Tied : CopyState → ℕ → ℕ → Type 0
+Tied (Shelf x) p b = ⊥
+Tied (OnLoan l) p b = ⊥
+Tied (OnHoldShelf s) p b = (s.patron ≡ p) × (s.branch ≡ b)
+Tied (InTransit t) p b = (t.patron ≡ Some p) × (t.to ≡ b)
+
+-- A hold has a copy exactly where that copy, one of its title, is tied to its patron at its pickup.
+pub record Tie (k : Facts) (d : Desk) : Type 0 where
+  pub tied : (t : ℕ) (p : ℕ) (c : ℕ) (b : ℕ) → Has (d.hold t p) c b → (k.title_of c ≡ t) × Tied (d.copy c) p b
+  pub has : (p : ℕ) (c : ℕ) (b : ℕ) → Tied (d.copy c) p b → Has (d.hold (k.title_of c) p) c b
+
+-- each hold stands under its own patron
+abbrev pub AreNamed : (ℕ → ℕ → Option Hold) → Type 0
+AreNamed holds = (t : ℕ) (p : ℕ) (h : Hold) → holds t p ≡ Some h → h.patron ≡ p
+
+-- no two holds of a title have one stamp
+abbrev pub StampsApart : (ℕ → ℕ → Option Hold) → Type 0
+StampsApart holds = (t : ℕ) (p q : ℕ) (g h : Hold) → holds t p ≡ Some g → holds t q ≡ Some h → g.stamp ≡ h.stamp → p ≡ q
+
+-- and each stamp is below n
+pub record HoldsFit (n : ℕ) (holds : ℕ → ℕ → Option Hold) : Type 0 where
+  pub named : AreNamed holds
+  pub stamped : (t : ℕ) (p : ℕ) (h : Hold) → holds t p ≡ Some h → h.stamp < n
+  pub apart : StampsApart holds
+
+-- Places are numbered from 1, and no two of the catalogue's copies share a place of a branch.
+pub record PlacesFit (k : Facts) (copies : ℕ → CopyState) : Type 0 where
+  pub from_one : (c : ℕ) (s : HoldPlace) → copies c ≡ OnHoldShelf s → 1 ≤ s.place
+  pub apart : (x y : ℕ) (s r : HoldPlace) → x < k.copies → y < k.copies → copies x ≡ OnHoldShelf s → copies y ≡ OnHoldShelf r → s.branch ≡ r.branch → s.place ≡ r.place → x ≡ y
+
+-- a fit desk
+pub record IsFit (k : Facts) (d : Desk) : Type 0 where
+  pub named : AreNamed d.hold
+  pub stamps : StampsApart d.hold
+  pub places : PlacesFit k d.copy
+
+-- the desk is fit and sound, and n is above every stamp
+pub record Sound (k : Facts) (n : ℕ) (d : Desk) : Type 0 where
+  pub holds : HoldsFit n d.hold
+  pub places : PlacesFit k d.copy
+  pub tie : Tie k d
+
+-- every desk on the way of taking these changes back, the last one first, is fit
+abbrev pub EachBackIsFit : Facts → List Change → Desk → Type 0
+EachBackIsFit k [] d = Unit {0}
+EachBackIsFit k (change ∷ changes) d = EachBackIsFit k changes d × IsFit k (undone (change ∷ changes) d)

@@ -1,0 +1,52 @@
+-- Which command a cancellation takes back.
+use Rattle.std.specs.Prelude.{◌≡◌, ℕ, Bool, true, false, ◌&&◌, ◌==◌, if◌then◌else◌, Option, Some, None, List, [], ◌∷◌, ◌++◌}
+use Rattle.hd_rules.specs.Words.{Action, Cancel, Survivor}
+use Rattle.hd_rules.specs.declared.commands.Action.TheVariants.{Checkout, OffLine, Checkin, Add, Delete, ChangeHold, Renew}
+use Rattle.hd_rules.specs.declared.commands.Cancel.TheVariants.{Loan, Return, Renewal, Adding, Deletion, Changing}
+
+-- the same patron and title
+abbrev pub same_pair : ℕ → ℕ → ℕ → ℕ → Bool
+same_pair p t q u = (p == q) && (t == u)
+
+-- The action is what such a cancellation takes back. The patron of a loan or a renewal isn't compared, nor a return's branch.
+abbrev pub is_of_kind : Cancel → Action → Bool
+is_of_kind (Loan c) (Checkout p x may_renew) = c == x
+is_of_kind (Loan c) (OffLine p x due) = c == x
+is_of_kind (Return c) (Checkin x b) = c == x
+is_of_kind (Renewal c) (Renew p x) = c == x
+is_of_kind (Adding p t) (Add q u kind pickup expiry) = same_pair p t q u
+is_of_kind (Deletion p t) (Delete q u) = same_pair p t q u
+is_of_kind (Changing p t) (ChangeHold q u kind pickup expiry) = same_pair p t q u
+is_of_kind _ _ = false
+
+-- a survivor that such a cancellation by this terminal may take back
+abbrev pub is_target : ℕ → Cancel → Survivor → Bool
+is_target terminal what s = (s.terminal == terminal) && is_of_kind what s.command.action
+
+-- none of them may be taken back so
+abbrev pub NoTarget : ℕ → Cancel → List Survivor → Type 0
+NoTarget terminal what [] = Unit {0}
+NoTarget terminal what (s ∷ ss) = (is_target terminal what s ≡ false) × NoTarget terminal what ss
+
+-- survivors, split at one of them
+pub record Split : Type 0 where
+  pub older : List Survivor
+  pub survivor : Survivor
+  pub newer : List Survivor
+
+-- the survivors, split at the newest target
+pub record IsTarget (terminal : ℕ) (what : Cancel) (survivors : List Survivor) (at : Split) : Type 0 where
+  pub split : survivors ≡ at.older ++ at.survivor ∷ at.newer
+  pub fits : is_target terminal what at.survivor ≡ true
+  pub newest : NoTarget terminal what at.newer
+
+-- the target among these later ones, or else the survivor before them
+abbrev pub newest_of : ℕ → Cancel → Survivor → List Survivor → Option Split → Option Split
+newest_of terminal what s ss (Some at) = Some (record { older = s ∷ at.older; survivor = at.survivor; newer = at.newer })
+newest_of terminal what s ss None =
+    if is_target terminal what s then Some (record { older = []; survivor = s; newer = ss }) else None
+
+-- the newest target, if there is one
+abbrev pub target : ℕ → Cancel → List Survivor → Option Split
+target terminal what [] = None
+target terminal what (s ∷ ss) = newest_of terminal what s ss (target terminal what ss)

@@ -1,0 +1,5 @@
+use Rattle.hd_shelf.proofs.ShelfLemmas.{IsKept-empty}
+use Rattle.hd_shelf.proofs.places.Places.new.Goals as goal
+
+pub invariant_of-result : goal.invariant_of-result
+invariant_of-result g c = rw c.new.ensures.entries IsKept-empty

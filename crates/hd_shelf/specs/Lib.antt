@@ -1,0 +1,2 @@
+pub mod PlacesValue
+pub mod Shelf

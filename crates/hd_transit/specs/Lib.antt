@@ -1,0 +1,2 @@
+pub mod TransitsValue
+pub mod Bound

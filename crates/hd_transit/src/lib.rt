@@ -1,0 +1,11 @@
+//! The copies on their way between branches.
+#![tactic(auto)]
+
+mod bound;
+#[cfg(test)]
+mod tests;
+mod transits;
+
+pub use crate::bound::Bound;
+pub use crate::transits::Transits;
+pub use hd_rules::Transit;
