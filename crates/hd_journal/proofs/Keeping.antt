@@ -2,12 +2,11 @@
 use Rattle.std.proofs.Common.{arith, ◌≡◌, refl, sym, ◌∙◌, ap, subst, ℕ, ◌+◌, ◌≤◌, List, [], ◌∷◌, ◌++◌, length, length-append, Option, Some, None}
 use Rattle.hd_rules.specs.declared.commands.Command.{Command}
 use Rattle.hd_rules.specs.declared.commands.Cancel.{Cancel}
-use Rattle.hd_rules.specs.declared.turns.Asked.{Asked}
 use Rattle.hd_rules.specs.declared.turns.Asked.TheVariants as ask
 use Rattle.hd_rules.specs.declared.replies.TurnReply.{TurnReply}
 use Rattle.hd_rules.specs.Facts.{Facts}
-use Rattle.hd_rules.specs.Turns.{Message, Kept, State, Answered, repeated, repeated_of, answered_unless, with_kept, turn_of, start}
-use Rattle.hd_rules.specs.Journal.{Turn, state_after, IsLegal}
+use Rattle.hd_rules.specs.Turns.{Message, Kept, State, Answered, repeated_of, answered_unless, with_kept, turn_of, start}
+use Rattle.hd_rules.specs.Journal.{Turn, state_after}
 use Rattle.hd_rules.proofs.Journals.{legal_is_run, legal_joined, state_joined}
 use Rattle.hd_rules.proofs.Theorem.{headline}
 use Rattle.hd_rules.proofs.ReplyingTurns.{each_replies}

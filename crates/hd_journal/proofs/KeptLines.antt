@@ -1,10 +1,10 @@
 -- What is kept, after one more turn.
-use Rattle.std.proofs.Common.{arith, ◌≡◌, ◌≢◌, refl, sym, ◌∙◌, ap, subst, ℕ, zero, suc, ◌+◌, ◌<◌, ◌≤◌, ◌==◌, Bool, true, false, cond, List, [], ◌∷◌, ◌++◌, length, get_or, set, slice_get, Option, Some, None, length-append}
+use Rattle.std.proofs.Common.{arith, ◌≡◌, ◌≢◌, refl, sym, ◌∙◌, ap, subst, ℕ, zero, suc, ◌<◌, ◌==◌, Bool, true, false, cond, List, [], ◌∷◌, ◌++◌, length, get_or, set, slice_get, Option, Some, None, length-append}
 use Rattle.std.proofs.lemmas.Bool.{eqb-true, eqb-false}
 use Rattle.std.proofs.lemmas.List.{get_or-set_same, get_or-set_other}
-use Rattle.hd_rules.specs.Turns.{Kept, kept_of}
+use Rattle.hd_rules.specs.Turns.{kept_of}
 use Rattle.hd_rules.specs.Journal.{Turn}
-use Rattle.hd_journal.specs.Telling.{Told, kept_turn, kept_at, kept_in, with_turn, AreTurns}
+use Rattle.hd_journal.specs.Telling.{kept_turn, kept_at, kept_in, with_turn, AreTurns}
 
 -- a turn that stands among those before
 same_turn : (turns : List Turn) (turn : Turn) (i : ℕ) → i < length turns → slice_get (turns ++ turn ∷ []) i ≡ slice_get turns i

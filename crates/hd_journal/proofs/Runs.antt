@@ -1,12 +1,10 @@
 -- Runs of lists in parts, and the stamps of their desks.
-use Rattle.std.proofs.Common.{arith, ◌≡◌, refl, sym, ◌∙◌, ap, subst, ℕ, ◌+◌, ◌<◌, ◌≤◌, List, [], ◌∷◌, ◌++◌, length, take, drop, get_or, add-one, drop-cons, length-drop, ◌-◌, Option, Some}
+use Rattle.std.proofs.Common.{arith, ◌≡◌, refl, sym, ◌∙◌, ap, subst, ℕ, ◌+◌, ◌<◌, ◌≤◌, List, [], ◌∷◌, ◌++◌, length, take, drop, get_or, add-one, drop-cons, length-drop, ◌-◌}
 use Rattle.std.proofs.lemmas.List.{take-append-drop, take_more, take_all}
-use Rattle.hd_rules.specs.declared.holds.Hold.{Hold}
 use Rattle.hd_rules.specs.declared.commands.Survivor.{Survivor}
 use Rattle.hd_rules.specs.Facts.{Facts}
 use Rattle.hd_rules.specs.Desk.{Desk, opening}
-use Rattle.hd_rules.specs.Run.{step, run, run_from, Rising, next_number}
-use Rattle.hd_rules.specs.Sound.{Sound}
+use Rattle.hd_rules.specs.Run.{step, run, Rising, next_number}
 use Rattle.hd_rules.proofs.Cancelling.{run_from-append}
 use Rattle.hd_rules.proofs.Reach.{reachable_sound}
 use Rattle.hd_rules.proofs.Journals.{rising_more}

@@ -1,16 +1,16 @@
 -- What a command leaves.
-use Rattle.std.proofs.Common.{arith, ◌≡◌, refl, sym, ◌∙◌, ap, subst, ℕ, ◌+◌, ◌<◌, ◌≤◌, List, [], ◌∷◌, ◌++◌, Option, Result, Ok, Err}
+use Rattle.std.proofs.Common.{arith, ◌≡◌, refl, sym, ◌∙◌, ap, subst, ℕ, ◌+◌, ◌≤◌, List, [], ◌∷◌, ◌++◌, Result, Ok}
 use Rattle.hd_rules.specs.declared.commands.Command.{Command}
 use Rattle.hd_rules.specs.declared.commands.Survivor.{Survivor}
 use Rattle.hd_rules.specs.declared.replies.Refusal.{Refusal}
-use Rattle.hd_rules.specs.declared.replies.TurnReply.TheVariants.{Done as Accepted, Refused}
+use Rattle.hd_rules.specs.declared.replies.TurnReply.TheVariants.{Done as Accepted}
 use Rattle.hd_rules.specs.Facts.{Facts}
 use Rattle.hd_rules.specs.Desk.{Desk, after}
 use Rattle.hd_rules.specs.Ask.{Done}
 use Rattle.hd_rules.specs.Run.{run, outcome_of, changed_by, step, next_number}
-use Rattle.hd_rules.specs.Turns.{Kept, State, Answered, answered_command}
+use Rattle.hd_rules.specs.Turns.{answered_command}
 use Rattle.hd_catalogue.specs.Contents.{Contents, facts_of}
-use Rattle.hd_journal.specs.Running.{Running, IsRunning, IsAdding, MayRun, Submitted, state_at}
+use Rattle.hd_journal.specs.Running.{Running, IsRunning, IsAdding, Submitted, state_at}
 use Rattle.hd_journal.proofs.Runs.{run_more, may_run_last}
 
 -- an accepted command is one step

@@ -1,10 +1,8 @@
 -- Messages, one after another.
-use Rattle.std.proofs.Common.{◌≡◌, refl, sym, ◌∙◌, ap, subst, ℕ, ◌+◌, ◌<◌, List, [], ◌∷◌, ◌++◌, length, drop, get_or, add-one, drop-cons}
-use Rattle.hd_rules.specs.Facts.{Facts}
-use Rattle.hd_catalogue.specs.Contents.{Contents, facts_of}
+use Rattle.std.proofs.Common.{◌≡◌, ℕ, List, drop}
 use Rattle.hd_journal.specs.declared.messages.Message.{Message as Sent}
-use Rattle.hd_journal.specs.Books.{Book, facts, with_message}
-use Rattle.hd_journal.specs.Messages.{message_of, after_messages, IsKnownMessage, AllKnown}
+use Rattle.hd_journal.specs.Books.{Book, facts}
+use Rattle.hd_journal.specs.Messages.{after_messages, AllKnown}
 
 -- How far the messages were taken: what the rest leads to, and that it is known.
 pub record Taken (first now : Book) (sent : List Sent) (i : ℕ) : Type 0 where

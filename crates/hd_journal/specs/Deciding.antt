@@ -1,11 +1,11 @@
 -- How a cancellation is decided.
-use Rattle.std.specs.Prelude.{◌≡◌, ℕ, ◌+◌, Option, Some, None, List, ◌∷◌, ◌++◌, take, drop, slice_index_or}
+use Rattle.std.specs.Prelude.{◌≡◌, ℕ, ◌+◌, Option, Some, None, List, ◌++◌, take, drop, slice_index_or}
 use Rattle.hd_rules.specs.declared.commands.Cancel.{Cancel}
 use Rattle.hd_rules.specs.declared.commands.Survivor.{Survivor}
 use Rattle.hd_rules.specs.Facts.{Facts}
 use Rattle.hd_rules.specs.Run.{run}
 use Rattle.hd_rules.specs.Depends.{first_otherwise}
-use Rattle.hd_rules.specs.Target.{Split, target}
+use Rattle.hd_rules.specs.Target.{target}
 use Rattle.hd_catalogue.specs.Contents.{Contents, facts_of}
 use Rattle.hd_desk.specs.Desks.{desk_of}
 use Rattle.hd_journal.specs.declared.decision.Decision.{Decision}

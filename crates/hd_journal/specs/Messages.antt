@@ -1,5 +1,5 @@
 -- Lists of messages.
-use Rattle.std.specs.Prelude.{◌≡◌, ℕ, ◌<◌, Option, List, [], ◌∷◌, option_map}
+use Rattle.std.specs.Prelude.{◌<◌, List, [], ◌∷◌, option_map}
 use Rattle.hd_rules.specs.declared.turns.Asked.{Asked}
 use Rattle.hd_rules.specs.declared.turns.Asked.TheVariants as asked
 use Rattle.hd_rules.specs.Facts.{Facts}

@@ -1,5 +1,5 @@
 -- A turn, as a journal shows it.
-use Rattle.std.specs.Prelude.{Option, option_map}
+use Rattle.std.specs.Prelude.{option_map}
 use Rattle.hd_rules.specs.Journal.{Turn}
 use Rattle.hd_journal.specs.declared.turn.TurnRef.{TurnRef}
 

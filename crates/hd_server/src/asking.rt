@@ -71,8 +71,7 @@ fn look_up<A: Allocator + Copy>(
         .patron(request.patron)
         .ok_or(Refusal::UnknownPatron)?;
     let copy = copy_of(catalogue, request.copy)?;
-    let of_copy = copy;
-    let title = title_of(catalogue, request.title, of_copy)?;
+    let title = title_of(catalogue, request.title, &copy)?;
     Ok(Named {
         patron,
         title,
@@ -100,13 +99,13 @@ fn copy_of<A: Allocator + Copy>(
 fn title_of<A: Allocator + Copy>(
     catalogue: &Catalogue<A>,
     name: Option<&[u8]>,
-    copy: Option<CopyNo>,
+    copy: &Option<CopyNo>,
 ) -> Result<TitleNo, Refusal>
-    requires { IfSome copy (λ copy. copy < (facts_of catalogue.now).copies) }
+    requires { IfSome copy.now (λ copy. copy < (facts_of catalogue.now).copies) }
     ensures { IfOk result (λ title. title < (facts_of catalogue.now).titles) }
 {
     let of_copy = match copy {
-        Some(copy) => Some(catalogue.title_of(copy)),
+        Some(copy) => Some(catalogue.title_of(*copy)),
         None => None,
     };
     let Some(name) = name else {

@@ -1,5 +1,5 @@
 use Rattle.std.proofs.Common.{arith, ◌≡◌, ◌+◌, ◌-◌, ◌∙◌, sym, subst, take, drop, ℕ}
-use Rattle.hd_rules.specs.Target.{Split, NoTarget, target}
+use Rattle.hd_rules.specs.Target.{Split, NoTarget}
 use Rattle.hd_rules.proofs.Newest.{target_is, no_target_is}
 use Rattle.hd_journal.proofs.Runs.{split_at}
 use Rattle.hd_journal.proofs.decision.newest.Goals as goal

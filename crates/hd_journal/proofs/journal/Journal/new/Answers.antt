@@ -1,8 +1,3 @@
-use Rattle.std.proofs.Common.{arith, ◌≡◌, ◌∙◌, ap, sym, subst, refl, ℕ, List, [], Option, None}
-use Rattle.hd_rules.specs.Journal.{Turn}
-use Rattle.hd_journal.specs.Running.{Running}
-use Rattle.hd_journal.specs.Telling.{Told, kept_by}
-use Rattle.hd_journal.specs.Books.{IsKept}
 use Rattle.hd_journal.proofs.Keeping.{kept_at_start}
 use Rattle.hd_journal.proofs.journal.Journal.new.Goals as goal
 

@@ -1,7 +1,5 @@
-use Rattle.std.proofs.Common.{arith, ◌≡◌, ◌+◌, ◌≤◌, ◌∙◌, ap, sym, subst, refl, option_map}
+use Rattle.std.proofs.Common.{arith, ◌∙◌, sym, subst, refl, option_map}
 use Rattle.hd_rules.specs.declared.turns.Asked.TheVariants as ask
-use Rattle.hd_rules.specs.declared.replies.TurnReply.{TurnReply}
-use Rattle.hd_rules.specs.Journal.{Turn}
 use Rattle.hd_journal.specs.Running.{Running}
 use Rattle.hd_journal.specs.Telling.{kept_by}
 use Rattle.hd_journal.specs.Books.{IsLegalBook, asking}

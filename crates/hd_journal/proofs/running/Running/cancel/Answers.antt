@@ -1,8 +1,6 @@
-use Rattle.std.proofs.Common.{◌≡◌, ◌<◌, ◌∙◌, ap, sym, subst, refl, ℕ, List, length, add-one, take, drop, ◌++◌, ◌+◌}
-use Rattle.hd_rules.specs.declared.commands.Survivor.{Survivor}
+use Rattle.std.proofs.Common.{◌≡◌, subst, add-one, take, drop, ◌++◌, ◌+◌}
 use Rattle.hd_rules.specs.declared.replies.Refusal.TheVariants as refusal
 use Rattle.hd_rules.specs.declared.replies.TurnReply.TheVariants.{Refused, Cancelled}
-use Rattle.hd_catalogue.specs.Contents.{Contents, facts_of}
 use Rattle.hd_desk.specs.Desks.{desk_of}
 use Rattle.hd_journal.specs.Running.{Running, Withdrawn}
 use Rattle.hd_journal.proofs.Withdrawing.{withdrawn_depends, withdrawn_stands, running_without}

@@ -1,11 +1,11 @@
-use Rattle.std.proofs.Common.{arith, ◌≡◌, ◌+◌, ◌∙◌, ap, sym, subst, refl, List, ◌++◌, ◌∷◌, []}
+use Rattle.std.proofs.Common.{◌+◌, ◌∙◌, ap, sym, subst, refl, List, ◌++◌, ◌∷◌, []}
 use Rattle.hd_rules.specs.declared.commands.Survivor.{Survivor}
 use Rattle.hd_rules.specs.declared.replies.Reply.{Reply}
 use Rattle.hd_rules.specs.declared.replies.TurnReply.TheVariants.{Done as Accepted}
-use Rattle.hd_catalogue.specs.Contents.{Contents, facts_of}
+use Rattle.hd_catalogue.specs.Contents.{facts_of}
 use Rattle.hd_desk.specs.Desks.{desk_of}
 use Rattle.hd_rules.specs.Known.{IsKnownAction}
-use Rattle.hd_journal.specs.Running.{Running, IsAdding, Submitted}
+use Rattle.hd_journal.specs.Running.{Running, Submitted}
 use Rattle.hd_journal.proofs.Runs.{stamps_below}
 use Rattle.hd_journal.proofs.Submitting.{running_more, submitted_done}
 use Rattle.hd_journal.proofs.running.Running.submit.Goals as goal

@@ -1,7 +1,7 @@
 use Rattle.std.proofs.Common.{◌≡◌, ◌∙◌, ◌<◌, ap, sym, subst, ℕ, length}
 use Rattle.hd_rules.specs.Journal.{Turn}
 use Rattle.hd_journal.specs.Telling.{Told, kept_by, with_turn}
-use Rattle.hd_journal.proofs.KeptLines.{Set, turns_set, kept_set}
+use Rattle.hd_journal.proofs.KeptLines.{turns_set, kept_set}
 use Rattle.hd_journal.proofs.told.Told.add.Goals as goal
 
 pub invariant_of-self : goal.invariant_of-self
