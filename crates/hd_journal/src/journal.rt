@@ -102,9 +102,9 @@ impl<A: Allocator + Copy> Journal<A> {
     /// One turn: a terminal's cancellation, with the message's line where that carried a sequence number.
     ///
     /// It takes back the newest surviving command of its kind that the terminal sent, and is refused where there is none
-    /// (F20) or where a later survivor depends on it (F21, with the least number of one that does); or it is repeated. The
-    /// desk is then that of the run of the other survivors. Its numbers, and the terminal's, are those of the journal's
-    /// catalogue.
+    /// (`NothingToCancel`) or where a later survivor depends on it (`Depends`, with the least number of one that does); or
+    /// it is repeated. The desk is then that of the run of the other survivors. Its numbers, and the terminal's, are those
+    /// of the journal's catalogue.
     pub fn cancel(
         &mut self,
         terminal: TerminalNo,

@@ -6,47 +6,47 @@ ghost use Rattle.hd_message.specs.Reasons.{words_of};
 /// (docs/protocol.md, "Refusals").
 #[derive(Clone, Copy, Debug, PartialEq, Eq)]
 pub enum Reason {
-    /// F01: the session stands as no terminal.
+    /// The session stands as no terminal.
     NotLoggedIn,
-    /// F02: the message can't be read.
+    /// The message can't be read.
     Unreadable,
-    /// F03: a date that counts can't be read.
+    /// A date that counts can't be read.
     BadDate,
-    /// F04: AA names no patron.
+    /// AA names no patron.
     UnknownPatron,
-    /// F05: AB names no copy.
+    /// AB names no copy.
     UnknownItem,
-    /// F06: AJ names no title, or not that of the copy in AB.
+    /// AJ names no title, or not that of the copy in AB.
     UnknownTitle,
-    /// F07: BS names no branch.
+    /// BS names no branch.
     UnknownBranch,
-    /// F08: the patron has a hold of the title.
+    /// The patron has a hold of the title.
     HoldExists,
-    /// F09: the patron has no hold of the title.
+    /// The patron has no hold of the title.
     NoSuchHold,
-    /// F10: the hold has its copy.
+    /// The hold has its copy.
     HoldHasCopy,
-    /// F11: the expiry day lies before the transaction day.
+    /// The expiry day lies before the transaction day.
     ExpiryPassed,
-    /// F12: the copy is on loan.
+    /// The copy is on loan.
     OnLoan,
-    /// F13: the copy is kept for another patron.
+    /// The copy is kept for another patron.
     KeptForAnother,
-    /// F14: the copy is in transit.
+    /// The copy is in transit.
     InTransit,
-    /// F15: the patron has as many loans as the limit.
+    /// The patron has as many loans as the limit.
     LoanLimit,
-    /// F16: the copy isn't on loan to the patron.
+    /// The copy isn't on loan to the patron.
     NotOnLoan,
-    /// F17: the loan can't be renewed.
+    /// The loan can't be renewed.
     NotRenewable,
-    /// F18: the due day would lie after 9999-12-31.
+    /// The due day would lie after 9999-12-31.
     DueRange,
-    /// F19: all numbers of commands are given.
+    /// All numbers of commands are given.
     JournalFull,
-    /// F20: there is no command that the message could cancel.
+    /// There is no command that the message could cancel.
     NothingToCancel,
-    /// F21: a later command depends on the one that is to be cancelled.
+    /// A later command depends on the one that is to be cancelled.
     Depends {
         /// The number of the first command that depends.
         number: u64,

@@ -5,50 +5,50 @@ use crate::holds::Hold;
 use crate::numbers::{BranchNo, TitleNo};
 use hd_date::Day;
 
-/// Why a message is refused, F01 to F21 (docs/protocol.md, "Refusals"). Where several apply, the first of them is given.
+/// Why a message is refused (docs/protocol.md, "Refusals"). Where several apply, the first of them is given.
 #[derive(Clone, Copy, PartialEq, Eq, Debug)]
 pub enum Refusal {
-    /// F01: no terminal is logged in.
+    /// No terminal is logged in.
     NotLoggedIn,
-    /// F02: the message can't be read.
+    /// The message can't be read.
     Unreadable,
-    /// F03: a date can't be read.
+    /// A date can't be read.
     BadDate,
-    /// F04: no such patron.
+    /// No such patron.
     UnknownPatron,
-    /// F05: no such copy.
+    /// No such copy.
     UnknownItem,
-    /// F06: no such title, or another than the copy's.
+    /// No such title, or another than the copy's.
     UnknownTitle,
-    /// F07: no such branch.
+    /// No such branch.
     UnknownBranch,
-    /// F08: the patron has a hold of the title.
+    /// The patron has a hold of the title.
     HoldExists,
-    /// F09: the patron has no hold of the title.
+    /// The patron has no hold of the title.
     NoSuchHold,
-    /// F10: the hold has its copy.
+    /// The hold has its copy.
     HoldHasCopy,
-    /// F11: the expiry day lies before the transaction day.
+    /// The expiry day lies before the transaction day.
     ExpiryPassed,
-    /// F12: the copy is on loan.
+    /// The copy is on loan.
     OnLoan,
-    /// F13: the copy is kept for another patron, or another's hold comes first.
+    /// The copy is kept for another patron, or another's hold comes first.
     KeptForAnother,
-    /// F14: the copy is in transit.
+    /// The copy is in transit.
     InTransit,
-    /// F15: the patron has as many loans as the limit allows.
+    /// The patron has as many loans as the limit allows.
     LoanLimit,
-    /// F16: the copy isn't on loan to the patron.
+    /// The copy isn't on loan to the patron.
     NotOnLoan,
-    /// F17: renewed as often as may be, or wanted by another.
+    /// Renewed as often as may be, or wanted by another.
     NotRenewable,
-    /// F18: the due day would lie past 9999-12-31.
+    /// The due day would lie past 9999-12-31.
     DueRange,
-    /// F19: all numbers are given.
+    /// All numbers are given.
     JournalFull,
-    /// F20: the cancellation has no target.
+    /// The cancellation has no target.
     NothingToCancel,
-    /// F21: the surviving command of this number, the least, depends on the target.
+    /// The surviving command of this number, the least, depends on the target.
     Depends { number: u64 },
 }
 
