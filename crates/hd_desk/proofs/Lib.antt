@@ -1,4 +1,4 @@
-pub mod Counts
-pub mod Queues
-pub mod Answering
-pub mod Fit
+pub mod Following
+pub mod Writing
+pub mod Making
+pub mod Planned

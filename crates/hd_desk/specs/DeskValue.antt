@@ -1,9 +1,8 @@
 -- What a desk is to its users.
-use Rattle.std.specs.Prelude.{List}
-use Rattle.hd_rules.specs.declared.holds.Hold.{Hold}
-use Rattle.hd_catalogue.specs.Contents.{Contents}
+use Rattle.hd_copies.specs.CopiesValue.{CopiesValue}
+use Rattle.hd_holds.specs.HoldsValue.{HoldsValue}
 
--- what its catalogue says, and the holds of each title, by number, in order of stamp
+-- where the copies are, and the holds
 pub record DeskValue : Type 0 where
-  pub contents : Contents
-  pub queues : List (List Hold)
+  pub copies : CopiesValue
+  pub holds : HoldsValue

@@ -1,3 +1,6 @@
 pub mod DeskValue
 pub mod Desks
+pub mod Asking
+pub mod Cells
+pub mod DoneValue
 pub mod Telling

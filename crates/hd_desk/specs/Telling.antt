@@ -4,9 +4,10 @@ use Rattle.hd_rules.specs.declared.replies.Refusal.{Refusal}
 use Rattle.hd_rules.specs.Ask.{Done}
 use Rattle.hd_desk.specs.declared.refused.Refused.{Refused}
 use Rattle.hd_desk.specs.declared.refused.Refused.TheVariants.{Rule, Memory}
+use Rattle.hd_desk.specs.DoneValue.{DoneValue, done_of}
 
 -- Exactly the outcome; only what the rules accept can want memory.
-abbrev pub IsTold : Result Done Refusal → Result Done Refused → Type 0
-IsTold outcome (Ok done) = outcome ≡ Ok done
+abbrev pub IsTold : Result Done Refusal → Result DoneValue Refused → Type 0
+IsTold outcome (Ok done) = outcome ≡ Ok (done_of done)
 IsTold outcome (Err (Rule refusal)) = outcome ≡ Err refusal
 IsTold outcome (Err Memory) = IsOk outcome

@@ -1,38 +1,27 @@
-//! What an accepted command does.
-ghost use Rattle.std.specs.Prelude.{◌≡◌, ◌∷◌, []};
+//! What an accepted command did.
+ghost use Rattle.std.specs.Prelude.{◌≡◌};
 
-use hd_rules::{Change, Reply};
+use hd_footprint::{Findings, Footprint};
+use hd_rules::{Change, Finding, Reply};
 use std::marker::Model;
 
-/// What an accepted command did: its changes, in order, and its reply.
-#[derive(Clone, Copy, Debug)]
+/// What an accepted command did, what it says, and what it asked.
+#[derive(Drop, Debug)]
 pub struct Done {
-    reply: Reply,
-    /// The adding of a hold changes its cell alone.
-    changes: [Change; 1],
+    pub(crate) reply: Reply,
+    pub(crate) changes: Footprint,
+    pub(crate) findings: Findings,
 }
 
 impl Model for Done {
-    ghost use Rattle.hd_rules.specs.Ask.{Done as Accepted};
+    ghost use Rattle.hd_desk.specs.DoneValue.{DoneValue};
 
-    ghost Value = { Accepted };
+    ghost Value = { DoneValue };
 
-    ghost view = { λ done. record { changes = done.changes; reply = done.reply } };
-
-    ghost inverse = { λ done. record { reply = done.reply; changes = done.changes } };
+    ghost view = { λ done. record { changes = done.changes; reply = done.reply; findings = done.findings } };
 }
 
 impl Done {
-    /// A command with one change.
-    pub(crate) fn new(reply: Reply, change: Change) -> Done
-        ensures { result ≡ record { changes = change ∷ []; reply = reply } }
-    {
-        Done {
-            reply,
-            changes: [change],
-        }
-    }
-
     /// What the reply says beside the message's own values, date and names.
     pub fn reply(&self) -> Reply
         ensures { result ≡ self.now.reply }
@@ -40,10 +29,17 @@ impl Done {
         self.reply
     }
 
-    /// The changed cells, each with the value before and after.
+    /// The changed cells in order, each with the value before and after.
     pub fn changes(&self) -> &[Change]
         ensures { result.now ≡ self.now.changes }
     {
-        &self.changes
+        self.changes.changes()
+    }
+
+    /// The questions that it asked, in order, each with its noted answer.
+    pub fn findings(&self) -> &[Finding]
+        ensures { result.now ≡ self.now.findings }
+    {
+        self.findings.findings()
     }
 }

@@ -6,11 +6,11 @@ use Rattle.hd_rules.specs.Facts.{Facts}
 use Rattle.hd_rules.specs.Desk.{Desk, opening}
 use Rattle.hd_rules.specs.Run.{step, run, Rising, next_number}
 use Rattle.hd_rules.proofs.Cancelling.{run_from-append}
-use Rattle.hd_rules.proofs.Reach.{reachable_sound}
+use Rattle.hd_rules.proofs.Reach.{later_sound, reachable_sound}
 use Rattle.hd_rules.proofs.Journals.{rising_more}
 use Rattle.hd_rules.proofs.Splits.{rising_first, rising_without}
-use Rattle.hd_desk.specs.Desks.{AreStampsBelow}
-use Rattle.hd_journal.specs.Running.{IsAdding, AllAdding, MayRun}
+use Rattle.hd_rules.specs.Sound.{Sound}
+use Rattle.hd_journal.specs.Running.{IsKnownSurvivor, AllKnownSurvivors, MayRun}
 
 -- what `&xs[i..]` is
 pub slice_from : (xs : List Survivor) (i : ℕ) → take (length xs - i) (drop i xs) ≡ drop i xs
@@ -44,33 +44,31 @@ next_at : (n : ℕ) (older : List Survivor) (c : Survivor) (newer : List Survivo
 next_at n [] c newer rising = rising.0
 next_at n (s ∷ ss) c newer rising = next_at (s.number + 1) ss c newer rising.1
 
--- and so are the stamps of their run
-pub stamps_below : (k : Facts) (xs : List Survivor) (n : ℕ) (d : Desk) → d ≡ run k xs → Rising 1 xs → next_number 1 xs ≤ n → AreStampsBelow n d
-stamps_below k xs n d is rising next t p h has =
-    let low : h.stamp < next_number 1 xs =
-    (reachable_sound k 1 xs rising).holds.stamped t p h (ap (λ (x : Desk). x.hold t p) (sym is) ∙ has) in
-    omega arith
+-- their desk is sound, with a number above every stamp
+pub sound_below : (k : Facts) (xs : List Survivor) (n : ℕ) (d : Desk) → d ≡ run k xs → Rising 1 xs → next_number 1 xs ≤ n → Sound k n d
+sound_below k xs n d is rising next =
+    subst (Sound k n) (sym is) (later_sound k (next_number 1 xs) n (run k xs) next (reachable_sound k 1 xs rising))
 
-pub stamps_at : (k : Facts) (xs : List Survivor) (s : Survivor) (rest : List Survivor) (d : Desk) → d ≡ run k xs → Rising 1 (xs ++ s ∷ rest) → AreStampsBelow s.number d
-stamps_at k xs s rest d is rising =
-    stamps_below k xs s.number d is (rising_first 1 xs (s ∷ rest) rising) (next_at 1 xs s rest rising)
+pub sound_at : (k : Facts) (xs : List Survivor) (s : Survivor) (rest : List Survivor) (d : Desk) → d ≡ run k xs → Rising 1 (xs ++ s ∷ rest) → Sound k s.number d
+sound_at k xs s rest d is rising =
+    sound_below k xs s.number d is (rising_first 1 xs (s ∷ rest) rising) (next_at 1 xs s rest rising)
 
--- parts of a list of which each adds a hold
-all_first : (k : Facts) (xs ys : List Survivor) → AllAdding k (xs ++ ys) → AllAdding k xs
+-- parts of a list of which each names things of the catalogue
+all_first : (k : Facts) (xs ys : List Survivor) → AllKnownSurvivors k (xs ++ ys) → AllKnownSurvivors k xs
 all_first k [] ys h = tt
 all_first k (x ∷ xs) ys h = (h.0, all_first k xs ys h.1)
 
-pub all_rest : (k : Facts) (xs ys : List Survivor) → AllAdding k (xs ++ ys) → AllAdding k ys
+pub all_rest : (k : Facts) (xs ys : List Survivor) → AllKnownSurvivors k (xs ++ ys) → AllKnownSurvivors k ys
 all_rest k [] ys h = h
 all_rest k (x ∷ xs) ys h = all_rest k xs ys h.1
 
-all_both : (k : Facts) (xs ys : List Survivor) → AllAdding k xs → AllAdding k ys → AllAdding k (xs ++ ys)
+all_both : (k : Facts) (xs ys : List Survivor) → AllKnownSurvivors k xs → AllKnownSurvivors k ys → AllKnownSurvivors k (xs ++ ys)
 all_both k [] ys left right = right
 all_both k (x ∷ xs) ys left right = (left.0, all_both k xs ys left.1 right)
 
-pub adding_at : (k : Facts) (xs : List Survivor) (i : ℕ) (s : Survivor) → AllAdding k xs → i < length xs → s ≡ get_or xs i s → IsAdding k s
-adding_at k xs i s all below is =
-    (all_rest k (take i xs) (s ∷ drop (i + 1) xs) (subst (AllAdding k) (split_at xs i s below is) all)).0
+pub known_at : (k : Facts) (xs : List Survivor) (i : ℕ) (s : Survivor) → AllKnownSurvivors k xs → i < length xs → s ≡ get_or xs i s → IsKnownSurvivor k s
+known_at k xs i s all below is =
+    (all_rest k (take i xs) (s ∷ drop (i + 1) xs) (subst (AllKnownSurvivors k) (split_at xs i s below is) all)).0
 
 -- a list that may be run, cut short
 pub may_run_first : (k : Facts) (xs : List Survivor) (n : ℕ) → MayRun k xs → MayRun k (take n xs)
@@ -78,19 +76,19 @@ may_run_first k xs n may =
     let whole : xs ≡ take n xs ++ drop n xs = sym (take-append-drop n xs) in
     record {
       rising = rising_first 1 (take n xs) (drop n xs) (subst (Rising 1) whole may.rising);
-      adding = all_first k (take n xs) (drop n xs) (subst (AllAdding k) whole may.adding);
+      known = all_first k (take n xs) (drop n xs) (subst (AllKnownSurvivors k) whole may.known);
     }
 
 -- without the one at a place
 pub may_run_without : (k : Facts) (xs : List Survivor) (c : Survivor) (ys : List Survivor) → MayRun k (xs ++ c ∷ ys) → MayRun k (xs ++ ys)
 may_run_without k xs c ys may = record {
   rising = rising_without 1 xs c ys may.rising;
-  adding = all_both k xs ys (all_first k xs (c ∷ ys) may.adding) (all_rest k xs (c ∷ ys) may.adding).1;
+  known = all_both k xs ys (all_first k xs (c ∷ ys) may.known) (all_rest k xs (c ∷ ys) may.known).1;
 }
 
 -- with one more
-pub may_run_last : (k : Facts) (xs : List Survivor) (s : Survivor) → MayRun k xs → IsAdding k s → next_number 1 xs ≤ s.number → MayRun k (xs ++ s ∷ [])
+pub may_run_last : (k : Facts) (xs : List Survivor) (s : Survivor) → MayRun k xs → IsKnownSurvivor k s → next_number 1 xs ≤ s.number → MayRun k (xs ++ s ∷ [])
 may_run_last k xs s may adds next = record {
   rising = rising_more 1 xs s may.rising next;
-  adding = all_both k xs (s ∷ []) may.adding (adds, tt);
+  known = all_both k xs (s ∷ []) may.known (adds, tt);
 }

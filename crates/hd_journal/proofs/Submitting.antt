@@ -10,7 +10,7 @@ use Rattle.hd_rules.specs.Ask.{Done}
 use Rattle.hd_rules.specs.Run.{run, outcome_of, changed_by, step, next_number}
 use Rattle.hd_rules.specs.Turns.{answered_command}
 use Rattle.hd_catalogue.specs.Contents.{Contents, facts_of}
-use Rattle.hd_journal.specs.Running.{Running, IsRunning, IsAdding, Submitted, state_at}
+use Rattle.hd_journal.specs.Running.{Running, IsRunning, IsKnownSurvivor, Submitted, state_at}
 use Rattle.hd_journal.proofs.Runs.{run_more, may_run_last}
 
 -- an accepted command is one step
@@ -21,7 +21,7 @@ next_last : (n : ℕ) (xs : List Survivor) (s : Survivor) → next_number n (xs 
 next_last n [] s = refl
 next_last n (x ∷ xs) s = next_last (x.number + 1) xs s
 
-more : (r : Running) (d e : Desk) (new : Survivor) (done : Done) → IsRunning r d → IsAdding (facts_of r.contents) new → new.number ≡ r.last + 1 → outcome_of (facts_of r.contents) d new ≡ Ok done → e ≡ after done.changes d → IsRunning (record { contents = r.contents; survivors = r.survivors ++ new ∷ []; last = r.last + 1 }) e
+more : (r : Running) (d e : Desk) (new : Survivor) (done : Done) → IsRunning r d → IsKnownSurvivor (facts_of r.contents) new → new.number ≡ r.last + 1 → outcome_of (facts_of r.contents) d new ≡ Ok done → e ≡ after done.changes d → IsRunning (record { contents = r.contents; survivors = r.survivors ++ new ∷ []; last = r.last + 1 }) e
 more r d e new done is adds number accepted goes =
     let low : next_number 1 r.survivors ≤ r.last + 1 = is.last in
     let next : next_number 1 (r.survivors ++ new ∷ []) ≡ new.number + 1 = next_last 1 r.survivors new in
@@ -31,7 +31,7 @@ more r d e new done is adds number accepted goes =
       last = omega arith;
     }
 
-pub running_more : (r : Running) (d e : Desk) (contents : Contents) (items : List Survivor) (new : Survivor) (done : Done) → IsRunning r d → IsAdding (facts_of r.contents) new → new.number ≡ r.last + 1 → contents ≡ r.contents → items ≡ r.survivors ++ new ∷ [] → outcome_of (facts_of r.contents) d new ≡ Ok done → e ≡ after done.changes d → IsRunning (record { contents = contents; survivors = items; last = r.last + 1 }) e
+pub running_more : (r : Running) (d e : Desk) (contents : Contents) (items : List Survivor) (new : Survivor) (done : Done) → IsRunning r d → IsKnownSurvivor (facts_of r.contents) new → new.number ≡ r.last + 1 → contents ≡ r.contents → items ≡ r.survivors ++ new ∷ [] → outcome_of (facts_of r.contents) d new ≡ Ok done → e ≡ after done.changes d → IsRunning (record { contents = contents; survivors = items; last = r.last + 1 }) e
 running_more r d e contents items new done is adds number same goes_on accepted goes =
     subst (λ (x : Contents). IsRunning (record { contents = x; survivors = items; last = r.last + 1 }) e) (sym same)
     (subst (λ (xs : List Survivor). IsRunning (record { contents = r.contents; survivors = xs; last = r.last + 1 }) e) (sym goes_on)

@@ -7,11 +7,11 @@ use Rattle.hd_rules.specs.Desk.{Desk}
 use Rattle.hd_rules.specs.Run.{step, run, Rising}
 use Rattle.hd_rules.specs.Step.{plan}
 use Rattle.hd_rules.specs.Depends.{answered_otherwise, first_otherwise}
-use Rattle.hd_journal.specs.Running.{IsAdding, AllAdding}
+use Rattle.hd_journal.specs.Running.{IsKnownSurvivor, AllKnownSurvivors}
 use Rattle.hd_journal.specs.Deciding.{found}
 use Rattle.hd_rules.proofs.Splits.{rising_without}
-use Rattle.hd_desk.specs.Desks.{AreStampsBelow}
-use Rattle.hd_journal.proofs.Runs.{adding_at, all_rest, slice_from, run_more, drop_at, split_at, split_from, take_at, stamps_at}
+use Rattle.hd_rules.specs.Sound.{Sound}
+use Rattle.hd_journal.proofs.Runs.{known_at, all_rest, slice_from, run_more, drop_at, split_at, split_from, take_at, sound_at}
 
 -- the desks of both runs after i later survivors, and what the rest of the walk finds
 pub record Walked (k : Facts) (ss : List Survivor) (at i : ℕ) (d e : Desk) : Type 0 where
@@ -36,13 +36,13 @@ without_rising ss at i s within below is rising =
     (ap (λ (xs : List Survivor). take at ss ++ xs) (split_at later i s below is) ∙ sym (append_assoc (take at ss) (take i later) (s ∷ drop (i + 1) later)))
     others
 
-pub with_above : (k : Facts) (ss : List Survivor) (at i : ℕ) (d e : Desk) (s : Survivor) → i < length (drop (at + 1) ss) → s ≡ get_or (drop (at + 1) ss) i s → Rising 1 ss → Walked k ss at i d e → AreStampsBelow s.number d
+pub with_above : (k : Facts) (ss : List Survivor) (at i : ℕ) (d e : Desk) (s : Survivor) → i < length (drop (at + 1) ss) → s ≡ get_or (drop (at + 1) ss) i s → Rising 1 ss → Walked k ss at i d e → Sound k s.number d
 with_above k ss at i d e s below is rising walked =
-    stamps_at k _ s _ d walked.with (subst (Rising 1) (with_whole ss at i s below is) rising)
+    sound_at k _ s _ d walked.with (subst (Rising 1) (with_whole ss at i s below is) rising)
 
-pub without_above : (k : Facts) (ss : List Survivor) (at i : ℕ) (d e : Desk) (s : Survivor) → at < length ss → i < length (drop (at + 1) ss) → s ≡ get_or (drop (at + 1) ss) i s → Rising 1 ss → Walked k ss at i d e → AreStampsBelow s.number e
+pub without_above : (k : Facts) (ss : List Survivor) (at i : ℕ) (d e : Desk) (s : Survivor) → at < length ss → i < length (drop (at + 1) ss) → s ≡ get_or (drop (at + 1) ss) i s → Rising 1 ss → Walked k ss at i d e → Sound k s.number e
 without_above k ss at i d e s within below is rising walked =
-    stamps_at k _ s _ e walked.without (without_rising ss at i s within below is rising)
+    sound_at k _ s _ e walked.without (without_rising ss at i s within below is rising)
 
 on : (k : Facts) (xs later : List Survivor) (i : ℕ) (s : Survivor) (d next : Desk) → i < length later → s ≡ get_or later i s → d ≡ run k (xs ++ take i later) → next ≡ step k d s → next ≡ run k (xs ++ take (i + 1) later)
 on k xs later i s d next below is at_d goes =
@@ -73,8 +73,8 @@ item_at ss at i s below is = record {
   is = subst (λ (xs : List Survivor). s ≡ get_or xs i s) (slice_from ss (at + 1)) is;
 }
 
-pub item_adding : (k m : Facts) (ss : List Survivor) (at i : ℕ) (s : Survivor) → k ≡ m → AllAdding m ss → Item ss at i s → IsAdding k s
-item_adding k m ss at i s same all item =
+pub item_known : (k m : Facts) (ss : List Survivor) (at i : ℕ) (s : Survivor) → k ≡ m → AllKnownSurvivors m ss → Item ss at i s → IsKnownSurvivor k s
+item_known k m ss at i s same all item =
     let later : List Survivor = drop (at + 1) ss in
-    subst (λ (x : Facts). IsAdding x s) (sym same)
-    (adding_at m later i s (all_rest m (take (at + 1) ss) later (subst (AllAdding m) (sym (take-append-drop (at + 1) ss)) all)) item.below item.is)
+    subst (λ (x : Facts). IsKnownSurvivor x s) (sym same)
+    (known_at m later i s (all_rest m (take (at + 1) ss) later (subst (AllKnownSurvivors m) (sym (take-append-drop (at + 1) ss)) all)) item.below item.is)

@@ -7,7 +7,7 @@ use Rattle.hd_rules.specs.Run.{run}
 use Rattle.hd_rules.specs.Depends.{first_otherwise}
 use Rattle.hd_rules.specs.Target.{target}
 use Rattle.hd_catalogue.specs.Contents.{Contents, facts_of}
-use Rattle.hd_desk.specs.Desks.{desk_of}
+use Rattle.hd_desk.specs.Desks.{contents as contents_of, desk_of}
 use Rattle.hd_journal.specs.declared.decision.Decision.{Decision}
 use Rattle.hd_journal.specs.declared.decision.Decision.TheVariants.{Stands, Depends}
 
@@ -24,6 +24,6 @@ found k survivors i = first_otherwise k (run k (take (i + 1) survivors)) (run k 
 -- none asks otherwise, and this is the desk without the one at that place; or the first that does
 abbrev pub Decides : {A : Type 0} → Contents → List Survivor → ℕ → Decision A → Type 0
 Decides contents survivors i (Stands desk) =
-    (found (facts_of contents) survivors i ≡ None) × (desk.contents ≡ contents)
+    (found (facts_of contents) survivors i ≡ None) × (contents_of desk ≡ contents)
     × (desk_of desk ≡ run (facts_of contents) (take i survivors ++ drop (i + 1) survivors))
 Decides contents survivors i (Depends n) = found (facts_of contents) survivors i ≡ Some n

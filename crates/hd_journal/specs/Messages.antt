@@ -5,7 +5,6 @@ use Rattle.hd_rules.specs.declared.turns.Asked.TheVariants as asked
 use Rattle.hd_rules.specs.Facts.{Facts}
 use Rattle.hd_rules.specs.Known.{IsKnownAction, IsKnownCancel}
 use Rattle.hd_rules.specs.Turns.{Message}
-use Rattle.hd_desk.specs.Desks.{AddsHold}
 use Rattle.hd_journal.specs.declared.messages.Ask.{Ask}
 use Rattle.hd_journal.specs.declared.messages.Ask.TheVariants.{Command, Cancel}
 use Rattle.hd_journal.specs.declared.messages.Message.{Message as Sent}
@@ -24,9 +23,9 @@ abbrev pub after_messages : Book → List Sent → Book
 after_messages book [] = book
 after_messages book (sent ∷ rest) = after_messages (with_message book sent.seat (message_of sent)) rest
 
--- a command that adds a hold, or a cancellation, of things that the catalogue names
+-- a command or a cancellation of things that the catalogue names
 abbrev pub IsKnownAsk : Facts → Ask → Type 0
-IsKnownAsk k (Command command) = AddsHold command.action × IsKnownAction k command.action
+IsKnownAsk k (Command command) = IsKnownAction k command.action
 IsKnownAsk k (Cancel what) = IsKnownCancel k what
 
 abbrev pub IsKnownMessage : Facts → Sent → Type 0

@@ -11,7 +11,6 @@ use Rattle.hd_rules.specs.declared.replies.TurnReply.{TurnReply}
 use Rattle.hd_rules.specs.Target.{target}
 use Rattle.hd_rules.specs.Turns.{Kept, State, next_survivor, answered_command, answered_cancel}
 use Rattle.hd_catalogue.specs.Contents.{Contents, facts_of}
-use Rattle.hd_desk.specs.Desks.{AddsHold}
 
 -- the survivors and the last number given, over a catalogue
 pub record Running : Type 0 where
@@ -23,18 +22,18 @@ pub record Running : Type 0 where
 abbrev pub state_at : Running → (ℕ → Option Kept) → State
 state_at r kept = record { desk = run (facts_of r.contents) r.survivors; survivors = r.survivors; last = r.last; kept = kept }
 
--- the survivor adds a hold, of things that the catalogue names
-abbrev pub IsAdding : Facts → Survivor → Type 0
-IsAdding k s = AddsHold s.command.action × IsKnownAction k s.command.action
+-- what the survivor names is of the catalogue
+abbrev pub IsKnownSurvivor : Facts → Survivor → Type 0
+IsKnownSurvivor k s = IsKnownAction k s.command.action
 
-abbrev pub AllAdding : Facts → List Survivor → Type 0
-AllAdding k [] = Unit {0}
-AllAdding k (s ∷ ss) = IsAdding k s × AllAdding k ss
+abbrev pub AllKnownSurvivors : Facts → List Survivor → Type 0
+AllKnownSurvivors k [] = Unit {0}
+AllKnownSurvivors k (s ∷ ss) = IsKnownSurvivor k s × AllKnownSurvivors k ss
 
--- a list of survivors that may be run: each adds a hold, and their numbers rise
+-- a list of survivors that may be run: each names things of the catalogue, and their numbers rise
 pub record MayRun (k : Facts) (survivors : List Survivor) : Type 0 where
   pub rising : Rising 1 survivors
-  pub adding : AllAdding k survivors
+  pub known : AllKnownSurvivors k survivors
 
 -- the desk is the survivors' run, and no number is above the last one given
 pub record IsRunning (r : Running) (d : Desk) : Type 0 where

@@ -2,13 +2,14 @@
 
 ghost use Rattle.std.specs.Prelude.{◌≡◌, ◌+◌, ◌<◌, IfOk, OnOk, IfSome, MatchOption, length, take, drop, ◌++◌, None};
 ghost use Rattle.hd_rules.specs.Run.{run, step};
+ghost use Rattle.hd_rules.specs.Sound.{Sound};
 ghost use Rattle.hd_rules.specs.Target.{target, is_target, is_of_kind as fits_kind};
 ghost use Rattle.hd_catalogue.specs.Contents.{facts_of};
-ghost use Rattle.hd_desk.specs.Desks.{desk_of, AreStampsBelow};
-ghost use Rattle.hd_journal.specs.Running.{IsAdding, MayRun};
+ghost use Rattle.hd_desk.specs.Desks.{contents, desk_of};
+ghost use Rattle.hd_journal.specs.Running.{IsKnownSurvivor, MayRun};
 ghost use Rattle.hd_journal.specs.Deciding.{IsTargetAt, Decides, found};
 
-use hd_desk::{Desk, Refused};
+use hd_desk::{Desk, Meter, Refused};
 use hd_rules::{Action, Cancel, Survivor, TerminalNo};
 use std::alloc::{AllocError, Allocator};
 use std::sync::Arc;
@@ -87,13 +88,17 @@ pub(crate) fn newest(survivors: &[Survivor], terminal: TerminalNo, what: &Cancel
 }
 
 /// Does the survivor's command at the desk; a refused one changes nothing.
-fn advance<A: Allocator + Copy>(desk: &mut Desk<A>, survivor: &Survivor) -> Result<(), AllocError>
-    requires adding { IsAdding (facts_of desk.old.contents) survivor.now }
-    requires above { AreStampsBelow survivor.now.number (desk_of desk.old) }
-    ensures ok { OnOk result (desk_of desk.new ≡ step (facts_of desk.old.contents) (desk_of desk.old) survivor.now) }
-    ensures contents { desk.new.contents ≡ desk.old.contents }
+fn advance<A: Allocator + Copy>(
+    desk: &mut Desk<A>,
+    survivor: &Survivor,
+    meter: &mut Meter,
+) -> Result<(), AllocError>
+    requires known { IsKnownSurvivor (facts_of (contents desk.old)) survivor.now }
+    requires sound { Sound (facts_of (contents desk.old)) survivor.now.number (desk_of desk.old) }
+    ensures ok { OnOk result (desk_of desk.new ≡ step (facts_of (contents desk.old)) (desk_of desk.old) survivor.now) }
+    ensures contents { contents desk.new ≡ contents desk.old }
 {
-    match desk.apply(survivor.number, &survivor.command) {
+    match desk.apply(survivor.number, &survivor.command, meter) {
         Ok(_) => Ok(()),
         Err(Refused::Rule(_)) => Ok(()),
         Err(Refused::Memory) => Err(AllocError),
@@ -105,14 +110,16 @@ fn replay<A: Allocator + Copy>(
     alloc: A,
     other: &Desk<A>,
     survivors: &[Survivor],
+    meter: &mut Meter,
 ) -> Result<Desk<A>, AllocError>
-    requires { MayRun (facts_of other.now.contents) survivors.now }
-    ensures contents { IfOk result (λ desk. desk.contents ≡ other.now.contents) }
-    ensures run { IfOk result (λ desk. desk_of desk ≡ run (facts_of other.now.contents) survivors.now) }
+    requires { MayRun (facts_of (contents other.now)) survivors.now }
+    ensures contents { IfOk result (λ desk. contents desk ≡ contents other.now) }
+    ensures run { IfOk result (λ desk. desk_of desk ≡ run (facts_of (contents other.now)) survivors.now) }
 {
-    let mut desk = Desk::open(alloc, Arc::try_clone(other.catalogue())?)?;
+    let catalogue = Arc::try_clone(other.catalogue())?;
+    let mut desk = Desk::open(alloc, other.inline(), catalogue)?;
     for survivor in survivors {
-        advance(&mut desk, survivor)?;
+        advance(&mut desk, survivor, meter)?;
     }
     Ok(desk)
 }
@@ -123,22 +130,23 @@ fn walk<A: Allocator + Copy>(
     without: &mut Desk<A>,
     survivors: &[Survivor],
     at: usize,
+    meter: &mut Meter,
 ) -> Result<Option<u64>, AllocError>
     requires within { at < length survivors.now }
-    requires may_run { MayRun (facts_of with.old.contents) survivors.now }
-    requires catalogue { without.old.contents ≡ with.old.contents }
-    requires with { desk_of with.old ≡ run (facts_of with.old.contents) (take (at + 1) survivors.now) }
-    requires without { desk_of without.old ≡ run (facts_of with.old.contents) (take at survivors.now) }
-    ensures found { IfOk result (λ first. first ≡ found (facts_of with.old.contents) survivors.now at) }
-    ensures stands { IfOk result (λ first. first ≡ None → desk_of without.new ≡ run (facts_of with.old.contents) (take at survivors.now ++ drop (at + 1) survivors.now)) }
-    ensures contents { without.new.contents ≡ without.old.contents }
+    requires may_run { MayRun (facts_of (contents with.old)) survivors.now }
+    requires catalogue { contents without.old ≡ contents with.old }
+    requires with { desk_of with.old ≡ run (facts_of (contents with.old)) (take (at + 1) survivors.now) }
+    requires without { desk_of without.old ≡ run (facts_of (contents with.old)) (take at survivors.now) }
+    ensures found { IfOk result (λ first. first ≡ found (facts_of (contents with.old)) survivors.now at) }
+    ensures stands { IfOk result (λ first. first ≡ None → desk_of without.new ≡ run (facts_of (contents with.old)) (take at survivors.now ++ drop (at + 1) survivors.now)) }
+    ensures contents { contents without.new ≡ contents without.old }
 {
     for survivor in &survivors[at + 1..] {
         if with.is_answered_otherwise(without, survivor.number, &survivor.command) {
             return Ok(Some(survivor.number));
         }
-        advance(with, survivor)?;
-        advance(without, survivor)?;
+        advance(with, survivor, meter)?;
+        advance(without, survivor, meter)?;
     }
     Ok(None)
 }
@@ -149,14 +157,15 @@ pub(crate) fn decide<A: Allocator + Copy>(
     desk: &Desk<A>,
     survivors: &[Survivor],
     at: usize,
+    meter: &mut Meter,
 ) -> Result<Decision<A>, AllocError>
     requires within { at < length survivors.now }
-    requires may_run { MayRun (facts_of desk.now.contents) survivors.now }
-    ensures { IfOk result (Decides desk.now.contents survivors.now at) }
+    requires may_run { MayRun (facts_of (contents desk.now)) survivors.now }
+    ensures { IfOk result (Decides (contents desk.now) survivors.now at) }
 {
-    let mut with = replay(alloc, desk, &survivors[..at + 1])?;
-    let mut without = replay(alloc, desk, &survivors[..at])?;
-    match walk(&mut with, &mut without, survivors, at)? {
+    let mut with = replay(alloc, desk, &survivors[..at + 1], meter)?;
+    let mut without = replay(alloc, desk, &survivors[..at], meter)?;
+    match walk(&mut with, &mut without, survivors, at, meter)? {
         Some(number) => Ok(Decision::Depends(number)),
         None => Ok(Decision::Stands(without)),
     }

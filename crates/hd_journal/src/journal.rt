@@ -5,7 +5,7 @@ ghost use Rattle.hd_catalogue.specs.Contents.{facts_of};
 ghost use Rattle.hd_rules.specs.Desk.{opening};
 ghost use Rattle.hd_rules.specs.Known.{IsKnownAction, IsKnownCancel};
 ghost use Rattle.hd_rules.specs.Run.{run};
-ghost use Rattle.hd_desk.specs.Desks.{AddsHold, desk_of};
+ghost use Rattle.hd_desk.specs.Desks.{contents, desk_of};
 ghost use Rattle.hd_journal.specs.Books.{facts, state, asking, turn_numbered, AddsTurn, IsLegalBook};
 ghost use Rattle.hd_journal.specs.Shown.{shown};
 
@@ -16,7 +16,7 @@ use crate::numbers::SeatNo;
 use crate::running::Running;
 use crate::told::Told;
 use crate::turn::{Turn, TurnRef};
-use hd_desk::Desk;
+use hd_desk::{Desk, Meter};
 use hd_rules::{Asked, Cancel, Command, Survivor, TerminalNo};
 use std::alloc::{Allocator, Global};
 use std::marker::Model;
@@ -44,22 +44,22 @@ impl<A: Allocator> Model for Journal<A> {
 }
 
 impl<A: Allocator + Copy> Journal<A> {
-    /// A journal without turns, over a desk as `Desk::open` gave it.
-    pub fn new(alloc: A, desk: Desk<A>) -> Journal<A>
-        requires { desk_of desk ≡ opening (facts_of desk.contents) }
-        ensures { result ≡ record { contents = desk.contents; turns = [] } }
+    /// A journal without turns, over a desk as `Desk::open` gave it. It counts its work by the meter.
+    pub fn new(alloc: A, desk: Desk<A>, meter: Meter) -> Journal<A>
+        requires { desk_of desk ≡ opening (facts_of (contents desk)) }
+        ensures { result ≡ record { contents = contents desk; turns = [] } }
     {
         Journal {
             alloc,
-            running: Running::new(alloc, desk),
+            running: Running::new(alloc, desk, meter),
             told: Told::new(alloc),
         }
     }
 
     /// One turn: a terminal's command, with the message's line where that carried a sequence number.
     ///
-    /// It is accepted with the next number, or refused by the first refusal that applies, or repeated. Now a command can only
-    /// be one that adds a hold. Its numbers, and the terminal's, are those of the journal's catalogue.
+    /// It is accepted with the next number, or refused by the first refusal that applies, or repeated. Its numbers, and the
+    /// terminal's, are those of the journal's catalogue.
     pub fn submit(
         &mut self,
         terminal: TerminalNo,
@@ -67,7 +67,6 @@ impl<A: Allocator + Copy> Journal<A> {
         command: &Command,
         line: Option<&[u8]>,
     ) -> Result<Turn, Fault>
-        requires adds { AddsHold command.now.action }
         requires known { IsKnownAction (facts self.old) command.now.action }
         requires terminal { terminal < (facts self.old).terminals }
         ensures turn { IfOk result (AddsTurn self.old self.new seat (asking terminal (Asked.Command command.now) (option_map (λ bytes. bytes.now) line.entry))) }
@@ -173,11 +172,16 @@ impl<A: Allocator + Copy> Journal<A> {
 
     /// The desk: that of the run of the survivors.
     pub fn desk(&self) -> &Desk<A>
-        ensures contents { result.now.contents ≡ self.now.contents }
+        ensures contents { contents result.now ≡ self.now.contents }
         ensures state { desk_of result.now ≡ (state self.now).desk }
         ensures run { desk_of result.now ≡ run (facts self.now) (state self.now).survivors }
     {
         self.running.desk()
+    }
+
+    /// The work that was done: command steps, and cells written.
+    pub fn meter(&self) -> &Meter {
+        self.running.meter()
     }
 
     /// Whatever turns it has come through: each reply is the turn machine's, the desk is that of the run of the survivors,

@@ -6,13 +6,13 @@ ghost use Rattle.hd_rules.specs.Desk.{opening};
 ghost use Rattle.hd_rules.specs.Known.{IsKnownAction};
 ghost use Rattle.hd_rules.specs.Run.{run};
 ghost use Rattle.hd_rules.specs.Turns.{Kept};
-ghost use Rattle.hd_desk.specs.Desks.{AddsHold, desk_of, facts};
+ghost use Rattle.hd_desk.specs.Desks.{contents, desk_of, facts};
 ghost use Rattle.hd_journal.specs.Running.{Submitted, Withdrawn};
 
 use crate::decision::{Decision, decide, newest};
 use crate::room::push_ready;
-use hd_desk::{Desk, Refused};
-use hd_rules::{Cancel, Command, Refusal, Survivor, TerminalNo, TurnReply};
+use hd_desk::{Desk, Done, Meter, Refused};
+use hd_rules::{Cancel, Command, Refusal, Reply, Survivor, TerminalNo, TurnReply};
 use std::alloc::{AllocError, Allocator};
 use std::marker::Model;
 
@@ -22,38 +22,45 @@ pub(crate) struct Running<A: Allocator> {
     desk: Desk<A>,
     survivors: Vec<Survivor, A>,
     last: u64,
+    meter: Meter,
 }
 
 impl<A: Allocator> Model for Running<A> {
-    ghost use Rattle.hd_desk.specs.Desks.{desk_of};
+    ghost use Rattle.hd_desk.specs.Desks.{contents, desk_of};
     ghost use Rattle.hd_journal.specs.Running.{Running, IsRunning};
 
     ghost Value = { Running };
 
-    ghost view = { λ r. record { contents = r.desk.contents; survivors = r.survivors.items; last = r.last } };
+    ghost view = { λ r. record { contents = contents r.desk; survivors = r.survivors.items; last = r.last } };
 
-    ghost invariant = { λ r. IsRunning (record { contents = r.desk.contents; survivors = r.survivors.items; last = r.last }) (desk_of r.desk) };
+    ghost invariant = { λ r. IsRunning (record { contents = contents r.desk; survivors = r.survivors.items; last = r.last }) (desk_of r.desk) };
 }
 
 impl<A: Allocator + Copy> Running<A> {
     /// No survivors, at an opening desk.
-    pub(crate) fn new(alloc: A, desk: Desk<A>) -> Running<A>
+    pub(crate) fn new(alloc: A, desk: Desk<A>, meter: Meter) -> Running<A>
         requires { desk_of desk ≡ opening (facts desk) }
-        ensures { result ≡ record { contents = desk.contents; survivors = []; last = 0 } }
+        ensures { result ≡ record { contents = contents desk; survivors = []; last = 0 } }
     {
         Running {
             desk,
             survivors: Vec::new(alloc),
             last: 0,
+            meter,
         }
     }
 
     /// The desk.
     pub(crate) fn desk(&self) -> &Desk<A>
-        ensures contents { result.now.contents ≡ self.now.contents }
+        ensures contents { contents result.now ≡ self.now.contents }
         ensures run { desk_of result.now ≡ run (facts_of self.now.contents) self.now.survivors }
     {
         &self.desk
+    }
+
+    /// The work that was done.
+    pub(crate) fn meter(&self) -> &Meter {
+        &self.meter
     }
 
     /// The survivors, by number.
@@ -76,7 +83,6 @@ impl<A: Allocator + Copy> Running<A> {
         terminal: TerminalNo,
         command: &Command,
     ) -> Result<TurnReply, AllocError>
-        requires adds { AddsHold command.now.action }
         requires known { IsKnownAction (facts_of self.old.contents) command.now.action }
         requires number { self.old.last + 1 < 2 ^ 64 }
         ensures submitted { IfOk result (λ reply. Submitted self.old terminal command.now reply self.new) }
@@ -86,7 +92,7 @@ impl<A: Allocator + Copy> Running<A> {
     {
         self.survivors.reserve(1)?;
         let number = self.last + 1;
-        match self.desk.apply(number, command) {
+        match self.desk.apply(number, command, &mut self.meter) {
             Ok(done) => {
                 let survivor = Survivor {
                     number,
@@ -97,7 +103,7 @@ impl<A: Allocator + Copy> Running<A> {
                 self.last = number;
                 Ok(TurnReply::Done {
                     number,
-                    reply: done.reply(),
+                    reply: reply_of(done),
                 })
             }
             Err(Refused::Rule(refusal)) => Ok(TurnReply::Refused(refusal)),
@@ -120,7 +126,13 @@ impl<A: Allocator + Copy> Running<A> {
         let Some(at) = newest(self.survivors.as_slice(), terminal, what) else {
             return Ok(TurnReply::Refused(Refusal::NothingToCancel));
         };
-        match decide(alloc, &self.desk, self.survivors.as_slice(), at)? {
+        match decide(
+            alloc,
+            &self.desk,
+            self.survivors.as_slice(),
+            at,
+            &mut self.meter,
+        )? {
             Decision::Depends(number) => Ok(TurnReply::Refused(Refusal::Depends { number })),
             Decision::Stands(without) => {
                 let target = self.survivors.remove(at);
@@ -131,4 +143,11 @@ impl<A: Allocator + Copy> Running<A> {
             }
         }
     }
+}
+
+/// What an accepted command says.
+fn reply_of(done: Done) -> Reply
+    ensures { result ≡ done.reply }
+{
+    done.reply()
 }

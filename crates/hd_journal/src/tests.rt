@@ -2,9 +2,8 @@
 
 use crate::{Journal, SeatNo, Turn};
 use hd_catalogue::Catalogue;
-use hd_desk::Desk;
+use hd_desk::{Desk, Meter};
 use hd_rules::{Action, Cancel, Command, HoldKind, Refusal, Reply, TurnReply};
-use std::alloc::Global;
 use std::sync::Arc;
 use std::test::Fail;
 
@@ -38,12 +37,13 @@ C|b1|tb|north
 ";
 
 /// A journal over the opening desk of a catalogue.
-fn journal(alloc: Global, catalogue: &[u8]) -> Result<Journal, Fail> {
+fn journal(rt: &HostRuntime, catalogue: &[u8]) -> Result<Journal, Fail> {
+    let alloc = rt.alloc();
     let Ok(catalogue) = Catalogue::read(alloc, catalogue) else {
         return Err("refused".into());
     };
-    let desk = Desk::open(alloc, Arc::new(alloc, catalogue)?)?;
-    Ok(Journal::new(alloc, desk))
+    let desk = Desk::open(alloc, alloc, Arc::new(alloc, catalogue)?)?;
+    Ok(Journal::new(alloc, desk, Meter::new(rt)))
 }
 
 /// What a test looks at in a reply.
@@ -135,7 +135,7 @@ fn cancel(
 /// The first two messages of the row "hold and cancellation".
 #[test]
 fn hold_and_cancellation(rt: HostRuntime) -> Result<(), Fail> {
-    let mut journal = journal(rt.alloc(), DEMONSTRATION)?;
+    let mut journal = journal(&rt, DEMONSTRATION)?;
     let held = add(&mut journal, b"t1", b"p1", b"ta", None)?;
     assert_eq!(rt; held, Answer::Held(1, 1));
     assert_eq!(rt; journal.survivors().len(), 1);
@@ -155,7 +155,7 @@ fn hold_and_cancellation(rt: HostRuntime) -> Result<(), Fail> {
 /// terminal takes back what it sent itself.
 #[test]
 fn later_position_depends(rt: HostRuntime) -> Result<(), Fail> {
-    let mut journal = journal(rt.alloc(), DEMONSTRATION)?;
+    let mut journal = journal(&rt, DEMONSTRATION)?;
     let held = add(&mut journal, b"t1", b"p1", b"ta", None)?;
     assert_eq!(rt; held, Answer::Held(1, 1));
     let held = add(&mut journal, b"t1", b"p1", b"tb", None)?;
@@ -178,7 +178,7 @@ fn later_position_depends(rt: HostRuntime) -> Result<(), Fail> {
 /// The row "journal full".
 #[test]
 fn journal_full(rt: HostRuntime) -> Result<(), Fail> {
-    let mut journal = journal(rt.alloc(), LIMIT_OF_TWO)?;
+    let mut journal = journal(&rt, LIMIT_OF_TWO)?;
     let held = add(&mut journal, b"t1", b"p1", b"ta", None)?;
     assert_eq!(rt; held, Answer::Held(1, 1));
     let held = add(&mut journal, b"t1", b"p2", b"tb", None)?;
@@ -195,7 +195,7 @@ fn journal_full(rt: HostRuntime) -> Result<(), Fail> {
 /// A line sent again is answered again, and only the turns grow; after a message without a line it is a new one.
 #[test]
 fn line_sent_again(rt: HostRuntime) -> Result<(), Fail> {
-    let mut journal = journal(rt.alloc(), DEMONSTRATION)?;
+    let mut journal = journal(&rt, DEMONSTRATION)?;
     let held = add(&mut journal, b"t1", b"p1", b"ta", Some(b"hold"))?;
     assert_eq!(rt; held, Answer::Held(1, 1));
     let again = add(&mut journal, b"t1", b"p1", b"ta", Some(b"hold"))?;

@@ -1,6 +1,7 @@
 -- Lemmas on the lists of holds of one title.
-use Rattle.std.proofs.Common.{◌≡◌, ℕ, ◌+◌, ◌<◌, ◌≤◌, Bool, cond, ◌==◌, nat_lt, List, [], ◌∷◌, None, Some, refl, ◌∙◌, inl, inr, arith, length, get_or}
-use Rattle.std.specs.List.{insert, remove, filter, position, position_or_len}
+use Rattle.std.proofs.Common.{◌≡◌, ℕ, zero, suc, ◌+◌, ◌<◌, ◌≤◌, Bool, true, false, cond, ◌==◌, nat_lt, List, [], ◌∷◌, Option, None, Some, refl, ap, sym, subst, ◌∙◌, inl, inr, arith, length, get_or}
+use Rattle.std.specs.List.{insert, remove, filter, count_by}
+use Rattle.std.specs.List.Sorted.{IsNonDecreasingBy, IsPartitionPoint}
 use Rattle.std.proofs.lemmas.Bool.Decides.{nat_tests}
 use Rattle.std.proofs.lemmas.Grind.{common_steps}
 use Rattle.std.proofs.lemmas.Bool.{cases_lt, cases_Bool}
@@ -47,7 +48,7 @@ IsInOrder-with_hold (h ∷ hs) x o n = grind (arith, nat_tests, IsInOrder-with_h
 
 -- taking a hold out
 
-hold_of-filter : (p : Hold → Bool) (hs : List Hold) (patron : ℕ) → hold_of hs patron ≡ None → hold_of (filter p hs) patron ≡ None
+pub hold_of-filter : (p : Hold → Bool) (hs : List Hold) (patron : ℕ) → hold_of hs patron ≡ None → hold_of (filter p hs) patron ≡ None
 hold_of-filter p [] patron e = refl
 hold_of-filter p (h ∷ hs) patron e = grind (arith, nat_tests, common_steps, hold_of-filter p hs patron)
 
@@ -77,7 +78,34 @@ pub HasPatronsOnce-with_hold : (hs : List Hold) (x : Hold) → HasPatronsOnce hs
 HasPatronsOnce-with_hold [] x o e = (refl, tt)
 HasPatronsOnce-with_hold (h ∷ hs) x o e = grind (arith, nat_tests, common_steps, HasPatronsOnce-with_hold hs x o.1, hold_of-with_hold hs x h.patron)
 
--- the place at which a patron's hold stands
+-- the place of a stamp is the number of smaller ones
+
+AllAfter-at : (s : ℕ) (hs : List Hold) (j : ℕ) (d : Hold) → AllAfter s hs → j < length hs → s < (get_or hs j d).stamp
+AllAfter-at s [] j d a l = absurd (omega arith)
+AllAfter-at s (h ∷ hs) zero d a l = a.0
+AllAfter-at s (h ∷ hs) (suc j) d a l = AllAfter-at s hs j d a.1 (omega arith)
+
+pub IsNonDecreasingBy-from_order : (hs : List Hold) → IsInOrder hs → IsNonDecreasingBy (λ (h : Hold). h.stamp) hs
+IsNonDecreasingBy-from_order [] o i j d b l = absurd (omega arith)
+IsNonDecreasingBy-from_order (h ∷ hs) o zero zero d b l = omega arith
+IsNonDecreasingBy-from_order (h ∷ hs) o zero (suc j) d b l = omega (arith, AllAfter-at h.stamp hs j d o.0)
+IsNonDecreasingBy-from_order (h ∷ hs) o (suc i) zero d b l = absurd (omega arith)
+IsNonDecreasingBy-from_order (h ∷ hs) o (suc i) (suc j) d b l = IsNonDecreasingBy-from_order hs o.1 i j d (omega arith) (omega arith)
+
+pub count_by-point : (p : Hold → Bool) (hs : List Hold) (i : ℕ) → i ≤ length hs → IsPartitionPoint (λ h. p h ≡ true) (λ h. p h ≡ false) hs i → count_by p hs ≡ i
+count_by-point p [] i l s = omega arith
+count_by-point p (h ∷ hs) zero l s =
+    let no : p h ≡ false = s.1 0 h (omega arith) (omega arith)
+    in let rest : count_by p hs ≡ 0 = count_by-point p hs 0 (omega arith) (λ k d a b. absurd (omega arith), λ k d a b. s.1 (suc k) d (omega arith) (omega arith))
+    in let more : count_by p (h ∷ hs) ≡ cond (p h) 1 0 + count_by p hs = sum_by-cons (λ k. cond (p k) 1 0) h hs
+    in grind (arith, more, no, rest)
+count_by-point p (h ∷ hs) (suc i) l s =
+    let yes : p h ≡ true = s.0 0 h (omega arith) (omega arith)
+    in let rest : count_by p hs ≡ i = count_by-point p hs i (omega arith) (λ k d a b. s.0 (suc k) d (omega arith) (omega arith), λ k d a b. s.1 (suc k) d (omega arith) (omega arith))
+    in let more : count_by p (h ∷ hs) ≡ cond (p h) 1 0 + count_by p hs = sum_by-cons (λ k. cond (p k) 1 0) h hs
+    in grind (arith, more, yes, rest)
+
+-- taking the hold at the place of its stamp
 
 remove-cons : (h : Hold) (hs : List Hold) (n m : ℕ) → n ≡ m + 1 → remove (h ∷ hs) n ≡ h ∷ remove hs m
 remove-cons h hs n m e = grind (arith, common_steps, e)
@@ -85,33 +113,47 @@ remove-cons h hs n m e = grind (arith, common_steps, e)
 remove-here : (h : Hold) (hs : List Hold) (n : ℕ) → n ≡ 0 → remove (h ∷ hs) n ≡ hs
 remove-here h hs n e = grind (arith, common_steps, e)
 
-remove-first : (hs : List Hold) (patron : ℕ) → HasPatronsOnce hs → remove hs (position_or_len (λ h. h.patron == patron) hs) ≡ without hs patron
-remove-first [] patron o = refl
-remove-first (h ∷ hs) patron o = elim (cases_Bool (h.patron == patron)) [
-  | inl e ↦ remove-here h hs _ (grind (arith, nat_tests, e)) ∙ grind (arith, nat_tests, e, o.0, without-absent hs patron)
-  | inr e ↦ remove-cons h hs _ (position_or_len (λ k. k.patron == patron) hs) (grind (arith, nat_tests, e)) ∙ grind (arith, nat_tests, e, remove-first hs patron o.1)
+-- a patron's hold is the first, or stands after it
+pub hold_of-first : (h x : Hold) (hs : List Hold) (patron : ℕ) → (h.patron == patron) ≡ true → hold_of (h ∷ hs) patron ≡ Some x → h ≡ x
+hold_of-first h x hs patron t e = let same : ◌≡◌ {A = Option Hold} (Some h) (Some x) = sym (rw t) ∙ e in cc
+
+pub hold_of-later : (h x : Hold) (hs : List Hold) (patron : ℕ) → (h.patron == patron) ≡ false → hold_of (h ∷ hs) patron ≡ Some x → hold_of hs patron ≡ Some x
+hold_of-later h x hs patron t e = sym (rw t) ∙ e
+
+AllAfter-hold_of : (s : ℕ) (hs : List Hold) (patron : ℕ) (x : Hold) → AllAfter s hs → hold_of hs patron ≡ Some x → s < x.stamp
+AllAfter-hold_of s [] patron x a e = absurd (cc e)
+AllAfter-hold_of s (h ∷ hs) patron x a e = elim (cases_Bool (h.patron == patron)) [
+  | inl t ↦ let same : h ≡ x = hold_of-first h x hs patron t e in subst (λ (k : Hold). s < k.stamp) same a.0
+  | inr t ↦ AllAfter-hold_of s hs patron x a.1 (hold_of-later h x hs patron t e)
 ]
 
-pub remove-position : (hs : List Hold) (patron i : ℕ) → HasPatronsOnce hs → position (λ h. h.patron == patron) hs ≡ Some i → remove hs i ≡ without hs patron
-remove-position hs patron i o e =
-    let at : position_or_len (λ h. h.patron == patron) hs ≡ i = grind (arith, nat_tests, e)
-    in rw (← at) (remove-first hs patron o)
+-- no stamp is smaller than the first
+count_before-first : (h : Hold) (hs : List Hold) → AllAfter h.stamp hs → count_before (h ∷ hs) h.stamp ≡ 0
+count_before-first h hs a = grind (arith, nat_tests, common_steps, sum_by-cons (λ k. cond (nat_lt k.stamp h.stamp) 1 0) h hs, count_before-after h.stamp h.stamp hs a)
 
-hold_of-past : (hs : List Hold) (patron : ℕ) → length hs ≤ position_or_len (λ h. h.patron == patron) hs → hold_of hs patron ≡ None
-hold_of-past [] patron e = refl
-hold_of-past (h ∷ hs) patron e = grind (arith, nat_tests, hold_of-past hs patron)
-
-hold_of-first : (hs : List Hold) (patron : ℕ) (x : Hold) → position_or_len (λ h. h.patron == patron) hs < length hs → x ≡ get_or hs (position_or_len (λ h. h.patron == patron) hs) x → hold_of hs patron ≡ Some x
-hold_of-first [] patron x l e = absurd (omega arith)
-hold_of-first (h ∷ hs) patron x l e = elim (cases_Bool (h.patron == patron)) [
-  | inl t ↦ grind (arith, nat_tests, t)
-  | inr t ↦ grind (arith, nat_tests, t, hold_of-first hs patron x)
+pub remove-count_before : (hs : List Hold) (x : Hold) → IsInOrder hs → HasPatronsOnce hs → hold_of hs x.patron ≡ Some x → remove hs (count_before hs x.stamp) ≡ without hs x.patron
+remove-count_before [] x o once e = absurd (cc e)
+remove-count_before (h ∷ hs) x o once e = elim (cases_Bool (h.patron == x.patron)) [
+  | inl t ↦
+      let same : h ≡ x = hold_of-first h x hs x.patron t e
+      in let at : count_before (h ∷ hs) x.stamp ≡ 0 = subst (λ (k : Hold). count_before (h ∷ hs) k.stamp ≡ 0) same (count_before-first h hs o.0)
+      in let none : hold_of hs x.patron ≡ None = subst (λ (k : Hold). hold_of hs k.patron ≡ None) same once.0
+      in remove-here h hs _ at ∙ sym (without-absent hs x.patron none) ∙ rw t
+  | inr t ↦
+      let later : hold_of hs x.patron ≡ Some x = hold_of-later h x hs x.patron t e
+      in let at : count_before (h ∷ hs) x.stamp ≡ count_before hs x.stamp + 1 = count_before-less h hs x.stamp (AllAfter-hold_of h.stamp hs x.patron x o.0 later)
+      in remove-cons h hs _ _ at ∙ rw t (ap (λ ks. h ∷ ks) (remove-count_before hs x o.1 once.1 later))
 ]
 
-pub hold_of-position_none : (hs : List Hold) (patron : ℕ) → None ≡ position (λ h. h.patron == patron) hs → hold_of hs patron ≡ None
-hold_of-position_none hs patron e = hold_of-past hs patron (grind (arith, nat_tests, e))
-
-pub hold_of-position : (hs : List Hold) (patron i : ℕ) (x : Hold) → position (λ h. h.patron == patron) hs ≡ Some i → i < length hs → x ≡ get_or hs i x → hold_of hs patron ≡ Some x
-hold_of-position hs patron i x e l g =
-    let at : position_or_len (λ h. h.patron == patron) hs ≡ i = grind (arith, nat_tests, e)
-    in hold_of-first hs patron x (rw at l) (rw at g)
+pub count_before-below : (hs : List Hold) (x : Hold) → IsInOrder hs → hold_of hs x.patron ≡ Some x → count_before hs x.stamp < length hs
+count_before-below [] x o e = absurd (cc e)
+count_before-below (h ∷ hs) x o e = elim (cases_Bool (h.patron == x.patron)) [
+  | inl t ↦
+      let same : h ≡ x = hold_of-first h x hs x.patron t e
+      in let at : count_before (h ∷ hs) x.stamp ≡ 0 = subst (λ (k : Hold). count_before (h ∷ hs) k.stamp ≡ 0) same (count_before-first h hs o.0)
+      in omega (arith, at)
+  | inr t ↦
+      let later : hold_of hs x.patron ≡ Some x = hold_of-later h x hs x.patron t e
+      in let at : count_before (h ∷ hs) x.stamp ≡ count_before hs x.stamp + 1 = count_before-less h hs x.stamp (AllAfter-hold_of h.stamp hs x.patron x o.0 later)
+      in omega (arith, at, count_before-below hs x o.1 later)
+]

@@ -1,9 +1,15 @@
-//! The holds of one title, in order of stamp.
+//! The holds of one title, in order of stamp, and those of them without a copy by what they wait for.
 #![tactic(auto)]
 
+mod lent;
+mod list;
 mod queue;
+mod view;
+mod waiting;
+mod wanted;
 
 pub use crate::queue::Queue;
+pub use crate::view::{QueueView, Waiting};
 pub use hd_rules::{Hold, HoldKind, PatronNo};
 
 #[cfg(test)]

@@ -1,40 +1,50 @@
-//! A queue of holds, as one list in order of stamp.
-ghost use Rattle.std.specs.Prelude.{◌≡◌, ◌+◌, ◌<◌, ◌≤◌, ◌==◌, ◌^◌, [], None, Some, IsOk, OnErr, OnOk, length, option_map, position};
-ghost use Rattle.std.specs.Option.{option_copied};
+//! A queue of holds in order of stamp.
+ghost use Rattle.std.specs.Prelude.{◌≡◌, ◌+◌, ◌<◌, ◌≤◌, ◌^◌, [], None, Some, OnErr, OnOk, length, option_map};
 ghost use Rattle.hd_queue.specs.Holds.{HasNoStamp, HasPatronsOnce, IsInOrder, count_before, hold_of, with_hold, without};
 
+use crate::list::HoldList;
+use crate::view::QueueView;
+use crate::waiting::WaitingLists;
 use hd_rules::{Hold, PatronNo};
 use std::alloc::{AllocError, Allocator, Global};
 use std::marker::Model;
 
 /// The holds of one title, at most one a patron, in order of stamp (docs/desk-rules.md, "State").
+///
+/// Those without a copy stand also in lists of their own, by what they wait for.
 #[derive(Drop)]
 pub struct Queue<A: Allocator = Global> {
-    list: Vec<Hold, A>,
+    list: HoldList<A>,
+    waiting: WaitingLists<A>,
+    /// How many more holds each of the lists has room for, at least.
+    room: usize,
 }
 
 impl<A: Allocator> Model for Queue<A> {
-    ghost use Rattle.std.specs.Prelude.{vec_len, vec_capacity, ◌-◌};
     ghost use Rattle.hd_queue.specs.QueueValue.{QueueValue};
-    ghost use Rattle.hd_queue.specs.Holds.{IsInOrder, HasPatronsOnce};
+    ghost use Rattle.hd_queue.specs.QueueLists.{AreLists};
 
     ghost Value = { QueueValue };
 
-    ghost view = { λ q. record { holds = q.list.items; room = vec_capacity q.list - vec_len q.list } };
+    ghost view = { λ q. record { holds = q.list.holds; room = q.room } };
 
-    ghost invariant = { λ q. IsInOrder q.list.items × HasPatronsOnce q.list.items };
+    ghost invariant = { λ q. AreLists q.list q.waiting q.room };
 }
 
-impl<A: Allocator> Queue<A> {
+impl<A: Allocator + Copy> Queue<A> {
     /// A queue without holds. It takes no memory.
     pub fn new(alloc: A) -> Queue<A>
         ensures { result.holds ≡ [] }
     {
         Queue {
-            list: Vec::new(alloc),
+            list: HoldList::new(alloc),
+            waiting: WaitingLists::new(alloc),
+            room: 0,
         }
     }
+}
 
+impl<A: Allocator> Queue<A> {
     /// Makes room for that many more holds. Want of memory changes nothing, and comes only where there was less room.
     pub fn ready(&mut self, more: usize) -> Result<(), AllocError>
         ensures holds { self.new.holds ≡ self.old.holds }
@@ -43,7 +53,10 @@ impl<A: Allocator> Queue<A> {
         ensures full { OnErr result (self.old.room < more) }
         ensures room { self.old.room ≤ self.new.room }
     {
-        self.list.reserve(more)
+        self.list.ready(more)?;
+        self.waiting.ready(more)?;
+        self.room = self.room.max(more);
+        Ok(())
     }
 
     /// Puts a hold at the place of its stamp. It takes no memory.
@@ -56,8 +69,10 @@ impl<A: Allocator> Queue<A> {
         ensures holds { self.new.holds ≡ with_hold self.old.holds hold }
         ensures room { self.old.room ≤ self.new.room + 1 }
     {
-        let at = number_before(self.list.as_slice(), hold.stamp);
-        self.list.insert(at, hold).unwrap();
+        self.list.holds_are_in_order();
+        self.list.put(hold);
+        self.waiting.put(&hold);
+        self.room -= 1;
     }
 
     /// Takes a patron's hold out of the queue, or answers `None` where there is none. It takes no memory.
@@ -66,24 +81,35 @@ impl<A: Allocator> Queue<A> {
         ensures holds { self.new.holds ≡ without self.old.holds patron }
         ensures room { self.old.room ≤ self.new.room }
     {
-        let at = index_of(self.list.as_slice(), patron)?;
-        Some(self.list.remove(at))
+        let hold = self.hold_of(patron)?;
+        self.remove(&hold);
+        Some(hold)
+    }
+
+    /// Takes a hold of the queue out of its lists.
+    fn remove(&mut self, hold: &Hold)
+        requires { hold_of self.old.holds hold.now.patron ≡ Some hold.now }
+        ensures holds { self.new.holds ≡ without self.old.holds hold.now.patron }
+        ensures room { self.old.room ≤ self.new.room }
+    {
+        self.list.holds_are_in_order();
+        self.list.remove(hold);
+        self.waiting.remove(hold);
     }
 
     /// A patron's hold, or `None` where there is none.
     pub fn hold_of(&self, patron: PatronNo) -> Option<Hold>
         ensures { result ≡ hold_of self.now.holds patron }
     {
-        hold_in(self.list.as_slice(), patron).copied()
+        self.list.hold_of(patron)
     }
 
     /// The place of a patron's hold in the queue, from 1, or `None` where there is no such hold.
     pub fn position(&self, patron: PatronNo) -> Option<u64>
         ensures { result ≡ option_map (λ h. count_before self.now.holds h.stamp + 1) (hold_of self.now.holds patron) }
     {
-        let holds = self.list.as_slice();
-        let hold = hold_in(holds, patron)?;
-        Some(number_before(holds, hold.stamp) as u64 + 1)
+        let hold = self.list.hold_of(patron)?;
+        Some(self.list.count_before(hold.stamp) as u64 + 1)
     }
 
     /// How many holds have a smaller stamp.
@@ -92,7 +118,7 @@ impl<A: Allocator> Queue<A> {
         ensures within { result ≤ length self.now.holds }
         ensures fits { result < 2 ^ 63 }
     {
-        number_before(self.list.as_slice(), stamp)
+        self.list.count_before(stamp)
     }
 
     /// How many holds there are.
@@ -107,29 +133,19 @@ impl<A: Allocator> Queue<A> {
         ensures ordered { IsInOrder self.now.holds }
         ensures once { HasPatronsOnce self.now.holds }
     {
-        let _ = &self.list;
+        self.list.holds_are_in_order();
     }
-}
 
-/// How many holds have a smaller stamp.
-fn number_before(holds: &[Hold], stamp: u64) -> usize
-    ensures count { result ≡ count_before holds.now stamp }
-    ensures within { result ≤ length holds.now }
-    ensures fits { result < 2 ^ 63 }
-{
-    holds.iter().filter(|h| h.stamp < stamp).count()
-}
-
-/// The index of a patron's hold.
-fn index_of(holds: &[Hold], patron: PatronNo) -> Option<usize>
-    ensures { result ≡ position (λ h. h.patron == patron) holds.now }
-{
-    holds.iter().position(|h| h.patron == patron)
-}
-
-/// A patron's hold.
-fn hold_in(holds: &[Hold], patron: PatronNo) -> Option<&Hold>
-    ensures { option_copied result ≡ hold_of holds.now patron }
-{
-    holds.iter().find(|h| h.patron == patron)
+    /// The holds, lent, with those that wait by what they wait for. It takes no memory.
+    pub fn view(&self) -> QueueView<'_>
+        ensures { result ≡ self.now.holds }
+    {
+        self.list.holds_are_in_order();
+        QueueView::new(
+            self.list.lend(),
+            self.waiting.for_any(),
+            self.waiting.for_one(),
+            self.waiting.at_branch(),
+        )
+    }
 }

@@ -12,7 +12,6 @@ mod script;
 use crate::answers::is_answered;
 use crate::script::{input_of, value_of};
 use hd_server::replay;
-use std::rt::Runtime;
 use std::{fs, io};
 
 /// The rows that are played, in order.
@@ -43,7 +42,7 @@ fn main(rt: HostRuntime) -> io::Result<()> {
 }
 
 /// Plays a row: whether it was answered as it says.
-fn play(rt: &(impl Runtime + AllocGlobal), row: &str) -> io::Result<bool> {
+fn play(rt: &HostRuntime, row: &str) -> io::Result<bool> {
     let alloc = rt.alloc();
     let mut out = Vec::new(alloc);
     let script = fs::read(rt, format!(in alloc; "{row}.row")?)?;
@@ -57,11 +56,7 @@ fn play(rt: &(impl Runtime + AllocGlobal), row: &str) -> io::Result<bool> {
 }
 
 /// Gives a row's input to `replay`: what that writes, and how it ends where it doesn't end well.
-fn replayed(
-    rt: &(impl Runtime + AllocGlobal),
-    script: &[u8],
-    out: &mut Vec<u8>,
-) -> io::Result<Option<String>> {
+fn replayed(rt: &HostRuntime, script: &[u8], out: &mut Vec<u8>) -> io::Result<Option<String>> {
     let alloc = rt.alloc();
     let file = value_of(script, b"catalogue ").unwrap_or(b"");
     let catalogue = match std::str::from_utf8(file) {
@@ -71,7 +66,7 @@ fn replayed(
     let now = value_of(script, b"now ").unwrap_or(b"");
     let input = input_of(alloc, script)?;
     let mut from = input.as_slice();
-    match replay(alloc, catalogue.as_slice(), now, &mut from, out) {
+    match replay(rt, catalogue.as_slice(), now, &mut from, out) {
         Ok(()) => Ok(None),
         Err(fault) => Ok(Some(format!(in alloc; "{fault}")?)),
     }

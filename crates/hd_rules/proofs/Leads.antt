@@ -69,7 +69,7 @@ put_own d x v fits has = same_desk (put d x v) d (λ y. by_test y (same_cell x y
     by_test y true is = put_same d x v y fits is ∙ sym has ∙ ap (value d) (same_cell_is x y is)
     by_test y false is = put_elsewhere d x v y is
 
-proper_put : (d : Desk) (x : Cell) (v : Value) (cs : List Change) → Elsewhere x cs → Proper d cs → Proper (put d x v) cs
+pub proper_put : (d : Desk) (x : Cell) (v : Value) (cs : List Change) → Elsewhere x cs → Proper d cs → Proper (put d x v) cs
 proper_put d x v [] apart proper = tt
 proper_put d x v (c ∷ cs) apart proper =
     (put_elsewhere d x v c.cell (other_way c.cell x apart.0) ∙ proper.0, proper.1, proper.2, proper_put d x v cs apart.1 proper.3)

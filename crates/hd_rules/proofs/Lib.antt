@@ -31,6 +31,7 @@ pub mod Theorem
 pub mod First
 pub mod Familiar
 pub mod FamiliarTurns
+pub mod Onward
 pub mod Mended
 pub mod Only
 pub mod Telling

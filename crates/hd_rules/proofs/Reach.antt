@@ -21,7 +21,7 @@ use Rattle.hd_rules.proofs.Cancelling.{runs_differ}
 use Rattle.hd_rules.proofs.Gentle.{AreGentle}
 use Rattle.std.proofs.lemmas.List.{append-nil}
 
-plan_leads : (k : Facts) (n : ℕ) (d : Desk) (day : ℕ) (a : Action) → Sound k n d → Leads k (n + 1) d (plan_of k n day a)
+pub plan_leads : (k : Facts) (n : ℕ) (d : Desk) (day : ℕ) (a : Action) → Sound k n d → Leads k (n + 1) d (plan_of k n day a)
 plan_leads k n d day (action.Checkout p c may_renew) sound = asked (λ old told. checkout_leads k n d p c may_renew day old sound told)
 plan_leads k n d day (action.OffLine p c due) sound = asked (λ old told. asked (λ held has.
     off_line_leads k n d p c due old held (tied_to old) sound told has (ap tied_to told)))
@@ -32,11 +32,11 @@ plan_leads k n d day (action.ChangeHold p t kind pickup expiry) sound = asked (�
 plan_leads k n d day (action.Renew p c) sound = asked (λ old told. renew_leads k n d p c day old sound told)
 
 -- an accepted command at a sound desk makes right changes, and leads to a sound desk
-good : (k : Facts) (d : Desk) (s : Survivor) → Sound k s.number d → (done : Done) → outcome_of k d s ≡ Ok done → Good k (s.number + 1) d done.changes
+pub good : (k : Facts) (d : Desk) (s : Survivor) → Sound k s.number d → (done : Done) → outcome_of k d s ≡ Ok done → Good k (s.number + 1) d done.changes
 good k d s sound done is =
     leads_to k (s.number + 1) d (plan k s.number s.command) (plan_leads k s.number d s.command.day s.command.action sound).all done is
 
-later_sound : (k : Facts) (n m : ℕ) (d : Desk) → n ≤ m → Sound k n d → Sound k m d
+pub later_sound : (k : Facts) (n m : ℕ) (d : Desk) → n ≤ m → Sound k n d → Sound k m d
 later_sound k n m d le sound = record { holds = holds_later n m d.hold le sound.holds; places = sound.places; tie = sound.tie }
 
 step_sound : (k : Facts) (d : Desk) (s : Survivor) → Sound k s.number d → Sound k (s.number + 1) (step k d s)

@@ -1,6 +1,6 @@
 -- Numbers that a catalogue has given.
 use Rattle.std.specs.Prelude.{ℕ, ◌<◌, Option, Some, None, List}
-use Rattle.hd_rules.specs.Words.{Hold, HoldKind, Any, One, AtBranch, CopyState, Shelf, OnLoan, OnHoldShelf, InTransit, Cell, CopyCell, HoldCell, Value, CopyHas, HoldHas, Change, Action, Cancel, Asked, Reply, LentOrRenewed, Returned, Held, Deleted, TurnReply}
+use Rattle.hd_rules.specs.Words.{Hold, HoldKind, Any, One, AtBranch, CopyState, Shelf, OnLoan, OnHoldShelf, InTransit, Cell, CopyCell, HoldCell, Value, CopyHas, HoldHas, Change, Question, ValueOf, Choice, Place, Room, Position, OnShelf, Action, Cancel, Asked, Reply, LentOrRenewed, Returned, Held, Deleted, TurnReply}
 use Rattle.hd_rules.specs.declared.replies.TurnReply.TheVariants.{Done as Accepted, Refused, Cancelled, Item}
 use Rattle.hd_rules.specs.declared.commands.Action.TheVariants as action
 use Rattle.hd_rules.specs.declared.commands.Cancel.TheVariants as cancel
@@ -15,6 +15,16 @@ use Rattle.hd_rules.specs.Journal.{Turn, state_after}
 abbrev pub IsKnownCell : Facts → Cell → Type 0
 IsKnownCell k (CopyCell c) = c < k.copies
 IsKnownCell k (HoldCell t p) = (t < k.titles) × (p < k.patrons)
+
+-- a question about things of the catalogue
+abbrev pub IsKnownQuestion : Facts → Question → Type 0
+IsKnownQuestion k (ValueOf (CopyCell c)) = c < k.copies
+IsKnownQuestion k (ValueOf (HoldCell t p)) = t < k.titles
+IsKnownQuestion k (Choice c b day) = c < k.copies
+IsKnownQuestion k (Place b) = b < k.branches
+IsKnownQuestion k (Room p) = p < k.patrons
+IsKnownQuestion k (Position t stamp) = t < k.titles
+IsKnownQuestion k (OnShelf t kind pickup) = t < k.titles
 
 -- a kind of hold, of a copy of the catalogue
 abbrev pub IsKnownKind : Facts → HoldKind → Type 0

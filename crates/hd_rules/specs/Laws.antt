@@ -1,8 +1,8 @@
 -- What is proved of commands and runs.
-use Rattle.std.specs.Prelude.{Bool, ◌≡◌, ◌⊎◌, ◌↔◌, IsTrue, MatchOption, Option, ℕ, ◌<◌, ◌≤◌, length, Ok, Some, None, List, [], ◌∷◌, ◌++◌}
+use Rattle.std.specs.Prelude.{Bool, ◌≡◌, ◌⊎◌, ◌↔◌, IsTrue, MatchOption, Option, ℕ, ◌+◌, ◌<◌, ◌≤◌, length, Ok, Some, None, List, [], ◌∷◌, ◌++◌}
 use Rattle.hd_rules.specs.Words.{Hold, Change, Question, ValueOf, Command, Cancel, Survivor}
 use Rattle.hd_rules.specs.Facts.{Facts, AreInRange}
-use Rattle.hd_rules.specs.Desk.{Desk, value, undone}
+use Rattle.hd_rules.specs.Desk.{Desk, value, after, undone}
 use Rattle.hd_rules.specs.Choose.{choice, place, FirstCandidate, LeastFree}
 use Rattle.hd_rules.specs.Ask.{Plan, Done, answer, told, outcome, asks}
 use Rattle.hd_rules.specs.Same.{same_value, same_answer, same_asked, same_line, same_turn_reply}
@@ -13,7 +13,7 @@ use Rattle.hd_rules.specs.Depends.{AnsweredAlike, AnsweredOtherwise, before, les
 use Rattle.hd_rules.specs.Target.{Split, NoTarget, IsTarget, target}
 use Rattle.hd_rules.specs.Record.{note, Record, IsRecord, mended}
 use Rattle.hd_rules.specs.Known.{IsKnownAction, IsKnownDesk, IsKnownDone}
-use Rattle.hd_rules.specs.Sound.{IsFit, Sound, EachBackIsFit}
+use Rattle.hd_rules.specs.Sound.{IsFit, Sound, EachBackIsFit, EachOnIsFit}
 
 -- a test is true exactly where two values are equal
 abbrev pub IsExact : {A : Type 0} → (A → A → Bool) → Type 0
@@ -174,3 +174,15 @@ abbrev pub KnownCommandsDoKnownThings : Type 0
 KnownCommandsDoKnownThings =
     (k : Facts) (d : Desk) (n : ℕ) (command : Command) (done : Done) → AreInRange k → IsKnownDesk k d → IsKnownAction k command.action →
     outcome k d (plan k n command) ≡ Ok done → IsKnownDone k done
+
+-- at a sound desk, with a number above every stamp
+abbrev pub ChangesLeadThroughFitDesks : Type 0
+ChangesLeadThroughFitDesks =
+    (k : Facts) (d : Desk) (n : ℕ) (command : Command) (done : Done) → Sound k n d → outcome k d (plan k n command) ≡ Ok done →
+    EachOnIsFit k done.changes d
+
+-- and the last of them is sound, with every stamp at most that number
+abbrev pub ACommandLeavesASoundDesk : Type 0
+ACommandLeavesASoundDesk =
+    (k : Facts) (d : Desk) (n : ℕ) (command : Command) (done : Done) → Sound k n d → outcome k d (plan k n command) ≡ Ok done →
+    AreChanges done.changes × Sound k (n + 1) (after done.changes d)

@@ -2,7 +2,7 @@
 use Rattle.std.specs.Prelude.{◌≡◌, ℕ, ◌<◌, ◌≤◌, Option, Some, None, List, [], ◌∷◌}
 use Rattle.hd_rules.specs.Words.{Change, Hold, HoldPlace, CopyState, Shelf, OnLoan, OnHoldShelf, InTransit}
 use Rattle.hd_rules.specs.Facts.{Facts}
-use Rattle.hd_rules.specs.Desk.{Desk, undone}
+use Rattle.hd_rules.specs.Desk.{Desk, put, undone}
 
 -- the hold has this copy, and this pickup
 abbrev pub Has : Option Hold → ℕ → ℕ → Type 0
@@ -56,3 +56,8 @@ pub record Sound (k : Facts) (n : ℕ) (d : Desk) : Type 0 where
 abbrev pub EachBackIsFit : Facts → List Change → Desk → Type 0
 EachBackIsFit k [] d = Unit {0}
 EachBackIsFit k (change ∷ changes) d = EachBackIsFit k changes d × IsFit k (undone (change ∷ changes) d)
+
+-- every desk on the way of making these changes, in order, is fit
+abbrev pub EachOnIsFit : Facts → List Change → Desk → Type 0
+EachOnIsFit k [] d = Unit {0}
+EachOnIsFit k (change ∷ changes) d = IsFit k (put d change.cell change.new) × EachOnIsFit k changes (put d change.cell change.new)

@@ -32,3 +32,18 @@ pub struct Change {
     /// What it has afterwards.
     pub new: Value,
 }
+
+impl Default for Change {
+    ghost use Rattle.std.specs.Prelude.{◌≡◌};
+
+    ghost is_default = { λ change. change.old ≡ change.new };
+
+    /// A change that changes nothing. It fills the unused places of a short list.
+    fn default() -> Change {
+        Change {
+            cell: Cell::Hold(TitleNo::new(0).unwrap(), PatronNo::new(0).unwrap()),
+            old: Value::Hold(None),
+            new: Value::Hold(None),
+        }
+    }
+}

@@ -1,6 +1,6 @@
 //! Laws. Each is the contract of a function without a body; its statement stands in `specs/Laws.antt`.
 
-ghost use Rattle.hd_rules.specs.Laws.{AWalkFindsTheFirstDependent, AnswersAreTold, AtMostFourChanges, ChangesAreDistinct, ChoiceIsTheFirstCandidate, DependenceIsDecided, DesksDifferByTheChanges, EachCellWrittenIsAsked, EachDependsOrStands, EveryDeskIsSound, KnownCommandsDoKnownThings, LessAndBeforeCommute, NotedAnswersTell, NumbersSplitARun, OutcomesStand, PlaceIsTheLeastFree, RecordsStand, StepIsDetermined, TakingBackLeadsThroughFitDesks, TakingBackWhatDiffers, TestsAreExact, TheFirstCandidateIsOne, TheFirstDependentIsTheLeast, TheLeastFreePlaceIsOne, TheTargetIsTheNewest, UndoingIsTheRunWithout, UndoneAtOnceIsAsBefore};
+ghost use Rattle.hd_rules.specs.Laws.{ACommandLeavesASoundDesk, AWalkFindsTheFirstDependent, AnswersAreTold, AtMostFourChanges, ChangesAreDistinct, ChangesLeadThroughFitDesks, ChoiceIsTheFirstCandidate, DependenceIsDecided, DesksDifferByTheChanges, EachCellWrittenIsAsked, EachDependsOrStands, EveryDeskIsSound, KnownCommandsDoKnownThings, LessAndBeforeCommute, NotedAnswersTell, NumbersSplitARun, OutcomesStand, PlaceIsTheLeastFree, RecordsStand, StepIsDetermined, TakingBackLeadsThroughFitDesks, TakingBackWhatDiffers, TestsAreExact, TheFirstCandidateIsOne, TheFirstDependentIsTheLeast, TheLeastFreePlaceIsOne, TheTargetIsTheNewest, UndoingIsTheRunWithout, UndoneAtOnceIsAsBefore};
 ghost use Rattle.hd_rules.specs.MachineLaws.{EachReplyIsToItsMessage, ALegalJournalGoesOn, ALegalJournalIsTheRunOfItsSurvivors, EachSurvivorHasOneRecord, EachTurnIsDetermined, EveryListOfMessagesIsAnswered, KnownMessagesGetKnownReplies, TheHeadline};
 
 /// The tests of equality by which the rules speak are exact.
@@ -98,6 +98,16 @@ pub fn taking_back_what_differs()
 /// differ by its changes and nothing else.
 pub fn desks_differ_by_the_changes()
     ensures { DesksDifferByTheChanges }
+{}
+
+/// The changes of a command at a sound desk, made one after another, lead through fit desks.
+pub fn changes_lead_through_fit_desks()
+    ensures { ChangesLeadThroughFitDesks }
+{}
+
+/// They are of distinct cells, each to another value, and the last of those desks is sound.
+pub fn a_command_leaves_a_sound_desk()
+    ensures { ACommandLeavesASoundDesk }
 {}
 
 /// Taking back the changes of a command on which no later one depends gives the run without it.

@@ -19,8 +19,9 @@ pub use crate::commands::{Action, Cancel, Command, Survivor};
 pub use crate::copies::{CopyState, HoldPlace, Loan, Transit};
 pub use crate::holds::{Hold, HoldKind};
 pub use crate::laws::{
-    a_legal_journal_goes_on, a_legal_journal_is_the_run_of_its_survivors,
-    a_walk_finds_the_first_dependent, answers_are_told, at_most_four_changes, changes_are_distinct,
+    a_command_leaves_a_sound_desk, a_legal_journal_goes_on,
+    a_legal_journal_is_the_run_of_its_survivors, a_walk_finds_the_first_dependent,
+    answers_are_told, at_most_four_changes, changes_are_distinct, changes_lead_through_fit_desks,
     choice_is_the_first_candidate, dependence_is_decided, desks_differ_by_the_changes,
     each_cell_written_is_asked, each_depends_or_stands, each_reply_is_to_its_message,
     each_survivor_has_one_record, each_turn_is_determined, every_desk_is_sound,

@@ -64,3 +64,19 @@ pub struct Finding {
     /// What was found.
     pub noted: Noted,
 }
+
+impl Default for Finding {
+    ghost use Rattle.std.specs.Prelude.{◌≡◌};
+    ghost use Rattle.hd_rules.specs.declared.questions.Question.{Question};
+    ghost use Rattle.hd_rules.specs.declared.questions.Noted.{Noted};
+
+    ghost is_default = { λ finding. finding ≡ record { question = Question.Place 0; noted = Noted.Place 0 } };
+
+    /// A question with a number that answers nothing. It fills the unused places of a short list.
+    fn default() -> Finding {
+        Finding {
+            question: Question::Place(BranchNo::new(0).unwrap()),
+            noted: Noted::Place(0),
+        }
+    }
+}

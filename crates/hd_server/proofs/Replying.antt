@@ -16,7 +16,7 @@ use Rattle.hd_rules.specs.Turns.{Message}
 use Rattle.hd_rules.specs.Journal.{Turn}
 use Rattle.hd_rules.specs.Replies.{IsReplyTo, TellsOf}
 use Rattle.hd_rules.proofs.Splits.{among_right}
-use Rattle.hd_desk.specs.Desks.{AddsHold}
+use Rattle.hd_server.specs.Asks.{AddsHold}
 use Rattle.hd_journal.specs.Books.{Book, AddsTurn, IsLegalBook, answer}
 use Rattle.hd_journal.specs.declared.turn.Turn.{Turn as Made}
 

@@ -3,8 +3,7 @@ ghost use Rattle.std.specs.Prelude.{◌<◌, IfOk, IfSome};
 ghost use Rattle.hd_rules.specs.Facts.{Facts};
 ghost use Rattle.hd_rules.specs.Known.{IsKnownAction, IsKnownCancel, IsKnownKind};
 ghost use Rattle.hd_catalogue.specs.Contents.{facts_of};
-ghost use Rattle.hd_desk.specs.Desks.{AddsHold};
-ghost use Rattle.hd_server.specs.Asks.{IsKnownAsk};
+ghost use Rattle.hd_server.specs.Asks.{AddsHold, IsKnownAsk};
 
 use crate::place::Place;
 use hd_catalogue::Catalogue;

@@ -4,7 +4,7 @@ ghost use Rattle.std.specs.Option.{ForSome};
 ghost use Rattle.hd_rules.specs.Known.{IsKnownAction, IsKnownCancel};
 ghost use Rattle.hd_rules.specs.Replies.{TellsOf};
 ghost use Rattle.hd_catalogue.specs.Contents.{facts_of};
-ghost use Rattle.hd_desk.specs.Desks.{AddsHold};
+ghost use Rattle.hd_server.specs.Asks.{AddsHold};
 
 use crate::asking::{Ask, ask_of};
 use crate::place::Place;

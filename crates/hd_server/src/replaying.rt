@@ -8,7 +8,7 @@ use crate::place::Place;
 use crate::sessions::Sessions;
 use crate::stream::{read_some, write_all};
 use hd_catalogue::Catalogue;
-use hd_desk::Desk;
+use hd_desk::{Desk, Meter};
 use hd_journal::Journal;
 use hd_rules::TerminalNo;
 use std::alloc::{AllocError, Allocator};
@@ -34,13 +34,14 @@ const PIECE: usize = 65_536;
 /// session; the lines before it are answered. `InputTooLong` past 16,777,216 bytes; the whole lines among them are
 /// answered. `Read` where a read fails; the whole lines read are answered. `Write` where a write fails. `Memory` for want
 /// of memory.
-pub fn replay<A: Allocator + Copy, R: Read, W: Write>(
-    alloc: A,
+pub fn replay<R: Read, W: Write>(
+    rt: &HostRuntime,
     catalogue: &[u8],
     now: &[u8],
     from: &mut R,
     to: &mut W,
 ) -> Result<(), ServerFault> {
+    let alloc = rt.alloc();
     let catalogue = match Catalogue::read(alloc, catalogue) {
         Ok(catalogue) => Arc::new(alloc, catalogue)?,
         Err(fault) => return Err(ServerFault::Catalogue(fault)),
@@ -48,8 +49,8 @@ pub fn replay<A: Allocator + Copy, R: Read, W: Write>(
     let Ok(now) = hd_date::read(now, catalogue.offset()) else {
         return Err(ServerFault::BadNow);
     };
-    let desk = Desk::open(alloc, Arc::try_clone(&catalogue)?)?;
-    let journal = Journal::new(alloc, desk);
+    let desk = Desk::open(alloc, alloc, Arc::try_clone(&catalogue)?)?;
+    let journal = Journal::new(alloc, desk, Meter::new(rt));
     let mut sessions = Sessions::new(&catalogue, journal, now, first_place(&catalogue));
     answer_input(alloc, &mut sessions, from, to)
 }

@@ -15,17 +15,21 @@ C|a1|ta|north
 const NOW: &[u8] = b"20260301    120000";
 
 /// What `replay` writes for an input, and how it ends.
-fn replayed(alloc: Global, catalogue: &[u8], input: &[u8]) -> (Vec<u8>, Result<(), ServerFault>) {
+fn replayed(
+    rt: &HostRuntime,
+    catalogue: &[u8],
+    input: &[u8],
+) -> (Vec<u8>, Result<(), ServerFault>) {
     let mut from = input;
-    let mut out = Vec::new(alloc);
-    let end = replay(alloc, catalogue, NOW, &mut from, &mut out);
+    let mut out = Vec::new(rt.alloc());
+    let end = replay(rt, catalogue, NOW, &mut from, &mut out);
     (out, end)
 }
 
 #[test]
 fn without_a_terminal_nobody_is_logged_in(rt: HostRuntime) {
     let (out, end) = replayed(
-        rt.alloc(),
+        &rt,
         b"H|1|lib|60|100\nP|p1|3\nT|ta|21|1\n",
         b"1 15+20260301    100000AAp1|AJta|\n1 15+20260301    100000AJta|\n",
     );
@@ -40,7 +44,7 @@ fn without_a_terminal_nobody_is_logged_in(rt: HostRuntime) {
 #[test]
 fn a_carriage_return_ends_a_line(rt: HostRuntime) {
     let (out, end) = replayed(
-        rt.alloc(),
+        &rt,
         CATALOGUE,
         b"1 97\r15-20260301    100000AAp1|AJta|BIY|\r",
     );
@@ -66,7 +70,7 @@ fn a_long_line_ends_its_session(rt: HostRuntime) -> Result<(), Fail> {
     let mut input = line_of(rt.alloc(), b"7", 1024)?;
     input.extend_from_slice(line_of(rt.alloc(), b"64", 1025)?.as_slice())?;
     input.extend_from_slice(b"64 97\n7 97\n64 \n")?;
-    let (out, end) = replayed(rt.alloc(), CATALOGUE, input.as_slice());
+    let (out, end) = replayed(&rt, CATALOGUE, input.as_slice());
     assert!(rt; end.is_ok());
     let wanted = b"7 161Y20260301    100000BR1|BSnorth|AOlib|AAp1|AJta|
 64 ENDED
@@ -96,7 +100,7 @@ fn a_line_without_a_session_stops_the_input(rt: HostRuntime) {
         let _ = input.extend_from_slice(b"1 97\n");
         let _ = input.extend_from_slice(line);
         let _ = input.extend_from_slice(b"\n1 97\n");
-        let (out, end) = replayed(rt.alloc(), CATALOGUE, input.as_slice());
+        let (out, end) = replayed(&rt, CATALOGUE, input.as_slice());
         assert_eq!(rt; end, Err(ServerFault::NoSession { line: 2 }));
         assert_eq!(rt; out.as_slice(), b"1 96\n".as_slice());
     }
@@ -142,13 +146,13 @@ fn reads_and_writes_that_fail_are_named(rt: HostRuntime) {
     let mut out = Vec::new(rt.alloc());
     let mut from = FailingReader { calls: 2 };
     assert_eq!(rt;
-        replay(rt.alloc(), CATALOGUE, NOW, &mut from, &mut out),
+        replay(&rt, CATALOGUE, NOW, &mut from, &mut out),
         Err(ServerFault::Read)
     );
     assert_eq!(rt; out.as_slice(), b"1 96\n1 96\n".as_slice());
     let mut from = b"1 97\n".as_slice();
     assert_eq!(rt;
-        replay(rt.alloc(), CATALOGUE, NOW, &mut from, &mut FullWriter),
+        replay(&rt, CATALOGUE, NOW, &mut from, &mut FullWriter),
         Err(ServerFault::Write)
     );
 }
@@ -179,7 +183,7 @@ fn an_input_has_a_longest_length(rt: HostRuntime) {
         let mut from = EndlessLine { left: length };
         let mut out = Vec::new(rt.alloc());
         assert_eq!(rt;
-            replay(rt.alloc(), CATALOGUE, NOW, &mut from, &mut out),
+            replay(&rt, CATALOGUE, NOW, &mut from, &mut out),
             Err(wanted)
         );
         assert!(rt; out.is_empty());

@@ -1,6 +1,5 @@
 -- A shelf with no free place among the first n holds n copies, so n is at most their number.
-use Rattle.std.proofs.Common.{◌≡◌, ◌≢◌, ℕ, zero, suc, ◌+◌, ◌<◌, ◌≤◌, true, false, List, [], Option, None, Some, refl, arith, ◌∙◌, length, inl, inr}
-use Rattle.std.proofs.lemmas.Bool.{cases_lt}
+use Rattle.std.proofs.Common.{◌≡◌, ◌≢◌, ℕ, zero, suc, ◌+◌, ◌<◌, ◌≤◌, true, false, List, [], Option, None, Some, refl, arith, ◌∙◌, length}
 use Rattle.std.proofs.lemmas.Bool.Decides.{nat_tests}
 use Rattle.std.proofs.lemmas.Map.Steps.{length-le_from_distinct_below}
 use Rattle.std.specs.List.{IsDistinct, AllByRecursion, list_any, cons_option}
@@ -61,12 +60,3 @@ taken_places m n s h = rw (← length-copies_to m n h) (length-le_from_distinct_
 pub taken_below : (m : FinMap nat_cmp ℕ) (n : ℕ) → IsShelf m → ((p : ℕ) → 1 ≤ p → p < n → IsSome (get m p)) → n ≤ MOST_COPIES + 1
 taken_below m zero s h = omega arith
 taken_below m (suc n) s h = omega (arith, taken_places m n s (λ p one l. h p one (omega arith)))
-
--- the places up to a number are taken, so it is at most the number of copies
-pub taken_here : (m : FinMap nat_cmp ℕ) (n : ℕ) → IsShelf m → ((p : ℕ) → 1 ≤ p → p < n → IsSome (get m p)) → IsSome (get m n) → n ≤ MOST_COPIES
-taken_here m n s below here = taken_places m n s (λ p one l. elim (cases_lt p n) [
-  | inl before ↦ below p one before
-  | inr at ↦
-      let same : n ≡ p = omega arith
-      in rw same at here
-])

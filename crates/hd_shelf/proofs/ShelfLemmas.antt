@@ -1,13 +1,18 @@
 -- What putting and taking copies keeps of a shelf.
-use Rattle.std.proofs.Common.{◌≡◌, ◌≢◌, ℕ, ◌+◌, ◌<◌, ◌≤◌, ◌==◌, Bool, true, false, cond, None, Some, arith, refl, ap, ◌∙◌}
-use Rattle.std.specs.Prelude.{IsSome}
+use Rattle.std.proofs.Common.{◌≡◌, ◌≢◌, ℕ, ◌+◌, ◌-◌, ◌<◌, ◌≤◌, List, [], None, Some, arith, refl, sym, ap, subst, ◌∙◌, inl, inr, length}
+use Rattle.std.specs.Prelude.{IsSome, nat_lt, slice_get}
+use Rattle.std.proofs.lemmas.Bool.{cases_lt}
 use Rattle.std.proofs.lemmas.Bool.Decides.{nat_tests}
+use Rattle.std.proofs.lemmas.Option.{none-some}
+use Rattle.std.specs.List.{prefix_len, insert as insert_at, remove as remove_at}
+use Rattle.std.specs.List.Sorted.{IsPartitionedBy}
 use Rattle.std.specs.Ordering.{nat_cmp}
 use Rattle.std.specs.FinMap.{FinMap, get, insert, remove, empty, get-empty}
 use Rattle.hd_table.proofs.SlotsLemmas.{get-insert_number, get-remove_number}
 use Rattle.hd_rules.specs.declared.limits.TheConstants.{MOST_COPIES}
-use Rattle.hd_shelf.specs.Shelf.{IsShelf, IsKept, LeastFree, StandsNowhere}
+use Rattle.hd_shelf.specs.Shelf.{IsShelf, IsKept, LeastFree, StandsNowhere, free_places}
 use Rattle.hd_shelf.proofs.Pigeonhole.{taken_below}
+use Rattle.hd_shelf.proofs.FreePlaces.{fewer, found, parted, free_places-insert, free_places-remove, last_or, last_some, last_none, last_is_least}
 
 -- no copy stands on an empty shelf
 nothing_in_empty : (place copy : ℕ) → get {R = nat_cmp} empty place ≡ Some copy → ⊥
@@ -49,75 +54,102 @@ IsShelf-remove m k s = record {
   apart = apart-remove m k s;
 }
 
--- a taken place stays taken where a copy is put
-taken-insert : (m : FinMap nat_cmp ℕ) (k c p : ℕ) → IsSome (get m p) → IsSome (get (insert m k c) p)
-taken-insert m k c p is = rw (get-insert_number m k c p) (by_place (p == k) is)
-  where
-    by_place : (b : Bool) → IsSome (get m p) → IsSome (cond b (Some c) (get m p))
-    by_place true some = refl
-    by_place false some = some
-
--- where none stands, 1 is the least free place
-pub IsKept-empty : IsKept empty 1
-IsKept-empty = record {
+-- where none stands and no place has room, none is free
+pub IsKept-empty : (capacity : ℕ) → IsKept empty 0 [] capacity
+IsKept-empty capacity = record {
   shelf = IsShelf-empty;
-  least = record {
-    from_one = omega arith;
-    free = get-empty nat_cmp 1;
-    least = λ p one below. absurd (omega arith);
-  };
+  above = λ place above. get-empty nat_cmp place;
+  free_is = refl;
+  enough = omega arith;
 }
 
--- a copy at another place leaves the least free one
-pub IsKept-insert : (m : FinMap nat_cmp ℕ) (k c free : ℕ) → IsKept m free → 1 ≤ k → k ≢ free → c < MOST_COPIES → StandsNowhere m c → IsKept (insert m k c) free
-IsKept-insert m k c free kept one other small nowhere = record {
+-- a copy at a free place takes it from the list
+pub IsKept-insert : (m : FinMap nat_cmp ℕ) (k c room capacity : ℕ) (free : List ℕ) → IsKept m room free capacity → 1 ≤ k → k ≤ room → get m k ≡ None → c < MOST_COPIES → StandsNowhere m c → IsKept (insert m k c) room (remove_at free (prefix_len (nat_lt k) free)) capacity
+IsKept-insert m k c room capacity free kept one within none small nowhere = record {
   shelf = IsShelf-insert m k c kept.shelf one small nowhere;
-  least = record {
-    from_one = kept.least.from_one;
-    free = grind (arith, nat_tests, get-insert_number m k c free, kept.least.free);
-    least = λ p from below. taken-insert m k c p (kept.least.least p from below);
-  };
+  above = λ p above. grind (arith, nat_tests, get-insert_number m k c p, kept.above p);
+  free_is = rw kept.free_is (sym (free_places-insert m k c room none one within));
+  enough = kept.enough;
 }
 
--- a copy at the least free place leaves those below it taken
-pub taken_below_it : (m : FinMap nat_cmp ℕ) (k c free : ℕ) → LeastFree m free → k ≡ free → (p : ℕ) → 1 ≤ p → p < k → IsSome (get (insert m k c) p)
-taken_below_it m k c free least at p from below = taken-insert m k c p (least.least p from (omega arith))
+-- a place has room where a copy stands, and it is not 0
+pub in_room : (m : FinMap nat_cmp ℕ) (k c room : ℕ) → IsShelf m → ((place : ℕ) → room < place → get m place ≡ None) → get m k ≡ Some c → (1 ≤ k) × (k ≤ room)
+in_room m k c room shelf above some =
+    let positive : k ≢ 0 = λ at. (let none = shelf.none_at_zero in let here = ap (get m) at in cc)
+    in (
+      omega arith,
+      elim (cases_lt room k) [
+        | inl past ↦ let none = above k past in absurd (none-some c (sym none ∙ some))
+        | inr within ↦ within
+      ],
+    )
 
-remove_other : (m : FinMap nat_cmp ℕ) (k p : ℕ) → p ≢ k → get (remove m k) p ≡ get m p
-remove_other m k p other = get-remove_number m k p ∙ grind (arith, nat_tests)
-
-remove_here : (m : FinMap nat_cmp ℕ) (k : ℕ) → get (remove m k) k ≡ None
-remove_here m k = get-remove_number m k k ∙ grind (arith, nat_tests)
-
-taken-remove : (m : FinMap nat_cmp ℕ) (k p : ℕ) → p ≢ k → IsSome (get m p) → IsSome (get (remove m k) p)
-taken-remove m k p other is = rw (remove_other m k p other) is
-
--- a place below the least free one is that, once its copy is taken away
-pub IsKept-remove_before : (m : FinMap nat_cmp ℕ) (k c free : ℕ) → IsKept m free → get m k ≡ Some c → k < free → IsKept (remove m k) k
-IsKept-remove_before m k c free kept some before =
-    let positive : k ≢ 0 = λ at. (let none = kept.shelf.none_at_zero in let here = ap (get m) at in cc)
+-- without the copy of a place, that place is in the list
+pub IsKept-remove : (m : FinMap nat_cmp ℕ) (k c room capacity : ℕ) (free : List ℕ) → IsKept m room free capacity → get m k ≡ Some c → IsKept (remove m k) room (insert_at free (prefix_len (nat_lt k) free) k) capacity
+IsKept-remove m k c room capacity free kept some =
+    let within = in_room m k c room kept.shelf kept.above some
+    in let is : IsSome (get m k) = rw some
     in record {
       shelf = IsShelf-remove m k kept.shelf;
-      least = record {
-        from_one = omega arith;
-        free = remove_here m k;
-        least = λ p from below. taken-remove m k p (λ at. omega arith) (kept.least.least p from (omega arith));
-      };
+      above = λ p above. grind (arith, nat_tests, get-remove_number m k p, kept.above p);
+      free_is = rw kept.free_is (sym (free_places-remove m k room is within.0 within.1));
+      enough = kept.enough;
     }
 
--- and a place above it leaves it that
-pub IsKept-remove_after : (m : FinMap nat_cmp ℕ) (k c free : ℕ) → IsKept m free → get m k ≡ Some c → free ≤ k → IsKept (remove m k) free
-IsKept-remove_after m k c free kept some above =
-    let other : free ≢ k = λ at. (let none = kept.least.free in let here = ap (get m) at in cc)
-    in record {
-      shelf = IsShelf-remove m k kept.shelf;
-      least = record {
-        from_one = kept.least.from_one;
-        free = remove_other m k free other ∙ kept.least.free;
-        least = λ p from below. taken-remove m k p (λ at. omega arith) (kept.least.least p from below);
-      };
-    }
+-- a list with more capacity has room too
+pub IsKept-roomier : (m : FinMap nat_cmp ℕ) (room capacity more : ℕ) (free : List ℕ) → IsKept m room free capacity → capacity ≤ more → IsKept m room free more
+IsKept-roomier m room capacity more free kept higher = record {
+  shelf = kept.shelf;
+  above = kept.above;
+  free_is = kept.free_is;
+  enough = omega (arith, kept.enough);
+}
+
+-- more places, and the list of those that are free
+pub IsKept-more : (m : FinMap nat_cmp ℕ) (room more capacity before : ℕ) (free others : List ℕ) → IsKept m room others before → room ≤ more → free ≡ free_places m more → more ≤ capacity → IsKept m more free capacity
+IsKept-more m room more capacity before free others kept higher free_is enough = record {
+  shelf = kept.shelf;
+  above = λ place past. kept.above place (omega arith);
+  free_is = free_is;
+  enough = enough;
+}
+
+-- where a copy stands at a place, there is room to note that place
+pub room_to_note : (m : FinMap nat_cmp ℕ) (k c room capacity : ℕ) (free : List ℕ) → IsKept m room free capacity → get m k ≡ Some c → length free < capacity
+room_to_note m k c room capacity free kept some =
+    let within = in_room m k c room kept.shelf kept.above some
+    in let is : IsSome (get m k) = rw some
+    in omega (arith, ap length kept.free_is, fewer m room k is within.0 within.1, kept.enough)
+
+-- a free place that has room is in the list
+pub place_found : (m : FinMap nat_cmp ℕ) (k room capacity : ℕ) (free : List ℕ) → IsKept m room free capacity → get m k ≡ None → 1 ≤ k → k ≤ room → prefix_len (nat_lt k) free < length free
+place_found m k room capacity free kept none one within = rw kept.free_is (found m k room none one within)
+
+-- the free places up to the room begin with those above a place
+pub parted_free : (m : FinMap nat_cmp ℕ) (room capacity p : ℕ) (free : List ℕ) → IsKept m room free capacity → IsPartitionedBy (nat_lt p) free
+parted_free m room capacity p free kept = rw kept.free_is (parted m room p)
+
+-- the last of the kept places, or else the next after the room, is the least free one
+least_of : (m : FinMap nat_cmp ℕ) (room capacity : ℕ) (free : List ℕ) → IsKept m room free capacity → LeastFree m (last_or (room + 1) free)
+least_of m room capacity free kept = rw kept.free_is (last_is_least m room (room + 1) (kept.above (room + 1) (omega arith)) (omega arith) (λ p above below. absurd (omega arith)))
+
+-- the last of them, where there is one
+pub least_if_some : (m : FinMap nat_cmp ℕ) (room capacity x : ℕ) (free now : List ℕ) → IsKept m room free capacity → now ≡ free → Some x ≡ slice_get now (length now - 1) → LeastFree m x
+least_if_some m room capacity x free now kept same last =
+    let is : slice_get free (length free - 1) ≡ Some x = rw (← same) (sym last)
+    in rw (← last_some (room + 1) x free is) (least_of m room capacity free kept)
+
+-- the next after the room, where there is none
+pub least_if_none : (m : FinMap nat_cmp ℕ) (room capacity : ℕ) (free now : List ℕ) → IsKept m room free capacity → now ≡ free → None ≡ slice_get now (length now - 1) → LeastFree m (room + 1)
+least_if_none m room capacity free now kept same last =
+    let none : slice_get free (length free - 1) ≡ None = rw (← same) (sym last)
+    in let next : last_or (room + 1) free ≡ room + 1 = last_none (room + 1) free none
+    in subst (λ (place : ℕ). LeastFree m place) next (least_of m room capacity free kept)
 
 -- each place below the least free one has a copy, so there are no more than copies
-pub LeastFree-bound : (m : FinMap nat_cmp ℕ) (free : ℕ) → IsKept m free → free ≤ MOST_COPIES + 1
-LeastFree-bound m free kept = taken_below m free kept.shelf kept.least.least
+pub LeastFree-bound : (m : FinMap nat_cmp ℕ) (free : ℕ) → IsShelf m → LeastFree m free → free ≤ MOST_COPIES + 1
+LeastFree-bound m free shelf least = taken_below m free shelf least.least
+
+-- where no place is free, there is no more room than copies
+pub room-bound : (m : FinMap nat_cmp ℕ) (room capacity : ℕ) (free now : List ℕ) → IsKept m room free capacity → now ≡ free → None ≡ slice_get now (length now - 1) → room ≤ MOST_COPIES
+room-bound m room capacity free now kept same last = omega (arith, LeastFree-bound m (room + 1) kept.shelf (least_if_none m room capacity free now kept same last))

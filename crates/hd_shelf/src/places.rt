@@ -1,5 +1,7 @@
 //! The places of a hold shelf.
-ghost use Rattle.std.specs.Prelude.{◌≡◌, ◌≤◌, ◌<◌, ◌+◌, ℕ, max, IsSome, None, OnOk, OnErr};
+ghost use Rattle.std.specs.Prelude.{◌≡◌, ◌≤◌, ◌<◌, ◌+◌, ℕ, max, length, nat_lt, None, OnOk, OnErr};
+ghost use Rattle.std.specs.List.{prefix_len};
+ghost use Rattle.std.specs.List.Sorted.{IsPartitionedBy};
 ghost use Rattle.std.specs.FinMap as map;
 ghost use Rattle.hd_rules.specs.declared.limits.TheConstants.{MOST_COPIES};
 ghost use Rattle.hd_shelf.specs.Shelf.{IsShelf, IsReady, LeastFree, StandsNowhere};
@@ -11,17 +13,17 @@ use std::marker::Model;
 
 /// The copies on the hold shelf of a branch by place. Places count from 1.
 ///
-/// Only `ready` takes memory. `least_free` is one read: where a copy is put at the least free place, the next one is
-/// looked for from there on.
+/// Only `ready` takes memory. `least_free` is one read: beside the copies stand the free places, of which the last is
+/// the least.
 #[derive(Drop)]
 pub struct Places<A: Allocator = Global> {
     table: Table<CopyNo, A>,
-    /// The least place at which no copy stands.
-    first_free: u32,
+    /// The places that have room and no copy, from the greatest to the least. There is room for all places.
+    free: Vec<u32, A>,
 }
 
 impl<A: Allocator> Model for Places<A> {
-    ghost use Rattle.std.specs.Prelude.{◌-◌};
+    ghost use Rattle.std.specs.Prelude.{◌-◌, vec_capacity};
     ghost use Rattle.hd_shelf.specs.PlacesValue.{PlacesValue, places_code};
     ghost use Rattle.hd_shelf.specs.Shelf.{IsKept};
 
@@ -31,10 +33,10 @@ impl<A: Allocator> Model for Places<A> {
 
     ghost view = { λ p. record { copies = p.table.entries; room = p.table.size - 1 } };
 
-    ghost invariant = { λ p. IsKept p.table.entries p.first_free };
+    ghost invariant = { λ p. IsKept p.table.entries (p.table.size - 1) p.free.items (vec_capacity p.free) };
 }
 
-impl<A: Allocator> Places<A> {
+impl<A: Allocator + Copy> Places<A> {
     /// A shelf without copies and without room.
     pub fn new(alloc: A) -> Places<A>
         ensures copies { result.copies ≡ map.empty }
@@ -42,10 +44,12 @@ impl<A: Allocator> Places<A> {
     {
         Places {
             table: Table::new(alloc),
-            first_free: 1,
+            free: Vec::new(alloc),
         }
     }
+}
 
+impl<A: Allocator> Places<A> {
     /// The least place at which no copy stands (docs/desk-rules.md, "Place").
     ///
     /// There are at most 1,000,000 copies, so it is at most 1,000,001.
@@ -53,7 +57,10 @@ impl<A: Allocator> Places<A> {
         ensures least { LeastFree self.now.copies result }
         ensures bound { result ≤ MOST_COPIES + 1 }
     {
-        self.first_free
+        match self.free.last() {
+            Some(least) => *least,
+            None => self.room() as u32 + 1,
+        }
     }
 
     /// Makes room for a copy at this place and at each lower one.
@@ -67,7 +74,18 @@ impl<A: Allocator> Places<A> {
         ensures err { OnErr result (self.new.room ≡ self.old.room) }
         ensures full { OnErr result (self.old.room < place) }
     {
-        self.table.grow(place as usize + 1)
+        let room = self.room();
+        let last = place as usize;
+        if room < last {
+            self.free.reserve(last - self.free.len())?;
+            self.table.grow(last + 1)?;
+            self.free.reverse();
+            for below in room..last {
+                self.free.push_reserved(below as u32 + 1);
+            }
+            self.free.reverse();
+        }
+        Ok(())
     }
 
     /// Puts a copy at a place.
@@ -79,10 +97,9 @@ impl<A: Allocator> Places<A> {
         ensures room { self.new.room ≡ self.old.room }
     {
         prove!(copy.number() < MOST_COPIES);
+        let at = number_above(self.free.as_slice(), place);
+        self.free.remove(at);
         self.table.set(place as usize, copy);
-        if place == self.first_free {
-            self.first_free = free_from(&self.table, place);
-        }
     }
 
     /// Takes the copy at a place away and hands it out, if there is one.
@@ -92,9 +109,8 @@ impl<A: Allocator> Places<A> {
         ensures room { self.new.room ≡ self.old.room }
     {
         let copy = self.table.take(place as usize)?;
-        if place < self.first_free {
-            self.first_free = place;
-        }
+        let at = number_above(self.free.as_slice(), place);
+        self.free.insert(at, place).unwrap();
         Some(copy)
     }
 
@@ -105,18 +121,20 @@ impl<A: Allocator> Places<A> {
     {
         self.table.get(place as usize).copied()
     }
+
+    /// The greatest place that has room, or 0.
+    fn room(&self) -> usize
+        ensures { result ≡ self.now.room }
+    {
+        self.table.size().saturating_sub(1)
+    }
 }
 
-/// The least free place, where each lower one than `first` is taken.
-fn free_from<A: Allocator>(table: &Table<CopyNo, A>, first: u32) -> u32
-    requires shelf { IsShelf table.now.entries }
-    requires from_one { 1 ≤ first }
-    requires taken { (p : ℕ) → 1 ≤ p → p < first → IsSome (map.get table.now.entries p) }
-    ensures { LeastFree table.now.entries result }
+/// How many of these places, which fall, are greater than this one.
+fn number_above(falling: &[u32], place: u32) -> usize
+    requires { IsPartitionedBy (nat_lt place) falling.now }
+    ensures number { result ≡ prefix_len (nat_lt place) falling.now }
+    ensures within { result ≤ length falling.now }
 {
-    let mut place = first;
-    while table.get(place as usize).is_some() {
-        place += 1;
-    }
-    place
+    falling.partition_point(|other| *other > place)
 }

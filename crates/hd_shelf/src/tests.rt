@@ -1,4 +1,4 @@
-//! An example of a hold shelf.
+//! Examples of a hold shelf.
 use crate::Places;
 use hd_rules::CopyNo;
 use std::test::Fail;
@@ -27,5 +27,22 @@ fn the_least_free_place(rt: HostRuntime) -> Result<(), Fail> {
     assert_eq!(rt; places.at(1), Some(first));
     assert_eq!(rt; places.at(0), None);
     assert_eq!(rt; places.at(3), None);
+    Ok(())
+}
+
+#[test]
+#[tactic(auto, using(hd_table::proofs::SlotsLemmas::entries))]
+fn a_place_between_free_ones(rt: HostRuntime) -> Result<(), Fail> {
+    let mut places = Places::new(rt.alloc());
+    let first = CopyNo::new(0).ok_or("no copy")?;
+    let second = CopyNo::new(1).ok_or("no copy")?;
+    places.ready(3)?;
+    assert_eq!(rt; places.least_free(), 1);
+    places.put(2, first);
+    assert_eq!(rt; places.least_free(), 1);
+    places.put(1, second);
+    assert_eq!(rt; places.least_free(), 3);
+    assert_eq!(rt; places.take(2), Some(first));
+    assert_eq!(rt; places.least_free(), 2);
     Ok(())
 }

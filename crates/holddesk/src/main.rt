@@ -30,7 +30,7 @@ fn main(rt: HostRuntime) -> io::Result<ExitCode> {
     };
     let now = command.now.as_bytes();
     match replay(
-        alloc,
+        &rt,
         catalogue.as_slice(),
         now,
         &mut rt.stdin(),

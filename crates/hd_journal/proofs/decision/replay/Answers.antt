@@ -1,29 +1,31 @@
 use Rattle.std.proofs.Common.{◌∙◌, ◌+◌, ap, sym, subst, take, drop}
 use Rattle.hd_rules.specs.Run.{run, step, Rising}
+use Rattle.hd_rules.specs.Sound.{Sound}
 use Rattle.hd_catalogue.specs.Contents.{Contents, facts_of}
 use Rattle.hd_desk.specs.Desks.{desk_of}
-use Rattle.hd_journal.specs.Running.{IsAdding}
-use Rattle.hd_journal.proofs.Runs.{adding_at, split_at, stamps_at, take_at, run_more}
+use Rattle.hd_journal.specs.Running.{IsKnownSurvivor}
+use Rattle.hd_journal.proofs.Runs.{known_at, split_at, sound_at, take_at, run_more}
 use Rattle.hd_journal.proofs.decision.replay.Goals as goal
 
-pub advance-requires-clause-adding : goal.advance-requires-clause-adding
-advance-requires-clause-adding g c =
-    subst (λ (x : Contents). IsAdding (facts_of x) c.survivor-item.result) (sym c.loop-survivor.invariant.contents)
-    (adding_at (facts_of c.args.other.now.contents) c.args.survivors.now c.loop-survivor.survivor-index c.survivor-item.result c.requires.adding c.loop-survivor-test.true c.survivor-item.is)
+pub advance-requires-clause-known : goal.advance-requires-clause-known
+advance-requires-clause-known g c =
+    subst (λ (x : Contents). IsKnownSurvivor (facts_of x) c.survivor-item.result) (sym c.loop-survivor.invariant.contents)
+    (known_at (facts_of c.args.other.now.copies.contents) c.args.survivors.now c.loop-survivor.survivor-index c.survivor-item.result c.requires.known c.loop-survivor-test.true c.survivor-item.is)
 
-pub advance-requires-clause-above : goal.advance-requires-clause-above
-advance-requires-clause-above g c =
+pub advance-requires-clause-sound : goal.advance-requires-clause-sound
+advance-requires-clause-sound g c =
     let ss = c.args.survivors.now in
     let i = c.loop-survivor.survivor-index in
-    stamps_at (facts_of c.args.other.now.contents) (take i ss) c.survivor-item.result (drop (i + 1) ss) _ c.loop-survivor.invariant.run
-    (subst (Rising 1) (split_at ss i c.survivor-item.result c.loop-survivor-test.true c.survivor-item.is) c.requires.rising)
+    subst (λ (x : Contents). Sound (facts_of x) c.survivor-item.result.number (desk_of c.loop-survivor.desk)) (sym c.loop-survivor.invariant.contents)
+    (sound_at (facts_of c.args.other.now.copies.contents) (take i ss) c.survivor-item.result (drop (i + 1) ss) _ c.loop-survivor.invariant.run
+    (subst (Rising 1) (split_at ss i c.survivor-item.result c.loop-survivor-test.true c.survivor-item.is) c.requires.rising))
 
 pub loop-survivor-preserved : goal.loop-survivor-preserved
 loop-survivor-preserved g c =
     let ss = c.args.survivors.now in
     let i = c.loop-survivor.survivor-index in
     let s = c.survivor-item.result in
-    let k = facts_of c.args.other.now.contents in
+    let k = facts_of c.args.other.now.copies.contents in
     let before = desk_of c.loop-survivor.desk in
     record {
       run = run_more k (take i ss) s before (desk_of c.advance.new.desk) c.loop-survivor.invariant.run

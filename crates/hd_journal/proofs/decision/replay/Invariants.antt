@@ -6,6 +6,6 @@ use Rattle.hd_journal.proofs.decision.replay.Given as goal
 
 abbrev pub invariant-loop-survivor : goal.invariant-loop-survivor
 invariant-loop-survivor g l = record {
-  run : desk_of l.desk ≡ run (facts_of l.fn.other.contents) (take l.survivor-index l.survivors);
-  contents : l.desk.contents ≡ l.fn.other.contents;
+  run : desk_of l.desk ≡ run (facts_of l.fn.other.copies.contents) (take l.survivor-index l.survivors);
+  contents : l.desk.copies.contents ≡ l.fn.other.copies.contents;
 }

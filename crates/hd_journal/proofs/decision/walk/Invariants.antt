@@ -6,7 +6,7 @@ use Rattle.hd_journal.proofs.decision.walk.Given as goal
 
 abbrev pub invariant-loop-survivor : goal.invariant-loop-survivor
 invariant-loop-survivor g l = record {
-  walked : Walked (facts_of l.fn.with.contents) l.survivors l.at l.survivor-index (desk_of l.with) (desk_of l.without);
-  with_contents : l.with.contents ≡ l.fn.with.contents;
-  without_contents : l.without.contents ≡ l.fn.with.contents;
+  walked : Walked (facts_of l.fn.with.copies.contents) l.survivors l.at l.survivor-index (desk_of l.with) (desk_of l.without);
+  with_contents : l.with.copies.contents ≡ l.fn.with.copies.contents;
+  without_contents : l.without.copies.contents ≡ l.fn.with.copies.contents;
 }

@@ -1,28 +1,27 @@
-use Rattle.std.proofs.Common.{◌≡◌, ◌<◌, ap, arith}
+use Rattle.std.proofs.Common.{◌≡◌, ◌-◌, ◌<◌, ◌≤◌, ap, arith, None}
+use Rattle.std.specs.FinMap.{get}
 use Rattle.hd_rules.specs.declared.limits.TheConstants.{MOST_COPIES}
-use Rattle.hd_shelf.proofs.ShelfLemmas.{IsShelf-insert, IsKept-insert, taken_below_it}
+use Rattle.hd_shelf.proofs.ShelfLemmas.{IsKept-insert, parted_free, place_found}
 use Rattle.hd_shelf.proofs.places.Places.put.Goals as goal
 
-pub free_from-self-inside-requires-clause-shelf : goal.free_from-self-inside-requires-clause-shelf
-free_from-self-inside-requires-clause-shelf g c =
-    let same : c.self.inside.table.entries ≡ c.args.self.now.copies = ap (λ p. p.copies) c.self.view_is
-    in let small : c.args.copy < MOST_COPIES = omega (arith, c.number.ensures.value, c.number.ensures.in_range)
-    in rw c.set.ensures.entries (IsShelf-insert _ _ _ c.self.invariant.shelf c.requires.ready.from_one small (rw same c.requires.nowhere))
+pub number_above-at-requires : goal.number_above-at-requires
+number_above-at-requires g c = rw c.as_slice.ensures.value (parted_free c.self.inside.table.entries (c.self.inside.table.size - 1) _ c.args.place c.self.inside.free.items c.self.invariant)
 
-pub free_from-self-inside-requires-clause-taken : goal.free_from-self-inside-requires-clause-taken
-free_from-self-inside-requires-clause-taken g c = rw c.set.ensures.entries (taken_below_it c.self.inside.table.entries c.args.place c.args.copy c.self.inside.first_free c.self.invariant.least c.if-place-self.true)
+pub remove-requires : goal.remove-requires
+remove-requires g c =
+    let copies : c.self.inside.table.entries ≡ c.args.self.now.copies = ap (λ p. p.copies) c.self.view_is
+    in let room : c.self.inside.table.size - 1 ≡ c.args.self.now.room = ap (λ p. p.room) c.self.view_is
+    in let none : get c.self.inside.table.entries c.args.place ≡ None = rw copies c.requires.free
+    in let within : c.args.place ≤ c.self.inside.table.size - 1 = omega (arith, room, c.requires.ready.has_room)
+    in let there = place_found c.self.inside.table.entries c.args.place (c.self.inside.table.size - 1) _ c.self.inside.free.items c.self.invariant none c.requires.ready.from_one within
+    in rw (c.number_above-at.ensures.number, c.as_slice.ensures.value) (omega (arith, there, c.self.inside.free.ok))
 
 pub invariant_of-self : goal.invariant_of-self
 invariant_of-self g c =
-    let same : c.self.inside.table.entries ≡ c.args.self.now.copies = ap (λ p. p.copies) c.self.view_is
+    let copies : c.self.inside.table.entries ≡ c.args.self.now.copies = ap (λ p. p.copies) c.self.view_is
+    in let room : c.self.inside.table.size - 1 ≡ c.args.self.now.room = ap (λ p. p.room) c.self.view_is
     in let small : c.args.copy < MOST_COPIES = omega (arith, c.number.ensures.value, c.number.ensures.in_range)
-    in record {
-      shelf = rw c.set.ensures.entries (IsShelf-insert _ _ _ c.self.invariant.shelf c.requires.ready.from_one small (rw same c.requires.nowhere));
-      least = c.free_from-self-inside.ensures;
-    }
-
-pub invariant_of-self-else-place-self : goal.invariant_of-self-else-place-self
-invariant_of-self-else-place-self g c =
-    let same : c.self.inside.table.entries ≡ c.args.self.now.copies = ap (λ p. p.copies) c.self.view_is
-    in let small : c.args.copy < MOST_COPIES = omega (arith, c.number.ensures.value, c.number.ensures.in_range)
-    in rw c.set.ensures.entries (IsKept-insert _ _ _ _ c.self.invariant c.requires.ready.from_one c.if-place-self.false small (rw same c.requires.nowhere))
+    in let within : c.args.place ≤ c.self.inside.table.size - 1 = omega (arith, room, c.requires.ready.has_room)
+    in let none : get c.self.inside.table.entries c.args.place ≡ None = rw copies c.requires.free
+    in let kept = IsKept-insert c.self.inside.table.entries c.args.place c.args.copy (c.self.inside.table.size - 1) _ c.self.inside.free.items c.self.invariant c.requires.ready.from_one within none small (rw copies c.requires.nowhere)
+    in rw (c.set.ensures.entries, c.set.ensures.size, c.remove.ensures.items, c.remove.ensures.capacity, c.number_above-at.ensures.number, c.as_slice.ensures.value) kept

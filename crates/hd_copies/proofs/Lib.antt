@@ -1,0 +1,9 @@
+pub mod States
+pub mod Moving
+pub mod Shelves
+pub mod Counting
+pub mod Indexed
+pub mod Opening
+pub mod Rooms
+pub mod Answering
+pub mod Welcoming

@@ -1,0 +1,5 @@
+pub mod CopiesValue
+pub mod Standing
+pub mod IndexesValue
+pub mod Indexing
+pub mod Keeping

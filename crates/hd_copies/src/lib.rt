@@ -1,0 +1,11 @@
+//! Where each copy of the library is.
+#![tactic(auto)]
+
+mod copies;
+mod indexes;
+#[cfg(test)]
+mod tests;
+
+pub use crate::copies::Copies;
+pub use hd_catalogue::Catalogue;
+pub use hd_rules::{BranchNo, CopyNo, CopyState, HoldKind, PatronNo, TitleNo};

@@ -1,0 +1,98 @@
+-- Writing a cell of a fit desk.
+use Rattle.std.proofs.Common.{arith, ◌≡◌, ◌≢◌, refl, sym, ◌∙◌, ap, subst, ℕ, ◌+◌, ◌<◌, ◌≤◌, Bool, true, false, cond, ◌==◌, ◌&&◌, Option, Some, None, List, [], ◌∷◌, length, drop, get_or, add-one, drop-cons, eq-eqb, inl, inr}
+use Rattle.hd_rules.specs.declared.holds.Hold.{Hold}
+use Rattle.hd_rules.specs.declared.copies.HoldPlace.{HoldPlace}
+use Rattle.hd_rules.specs.declared.copies.CopyState.{CopyState}
+use Rattle.hd_rules.specs.declared.copies.CopyState.TheVariants.{Shelf, OnLoan, OnHoldShelf, InTransit}
+use Rattle.hd_rules.specs.declared.cells.Cell.{Cell}
+use Rattle.hd_rules.specs.declared.cells.Cell.TheVariants.{Copy as CopyCell, Hold as HoldCell}
+use Rattle.hd_rules.specs.declared.cells.Value.{Value}
+use Rattle.hd_rules.specs.declared.cells.Value.TheVariants.{Copy as CopyHas, Hold as HoldHas}
+use Rattle.hd_rules.specs.declared.cells.Change.{Change}
+use Rattle.hd_rules.specs.Facts.{Facts}
+use Rattle.hd_rules.specs.Desk.{Desk, put, after}
+use Rattle.hd_rules.specs.Choose.{stands_at}
+use Rattle.hd_rules.specs.Known.{IsKnownCell, IsKnownValue, IsKnownDone}
+use Rattle.hd_rules.specs.Run.{IsAmong, AreChanges, Fits}
+use Rattle.hd_rules.specs.Sound.{IsFit, EachOnIsFit}
+use Rattle.hd_rules.proofs.Tests.{and_left, and_right, number_is, some_is}
+use Rattle.hd_copies.specs.Standing.{IsAlone, IsFromOne, IsWelcome}
+use Rattle.hd_holds.specs.Held.{IsWelcome as IsWelcomeHold}
+use Rattle.hd_desk.specs.Cells.{AreKnown, IsFromOneValue}
+
+-- what is put in a copy's cell is there
+here : (c : ℕ) (s v : CopyState) → cond (c == c) s v ≡ s
+here c s v = rw (eq-eqb c c refl) refl
+
+there : (c x : ℕ) (s v : CopyState) → (c == x) ≡ false → cond (c == x) s v ≡ v
+there c x s v other = rw other refl
+
+at-place : (b place : ℕ) (v : CopyState) → stands_at b place v ≡ true → (r : HoldPlace) × (v ≡ OnHoldShelf r) × (b ≡ r.branch) × (place ≡ r.place)
+at-place b place (OnHoldShelf r) is = (r, refl, sym (number_is r.branch b (and_left _ _ is)), sym (number_is r.place place (and_right _ _ is)))
+at-place b place (Shelf x) is = cc
+at-place b place (OnLoan l) is = cc
+at-place b place (InTransit t) is = cc
+
+not-same : (c x : ℕ) → x ≢ c → (c == x) ≡ false
+not-same c x other = by_test (c == x) refl
+  where
+    by_test : (b : Bool) → (c == x) ≡ b → b ≡ false
+    by_test true is = absurd (other (sym (number_is c x is)))
+    by_test false is = refl
+
+-- a copy that makes a fit desk has its place alone
+pub copy-welcome : (k : Facts) (d : Desk) (c : ℕ) (s : CopyState) → c < k.copies → IsFit k (put d (CopyCell c) (CopyHas s)) → IsWelcome k d.copy c s
+copy-welcome k d c (Shelf b) below fit = tt
+copy-welcome k d c (OnLoan l) below fit = tt
+copy-welcome k d c (InTransit t) below fit = tt
+copy-welcome k d c (OnHoldShelf s) below fit = record {
+  from_one = fit.places.from_one c s (here c (OnHoldShelf s) (d.copy c));
+  alone = λ x in_x other. by_test x in_x other (stands_at s.branch s.place (d.copy x)) refl;
+}
+  where
+    by_test : (x : ℕ) → x < k.copies → x ≢ c → (b : Bool) → stands_at s.branch s.place (d.copy x) ≡ b → b ≡ false
+    by_test x in_x other false is = refl
+    by_test x in_x other true is =
+        let r : (r : HoldPlace) × (d.copy x ≡ OnHoldShelf r) × (s.branch ≡ r.branch) × (s.place ≡ r.place) = at-place s.branch s.place (d.copy x) is in
+        let same : c ≡ x = fit.places.apart c x s r.0 below in_x (here c (OnHoldShelf s) (d.copy c)) (there c x (OnHoldShelf s) (d.copy x) (not-same c x other) ∙ r.1) r.2 r.3 in
+        absurd (other (sym same))
+
+hold-here : (t p : ℕ) (o v : Option Hold) → cond ((t == t) && (p == p)) o v ≡ o
+hold-here t p o v = rw (eq-eqb t t refl, eq-eqb p p refl) refl
+
+hold-there : (t p q : ℕ) (o v : Option Hold) → (p == q) ≡ false → cond ((t == t) && (p == q)) o v ≡ v
+hold-there t p q o v other = rw (eq-eqb t t refl, other) refl
+
+-- a hold that makes a fit desk is its patron's own, and its stamp is no other's
+pub hold-welcome : (k : Facts) (d : Desk) (t p : ℕ) (o : Option Hold) → IsFit k (put d (HoldCell t p) (HoldHas o)) → IsWelcomeHold d.hold t p o
+hold-welcome k d t p None fit = tt
+hold-welcome k d t p (Some h) fit = (fit.named t p h (hold-here t p (Some h) (d.hold t p)), λ q g has same. by_test q g has same (p == q) refl)
+  where
+    by_test : (q : ℕ) (g : Hold) → d.hold t q ≡ Some g → g.stamp ≡ h.stamp → (b : Bool) → (p == q) ≡ b → q ≡ p
+    by_test q g has same true is = sym (number_is p q is)
+    by_test q g has same false is =
+        fit.stamps t q p g h (hold-there t p q (Some h) (d.hold t q) is ∙ has) (hold-here t p (Some h) (d.hold t p)) same
+
+-- a place that makes a fit desk counts from 1
+from-one : (k : Facts) (d : Desk) (cell : Cell) (v : Value) → Fits cell v → IsFit k (put d cell v) → IsFromOneValue v
+from-one k d (CopyCell c) (CopyHas (OnHoldShelf s)) kind fit = fit.places.from_one c s (here c (OnHoldShelf s) (d.copy c))
+from-one k d (CopyCell c) (CopyHas (Shelf b)) kind fit = tt
+from-one k d (CopyCell c) (CopyHas (OnLoan l)) kind fit = tt
+from-one k d (CopyCell c) (CopyHas (InTransit t)) kind fit = tt
+from-one k d (CopyCell c) (HoldHas o) kind fit = absurd kind
+from-one k d (HoldCell t p) (CopyHas s) kind fit = absurd kind
+from-one k d (HoldCell t p) (HoldHas o) kind fit = tt
+
+-- changes that name things of the catalogue and lead through fit desks can be made
+pub are-known : (k : Facts) (d : Desk) (cs : List Change) → AreChanges cs → ((c : Change) → IsAmong c cs → IsKnownCell k c.cell × IsKnownValue k c.new) → EachOnIsFit k cs d → AreKnown k cs
+are-known k d [] are known fit = tt
+are-known k d (c ∷ cs) are known fit =
+    let first : IsKnownCell k c.cell × IsKnownValue k c.new = known c (inl refl) in
+    (first.0, first.1, are.1, from-one k d c.cell c.new are.1 fit.0, are-known k (put d c.cell c.new) cs are.3 (λ x among. known x (inr among)) fit.1)
+
+-- what stands at an index
+drop_from : (cs : List Change) (i : ℕ) (c : Change) → i < length cs → drop i cs ≡ get_or cs i c ∷ drop (i + 1) cs
+drop_from cs i c below = rw (add-one, drop-cons cs i c below) refl
+
+pub drop_at : (cs : List Change) (i : ℕ) (c : Change) → i < length cs → c ≡ get_or cs i c → drop i cs ≡ c ∷ drop (i + 1) cs
+drop_at cs i c below is = drop_from cs i c below ∙ ap (λ (x : Change). x ∷ drop (i + 1) cs) (sym is)

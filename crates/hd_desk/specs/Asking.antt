@@ -1,0 +1,53 @@
+-- How a plan is followed at a desk, question by question.
+use Rattle.std.specs.Prelude.{◌≡◌, ℕ, ◌<◌, Bool, true, false, if◌then◌else◌, Option, None, Some, Result, Ok, Err, List, [], ◌∷◌, ◌++◌, map}
+use Rattle.hd_rules.specs.declared.questions.Question.{Question}
+use Rattle.hd_rules.specs.declared.holds.Hold.{Hold}
+use Rattle.hd_rules.specs.declared.questions.Finding.{Finding}
+use Rattle.hd_rules.specs.declared.cells.Change.{Change}
+use Rattle.hd_rules.specs.declared.replies.Refusal.{Refusal}
+use Rattle.hd_rules.specs.Facts.{Facts}
+use Rattle.hd_rules.specs.Desk.{Desk}
+use Rattle.hd_rules.specs.Ask.{Plan, Ask, Refuse, Accept, Done, answer, told}
+use Rattle.hd_rules.specs.Known.{IsKnownQuestion}
+use Rattle.hd_rules.specs.Same.{same_answer}
+use Rattle.hd_queue.specs.Holds.{hold_of}
+use Rattle.hd_desk.specs.DeskValue.{DeskValue}
+use Rattle.hd_desk.specs.Desks.{facts, desk_of}
+
+-- a desk, and what it was asked
+pub record InquiryValue : Type 0 where
+  pub desk : DeskValue
+  pub asked : List Question
+
+-- the questions of findings
+abbrev pub asked_of : List Finding → List Question
+asked_of fs = map (λ (f : Finding). f.question) fs
+
+-- where a plan leads at a desk: how it ends, and all that was asked until then, that before it included
+abbrev pub ending : Facts → Desk → Plan → List Question → Result Done Refusal × List Question
+ending k d (Ask q rest) asked = ending k d (rest (answer k d q)) (asked ++ q ∷ [])
+ending k d (Refuse r) asked = (Err r, asked)
+ending k d (Accept done) asked = (Ok done, asked)
+
+-- where it leads from here
+abbrev pub ending_of : InquiryValue → Plan → Result Done Refusal × List Question
+ending_of q plan = ending (facts q.desk) (desk_of q.desk) plan q.asked
+
+-- a change, or none, as a list
+abbrev pub listed : Option Change → List Change
+listed None = []
+listed (Some change) = change ∷ []
+
+-- questions about things of the catalogue
+abbrev pub AreKnownQuestions : Facts → List Question → Type 0
+AreKnownQuestions k [] = Unit {0}
+AreKnownQuestions k (q ∷ qs) = IsKnownQuestion k q × AreKnownQuestions k qs
+
+-- one of the questions has another answer at the second desk
+abbrev pub some_otherwise : Facts → Desk → Desk → List Question → Bool
+some_otherwise k d e [] = false
+some_otherwise k d e (q ∷ qs) = if same_answer (told k d q) (told k e q) then some_otherwise k d e qs else true
+
+-- the holds of a title at a desk, in order of stamp
+pub record IsQueueOf (k : Facts) (d : Desk) (t : ℕ) (holds : List Hold) : Type 0 where
+  pub each : (p : ℕ) → d.hold t p ≡ hold_of holds p

@@ -1,0 +1,16 @@
+-- What an accepted command did, said and found.
+use Rattle.std.specs.Prelude.{List}
+use Rattle.hd_rules.specs.declared.cells.Change.{Change}
+use Rattle.hd_rules.specs.declared.questions.Finding.{Finding}
+use Rattle.hd_rules.specs.declared.replies.Reply.{Reply}
+use Rattle.hd_rules.specs.Ask.{Done}
+
+-- its changes and its reply, and the questions that it asked with their noted answers
+pub record DoneValue : Type 0 where
+  pub changes : List Change
+  pub reply : Reply
+  pub findings : List Finding
+
+-- what it did and said
+abbrev pub done_of : DoneValue → Done
+done_of done = record { changes = done.changes; reply = done.reply }

@@ -1,0 +1,178 @@
+//! Commands.
+#![tactic(auto)]
+
+ghost use Rattle.std.specs.Prelude.{◌≡◌, ◌+◌, Bool, IfOk, OnErr, [], length};
+ghost use Rattle.hd_rules.specs.Ask.{asks};
+ghost use Rattle.hd_rules.specs.Depends.{answered_otherwise};
+ghost use Rattle.hd_rules.specs.Desk.{after};
+ghost use Rattle.hd_rules.specs.Known.{IsKnownAction};
+ghost use Rattle.hd_rules.specs.Record.{findings};
+ghost use Rattle.hd_rules.specs.Sound.{Sound};
+ghost use Rattle.hd_rules.specs.Step.{plan};
+ghost use Rattle.hd_footprint.specs.Meter.{add};
+ghost use Rattle.hd_footprint.specs.declared.count.Count.TheVariants.{Step};
+ghost use Rattle.hd_desk.specs.Asking.{AreKnownQuestions, asked_of, ending_of, some_otherwise};
+ghost use Rattle.hd_desk.specs.Cells.{written};
+ghost use Rattle.hd_desk.specs.Desks.{contents, desk_of, facts, outcome_at};
+ghost use Rattle.hd_desk.specs.Telling.{IsTold};
+
+use crate::accepted::Accepted;
+use crate::answering::are_different;
+use crate::desk::Desk;
+use crate::done::Done;
+use crate::holding::Wishes;
+use crate::inquiry::Inquiry;
+use crate::lending::Lending;
+use crate::refused::Refused;
+use hd_footprint::{Count, Meter};
+use hd_rules::{Action, Command, Finding, Hold, Refusal};
+use std::alloc::Allocator;
+
+impl<A: Allocator + Copy> Desk<A> {
+    /// Does a command. Its number is above every stamp of the desk, and what it names is of the desk's catalogue.
+    ///
+    /// Want of memory comes after every refusal, and neither changes anything but the meter. That counts one command step,
+    /// and one cell written per change.
+    pub fn apply(
+        &mut self,
+        number: u64,
+        command: &Command,
+        meter: &mut Meter,
+    ) -> Result<Done, Refused>
+        requires known { IsKnownAction (facts self.old) command.now.action }
+        requires sound { Sound (facts self.old) number (desk_of self.old) }
+        ensures outcome { IsTold (outcome_at self.old number command.now) result }
+        ensures findings { IfOk result (λ done. done.findings ≡ findings (facts self.old) (desk_of self.old) (asks (facts self.old) (desk_of self.old) (plan (facts self.old) number command.now))) }
+        ensures after { IfOk result (λ done. desk_of self.new ≡ after done.changes (desk_of self.old)) }
+        ensures unchanged { OnErr result (desk_of self.new ≡ desk_of self.old) }
+        ensures contents { contents self.new ≡ contents self.old }
+        ensures sound { Sound (facts self.new) (number + 1) (desk_of self.new) }
+        ensures step { OnErr result (meter.new ≡ add meter.old Step) }
+        ensures written { IfOk result (λ done. meter.new ≡ written (length done.changes) (add meter.old Step)) }
+    {
+        self.desk_is_fit();
+        self.facts_are_in_range();
+        meter.add(Count::Step);
+        let mut inquiry = Inquiry::new(self);
+        let accepted = match inquiry.follow(number, command) {
+            Ok(accepted) => accepted,
+            Err(refusal) => return Err(Refused::Rule(refusal)),
+        };
+        let findings = inquiry.into_findings();
+        let Accepted { changes, reply } = accepted;
+        if self.ready(changes.changes()).is_err() {
+            return Err(Refused::Memory);
+        }
+        self.make(changes.changes(), meter);
+        Ok(Done {
+            reply,
+            changes,
+            findings,
+        })
+    }
+
+    /// Whether some question of the command has another answer at the other desk of this catalogue. It takes no memory.
+    pub fn is_answered_otherwise(&self, other: &Desk<A>, number: u64, command: &Command) -> bool
+        requires known { IsKnownAction (facts self.now) command.now.action }
+        requires catalogue { contents self.now ≡ contents other.now }
+        ensures { result ≡ answered_otherwise (facts self.now) (desk_of self.now) (desk_of other.now) (plan (facts self.now) number command.now) }
+    {
+        let mut inquiry = Inquiry::new(self);
+        let _ = inquiry.follow(number, command);
+        let findings = inquiry.into_findings();
+        self.is_other(other, findings.findings())
+    }
+
+    /// Whether some question has another answer at the other desk.
+    fn is_other(&self, other: &Desk<A>, findings: &[Finding]) -> bool
+        requires known { AreKnownQuestions (facts self.now) (asked_of findings.now) }
+        requires catalogue { contents self.now ≡ contents other.now }
+        ensures { result ≡ some_otherwise (facts self.now) (desk_of self.now) (desk_of other.now) (asked_of findings.now) }
+    {
+        for finding in findings {
+            let here = self.answer(&finding.question);
+            let there = other.answer(&finding.question);
+            if are_different(&here, &there) {
+                return true;
+            }
+        }
+        false
+    }
+}
+
+impl<'a, A: Allocator + Copy> Inquiry<'a, A> {
+    /// Follows the command, question by question, to its end. Nothing was asked before.
+    pub(crate) fn follow(&mut self, number: u64, command: &Command) -> Result<Accepted, Refusal>
+        requires known { IsKnownAction (facts self.old.desk) command.now.action }
+        requires none { self.old.asked ≡ [] }
+        ensures desk { self.new.desk ≡ self.old.desk }
+        ensures ends { (result, self.new.asked) ≡ ending_of self.old (plan (facts self.old.desk) number command.now) }
+    {
+        let day = command.day;
+        match command.action {
+            Action::Checkout {
+                patron,
+                copy,
+                may_renew,
+            } => {
+                let message = Lending {
+                    number,
+                    patron,
+                    copy,
+                    day,
+                };
+                let old = self.copy(copy);
+                self.checkout(&message, may_renew, &old)
+            }
+            Action::OffLine { patron, copy, due } => self.off_line(number, patron, copy, due),
+            Action::Checkin { copy, branch } => self.checkin(number, copy, branch, day),
+            Action::Add {
+                patron,
+                title,
+                kind,
+                pickup,
+                expiry,
+            } => {
+                let hold = Hold {
+                    patron,
+                    stamp: number,
+                    kind,
+                    pickup,
+                    expiry,
+                    copy: None,
+                };
+                let held = self.hold(title, patron);
+                self.add(title, &hold, day, &held)
+            }
+            Action::Delete { patron, title } => {
+                let held = self.hold(title, patron);
+                self.delete(number, title, patron, day, &held)
+            }
+            Action::ChangeHold {
+                patron,
+                title,
+                kind,
+                pickup,
+                expiry,
+            } => {
+                let wishes = Wishes {
+                    kind,
+                    pickup,
+                    expiry,
+                };
+                let held = self.hold(title, patron);
+                self.change(number, title, patron, &wishes, day, &held)
+            }
+            Action::Renew { patron, copy } => {
+                let message = Lending {
+                    number,
+                    patron,
+                    copy,
+                    day,
+                };
+                let old = self.copy(copy);
+                self.renew(&message, &old)
+            }
+        }
+    }
+}

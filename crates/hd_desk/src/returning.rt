@@ -1,0 +1,42 @@
+//! Returns (docs/desk-rules.md, "Checkin").
+#![tactic(auto)]
+
+ghost use Rattle.std.specs.Prelude.{◌≡◌, ◌<◌, ◌≤◌, length};
+ghost use Rattle.hd_rules.specs.Step.{checkin};
+ghost use Rattle.hd_desk.specs.Asking.{ending_of};
+ghost use Rattle.hd_desk.specs.Desks.{facts};
+
+use crate::accepted::{Accepted, copy_becomes};
+use crate::inquiry::Inquiry;
+use hd_rules::{BranchNo, CopyNo, Day, Refusal, Reply};
+use std::alloc::Allocator;
+
+impl<'a, A: Allocator + Copy> Inquiry<'a, A> {
+    /// A return of the copy at the branch: a loan of it ends, and the copy is settled there.
+    pub(crate) fn checkin(
+        &mut self,
+        number: u64,
+        copy: CopyNo,
+        branch: BranchNo,
+        day: Day,
+    ) -> Result<Accepted, Refusal>
+        requires copy { copy < (facts self.old.desk).copies }
+        requires branch { branch < (facts self.old.desk).branches }
+        requires few { length self.old.asked ≤ 0 }
+        ensures desk { self.new.desk ≡ self.old.desk }
+        ensures ends { (result, self.new.asked) ≡ ending_of self.old (checkin (facts self.old.desk) number copy branch day) }
+    {
+        let old = self.copy(copy);
+        let settled = self.settle(copy, branch, day, &old);
+        let reply = Reply::Returned {
+            title: self.desk.title_of(copy),
+            home: self.desk.home(copy),
+            now: settled.state,
+        };
+        let moved = copy_becomes(copy, &old, &settled.state);
+        match settled.gets {
+            Some(gets) => self.accept(number, &[moved, gets], reply),
+            None => self.accept(number, &[moved], reply),
+        }
+    }
+}

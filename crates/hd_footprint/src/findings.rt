@@ -1,0 +1,71 @@
+//! What one command asked and found.
+ghost use Rattle.std.specs.Prelude.{◌≡◌, ◌<◌, ◌≤◌, [], ◌∷◌, ◌++◌, length};
+
+use hd_rules::Finding;
+use smallvec::SmallVec;
+use std::alloc::Global;
+use std::marker::Model;
+
+/// The questions that one command asks with their noted answers, in order: at most four (docs/desk-rules.md). They stand in
+/// the value itself, and no call takes memory.
+#[derive(Drop, Debug)]
+pub struct Findings {
+    findings: SmallVec<Finding, 4>,
+}
+
+impl Model for Findings {
+    ghost use Rattle.std.specs.Prelude.{List, ◌≡◌, ◌≤◌, length};
+    ghost use Rattle.hd_rules.specs.declared.questions.Finding.{Finding};
+
+    ghost Value = { List Finding };
+
+    ghost view = { λ f. f.findings.items };
+
+    ghost invariant = { λ f. (f.findings.capacity ≡ 4) × (length f.findings.items ≤ 4) };
+}
+
+impl Findings {
+    /// No questions.
+    pub fn new(alloc: Global) -> Findings
+        ensures { result ≡ [] }
+    {
+        Findings {
+            findings: SmallVec::new(alloc),
+        }
+    }
+
+    /// Puts one more question with its noted answer behind the others.
+    pub fn push(&mut self, finding: Finding)
+        requires { length self.old < 4 }
+        ensures { self.new ≡ self.old ++ finding ∷ [] }
+    {
+        let Finding { question, noted } = finding;
+        self.findings.push_reserved(Finding { question, noted });
+    }
+
+    /// The questions with their noted answers, in order.
+    pub fn findings(&self) -> &[Finding]
+        ensures findings { result.now ≡ self.now }
+        ensures few { length self.now ≤ 4 }
+    {
+        self.findings.as_slice()
+    }
+
+    /// How many questions there are.
+    pub fn len(&self) -> usize
+        ensures count { result ≡ length self.now }
+        ensures few { result ≤ 4 }
+    {
+        self.findings.len()
+    }
+
+    /// The same questions and noted answers once more.
+    pub fn copied(&self) -> Findings
+        ensures { result ≡ self.now }
+    {
+        let copy = SmallVec::from_slice(*self.findings.allocator(), self.findings());
+        Findings {
+            findings: copy.unwrap(),
+        }
+    }
+}

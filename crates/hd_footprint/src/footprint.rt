@@ -1,0 +1,71 @@
+//! The changes of one command.
+ghost use Rattle.std.specs.Prelude.{◌≡◌, ◌<◌, ◌≤◌, [], ◌∷◌, ◌++◌, length};
+
+use hd_rules::Change;
+use smallvec::SmallVec;
+use std::alloc::Global;
+use std::marker::Model;
+
+/// The changes that one command makes, in order: at most four (docs/desk-rules.md). They stand in the value itself, and no
+/// call takes memory.
+#[derive(Drop, Debug)]
+pub struct Footprint {
+    changes: SmallVec<Change, 4>,
+}
+
+impl Model for Footprint {
+    ghost use Rattle.std.specs.Prelude.{List, ◌≡◌, ◌≤◌, length};
+    ghost use Rattle.hd_rules.specs.declared.cells.Change.{Change};
+
+    ghost Value = { List Change };
+
+    ghost view = { λ f. f.changes.items };
+
+    ghost invariant = { λ f. (f.changes.capacity ≡ 4) × (length f.changes.items ≤ 4) };
+}
+
+impl Footprint {
+    /// No changes.
+    pub fn new(alloc: Global) -> Footprint
+        ensures { result ≡ [] }
+    {
+        Footprint {
+            changes: SmallVec::new(alloc),
+        }
+    }
+
+    /// Puts one more change behind the others.
+    pub fn push(&mut self, change: Change)
+        requires { length self.old < 4 }
+        ensures { self.new ≡ self.old ++ change ∷ [] }
+    {
+        let Change { cell, old, new } = change;
+        self.changes.push_reserved(Change { cell, old, new });
+    }
+
+    /// The changes, in order.
+    pub fn changes(&self) -> &[Change]
+        ensures changes { result.now ≡ self.now }
+        ensures few { length self.now ≤ 4 }
+    {
+        self.changes.as_slice()
+    }
+
+    /// How many changes there are.
+    pub fn len(&self) -> usize
+        ensures count { result ≡ length self.now }
+        ensures few { result ≤ 4 }
+    {
+        self.changes.len()
+    }
+
+    /// The same changes once more.
+    pub fn copied(&self) -> Footprint
+        ensures { result ≡ self.now }
+    {
+        let copy = SmallVec::from_slice(*self.changes.allocator(), self.changes());
+        Footprint {
+            changes: copy.unwrap(),
+        }
+    }
+}

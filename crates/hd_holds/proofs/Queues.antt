@@ -1,0 +1,173 @@
+-- The queues of all titles.
+use Rattle.std.proofs.Common.{◌≡◌, ℕ, ◌+◌, ◌<◌, ◌≤◌, ◌==◌, ◌&&◌, Bool, true, false, cond, List, [], ◌∷◌, ◌++◌, Option, None, Some, is_some, refl, ap, sym, ◌∙◌, inl, inr, arith, length, zero, suc, eq-eqb, get_or}
+use Rattle.std.proofs.Math.ListN.{set}
+use Rattle.std.proofs.lemmas.Grind.{common_steps}
+use Rattle.std.proofs.lemmas.Bool.{cases_Bool, eqb-true}
+use Rattle.std.proofs.lemmas.List.{get_or-set_same, get_or-set_other, get_or_read, length-set}
+use Rattle.hd_rules.specs.declared.holds.Hold.{Hold}
+use Rattle.hd_rules.specs.Facts.{Facts}
+use Rattle.hd_rules.specs.Desk.{Desk}
+use Rattle.hd_rules.specs.Known.{IsKnownHeld}
+use Rattle.hd_rules.specs.Sound.{AreNamed, StampsApart}
+use Rattle.hd_rules.specs.Choose.{count_below, is_before, position}
+use Rattle.hd_queue.specs.Holds.{HasNoStamp, count_before, hold_of, without}
+use Rattle.hd_queue.specs.QueueValue.{QueueValue}
+use Rattle.hd_holds.specs.HoldsValue.{HoldsValue}
+use Rattle.hd_holds.specs.Held.{AreQueues, IsQueue, IsWelcome, facts, held, no_queue, queue_of, with_held}
+use Rattle.hd_holds.proofs.Counts.{count-all, count-holds, count-le}
+use Rattle.hd_holds.proofs.Lists.{hold-named, hold_of-with_held, known-held, known-patrons, no_stamp-without, queue-with_held, stamps-apart}
+
+-- each of the queues is empty
+abbrev pub AreEmpty : List QueueValue → Type 0
+AreEmpty [] = Unit {0}
+AreEmpty (q ∷ qs) = (q.holds ≡ []) × AreEmpty qs
+
+pub empty-more : (qs : List QueueValue) (q : QueueValue) → q.holds ≡ [] → AreEmpty qs → AreEmpty (qs ++ q ∷ [])
+empty-more [] q e all = (e, tt)
+empty-more (x ∷ qs) q e all = (all.0, empty-more qs q e all.1)
+
+empty-queue : (qs : List QueueValue) → AreEmpty qs → (t : ℕ) → (queue_of qs t).holds ≡ []
+empty-queue [] all t = grind (arith, common_steps)
+empty-queue (q ∷ qs) all zero = all.0
+empty-queue (q ∷ qs) all (suc t) = empty-queue qs all.1 t
+
+queue-empty : (k : Facts) (hs : List Hold) → hs ≡ [] → IsQueue k hs
+queue-empty k hs e = rw e record { ordered = tt; once = tt; known = tt }
+
+pub queues-empty : (k : Facts) (qs : List QueueValue) → AreEmpty qs → length qs ≡ k.titles → AreQueues k qs
+queues-empty k qs all many = record { titles = many; queue = λ t. queue-empty k _ (empty-queue qs all t) }
+
+pub held-empty : (v : HoldsValue) → AreEmpty v.queues → held v ≡ (λ t p. None)
+unfolding held
+held-empty v all = λ i t p. hold_of (empty-queue v.queues all t i) p
+
+-- the queues after one of them is written
+pub queue_of-set : (qs : List QueueValue) (i : ℕ) (q : QueueValue) (t : ℕ) → i < length qs → queue_of (set qs i q) t ≡ cond (i == t) q (queue_of qs t)
+queue_of-set qs i q t l = elim (cases_Bool (i == t)) [
+  | inl b ↦ (let e : i ≡ t = eqb-true i t b in rw b (ap (queue_of (set qs i q)) (sym e) ∙ get_or-set_same qs i q _ l))
+  | inr b ↦ rw b (get_or-set_other qs i t q _ (λ e. let s : (i == t) ≡ true = eq-eqb i t (sym e) in cc))
+]
+
+pub queues-set : (k : Facts) (qs : List QueueValue) (i : ℕ) (q : QueueValue) → i < length qs → AreQueues k qs → IsQueue k q.holds → AreQueues k (set qs i q)
+queues-set k qs i q l all is = record {
+  titles = length-set qs i q ∙ all.titles;
+  queue = λ t. rw (queue_of-set qs i q t l) (one (i == t) t);
+}
+  where
+    one : (b : Bool) (t : ℕ) → IsQueue k (cond b q (queue_of qs t)).holds
+    one true t = is
+    one false t = all.queue t
+
+-- what is held after a queue is written that has a patron's hold otherwise, and is otherwise the title's
+pub held-set : (v e : HoldsValue) (i : ℕ) (q : QueueValue) (p : ℕ) (o : Option Hold) → e.queues ≡ set v.queues i q → i < length v.queues → ((n : ℕ) → hold_of q.holds n ≡ cond (p == n) o (held v i n)) → held e ≡ (λ t n. cond ((i == t) && (p == n)) o (held v t n))
+unfolding held
+held-set v e i q p o queues l holds = λ j t n. all t n j
+  where
+    one : (b : Bool) (t n : ℕ) → (i == t) ≡ b → hold_of (cond b q (queue_of v.queues t)).holds n ≡ cond (b && (p == n)) o (hold_of (queue_of v.queues t).holds n)
+    one true t n is = holds n ∙ ap (λ (u : ℕ). cond (p == n) o (hold_of (queue_of v.queues u).holds n)) (eqb-true i t is)
+    one false t n is = refl
+
+    all : (t n : ℕ) → hold_of (queue_of e.queues t).holds n ≡ cond ((i == t) && (p == n)) o (hold_of (queue_of v.queues t).holds n)
+    all t n = ap (λ (qs : List QueueValue). hold_of (queue_of qs t).holds n) queues
+        ∙ ap (λ (r : QueueValue). hold_of r.holds n) (queue_of-set v.queues i q t l) ∙ one (i == t) t n refl
+
+-- the holds are as they were
+pub held-same : (v e : HoldsValue) (i : ℕ) (q : QueueValue) → e.queues ≡ set v.queues i q → i < length v.queues → q.holds ≡ (queue_of v.queues i).holds → held e ≡ held v
+unfolding held
+held-same v e i q queues l holds = λ j t n. hold_of (all t j) n
+  where
+    one : (b : Bool) (t : ℕ) → (i == t) ≡ b → (cond b q (queue_of v.queues t)).holds ≡ (queue_of v.queues t).holds
+    one true t is = holds ∙ ap (λ (u : ℕ). (queue_of v.queues u).holds) (eqb-true i t is)
+    one false t is = refl
+
+    all : (t : ℕ) → (queue_of e.queues t).holds ≡ (queue_of v.queues t).holds
+    all t = ap (λ (qs : List QueueValue). (queue_of qs t).holds) queues
+        ∙ ap (λ (r : QueueValue). r.holds) (queue_of-set v.queues i q t l) ∙ one (i == t) t refl
+
+-- a welcome hold is the patron's own, and its stamp is not in the title's queue beside the patron's
+welcome-own : (v : HoldsValue) (t p : ℕ) (o : Option Hold) → IsWelcome (held v) t p o → (h : Hold) → o ≡ Some h → h.patron ≡ p
+welcome-own v t p None fit h is = cc
+welcome-own v t p (Some x) fit h is = let same : x ≡ h = cc in ap (λ (y : Hold). y.patron) (sym same) ∙ fit.0
+
+welcome-stamp : (v : HoldsValue) (t p : ℕ) (o : Option Hold) → IsQueue (facts v) (queue_of v.queues t).holds → IsWelcome (held v) t p o → (h : Hold) → o ≡ Some h → HasNoStamp h.stamp (without (queue_of v.queues t).holds p)
+unfolding held
+welcome-stamp v t p None is fit h e = cc
+welcome-stamp v t p (Some x) is fit h e =
+    let same : x ≡ h = cc in
+    rw (← same) (no_stamp-without x.stamp (queue_of v.queues t).holds p is.once fit.1)
+
+-- the answers from a queue
+pub position-queue : (v : HoldsValue) (t stamp : ℕ) → IsQueue (facts v) (queue_of v.queues t).holds → (d : Desk) → d.hold ≡ held v → count_before (queue_of v.queues t).holds stamp + 1 ≡ position (facts v) d t stamp
+unfolding held
+position-queue v t stamp is d same =
+    sym (ap (λ (n : ℕ). n + 1) (ap (λ (h : ℕ → ℕ → Option Hold). count_below (λ n. is_before stamp (h t n)) (facts v).patrons) same
+    ∙ count-holds (is_before stamp) refl (queue_of v.queues t).holds (facts v).patrons is.once (known-patrons (facts v) (queue_of v.queues t).holds is.known)))
+
+pub count-queue : (v : HoldsValue) (t : ℕ) → IsQueue (facts v) (queue_of v.queues t).holds → length (queue_of v.queues t).holds ≡ count_below (λ p. is_some (held v t p)) (facts v).patrons
+unfolding held
+count-queue v t is = sym (count-holds is_some refl (queue_of v.queues t).holds (facts v).patrons is.once (known-patrons (facts v) (queue_of v.queues t).holds is.known) ∙ count-all (queue_of v.queues t).holds)
+
+pub few-holds : (v : HoldsValue) (t : ℕ) → IsQueue (facts v) (queue_of v.queues t).holds → length (queue_of v.queues t).holds ≤ (facts v).patrons
+few-holds v t is = rw (count-queue v t is) (count-le (λ p. is_some (held v t p)) (facts v).patrons)
+
+-- the queue of a title as the code reads it, of holds v that are w
+pub record Reads (v w : HoldsValue) (i t : ℕ) (q : QueueValue) : Type 0 where
+  pub same : v ≡ w
+  pub index : i ≡ t
+  pub within : t < (facts w).titles
+  pub read : q ≡ get_or v.queues i q
+  pub all : AreQueues (facts v) v.queues
+
+-- the holds with another queue of a title
+abbrev pub written : HoldsValue → ℕ → QueueValue → HoldsValue
+written v i r = record { contents = v.contents; queues = set v.queues i r }
+
+reads-within : (v w : HoldsValue) (i t : ℕ) (q : QueueValue) → Reads v w i t q → i < length v.queues
+reads-within v w i t q reads = rw (reads.index, reads.all.titles, reads.same) reads.within
+
+reads-queue : (v w : HoldsValue) (i t : ℕ) (q : QueueValue) → Reads v w i t q → q ≡ queue_of v.queues i
+reads-queue v w i t q reads = get_or_read v.queues i q (reads-within v w i t q reads) reads.read no_queue
+
+-- more room alone
+pub held-ready : (v w : HoldsValue) (i t : ℕ) (q r : QueueValue) → Reads v w i t q → r.holds ≡ q.holds → held (written v i r) ≡ held w
+held-ready v w i t q r reads holds =
+    held-same v (written v i r) i r refl (reads-within v w i t q reads) (holds ∙ ap (λ (x : QueueValue). x.holds) (reads-queue v w i t q reads))
+    ∙ ap held reads.same
+
+-- a patron's hold becomes another, or none
+welcome-read : (v w : HoldsValue) (i t : ℕ) (q : QueueValue) (p : ℕ) (o : Option Hold) → Reads v w i t q → IsWelcome (held w) t p o → IsWelcome (held v) i p o
+welcome-read v w i t q p o reads fit = rw (reads.same, reads.index) fit
+
+pub stamp-put : (v w : HoldsValue) (i t : ℕ) (q : QueueValue) (p : ℕ) (o : Option Hold) → Reads v w i t q → IsWelcome (held w) t p o → (h : Hold) → o ≡ Some h → HasNoStamp h.stamp (without q.holds p)
+stamp-put v w i t q p o reads fit =
+    rw (reads-queue v w i t q reads) (welcome-stamp v i p o (reads.all.queue i) (welcome-read v w i t q p o reads fit))
+
+pub queues-put : (v w : HoldsValue) (i t : ℕ) (q r : QueueValue) (p : ℕ) (o : Option Hold) → Reads v w i t q → IsWelcome (held w) t p o → IsKnownHeld (facts w) o → r.holds ≡ with_held q.holds p o → AreQueues (facts v) (set v.queues i r)
+queues-put v w i t q r p o reads fit known holds =
+    let is : IsQueue (facts v) q.holds = rw (reads-queue v w i t q reads) (reads.all.queue i) in
+    let own : (h : Hold) → o ≡ Some h → h.patron ≡ p = welcome-own v i p o (welcome-read v w i t q p o reads fit) in
+    queues-set (facts v) v.queues i r (reads-within v w i t q reads) reads.all
+    (rw holds (queue-with_held (facts v) q.holds p o is (rw reads.same known) own (stamp-put v w i t q p o reads fit)))
+
+pub held-put : (v w : HoldsValue) (i t : ℕ) (q r : QueueValue) (p : ℕ) (o : Option Hold) → Reads v w i t q → IsWelcome (held w) t p o → r.holds ≡ with_held q.holds p o → held (written v i r) ≡ (λ u n. cond ((t == u) && (p == n)) o (held w u n))
+unfolding held
+held-put v w i t q r p o reads fit holds =
+    let own : (h : Hold) → o ≡ Some h → h.patron ≡ p = welcome-own v i p o (welcome-read v w i t q p o reads fit) in
+    let each : (n : ℕ) → hold_of r.holds n ≡ cond (p == n) o (held v i n) = λ n.
+    ap (λ (hs : List Hold). hold_of hs n) (holds ∙ ap (λ (x : QueueValue). with_held x.holds p o) (reads-queue v w i t q reads))
+    ∙ hold_of-with_held (queue_of v.queues i).holds p n o own in
+    held-set v (written v i r) i r p o refl (reads-within v w i t q reads) each
+    ∙ (λ j u n. cond ((reads.index j == u) && (p == n)) o (held (reads.same j) u n))
+
+-- holds of queues are fit
+pub held-named : (v : HoldsValue) → AreNamed (held v)
+unfolding held
+held-named v = λ t p h is. hold-named (queue_of v.queues t).holds p h is
+
+pub held-apart : (v : HoldsValue) → AreQueues (facts v) v.queues → StampsApart (held v)
+unfolding held
+held-apart v all = λ t p q g h one two same. stamps-apart (queue_of v.queues t).holds (all.queue t).ordered p q g h one two same
+
+pub held-known : (v : HoldsValue) → AreQueues (facts v) v.queues → (t p : ℕ) → IsKnownHeld (facts v) (held v t p)
+unfolding held
+held-known v all t p = known-held (facts v) (queue_of v.queues t).holds p (all.queue t).known

@@ -1,0 +1,2 @@
+pub mod HoldsValue
+pub mod Held

@@ -1,0 +1,145 @@
+//! The holds of a queue, lent, and going over those that wait.
+ghost use Rattle.std.specs.Prelude.{◌≡◌, filter, length};
+ghost use Rattle.std.specs.Option.{option_copied};
+ghost use Rattle.std.specs.Iterator.{YieldsFirstRef, item_count};
+ghost use Rattle.hd_queue.specs.Holds.{HasPatronsOnce, IsInOrder, hold_of};
+ghost use Rattle.hd_queue.specs.Waiting.{AreWaiting, waits_at, waits_for, waits_for_any};
+ghost use Rattle.hd_queue.specs.Wanted.{is_wanted};
+
+use crate::lent::HoldSlices;
+use crate::wanted::Wanted;
+use hd_rules::{BranchNo, CopyNo, Hold, PatronNo};
+use std::marker::Model;
+
+/// The holds of one title, lent, in order of stamp. Its calls take no memory.
+#[derive(Drop)]
+pub struct QueueView<'a> {
+    holds: HoldSlices<'a>,
+    for_any: HoldSlices<'a>,
+    for_one: HoldSlices<'a>,
+    at_branch: HoldSlices<'a>,
+}
+
+impl<'a> Model for QueueView<'a> {
+    ghost use Rattle.std.specs.Prelude.{List};
+    ghost use Rattle.hd_rules.specs.declared.holds.Hold.{Hold};
+    ghost use Rattle.hd_queue.specs.Holds.{HasPatronsOnce, IsInOrder};
+    ghost use Rattle.hd_queue.specs.Waiting.{AreWaiting};
+
+    ghost Value = { List Hold };
+
+    ghost view = { λ v. v.holds };
+
+    ghost invariant = { λ v. IsInOrder v.holds × HasPatronsOnce v.holds × AreWaiting v.holds v.for_any v.for_one v.at_branch };
+}
+
+impl<'a> QueueView<'a> {
+    /// The view of these lists.
+    pub(crate) fn new(
+        holds: HoldSlices<'a>,
+        for_any: HoldSlices<'a>,
+        for_one: HoldSlices<'a>,
+        at_branch: HoldSlices<'a>,
+    ) -> QueueView<'a>
+        requires ordered { IsInOrder holds }
+        requires once { HasPatronsOnce holds }
+        requires waiting { AreWaiting holds for_any for_one at_branch }
+        ensures { result ≡ holds.entry }
+    {
+        QueueView {
+            holds,
+            for_any,
+            for_one,
+            at_branch,
+        }
+    }
+
+    /// The holds that wait for any copy, in order of stamp.
+    pub fn any(&self) -> Waiting<'a>
+        ensures { result ≡ filter waits_for_any self.now }
+    {
+        Waiting::new(&self.for_any, Wanted::All)
+    }
+
+    /// The holds that wait for this copy alone, in order of stamp.
+    pub fn for_copy(&self, copy: CopyNo) -> Waiting<'a>
+        ensures { result ≡ filter (waits_for copy) self.now }
+    {
+        Waiting::new(&self.for_one, Wanted::Naming(copy))
+    }
+
+    /// The holds that wait for a copy whose home is this branch, their pickup, in order of stamp.
+    pub fn at_branch(&self, branch: BranchNo) -> Waiting<'a>
+        ensures { result ≡ filter (waits_at branch) self.now }
+    {
+        Waiting::new(&self.at_branch, Wanted::PickedUpAt(branch))
+    }
+
+    /// A patron's hold, or `None` where there is none.
+    pub fn hold_of(&self, patron: PatronNo) -> Option<&'a Hold>
+        ensures { option_copied result ≡ hold_of self.now patron }
+    {
+        self.holds.hold_of(patron)
+    }
+
+    /// How many holds there are.
+    pub fn len(&self) -> usize
+        ensures { result ≡ length self.now }
+    {
+        self.holds.len()
+    }
+
+    /// Shows that the stamps rise, and that no patron has two holds.
+    pub fn holds_are_in_order(&self)
+        ensures ordered { IsInOrder self.now }
+        ensures once { HasPatronsOnce self.now }
+    {
+        let _ = &self.holds;
+    }
+}
+
+/// Holds that wait, in order of stamp. It takes no memory.
+#[derive(Drop)]
+pub struct Waiting<'a> {
+    rest: HoldSlices<'a>,
+    wanted: Wanted,
+}
+
+impl<'a> Model for Waiting<'a> {
+    ghost use Rattle.std.specs.Prelude.{List, filter};
+    ghost use Rattle.hd_rules.specs.declared.holds.Hold.{Hold};
+    ghost use Rattle.hd_queue.specs.Wanted.{is_wanted};
+
+    ghost Value = { List Hold };
+
+    ghost view = { λ w. filter (is_wanted w.wanted) w.rest };
+}
+
+impl<'a> Waiting<'a> {
+    /// Those of the list that are wanted.
+    fn new(list: &HoldSlices<'a>, wanted: Wanted) -> Waiting<'a>
+        ensures { result ≡ filter (is_wanted wanted) list.now }
+    {
+        Waiting {
+            rest: list.again(),
+            wanted,
+        }
+    }
+}
+
+impl<'a> Iterator for Waiting<'a> {
+    type Item = &'a Hold;
+
+    ghost next_gives = { YieldsFirstRef (λ holds. holds) };
+
+    ghost remaining = { item_count (λ holds. holds) };
+
+    fn next(&mut self) -> Option<&'a Hold> {
+        while let Some(hold) = self.rest.next() {
+            if self.wanted.admits(hold) {
+                return Some(hold);
+            }
+        }
+        None
+    }
+}

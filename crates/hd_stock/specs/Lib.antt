@@ -1,0 +1,2 @@
+pub mod StockValue
+pub mod Counts
