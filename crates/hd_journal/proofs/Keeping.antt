@@ -1,20 +1,25 @@
 -- A journal goes on by one turn.
-use Rattle.std.proofs.Common.{arith, ◌≡◌, refl, sym, ◌∙◌, ap, subst, ℕ, ◌+◌, ◌≤◌, List, [], ◌∷◌, ◌++◌, length, length-append, Option, Some, None}
+use Rattle.std.proofs.Common.{arith, ◌≡◌, refl, sym, ◌∙◌, ap, subst, ℕ, ◌+◌, ◌≤◌, ◌⊎◌, inl, inr, List, [], ◌∷◌, ◌++◌, length, length-append, Option, Some, None}
 use Rattle.hd_rules.specs.declared.commands.Command.{Command}
 use Rattle.hd_rules.specs.declared.commands.Cancel.{Cancel}
 use Rattle.hd_rules.specs.declared.turns.Asked.TheVariants as ask
 use Rattle.hd_rules.specs.declared.replies.TurnReply.{TurnReply}
-use Rattle.hd_rules.specs.Facts.{Facts}
-use Rattle.hd_rules.specs.Turns.{Message, Kept, State, Answered, repeated_of, answered_unless, with_kept, turn_of, start}
+use Rattle.hd_rules.specs.declared.replies.TurnReply.TheVariants.{Item}
+use Rattle.hd_rules.specs.Facts.{Facts, AreInRange}
+use Rattle.hd_rules.specs.Known.{IsKnown}
+use Rattle.hd_rules.specs.Run.{IsAmong, run}
+use Rattle.hd_rules.specs.Turns.{Message, Kept, State, Answered, repeated_of, item_view, answered_unless, with_kept, turn_of, start}
 use Rattle.hd_rules.specs.Journal.{Turn, state_after}
 use Rattle.hd_rules.proofs.Journals.{legal_is_run, legal_joined, state_joined}
 use Rattle.hd_rules.proofs.Theorem.{headline}
 use Rattle.hd_rules.proofs.ReplyingTurns.{each_replies}
+use Rattle.hd_rules.proofs.FamiliarTurns.{known_journal}
+use Rattle.hd_rules.proofs.Splits.{among_either}
 use Rattle.hd_catalogue.specs.Contents.{Contents, facts_of}
 use Rattle.hd_journal.specs.declared.turn.Turn.{Turn as OneTurn}
 use Rattle.hd_journal.specs.Running.{Running, Submitted, Withdrawn, state_at}
 use Rattle.hd_journal.specs.Telling.{Told, with_turn, kept_in, kept_by}
-use Rattle.hd_journal.specs.Books.{Book, AddsTurn, IsLegalBook, IsKept, asking}
+use Rattle.hd_journal.specs.Books.{Book, AddsTurn, IsLegalBook, AskKnown, IsKept, asking}
 
 -- the answer to a repeat
 pub repeat_answer : (r : Running) (kept : ℕ → Option Kept) (m : Message) (reply : TurnReply) → Some reply ≡ repeated_of (kept m.terminal) m.asked m.line → turn_of (facts_of r.contents) (state_at r kept) m ≡ record { reply = reply; state = state_at r kept }
@@ -31,12 +36,19 @@ cancel_answer r next kept seat terminal what line reply new is =
     let m : Message = asking terminal (ask.Cancel what) line in
     ap (answered_unless (facts_of r.contents) (state_at r kept) m) (sym new) ∙ ap (with_kept m) (is kept)
 
+-- the answer to a query
+pub query_answer : (r : Running) (kept : ℕ → Option Kept) (terminal item : ℕ) (line : Option (List ℕ)) (reply : TurnReply) → None ≡ repeated_of (kept terminal) (ask.Item item) line → reply ≡ Item (item_view (facts_of r.contents) (run (facts_of r.contents) r.survivors) item) → turn_of (facts_of r.contents) (state_at r kept) (asking terminal (ask.Item item) line) ≡ record { reply = reply; state = state_at r kept }
+query_answer r kept terminal item line reply new is =
+    ap (answered_unless (facts_of r.contents) (state_at r kept) (asking terminal (ask.Item item) line)) (sym new)
+    ∙ (λ j. record { reply = sym is j; state = state_at r kept })
+
 -- what the machine answers next, by the state that it has come to
 pub record Goes (turns more : List Turn) (r next : Running) (kept later : ℕ → Option Kept) (turn : Turn) : Type 0 where
   pub was : IsKept turns r kept
   pub contents : next.contents ≡ r.contents
   pub items : more ≡ turns ++ turn ∷ []
   pub last : next.last ≤ r.last + 1
+  pub known : IsKnown (facts_of r.contents) turn.message.asked
   pub answer : turn_of (facts_of r.contents) (state_at r kept) turn.message ≡ record { reply = turn.reply; state = state_at next later }
 
 pub answered_so : (turns items : List Turn) (r next : Running) (kept later : ℕ → Option Kept) (turn : Turn) → Goes turns items r next kept later turn → turn_of (facts_of r.contents) (state_after (facts_of r.contents) turns) turn.message ≡ record { reply = turn.reply; state = state_at next later }
@@ -48,6 +60,15 @@ state_goes turns items r next kept later turn h =
     state_joined (facts_of r.contents) (start (facts_of r.contents)) turns (turn ∷ [])
     ∙ ap (λ (a : Answered). a.state) (answered_so turns items r next kept later turn h)
 
+-- one message more
+known_more : (k : Facts) (turns : List Turn) (turn : Turn) → AskKnown k turns → IsKnown k turn.message.asked → AskKnown k (turns ++ turn ∷ [])
+known_more k turns turn all known one among = by_place (among_either one turns (turn ∷ []) among)
+  where
+    by_place : IsAmong one turns ⊎ IsAmong one (turn ∷ []) → IsKnown k one.message.asked
+    by_place (inl before) = all one before
+    by_place (inr (inl same)) = subst (λ (x : Turn). IsKnown k x.message.asked) (sym same) known
+    by_place (inr (inr none)) = absurd none
+
 kept_after : (turns items : List Turn) (r next : Running) (kept later : ℕ → Option Kept) (turn : Turn) → Goes turns items r next kept later turn → IsKept (turns ++ turn ∷ []) (record { contents = r.contents; survivors = next.survivors; last = next.last }) later
 kept_after turns items r next kept later turn h =
     let k : Facts = facts_of r.contents in
@@ -56,6 +77,8 @@ kept_after turns items r next kept later turn h =
     let low : r.last ≤ length turns = h.was.last in
     let up : next.last ≤ r.last + 1 = h.last in
     record {
+      range = h.was.range;
+      known = known_more k turns turn h.was.known h.known;
       legal = legal_joined k (start k) turns (turn ∷ []) h.was.legal (ap (λ (a : Answered). a.reply) (sym goes), tt);
       state = state_goes turns items r next kept later turn h
           ∙ (λ j. state_at (record { contents = h.contents j; survivors = next.survivors; last = next.last }) later);
@@ -69,10 +92,12 @@ kept_on turns items r next kept later turn h =
     (kept_after turns items r next kept later turn h))
 
 -- a journal without turns
-pub kept_at_start : (contents : Contents) (r : Running) (turns : List Turn) (places : List (Option ℕ)) → r ≡ record { contents = contents; survivors = []; last = 0 } → turns ≡ [] → places ≡ [] → IsKept turns r (kept_in turns places)
-kept_at_start contents r turns places is none nowhere =
+pub kept_at_start : (contents : Contents) (r : Running) (turns : List Turn) (places : List (Option ℕ)) → AreInRange (facts_of contents) → r ≡ record { contents = contents; survivors = []; last = 0 } → turns ≡ [] → places ≡ [] → IsKept turns r (kept_in turns places)
+kept_at_start contents r turns places range is none nowhere =
     let opening : Running = record { contents = contents; survivors = []; last = 0 } in
     let start_kept : IsKept [] opening (kept_in [] []) = record {
+      range = range;
+      known = λ turn among. absurd among;
       legal = tt;
       state = λ j. state_at opening (λ t. None);
       last = omega arith;
@@ -87,6 +112,7 @@ legal_book turns r kept is = record {
   run = legal_is_run (facts_of r.contents) turns is.legal;
   headline = headline (facts_of r.contents) turns is.legal;
   replies = each_replies (facts_of r.contents) turns is.legal;
+  known = known_journal (facts_of r.contents) turns is.range is.legal is.known;
 }
 
 -- the same at a list and what is kept that are equal to these
@@ -123,6 +149,7 @@ pub record Made (was ready now : Told) (r next : Running) (turn : Turn) (copy : 
   pub turns : now.turns ≡ ready.turns ++ copied_turn turn copy ∷ []
   pub contents : next.contents ≡ r.contents
   pub last : next.last ≤ r.last + 1
+  pub known : IsKnown (facts_of r.contents) turn.message.asked
 
 copied_is : (turn : Turn) (copy : Option (List ℕ)) → copy ≡ turn.message.line → copied_turn turn copy ≡ turn
 copied_is turn copy is = ap (copied_turn turn) is
@@ -130,16 +157,21 @@ copied_is turn copy is = ap (copied_turn turn) is
 pub ready_is : (was ready now : Told) (r next : Running) (turn : Turn) (copy : Option (List ℕ)) → Made was ready now r next turn copy → IsKept ready.turns r (kept_by ready)
 ready_is was ready now r next turn copy h = kept_there was.turns ready.turns r (kept_by was) (kept_by ready) h.kept h.ready_turns h.ready_kept
 
--- a repeat
-pub goes_repeat : (was ready now : Told) (r : Running) (turn : Turn) (copy : Option (List ℕ)) → Made was ready now r r turn copy → kept_by now ≡ kept_by ready → Some turn.reply ≡ repeated_of (kept_by ready turn.message.terminal) turn.message.asked turn.message.line → Goes ready.turns now.turns r r (kept_by ready) (kept_by now) turn
-goes_repeat was ready now r turn copy h still again = record {
+-- a message that leaves the state
+pub goes_still : (was ready now : Told) (r : Running) (turn : Turn) (copy : Option (List ℕ)) → Made was ready now r r turn copy → kept_by now ≡ kept_by ready → turn_of (facts_of r.contents) (state_at r (kept_by ready)) turn.message ≡ record { reply = turn.reply; state = state_at r (kept_by ready) } → Goes ready.turns now.turns r r (kept_by ready) (kept_by now) turn
+goes_still was ready now r turn copy h still is = record {
   was = ready_is was ready now r r turn copy h;
   contents = h.contents;
   items = h.turns ∙ ap (λ (x : Turn). ready.turns ++ x ∷ []) (copied_is turn copy h.copied);
   last = h.last;
-  answer = repeat_answer r (kept_by ready) turn.message turn.reply again
-      ∙ (λ j. record { reply = turn.reply; state = state_at r (sym still j) });
+  known = h.known;
+  answer = is ∙ (λ j. record { reply = turn.reply; state = state_at r (sym still j) });
 }
+
+-- a repeat
+pub goes_repeat : (was ready now : Told) (r : Running) (turn : Turn) (copy : Option (List ℕ)) → Made was ready now r r turn copy → kept_by now ≡ kept_by ready → Some turn.reply ≡ repeated_of (kept_by ready turn.message.terminal) turn.message.asked turn.message.line → Goes ready.turns now.turns r r (kept_by ready) (kept_by now) turn
+goes_repeat was ready now r turn copy h still again =
+    goes_still was ready now r turn copy h still (repeat_answer r (kept_by ready) turn.message turn.reply again)
 
 -- a message that is none
 pub goes_new : (was ready now : Told) (r next : Running) (turn : Turn) (copy : Option (List ℕ)) → Made was ready now r next turn copy → kept_by now ≡ with_turn (copied_turn turn copy) (kept_by ready) → turn_of (facts_of r.contents) (state_at r (kept_by ready)) turn.message ≡ record { reply = turn.reply; state = state_at next (with_turn turn (kept_by ready)) } → Goes ready.turns now.turns r next (kept_by ready) (kept_by now) turn
@@ -148,6 +180,7 @@ goes_new was ready now r next turn copy h keeps is = record {
   contents = h.contents;
   items = h.turns ∙ ap (λ (x : Turn). ready.turns ++ x ∷ []) (copied_is turn copy h.copied);
   last = h.last;
+  known = h.known;
   answer = is ∙ (λ j. record { reply = turn.reply; state = state_at next (sym (keeps ∙ ap (λ (x : Turn). with_turn x (kept_by ready)) (copied_is turn copy h.copied)) j) });
 }
 

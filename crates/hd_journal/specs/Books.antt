@@ -1,7 +1,8 @@
 -- What a journal shows, and what it keeps.
 use Rattle.std.specs.Prelude.{◌≡◌, ℕ, zero, suc, ◌≤◌, Option, None, List, [], ◌∷◌, ◌++◌, length, slice_get}
 use Rattle.hd_rules.specs.declared.turns.Asked.{Asked}
-use Rattle.hd_rules.specs.Facts.{Facts}
+use Rattle.hd_rules.specs.Facts.{Facts, AreInRange}
+use Rattle.hd_rules.specs.Known.{IsKnown, IsKnownJournal}
 use Rattle.hd_rules.specs.Turns.{Message, Kept, State, Answered, turn_of}
 use Rattle.hd_rules.specs.Journal.{Turn, state_after, IsLegal, IsRunOfSurvivors}
 use Rattle.hd_rules.specs.Headline.{Headline}
@@ -49,16 +50,24 @@ pub record AddsTurn (old new : Book) (seat : ℕ) (message : Message) (made : Ma
   pub reply : made.reply ≡ (answer old message).reply
   pub number : made.at ≡ length new.turns
 
--- The turns are legal, so the desk is the run of the survivors, each with the reply that it got, the headline holds, and each
--- reply is one to its message.
+-- The turns are legal, so the desk is the run of the survivors, each with the reply that it got, the headline holds, each
+-- reply is one to its message, and all that the desk has and the replies say names things of the catalogue.
 pub record IsLegalBook (book : Book) : Type 0 where
   pub legal : IsLegal (facts book) book.turns
   pub run : IsRunOfSurvivors (facts book) book.turns (state book)
   pub headline : Headline (facts book) book.turns
   pub replies : (turn : Turn) → IsAmong turn book.turns → IsReplyTo turn.message.asked turn.reply
+  pub known : IsKnownJournal (facts book) book.turns
 
--- The turns are legal, the machine has come to this state, and no more numbers are given than there are turns.
+-- each message names things of the catalogue
+abbrev pub AskKnown : Facts → List Turn → Type 0
+AskKnown k turns = (turn : Turn) → IsAmong turn turns → IsKnown k turn.message.asked
+
+-- The turns are legal, of messages that name things of the catalogue, the machine has come to this state, and no more numbers
+-- are given than there are turns.
 pub record IsKept (turns : List Turn) (r : Running) (k : ℕ → Option Kept) : Type 0 where
+  pub range : AreInRange (facts_of r.contents)
+  pub known : AskKnown (facts_of r.contents) turns
   pub legal : IsLegal (facts_of r.contents) turns
   pub state : state_after (facts_of r.contents) turns ≡ state_at r k
   pub last : r.last ≤ length turns

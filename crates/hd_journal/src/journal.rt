@@ -5,9 +5,12 @@ ghost use Rattle.hd_catalogue.specs.Contents.{facts_of};
 ghost use Rattle.hd_rules.specs.Desk.{opening};
 ghost use Rattle.hd_rules.specs.Known.{IsKnownAction, IsKnownCancel};
 ghost use Rattle.hd_rules.specs.Run.{run};
+ghost use Rattle.hd_rules.specs.Turns.{turn_of};
 ghost use Rattle.hd_desk.specs.Desks.{contents, desk_of};
 ghost use Rattle.hd_journal.specs.Books.{facts, state, asking, turn_numbered, AddsTurn, IsLegalBook};
+ghost use Rattle.hd_journal.specs.Running.{state_at};
 ghost use Rattle.hd_journal.specs.Shown.{shown};
+ghost use Rattle.hd_journal.specs.Telling.{kept_by};
 
 use crate::entry::Entry;
 use crate::fault::Fault;
@@ -17,7 +20,7 @@ use crate::running::Running;
 use crate::told::Told;
 use crate::turn::{Turn, TurnRef};
 use hd_desk::{Desk, Meter};
-use hd_rules::{Asked, Cancel, Command, Survivor, TerminalNo};
+use hd_rules::{Asked, Cancel, Command, CopyNo, Survivor, TerminalNo, TurnReply};
 use std::alloc::{Allocator, Global};
 use std::marker::Model;
 
@@ -49,6 +52,7 @@ impl<A: Allocator + Copy> Journal<A> {
         requires { desk_of desk ≡ opening (facts_of (contents desk)) }
         ensures { result ≡ record { contents = contents desk; turns = [] } }
     {
+        desk.catalogue().facts_are_in_range();
         Journal {
             alloc,
             running: Running::new(alloc, desk, meter),
@@ -142,6 +146,36 @@ impl<A: Allocator + Copy> Journal<A> {
         Ok(self.told.add(turn))
     }
 
+    /// One turn: a terminal's query of a copy, with the message's line where that carried a sequence number.
+    ///
+    /// It shows where the copy is and how many holds its title has; desk, survivors and what is kept stay. The copy, and the
+    /// terminal, are those of the journal's catalogue.
+    pub fn query(
+        &mut self,
+        terminal: TerminalNo,
+        seat: SeatNo,
+        item: CopyNo,
+        line: Option<&[u8]>,
+    ) -> Result<Turn, Fault>
+        requires known { item < (facts self.old).copies }
+        requires terminal { terminal < (facts self.old).terminals }
+        ensures turn { IfOk result (AddsTurn self.old self.new seat (asking terminal (Asked.Item item) (option_map (λ bytes. bytes.now) line.entry))) }
+        ensures legal { IsLegalBook self.new }
+        ensures err { OnErr result (self.new ≡ self.old) }
+    {
+        self.told.ready(terminal)?;
+        let copy = copied(self.alloc, line)?;
+        let reply = view_of(&self.told, &self.running, terminal, item, line);
+        let turn = Entry {
+            seat,
+            terminal,
+            asked: Asked::Item(item),
+            line: copy,
+            reply,
+        };
+        Ok(self.told.add_repeat(turn))
+    }
+
     /// How many turns there are.
     pub fn front(&self) -> usize
         ensures { result ≡ length self.now.turns }
@@ -190,5 +224,22 @@ impl<A: Allocator + Copy> Journal<A> {
         ensures { IsLegalBook self.now }
     {
         let _ = &self.running;
+    }
+}
+
+/// What a query is answered: what the desk shows, or the same again.
+fn view_of<A: Allocator + Copy>(
+    told: &Told<A>,
+    running: &Running<A>,
+    terminal: TerminalNo,
+    item: CopyNo,
+    line: Option<&[u8]>,
+) -> TurnReply
+    requires { item < (facts_of running.now.contents).copies }
+    ensures { turn_of (facts_of running.now.contents) (state_at running.now (kept_by told.now)) (asking terminal (Asked.Item item) (option_map (λ bytes. bytes.now) line.entry)) ≡ record { reply = result; state = state_at running.now (kept_by told.now) } }
+{
+    match told.repeated(terminal, &Asked::Item(item), line) {
+        Some(reply) => reply,
+        None => running.item(item),
     }
 }

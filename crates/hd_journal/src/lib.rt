@@ -15,7 +15,7 @@ mod turn;
 
 pub use crate::fault::Fault;
 pub use crate::journal::Journal;
-pub use crate::messages::{Ask, Message};
+pub use crate::messages::Message;
 pub use crate::numbers::SeatNo;
 pub use crate::turn::{Turn, TurnRef};
 pub use hd_desk::{Catalogue, Desk};

@@ -8,19 +8,10 @@ use crate::fault::Fault;
 use crate::journal::Journal;
 use crate::numbers::SeatNo;
 use crate::turn::Turn;
-use hd_rules::{Cancel, Command, TerminalNo};
+use hd_rules::{Asked, TerminalNo};
 use std::alloc::Allocator;
 
-/// What a message asks that isn't a query.
-#[derive(Clone, Copy)]
-pub enum Ask {
-    /// A command.
-    Command(Command),
-    /// A cancellation.
-    Cancel(Cancel),
-}
-
-/// A message of a terminal that isn't a query.
+/// A message of a terminal.
 #[derive(Clone, Copy)]
 pub struct Message<'a> {
     /// The seat that it comes from.
@@ -28,7 +19,7 @@ pub struct Message<'a> {
     /// The terminal that asks.
     pub terminal: TerminalNo,
     /// What it asks.
-    pub ask: Ask,
+    pub asked: Asked,
     /// The message's line, where it carried a sequence number.
     pub line: Option<&'a [u8]>,
 }
@@ -41,14 +32,17 @@ impl<A: Allocator + Copy> Journal<A> {
         ensures legal { IsLegalBook self.new }
         ensures err { OnErr result (self.new ≡ self.old) }
     {
-        match &message.ask {
-            Ask::Command(command) => self.submit(
+        match &message.asked {
+            Asked::Command(command) => self.submit(
                 message.terminal,
                 message.seat,
                 command,
                 message.line,
             ),
-            Ask::Cancel(what) => self.cancel(message.terminal, message.seat, what, message.line),
+            Asked::Cancel(what) => {
+                self.cancel(message.terminal, message.seat, what, message.line)
+            }
+            Asked::Item(item) => { self.query(message.terminal, message.seat, *item, message.line) }
         }
     }
 

@@ -5,14 +5,14 @@ ghost use Rattle.hd_catalogue.specs.Contents.{facts_of};
 ghost use Rattle.hd_rules.specs.Desk.{opening};
 ghost use Rattle.hd_rules.specs.Known.{IsKnownAction};
 ghost use Rattle.hd_rules.specs.Run.{run};
-ghost use Rattle.hd_rules.specs.Turns.{Kept};
+ghost use Rattle.hd_rules.specs.Turns.{Kept, item_view};
 ghost use Rattle.hd_desk.specs.Desks.{contents, desk_of, facts};
 ghost use Rattle.hd_journal.specs.Running.{Submitted, Withdrawn};
 
 use crate::decision::{Decision, decide, newest};
 use crate::room::push_ready;
 use hd_desk::{Desk, Done, Meter, Refused};
-use hd_rules::{Cancel, Command, Refusal, Reply, Survivor, TerminalNo, TurnReply};
+use hd_rules::{Cancel, Command, CopyNo, Refusal, Reply, Survivor, TerminalNo, TurnReply};
 use std::alloc::{AllocError, Allocator};
 use std::marker::Model;
 
@@ -75,6 +75,14 @@ impl<A: Allocator + Copy> Running<A> {
         ensures { result ≡ self.now.last }
     {
         self.last
+    }
+
+    /// What the desk shows of a copy.
+    pub(crate) fn item(&self, item: CopyNo) -> TurnReply
+        requires { item < (facts_of self.now.contents).copies }
+        ensures { result ≡ TurnReply.Item (item_view (facts_of self.now.contents) (run (facts_of self.now.contents) self.now.survivors) item) }
+    {
+        TurnReply::Item(self.desk.item(item))
     }
 
     /// Does the terminal's command with the next number, or tells why it is refused.

@@ -37,6 +37,7 @@ impl PlainState {
     ghost use Rattle.hd_rules.specs.Run.{outcome_of};
     ghost use Rattle.hd_rules.specs.Target.{target as target_of};
     ghost use Rattle.hd_rules.specs.Turns.{answered_cancel, answered_command, keeping, start, turn_of};
+    ghost use Rattle.hd_plain.specs.Desks.{desk_of};
     ghost use Rattle.hd_plain.specs.Plain.{facts_of};
     ghost use Rattle.hd_plain.specs.States.{message_of, state_of};
     ghost use Rattle.hd_plain.specs.Answers.{first_answer};
@@ -51,6 +52,13 @@ impl PlainState {
             last: 0,
             kept: Vec::new(alloc),
         }
+    }
+
+    /// The desk.
+    pub fn desk(&self) -> &PlainDesk
+        ensures { (k : Facts) → desk_of k result.now ≡ (state_of k self.now).desk }
+    {
+        &self.desk
     }
 
     /// Answers a command with the next number. Where memory runs out, the state may have changed.

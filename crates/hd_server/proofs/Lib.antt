@@ -1,2 +1,4 @@
 pub mod Told
 pub mod Replying
+pub mod Answering
+pub mod Placing

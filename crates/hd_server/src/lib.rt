@@ -5,14 +5,21 @@ mod answer;
 mod asking;
 mod fault;
 mod holding;
+mod lending;
+mod naming;
 mod place;
 mod prefix;
+mod querying;
 mod reasons;
+mod renewing;
 mod replaying;
+mod returning;
 mod sessions;
 mod stream;
+mod telling;
 #[cfg(test)]
 mod tests;
+mod turns;
 
 pub use crate::fault::ServerFault;
 pub use crate::replaying::replay;

@@ -1,16 +1,12 @@
 //! `replay`: the lines of an input, answered in order.
-ghost use Rattle.std.specs.Prelude.{◌≡◌, ◌<◌, IfOk, vec_len};
-ghost use Rattle.std.specs.Option.{ForSome};
-ghost use Rattle.hd_catalogue.specs.Contents.{facts_of};
+ghost use Rattle.std.specs.Prelude.{◌≡◌, IfOk, vec_len};
 
 use crate::fault::ServerFault;
-use crate::place::Place;
 use crate::sessions::Sessions;
 use crate::stream::{read_some, write_all};
 use hd_catalogue::Catalogue;
 use hd_desk::{Desk, Meter};
 use hd_journal::Journal;
-use hd_rules::TerminalNo;
 use std::alloc::{AllocError, Allocator};
 use std::io::{Read, Write};
 use std::sync::Arc;
@@ -51,23 +47,8 @@ pub fn replay<R: Read, W: Write>(
     };
     let desk = Desk::open(alloc, alloc, Arc::try_clone(&catalogue)?)?;
     let journal = Journal::new(alloc, desk, Meter::new(rt));
-    let mut sessions = Sessions::new(&catalogue, journal, now, first_place(&catalogue));
+    let mut sessions = Sessions::new(&catalogue, journal, now);
     answer_input(alloc, &mut sessions, from, to)
-}
-
-/// The first terminal of a catalogue, if it has one.
-fn first_place<A: Allocator + Copy>(catalogue: &Catalogue<A>) -> Option<Place>
-    ensures terminal { ForSome result (λ at. at.terminal < (facts_of catalogue.now).terminals) }
-    ensures branch { ForSome result (λ at. at.branch < (facts_of catalogue.now).branches) }
-{
-    if catalogue.terminals() == 0 {
-        return None;
-    }
-    let terminal = TerminalNo::new(0)?;
-    Some(Place {
-        terminal,
-        branch: catalogue.branch_of(terminal),
-    })
 }
 
 /// Answers the lines of an input.

@@ -1,11 +1,11 @@
 //! The sessions of an input: its lines, answered in order.
 ghost use Rattle.std.specs.Prelude.{◌≡◌, ◌≤◌, ◌<◌, IfOk, length};
-ghost use Rattle.std.specs.Option.{ForSome};
 ghost use Rattle.hd_catalogue.specs.Contents.{facts_of};
+ghost use Rattle.hd_server.specs.Places.{AreKnownPlaces};
 
 use crate::answer::answer;
 use crate::fault::ServerFault;
-use crate::place::Place;
+use crate::place::Places;
 use crate::prefix::{SESSIONS, session_of};
 use hd_catalogue::Catalogue;
 use hd_date::Stamp18;
@@ -21,20 +21,20 @@ const LONGEST_LINE: usize = 1024;
 /// The room that a line's reply may need, with its trailer and its session's number.
 const REPLY_ROOM: usize = 2_060;
 
-/// The sessions of an input, over one journal. Every session stands as one terminal as yet.
+/// The sessions of an input, over one journal.
 #[derive(Drop)]
 pub(crate) struct Sessions<'a, A: Allocator> {
     catalogue: &'a Catalogue<A>,
     journal: Journal<A>,
     now: Stamp18,
-    place: Option<Place>,
+    /// Where each session stands.
+    places: Places,
     /// Which sessions have ended; the first is at 0.
     ended: [bool; SESSIONS],
     /// How many lines of input have been answered or refused.
     lines: u64,
     ghost same: { journal.contents ≡ catalogue.now },
-    ghost terminal: { ForSome place (λ at. at.terminal < (facts_of catalogue.now).terminals) },
-    ghost branch: { ForSome place (λ at. at.branch < (facts_of catalogue.now).branches) },
+    ghost known: { AreKnownPlaces (facts_of catalogue.now) places.at },
 }
 
 impl<'a, A: Allocator + Copy> Sessions<'a, A> {
@@ -43,17 +43,14 @@ impl<'a, A: Allocator + Copy> Sessions<'a, A> {
         catalogue: &'a Catalogue<A>,
         journal: Journal<A>,
         now: Stamp18,
-        place: Option<Place>,
     ) -> Sessions<'a, A>
-        requires same { journal.contents ≡ catalogue.now }
-        requires terminal { ForSome place (λ at. at.terminal < (facts_of catalogue.now).terminals) }
-        requires branch { ForSome place (λ at. at.branch < (facts_of catalogue.now).branches) }
+        requires { journal.contents ≡ catalogue.now }
     {
         Sessions {
             catalogue,
             journal,
             now,
-            place,
+            places: Places::new(),
             ended: [false; SESSIONS],
             lines: 0,
         }
@@ -135,14 +132,17 @@ impl<'a, A: Allocator + Copy> Sessions<'a, A> {
         }
         if !text.is_empty() {
             put_session(out, session)?;
-            answer(
+            let mut place = self.places.of(session);
+            let answered = answer(
                 self.catalogue,
                 &mut self.journal,
                 &self.now,
-                &self.place,
+                &mut place,
                 text,
                 out,
-            )?;
+            );
+            self.places.stand(session, place);
+            answered?;
             out.push(b'\n')?;
         }
         Ok(false)

@@ -46,10 +46,14 @@ fn a_carriage_return_ends_a_line(rt: HostRuntime) {
     let (out, end) = replayed(
         &rt,
         CATALOGUE,
-        b"1 97\r15-20260301    100000AAp1|AJta|BIY|\r",
+        b"1 97\r9300CNt1|COpw|\r15-20260301    100000AAp1|AJta|BIY|\r",
     );
     assert!(rt; end.is_ok());
-    let wanted = b"1 96\n1 160N20260301    100000AOlib|AAp1|AJta|AFNOTHING TO CANCEL|\n".as_slice();
+    let wanted = b"1 96
+1 941
+1 160N20260301    100000AOlib|AAp1|AJta|AFNOTHING TO CANCEL|
+"
+        .as_slice();
     assert_eq!(rt; out.as_slice(), wanted);
 }
 
@@ -67,12 +71,15 @@ fn line_of(alloc: Global, session: &[u8], length: usize) -> Result<Vec<u8>, Allo
 
 #[test]
 fn a_long_line_ends_its_session(rt: HostRuntime) -> Result<(), Fail> {
-    let mut input = line_of(rt.alloc(), b"7", 1024)?;
+    let mut input = Vec::new(rt.alloc());
+    input.extend_from_slice(b"7 9300CNt1|COpw|\n")?;
+    input.extend_from_slice(line_of(rt.alloc(), b"7", 1024)?.as_slice())?;
     input.extend_from_slice(line_of(rt.alloc(), b"64", 1025)?.as_slice())?;
-    input.extend_from_slice(b"64 97\n7 97\n64 \n")?;
+    input.extend_from_slice(b"64 97\n7 00\n64 \n")?;
     let (out, end) = replayed(&rt, CATALOGUE, input.as_slice());
     assert!(rt; end.is_ok());
-    let wanted = b"7 161Y20260301    100000BR1|BSnorth|AOlib|AAp1|AJta|
+    let wanted = b"7 941
+7 161Y20260301    100000BR1|BSnorth|AOlib|AAp1|AJta|
 64 ENDED
 64 ENDED
 7 96

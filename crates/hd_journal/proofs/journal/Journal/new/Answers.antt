@@ -1,6 +1,11 @@
+use Rattle.std.proofs.Common.{◌∙◌, subst}
+use Rattle.hd_rules.specs.Facts.{AreInRange}
+use Rattle.hd_catalogue.specs.Contents.{Contents, facts_of}
 use Rattle.hd_journal.proofs.Keeping.{kept_at_start}
 use Rattle.hd_journal.proofs.journal.Journal.new.Goals as goal
 
 pub invariant_of-result : goal.invariant_of-result
 invariant_of-result g c =
-    kept_at_start c.args.desk.copies.contents c.new.result c.new-2.result.turns c.new-2.result.places c.new.ensures c.new-2.ensures.turns c.new-2.ensures.places
+    kept_at_start c.args.desk.copies.contents c.new.result c.new-2.result.turns c.new-2.result.places
+    (subst (λ (x : Contents). AreInRange (facts_of x)) (c.deref.ensures ∙ c.catalogue.ensures) c.facts_are_in_range.ensures)
+    c.new.ensures c.new-2.ensures.turns c.new-2.ensures.places

@@ -1,8 +1,9 @@
 use Rattle.std.proofs.Common.{arith, ◌∙◌, sym, subst, refl, option_map}
 use Rattle.hd_rules.specs.declared.turns.Asked.TheVariants as ask
+use Rattle.hd_rules.specs.Known.{IsKnownAction}
 use Rattle.hd_journal.specs.Running.{Running}
 use Rattle.hd_journal.specs.Telling.{kept_by}
-use Rattle.hd_journal.specs.Books.{IsLegalBook, asking}
+use Rattle.hd_journal.specs.Books.{Book, IsLegalBook, facts, asking}
 use Rattle.hd_journal.proofs.Keeping.{Goes, legal_book, kept_there, kept_on, adds_turn, adds_there, submit_answer, goes_repeat, goes_new}
 use Rattle.hd_journal.proofs.journal.Journal.submit.Given.{Over}
 use Rattle.hd_journal.proofs.journal.Journal.submit.Goals.{After-add_repeat, After-add}
@@ -33,6 +34,7 @@ again g c =
       turns = c.add_repeat.ensures.turns;
       contents = refl;
       last = omega arith;
+      known = subst (λ (x : Book). IsKnownAction (facts x) c.args.command.now.action) (sym c.self.view_is) c.requires.known;
     })
     c.add_repeat.ensures.kept (sym c.in-Some.is ∙ c.repeated-repeated.ensures)
 
@@ -48,6 +50,7 @@ anew g c =
       turns = c.add.ensures.turns;
       contents = c.in_ok-reply.ensures.contents;
       last = c.in_ok-reply.ensures.last;
+      known = subst (λ (x : Book). IsKnownAction (facts x) c.args.command.now.action) (sym c.self.view_is) c.requires.known;
     })
     c.add.ensures.kept
     (submit_answer c.self.inside.running c.submit.new.self (kept_by c.ready.new.self) c.args.seat c.args.terminal c.args.command.now (option_map (λ bytes. bytes.now) c.args.line) c.in_ok-reply.reply

@@ -1,6 +1,6 @@
 use Rattle.std.proofs.Common.{⊎_elim}
 use Rattle.hd_server.proofs.Replying.{cancel_reply, reply_fits}
-use Rattle.hd_server.proofs.holding.cancel.Goals as goal
+use Rattle.hd_server.proofs.turns.cancel.Goals as goal
 
 pub unreachable-requires : goal.unreachable-requires
 unreachable-requires g c =
