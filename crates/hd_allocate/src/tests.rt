@@ -56,7 +56,11 @@ fn hold(number: u32, kind: HoldKind, pickup: u16) -> Hold
 }
 
 /// A queue of two holds.
-fn queue_of<A: Allocator + Copy>(alloc: A, first: Hold, second: Hold) -> Result<Queue<A>, AllocError>
+fn queue_of<A: Allocator + Copy>(
+    alloc: A,
+    first: Hold,
+    second: Hold,
+) -> Result<Queue<A>, AllocError>
     requires patrons { first.patron ≢ second.patron }
     requires stamps { first.stamp ≢ second.stamp }
 {
