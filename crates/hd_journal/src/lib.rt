@@ -20,6 +20,3 @@ pub use crate::numbers::SeatNo;
 pub use crate::turn::{Turn, TurnRef};
 pub use hd_desk::{Catalogue, Desk};
 pub use hd_rules::{Asked, Cancel, Command, Refusal, Reply, Survivor, TerminalNo, TurnReply};
-
-#[cfg(test)]
-mod tests;
