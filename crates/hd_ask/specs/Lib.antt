@@ -1,0 +1,4 @@
+pub mod Dates
+pub mod Asks
+pub mod Messages
+pub mod Known

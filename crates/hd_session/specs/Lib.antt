@@ -1,0 +1,3 @@
+pub mod Trailers
+pub mod Standing
+pub mod Sessions

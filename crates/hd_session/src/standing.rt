@@ -1,0 +1,210 @@
+//! Where a session stands, and what a line is answered.
+ghost use Rattle.std.specs.Prelude.{◌≡◌, ◌≤◌, ◌++◌, [], ℕ, List, Bool, IfOk, OnOk, OnErr, take, drop, vec_len, option_map, true, false};
+ghost use Rattle.std.specs.Option.{ForSome};
+ghost use Rattle.hd_rules.specs.Journal.{Turn};
+ghost use Rattle.hd_catalogue.specs.Contents.{facts_of};
+ghost use Rattle.hd_office.specs.Answers.{IsKnownPlace, MakesAtMostOne};
+ghost use Rattle.hd_session.specs.Standing.{IsAnswered, IsHeard, digit_after, gaps_after, line_with, nowhere};
+ghost use Rattle.hd_session.specs.Trailers.{last_after, send_again, written};
+
+use crate::closing::{close, put_send_again};
+use hd_date::Stamp18;
+use hd_guard::{Guarded, Seq, trailer};
+use hd_office::{Office, OfficeFault, Place, Said, respond};
+use std::alloc::{AllocError, Allocator};
+use std::marker::Model;
+
+/// The room that the last reply has from the start. No reply is longer.
+const LONGEST_REPLY: usize = 2_048;
+
+/// Where a session stands.
+#[derive(Drop)]
+pub(crate) struct Standing<A: Allocator> {
+    place: Option<Place>,
+    /// The last reply that isn't a 96; empty before any.
+    last: Vec<u8, A>,
+    /// The last sequence digit.
+    digit: Option<Seq>,
+    gaps: u64,
+}
+
+impl<A: Allocator> Model for Standing<A> {
+    ghost use Rattle.hd_session.specs.Standing.{Stands};
+
+    ghost Value = { Stands };
+
+    ghost view = { λ s. record { place = s.place; last = s.last.items; digit = s.digit; gaps = s.gaps } };
+}
+
+/// A line that came whole: what stands before its trailer, whether it has one, and the sequence digit that it carries.
+#[derive(Clone, Copy)]
+struct Whole<'a> {
+    line: &'a [u8],
+    body: &'a [u8],
+    checked: bool,
+    digit: Option<Seq>,
+}
+
+impl<A: Allocator + Copy> Standing<A> {
+    /// Where a new session stands, with room for its last reply.
+    pub(crate) fn new(alloc: A) -> Result<Standing<A>, AllocError>
+        ensures { IfOk result (λ standing. standing ≡ nowhere) }
+    {
+        let last = Vec::with_capacity(alloc, LONGEST_REPLY)?;
+        Ok(Standing {
+            place: None,
+            last,
+            digit: None,
+            gaps: 0,
+        })
+    }
+
+    /// How many lines didn't carry the digit after the one before.
+    pub(crate) fn gaps(&self) -> u64
+        ensures { result ≡ self.now.gaps }
+    {
+        self.gaps
+    }
+
+    /// Answers a line: appends its reply, and makes its turn.
+    ///
+    /// At a fault the session ends, and where it then stands counts no more.
+    pub(crate) fn hear<O: Office<A>>(
+        &mut self,
+        now: &Stamp18,
+        line: &[u8],
+        office: &mut O,
+        out: &mut Vec<u8, A>,
+    ) -> Result<(), OfficeFault>
+        requires place { ForSome self.old.place (IsKnownPlace (facts_of (O.contents office.old))) }
+        ensures heard { OnOk result ((made : List Turn) × (text : List ℕ) × (O.turns office.new ≡ O.turns office.old ++ made) × (out.new.items ≡ out.old.items ++ text) × IsHeard (O.contents office.old) (O.seat office.old) now.now self.old line.now made self.new text) }
+        ensures place { ForSome self.new.place (IsKnownPlace (facts_of (O.contents office.old))) }
+        ensures one { MakesAtMostOne (O.turns office.old) (O.turns office.new) }
+        ensures contents { O.contents office.new ≡ O.contents office.old }
+        ensures same { (O.seat office.new ≡ O.seat office.old) × (O.borrows office.new ≡ O.borrows office.old) }
+    {
+        if line.is_empty() {
+            return Ok(());
+        }
+        match trailer(line) {
+            Guarded::Plain { body } => {
+                let whole = Whole {
+                    line,
+                    body,
+                    checked: false,
+                    digit: None,
+                };
+                self.answer(now, &whole, office, out)?;
+                Ok(())
+            }
+            Guarded::Checked { body, seq } => {
+                let whole = Whole {
+                    line,
+                    body,
+                    checked: true,
+                    digit: seq,
+                };
+                self.answer(now, &whole, office, out)?;
+                Ok(())
+            }
+            Guarded::Wrong => match put_send_again(out, true) {
+                Ok(()) => Ok(()),
+                Err(_) => Err(OfficeFault::Memory),
+            },
+        }
+    }
+
+    /// Answers a line whose check number, where it has one, is right.
+    fn answer<O: Office<A>>(
+        &mut self,
+        now: &Stamp18,
+        whole: &Whole<'_>,
+        office: &mut O,
+        out: &mut Vec<u8, A>,
+    ) -> Result<(), OfficeFault>
+        requires place { ForSome self.old.place (IsKnownPlace (facts_of (O.contents office.old))) }
+        ensures answered { OnOk result ((made : List Turn) × (text : List ℕ) × (O.turns office.new ≡ O.turns office.old ++ made) × (out.new.items ≡ out.old.items ++ text) × IsAnswered (O.contents office.old) (O.seat office.old) now.now self.old whole.now.line.now whole.now.body.now whole.now.checked whole.now.digit made self.new text) }
+        ensures place { ForSome self.new.place (IsKnownPlace (facts_of (O.contents office.old))) }
+        ensures one { MakesAtMostOne (O.turns office.old) (O.turns office.new) }
+        ensures contents { O.contents office.new ≡ O.contents office.old }
+        ensures same { (O.seat office.new ≡ O.seat office.old) × (O.borrows office.new ≡ O.borrows office.old) }
+    {
+        let from = out.len();
+        let kept = line_with(whole.digit, whole.line);
+        let mut place = self.place;
+        let said = respond(office, now, &mut place, whole.body, kept, out)?;
+        self.place = place;
+        self.count(whole.digit);
+        match self.finish(said, whole.checked, whole.digit, from, out) {
+            Ok(()) => Ok(()),
+            Err(_) => Err(OfficeFault::Memory),
+        }
+    }
+
+    /// Counts a line with a right check number: a gap where it carries another digit than the one after the last.
+    fn count(&mut self, digit: Option<Seq>)
+        ensures digit { self.new.digit ≡ digit_after self.old.digit digit }
+        ensures gaps { self.new.gaps ≡ gaps_after self.old.digit self.old.gaps digit }
+        ensures place { self.new.place ≡ self.old.place }
+        ensures last { self.new.last ≡ self.old.last }
+    {
+        let Some(next) = digit else {
+            return;
+        };
+        if let Some(last) = self.digit
+            && next != last.next()
+        {
+            self.gaps = self.gaps.saturating_add(1);
+        }
+        self.digit = Some(next);
+    }
+
+    /// Closes what is said, of which a reply's text stands from `from` on, and keeps it where it is a reply.
+    fn finish(
+        &mut self,
+        said: Said,
+        checked: bool,
+        digit: Option<Seq>,
+        from: usize,
+        out: &mut Vec<u8, A>,
+    ) -> Result<(), AllocError>
+        requires { from ≤ vec_len out.old }
+        ensures text { OnOk result (out.new.items ≡ take from out.old.items ++ written self.old.last checked digit said (drop from out.old.items)) }
+        ensures last { OnOk result (self.new.last ≡ last_after self.old.last checked digit said (drop from out.old.items)) }
+        ensures rest { (self.new.place ≡ self.old.place) × (self.new.digit ≡ self.old.digit) × (self.new.gaps ≡ self.old.gaps) }
+    {
+        match said {
+            Said::Reply => {
+                close(out, from, checked, digit)?;
+                self.keep(&out[from..])
+            }
+            Said::LastReply if !self.last.is_empty() => {
+                out.truncate(from);
+                out.extend_from_slice(self.last.as_slice())
+            }
+            Said::LastReply | Said::SendAgain => {
+                out.truncate(from);
+                put_send_again(out, checked)
+            }
+        }
+    }
+
+    /// Keeps a reply as the last one.
+    fn keep(&mut self, reply: &[u8]) -> Result<(), AllocError>
+        ensures last { OnOk result (self.new.last ≡ reply.now) }
+        ensures rest { (self.new.place ≡ self.old.place) × (self.new.digit ≡ self.old.digit) × (self.new.gaps ≡ self.old.gaps) }
+    {
+        self.last.clear();
+        self.last.extend_from_slice(reply)
+    }
+}
+
+/// The line, where it carried a digit.
+fn line_with<'a>(digit: Option<Seq>, line: &'a [u8]) -> Option<&'a [u8]>
+    ensures { option_map (λ bytes. bytes.now) result ≡ line_with digit line.now }
+{
+    match digit {
+        Some(_) => Some(line),
+        None => None,
+    }
+}
