@@ -15,7 +15,7 @@ use hd_server::replay;
 use std::{fs, io};
 
 /// The rows that are played, by name.
-const ROWS: [&str; 63] = [
+const ROWS: [&str; 64] = [
     "bad-catalogue-empty-file",
     "bad-catalogue-unknown-title",
     "bad-now",
@@ -67,6 +67,7 @@ const ROWS: [&str; 63] = [
     "renewal",
     "repeated-hold",
     "repeats-and-gaps",
+    "resend-after-a-wrong-checksum",
     "resend-before-any-reply-first-message-97",
     "resend-before-any-reply-first-message-97azfef5",
     "restored-hold-keeps-its-place",

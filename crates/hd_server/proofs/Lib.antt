@@ -1,4 +1,2 @@
 pub mod Told
-pub mod Replying
-pub mod Answering
-pub mod Placing
+pub mod Knowing

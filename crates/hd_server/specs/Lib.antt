@@ -1,3 +1,1 @@
-pub mod Answers
-pub mod Asks
-pub mod Places
+pub mod Tables

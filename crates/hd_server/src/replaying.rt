@@ -45,16 +45,16 @@ pub fn replay<R: Read, W: Write>(
     let Ok(now) = hd_date::read(now, catalogue.offset()) else {
         return Err(ServerFault::BadNow);
     };
-    let desk = Desk::open(alloc, alloc, Arc::try_clone(&catalogue)?)?;
+    let desk = Desk::open(alloc, alloc, catalogue)?;
     let journal = Journal::new(alloc, desk, Meter::new(rt));
-    let mut sessions = Sessions::new(&catalogue, journal, now);
+    let mut sessions = Sessions::new(alloc, journal, now)?;
     answer_input(alloc, &mut sessions, from, to)
 }
 
 /// Answers the lines of an input.
 fn answer_input<A: Allocator + Copy, R: Read, W: Write>(
     alloc: A,
-    sessions: &mut Sessions<'_, A>,
+    sessions: &mut Sessions<A>,
     from: &mut R,
     to: &mut W,
 ) -> Result<(), ServerFault> {

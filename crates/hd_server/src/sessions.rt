@@ -1,59 +1,46 @@
-//! The sessions of an input: its lines, answered in order.
-ghost use Rattle.std.specs.Prelude.{◌≡◌, ◌≤◌, ◌<◌, IfOk, length};
+//! The lines of an input, answered in order.
+ghost use Rattle.std.specs.Prelude.{◌≤◌, IfOk, length};
 ghost use Rattle.hd_catalogue.specs.Contents.{facts_of};
-ghost use Rattle.hd_server.specs.Places.{AreKnownPlaces};
+ghost use Rattle.hd_server.specs.Tables.{AreKnown};
 
-use crate::answer::answer;
 use crate::fault::ServerFault;
-use crate::place::Places;
-use crate::prefix::{SESSIONS, session_of};
-use hd_catalogue::Catalogue;
+use crate::prefix::session_of;
+use crate::printing::{print_line, print_replies};
+use crate::table::Table;
 use hd_date::Stamp18;
-use hd_field::line;
 use hd_journal::Journal;
-use itoa::Buffer;
+use hd_session::Ended;
 use memchr::memchr;
 use std::alloc::{AllocError, Allocator};
 
-/// The longest line of a message without its carriage return, in bytes. A longer one ends its session.
-const LONGEST_LINE: usize = 1024;
-
-/// The room that a line's reply may need, with its trailer and its session's number.
-const REPLY_ROOM: usize = 2_060;
-
 /// The sessions of an input, over one journal.
 #[derive(Drop)]
-pub(crate) struct Sessions<'a, A: Allocator> {
-    catalogue: &'a Catalogue<A>,
+pub(crate) struct Sessions<A: Allocator> {
     journal: Journal<A>,
+    table: Table<A>,
     now: Stamp18,
-    /// Where each session stands.
-    places: Places,
-    /// Which sessions have ended; the first is at 0.
-    ended: [bool; SESSIONS],
+    /// What a session answers to one line of input.
+    replies: Vec<u8, A>,
     /// How many lines of input have been answered or refused.
     lines: u64,
-    ghost same: { journal.contents ≡ catalogue.now },
-    ghost known: { AreKnownPlaces (facts_of catalogue.now) places.at },
+    ghost known: { AreKnown (facts_of journal.contents) table },
 }
 
-impl<'a, A: Allocator + Copy> Sessions<'a, A> {
+impl<A: Allocator + Copy> Sessions<A> {
     /// The sessions before any input.
     pub(crate) fn new(
-        catalogue: &'a Catalogue<A>,
+        alloc: A,
         journal: Journal<A>,
         now: Stamp18,
-    ) -> Sessions<'a, A>
-        requires { journal.contents ≡ catalogue.now }
-    {
-        Sessions {
-            catalogue,
+    ) -> Result<Sessions<A>, AllocError> {
+        let table = Table::new(alloc)?;
+        Ok(Sessions {
             journal,
+            table,
             now,
-            places: Places::new(),
-            ended: [false; SESSIONS],
+            replies: Vec::new(alloc),
             lines: 0,
-        }
+        })
     }
 
     /// Answers the lines of `input`, at the end of input also one that nothing ends. Says how many bytes they take.
@@ -83,76 +70,38 @@ impl<'a, A: Allocator + Copy> Sessions<'a, A> {
     /// Answers one line of input.
     fn answer_line(&mut self, text: &[u8], out: &mut Vec<u8, A>) -> Result<(), ServerFault> {
         self.lines = self.lines.saturating_add(1);
-        let Some((session, message)) = session_of(text) else {
+        let Some((number, message)) = session_of(text) else {
             return Err(ServerFault::NoSession { line: self.lines });
         };
-        self.feed(session, message, out)?;
-        Ok(())
+        self.feed(number, message, out)
     }
 
-    /// Answers the lines of a message: a carriage return inside it ends one, and its end another.
+    /// Feeds a message to a session, and prints what it answers. A session that has ended prints `ENDED`.
     fn feed(
         &mut self,
-        session: usize,
+        number: usize,
         message: &[u8],
         out: &mut Vec<u8, A>,
-    ) -> Result<(), AllocError>
-        requires from_one { 1 ≤ session }
-        requires known { session ≤ 64 }
+    ) -> Result<(), ServerFault>
+        requires from_one { 1 ≤ number }
+        requires number { number ≤ 64 }
     {
-        let mut rest = message;
-        while let Some(found) = line(rest) {
-            if self.answer_part(session, found.text, out)? {
-                return Ok(());
+        self.replies.clear();
+        let fed = self.table.feed(
+            number,
+            message,
+            &self.now,
+            &mut self.journal,
+            &mut self.replies,
+        );
+        print_replies(out, number, self.replies.as_slice())?;
+        match fed {
+            Ok(()) => Ok(()),
+            Err(Ended::Memory) => Err(ServerFault::Memory),
+            Err(Ended::TooLong | Ended::Estranged) => {
+                print_line(out, number, b"ENDED")?;
+                Ok(())
             }
-            rest = &rest[found.used..];
         }
-        self.answer_part(session, rest, out)?;
-        Ok(())
     }
-
-    /// Answers a line of a session, and says whether the session has ended.
-    fn answer_part(
-        &mut self,
-        session: usize,
-        text: &[u8],
-        out: &mut Vec<u8, A>,
-    ) -> Result<bool, AllocError>
-        requires from_one { 1 ≤ session }
-        requires known { session ≤ 64 }
-    {
-        out.reserve(REPLY_ROOM)?;
-        if text.len() > LONGEST_LINE {
-            self.ended[session - 1] = true;
-        }
-        if self.ended[session - 1] {
-            put_session(out, session)?;
-            out.extend_from_slice(b"ENDED\n")?;
-            return Ok(true);
-        }
-        if !text.is_empty() {
-            put_session(out, session)?;
-            let mut place = self.places.of(session);
-            let answered = answer(
-                self.catalogue,
-                &mut self.journal,
-                &self.now,
-                &mut place,
-                text,
-                out,
-            );
-            self.places.stand(session, place);
-            answered?;
-            out.push(b'\n')?;
-        }
-        Ok(false)
-    }
-}
-
-/// Appends the number of a session, and a blank.
-fn put_session<A: Allocator>(out: &mut Vec<u8, A>, session: usize) -> Result<(), AllocError> {
-    let mut buffer = Buffer::new();
-    out.extend_from_slice(buffer.format(session).as_bytes())?;
-    out.push(b' ')?;
-    Ok(())
 }

@@ -1,4 +1,4 @@
-use Rattle.std.proofs.Common.{arith, length}
+use Rattle.std.proofs.Common.{arith}
 use Rattle.std.proofs.Math.Seq.{take-add}
 use Rattle.hd_server.proofs.Told.{appends-appends}
 use Rattle.hd_server.proofs.stream.write_all.Goals as goal
