@@ -3,6 +3,7 @@ ghost use Rattle.std.specs.Prelude.{◌≡◌, ◌≤◌, ◌+◌, ◌++◌, ◌
 ghost use Rattle.std.specs.Option.{ForSome};
 ghost use Rattle.hd_rules.specs.Facts.{Facts};
 ghost use Rattle.hd_catalogue.specs.Contents.{facts_of};
+ghost use Rattle.hd_journal.specs.Books.{IsLegalBook};
 ghost use Rattle.hd_office.specs.Answers.{IsKnownPlace};
 ghost use Rattle.hd_session.specs.Sessions.{new_session};
 ghost use Rattle.hd_server.specs.Tables.{AreKnown};
@@ -58,6 +59,7 @@ impl<A: Allocator + Copy> Table<A> {
         requires known { AreKnown (facts_of journal.old.contents) self.old }
         ensures known { AreKnown (facts_of journal.new.contents) self.new }
         ensures contents { journal.new.contents ≡ journal.old.contents }
+        ensures legal { IsLegalBook journal.new }
     {
         feed_line(
             &mut self.sessions[number - 1],
@@ -93,7 +95,8 @@ fn feed_line<A: Allocator + Copy>(
     requires known { ForSome session.old.standing.place (IsKnownPlace (facts_of journal.old.contents)) }
     ensures known { ForSome session.new.standing.place (IsKnownPlace (facts_of journal.old.contents)) }
     ensures contents { journal.new.contents ≡ journal.old.contents }
+    ensures legal { IsLegalBook journal.new }
 {
-    session.feed(message, now, journal, replies)?;
-    session.feed(b"\r", now, journal, replies)
+    session.feed_journal(message, now, journal, replies)?;
+    session.feed_journal(b"\r", now, journal, replies)
 }

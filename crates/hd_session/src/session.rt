@@ -2,6 +2,7 @@
 ghost use Rattle.std.specs.Prelude.{◌≡◌, ◌∷◌, [], ◌++◌, Some, None, Err, IfErr, IfOk, OnOk, OnErr, true, false};
 ghost use Rattle.std.specs.Option.{ForSome};
 ghost use Rattle.hd_catalogue.specs.Contents.{facts_of};
+ghost use Rattle.hd_journal.specs.Books.{IsLegalBook};
 ghost use Rattle.hd_office.specs.Answers.{IsKnownPlace, MakesAtMostOne};
 ghost use Rattle.hd_stream.specs.Streams.{after, lines_in};
 ghost use Rattle.hd_session.specs.Sessions.{Answers, Breaks, IsOfLine, new_session};
@@ -9,6 +10,7 @@ ghost use Rattle.hd_session.specs.Sessions.{Answers, Breaks, IsOfLine, new_sessi
 use crate::ended::Ended;
 use crate::standing::Standing;
 use hd_date::Stamp18;
+use hd_journal::Journal;
 use hd_office::Office;
 use hd_stream::Stream;
 use std::alloc::{AllocError, Allocator, Global};
@@ -96,6 +98,35 @@ impl<A: Allocator + Copy> Session<A> {
                 Err(ended)
             }
         }
+    }
+
+    /// The same at a journal alone: the turns are the turn machine's, and whatever is fed, the headline holds of the journal's turns.
+    ///
+    /// # Errors
+    /// Those of `feed`.
+    pub fn feed_journal(
+        &mut self,
+        piece: &[u8],
+        now: &Stamp18,
+        journal: &mut Journal<A>,
+        out: &mut Vec<u8, A>,
+    ) -> Result<(), Ended>
+        requires place { ForSome self.old.standing.place (IsKnownPlace (facts_of journal.old.contents)) }
+        ensures heard { OnOk result (Answers journal.old.contents 0 now.now (lines_in self.old.begun piece.now) self.old.standing self.new.standing journal.old.turns journal.new.turns out.old.items out.new.items) }
+        ensures rest { OnOk result (self.new.begun ≡ after self.old.begun piece.now) }
+        ensures open { OnOk result ((self.old.ended ≡ None) × (self.new.ended ≡ None) × (self.new.begun.too_long ≡ false)) }
+        ensures breaks { IfErr result (λ why. self.old.ended ≡ None → Breaks journal.old.contents 0 now.now self.old.begun piece.now self.old.standing why journal.old.turns journal.new.turns out.old.items out.new.items) }
+        ensures ended { IfErr result (λ why. self.new.ended ≡ Some why) }
+        ensures over { ForSome self.old.ended (λ why. (result ≡ Err why) × (self.new ≡ self.old) × (out.new.items ≡ out.old.items) × (journal.new.turns ≡ journal.old.turns)) }
+        ensures place { ForSome self.new.standing.place (IsKnownPlace (facts_of journal.old.contents)) }
+        ensures contents { journal.new.contents ≡ journal.old.contents }
+
+        // All turns that the journal has come through are legal, and the headline holds of them.
+        ensures legal { IsLegalBook journal.new }
+    {
+        let fed = self.feed(piece, now, journal, out);
+        journal.headline();
+        fed
     }
 
     /// How many lines with a right check number carried another sequence digit than the one after the last. The first digit is
