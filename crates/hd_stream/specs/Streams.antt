@@ -1,5 +1,5 @@
 -- Streams of bytes, and their lines.
-use Rattle.std.specs.Prelude.{ℕ, ◌==◌, ◌&&◌, Bool, true, false, List, [], ◌∷◌, ◌++◌, length, nat_lt, if◌then◌else◌}
+use Rattle.std.specs.Prelude.{ℕ, ◌==◌, ◌&&◌, Bool, true, false, List, [], ◌∷◌, ◌++◌, length, map, nat_lt, if◌then◌else◌}
 
 -- What has come of a line: whether nothing has come since a carriage return but line feeds, which belong to no line; its bytes; and
 -- whether it has grown too long.
@@ -43,3 +43,19 @@ after begun (byte ∷ bytes) =
 abbrev pub without_feeds : List ℕ → List ℕ
 without_feeds [] = []
 without_feeds (byte ∷ bytes) = if byte == 10 then without_feeds bytes else byte ∷ bytes
+
+-- A text's parts between its carriage returns: the first, and those behind one.
+pub record Parts : Type 0 where
+  pub first : List ℕ
+  pub behind : List (List ℕ)
+
+abbrev pub parts_of : List ℕ → Parts
+parts_of [] = record { first = []; behind = [] }
+parts_of (byte ∷ bytes) =
+    if byte == 13 then record { first = []; behind = (parts_of bytes).first ∷ (parts_of bytes).behind }
+    else record { first = byte ∷ (parts_of bytes).first; behind = (parts_of bytes).behind }
+
+-- the lines of a whole text, and last what no carriage return ends: its first part as it is, and each other without the line feeds
+-- at its beginning
+abbrev pub cut : List ℕ → List (List ℕ)
+cut text = (parts_of text).first ∷ map without_feeds (parts_of text).behind

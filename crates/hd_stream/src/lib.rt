@@ -2,6 +2,8 @@
 #![tactic(auto)]
 
 mod feeds;
+mod laws;
 mod streams;
 
+pub use crate::laws::{cuts_change_nothing, lines_are_parts};
 pub use crate::streams::{LONGEST_LINE, Stream};
