@@ -1,3 +1,4 @@
+pub mod Echoes
 pub mod Outcomes
 pub mod Reasons
 pub mod Loans

@@ -1,6 +1,9 @@
 //! What a message is answered.
+ghost use Rattle.std.specs.Prelude.{◌≤◌};
 ghost use Rattle.hd_catalogue.specs.Contents.{facts_of};
+ghost use Rattle.hd_message.specs.Lengths.{IsShort};
 ghost use Rattle.hd_answer.specs.Answers.{IsReply};
+ghost use Rattle.hd_answer.specs.Echoes.{echoed_bytes};
 ghost use Rattle.hd_answer.specs.Outcomes.{Fits, IsKnownOutcome};
 
 use crate::checkins::checkin_reply;
@@ -23,7 +26,10 @@ pub fn reply_to<'a, A: Allocator + Copy>(
 ) -> Reply<'a>
     requires fits { Fits kind outcome.now }
     requires known { IsKnownOutcome (facts_of catalogue.now) outcome.now }
-    ensures { IsReply catalogue.now kind echo.now outcome.now result }
+    ensures reply { IsReply catalogue.now kind echo.now outcome.now result }
+
+    // It prints names of the catalogue, dates and numbers, and of the message's values only what it repeats.
+    ensures short { echoed_bytes echo.now ≤ 1024 → IsShort result }
 {
     match kind {
         Kind::Login => Reply::Login(LoginReply { taken: false }),

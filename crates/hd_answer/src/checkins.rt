@@ -1,8 +1,14 @@
 //! What a checkin is answered.
+#![tactic(auto, using(crate::proofs::NameLemmas::title_short, crate::proofs::NameLemmas::branch_short))]
+
+ghost use Rattle.std.specs.Prelude.{◌≤◌};
 ghost use Rattle.hd_catalogue.specs.Contents.{facts_of};
+ghost use Rattle.hd_message.specs.Lengths.{IsCheckinShort, IsReturnShort, IsShort};
+ghost use Rattle.hd_message.specs.declared.reply.Reply.TheVariants.{Checkin};
 ghost use Rattle.hd_message.specs.declared.kind.Kind.TheVariants as kind;
 ghost use Rattle.hd_rules.specs.Known.{IsKnownState};
 ghost use Rattle.hd_answer.specs.Checkins.{IsCheckinOutcome, IsCheckinReply, IsWhereabouts};
+ghost use Rattle.hd_answer.specs.Echoes.{echoed_bytes};
 ghost use Rattle.hd_answer.specs.Outcomes.{Fits, IsKnownOutcome};
 
 use crate::echo::Echo;
@@ -10,7 +16,7 @@ use crate::outcome::Outcome;
 use crate::reasons::reason_of;
 use hd_catalogue::Catalogue;
 use hd_message::{CheckinOutcome, CheckinReply, Whereabouts};
-use hd_rules::{Cancel, CopyState, Reply};
+use hd_rules::{Cancel, CopyState, HoldPlace, Reply};
 use std::alloc::Allocator;
 
 /// The reply to a checkin that came to this.
@@ -21,8 +27,10 @@ pub(crate) fn checkin_reply<'a, A: Allocator + Copy>(
 ) -> CheckinReply<'a>
     requires fits { Fits kind.Checkin outcome.now }
     requires known { IsKnownOutcome (facts_of catalogue.now) outcome.now }
-    ensures { IsCheckinReply catalogue.now echo.now outcome.now result }
+    ensures reply { IsCheckinReply catalogue.now echo.now outcome.now result }
+    ensures short { echoed_bytes echo.now ≤ 1024 → IsShort (Checkin result) }
 {
+    catalogue.names_are_short();
     CheckinReply {
         date: &echo.date,
         institution: catalogue.institution(),
@@ -38,8 +46,10 @@ fn checkin_outcome<'a, A: Allocator + Copy>(
 ) -> CheckinOutcome<'a>
     requires fits { Fits kind.Checkin outcome.now }
     requires known { IsKnownOutcome (facts_of catalogue.now) outcome.now }
-    ensures { IsCheckinOutcome catalogue.now outcome.now result }
+    ensures outcome { IsCheckinOutcome catalogue.now outcome.now result }
+    ensures short { IsCheckinShort result }
 {
+    catalogue.names_are_short();
     match outcome {
         Outcome::Refused(refusal) => CheckinOutcome::Refused {
             reason: reason_of(*refusal),
@@ -67,13 +77,13 @@ fn whereabouts<'a, A: Allocator + Copy>(
     state: &CopyState,
 ) -> Whereabouts<'a>
     requires { IsKnownState (facts_of catalogue.now) state.now }
-    ensures { IsWhereabouts catalogue.now state.now result }
+    ensures whereabouts { IsWhereabouts catalogue.now state.now result }
+    ensures short { IsReturnShort result }
 {
+    catalogue.names_are_short();
     match state {
         CopyState::Shelf(_) | CopyState::OnLoan(_) => Whereabouts::OpenShelf,
-        CopyState::OnHoldShelf(shelved) => Whereabouts::HoldShelf {
-            place: shelved.place,
-        },
+        CopyState::OnHoldShelf(HoldPlace { place, .. }) => Whereabouts::HoldShelf { place: *place },
         CopyState::InTransit(transit) => Whereabouts::Transit {
             branch: catalogue.branch_name(transit.to),
         },

@@ -1,7 +1,13 @@
 //! What a checkout is answered.
+#![tactic(auto, using(crate::proofs::NameLemmas::title_short, crate::proofs::NameLemmas::branch_short))]
+
+ghost use Rattle.std.specs.Prelude.{◌≤◌};
 ghost use Rattle.hd_catalogue.specs.Contents.{facts_of};
+ghost use Rattle.hd_message.specs.Lengths.{IsCheckoutShort, IsShort};
+ghost use Rattle.hd_message.specs.declared.reply.Reply.TheVariants.{Checkout};
 ghost use Rattle.hd_message.specs.declared.kind.Kind.TheVariants as kind;
 ghost use Rattle.hd_answer.specs.Loans.{IsCheckoutOutcome, IsCheckoutReply};
+ghost use Rattle.hd_answer.specs.Echoes.{echoed_bytes};
 ghost use Rattle.hd_answer.specs.Outcomes.{Fits, IsKnownOutcome};
 
 use crate::echo::Echo;
@@ -20,8 +26,10 @@ pub(crate) fn checkout_reply<'a, A: Allocator + Copy>(
 ) -> CheckoutReply<'a>
     requires fits { Fits kind.Checkout outcome.now }
     requires known { IsKnownOutcome (facts_of catalogue.now) outcome.now }
-    ensures { IsCheckoutReply catalogue.now echo.now outcome.now result }
+    ensures reply { IsCheckoutReply catalogue.now echo.now outcome.now result }
+    ensures short { echoed_bytes echo.now ≤ 1024 → IsShort (Checkout result) }
 {
+    catalogue.names_are_short();
     CheckoutReply {
         date: &echo.date,
         institution: catalogue.institution(),
@@ -38,8 +46,10 @@ fn checkout_outcome<'a, A: Allocator + Copy>(
 ) -> CheckoutOutcome<'a>
     requires fits { Fits kind.Checkout outcome.now }
     requires known { IsKnownOutcome (facts_of catalogue.now) outcome.now }
-    ensures { IsCheckoutOutcome catalogue.now outcome.now result }
+    ensures outcome { IsCheckoutOutcome catalogue.now outcome.now result }
+    ensures short { IsCheckoutShort result }
 {
+    catalogue.names_are_short();
     match outcome {
         Outcome::Refused(refusal) => CheckoutOutcome::Refused {
             reason: reason_of(*refusal),

@@ -1,7 +1,14 @@
 //! What a hold message is answered.
+#![tactic(auto, using(crate::proofs::NameLemmas::title_short, crate::proofs::NameLemmas::branch_short))]
+
+ghost use Rattle.std.specs.Prelude.{◌≤◌};
+ghost use Rattle.std.specs.Option.{option_copied};
 ghost use Rattle.hd_catalogue.specs.Contents.{facts_of};
+ghost use Rattle.hd_message.specs.Lengths.{IsHoldShort, IsShort, bytes_of, title_bytes};
+ghost use Rattle.hd_message.specs.declared.reply.Reply.TheVariants.{Hold};
 ghost use Rattle.hd_message.specs.declared.kind.Kind.TheVariants as kind;
 ghost use Rattle.hd_answer.specs.Holds.{IsHoldOutcome, IsHoldReply};
+ghost use Rattle.hd_answer.specs.Echoes.{echoed_bytes};
 ghost use Rattle.hd_answer.specs.Outcomes.{Fits, IsKnownOutcome};
 
 use crate::echo::Echo;
@@ -20,8 +27,10 @@ pub(crate) fn hold_reply<'a, A: Allocator + Copy>(
 ) -> HoldReply<'a>
     requires fits { Fits kind.Hold outcome.now }
     requires known { IsKnownOutcome (facts_of catalogue.now) outcome.now }
-    ensures { IsHoldReply catalogue.now echo.now outcome.now result }
+    ensures reply { IsHoldReply catalogue.now echo.now outcome.now result }
+    ensures short { echoed_bytes echo.now ≤ 1024 → IsShort (Hold result) }
 {
+    catalogue.names_are_short();
     HoldReply {
         date: &echo.date,
         institution: catalogue.institution(),
@@ -39,8 +48,11 @@ fn hold_outcome<'a, A: Allocator + Copy>(
 ) -> HoldOutcome<'a>
     requires fits { Fits kind.Hold outcome.now }
     requires known { IsKnownOutcome (facts_of catalogue.now) outcome.now }
-    ensures { IsHoldOutcome catalogue.now echo.now outcome.now result }
+    ensures outcome { IsHoldOutcome catalogue.now echo.now outcome.now result }
+    ensures short { IsHoldShort result }
+    ensures title { title_bytes result ≤ bytes_of (option_copied echo.now.title) }
 {
+    catalogue.names_are_short();
     match outcome {
         Outcome::Refused(refusal) => HoldOutcome::Refused {
             title: echo.title,

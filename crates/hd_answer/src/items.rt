@@ -1,8 +1,14 @@
 //! What a query of a copy is answered.
+#![tactic(auto, using(crate::proofs::NameLemmas::title_short, crate::proofs::NameLemmas::branch_short))]
+
+ghost use Rattle.std.specs.Prelude.{◌≤◌};
 ghost use Rattle.hd_catalogue.specs.Contents.{facts_of};
+ghost use Rattle.hd_message.specs.Lengths.{IsCopyShort, IsItemShort, IsShort};
+ghost use Rattle.hd_message.specs.declared.reply.Reply.TheVariants.{Item};
 ghost use Rattle.hd_message.specs.declared.kind.Kind.TheVariants as kind;
 ghost use Rattle.hd_rules.specs.Known.{IsKnownState};
 ghost use Rattle.hd_answer.specs.Items.{IsCirculation, IsItemOutcome, IsItemReply};
+ghost use Rattle.hd_answer.specs.Echoes.{echoed_bytes};
 ghost use Rattle.hd_answer.specs.Outcomes.{Fits, IsKnownOutcome};
 
 use crate::echo::Echo;
@@ -21,8 +27,10 @@ pub(crate) fn item_reply<'a, A: Allocator + Copy>(
 ) -> ItemReply<'a>
     requires fits { Fits kind.Item outcome.now }
     requires known { IsKnownOutcome (facts_of catalogue.now) outcome.now }
-    ensures { IsItemReply catalogue.now echo.now outcome.now result }
+    ensures reply { IsItemReply catalogue.now echo.now outcome.now result }
+    ensures short { echoed_bytes echo.now ≤ 1024 → IsShort (Item result) }
 {
+    catalogue.names_are_short();
     ItemReply {
         date: &echo.date,
         copy: echo.copy.unwrap_or(b""),
@@ -37,8 +45,10 @@ fn item_outcome<'a, A: Allocator + Copy>(
 ) -> ItemOutcome<'a>
     requires fits { Fits kind.Item outcome.now }
     requires known { IsKnownOutcome (facts_of catalogue.now) outcome.now }
-    ensures { IsItemOutcome catalogue.now outcome.now result }
+    ensures outcome { IsItemOutcome catalogue.now outcome.now result }
+    ensures short { IsItemShort result }
 {
+    catalogue.names_are_short();
     match outcome {
         Outcome::Refused(refusal) => ItemOutcome::Refused {
             reason: reason_of(*refusal),
@@ -59,8 +69,10 @@ fn circulation<'a, A: Allocator + Copy>(
     state: &'a CopyState,
 ) -> Circulation<'a>
     requires { IsKnownState (facts_of catalogue.now) state.now }
-    ensures { IsCirculation catalogue.now state.now result }
+    ensures circulation { IsCirculation catalogue.now state.now result }
+    ensures short { IsCopyShort result }
 {
+    catalogue.names_are_short();
     match state {
         CopyState::Shelf(branch) => Circulation::OpenShelf {
             branch: catalogue.branch_name(*branch),

@@ -1,5 +1,6 @@
 //! The reasons that AF prints.
 ghost use Rattle.std.specs.Prelude.{◌≡◌};
+ghost use Rattle.hd_message.specs.Lengths.{HasNumber};
 ghost use Rattle.hd_answer.specs.Reasons.{reason_of};
 
 use hd_message::Reason;
@@ -7,7 +8,8 @@ use hd_rules::Refusal;
 
 /// The reason of a refusal.
 pub(crate) fn reason_of(refusal: Refusal) -> Reason
-    ensures { result ≡ reason_of refusal }
+    ensures reason { result ≡ reason_of refusal }
+    ensures short { HasNumber result }
 {
     match refusal {
         Refusal::NotLoggedIn => Reason::NotLoggedIn,

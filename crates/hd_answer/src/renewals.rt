@@ -1,7 +1,13 @@
 //! What a renewal is answered.
+#![tactic(auto, using(crate::proofs::NameLemmas::title_short, crate::proofs::NameLemmas::branch_short))]
+
+ghost use Rattle.std.specs.Prelude.{◌≤◌};
 ghost use Rattle.hd_catalogue.specs.Contents.{facts_of};
+ghost use Rattle.hd_message.specs.Lengths.{IsRenewalShort, IsShort};
+ghost use Rattle.hd_message.specs.declared.reply.Reply.TheVariants.{Renew};
 ghost use Rattle.hd_message.specs.declared.kind.Kind.TheVariants as kind;
 ghost use Rattle.hd_answer.specs.Loans.{IsRenewOutcome, IsRenewReply};
+ghost use Rattle.hd_answer.specs.Echoes.{echoed_bytes};
 ghost use Rattle.hd_answer.specs.Outcomes.{Fits, IsKnownOutcome};
 
 use crate::echo::Echo;
@@ -20,8 +26,10 @@ pub(crate) fn renew_reply<'a, A: Allocator + Copy>(
 ) -> RenewReply<'a>
     requires fits { Fits kind.Renew outcome.now }
     requires known { IsKnownOutcome (facts_of catalogue.now) outcome.now }
-    ensures { IsRenewReply catalogue.now echo.now outcome.now result }
+    ensures reply { IsRenewReply catalogue.now echo.now outcome.now result }
+    ensures short { echoed_bytes echo.now ≤ 1024 → IsShort (Renew result) }
 {
+    catalogue.names_are_short();
     RenewReply {
         date: &echo.date,
         institution: catalogue.institution(),
@@ -38,8 +46,10 @@ fn renew_outcome<'a, A: Allocator + Copy>(
 ) -> RenewOutcome<'a>
     requires fits { Fits kind.Renew outcome.now }
     requires known { IsKnownOutcome (facts_of catalogue.now) outcome.now }
-    ensures { IsRenewOutcome catalogue.now outcome.now result }
+    ensures outcome { IsRenewOutcome catalogue.now outcome.now result }
+    ensures short { IsRenewalShort result }
 {
+    catalogue.names_are_short();
     match outcome {
         Outcome::Refused(refusal) => RenewOutcome::Refused {
             reason: reason_of(*refusal),

@@ -1,3 +1,4 @@
 pub mod LineLemmas
 pub mod SoundLemmas
 pub mod FileLemmas
+pub mod ShortLemmas

@@ -1,5 +1,5 @@
 -- What a catalogue says: a list for each kind of name. A name's number is its place, from 0, in the order of first appearance.
-use Rattle.std.specs.Prelude.{◌≡◌, ℕ, ◌<◌, Bool, true, false, List, [], length, Option, None, Some, if◌then◌else◌, option_and_then}
+use Rattle.std.specs.Prelude.{◌≡◌, ℕ, ◌<◌, ◌≤◌, Bool, true, false, List, [], length, Option, None, Some, if◌then◌else◌, option_and_then}
 use Rattle.std.specs.Option.{option_map_or}
 use Rattle.std.specs.Str.{bytes_eq}
 use Rattle.hd_names.specs.Names.{AreDistinct, facts_at, name_at, number_of}
@@ -100,3 +100,20 @@ pub record AreDistinctNames (k : Contents) : Type 0 where
   pub patrons : AreDistinct k.patrons
   pub titles : AreDistinct k.titles
   pub copies : AreDistinct k.copies
+
+-- a name of 1 to 60 bytes
+abbrev pub IsShortName : List ℕ → Type 0
+IsShortName name = (1 ≤ length name) × (length name ≤ 60)
+
+-- each of these is one
+abbrev pub AreShortNames : {F : Type 0} → List (List ℕ × F) → Type 0
+AreShortNames names = (number : ℕ) (name : List ℕ) → name_at names number ≡ Some name → IsShortName name
+
+-- the institution and every name have 1 to 60 bytes
+pub record HasShortNames (k : Contents) : Type 0 where
+  pub institution : IsShortName k.institution
+  pub branches : AreShortNames k.branches
+  pub terminals : AreShortNames k.terminals
+  pub patrons : AreShortNames k.patrons
+  pub titles : AreShortNames k.titles
+  pub copies : AreShortNames k.copies

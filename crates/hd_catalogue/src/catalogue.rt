@@ -1,7 +1,7 @@
 //! The catalogue.
 ghost use Rattle.std.specs.Prelude.{◌≡◌, ◌≤◌};
 ghost use Rattle.hd_rules.specs.declared.limits.TheConstants.{MOST_COMMANDS};
-ghost use Rattle.hd_catalogue.specs.Contents.{without_names};
+ghost use Rattle.hd_catalogue.specs.Contents.{IsShortName, without_names};
 
 use crate::facts::{BranchFacts, CopyFacts, PatronFacts, Settings, TitleFacts};
 use crate::terminal::TerminalFacts;
@@ -24,13 +24,13 @@ pub struct Catalogue<A: Allocator = Global> {
 }
 
 impl<A: Allocator> Model for Catalogue<A> {
-    ghost use Rattle.hd_catalogue.specs.Contents.{Contents, IsSound};
+    ghost use Rattle.hd_catalogue.specs.Contents.{Contents, HasShortNames, IsSound};
 
     ghost Value = { Contents };
 
     ghost view = { λ c. record { settings = c.settings; institution = c.institution.items; branches = c.branches; terminals = c.terminals; patrons = c.patrons; titles = c.titles; copies = c.copies } };
 
-    ghost invariant = { λ c. IsSound (record { settings = c.settings; institution = c.institution.items; branches = c.branches; terminals = c.terminals; patrons = c.patrons; titles = c.titles; copies = c.copies }) };
+    ghost invariant = { λ c. IsSound (record { settings = c.settings; institution = c.institution.items; branches = c.branches; terminals = c.terminals; patrons = c.patrons; titles = c.titles; copies = c.copies }) × HasShortNames (record { settings = c.settings; institution = c.institution.items; branches = c.branches; terminals = c.terminals; patrons = c.patrons; titles = c.titles; copies = c.copies }) };
 }
 
 impl<A: Allocator + Copy> Catalogue<A> {
@@ -38,6 +38,7 @@ impl<A: Allocator + Copy> Catalogue<A> {
     pub(crate) fn new(alloc: A, settings: Settings, institution: Vec<u8, A>) -> Catalogue<A>
         requires some_command { 1 ≤ settings.command_limit }
         requires commands { settings.command_limit ≤ MOST_COMMANDS }
+        requires short { IsShortName institution.items }
         ensures { result ≡ without_names settings institution.items }
     {
         Catalogue {

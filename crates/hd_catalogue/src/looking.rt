@@ -5,7 +5,7 @@
 
 ghost use Rattle.std.specs.Prelude.{◌≡◌, ◌<◌, Some};
 ghost use Rattle.hd_rules.specs.Facts.{AreInRange};
-ghost use Rattle.hd_catalogue.specs.Contents.{AreDistinctNames, branch_name, branch_number, branch_of, copy_name, copy_number, facts_of, patron_name, patron_number, title_name, title_number};
+ghost use Rattle.hd_catalogue.specs.Contents.{AreDistinctNames, HasShortNames, branch_name, branch_number, branch_of, copy_name, copy_number, facts_of, patron_name, patron_number, title_name, title_number};
 
 use crate::catalogue::Catalogue;
 use hd_date::OffsetMinutes;
@@ -178,6 +178,13 @@ impl<A: Allocator + Copy> Catalogue<A> {
     /// Shows that the facts keep to their limits, and that each number among them is one of the catalogue.
     pub fn facts_are_in_range(&self)
         ensures { AreInRange (facts_of self.now) }
+    {
+        let _ = &self.settings;
+    }
+
+    /// Shows that the institution and every name have 1 to 60 bytes.
+    pub fn names_are_short(&self)
+        ensures { HasShortNames self.now }
     {
         let _ = &self.settings;
     }

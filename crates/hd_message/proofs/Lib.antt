@@ -1,5 +1,6 @@
 pub mod DueLemmas
 pub mod LengthLemmas
+pub mod RepeatedLemmas
 pub mod WrittenLemmas
 pub mod ReadBackLemmas
 pub mod ReadableLemmas

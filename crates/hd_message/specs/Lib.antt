@@ -13,6 +13,7 @@ pub mod ItemReplies
 pub mod Replies
 pub mod Part
 pub mod Lengths
+pub mod Repeated
 pub mod Grammar
 pub mod WrittenMessages
 pub mod WrittenHolds

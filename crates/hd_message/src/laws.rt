@@ -1,8 +1,9 @@
 //! Laws of requests and replies.
-ghost use Rattle.std.specs.Prelude.{List, ℕ};
+ghost use Rattle.std.specs.Prelude.{◌≤◌, List, ℕ, length};
 ghost use Rattle.hd_message.specs.Grammar.{IsReadBack, body_of};
 ghost use Rattle.hd_message.specs.Lengths.{IsBounded};
 ghost use Rattle.hd_message.specs.Reading.{IsRequest, IsUnreadable};
+ghost use Rattle.hd_message.specs.Repeated.{readable_bytes, repeated_bytes};
 ghost use Rattle.hd_message.specs.WrittenHolds.{HoldValues, IsHoldWritable, StatesHold, hold_fields, hold_fixed};
 ghost use Rattle.hd_message.specs.WrittenMessages.{CheckinValues, CheckoutValues, IsCheckinWritable, IsCheckoutWritable, IsItemWritable, IsLoginWritable, IsRenewWritable, ItemValues, LoginValues, RenewValues, StatesCheckin, StatesCheckout, StatesItem, StatesLogin, StatesRenew, checkin_fields, checkin_fixed, checkout_fields, checkout_fixed, item_fields, item_fixed, login_fields, login_fixed, renew_fields, renew_fixed};
 ghost use Rattle.hd_message.specs.declared.reply.Reply.{Reply};
@@ -13,6 +14,12 @@ ghost use Rattle.hd_message.specs.declared.unreadable.Unreadable.{Unreadable};
 /// values has at most 2,038 bytes, so with trailer and carriage return at most 2,048.
 pub fn replies_are_short()
     ensures { (reply : Reply) → IsBounded reply }
+{}
+
+/// The values of a message that its reply repeats lie apart from one another in its body: together they have at most as many bytes.
+pub fn repeated_values_fit_their_body()
+    ensures request { (body : List ℕ) (request : Request) → IsRequest body request → repeated_bytes request ≤ length body }
+    ensures unreadable { (body : List ℕ) (message : Unreadable) → IsUnreadable body message → readable_bytes message ≤ length body }
 {}
 
 /// What a terminal writes for a message is read as a request with just its values, and as nothing else; no value has a bar.

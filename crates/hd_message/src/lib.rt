@@ -27,7 +27,10 @@ mod values;
 mod writing;
 
 pub use crate::kind::Kind;
-pub use crate::laws::{replies_are_short, requests_are_read_back, requests_are_readable};
+pub use crate::laws::{
+    repeated_values_fit_their_body, replies_are_short, requests_are_read_back,
+    requests_are_readable,
+};
 pub use crate::reading::read;
 pub use crate::reason::Reason;
 pub use crate::reply::{

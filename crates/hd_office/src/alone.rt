@@ -1,45 +1,46 @@
 //! What is answered to messages that ask nothing of the desk.
-ghost use Rattle.std.specs.Prelude.{◌≡◌, ◌<◌, ◌++◌, [], ℕ, List, Option, IfOk, IfSome, OnOk, OnErr, true};
+ghost use Rattle.std.specs.Prelude.{◌≡◌, ◌+◌, ◌<◌, ◌≤◌, ◌++◌, [], ℕ, List, Option, IfSome, true, vec_len, vec_capacity};
 ghost use Rattle.std.specs.Option.{ForSome};
 ghost use Rattle.hd_catalogue.specs.Contents.{facts_of};
 ghost use Rattle.hd_ask.specs.Messages.{asks_nothing};
 ghost use Rattle.hd_office.specs.Answers.{IsAnswerTo, IsKnownPlace, SaysStatus, login_terminal, login_text, moved_to, place_of};
 
 use crate::said::Said;
+use crate::writing::write_reply;
 use hd_ask::Place;
 use hd_catalogue::Catalogue;
 use hd_date::Stamp18;
-use hd_message::{LoginReply, LoginRequest, Reply, Request, StatusReply, write};
+use hd_message::{LoginReply, LoginRequest, Reply, Request, StatusReply};
 use hd_rules::TerminalNo;
-use std::alloc::{AllocError, Allocator};
+use std::alloc::Allocator;
 
 /// Appends the reply to a message that asks nothing of the desk, and moves the session where it is a login that is taken.
-///
-/// At an error, which is want of memory, nothing is changed.
 pub(crate) fn answer_alone<A: Allocator + Copy>(
     catalogue: &Catalogue<A>,
     now: &Stamp18,
     place: &mut Option<Place>,
     request: &Request<'_>,
     out: &mut Vec<u8, A>,
-) -> Result<Said, AllocError>
+) -> Said
     requires nothing { asks_nothing request.now ≡ true }
     requires place { ForSome place.old (IsKnownPlace (facts_of catalogue.now)) }
-    ensures answer { IfOk result (λ said. (text : List ℕ) × (out.new.items ≡ out.old.items ++ text) × ((seat : ℕ) (line : Option (List ℕ)) → IsAnswerTo catalogue.now seat now.now place.old line request.now said text [] place.new)) }
+    requires room { vec_len out.old + 2038 ≤ vec_capacity out.old }
+    ensures answer { (text : List ℕ) × (out.new.items ≡ out.old.items ++ text) × ((seat : ℕ) (line : Option (List ℕ)) → IsAnswerTo catalogue.now seat now.now place.old line request.now result text [] place.new) }
     ensures place { ForSome place.new (IsKnownPlace (facts_of catalogue.now)) }
-    ensures err { OnErr result ((out.new.items ≡ out.old.items) × (place.new ≡ place.old)) }
+    ensures short { vec_len out.new ≤ vec_len out.old + 2038 }
+    ensures capacity { vec_capacity out.old ≤ vec_capacity out.new }
 {
     match request {
         Request::Login(login) => {
-            log_in(catalogue, place, login, out)?;
-            Ok(Said::Reply)
+            log_in(catalogue, place, login, out);
+            Said::Reply
         }
         Request::Status => {
-            write_status(catalogue, now, out)?;
-            Ok(Said::Reply)
+            write_status(catalogue, now, out);
+            Said::Reply
         }
-        Request::Resend => Ok(Said::LastReply),
-        _ => Ok(Said::SendAgain),
+        Request::Resend => Said::LastReply,
+        _ => Said::SendAgain,
     }
 }
 
@@ -49,20 +50,21 @@ fn log_in<A: Allocator + Copy>(
     place: &mut Option<Place>,
     login: &LoginRequest<'_>,
     out: &mut Vec<u8, A>,
-) -> Result<(), AllocError>
+)
     requires place { ForSome place.old (IsKnownPlace (facts_of catalogue.now)) }
-    ensures text { OnOk result (out.new.items ≡ out.old.items ++ login_text catalogue.now login.now) }
-    ensures next { OnOk result (place.new ≡ moved_to catalogue.now place.old (login_terminal catalogue.now login.now)) }
+    requires room { vec_len out.old + 2038 ≤ vec_capacity out.old }
+    ensures text { out.new.items ≡ out.old.items ++ login_text catalogue.now login.now }
+    ensures next { place.new ≡ moved_to catalogue.now place.old (login_terminal catalogue.now login.now) }
     ensures place { ForSome place.new (IsKnownPlace (facts_of catalogue.now)) }
-    ensures err { OnErr result ((out.new.items ≡ out.old.items) × (place.new ≡ place.old)) }
+    ensures short { vec_len out.new ≤ vec_len out.old + 2038 }
+    ensures capacity { vec_capacity out.old ≤ vec_capacity out.new }
 {
     let terminal = terminal_of(catalogue, login);
     let taken = terminal.is_some();
-    write(&Reply::Login(LoginReply { taken }), out)?;
+    write_reply(&Reply::Login(LoginReply { taken }), out);
     if let Some(terminal) = terminal {
         *place = Some(place_of(catalogue, terminal));
     }
-    Ok(())
 }
 
 /// The terminal that a login names, with its password. One with encrypted values names none.
@@ -93,19 +95,17 @@ fn place_of<A: Allocator + Copy>(catalogue: &Catalogue<A>, terminal: TerminalNo)
 }
 
 /// Appends the reply to a status message.
-fn write_status<A: Allocator + Copy>(
-    catalogue: &Catalogue<A>,
-    now: &Stamp18,
-    out: &mut Vec<u8, A>,
-) -> Result<(), AllocError>
-    ensures text { OnOk result ((text : List ℕ) × (out.new.items ≡ out.old.items ++ text) × SaysStatus catalogue.now now.now text) }
-    ensures err { OnErr result (out.new.items ≡ out.old.items) }
+fn write_status<A: Allocator + Copy>(catalogue: &Catalogue<A>, now: &Stamp18, out: &mut Vec<u8, A>)
+    requires room { vec_len out.old + 2038 ≤ vec_capacity out.old }
+    ensures text { (text : List ℕ) × (out.new.items ≡ out.old.items ++ text) × SaysStatus catalogue.now now.now text }
+    ensures short { vec_len out.new ≤ vec_len out.old + 2038 }
+    ensures capacity { vec_capacity out.old ≤ vec_capacity out.new }
 {
+    catalogue.names_are_short();
     let date = now.print();
     let reply = StatusReply {
         date: date.as_slice(),
         institution: catalogue.institution(),
     };
-    write(&Reply::Status(reply), out)?;
-    Ok(())
+    write_reply(&Reply::Status(reply), out);
 }

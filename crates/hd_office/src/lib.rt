@@ -9,6 +9,7 @@ mod office;
 mod responding;
 mod said;
 mod telling;
+mod writing;
 
 pub use crate::ask::Ask;
 pub use crate::fault::OfficeFault;

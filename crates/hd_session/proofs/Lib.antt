@@ -1,2 +1,6 @@
 pub mod Hearing
 pub mod Ends
+pub mod Feeding
+pub mod Playing
+pub mod Knowing
+pub mod Strangers

@@ -1,3 +1,4 @@
 pub mod Trailers
 pub mod Standing
 pub mod Sessions
+pub mod Scripts

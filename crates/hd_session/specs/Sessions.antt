@@ -1,10 +1,9 @@
 -- Sessions: the lines of a stream, each answered in turn.
-use Rattle.std.specs.Prelude.{◌≡◌, ℕ, true, List, [], ◌∷◌, ◌++◌, Option, None}
+use Rattle.std.specs.Prelude.{◌≡◌, ◌⊎◌, ℕ, List, [], ◌∷◌, ◌++◌, Option, None, Some, if◌then◌else◌}
 use Rattle.hd_date.specs.Stamps.{Stamp}
 use Rattle.hd_rules.specs.Journal.{Turn}
 use Rattle.hd_catalogue.specs.Contents.{Contents}
 use Rattle.hd_stream.specs.Streams.{Begun, opening, lines_in, after}
-use Rattle.hd_office.specs.Answers.{MakesAtMostOne}
 use Rattle.hd_office.specs.declared.fault.OfficeFault.{OfficeFault}
 use Rattle.hd_office.specs.declared.fault.OfficeFault.TheVariants as fault
 use Rattle.hd_session.specs.declared.ended.Ended.{Ended}
@@ -38,13 +37,11 @@ abbrev pub AreHeard : Contents → ℕ → Stamp → List (List ℕ) → Stands 
 AreHeard k seat now [] s made next text = (made ≡ []) × (next ≡ s) × (text ≡ [])
 AreHeard k seat now (line ∷ lines) s made next text = OneMore (AreHeard k seat now lines) k seat now s line made next text
 
--- The lines are answered: these turns are added, and their replies appended.
-pub record Answers (k : Contents) (seat : ℕ) (now : Stamp) (lines : List (List ℕ)) (s next : Stands) (turns turns' : List Turn) (out out' : List ℕ) : Type 0 where
-  pub made : List Turn
-  pub text : List ℕ
-  pub heard : AreHeard k seat now lines s made next text
-  pub turns_are : turns' ≡ turns ++ made
-  pub out_is : out' ≡ out ++ text
+-- A session hears a piece of its stream whole: each line that ends in it is answered. It ends where one has grown too long.
+pub record HearsAll (k : Contents) (seat : ℕ) (now : Stamp) (h : Hearing) (piece : List ℕ) (made : List Turn) (h' : Hearing) (text : List ℕ) : Type 0 where
+  pub heard : AreHeard k seat now (lines_in h.begun piece) h.standing made h'.standing text
+  pub begun : h'.begun ≡ after h.begun piece
+  pub ended : h'.ended ≡ (if h'.begun.too_long then Some TooLong else None)
 
 -- why a session ends at a line that can't be answered
 abbrev pub IsOfLine : Ended → Type 0
@@ -52,23 +49,43 @@ IsOfLine TooLong = ⊥
 IsOfLine Memory = Unit {0}
 IsOfLine Estranged = Unit {0}
 
--- The session ends at a line that can't be answered: those before it are. At most its turn is made, and it gets no reply.
-pub record BreaksAt (k : Contents) (seat : ℕ) (now : Stamp) (lines : List (List ℕ)) (s : Stands) (turns turns' : List Turn) (out out' : List ℕ) : Type 0 where
+-- A session ends at a line that can't be answered. Those before it are; it makes no turn and gets no reply.
+pub record EndsAtLine (k : Contents) (seat : ℕ) (now : Stamp) (h : Hearing) (piece : List ℕ) (made : List Turn) (h' : Hearing) (text : List ℕ) : Type 0 where
   pub before : List (List ℕ)
   pub line : List ℕ
   pub later : List (List ℕ)
-  pub split : lines ≡ before ++ line ∷ later
+  pub split : lines_in h.begun piece ≡ before ++ line ∷ later
   pub between : Stands
-  pub turns_before : List Turn
-  pub answers : Answers k seat now before s between turns turns_before out out'
-  pub one : MakesAtMostOne turns_before turns'
+  pub heard : AreHeard k seat now before h.standing made between text
+  pub why : Ended
+  pub of_line : IsOfLine why
+  pub ended : h'.ended ≡ Some why
 
--- a session ends in a piece: its line grows too long after the lines before it are answered, or one can't be answered
-abbrev pub Breaks : Contents → ℕ → Stamp → Begun → List ℕ → Stands → Ended → List Turn → List Turn → List ℕ → List ℕ → Type 0
-Breaks k seat now begun piece s TooLong turns turns' out out' =
-    ((after begun piece).too_long ≡ true) × ((next : Stands) × Answers k seat now (lines_in begun piece) s next turns turns' out out')
-Breaks k seat now begun piece s Memory turns turns' out out' = BreaksAt k seat now (lines_in begun piece) s turns turns' out out'
-Breaks k seat now begun piece s Estranged turns turns' out out' = BreaksAt k seat now (lines_in begun piece) s turns turns' out out'
+-- a session that has ended, or not, is fed a piece of its stream
+abbrev pub IsFedAt : Option Ended → Contents → ℕ → Stamp → Hearing → List ℕ → List Turn → Hearing → List ℕ → Type 0
+IsFedAt (Some why) k seat now h piece made h' text = (made ≡ []) × (h' ≡ h) × (text ≡ [])
+IsFedAt None k seat now h piece made h' text = HearsAll k seat now h piece made h' text ⊎ EndsAtLine k seat now h piece made h' text
+
+-- a session is fed a piece of its stream: these turns are made, it goes on so, and it is answered with this text. One that has ended
+-- hears nothing more.
+abbrev pub IsFed : Contents → ℕ → Stamp → Hearing → List ℕ → List Turn → Hearing → List ℕ → Type 0
+IsFed k seat now h piece made h' text = IsFedAt h.ended k seat now h piece made h' text
+
+-- A session is fed a piece at an office: the turns are added there, and the text is appended.
+pub record Feeds (k : Contents) (seat : ℕ) (now : Stamp) (h : Hearing) (piece : List ℕ) (h' : Hearing) (turns turns' : List Turn) (out out' : List ℕ) : Type 0 where
+  pub made : List Turn
+  pub text : List ℕ
+  pub fed : IsFed k seat now h piece made h' text
+  pub turns_are : turns' ≡ turns ++ made
+  pub out_is : out' ≡ out ++ text
+
+-- Some lines are answered at an office: the turns are added there, and the text is appended.
+pub record Answers (k : Contents) (seat : ℕ) (now : Stamp) (lines : List (List ℕ)) (s next : Stands) (turns turns' : List Turn) (out out' : List ℕ) : Type 0 where
+  pub made : List Turn
+  pub text : List ℕ
+  pub heard : AreHeard k seat now lines s made next text
+  pub turns_are : turns' ≡ turns ++ made
+  pub out_is : out' ≡ out ++ text
 
 -- why a session ends whose office meets this fault
 abbrev pub reason_of : OfficeFault → Ended

@@ -1,60 +1,61 @@
 //! Closing a reply: its trailer, and its carriage return.
-ghost use Rattle.std.specs.Prelude.{◌≡◌, ◌≤◌, ◌∷◌, [], ◌++◌, OnOk, drop, take, true, vec_len};
+ghost use Rattle.std.specs.Prelude.{◌≡◌, ◌<◌, ◌≤◌, ◌+◌, ◌∷◌, [], ◌++◌, drop, take, true, vec_capacity, vec_len};
 ghost use Rattle.hd_session.specs.Trailers.{closed, send_again};
 
 use hd_guard::{Seq, seal};
 use hd_message::{Reply, write};
-use std::alloc::{AllocError, Allocator};
+use std::alloc::Allocator;
 
-/// Closes the reply that begins at `from`: by a trailer where its line was checked, and a carriage return.
+/// Closes the reply that begins at `from`: by a trailer where its line was checked, and a carriage return. There is room for them.
 pub(crate) fn close<A: Allocator>(
     out: &mut Vec<u8, A>,
     from: usize,
     checked: bool,
     digit: Option<Seq>,
-) -> Result<(), AllocError>
-    requires { from ≤ vec_len out.old }
-    ensures { OnOk result (out.new.items ≡ take from out.old.items ++ closed checked digit (drop from out.old.items)) }
+)
+    requires from { from ≤ vec_len out.old }
+    requires room { vec_len out.old + 10 ≤ vec_capacity out.old }
+    ensures text { out.new.items ≡ take from out.old.items ++ closed checked digit (drop from out.old.items) }
+    ensures short { vec_len out.new ≤ vec_len out.old + 10 }
+    ensures capacity { vec_capacity out.old ≤ vec_capacity out.new }
 {
     if checked {
-        close_checked(out, from, digit)?;
+        close_checked(out, from, digit);
     } else {
-        put_return(out)?;
+        put_return(out);
     }
-    Ok(())
 }
 
 /// The same of a reply to a line with a trailer.
-fn close_checked<A: Allocator>(
-    out: &mut Vec<u8, A>,
-    from: usize,
-    digit: Option<Seq>,
-) -> Result<(), AllocError>
-    requires { from ≤ vec_len out.old }
-    ensures { OnOk result (out.new.items ≡ take from out.old.items ++ closed true digit (drop from out.old.items)) }
+fn close_checked<A: Allocator>(out: &mut Vec<u8, A>, from: usize, digit: Option<Seq>)
+    requires from { from ≤ vec_len out.old }
+    requires room { vec_len out.old + 10 ≤ vec_capacity out.old }
+    ensures text { out.new.items ≡ take from out.old.items ++ closed true digit (drop from out.old.items) }
+    ensures short { vec_len out.new ≤ vec_len out.old + 10 }
+    ensures capacity { vec_capacity out.old ≤ vec_capacity out.new }
 {
-    seal(out, from, digit)?;
-    put_return(out)?;
-    Ok(())
+    seal(out, from, digit).unwrap();
+    put_return(out);
 }
 
-/// Appends a carriage return.
-fn put_return<A: Allocator>(out: &mut Vec<u8, A>) -> Result<(), AllocError>
-    ensures { OnOk result (out.new.items ≡ out.old.items ++ 13 ∷ []) }
+/// Appends a carriage return, for which there is room.
+fn put_return<A: Allocator>(out: &mut Vec<u8, A>)
+    requires { vec_len out.old < vec_capacity out.old }
+    ensures text { out.new.items ≡ out.old.items ++ 13 ∷ [] }
+    ensures len { vec_len out.new ≡ vec_len out.old + 1 }
+    ensures capacity { vec_capacity out.old ≤ vec_capacity out.new }
 {
-    out.push(b'\r')?;
-    Ok(())
+    out.push(b'\r').unwrap();
 }
 
-/// Appends a 96.
-pub(crate) fn put_send_again<A: Allocator>(
-    out: &mut Vec<u8, A>,
-    checked: bool,
-) -> Result<(), AllocError>
-    ensures { OnOk result (out.new.items ≡ out.old.items ++ send_again checked) }
+/// Appends a 96, for which there is room.
+pub(crate) fn put_send_again<A: Allocator>(out: &mut Vec<u8, A>, checked: bool)
+    requires { vec_len out.old + 12 ≤ vec_capacity out.old }
+    ensures text { out.new.items ≡ out.old.items ++ send_again checked }
+    ensures short { vec_len out.new ≤ vec_len out.old + 12 }
+    ensures capacity { vec_capacity out.old ≤ vec_capacity out.new }
 {
     let from = out.len();
-    write(&Reply::RequestScResend, out)?;
-    close(out, from, checked, None)?;
-    Ok(())
+    write(&Reply::RequestScResend, out).unwrap();
+    close(out, from, checked, None);
 }

@@ -1,23 +1,19 @@
 //! Sessions.
-ghost use Rattle.std.specs.Prelude.{◌≡◌, ◌∷◌, [], ◌++◌, Some, None, Err, IfErr, IfOk, OnOk, OnErr, true, false};
+ghost use Rattle.std.specs.Prelude.{◌≡◌, ◌≤◌, ◌∷◌, [], Some, None, IfErr, IfOk, OnOk, OnErr, length, vec_capacity};
 ghost use Rattle.std.specs.Option.{ForSome};
 ghost use Rattle.hd_catalogue.specs.Contents.{facts_of};
 ghost use Rattle.hd_journal.specs.Books.{IsLegalBook};
-ghost use Rattle.hd_office.specs.Answers.{IsKnownPlace, MakesAtMostOne};
-ghost use Rattle.hd_stream.specs.Streams.{after, lines_in};
-ghost use Rattle.hd_session.specs.Sessions.{Answers, Breaks, IsOfLine, new_session};
+ghost use Rattle.hd_office.specs.Answers.{IsKnownPlace};
+ghost use Rattle.hd_session.specs.Sessions.{Answers, Feeds, IsOfLine, new_session};
 
 use crate::ended::Ended;
-use crate::standing::Standing;
+use crate::standing::{LONGEST_REPLY, Standing};
 use hd_date::Stamp18;
 use hd_journal::Journal;
 use hd_office::Office;
 use hd_stream::Stream;
 use std::alloc::{AllocError, Allocator, Global};
 use std::marker::Model;
-
-/// The room that is made for a reply before its turn. No reply is longer, its trailer and carriage return included.
-const LONGEST_REPLY: usize = 2_048;
 
 /// A terminal's session: its line that hasn't ended, and where it stands (docs/protocol.md, "Sessions").
 #[derive(Drop)]
@@ -30,11 +26,14 @@ pub struct Session<A: Allocator = Global> {
 }
 
 impl<A: Allocator> Model for Session<A> {
+    ghost use Rattle.std.specs.Prelude.{◌≤◌, vec_capacity};
     ghost use Rattle.hd_session.specs.Sessions.{Hearing};
 
     ghost Value = { Hearing };
 
     ghost view = { λ s. record { begun = s.stream; standing = s.standing; ended = s.ended } };
+
+    ghost invariant = { λ s. 2048 ≤ vec_capacity s.reply };
 }
 
 impl<A: Allocator + Copy> Session<A> {
@@ -57,14 +56,15 @@ impl<A: Allocator + Copy> Session<A> {
     }
 
     /// Takes a piece of the terminal's stream: each line that ends in it is answered, its turn made at the office and its reply,
-    /// with its carriage return, appended to `out`. However a stream is cut into pieces, its lines are answered alike.
+    /// with its carriage return, appended to `out`. However a stream is cut into pieces, its lines are answered alike
+    /// (`pieces_are_one`).
     ///
     /// `now` is the present. The room of a line's reply is made before its turn.
     ///
     /// # Errors
     /// Why the session ended, at this piece or before. One that has ended does nothing more. `TooLong` where a line comes to
     /// 1,025 bytes; the lines before it are answered. `Memory` and `Estranged` at a line that can't be answered; the lines
-    /// before it are.
+    /// before it are, and it makes no turn.
     pub fn feed<O: Office<A>>(
         &mut self,
         piece: &[u8],
@@ -73,30 +73,20 @@ impl<A: Allocator + Copy> Session<A> {
         out: &mut Vec<u8, A>,
     ) -> Result<(), Ended>
         requires place { ForSome self.old.standing.place (IsKnownPlace (facts_of (O.contents office.old))) }
-
-        // The lines that end in the piece are answered.
-        ensures heard { OnOk result (Answers (O.contents office.old) (O.seat office.old) now.now (lines_in self.old.begun piece.now) self.old.standing self.new.standing (O.turns office.old) (O.turns office.new) out.old.items out.new.items) }
-        ensures rest { OnOk result (self.new.begun ≡ after self.old.begun piece.now) }
-        ensures open { OnOk result ((self.old.ended ≡ None) × (self.new.ended ≡ None) × (self.new.begun.too_long ≡ false)) }
-
-        // It ends at a line that is too long, or at one that can't be answered, and says so from then on.
-        ensures breaks { IfErr result (λ why. self.old.ended ≡ None → Breaks (O.contents office.old) (O.seat office.old) now.now self.old.begun piece.now self.old.standing why (O.turns office.old) (O.turns office.new) out.old.items out.new.items) }
+        ensures fed { Feeds (O.contents office.old) (O.seat office.old) now.now self.old piece.now self.new (O.turns office.old) (O.turns office.new) out.old.items out.new.items }
+        ensures open { OnOk result (self.new.ended ≡ None) }
         ensures ended { IfErr result (λ why. self.new.ended ≡ Some why) }
-        ensures over { ForSome self.old.ended (λ why. (result ≡ Err why) × (self.new ≡ self.old) × (out.new.items ≡ out.old.items) × (O.turns office.new ≡ O.turns office.old)) }
-
         ensures place { ForSome self.new.standing.place (IsKnownPlace (facts_of (O.contents office.old))) }
         ensures contents { O.contents office.new ≡ O.contents office.old }
         ensures same { (O.seat office.new ≡ O.seat office.old) × (O.borrows office.new ≡ O.borrows office.old) }
     {
-        if let Some(ended) = self.ended {
-            return Err(ended);
+        if let Some(why) = self.ended {
+            return Err(why);
         }
-        match self.hear(piece, now, office, out) {
-            Ok(()) => Ok(()),
-            Err(ended) => {
-                self.ended = Some(ended);
-                Err(ended)
-            }
+        self.hear(piece, now, office, out);
+        match self.ended {
+            None => Ok(()),
+            Some(why) => Err(why),
         }
     }
 
@@ -112,12 +102,9 @@ impl<A: Allocator + Copy> Session<A> {
         out: &mut Vec<u8, A>,
     ) -> Result<(), Ended>
         requires place { ForSome self.old.standing.place (IsKnownPlace (facts_of journal.old.contents)) }
-        ensures heard { OnOk result (Answers journal.old.contents 0 now.now (lines_in self.old.begun piece.now) self.old.standing self.new.standing journal.old.turns journal.new.turns out.old.items out.new.items) }
-        ensures rest { OnOk result (self.new.begun ≡ after self.old.begun piece.now) }
-        ensures open { OnOk result ((self.old.ended ≡ None) × (self.new.ended ≡ None) × (self.new.begun.too_long ≡ false)) }
-        ensures breaks { IfErr result (λ why. self.old.ended ≡ None → Breaks journal.old.contents 0 now.now self.old.begun piece.now self.old.standing why journal.old.turns journal.new.turns out.old.items out.new.items) }
+        ensures fed { Feeds journal.old.contents 0 now.now self.old piece.now self.new journal.old.turns journal.new.turns out.old.items out.new.items }
+        ensures open { OnOk result (self.new.ended ≡ None) }
         ensures ended { IfErr result (λ why. self.new.ended ≡ Some why) }
-        ensures over { ForSome self.old.ended (λ why. (result ≡ Err why) × (self.new ≡ self.old) × (out.new.items ≡ out.old.items) × (journal.new.turns ≡ journal.old.turns)) }
         ensures place { ForSome self.new.standing.place (IsKnownPlace (facts_of journal.old.contents)) }
         ensures contents { journal.new.contents ≡ journal.old.contents }
 
@@ -144,20 +131,17 @@ impl<A: Allocator + Copy> Session<A> {
         self.ended
     }
 
-    /// Answers the lines that end in a piece.
+    /// Answers the lines that end in a piece. The session ends where one can't be answered, or has grown too long.
     fn hear<O: Office<A>>(
         &mut self,
         piece: &[u8],
         now: &Stamp18,
         office: &mut O,
         out: &mut Vec<u8, A>,
-    ) -> Result<(), Ended>
+    )
         requires place { ForSome self.old.standing.place (IsKnownPlace (facts_of (O.contents office.old))) }
-        ensures heard { OnOk result (Answers (O.contents office.old) (O.seat office.old) now.now (lines_in self.old.begun piece.now) self.old.standing self.new.standing (O.turns office.old) (O.turns office.new) out.old.items out.new.items) }
-        ensures rest { OnOk result (self.new.begun ≡ after self.old.begun piece.now) }
-        ensures short { OnOk result (self.new.begun.too_long ≡ false) }
-        ensures breaks { IfErr result (λ why. Breaks (O.contents office.old) (O.seat office.old) now.now self.old.begun piece.now self.old.standing why (O.turns office.old) (O.turns office.new) out.old.items out.new.items) }
-        ensures ended { self.new.ended ≡ self.old.ended }
+        requires open { self.old.ended ≡ None }
+        ensures fed { Feeds (O.contents office.old) (O.seat office.old) now.now self.old piece.now self.new (O.turns office.old) (O.turns office.new) out.old.items out.new.items }
         ensures place { ForSome self.new.standing.place (IsKnownPlace (facts_of (O.contents office.old))) }
         ensures contents { O.contents office.new ≡ O.contents office.old }
         ensures same { (O.seat office.new ≡ O.seat office.old) × (O.borrows office.new ≡ O.borrows office.old) }
@@ -165,25 +149,25 @@ impl<A: Allocator + Copy> Session<A> {
         let mut rest = piece;
         while let Some(used) = self.stream.take(rest) {
             let (_, behind) = rest.split_at(used);
-            answer_line(
-                &mut self.standing,
-                &mut self.reply,
-                now,
-                self.stream.line(),
-                office,
-                out,
-            )?;
-            self.stream.begin();
-            rest = behind;
+            let line = self.stream.line();
+            match answer_line(&mut self.standing, &mut self.reply, now, line, office, out) {
+                Ok(()) => {
+                    self.stream.begin();
+                    rest = behind;
+                }
+                Err(why) => {
+                    self.ended = Some(why);
+                    return;
+                }
+            }
         }
         if self.stream.is_too_long() {
-            return Err(Ended::TooLong);
+            self.ended = Some(Ended::TooLong);
         }
-        Ok(())
     }
 }
 
-/// Answers a line: its reply is made in `reply`, and then appended whole. At a fault nothing is appended.
+/// Answers a line: its reply is made in `reply`, and then appended whole. At a fault there is no turn and no reply.
 fn answer_line<A: Allocator + Copy, O: Office<A>>(
     standing: &mut Standing<A>,
     reply: &mut Vec<u8, A>,
@@ -193,10 +177,12 @@ fn answer_line<A: Allocator + Copy, O: Office<A>>(
     out: &mut Vec<u8, A>,
 ) -> Result<(), Ended>
     requires place { ForSome standing.old.place (IsKnownPlace (facts_of (O.contents office.old))) }
+    requires line { length line.now ≤ 1024 }
+    requires room { 2048 ≤ vec_capacity reply.old }
     ensures heard { OnOk result (Answers (O.contents office.old) (O.seat office.old) now.now (line.now ∷ []) standing.old standing.new (O.turns office.old) (O.turns office.new) out.old.items out.new.items) }
-    ensures err { OnErr result (out.new.items ≡ out.old.items) }
-    ensures one { MakesAtMostOne (O.turns office.old) (O.turns office.new) }
+    ensures err { OnErr result ((O.turns office.new ≡ O.turns office.old) × (out.new.items ≡ out.old.items)) }
     ensures why { IfErr result IsOfLine }
+    ensures room { 2048 ≤ vec_capacity reply.new }
     ensures place { ForSome standing.new.place (IsKnownPlace (facts_of (O.contents office.old))) }
     ensures contents { O.contents office.new ≡ O.contents office.old }
     ensures same { (O.seat office.new ≡ O.seat office.old) × (O.borrows office.new ≡ O.borrows office.old) }
@@ -207,21 +193,9 @@ fn answer_line<A: Allocator + Copy, O: Office<A>>(
     reply.clear();
     match standing.hear(now, line, office, reply) {
         Ok(()) => {
-            append_whole(out, reply.as_slice())?;
+            out.extend_from_slice(reply.as_slice()).unwrap();
             Ok(())
         }
         Err(fault) => Err(Ended::of(fault)),
-    }
-}
-
-/// Appends a reply, or nothing.
-fn append_whole<A: Allocator>(out: &mut Vec<u8, A>, reply: &[u8]) -> Result<(), Ended>
-    ensures ok { OnOk result (out.new.items ≡ out.old.items ++ reply.now) }
-    ensures err { OnErr result (out.new.items ≡ out.old.items) }
-    ensures why { IfErr result IsOfLine }
-{
-    match out.extend_from_slice(reply) {
-        Ok(()) => Ok(()),
-        Err(_) => Err(Ended::Memory),
     }
 }

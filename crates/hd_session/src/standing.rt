@@ -1,9 +1,9 @@
 //! Where a session stands, and what a line is answered.
-ghost use Rattle.std.specs.Prelude.{◌≡◌, ◌≤◌, ◌++◌, [], ℕ, List, Bool, IfOk, OnOk, OnErr, take, drop, vec_len, option_map, true, false};
+ghost use Rattle.std.specs.Prelude.{◌≡◌, ◌≤◌, ◌+◌, ◌++◌, ℕ, List, IfOk, OnOk, OnErr, take, drop, length, vec_capacity, vec_len, option_map};
 ghost use Rattle.std.specs.Option.{ForSome};
 ghost use Rattle.hd_rules.specs.Journal.{Turn};
 ghost use Rattle.hd_catalogue.specs.Contents.{facts_of};
-ghost use Rattle.hd_office.specs.Answers.{IsKnownPlace, MakesAtMostOne};
+ghost use Rattle.hd_office.specs.Answers.{IsKnownPlace};
 ghost use Rattle.hd_session.specs.Standing.{IsAnswered, IsHeard, digit_after, gaps_after, line_with, nowhere};
 ghost use Rattle.hd_session.specs.Trailers.{last_after, send_again, written};
 
@@ -14,8 +14,8 @@ use hd_office::{Office, OfficeFault, Place, Said, respond};
 use std::alloc::{AllocError, Allocator};
 use std::marker::Model;
 
-/// The room that the last reply has from the start. No reply is longer.
-const LONGEST_REPLY: usize = 2_048;
+/// No reply is longer, its trailer and carriage return included. The last reply has this room from the start.
+pub(crate) const LONGEST_REPLY: usize = 2_048;
 
 /// Where a session stands.
 #[derive(Drop)]
@@ -29,11 +29,14 @@ pub(crate) struct Standing<A: Allocator> {
 }
 
 impl<A: Allocator> Model for Standing<A> {
+    ghost use Rattle.std.specs.Prelude.{◌≤◌, vec_capacity, vec_len};
     ghost use Rattle.hd_session.specs.Standing.{Stands};
 
     ghost Value = { Stands };
 
     ghost view = { λ s. record { place = s.place; last = s.last.items; digit = s.digit; gaps = s.gaps } };
+
+    ghost invariant = { λ s. (vec_len s.last ≤ 2048) × (2048 ≤ vec_capacity s.last) };
 }
 
 /// A line that came whole: what stands before its trailer, whether it has one, and the sequence digit that it carries.
@@ -66,9 +69,9 @@ impl<A: Allocator + Copy> Standing<A> {
         self.gaps
     }
 
-    /// Answers a line: appends its reply, and makes its turn.
+    /// Answers a line: appends its reply, for which there is room, and makes its turn.
     ///
-    /// At a fault the session ends, and where it then stands counts no more.
+    /// At a fault there is no turn.
     pub(crate) fn hear<O: Office<A>>(
         &mut self,
         now: &Stamp18,
@@ -77,9 +80,13 @@ impl<A: Allocator + Copy> Standing<A> {
         out: &mut Vec<u8, A>,
     ) -> Result<(), OfficeFault>
         requires place { ForSome self.old.place (IsKnownPlace (facts_of (O.contents office.old))) }
+        requires line { length line.now ≤ 1024 }
+        requires room { vec_len out.old + 2048 ≤ vec_capacity out.old }
         ensures heard { OnOk result ((made : List Turn) × (text : List ℕ) × (O.turns office.new ≡ O.turns office.old ++ made) × (out.new.items ≡ out.old.items ++ text) × IsHeard (O.contents office.old) (O.seat office.old) now.now self.old line.now made self.new text) }
+        ensures err { OnErr result (O.turns office.new ≡ O.turns office.old) }
+        ensures short { vec_len out.new ≤ vec_len out.old + 2048 }
+        ensures capacity { vec_capacity out.old ≤ vec_capacity out.new }
         ensures place { ForSome self.new.place (IsKnownPlace (facts_of (O.contents office.old))) }
-        ensures one { MakesAtMostOne (O.turns office.old) (O.turns office.new) }
         ensures contents { O.contents office.new ≡ O.contents office.old }
         ensures same { (O.seat office.new ≡ O.seat office.old) × (O.borrows office.new ≡ O.borrows office.old) }
     {
@@ -107,10 +114,10 @@ impl<A: Allocator + Copy> Standing<A> {
                 self.answer(now, &whole, office, out)?;
                 Ok(())
             }
-            Guarded::Wrong => match put_send_again(out, true) {
-                Ok(()) => Ok(()),
-                Err(_) => Err(OfficeFault::Memory),
-            },
+            Guarded::Wrong => {
+                put_send_again(out, true);
+                Ok(())
+            }
         }
     }
 
@@ -123,9 +130,13 @@ impl<A: Allocator + Copy> Standing<A> {
         out: &mut Vec<u8, A>,
     ) -> Result<(), OfficeFault>
         requires place { ForSome self.old.place (IsKnownPlace (facts_of (O.contents office.old))) }
+        requires body { length whole.now.body.now ≤ 1024 }
+        requires room { vec_len out.old + 2048 ≤ vec_capacity out.old }
         ensures answered { OnOk result ((made : List Turn) × (text : List ℕ) × (O.turns office.new ≡ O.turns office.old ++ made) × (out.new.items ≡ out.old.items ++ text) × IsAnswered (O.contents office.old) (O.seat office.old) now.now self.old whole.now.line.now whole.now.body.now whole.now.checked whole.now.digit made self.new text) }
+        ensures err { OnErr result (O.turns office.new ≡ O.turns office.old) }
+        ensures short { vec_len out.new ≤ vec_len out.old + 2048 }
+        ensures capacity { vec_capacity out.old ≤ vec_capacity out.new }
         ensures place { ForSome self.new.place (IsKnownPlace (facts_of (O.contents office.old))) }
-        ensures one { MakesAtMostOne (O.turns office.old) (O.turns office.new) }
         ensures contents { O.contents office.new ≡ O.contents office.old }
         ensures same { (O.seat office.new ≡ O.seat office.old) × (O.borrows office.new ≡ O.borrows office.old) }
     {
@@ -135,10 +146,8 @@ impl<A: Allocator + Copy> Standing<A> {
         let said = respond(office, now, &mut place, whole.body, kept, out)?;
         self.place = place;
         self.count(whole.digit);
-        match self.finish(said, whole.checked, whole.digit, from, out) {
-            Ok(()) => Ok(()),
-            Err(_) => Err(OfficeFault::Memory),
-        }
+        self.finish(said, whole.checked, whole.digit, from, out);
+        Ok(())
     }
 
     /// Counts a line with a right check number: a gap where it carries another digit than the one after the last.
@@ -159,7 +168,7 @@ impl<A: Allocator + Copy> Standing<A> {
         self.digit = Some(next);
     }
 
-    /// Closes what is said, of which a reply's text stands from `from` on, and keeps it where it is a reply.
+    /// Closes what is said, of which a reply's text stands from `from` on, and keeps it where it is a reply. There is room for it.
     fn finish(
         &mut self,
         said: Said,
@@ -167,35 +176,40 @@ impl<A: Allocator + Copy> Standing<A> {
         digit: Option<Seq>,
         from: usize,
         out: &mut Vec<u8, A>,
-    ) -> Result<(), AllocError>
-        requires { from ≤ vec_len out.old }
-        ensures text { OnOk result (out.new.items ≡ take from out.old.items ++ written self.old.last checked digit said (drop from out.old.items)) }
-        ensures last { OnOk result (self.new.last ≡ last_after self.old.last checked digit said (drop from out.old.items)) }
+    )
+        requires from { from ≤ vec_len out.old }
+        requires reply { vec_len out.old ≤ from + 2038 }
+        requires room { from + 2048 ≤ vec_capacity out.old }
+        ensures text { out.new.items ≡ take from out.old.items ++ written self.old.last checked digit said (drop from out.old.items) }
+        ensures last { self.new.last ≡ last_after self.old.last checked digit said (drop from out.old.items) }
         ensures rest { (self.new.place ≡ self.old.place) × (self.new.digit ≡ self.old.digit) × (self.new.gaps ≡ self.old.gaps) }
+        ensures short { vec_len out.new ≤ from + 2048 }
+        ensures capacity { vec_capacity out.old ≤ vec_capacity out.new }
     {
         match said {
             Said::Reply => {
-                close(out, from, checked, digit)?;
-                self.keep(&out[from..])
+                close(out, from, checked, digit);
+                self.keep(&out[from..]);
             }
             Said::LastReply if !self.last.is_empty() => {
                 out.truncate(from);
-                out.extend_from_slice(self.last.as_slice())
+                out.extend_from_slice(self.last.as_slice()).unwrap();
             }
             Said::LastReply | Said::SendAgain => {
                 out.truncate(from);
-                put_send_again(out, checked)
+                put_send_again(out, checked);
             }
         }
     }
 
     /// Keeps a reply as the last one.
-    fn keep(&mut self, reply: &[u8]) -> Result<(), AllocError>
-        ensures last { OnOk result (self.new.last ≡ reply.now) }
+    fn keep(&mut self, reply: &[u8])
+        requires { length reply.now ≤ 2048 }
+        ensures last { self.new.last ≡ reply.now }
         ensures rest { (self.new.place ≡ self.old.place) × (self.new.digit ≡ self.old.digit) × (self.new.gaps ≡ self.old.gaps) }
     {
         self.last.clear();
-        self.last.extend_from_slice(reply)
+        self.last.extend_from_slice(reply).unwrap();
     }
 }
 

@@ -4,7 +4,7 @@ use Rattle.hd_office.proofs.alone.write_status.Goals as goal
 pub returns-clause-text : goal.returns-clause-text
 returns-clause-text g c = (
   _,
-  c.in_ok-write.ensures.ok,
+  c.write_reply.ensures.text,
   record {
     status = record { date = c.as_slice.result; institution = c.institution.result };
     date = rw c.as_slice.ensures c.print-date.ensures.text;

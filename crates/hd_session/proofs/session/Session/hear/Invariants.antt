@@ -1,4 +1,4 @@
-use Rattle.std.proofs.Common.{◌≡◌, List, ℕ, ◌++◌, length}
+use Rattle.std.proofs.Common.{◌≡◌, ◌≤◌, List, ℕ, ◌++◌, length, vec_capacity}
 use Rattle.std.specs.Option.{ForSome}
 use Rattle.hd_catalogue.specs.Contents.{facts_of}
 use Rattle.hd_office.specs.Answers.{IsKnownPlace}
@@ -16,6 +16,7 @@ invariant-loop-used g l = record {
   seat : g.O.Office.seat l.office ≡ g.O.Office.seat l.fn.office;
   borrows : g.O.Office.borrows l.office ≡ g.O.Office.borrows l.fn.office;
   ended : l.self-inside.ended ≡ l.fn.self.ended;
+  room : 2048 ≤ vec_capacity l.self-inside.reply;
 }
 
 abbrev pub decreases-loop-used : goal.decreases-loop-used

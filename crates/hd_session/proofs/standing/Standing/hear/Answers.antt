@@ -7,9 +7,9 @@ pub returns-then-is_empty-clause-heard : goal.returns-then-is_empty-clause-heard
 returns-then-is_empty-clause-heard g c =
     ([], [], sym (append-nil _), sym (append-nil _), empty_heard _ _ _ _ c.args.line.now (sym c.is_empty.ensures ∙ c.if-is_empty.true))
 
-pub returns-in-Ok-clause-heard : goal.returns-in-Ok-clause-heard
-returns-in-Ok-clause-heard g c =
-    ([], send_again true, sym (append-nil _), c.in-Ok.ensures, read_heard _ _ _ _ c.args.line.now _ _ _ _ (sym c.is_empty.ensures ∙ c.if-is_empty.false) c.in-Wrong.ensures.computed (refl, refl, refl))
+pub returns-in-Wrong-clause-heard : goal.returns-in-Wrong-clause-heard
+returns-in-Wrong-clause-heard g c =
+    ([], send_again true, sym (append-nil _), c.put_send_again.ensures.text, read_heard _ _ _ _ c.args.line.now _ _ _ _ (sym c.is_empty.ensures ∙ c.if-is_empty.false) c.in-Wrong.ensures.computed (refl, refl, refl))
 
 pub returns-in_ok-answer-in-Plain-clause-heard : goal.returns-in_ok-answer-in-Plain-clause-heard
 returns-in_ok-answer-in-Plain-clause-heard g c =
