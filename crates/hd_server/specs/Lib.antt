@@ -1,1 +1,4 @@
-pub mod Tables
+pub mod Inputs
+pub mod Printing
+pub mod Replays
+pub mod Ends

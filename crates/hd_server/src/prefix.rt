@@ -1,5 +1,8 @@
 //! The session of a line of input.
-ghost use Rattle.std.specs.Prelude.{◌≤◌, IfSome};
+ghost use Rattle.std.specs.Prelude.{◌≡◌, ◌∷◌, ◌++◌, ℕ, List, IfNone, IfSome, decimal};
+ghost use Rattle.hd_server.specs.Inputs.{IsLineOf, Message};
+
+use itoa::Buffer;
 
 /// How many sessions an input may have; they are numbered from 1.
 pub(crate) const SESSIONS: usize = 64;
@@ -8,18 +11,25 @@ pub(crate) const SESSIONS: usize = 64;
 ///
 /// The number is 1 to 64 without leading zero, and one blank follows it.
 pub(crate) fn session_of(line: &[u8]) -> Option<(usize, &[u8])>
-    ensures { IfSome result (λ found. (1 ≤ found.0) × (found.0 ≤ 64)) }
+    ensures found { IfSome result (λ found. IsLineOf line.now (record { session = found.0; text = found.1.now })) }
+    ensures none { IfNone result ((message : Message) → ¬ IsLineOf line.now message) }
 {
-    let (number, message) = match line {
-        [ones @ b'1'..=b'9', b' ', message @ ..] => (usize::from(*ones - b'0'), message),
-        [tens @ b'1'..=b'6', ones @ b'0'..=b'9', b' ', message @ ..] => (
-            10 * usize::from(*tens - b'0') + usize::from(*ones - b'0'),
-            message,
-        ),
-        _ => return None,
-    };
-    if number > SESSIONS {
-        return None;
+    for number in 1..=SESSIONS {
+        if let Some(message) = message_behind(line, number) {
+            return Some((number, message));
+        }
     }
-    Some((number, message))
+    None
+}
+
+/// What stands behind a number and a blank, where the line begins with them.
+fn message_behind(line: &[u8], number: usize) -> Option<&[u8]>
+    ensures found { IfSome result (λ message. line.now ≡ decimal number ++ 32 ∷ message.now) }
+    ensures none { IfNone result ((message : List ℕ) → ¬ (line.now ≡ decimal number ++ 32 ∷ message)) }
+{
+    let mut buffer = Buffer::new();
+    match line.strip_prefix(buffer.format(number).as_bytes()) {
+        Some(after) => after.strip_prefix(b" "),
+        None => None,
+    }
 }

@@ -1,6 +1,7 @@
 //! Reading from a reader and writing to a writer, with calls that were interrupted tried again.
-ghost use Rattle.std.specs.Prelude.{◌<◌, ◌≤◌, IfOk, MatchResult, ℕ, length, take};
+ghost use Rattle.std.specs.Prelude.{◌≡◌, ◌<◌, ◌≤◌, IfErr, IfOk, MatchResult, ℕ, length, take};
 ghost use Rattle.std.specs.Io.KnownBytes.{Appends, Keeps, ReadConsumes};
+ghost use Rattle.hd_server.specs.declared.fault.ServerFault.TheVariants.{Read, Write};
 
 use crate::fault::ServerFault;
 use std::io::{ErrorKind, Read, Write};
@@ -12,6 +13,7 @@ const TRIES: usize = 16;
 pub(crate) fn read_some<R: Read>(from: &mut R, piece: &mut [u8]) -> Result<usize, ServerFault>
     requires { 0 < length piece.old }
     ensures count { IfOk result (λ count. count ≤ length piece.new) }
+    ensures fault { IfErr result (λ fault. fault ≡ Read) }
     ensures read { ReadConsumes (R.remaining from.old) (R.remaining from.new) result piece.new }
 {
     for _ in 0..TRIES {
@@ -29,7 +31,8 @@ pub(crate) fn read_some<R: Read>(from: &mut R, piece: &mut [u8]) -> Result<usize
 
 /// Writes all of the bytes; at a fault, a beginning of them.
 pub(crate) fn write_all<W: Write>(to: &mut W, bytes: &[u8]) -> Result<(), ServerFault>
-    ensures { MatchResult result (λ _. Appends (W.contents to.old) (W.contents to.new) bytes.now) (λ _. (n : ℕ) × Appends (W.contents to.old) (W.contents to.new) (take n bytes.now)) }
+    ensures wrote { MatchResult result (λ _. Appends (W.contents to.old) (W.contents to.new) bytes.now) (λ _. (n : ℕ) × Appends (W.contents to.old) (W.contents to.new) (take n bytes.now)) }
+    ensures fault { IfErr result (λ fault. fault ≡ Write) }
 {
     let mut done = 0;
     while done < bytes.len() {
@@ -41,6 +44,7 @@ pub(crate) fn write_all<W: Write>(to: &mut W, bytes: &[u8]) -> Result<(), Server
 
 /// Writes once: how many bytes were taken. A write that takes none is a fault.
 fn write_some<W: Write>(to: &mut W, bytes: &[u8]) -> Result<usize, ServerFault>
+    ensures fault { IfErr result (λ fault. fault ≡ Write) }
     ensures some { IfOk result (λ n. (0 < n) × (n ≤ length bytes.now)) }
     ensures wrote { MatchResult result (λ n. Appends (W.contents to.old) (W.contents to.new) (take n bytes.now)) (λ _. Keeps (W.contents to.old) (W.contents to.new)) }
 {

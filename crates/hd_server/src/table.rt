@@ -1,12 +1,12 @@
 //! The sessions of an input, by number.
-ghost use Rattle.std.specs.Prelude.{◌≡◌, ◌≤◌, ◌+◌, ◌++◌, ◌∷◌, [], IfOk, OnOk, vec_len};
+ghost use Rattle.std.specs.Prelude.{◌≡◌, ◌≤◌, ◌+◌, ◌-◌, ◌++◌, ◌∷◌, [], IfErr, IfOk, OnOk, Some, None, slice_set, vec_len};
 ghost use Rattle.std.specs.Option.{ForSome};
-ghost use Rattle.hd_rules.specs.Facts.{Facts};
 ghost use Rattle.hd_catalogue.specs.Contents.{facts_of};
 ghost use Rattle.hd_journal.specs.Books.{IsLegalBook};
 ghost use Rattle.hd_office.specs.Answers.{IsKnownPlace};
-ghost use Rattle.hd_session.specs.Sessions.{new_session};
-ghost use Rattle.hd_server.specs.Tables.{AreKnown};
+ghost use Rattle.hd_session.specs.Scripts.{AreKnown, session_at};
+ghost use Rattle.hd_session.specs.Sessions.{Feeds, new_session};
+ghost use Rattle.hd_server.specs.Replays.{new_sessions};
 
 use crate::prefix::SESSIONS;
 use hd_date::Stamp18;
@@ -36,7 +36,7 @@ impl<A: Allocator> Model for Table<A> {
 impl<A: Allocator + Copy> Table<A> {
     /// All sessions, before any input.
     pub(crate) fn new(alloc: A) -> Result<Table<A>, AllocError>
-        ensures { (k : Facts) → IfOk result (AreKnown k) }
+        ensures { IfOk result (λ table. table ≡ new_sessions) }
     {
         let mut sessions = Vec::new(alloc);
         for _ in 0..SESSIONS {
@@ -57,6 +57,10 @@ impl<A: Allocator + Copy> Table<A> {
         requires from_one { 1 ≤ number }
         requires number { number ≤ 64 }
         requires known { AreKnown (facts_of journal.old.contents) self.old }
+        ensures fed { Feeds journal.old.contents 0 now.now (session_at self.old (number - 1)) (message.now ++ 13 ∷ []) (session_at self.new (number - 1)) journal.old.turns journal.new.turns replies.old.items replies.new.items }
+        ensures others { self.new ≡ slice_set self.old (number - 1) (session_at self.new (number - 1)) }
+        ensures open { OnOk result ((session_at self.new (number - 1)).ended ≡ None) }
+        ensures ended { IfErr result (λ why. (session_at self.new (number - 1)).ended ≡ Some why) }
         ensures known { AreKnown (facts_of journal.new.contents) self.new }
         ensures contents { journal.new.contents ≡ journal.old.contents }
         ensures legal { IsLegalBook journal.new }
@@ -93,10 +97,13 @@ fn feed_line<A: Allocator + Copy>(
     replies: &mut Vec<u8, A>,
 ) -> Result<(), Ended>
     requires known { ForSome session.old.standing.place (IsKnownPlace (facts_of journal.old.contents)) }
+    ensures fed { Feeds journal.old.contents 0 now.now session.old (message.now ++ 13 ∷ []) session.new journal.old.turns journal.new.turns replies.old.items replies.new.items }
+    ensures open { OnOk result (session.new.ended ≡ None) }
+    ensures ended { IfErr result (λ why. session.new.ended ≡ Some why) }
     ensures known { ForSome session.new.standing.place (IsKnownPlace (facts_of journal.old.contents)) }
     ensures contents { journal.new.contents ≡ journal.old.contents }
     ensures legal { IsLegalBook journal.new }
 {
-    session.feed_journal(message, now, journal, replies)?;
+    let _ = session.feed_journal(message, now, journal, replies);
     session.feed_journal(b"\r", now, journal, replies)
 }

@@ -1,4 +1,6 @@
 //! What no row says: long lines, long inputs, a library without terminals, and faults of the reader and the writer.
+ghost use Rattle.std.specs.Prelude.{Some};
+
 use crate::{ServerFault, replay};
 use std::alloc::{AllocError, Global};
 use std::io::{self, ErrorKind, Read, Write};
@@ -194,5 +196,188 @@ fn an_input_has_a_longest_length(rt: HostRuntime) {
             Err(wanted)
         );
         assert!(rt; out.is_empty());
+    }
+}
+
+/// Lines of two sessions, the last of which nothing ends.
+const INPUT: &[u8] = b"1 9300CNt1|COpw|
+1 15+20260301    100000AAp1|AJta|
+2 97
+1 15-20260301    100000AAp1|AJta|BIY|";
+
+/// What the lines are answered, one reply each.
+const ANSWERED: &[u8] = b"1 941
+1 161Y20260301    100000BR1|BSnorth|AOlib|AAp1|AJta|
+2 96
+1 161N20260301    100000AOlib|AAp1|AJta|AFCANCELLED 1|
+";
+
+/// How many bytes a reader of few bytes gives at a call.
+const GIVEN: usize = 7;
+
+/// How many bytes a writer of few bytes takes at a call.
+const TAKEN: usize = 5;
+
+/// How many calls are enough for all of the input, and for all that it is answered.
+const CALLS: usize = 100;
+
+/// Calls, one of which fails.
+#[derive(Drop)]
+struct Calls {
+    /// How many come before the one that fails; none once it has come.
+    before: Option<usize>,
+    kind: ErrorKind,
+}
+
+impl Calls {
+    /// Fails at the call that comes after so many.
+    fn failing_after(before: usize, kind: ErrorKind) -> Calls {
+        Calls {
+            before: Some(before),
+            kind,
+        }
+    }
+
+    /// One call.
+    fn call(&mut self) -> io::Result<()> {
+        match self.before {
+            Some(0) => {
+                self.before = None;
+                Err(io::Error::from(self.kind))
+            }
+            Some(before) => {
+                self.before = Some(before - 1);
+                Ok(())
+            }
+            None => Ok(()),
+        }
+    }
+}
+
+/// Gives few bytes of a text at each call, but at one that fails.
+#[derive(Drop)]
+struct FewBytesReader<'a> {
+    rest: &'a [u8],
+    calls: Calls,
+}
+
+impl Read for FewBytesReader<'_> {
+    ghost remaining = { λ reader. Some reader.rest.now };
+
+    fn read(&mut self, piece: &mut [u8]) -> io::Result<usize> {
+        self.calls.call()?;
+        let room = piece.len().min(GIVEN);
+        self.rest.read(&mut piece[..room])
+    }
+}
+
+/// Takes few bytes at each call, but at one that fails.
+#[derive(Drop)]
+struct FewBytesWriter {
+    taken: Vec<u8>,
+    calls: Calls,
+}
+
+impl Write for FewBytesWriter {
+    ghost contents = { λ writer. Some writer.taken.items };
+
+    fn write(&mut self, bytes: &[u8]) -> io::Result<usize> {
+        self.calls.call()?;
+        let count = bytes.len().min(TAKEN);
+        self.taken.extend_from_slice(&bytes[..count])?;
+        Ok(count)
+    }
+
+    fn flush(&mut self) -> io::Result<()> {
+        Ok(())
+    }
+}
+
+/// What is written, and how it ends, where the read after so many fails.
+fn replayed_reading(
+    rt: &HostRuntime,
+    before: usize,
+    kind: ErrorKind,
+) -> (Vec<u8>, Result<(), ServerFault>) {
+    let mut from = FewBytesReader {
+        rest: INPUT,
+        calls: Calls::failing_after(before, kind),
+    };
+    let mut out = Vec::new(rt.alloc());
+    let end = replay(rt, CATALOGUE, NOW, &mut from, &mut out);
+    (out, end)
+}
+
+/// What is written, and how it ends, where the write after so many fails.
+fn replayed_writing(
+    rt: &HostRuntime,
+    before: usize,
+    kind: ErrorKind,
+) -> (Vec<u8>, Result<(), ServerFault>) {
+    let mut from = INPUT;
+    let mut to = FewBytesWriter {
+        taken: Vec::new(rt.alloc()),
+        calls: Calls::failing_after(before, kind),
+    };
+    let end = replay(rt, CATALOGUE, NOW, &mut from, &mut to);
+    (to.taken, end)
+}
+
+/// The replies to the lines that end among the first so many bytes of the input.
+fn answered_among(bytes: usize) -> &'static [u8] {
+    let given = INPUT.get(..bytes).unwrap_or(INPUT);
+    let lines = given.iter().filter(|byte| **byte == b'\n').count();
+    let mut length = 0usize;
+    for reply in ANSWERED.split_inclusive(|byte| *byte == b'\n').take(lines) {
+        length = length.saturating_add(reply.len());
+    }
+    ANSWERED.get(..length).unwrap_or(ANSWERED)
+}
+
+#[test]
+fn a_read_fails_at_each_call(rt: HostRuntime) {
+    for before in 0..CALLS {
+        let (out, end) = replayed_reading(&rt, before, ErrorKind::Other);
+        if end.is_ok() {
+            assert_eq!(rt; out.as_slice(), ANSWERED);
+            // All calls that gave bytes and the one that gave none were made to fail.
+            assert_eq!(rt; before, INPUT.len().div_ceil(GIVEN) + 1);
+            return;
+        }
+        assert_eq!(rt; end, Err(ServerFault::Read));
+        assert_eq!(rt; out.as_slice(), answered_among(before * GIVEN));
+    }
+    panic!(rt; "no run was well");
+}
+
+#[test]
+fn a_write_fails_at_each_call(rt: HostRuntime) {
+    for before in 0..CALLS {
+        let (out, end) = replayed_writing(&rt, before, ErrorKind::Other);
+        if end.is_ok() {
+            assert_eq!(rt; out.as_slice(), ANSWERED);
+            // The reply to the last line is written after the read that gives nothing.
+            let first = answered_among(INPUT.len());
+            let last = ANSWERED.get(first.len()..).unwrap_or(b"");
+            let calls = first.len().div_ceil(TAKEN) + last.len().div_ceil(TAKEN);
+            assert_eq!(rt; before, calls);
+            return;
+        }
+        assert_eq!(rt; end, Err(ServerFault::Write));
+        assert!(rt; ANSWERED.starts_with(out.as_slice()));
+        assert!(rt; before <= out.len() && out.len() <= before * TAKEN);
+    }
+    panic!(rt; "no run was well");
+}
+
+#[test]
+fn an_interrupted_call_changes_nothing(rt: HostRuntime) {
+    for before in 0..CALLS {
+        let (out, end) = replayed_reading(&rt, before, ErrorKind::Interrupted);
+        assert_eq!(rt; end, Ok(()));
+        assert_eq!(rt; out.as_slice(), ANSWERED);
+        let (out, end) = replayed_writing(&rt, before, ErrorKind::Interrupted);
+        assert_eq!(rt; end, Ok(()));
+        assert_eq!(rt; out.as_slice(), ANSWERED);
     }
 }

@@ -1,9 +1,10 @@
-use Rattle.std.proofs.Common.{◌∙◌, ap, ℕ, ◌+◌}
-use Rattle.hd_server.proofs.Knowing.{new_known}
+use Rattle.std.proofs.Common.{◌≡◌, ◌∙◌, ℕ, ap, arith, replicate}
+use Rattle.hd_session.specs.Sessions.{new_session}
 use Rattle.hd_server.proofs.table.Table.new.Goals as goal
 
-pub loop-preserved : goal.loop-preserved
-loop-preserved g c = record {
-  size = c.in_ok-put_new.ensures.one ∙ ap (λ (n : ℕ). n + 1) c.loop.invariant.size;
-  known = λ k. rw c.in_ok-put_new.ensures.new (new_known k _ (c.loop.invariant.known k));
-}
+pub returns : goal.returns
+returns g c =
+    let end = c.loop.auto.counter-end in
+    let past = c.loop-test.false in
+    let all : c.loop.counter ≡ 64 = omega (arith, end, past) in
+    c.loop.invariant.new ∙ ap (λ (n : ℕ). replicate n new_session) all

@@ -1,11 +1,10 @@
-use Rattle.std.proofs.Common.{◌≡◌, vec_len}
-use Rattle.hd_rules.specs.Facts.{Facts}
-use Rattle.hd_server.specs.Tables.{AreKnown}
+use Rattle.std.proofs.Common.{◌≡◌, replicate, vec_len}
+use Rattle.hd_session.specs.Sessions.{new_session}
 use Rattle.hd_server.proofs.table.Table.new.Given as goal
 
--- so many sessions, each of which stands nowhere
+-- so many new sessions
 abbrev pub invariant-loop : goal.invariant-loop
 invariant-loop g l = record {
   size : vec_len l.sessions ≡ l.counter;
-  known : (k : Facts) → AreKnown k l.sessions.items;
+  new : l.sessions.items ≡ replicate l.counter new_session;
 }

@@ -1,0 +1,85 @@
+//! Rows through sessions whose lines are cut into pieces.
+use crate::answers::is_answered;
+use crate::cuts::Cut;
+use crate::gaps::are_gaps_counted;
+use crate::row::Row;
+use crate::script::{after, is_line_end, of_session};
+use crate::terminals::{TERMINALS, Terminals};
+use std::alloc::{AllocError, Global};
+
+/// How lines come: what ends each, and how it is cut.
+#[derive(Clone, Copy)]
+pub(crate) struct Way {
+    pub end: &'static [u8],
+    pub cut: Cut,
+}
+
+/// Whether a row is answered as it says, and counts the gaps that it says, where its lines come so.
+pub(crate) fn is_heard(rt: &HostRuntime, row: &Row, way: Way) -> Result<bool, AllocError> {
+    let alloc = rt.alloc();
+    let Some(mut terminals) = Terminals::open(rt, row)? else {
+        return Ok(false);
+    };
+    let mut printed = Vec::new(alloc);
+    for line in row.script().split(is_line_end) {
+        if let Some(text) = after(line, b"> ") {
+            let Some((session, message)) = of_session(text) else {
+                return Ok(false);
+            };
+            send(alloc, &mut terminals, session, message, way)?;
+            print_outs(alloc, &terminals, session, &mut printed)?;
+        }
+    }
+    Ok(is_answered(row.script(), printed.as_slice()) && are_gaps_counted(row.script(), &terminals))
+}
+
+/// Sends a message of a session as a line that comes so.
+fn send(
+    alloc: Global,
+    terminals: &mut Terminals,
+    session: usize,
+    message: &[u8],
+    way: Way,
+) -> Result<(), AllocError> {
+    let mut line = Vec::from_slice(alloc, message)?;
+    line.extend_from_slice(way.end)?;
+    terminals.send(alloc, session, line.as_slice(), way.cut)
+}
+
+/// Prints what the sessions were answered to a line of one of them, as `replay` does.
+fn print_outs(
+    alloc: Global,
+    terminals: &Terminals,
+    sender: usize,
+    printed: &mut Vec<u8>,
+) -> Result<(), AllocError> {
+    for session in 0..TERMINALS {
+        for reply in terminals.out(session).split_inclusive(is_return) {
+            let text = reply.strip_suffix(b"\r").unwrap_or(b"without its end");
+            print_line(alloc, session, text, printed)?;
+        }
+    }
+    if terminals.has_ended(sender) {
+        print_line(alloc, sender, b"ENDED", printed)?;
+    }
+    Ok(())
+}
+
+/// Prints a line of a session.
+fn print_line(
+    alloc: Global,
+    session: usize,
+    text: &[u8],
+    printed: &mut Vec<u8>,
+) -> Result<(), AllocError> {
+    let number = session.saturating_add(1);
+    printed.extend_from_slice(format!(in alloc; "{number} ")?.as_bytes())?;
+    printed.extend_from_slice(text)?;
+    printed.push(b'\n')?;
+    Ok(())
+}
+
+/// Whether a byte is a carriage return.
+pub(crate) fn is_return(byte: &u8) -> bool {
+    *byte == b'\r'
+}
