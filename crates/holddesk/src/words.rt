@@ -12,15 +12,19 @@ Each line of the input is `<session> <message>`: the number of a session, 1 to 6
 without its carriage return. Each reply is printed as `<session> <reply>`. A session whose message is longer than
 1,024 bytes ends, and is answered `<session> ENDED` from then on.
 
-As yet every session stands as the first terminal of the catalogue, messages 15 (Hold) that add a hold or cancel are
-answered, and every other message is answered 96.";
+A session logs in first, by a message 93 with a terminal's name (CN) and password (CO) of the catalogue; it may log in again as
+another. Then it may check out (11), check in (09), renew (29), add, delete and change holds (15), and ask for an item (17); status
+(99) and resend (97) need no login. A message with BIY| cancels what this terminal did by the opposite one: 09 a checkout, 11 a
+checkin, 15 with - an added hold and with + a deleted one, 29 a renewal, and 15 with * a change.";
 
 const EXAMPLE: &str = "Example: a hold, and its cancellation
 
   $ holddesk replay --catalogue demonstration.catalogue --now '20260301    120000' <<'END'
+  1 9300CNt1|COpw|
   1 15+20260301    100000BSnorth|BY2|AOlib|AAp1|AJta|
   1 15-20260301    100000AOlib|AAp1|AJta|BIY|
   END
+  1 941
   1 161Y20260301    100000BR1|BSnorth|AOlib|AAp1|AJta|
   1 161N20260301    100000AOlib|AAp1|AJta|AFCANCELLED 1|
 
