@@ -1,9 +1,18 @@
-# The two commands of the README. Both need the Rattle kit's command rt on the path.
-.PHONY: run test
+# The commands of the README. All need the Rattle kit's command rt on the path.
+.PHONY: try run test
 
-# The main job: the stored messages, answered.
+STORED = replay --catalogue data/demonstration.catalogue --now '20260301    120000' < stdin
+
+# The main job, soon: the stored messages, answered by a program that is built without any proof.
+try:
+	@echo 'make try: builds holddesk unproved, in about two minutes, and answers the stored messages.' >&2
+	@echo 'Nothing is proved by this: make run proves every function first.' >&2
+	@cd crates/holddesk && rt try -- $(STORED)
+
+# The main job: the stored messages, answered. In a fresh clone every crate below the program is proved first.
 run:
-	@cd crates/holddesk && rt run -- replay --catalogue data/demonstration.catalogue --now '20260301    120000' < stdin
+	@echo 'make run: proves the crates that changed, builds holddesk, and answers the stored messages.' >&2
+	@cd crates/holddesk && rt run -- $(STORED)
 
 # The gate: every proof from nothing, the wrong bodies that must be refused, the tests and the stored runs.
 test:

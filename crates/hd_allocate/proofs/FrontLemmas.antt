@@ -1,5 +1,6 @@
 -- The front of a list is the first of those that pass.
-use Rattle.std.proofs.Common.{◌≡◌, ℕ, ◌<◌, ◌≤◌, Bool, true, false, cond, ◌==◌, ◌&&◌, None, Some, Option, List, [], ◌∷◌, find, filter, refl, sym, ap, ◌∙◌, inl, inr, arith}
+use Rattle.std.proofs.Common.{◌≡◌, ℕ, ◌<◌, ◌≤◌, Bool, true, false, cond, ◌==◌, ◌&&◌, None, Some, Option, List, [], ◌∷◌, find, filter, refl}
+use Rattle.std.proofs.Common.{sym, ap, ◌∙◌, inl, inr, arith}
 use Rattle.std.specs.Option.{option_or}
 use Rattle.std.proofs.lemmas.Bool.Decides.{Decides-eqb}
 use Rattle.std.proofs.lemmas.Bool.{cases_Bool, le-ltb}
@@ -54,7 +55,8 @@ stamp_of : (x g : Hold) → x ≡ g → x.stamp ≡ g.stamp
 stamp_of x g e = ap (λ (y : Hold). y.stamp) e
 
 -- two holds of one stamp are one
-pub stamps_apart : (hs : List Hold) (p q : ℕ) (g h : Hold) → IsInOrder hs → hold_of hs p ≡ Some g → hold_of hs q ≡ Some h → g.stamp ≡ h.stamp → g ≡ h
+pub stamps_apart : (hs : List Hold) (p q : ℕ) (g h : Hold) → IsInOrder hs → hold_of hs p ≡ Some g → hold_of hs q ≡ Some h →
+    g.stamp ≡ h.stamp → g ≡ h
 stamps_apart [] p q g h o is was same = let none : ◌≡◌ {A = Option Hold} None (Some g) = is in cc
 stamps_apart (x ∷ hs) p q g h o is was same = elim (cases_Bool (x.patron == p)) [
   | inl e ↦ elim (cases_Bool (x.patron == q)) [
@@ -91,20 +93,24 @@ head_least x hs p g a m = elim (cases_Bool (x.patron == p)) [
   | inr f ↦ omega (arith, after-hold_of x.stamp hs p g a (behind x hs p g m f))
 ]
 
-head_passes : (test : Hold → Bool) (x : Hold) (hs : List Hold) (h : Hold) → AllAfter x.stamp hs → test x ≡ true → x ≡ h → IsLeast test (x ∷ hs) h
+head_passes : (test : Hold → Bool) (x : Hold) (hs : List Hold) (h : Hold) → AllAfter x.stamp hs → test x ≡ true → x ≡ h →
+    IsLeast test (x ∷ hs) h
 head_passes test x hs h a e same = rw (← same) record {
   queued = rw ((Decides-eqb x.patron x.patron).1 refl);
   passes = e;
   least = λ p g m t. head_least x hs p g a m;
 }
 
-still_queued : (x : Hold) (hs : List Hold) (h : Hold) → hold_of hs x.patron ≡ None → hold_of hs h.patron ≡ Some h → hold_of (x ∷ hs) h.patron ≡ Some h
+still_queued : (x : Hold) (hs : List Hold) (h : Hold) → hold_of hs x.patron ≡ None → hold_of hs h.patron ≡ Some h →
+    hold_of (x ∷ hs) h.patron ≡ Some h
 still_queued x hs h none some = elim (cases_Bool (x.patron == h.patron)) [
-  | inl f ↦ absurd (let both : ◌≡◌ {A = Option Hold} None (Some h) = sym none ∙ ap (hold_of hs) ((Decides-eqb x.patron h.patron).0 f) ∙ some in cc)
+  | inl f ↦ absurd (let both : ◌≡◌ {A = Option Hold} None (Some h) = sym none ∙ ap (hold_of hs) ((Decides-eqb x.patron h.patron).0 f)
+      ∙ some in cc)
   | inr f ↦ rw f some
 ]
 
-still_least : (test : Hold → Bool) (x : Hold) (hs : List Hold) (h : Hold) → IsLeast test hs h → test x ≡ false → (p : ℕ) (g : Hold) → hold_of (x ∷ hs) p ≡ Some g → test g ≡ true → h.stamp ≤ g.stamp
+still_least : (test : Hold → Bool) (x : Hold) (hs : List Hold) (h : Hold) → IsLeast test hs h → test x ≡ false → (p : ℕ) (g : Hold) →
+    hold_of (x ∷ hs) p ≡ Some g → test g ≡ true → h.stamp ≤ g.stamp
 still_least test x hs h l e p g m t = elim (cases_Bool (x.patron == p)) [
   | inl f ↦ absurd (let both : ◌≡◌ {A = Bool} true false = sym t ∙ sym (ap test (here x hs p g m f)) ∙ e in cc)
   | inr f ↦ l.least p g (behind x hs p g m f) t
@@ -120,11 +126,13 @@ find-least test (x ∷ hs) h o once is = elim (cases_Bool (test x)) [
 ]
 
 -- of two holds that are both picked up at the branch, or neither, the later one doesn't precede
-pub same_side : (priority : Bool) (b : ℕ) (g h : Hold) (t : Bool) → is_local priority b g ≡ t → is_local priority b h ≡ t → h.stamp ≤ g.stamp → precedes priority b g h ≡ false
+pub same_side : (priority : Bool) (b : ℕ) (g h : Hold) (t : Bool) → is_local priority b g ≡ t → is_local priority b h ≡ t →
+    h.stamp ≤ g.stamp → precedes priority b g h ≡ false
 same_side priority b g h true e f le = rw (e, f) (le-ltb g.stamp h.stamp le)
 same_side priority b g h false e f le = rw (e, f) (le-ltb g.stamp h.stamp le)
 
-other_side : (priority : Bool) (b : ℕ) (g h : Hold) → is_local priority b g ≡ false → is_local priority b h ≡ true → precedes priority b g h ≡ false
+other_side : (priority : Bool) (b : ℕ) (g h : Hold) → is_local priority b g ≡ false → is_local priority b h ≡ true →
+    precedes priority b g h ≡ false
 other_side priority b g h e f = rw (e, f) refl
 
 -- what is open among those of a list
@@ -134,24 +142,32 @@ opens wanted day g = wanted g && is_open day g
 abbrev local_opens : (Hold → Bool) → ℕ → ℕ → Hold → Bool
 local_opens wanted b day g = wanted g && is_open_at b day g
 
-opens_there : (wanted : Hold → Bool) (b day : ℕ) (g : Hold) → local_opens wanted b day g ≡ true → ((g.pickup == b) ≡ true) × (opens wanted day g ≡ true)
+opens_there : (wanted : Hold → Bool) (b day : ℕ) (g : Hold) → local_opens wanted b day g ≡ true →
+    ((g.pickup == b) ≡ true) × (opens wanted day g ≡ true)
 opens_there wanted b day g t =
-    let at : is_open_at b day g ≡ true = and_right (wanted g) (is_open_at b day g) t in
-    (and_left (g.pickup == b) (is_open day g) at, both_true (wanted g) (is_open day g) (and_left (wanted g) (is_open_at b day g) t) (and_right (g.pickup == b) (is_open day g) at))
+    let at : is_open_at b day g ≡ true = and_right (wanted g) (is_open_at b day g) t in (
+      and_left (g.pickup == b) (is_open day g) at,
+      both_true (wanted g) (is_open day g) (and_left (wanted g) (is_open_at b day g) t)
+          (and_right (g.pickup == b) (is_open day g) at),
+    )
 
-opens_here : (wanted : Hold → Bool) (b day : ℕ) (g : Hold) → opens wanted day g ≡ true → (g.pickup == b) ≡ true → local_opens wanted b day g ≡ true
+opens_here : (wanted : Hold → Bool) (b day : ℕ) (g : Hold) → opens wanted day g ≡ true → (g.pickup == b) ≡ true →
+    local_opens wanted b day g ≡ true
 opens_here wanted b day g t at =
-    both_true (wanted g) (is_open_at b day g) (and_left (wanted g) (is_open day g) t) (both_true (g.pickup == b) (is_open day g) at (and_right (wanted g) (is_open day g) t))
+    both_true (wanted g) (is_open_at b day g) (and_left (wanted g) (is_open day g) t)
+    (both_true (g.pickup == b) (is_open day g) at (and_right (wanted g) (is_open day g) t))
 
 -- where no pickup is preferred
-plain : (wanted : Hold → Bool) (b day : ℕ) (hs : List Hold) (o : Option Hold) → IsInOrder hs → HasPatronsOnce hs → find (opens wanted day) hs ≡ o → IsFirst false b (opens wanted day) hs o
+plain : (wanted : Hold → Bool) (b day : ℕ) (hs : List Hold) (o : Option Hold) → IsInOrder hs → HasPatronsOnce hs →
+    find (opens wanted day) hs ≡ o → IsFirst false b (opens wanted day) hs o
 plain wanted b day hs None ordered once none = record { fails = find-none (opens wanted day) hs none }
 plain wanted b day hs (Some h) ordered once some =
     let l : IsLeast (opens wanted day) hs h = find-least (opens wanted day) hs h ordered once some in
     record { queued = l.queued; passes = l.passes; first = λ p g m t. same_side false b g h false refl refl (l.least p g m t) }
 
 -- where pickups at the branch come first, and there is one
-preferred : (wanted : Hold → Bool) (b day : ℕ) (hs : List Hold) (h : Hold) → IsInOrder hs → HasPatronsOnce hs → find (local_opens wanted b day) hs ≡ Some h → Leads true b (opens wanted day) hs h
+preferred : (wanted : Hold → Bool) (b day : ℕ) (hs : List Hold) (h : Hold) → IsInOrder hs → HasPatronsOnce hs →
+    find (local_opens wanted b day) hs ≡ Some h → Leads true b (opens wanted day) hs h
 preferred wanted b day hs h ordered once some =
     let l : IsLeast (local_opens wanted b day) hs h = find-least (local_opens wanted b day) hs h ordered once some in
     let its : ((h.pickup == b) ≡ true) × (opens wanted day h ≡ true) = opens_there wanted b day h l.passes in
@@ -164,14 +180,17 @@ preferred wanted b day hs h ordered once some =
       ];
     }
 
-nowhere_local : (wanted : Hold → Bool) (b day : ℕ) (hs : List Hold) (p : ℕ) (g : Hold) → find (local_opens wanted b day) hs ≡ None → hold_of hs p ≡ Some g → opens wanted day g ≡ true → (g.pickup == b) ≡ false
+nowhere_local : (wanted : Hold → Bool) (b day : ℕ) (hs : List Hold) (p : ℕ) (g : Hold) → find (local_opens wanted b day) hs ≡ None →
+    hold_of hs p ≡ Some g → opens wanted day g ≡ true → (g.pickup == b) ≡ false
 nowhere_local wanted b day hs p g none m t = elim (cases_Bool (g.pickup == b)) [
-  | inl e ↦ absurd (let both : ◌≡◌ {A = Bool} true false = sym (opens_here wanted b day g t e) ∙ find-none (local_opens wanted b day) hs none p g m in cc)
+  | inl e ↦ absurd (let both : ◌≡◌ {A = Bool} true false = sym (opens_here wanted b day g t e)
+      ∙ find-none (local_opens wanted b day) hs none p g m in cc)
   | inr e ↦ e
 ]
 
 -- and there is none
-unpreferred : (wanted : Hold → Bool) (b day : ℕ) (hs : List Hold) (o : Option Hold) → IsInOrder hs → HasPatronsOnce hs → find (local_opens wanted b day) hs ≡ None → find (opens wanted day) hs ≡ o → IsFirst true b (opens wanted day) hs o
+unpreferred : (wanted : Hold → Bool) (b day : ℕ) (hs : List Hold) (o : Option Hold) → IsInOrder hs → HasPatronsOnce hs →
+    find (local_opens wanted b day) hs ≡ None → find (opens wanted day) hs ≡ o → IsFirst true b (opens wanted day) hs o
 unpreferred wanted b day hs None ordered once nobody none = record { fails = find-none (opens wanted day) hs none }
 unpreferred wanted b day hs (Some h) ordered once nobody some =
     let l : IsLeast (opens wanted day) hs h = find-least (opens wanted day) hs h ordered once some in
@@ -182,13 +201,16 @@ unpreferred wanted b day hs (Some h) ordered once nobody some =
       first = λ p g m t. same_side true b g h false (nowhere_local wanted b day hs p g nobody m t) away (l.least p g m t);
     }
 
-either : (wanted : Hold → Bool) (b day : ℕ) (hs : List Hold) (x y : Option Hold) → IsInOrder hs → HasPatronsOnce hs → find (local_opens wanted b day) hs ≡ x → find (opens wanted day) hs ≡ y → IsFirst true b (opens wanted day) hs (option_or x y)
+either : (wanted : Hold → Bool) (b day : ℕ) (hs : List Hold) (x y : Option Hold) → IsInOrder hs → HasPatronsOnce hs →
+    find (local_opens wanted b day) hs ≡ x → find (opens wanted day) hs ≡ y → IsFirst true b (opens wanted day) hs (option_or x y)
 either wanted b day hs None y ordered once nobody is = unpreferred wanted b day hs y ordered once nobody is
 either wanted b day hs (Some h) y ordered once some is = preferred wanted b day hs h ordered once some
 
 -- the front of the holds of a kind is the first of those that are open
-pub front_is_first : (priority : Bool) (b day : ℕ) (wanted : Hold → Bool) (hs : List Hold) → IsInOrder hs → HasPatronsOnce hs → IsFirst priority b (opens wanted day) hs (front priority b day (filter wanted hs))
-front_is_first false b day wanted hs ordered once = plain wanted b day hs (find (is_open day) (filter wanted hs)) ordered once (sym (find-filter wanted (is_open day) hs))
+pub front_is_first : (priority : Bool) (b day : ℕ) (wanted : Hold → Bool) (hs : List Hold) → IsInOrder hs → HasPatronsOnce hs →
+    IsFirst priority b (opens wanted day) hs (front priority b day (filter wanted hs))
+front_is_first false b day wanted hs ordered once =
+    plain wanted b day hs (find (is_open day) (filter wanted hs)) ordered once (sym (find-filter wanted (is_open day) hs))
 front_is_first true b day wanted hs ordered once =
     either wanted b day hs (find (is_open_at b day) (filter wanted hs)) (find (is_open day) (filter wanted hs)) ordered once
     (sym (find-filter wanted (is_open_at b day) hs)) (sym (find-filter wanted (is_open day) hs))

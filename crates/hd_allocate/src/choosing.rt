@@ -11,26 +11,26 @@ use hd_date::Day;
 use hd_queue::{QueueView, Waiting};
 use hd_rules::{BranchNo, Hold};
 
-/// The hold that a copy is for, at a branch on a day (docs/desk-rules.md, "Choice"): of the holds of its title that have no
-/// copy, admit this one and haven't expired, the first. They come by stamp; where the title has local priority, those that are
-/// picked up at the branch come before the others.
+/// The hold that a copy is for, at a branch on a day (docs/desk-rules.md, "Choice"): of the holds of its
+/// title that have no copy, admit this one and haven't expired, the first. They come by stamp; where the
+/// title has local priority, those that are picked up at the branch come before the others.
 ///
-/// The queue is that of the copy's title. Only the front of each of its lists is looked at, unless holds there have expired or
-/// a title has local priority.
+/// The queue is that of the copy's title. Of its three lists of holds without a copy, each is gone over until
+/// a hold is found that hasn't expired and, where the title has local priority, is picked up at the branch.
 pub fn choice<'a>(
     queue: &QueueView<'a>,
     copy: &CopyFacts,
     at: BranchNo,
     day: Day,
 ) -> Option<&'a Hold>
-    ensures chosen { (k : Facts) (d : Desk) → IsAt k d queue.now copy.now → option_copied result ≡ choice k d copy.now.copy at day }
+    ensures chosen { (k : Facts) (d : Desk) → IsAt k d queue.now copy.now
+        → option_copied result ≡ choice k d copy.now.copy at day }
     ensures waits { IfSome result (λ h. Waits queue.now h.now) }
 {
     let any = front(queue.any(), copy.priority, at, day);
     let named = front(queue.for_copy(copy.copy), copy.priority, at, day);
     let home = front(queue.at_branch(copy.home), copy.priority, at, day);
     let either = earlier(copy.priority, at, any, named);
-    queue.holds_are_in_order();
     earlier(copy.priority, at, either, home)
 }
 
@@ -58,7 +58,8 @@ fn earlier<'a>(
     one: Option<&'a Hold>,
     other: Option<&'a Hold>,
 ) -> Option<&'a Hold>
-    ensures { option_copied result ≡ earlier priority at (option_copied one.entry) (option_copied other.entry) }
+    ensures { option_copied result ≡ earlier priority at (option_copied one.entry)
+        (option_copied other.entry) }
 {
     let Some(g) = one else { return other };
     let Some(h) = other else { return one };
@@ -88,8 +89,8 @@ fn is_local(priority: bool, at: BranchNo, hold: &Hold) -> bool
     priority && hold.pickup == at
 }
 
-/// Whether the last day lies before this one.
-fn has_expired(expiry: Option<Day>, day: Day) -> bool
+/// Whether a hold whose last day is this, if it has one, has expired on a day: its last day lies before that.
+pub fn has_expired(expiry: Option<Day>, day: Day) -> bool
     ensures { result ≡ has_expired expiry day }
 {
     match expiry {

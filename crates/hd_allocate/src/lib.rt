@@ -1,19 +1,14 @@
-//! Which hold a copy is for, and where a copy goes that is handed in. Nothing here takes memory or copies a list.
+//! Which hold a copy is for. Nothing here takes memory or copies a list.
 #![tactic(auto)]
 
 mod choosing;
 mod facts;
-mod settled;
-mod settling;
 
-pub use crate::choosing::choice;
-pub use crate::facts::{CopyFacts, ShelfPlace};
-pub use crate::settled::Settled;
-pub use crate::settling::{allot, settle};
+pub use crate::choosing::{choice, has_expired};
+pub use crate::facts::CopyFacts;
 pub use hd_date::Day;
 pub use hd_queue::QueueView;
-pub use hd_rules::{BranchNo, CopyNo, CopyState, Hold, PatronNo};
-pub use hd_shelf::Places;
+pub use hd_rules::{BranchNo, CopyNo, Hold};
 
 #[cfg(test)]
 mod tests;

@@ -1,13 +1,10 @@
-//! Choices and settlings as the desk's rules tell them, where memory is ample.
+//! Choices as the desk's rules tell them, where memory is ample.
 ghost use Rattle.std.specs.Prelude.{◌≡◌, ◌≢◌, ◌<◌};
 
-use crate::{
-    BranchNo, CopyFacts, CopyNo, CopyState, Day, Hold, PatronNo, Places, QueueView, ShelfPlace,
-    allot, choice, settle,
-};
+use crate::{BranchNo, CopyFacts, CopyNo, Day, Hold, QueueView, choice};
 use hd_date::{OffsetMinutes, read};
 use hd_queue::Queue;
-use hd_rules::{HoldKind, HoldPlace, Transit};
+use hd_rules::{HoldKind, PatronNo};
 use std::alloc::{AllocError, Allocator};
 use std::test::Fail;
 
@@ -24,7 +21,7 @@ fn branch(number: u16) -> BranchNo
     BranchNo::new(number).unwrap()
 }
 
-/// A copy of a title without local priority, tied to nobody.
+/// A copy of a title without local priority.
 fn copy(number: u32, home: u16) -> CopyFacts
     requires number { number < 9 }
     requires home { home < 9 }
@@ -33,8 +30,6 @@ fn copy(number: u32, home: u16) -> CopyFacts
         copy: CopyNo::new(number).unwrap(),
         home: branch(home),
         priority: false,
-        shelf: None,
-        tied: None,
     }
 }
 
@@ -103,7 +98,8 @@ fn holds_of_three_kinds(rt: HostRuntime) -> Result<(), Fail> {
     Ok(())
 }
 
-/// At a title with local priority, a hold that is picked up at the branch comes before one with a smaller stamp.
+/// At a title with local priority, a hold that is picked up at the branch comes before one with a smaller
+/// stamp.
 #[test]
 fn local_priority(rt: HostRuntime) -> Result<(), Fail> {
     let today = day(b"20260310    120000")?;
@@ -152,115 +148,5 @@ fn expired_holds(rt: HostRuntime) -> Result<(), Fail> {
         chosen(&view, &local, branch(0), yesterday),
     );
     assert_eq!(rt; stamps, (Some(6), Some(2)));
-    Ok(())
-}
-
-/// On the hold shelf of branch 1, for the patron of number 4.
-fn kept_at(place: u32) -> CopyState {
-    CopyState::OnHoldShelf(HoldPlace {
-        branch: branch(1),
-        place,
-        patron: PatronNo::new(4).unwrap(),
-    })
-}
-
-/// On the way between branches, for this patron.
-fn sent(from: u16, to: u16, patron: Option<PatronNo>) -> CopyState
-    requires from { from < 9 }
-    requires to { to < 9 }
-{
-    CopyState::InTransit(Transit {
-        from: branch(from),
-        to: branch(to),
-        patron,
-    })
-}
-
-/// A copy that no hold has goes to its choice, or home.
-#[test]
-fn untied_copies(rt: HostRuntime) -> Result<(), Fail> {
-    let today = day(b"20260310    120000")?;
-    let north = branch(0);
-    let south = branch(1);
-    let its = hold(4, HoldKind::One(CopyNo::new(1).unwrap()), 1);
-    let queue = queue_of(rt.alloc(), its, hold(6, HoldKind::AtBranch, 2))?;
-    let view = queue.view();
-    let places = Places::new(rt.alloc());
-    let wanted = copy(1, 0);
-    let other = copy(2, 0);
-    let settled = (
-        settle(&view, &places, &wanted, south, today).state,
-        settle(&view, &places, &wanted, north, today).state,
-        settle(&view, &places, &other, north, today).state,
-        settle(&view, &places, &other, south, today).state,
-    );
-    let patron = Some(its.patron);
-    assert_eq!(rt;
-        settled,
-        (
-            kept_at(1),
-            sent(0, 1, patron),
-            CopyState::Shelf(north),
-            sent(1, 0, None)
-        )
-    );
-
-    // The copy of a hold that ended keeps its place.
-    let stands = CopyFacts {
-        shelf: Some(ShelfPlace {
-            branch: south,
-            place: 5,
-        }),
-        ..wanted
-    };
-    assert_eq!(rt;
-        allot(&places, &stands, south, Some(&its)).state,
-        kept_at(5)
-    );
-    Ok(())
-}
-
-/// A copy that is tied to the patron of number 4, on this place of the hold shelf of branch 1, if any.
-fn tied(place: Option<u32>) -> CopyFacts {
-    CopyFacts {
-        copy: CopyNo::new(1).unwrap(),
-        home: branch(0),
-        priority: false,
-        shelf: place.map(|place| ShelfPlace {
-            branch: branch(1),
-            place,
-        }),
-        tied: PatronNo::new(4),
-    }
-}
-
-/// A tied copy goes to the pickup of its hold.
-#[test]
-fn tied_copies(rt: HostRuntime) -> Result<(), Fail> {
-    let today = day(b"20260310    120000")?;
-    let north = branch(0);
-    let south = branch(1);
-    let stands = tied(Some(3));
-    let bound = tied(None);
-    let mut its = hold(4, HoldKind::Any, 1);
-    its.copy = CopyNo::new(1);
-    let queue = queue_of(rt.alloc(), its, hold(6, HoldKind::Any, 0))?;
-    let view = queue.view();
-    let places = Places::new(rt.alloc());
-    let settled = (
-        settle(&view, &places, &stands, south, today).state,
-        settle(&view, &places, &stands, north, today).state,
-        settle(&view, &places, &bound, south, today).state,
-        settle(&view, &places, &bound, north, today).state,
-    );
-    assert_eq!(rt;
-        settled,
-        (
-            kept_at(3),
-            sent(0, 1, PatronNo::new(4)),
-            kept_at(1),
-            sent(0, 1, PatronNo::new(4))
-        )
-    );
     Ok(())
 }

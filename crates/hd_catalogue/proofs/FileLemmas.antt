@@ -1,5 +1,6 @@
 -- Files and their lines.
-use Rattle.std.proofs.Common.{Option, ◌≡◌, ℕ, ◌+◌, ◌⊎◌, None, Some, Result, Ok, Err, List, [], ◌∷◌, ◌++◌, length, refl, sym, ap, subst, ◌∙◌, inl, inr, arith, append_assoc, append-nil, length-append}
+use Rattle.std.proofs.Common.{Option, ◌≡◌, ℕ, ◌+◌, ◌⊎◌, None, Some, Result, Ok, Err, List, [], ◌∷◌, ◌++◌, length, refl, sym, ap, subst, ◌∙◌}
+use Rattle.std.proofs.Common.{inl, inr, arith, append_assoc, append-nil, length-append}
 use Rattle.std.specs.Prelude.{fold}
 use Rattle.hd_catalogue.specs.Contents.{Contents}
 use Rattle.hd_catalogue.specs.Files.{EachPasses, IsAccepted, IsFirstBad, cause_of, contents_of}
@@ -32,7 +33,8 @@ nil_split [] x after e = cc
 nil_split (b ∷ bs) x after e = cc
 
 -- a line of a list with one more is one of the list, or the one more
-last_or : (all : List (List ℕ)) (line : List ℕ) (before : List (List ℕ)) (x : List ℕ) (after : List (List ℕ)) → all ++ line ∷ [] ≡ before ++ x ∷ after →
+last_or : (all : List (List ℕ)) (line : List ℕ) (before : List (List ℕ)) (x : List ℕ) (after : List (List ℕ))
+    → all ++ line ∷ [] ≡ before ++ x ∷ after →
     ((rest : List (List ℕ)) × (all ≡ before ++ x ∷ rest)) ⊎ ((all ≡ before) × (line ≡ x))
 last_or [] line [] x after e = inr (refl, head_same e)
 last_or [] line (b ∷ bs) x after e = absurd (nil_split bs x after (tail_same e))
@@ -59,7 +61,8 @@ fold-push f a [] x = refl
 fold-push f a (y ∷ ys) x = fold-push f (f a y) ys x
 
 -- the reading of a file whose first lines pass
-pub follows_reading : (first : List ℕ) (done ls : List (List ℕ)) (n : ℕ) (k : Contents) (r : Result Contents CatFault) → n ≡ length done + 2 → k ≡ contents_of first done →
+pub follows_reading : (first : List ℕ) (done ls : List (List ℕ)) (n : ℕ) (k : Contents) (r : Result Contents CatFault) → n ≡ length done + 2
+    → k ≡ contents_of first done →
     EachPasses (first ∷ done) → Follows n ls k r → IsReading (first ∷ (done ++ ls)) r
 follows_reading first done [] n k r count says passes f =
     subst (IsReading (first ∷ (done ++ []))) (sym f)
@@ -73,10 +76,12 @@ follows_reading first done [] n k r count says passes f =
 follows_reading first done (line ∷ more) n k r count says passes f = elim f [
   | inl next ↦
       let here : cause_of (first ∷ done) line ≡ None = subst (λ c. line_cause c line ≡ None) says next.0 in
-      let pushed : with_line k line ≡ contents_of first (done ++ line ∷ []) = ap (λ c. with_line c line) says ∙ sym (fold-push with_line (begun first) done line) in
+      let pushed : with_line k line ≡ contents_of first (done ++ line ∷ []) =
+      ap (λ c. with_line c line) says ∙ sym (fold-push with_line (begun first) done line) in
       let whole : (done ++ line ∷ []) ++ more ≡ done ++ line ∷ more = append_assoc done (line ∷ []) more in
       subst (λ ls. IsReading (first ∷ ls) r) whole
-      (follows_reading first (done ++ line ∷ []) more (n + 1) (with_line k line) r (omega (arith, length-append done (line ∷ []))) pushed (passes-push (first ∷ done) line passes here) next.1)
+      (follows_reading first (done ++ line ∷ []) more (n + 1) (with_line k line) r (omega (arith, length-append done (line ∷ []))) pushed
+      (passes-push (first ∷ done) line passes here) next.1)
   | inr stop ↦
       subst (IsReading (first ∷ (done ++ line ∷ more))) (sym stop.2)
       record {
@@ -91,13 +96,16 @@ follows_reading first done (line ∷ more) n k r count says passes f = elim f [
 ]
 
 -- the first line passes
-pub begun_reading : (first : List ℕ) (ls : List (List ℕ)) (all : List (List ℕ)) (k : Contents) (r : Result Contents CatFault) → all ≡ first ∷ ls → header_cause first ≡ None → k ≡ begun first →
+pub begun_reading : (first : List ℕ) (ls : List (List ℕ)) (all : List (List ℕ)) (k : Contents) (r : Result Contents CatFault)
+    → all ≡ first ∷ ls → header_cause first ≡ None → k ≡ begun first →
     Follows 2 ls k r → IsReading all r
 begun_reading first ls all k r whole none says f =
-    subst (λ all. IsReading all r) (sym whole) (follows_reading first [] ls 2 k r (omega arith) says (passes-push [] first passes-none none) f)
+    subst (λ all. IsReading all r) (sym whole)
+    (follows_reading first [] ls 2 k r (omega arith) says (passes-push [] first passes-none none) f)
 
 -- the first line doesn't pass, or its memory was wanting
-pub first_refused : (first : List ℕ) (ls : List (List ℕ)) (all : List (List ℕ)) (named : Cause) → all ≡ first ∷ ls → Names (header_cause first) named → IsFirstBad all (record { line = 1; cause = named })
+pub first_refused : (first : List ℕ) (ls : List (List ℕ)) (all : List (List ℕ)) (named : Cause) → all ≡ first ∷ ls
+    → Names (header_cause first) named → IsFirstBad all (record { line = 1; cause = named })
 first_refused first ls all named whole names = record {
   before = [];
   line = first;
@@ -109,7 +117,8 @@ first_refused first ls all named whole names = record {
 }
 
 -- a file that is accepted has no bad line
-pub accepted_refused : (all : List (List ℕ)) (k : Contents) (fault : CatFault) → IsAccepted all k → IsFirstBad all fault → fault.cause ≡ Memory
+pub accepted_refused : (all : List (List ℕ)) (k : Contents) (fault : CatFault) → IsAccepted all k → IsFirstBad all fault
+    → fault.cause ≡ Memory
 accepted_refused all k fault a b = elim b.here [
   | inl some ↦ absurd (differ (sym (a.passes b.before b.line b.after b.whole) ∙ some))
   | inr memory ↦ memory.0
@@ -146,7 +155,8 @@ passed : {x : Option Cause} {y : Cause} → x ≡ None → x ≡ Some y → ⊥
 passed e h = cc
 
 -- a file has one first bad line, and that has one cause
-pub first_bad_one : (all : List (List ℕ)) (f g : CatFault) → IsFirstBad all f → IsFirstBad all g → ¬ (f.cause ≡ Memory) → ¬ (g.cause ≡ Memory) → f ≡ g
+pub first_bad_one : (all : List (List ℕ)) (f g : CatFault) → IsFirstBad all f → IsFirstBad all g → ¬ (f.cause ≡ Memory)
+    → ¬ (g.cause ≡ Memory) → f ≡ g
 first_bad_one all f g a b m n =
     let mine : cause_of a.before a.line ≡ Some f.cause = own_cause (cause_of a.before a.line) f.cause a.here m in
     let other : cause_of b.before b.line ≡ Some g.cause = own_cause (cause_of b.before b.line) g.cause b.here n in

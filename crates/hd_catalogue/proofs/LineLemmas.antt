@@ -1,5 +1,6 @@
 -- The first line of a text, and the first value of a line.
-use Rattle.std.proofs.Common.{◌≡◌, ℕ, zero, suc, add-one, ◌+◌, ◌<◌, ◌≤◌, Bool, false, None, Some, List, [], ◌∷◌, length, take, drop, refl, ap, ◌∙◌, arith}
+use Rattle.std.proofs.Common.{◌≡◌, ℕ, zero, suc, add-one, ◌+◌, ◌<◌, ◌≤◌, Bool, false, None, Some, List, [], ◌∷◌, length, take, drop, refl}
+use Rattle.std.proofs.Common.{ap, ◌∙◌, arith}
 use Rattle.std.specs.Prelude.{◌==◌}
 use Rattle.std.specs.List.{position, position_or_len, before_first, after_first, slice_split, All}
 use Rattle.std.specs.Str.Lines.{lines, lines_of_parts, strip_carriage_return}
@@ -9,12 +10,17 @@ use Rattle.std.proofs.lemmas.Bool.Decides.{nat_tests}
 use Rattle.hd_catalogue.specs.Text.{values_of}
 use Rattle.hd_catalogue.specs.Files.{lines_of}
 
-lines_of_parts-cons : (x : List ℕ) (parts : List (List ℕ)) → 0 < length parts → lines_of_parts (x ∷ parts) ≡ strip_carriage_return x ∷ lines_of_parts parts
+lines_of_parts-cons : (x : List ℕ) (parts : List (List ℕ)) → 0 < length parts
+    → lines_of_parts (x ∷ parts) ≡ strip_carriage_return x ∷ lines_of_parts parts
 lines_of_parts-cons x [] l = absurd (omega arith)
 lines_of_parts-cons x (y ∷ more) l = refl
 
-lines_at : (bs : List ℕ) → position_or_len (λ b. b == 10) bs < length bs → lines bs ≡ strip_carriage_return (before_first (λ b. b == 10) bs) ∷ lines (after_first (λ b. b == 10) bs)
-lines_at bs l = ap lines_of_parts (slice_split_first (λ b. b == 10) bs 0 l) ∙ lines_of_parts-cons (before_first (λ b. b == 10) bs) (slice_split (λ b. b == 10) (after_first (λ b. b == 10) bs)) (omega (arith, length-slice_split (λ b. b == 10) (after_first (λ b. b == 10) bs)))
+lines_at : (bs : List ℕ) → position_or_len (λ b. b == 10) bs < length bs
+    → lines bs ≡ strip_carriage_return (before_first (λ b. b == 10) bs) ∷ lines (after_first (λ b. b == 10) bs)
+lines_at bs l =
+    ap lines_of_parts (slice_split_first (λ b. b == 10) bs 0 l)
+    ∙ lines_of_parts-cons (before_first (λ b. b == 10) bs) (slice_split (λ b. b == 10) (after_first (λ b. b == 10) bs))
+    (omega (arith, length-slice_split (λ b. b == 10) (after_first (λ b. b == 10) bs)))
 
 position_some : (p : ℕ → Bool) (bs : List ℕ) (n : ℕ) → Some n ≡ position p bs → (position_or_len p bs ≡ n) × (n < length bs)
 position_some p bs n h = (grind (arith, nat_tests), grind (arith, nat_tests))
@@ -28,7 +34,8 @@ drop-past (suc n) [] = refl
 drop-past (suc n) (x ∷ xs) = drop-past n xs
 
 -- a line and its end come off the front
-pub lines-front : (bs : List ℕ) (n : ℕ) → Some n ≡ position (λ b. b == 10) bs → lines bs ≡ strip_carriage_return (take n bs) ∷ lines (drop 1 (drop n bs))
+pub lines-front : (bs : List ℕ) (n : ℕ) → Some n ≡ position (λ b. b == 10) bs
+    → lines bs ≡ strip_carriage_return (take n bs) ∷ lines (drop 1 (drop n bs))
 lines-front bs n h =
     let s : (position_or_len (λ b. b == 10) bs ≡ n) × (n < length bs) = position_some (λ b. b == 10) bs n h
     in
@@ -39,7 +46,8 @@ lines-front bs n h =
 -- a text without an end is one line
 pub lines-whole : (bs : List ℕ) → 0 < length bs → None ≡ position (λ b. b == 10) bs → lines bs ≡ bs ∷ []
 lines-whole bs some h =
-    let none : All (λ b. (b == 10) ≡ false) bs = λ k e m. fails_before_first (λ b. b == 10) bs k e (omega (arith, position_none (λ b. b == 10) bs h))
+    let none : All (λ b. (b == 10) ≡ false) bs =
+    λ k e m. fails_before_first (λ b. b == 10) bs k e (omega (arith, position_none (λ b. b == 10) bs h))
     in
     ap lines_of_parts (slice_split_none (λ b. b == 10) bs none) ∙ grind (arith, nat_tests)
 
@@ -65,5 +73,6 @@ values-front bs n h =
 -- a line without a bar is one value
 pub values-whole : (bs : List ℕ) → None ≡ position (λ b. b == 124) bs → values_of bs ≡ bs ∷ []
 values-whole bs h =
-    let none : All (λ b. (b == 124) ≡ false) bs = λ k e m. fails_before_first (λ b. b == 124) bs k e (omega (arith, position_none (λ b. b == 124) bs h)) in
+    let none : All (λ b. (b == 124) ≡ false) bs =
+    λ k e m. fails_before_first (λ b. b == 124) bs k e (omega (arith, position_none (λ b. b == 124) bs h)) in
     slice_split_none (λ b. b == 124) bs none

@@ -17,7 +17,8 @@ unfolding are_names
 first-short a b c h = name-short a (grind (arith, h))
 
 -- names, and one more
-pub short-push : {F : Type 0} (names : List (List ℕ × F)) (e : List ℕ × F) → AreShortNames names → IsShortName e.0 → AreShortNames (names ++ e ∷ [])
+pub short-push : {F : Type 0} (names : List (List ℕ × F)) (e : List ℕ × F) → AreShortNames names → IsShortName e.0
+    → AreShortNames (names ++ e ∷ [])
 short-push [] e all new zero name h = subst IsShortName (some_is h) new
   where
     some_is : {A : Type 0} {x y : A} → Some x ≡ Some y → x ≡ y

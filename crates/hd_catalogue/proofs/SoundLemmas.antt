@@ -1,6 +1,8 @@
 -- A catalogue stays sound with one more name.
-use Rattle.std.proofs.Common.{◌≡◌, ℕ, zero, suc, ◌<◌, ◌≤◌, ◌⊎◌, List, [], ◌∷◌, ◌++◌, length, refl, sym, inl, inr, subst, arith, length-append, Result, Ok, Err, OnOk, is_err, false, Option, Some, IfSome}
-use Rattle.hd_rules.specs.declared.limits.TheConstants.{MOST_BRANCHES, MOST_COMMANDS, MOST_COPIES, MOST_LOANS, MOST_LOAN_DAYS, MOST_PATRONS, MOST_RENEWALS, MOST_TERMINALS, MOST_TITLES}
+use Rattle.std.proofs.Common.{◌≡◌, ℕ, zero, suc, ◌<◌, ◌≤◌, ◌⊎◌, List, [], ◌∷◌, ◌++◌, length, refl, sym, inl, inr, subst, arith}
+use Rattle.std.proofs.Common.{length-append, Result, Ok, Err, OnOk, is_err, false, Option, Some, IfSome}
+use Rattle.hd_rules.specs.declared.limits.TheConstants.{MOST_BRANCHES, MOST_COMMANDS, MOST_COPIES, MOST_LOANS, MOST_LOAN_DAYS, MOST_PATRONS}
+use Rattle.hd_rules.specs.declared.limits.TheConstants.{MOST_RENEWALS, MOST_TERMINALS, MOST_TITLES}
 use Rattle.hd_catalogue.specs.Contents.{Contents, IsSound, branch_of, facts_of, known, without_names}
 use Rattle.hd_catalogue.specs.Terminal.{Terminal}
 use Rattle.hd_catalogue.specs.declared.facts.BranchFacts.{BranchFacts}
@@ -11,15 +13,18 @@ use Rattle.hd_catalogue.specs.declared.facts.TitleFacts.{TitleFacts}
 
 -- of a list with one more name each old number is known as before, and the new one by the new facts
 known-push : {F V : Type 0} (fact : F → V) (none : V) (names : List (List ℕ × F)) (e : List ℕ × F) (i : ℕ) → i < length (names ++ e ∷ []) →
-    ((i < length names) × (known fact none (names ++ e ∷ []) i ≡ known fact none names i)) ⊎ (known fact none (names ++ e ∷ []) i ≡ fact e.1)
+    ((i < length names) × (known fact none (names ++ e ∷ []) i ≡ known fact none names i))
+    ⊎ (known fact none (names ++ e ∷ []) i ≡ fact e.1)
 known-push fact none [] e zero h = inr refl
 known-push fact none [] e (suc i) h = absurd (omega arith)
 known-push fact none (x ∷ xs) e zero h = inl (omega arith, refl)
-known-push fact none (x ∷ xs) e (suc i) h = elim (known-push fact none xs e i (omega arith)) [ inl old ↦ inl (omega (arith, old.0), old.1) | inr new ↦ inr new ]
+known-push fact none (x ∷ xs) e (suc i) h =
+    elim (known-push fact none xs e i (omega arith)) [ inl old ↦ inl (omega (arith, old.0), old.1) | inr new ↦ inr new ]
 
 -- what holds of each is kept, where it holds of the new one
 each-push : {F V : Type 0} (fact : F → V) (none : V) (P : V → Type 0) (names : List (List ℕ × F)) (e : List ℕ × F) →
-    ((i : ℕ) → i < length names → P (known fact none names i)) → P (fact e.1) → (i : ℕ) → i < length (names ++ e ∷ []) → P (known fact none (names ++ e ∷ []) i)
+    ((i : ℕ) → i < length names → P (known fact none names i)) → P (fact e.1) → (i : ℕ) → i < length (names ++ e ∷ [])
+    → P (known fact none (names ++ e ∷ []) i)
 each-push fact none P names e all new i h = elim (known-push fact none names e i h) [
   | inl old ↦ subst P (sym old.1) (all i old.0)
   | inr is ↦ subst P (sym is) new
@@ -29,7 +34,8 @@ room : {F : Type 0} (names : List (List ℕ × F)) (e : List ℕ × F) (most : �
 room names e most h = omega (arith, length-append names (e ∷ []))
 
 -- a catalogue without names
-pub sound-none : (settings : Settings) (institution : List ℕ) → 1 ≤ settings.command_limit → settings.command_limit ≤ MOST_COMMANDS → IsSound (without_names settings institution)
+pub sound-none : (settings : Settings) (institution : List ℕ) → 1 ≤ settings.command_limit → settings.command_limit ≤ MOST_COMMANDS
+    → IsSound (without_names settings institution)
 unfolding facts_of branch_of
 sound-none settings institution some most = record {
   facts = record {
@@ -49,7 +55,8 @@ sound-none settings institution some most = record {
   terminals = λ t h. absurd (omega arith);
 }
 
-pub sound-branch : (k : Contents) (e : List ℕ × BranchFacts) → IsSound k → length k.branches < MOST_BRANCHES → IsSound (record k { branches = k.branches ++ e ∷ [] })
+pub sound-branch : (k : Contents) (e : List ℕ × BranchFacts) → IsSound k → length k.branches < MOST_BRANCHES
+    → IsSound (record k { branches = k.branches ++ e ∷ [] })
 unfolding facts_of branch_of
 sound-branch k e s h = record {
   facts = record {
@@ -69,7 +76,8 @@ sound-branch k e s h = record {
   terminals = λ t l. omega (arith, s.terminals t l, length-append k.branches (e ∷ []));
 }
 
-pub sound-terminal : (k : Contents) (name : List ℕ) (facts : Terminal) → IsSound k → length k.terminals < MOST_TERMINALS → facts.branch < length k.branches →
+pub sound-terminal : (k : Contents) (name : List ℕ) (facts : Terminal) → IsSound k → length k.terminals < MOST_TERMINALS
+    → facts.branch < length k.branches →
     IsSound (record k { terminals = k.terminals ++ (name, facts) ∷ [] })
 unfolding facts_of branch_of
 sound-terminal k name facts s h branch = record {
@@ -90,7 +98,8 @@ sound-terminal k name facts s h branch = record {
   terminals = each-push (λ terminal. terminal.branch) 0 (λ b. b < length k.branches) k.terminals (name, facts) s.terminals branch;
 }
 
-pub sound-patron : (k : Contents) (name : List ℕ) (facts : PatronFacts) → IsSound k → length k.patrons < MOST_PATRONS → facts.loan_limit ≤ MOST_LOANS →
+pub sound-patron : (k : Contents) (name : List ℕ) (facts : PatronFacts) → IsSound k → length k.patrons < MOST_PATRONS
+    → facts.loan_limit ≤ MOST_LOANS →
     IsSound (record k { patrons = k.patrons ++ (name, facts) ∷ [] })
 unfolding facts_of branch_of
 sound-patron k name facts s h limit = record {
@@ -111,7 +120,8 @@ sound-patron k name facts s h limit = record {
   terminals = s.terminals;
 }
 
-pub sound-title : (k : Contents) (name : List ℕ) (facts : TitleFacts) → IsSound k → length k.titles < MOST_TITLES → facts.loan_days ≤ MOST_LOAN_DAYS → facts.renewals ≤ MOST_RENEWALS →
+pub sound-title : (k : Contents) (name : List ℕ) (facts : TitleFacts) → IsSound k → length k.titles < MOST_TITLES
+    → facts.loan_days ≤ MOST_LOAN_DAYS → facts.renewals ≤ MOST_RENEWALS →
     IsSound (record k { titles = k.titles ++ (name, facts) ∷ [] })
 unfolding facts_of branch_of
 sound-title k name facts s h days renewals = record {
@@ -132,7 +142,8 @@ sound-title k name facts s h days renewals = record {
   terminals = s.terminals;
 }
 
-pub sound-copy : (k : Contents) (name : List ℕ) (facts : CopyFacts) → IsSound k → length k.copies < MOST_COPIES → facts.title < length k.titles → facts.home < length k.branches →
+pub sound-copy : (k : Contents) (name : List ℕ) (facts : CopyFacts) → IsSound k → length k.copies < MOST_COPIES
+    → facts.title < length k.titles → facts.home < length k.branches →
     IsSound (record k { copies = k.copies ++ (name, facts) ∷ [] })
 unfolding facts_of branch_of
 sound-copy k name facts s h title home = record {

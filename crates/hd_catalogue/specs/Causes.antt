@@ -3,7 +3,8 @@ use Rattle.std.specs.Prelude.{ℕ, List, ◌++◌, codes}
 use Rattle.std.specs.Fmt.{decimal}
 use Rattle.hd_catalogue.specs.declared.cause.CatFault.{CatFault}
 use Rattle.hd_catalogue.specs.declared.cause.Cause.{Cause}
-use Rattle.hd_catalogue.specs.declared.cause.Cause.TheVariants.{Header, Kind, Fields, Text, Number, Double, Unknown, Limit, Memory}
+use Rattle.hd_catalogue.specs.declared.cause.Cause.TheVariants.{Header, Kind, Fields, Text, Number, Double}
+use Rattle.hd_catalogue.specs.declared.cause.Cause.TheVariants.{Unknown, Limit, Memory}
 
 abbrev pub cause_text : Cause → List ℕ
 cause_text Header = codes "HEADER"

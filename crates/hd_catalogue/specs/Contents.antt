@@ -1,8 +1,10 @@
--- What a catalogue says: a list for each kind of name. A name's number is its place, from 0, in the order of first appearance.
-use Rattle.std.specs.Prelude.{◌≡◌, ℕ, ◌<◌, ◌≤◌, Bool, true, false, List, [], length, Option, None, Some, if◌then◌else◌, option_and_then}
+-- What a catalogue says: a list for each kind of name. A name's
+-- number is its place, from 0, in the order of first appearance.
+use Rattle.std.specs.Prelude.{◌≡◌, ℕ, ◌<◌, ◌≤◌, Bool, true, false, List, [], length, Option, None, Some}
+use Rattle.std.specs.Prelude.{if◌then◌else◌, option_and_then}
 use Rattle.std.specs.Option.{option_map_or}
 use Rattle.std.specs.Str.{bytes_eq}
-use Rattle.hd_names.specs.Names.{AreDistinct, facts_at, name_at, number_of}
+use Rattle.hd_catalogue.specs.Names.{facts_at, name_at, number_of}
 use Rattle.hd_rules.specs.Facts.{AreInRange, Facts}
 use Rattle.hd_catalogue.specs.declared.facts.Settings.{Settings}
 use Rattle.hd_catalogue.specs.declared.facts.BranchFacts.{BranchFacts}
@@ -22,7 +24,16 @@ pub record Contents : Type 0 where
 
 -- a catalogue without names
 abbrev pub without_names : Settings → List ℕ → Contents
-without_names settings institution = record { settings = settings; institution = institution; branches = []; terminals = []; patrons = []; titles = []; copies = [] }
+without_names settings institution =
+    record {
+      settings = settings;
+      institution = institution;
+      branches = [];
+      terminals = [];
+      patrons = [];
+      titles = [];
+      copies = [];
+    }
 
 -- what is known of the name with a number, and else a value that stands for nothing
 abbrev pub known : {F V : Type 0} → (F → V) → V → List (List ℕ × F) → ℕ → V
@@ -64,20 +75,27 @@ patron_number k name = number_of k.patrons name
 
 -- whether the terminal with a number has this password
 unfoldable pub is_password : Contents → ℕ → List ℕ → Bool
-is_password k number password = option_map_or (λ terminal. bytes_eq terminal.password password) (facts_at k.terminals number) false
+is_password k number password =
+    option_map_or (λ terminal. bytes_eq terminal.password password) (facts_at k.terminals number) false
 
 -- the number of the terminal with this name, where it has this password
 unfoldable pub terminal_number : Contents → List ℕ → List ℕ → Option ℕ
 terminal_number k name password =
-    option_and_then (λ number. if is_password k number password then Some number else None) (number_of k.terminals name)
+    option_and_then
+    (λ number. if is_password k number password then Some number else None)
+    (number_of k.terminals name)
 
 -- the terminal with a number has this name and this password
 unfoldable pub IsTerminal : Contents → ℕ → List ℕ → List ℕ → Type 0
-IsTerminal k number name password = (name_at k.terminals number ≡ Some name) × (is_password k number password ≡ true)
+IsTerminal k number name password =
+    (name_at k.terminals number ≡ Some name) × (is_password k number password ≡ true)
 
 -- the name of a number, None where there is no such number
 unfoldable pub branch_name : Contents → ℕ → Option (List ℕ)
 branch_name k number = name_at k.branches number
+
+unfoldable pub terminal_name : Contents → ℕ → Option (List ℕ)
+terminal_name k number = name_at k.terminals number
 
 unfoldable pub title_name : Contents → ℕ → Option (List ℕ)
 title_name k number = name_at k.titles number
@@ -92,14 +110,6 @@ patron_name k number = name_at k.patrons number
 pub record IsSound (k : Contents) : Type 0 where
   pub facts : AreInRange (facts_of k)
   pub terminals : (t : ℕ) → t < length k.terminals → branch_of k t < length k.branches
-
--- no name is defined twice in its kind: each is found again by its bytes, at its own number
-pub record AreDistinctNames (k : Contents) : Type 0 where
-  pub branches : AreDistinct k.branches
-  pub terminals : AreDistinct k.terminals
-  pub patrons : AreDistinct k.patrons
-  pub titles : AreDistinct k.titles
-  pub copies : AreDistinct k.copies
 
 -- a name of 1 to 60 bytes
 abbrev pub IsShortName : List ℕ → Type 0
@@ -117,3 +127,7 @@ pub record HasShortNames (k : Contents) : Type 0 where
   pub patrons : AreShortNames k.patrons
   pub titles : AreShortNames k.titles
   pub copies : AreShortNames k.copies
+
+-- what holds of each catalogue
+abbrev pub IsCatalogue : Contents → Type 0
+IsCatalogue k = IsSound k × HasShortNames k

@@ -23,7 +23,9 @@ cause_of (first ∷ more) line = line_cause (contents_of first more) line
 
 -- each line passes after what the lines before it define
 abbrev pub EachPasses : List (List ℕ) → Type 0
-EachPasses all = (before : List (List ℕ)) (line : List ℕ) (after : List (List ℕ)) → all ≡ before ++ line ∷ after → cause_of before line ≡ None
+EachPasses all =
+    (before : List (List ℕ)) (line : List ℕ) (after : List (List ℕ)) → all ≡ before ++ line ∷ after
+    → cause_of before line ≡ None
 
 -- A file with these lines is accepted, and its catalogue says this.
 pub record IsAccepted (all : List (List ℕ)) (k : Contents) : Type 0 where
@@ -33,7 +35,8 @@ pub record IsAccepted (all : List (List ℕ)) (k : Contents) : Type 0 where
   pub passes : EachPasses all
   pub says : k ≡ contents_of first more
 
--- The fault is of the first line that doesn't pass and names its cause; or the memory for a line that passes was wanting.
+-- The fault is of the first line that doesn't pass and names
+-- its cause; or the memory for a line that passes was wanting.
 pub record IsFirstBad (all : List (List ℕ)) (fault : CatFault) : Type 0 where
   pub before : List (List ℕ)
   pub line : List ℕ
@@ -41,4 +44,5 @@ pub record IsFirstBad (all : List (List ℕ)) (fault : CatFault) : Type 0 where
   pub whole : all ≡ before ++ line ∷ after
   pub counted : fault.line ≡ length before + 1
   pub earlier : EachPasses before
-  pub here : (cause_of before line ≡ Some fault.cause) ⊎ ((fault.cause ≡ Memory) × (cause_of before line ≡ None))
+  pub here : (cause_of before line ≡ Some fault.cause)
+      ⊎ ((fault.cause ≡ Memory) × (cause_of before line ≡ None))

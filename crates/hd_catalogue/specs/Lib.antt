@@ -1,3 +1,4 @@
+pub mod Names
 pub mod Text
 pub mod Values
 pub mod Terminal

@@ -1,12 +1,19 @@
 -- The lines of a catalogue file: why one is refused after what the lines before it said, and what it says.
-use Rattle.std.specs.Prelude.{ℕ, Bool, true, not, ◌&&◌, ◌||◌, nat_le, is_some, if◌then◌else◌, Option, None, Some, List, [], ◌∷◌, ◌++◌, codes, length, unwrap_or, option_map, pos}
+use Rattle.std.specs.Prelude.{ℕ, Bool, true, not, ◌&&◌, ◌||◌, nat_le, is_some, if◌then◌else◌, Option, None}
+use Rattle.std.specs.Prelude.{Some, List, [], ◌∷◌, ◌++◌, codes, length, unwrap_or, option_map, pos}
 use Rattle.std.specs.Str.{bytes_eq}
-use Rattle.hd_names.specs.Names.{number_of}
-use Rattle.hd_rules.specs.declared.limits.TheConstants.{MOST_BRANCHES, MOST_TERMINALS, MOST_TITLES, MOST_COPIES, MOST_PATRONS, MOST_LOAN_DAYS, MOST_RENEWALS, MOST_LOANS}
-use Rattle.hd_catalogue.specs.Text.{as_one, as_two, as_three, as_four, is_command_limit, is_local, is_long, is_name, is_number_to, is_offset, is_priority, offset_of, value_of, values_of}
+use Rattle.hd_catalogue.specs.Names.{number_of}
+use Rattle.hd_rules.specs.declared.limits.TheConstants.{MOST_BRANCHES, MOST_TERMINALS, MOST_TITLES}
+use Rattle.hd_rules.specs.declared.limits.TheConstants.{MOST_COPIES, MOST_PATRONS, MOST_LOAN_DAYS}
+use Rattle.hd_rules.specs.declared.limits.TheConstants.{MOST_RENEWALS, MOST_LOANS}
+use Rattle.hd_catalogue.specs.Text.{as_one, as_two, as_three, as_four, is_command_limit, is_local, is_long}
+use Rattle.hd_catalogue.specs.Text.{is_name, is_number_to, is_offset, is_priority, offset_of, value_of}
+use Rattle.hd_catalogue.specs.Text.{values_of}
 use Rattle.hd_catalogue.specs.Contents.{Contents, without_names}
+use Rattle.hd_catalogue.specs.Terminal.{Terminal}
 use Rattle.hd_catalogue.specs.declared.cause.Cause.{Cause}
-use Rattle.hd_catalogue.specs.declared.cause.Cause.TheVariants.{Header, Kind, Fields, Text, Number, Double, Unknown, Limit}
+use Rattle.hd_catalogue.specs.declared.cause.Cause.TheVariants.{Header, Kind, Fields, Text, Number, Double}
+use Rattle.hd_catalogue.specs.declared.cause.Cause.TheVariants.{Unknown, Limit}
 use Rattle.hd_catalogue.specs.declared.facts.Settings.{Settings}
 use Rattle.hd_catalogue.specs.declared.facts.PatronFacts.{PatronFacts}
 use Rattle.hd_catalogue.specs.declared.facts.TitleFacts.{TitleFacts}
@@ -19,14 +26,16 @@ abbrev pub first_cause : List (Bool × Cause) → Option Cause → Option Cause
 first_cause [] later = later
 first_cause (test ∷ tests) later = if test.0 then Some test.1 else first_cause tests later
 
--- why a name can't be defined: it is defined already, what its line names isn't known, or there are as many names as there may be
+-- why a name can't be defined: it is defined already, what its line
+-- names isn't known, or there are as many names as there may be
 abbrev pub name_cause : {F : Type 0} → List (List ℕ × F) → List ℕ → Bool → ℕ → Option Cause
 name_cause names name known most = first_cause
     ((is_some (number_of names name), Double)
     ∷ (not known, Unknown)
     ∷ (nat_le most (length names), Limit) ∷ []) None
 
--- Each kind of line by its values after the letter, None where there are not as many as it has. The first argument tells whether the line is too long.
+-- Each kind of line by its values after the letter, None where there are not
+-- as many as it has. The first argument tells whether the line is too long.
 
 -- B|branch
 abbrev pub branch_cause : Bool → Contents → Option (List ℕ) → Option Cause
@@ -54,7 +63,8 @@ abbrev pub with_patron : Contents → Option (List ℕ × List ℕ) → Contents
 with_patron k None = k
 with_patron k (Some (name, loans)) = record k { patrons = k.patrons ++ (name, patron_facts loans) ∷ [] }
 
--- T|title|loan days|renewals in version 1, where each title has priority N; T|title|loan days|renewals|priority in version 2
+-- T|title|loan days|renewals in version 1, where each title has
+-- priority N; T|title|loan days|renewals|priority in version 2
 abbrev pub without_priority : Option (List ℕ × List ℕ × List ℕ) → Option (List ℕ × List ℕ × List ℕ × List ℕ)
 without_priority None = None
 without_priority (Some (name, days, renewals)) = Some (name, days, renewals, codes "N")
@@ -71,11 +81,13 @@ title_cause long k (Some (name, days, renewals, priority)) = first_cause
     (name_cause k.titles name true MOST_TITLES)
 
 abbrev pub title_facts : List ℕ → List ℕ → List ℕ → TitleFacts
-title_facts days renewals priority = record { loan_days = value_of days; renewals = value_of renewals; local_priority = is_local priority }
+title_facts days renewals priority =
+    record { loan_days = value_of days; renewals = value_of renewals; local_priority = is_local priority }
 
 abbrev pub with_title : Contents → Option (List ℕ × List ℕ × List ℕ × List ℕ) → Contents
 with_title k None = k
-with_title k (Some (name, days, renewals, priority)) = record k { titles = k.titles ++ (name, title_facts days renewals priority) ∷ [] }
+with_title k (Some (name, days, renewals, priority)) =
+    record k { titles = k.titles ++ (name, title_facts days renewals priority) ∷ [] }
 
 -- three names
 unfoldable pub are_names : List ℕ → List ℕ → List ℕ → Bool
@@ -88,24 +100,33 @@ terminal_cause long k (Some (name, password, branch)) = first_cause
     ((long || not (are_names name password branch), Text) ∷ [])
     (name_cause k.terminals name (is_some (number_of k.branches branch)) MOST_TERMINALS)
 
+abbrev pub terminal_facts : Contents → List ℕ → List ℕ → Terminal
+terminal_facts k password branch =
+    record { password = password; branch = unwrap_or (number_of k.branches branch) 0 }
+
 abbrev pub with_terminal : Contents → Option (List ℕ × List ℕ × List ℕ) → Contents
 with_terminal k None = k
 with_terminal k (Some (name, password, branch)) =
-    record k { terminals = k.terminals ++ (name, record { password = password; branch = unwrap_or (number_of k.branches branch) 0 }) ∷ [] }
+    record k { terminals = k.terminals ++ (name, terminal_facts k password branch) ∷ [] }
 
--- C|copy|title|home branch
+-- C|copy|title|home branch, whose title and branch are to be known
+abbrev pub are_known : Contents → List ℕ → List ℕ → Bool
+are_known k title home = is_some (number_of k.titles title) && is_some (number_of k.branches home)
+
 abbrev pub copy_cause : Bool → Contents → Option (List ℕ × List ℕ × List ℕ) → Option Cause
 copy_cause long k None = Some Fields
 copy_cause long k (Some (name, title, home)) = first_cause
     ((long || not (are_names name title home), Text) ∷ [])
-    (name_cause k.copies name (is_some (number_of k.titles title) && is_some (number_of k.branches home)) MOST_COPIES)
+    (name_cause k.copies name (are_known k title home) MOST_COPIES)
 
 abbrev pub copy_facts : Contents → List ℕ → List ℕ → CopyFacts
-copy_facts k title home = record { title = unwrap_or (number_of k.titles title) 0; home = unwrap_or (number_of k.branches home) 0 }
+copy_facts k title home =
+    record { title = unwrap_or (number_of k.titles title) 0; home = unwrap_or (number_of k.branches home) 0 }
 
 abbrev pub with_copy : Contents → Option (List ℕ × List ℕ × List ℕ) → Contents
 with_copy k None = k
-with_copy k (Some (name, title, home)) = record k { copies = k.copies ++ (name, copy_facts k title home) ∷ [] }
+with_copy k (Some (name, title, home)) =
+    record k { copies = k.copies ++ (name, copy_facts k title home) ∷ [] }
 
 -- a line after the first, by its values: the letter of its kind comes first
 abbrev pub values_cause : Bool → Contents → List (List ℕ) → Option Cause
@@ -153,7 +174,12 @@ pub record Heading : Type 0 where
 abbrev pub heading_values : Option (List ℕ × List ℕ × List ℕ × List ℕ) → Option Heading
 heading_values None = None
 heading_values (Some (version, institution, offset, limit)) =
-    option_map (λ known. record { version = known; institution = institution; offset = offset; limit = limit }) (version_of version)
+    option_map (λ known. record {
+      version = known;
+      institution = institution;
+      offset = offset;
+      limit = limit;
+    }) (version_of version)
 
 abbrev pub heading_of : List (List ℕ) → Option Heading
 heading_of [] = None
@@ -166,7 +192,12 @@ heading_cause long (Some heading) = first_cause
     ∷ (not (is_offset heading.offset) || not (is_command_limit heading.limit), Number) ∷ []) None
 
 abbrev pub settings_of : Heading → Settings
-settings_of heading = record { version = heading.version; offset = offset_of heading.offset; command_limit = value_of heading.limit }
+settings_of heading =
+    record {
+      version = heading.version;
+      offset = offset_of heading.offset;
+      command_limit = value_of heading.limit;
+    }
 
 -- where the first line is no heading, nothing is said
 abbrev pub begun_by : Option Heading → Contents

@@ -1,5 +1,7 @@
 -- The texts of a catalogue file: values, names and numbers.
-use Rattle.std.specs.Prelude.{ℕ, ◌+◌, ◌-◌, ◌*◌, Bool, not, ◌&&◌, ◌||◌, ◌==◌, nat_lt, nat_le, if◌then◌else◌, Option, None, Some, List, [], ◌∷◌, codes, length, drop, fold, slice_index, ℤ, pos, neg_ℤ}
+use Rattle.std.specs.Prelude.{ℕ, ◌+◌, ◌-◌, ◌*◌, Bool, not, ◌&&◌, ◌||◌, ◌==◌, nat_lt, nat_le, if◌then◌else◌}
+use Rattle.std.specs.Prelude.{Option, None, Some, List, [], ◌∷◌, codes, length, drop, fold, slice_index, ℤ}
+use Rattle.std.specs.Prelude.{pos, neg_ℤ}
 use Rattle.std.specs.List.{slice_split, list_all}
 use Rattle.std.specs.Str.{bytes_eq}
 use Rattle.hd_rules.specs.declared.limits.TheConstants.{MOST_COMMANDS}
@@ -67,7 +69,8 @@ is_offset bytes =
     else is_number_to 1439 bytes
 
 unfoldable pub offset_of : List ℕ → ℤ
-offset_of bytes = if slice_index bytes 0 == 45 then neg_ℤ (pos (value_of (drop 1 bytes))) else pos (value_of bytes)
+offset_of bytes =
+    if slice_index bytes 0 == 45 then neg_ℤ (pos (value_of (drop 1 bytes))) else pos (value_of bytes)
 
 abbrev pub offset_to : List ℕ → Option ℤ
 offset_to bytes = if is_offset bytes then Some (offset_of bytes) else None

@@ -4,8 +4,8 @@ ghost use Rattle.hd_rules.specs.declared.limits.TheConstants.{MOST_COMMANDS};
 ghost use Rattle.hd_catalogue.specs.Contents.{IsShortName, without_names};
 
 use crate::facts::{BranchFacts, CopyFacts, PatronFacts, Settings, TitleFacts};
+use crate::names::Names;
 use crate::terminal::TerminalFacts;
-use hd_names::Names;
 use std::alloc::{Allocator, Global};
 use std::marker::Model;
 
@@ -24,13 +24,29 @@ pub struct Catalogue<A: Allocator = Global> {
 }
 
 impl<A: Allocator> Model for Catalogue<A> {
-    ghost use Rattle.hd_catalogue.specs.Contents.{Contents, HasShortNames, IsSound};
+    ghost use Rattle.hd_catalogue.specs.Contents.{Contents, IsCatalogue};
 
     ghost Value = { Contents };
 
-    ghost view = { λ c. record { settings = c.settings; institution = c.institution.items; branches = c.branches; terminals = c.terminals; patrons = c.patrons; titles = c.titles; copies = c.copies } };
+    ghost view = { λ c. record {
+      settings = c.settings;
+      institution = c.institution.items;
+      branches = c.branches;
+      terminals = c.terminals;
+      patrons = c.patrons;
+      titles = c.titles;
+      copies = c.copies;
+    } };
 
-    ghost invariant = { λ c. IsSound (record { settings = c.settings; institution = c.institution.items; branches = c.branches; terminals = c.terminals; patrons = c.patrons; titles = c.titles; copies = c.copies }) × HasShortNames (record { settings = c.settings; institution = c.institution.items; branches = c.branches; terminals = c.terminals; patrons = c.patrons; titles = c.titles; copies = c.copies }) };
+    ghost invariant = { λ c. IsCatalogue (record {
+      settings = c.settings;
+      institution = c.institution.items;
+      branches = c.branches;
+      terminals = c.terminals;
+      patrons = c.patrons;
+      titles = c.titles;
+      copies = c.copies;
+    }) };
 }
 
 impl<A: Allocator + Copy> Catalogue<A> {

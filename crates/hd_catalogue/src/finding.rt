@@ -4,7 +4,9 @@
 #![tactic(auto, unfolding(crate::specs::Contents::facts_of, crate::specs::Contents::branch_number, crate::specs::Contents::title_number, crate::specs::Contents::copy_number, crate::specs::Contents::patron_number, crate::specs::Contents::terminal_number, crate::specs::Contents::IsTerminal, crate::specs::Contents::branch_name, crate::specs::Contents::title_name, crate::specs::Contents::copy_name, crate::specs::Contents::patron_name))]
 
 ghost use Rattle.std.specs.Prelude.{◌≡◌, ℕ, ◌<◌, IfNone, IfSome, Some};
-ghost use Rattle.hd_catalogue.specs.Contents.{IsTerminal, branch_name, branch_number, copy_name, copy_number, facts_of, is_password, patron_name, patron_number, terminal_number, title_name, title_number};
+ghost use Rattle.hd_catalogue.specs.Contents.{IsTerminal, branch_name, branch_number, copy_name, copy_number};
+ghost use Rattle.hd_catalogue.specs.Contents.{facts_of, is_password, patron_name, patron_number};
+ghost use Rattle.hd_catalogue.specs.Contents.{terminal_number, title_name, title_number};
 
 use crate::catalogue::Catalogue;
 use hd_rules::{BranchNo, CopyNo, PatronNo, TerminalNo, TitleNo};

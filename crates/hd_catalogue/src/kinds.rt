@@ -1,18 +1,22 @@
 //! The lines of each kind.
-ghost use Rattle.std.specs.Prelude.{◌≡◌, ◌<◌, ◌≤◌, ◌&&◌, ◌||◌, IfErr, IfSome, None, OnOk, Some, is_none, is_some, length, not, option_map, true};
-ghost use Rattle.hd_names.specs.Names.{number_of};
+ghost use Rattle.std.specs.Prelude.{◌≡◌, ◌<◌, ◌≤◌, ◌&&◌, ◌||◌, IfErr, IfSome, None, OnOk, Some, is_none};
+ghost use Rattle.std.specs.Prelude.{is_some, length, not, option_map, true};
+ghost use Rattle.hd_catalogue.specs.Names.{number_of};
 ghost use Rattle.hd_rules.specs.declared.limits.TheConstants.{MOST_LOANS, MOST_LOAN_DAYS, MOST_RENEWALS};
 ghost use Rattle.hd_catalogue.specs.Text.{as_one, as_three, as_two, is_number_to};
-ghost use Rattle.hd_catalogue.specs.Lines.{are_names, branch_cause, copy_cause, copy_facts, name_cause, patron_cause, patron_facts, terminal_cause, title_cause, title_facts, title_values, with_branch, with_copy, with_patron, with_terminal, with_title};
+ghost use Rattle.hd_catalogue.specs.Lines.{are_known, are_names, branch_cause, copy_cause, copy_facts};
+ghost use Rattle.hd_catalogue.specs.Lines.{name_cause, patron_cause, patron_facts, terminal_cause};
+ghost use Rattle.hd_catalogue.specs.Lines.{title_cause, title_facts, title_values, with_branch, with_copy};
+ghost use Rattle.hd_catalogue.specs.Lines.{with_patron, with_terminal, with_title};
 ghost use Rattle.hd_catalogue.specs.Reading.{Reads};
 
 use crate::catalogue::Catalogue;
 use crate::cause::Cause;
 use crate::facts::{BranchFacts, CopyFacts, PatronFacts, TitleFacts, Version};
+use crate::names::Names;
 use crate::terminal::TerminalFacts;
 use crate::text::{is_local, is_name, is_priority, number};
 use crate::values::Values;
-use hd_names::Names;
 use hd_rules::{
     BranchNo, MOST_BRANCHES, MOST_COPIES, MOST_LOAN_DAYS, MOST_LOANS, MOST_PATRONS, MOST_RENEWALS,
     MOST_TERMINALS, MOST_TITLES,
@@ -64,7 +68,8 @@ fn patron_facts(loans: &[u8]) -> Option<PatronFacts>
 
 /// The values of a title's line: name, loan days, renewals and priority, which is `N` in version 1.
 fn title_values(version: Version, values: Values<'_>) -> Option<(&[u8], &[u8], &[u8], &[u8])>
-    ensures { option_map (λ v. (v.0.now, v.1.now, v.2.now, v.3.now)) result ≡ title_values version values.entry }
+    ensures { option_map (λ v. (v.0.now, v.1.now, v.2.now, v.3.now)) result
+        ≡ title_values version values.entry }
 {
     match version {
         Version::One => {
@@ -80,7 +85,8 @@ fn title_facts(days: &[u8], renewals: &[u8], priority: &[u8]) -> Option<TitleFac
     ensures facts { IfSome result (λ facts. facts ≡ title_facts days.now renewals.now priority.now) }
     ensures days { IfSome result (λ facts. facts.loan_days ≤ MOST_LOAN_DAYS) }
     ensures renewals { IfSome result (λ facts. facts.renewals ≤ MOST_RENEWALS) }
-    ensures none { is_none result ≡ (not (is_number_to MOST_LOAN_DAYS days.now) || not (is_number_to MOST_RENEWALS renewals.now)) }
+    ensures none { is_none result
+        ≡ (not (is_number_to MOST_LOAN_DAYS days.now) || not (is_number_to MOST_RENEWALS renewals.now)) }
 {
     let loan_days = number(MOST_LOAN_DAYS, days)?;
     let renewals = number(MOST_RENEWALS, renewals)?;
@@ -107,7 +113,7 @@ impl<A: Allocator + Copy> Catalogue<A> {
         ensures facts { IfSome result (λ facts. facts ≡ copy_facts self.now title.now home.now) }
         ensures title { IfSome result (λ facts. facts.title < length self.now.titles) }
         ensures home { IfSome result (λ facts. facts.home < length self.now.branches) }
-        ensures some { is_some result ≡ (is_some (number_of self.now.titles title.now) && is_some (number_of self.now.branches home.now)) }
+        ensures some { is_some result ≡ are_known self.now title.now home.now }
     {
         let title = self.title(title)?;
         let home = self.known_branch(home)?;
@@ -121,7 +127,8 @@ impl<A: Allocator + Copy> Catalogue<A> {
         long: bool,
         values: Values<'_>,
     ) -> Result<(), Cause>
-        ensures { Reads (branch_cause long self.old (as_one values.entry)) (with_branch self.old (as_one values.entry)) self.new result }
+        ensures { Reads (branch_cause long self.old (as_one values.entry))
+            (with_branch self.old (as_one values.entry)) self.new result }
     {
         let Some(name) = values.one() else {
             return Err(Cause::Fields);
@@ -143,7 +150,8 @@ impl<A: Allocator + Copy> Catalogue<A> {
         long: bool,
         values: Values<'_>,
     ) -> Result<(), Cause>
-        ensures { Reads (terminal_cause long self.old (as_three values.entry)) (with_terminal self.old (as_three values.entry)) self.new result }
+        ensures { Reads (terminal_cause long self.old (as_three values.entry))
+            (with_terminal self.old (as_three values.entry)) self.new result }
     {
         let Some((name, password, branch)) = values.three() else {
             return Err(Cause::Fields);
@@ -175,7 +183,8 @@ impl<A: Allocator + Copy> Catalogue<A> {
         long: bool,
         values: Values<'_>,
     ) -> Result<(), Cause>
-        ensures { Reads (patron_cause long self.old (as_two values.entry)) (with_patron self.old (as_two values.entry)) self.new result }
+        ensures { Reads (patron_cause long self.old (as_two values.entry))
+            (with_patron self.old (as_two values.entry)) self.new result }
     {
         let Some((name, loans)) = values.two() else {
             return Err(Cause::Fields);
@@ -200,7 +209,8 @@ impl<A: Allocator + Copy> Catalogue<A> {
         long: bool,
         values: Values<'_>,
     ) -> Result<(), Cause>
-        ensures { Reads (title_cause long self.old (title_values self.old.settings.version values.entry)) (with_title self.old (title_values self.old.settings.version values.entry)) self.new result }
+        ensures { Reads (title_cause long self.old (title_values self.old.settings.version values.entry))
+            (with_title self.old (title_values self.old.settings.version values.entry)) self.new result }
     {
         let Some((name, days, renewals, priority)) = title_values(self.settings.version, values)
         else {
@@ -226,7 +236,8 @@ impl<A: Allocator + Copy> Catalogue<A> {
         long: bool,
         values: Values<'_>,
     ) -> Result<(), Cause>
-        ensures { Reads (copy_cause long self.old (as_three values.entry)) (with_copy self.old (as_three values.entry)) self.new result }
+        ensures { Reads (copy_cause long self.old (as_three values.entry))
+            (with_copy self.old (as_three values.entry)) self.new result }
     {
         let Some((name, title, home)) = values.three() else {
             return Err(Cause::Fields);

@@ -5,9 +5,12 @@ ghost use Rattle.hd_catalogue.specs.Files.{IsAccepted, IsFirstBad};
 
 use crate::cause::{CatFault, Cause};
 
-/// A file that is accepted has no bad line: only the memory for it can be wanting. It says one thing, and a file that is refused has one first bad line.
+/// A file that is accepted has no bad line: only the memory for it can be
+/// wanting. It says one thing, and a file that is refused has one first bad line.
 pub fn accepted_or_refused()
-    ensures refused { (all : List (List ℕ)) (k : Contents) (fault : CatFault) → IsAccepted all k → IsFirstBad all fault → fault.cause ≡ Cause.Memory }
+    ensures refused { (all : List (List ℕ)) (k : Contents) (fault : CatFault) → IsAccepted all k
+        → IsFirstBad all fault → fault.cause ≡ Cause.Memory }
     ensures one { (all : List (List ℕ)) (k h : Contents) → IsAccepted all k → IsAccepted all h → k ≡ h }
-    ensures first { (all : List (List ℕ)) (f g : CatFault) → IsFirstBad all f → IsFirstBad all g → ¬ (f.cause ≡ Cause.Memory) → ¬ (g.cause ≡ Cause.Memory) → f ≡ g }
+    ensures first { (all : List (List ℕ)) (f g : CatFault) → IsFirstBad all f → IsFirstBad all g
+        → ¬ (f.cause ≡ Cause.Memory) → ¬ (g.cause ≡ Cause.Memory) → f ≡ g }
 {}

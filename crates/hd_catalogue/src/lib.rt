@@ -10,6 +10,8 @@ mod kinds;
 mod law;
 mod lines;
 mod looking;
+mod names;
+mod naming;
 mod printing;
 mod reading;
 mod terminal;

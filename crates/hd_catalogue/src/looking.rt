@@ -1,11 +1,12 @@
 //! What is known of a number, and how many there are.
 //!
 //! Each number is one that this catalogue gave.
-#![tactic(auto, unfolding(crate::specs::Contents::facts_of, crate::specs::Contents::branch_of, crate::specs::Contents::branch_number, crate::specs::Contents::title_number, crate::specs::Contents::copy_number, crate::specs::Contents::patron_number, crate::specs::Contents::branch_name, crate::specs::Contents::title_name, crate::specs::Contents::copy_name, crate::specs::Contents::patron_name))]
+#![tactic(auto, unfolding(crate::specs::Contents::facts_of, crate::specs::Contents::branch_of))]
 
-ghost use Rattle.std.specs.Prelude.{◌≡◌, ◌<◌, Some};
+ghost use Rattle.std.specs.Prelude.{◌≡◌, ◌<◌};
 ghost use Rattle.hd_rules.specs.Facts.{AreInRange};
-ghost use Rattle.hd_catalogue.specs.Contents.{AreDistinctNames, HasShortNames, branch_name, branch_number, branch_of, copy_name, copy_number, facts_of, patron_name, patron_number, title_name, title_number};
+ghost use Rattle.hd_catalogue.specs.Contents.{IsShortName, branch_of};
+ghost use Rattle.hd_catalogue.specs.Contents.{facts_of};
 
 use crate::catalogue::Catalogue;
 use hd_date::OffsetMinutes;
@@ -15,7 +16,8 @@ use std::alloc::Allocator;
 impl<A: Allocator + Copy> Catalogue<A> {
     /// The institution, which replies carry in AO.
     pub fn institution(&self) -> &[u8]
-        ensures { result.now ≡ self.now.institution }
+        ensures name { result.now ≡ self.now.institution }
+        ensures short { IsShortName result.now }
     {
         self.institution.as_slice()
     }
@@ -29,42 +31,48 @@ impl<A: Allocator + Copy> Catalogue<A> {
 
     /// The last number that a command can have.
     pub fn command_limit(&self) -> u64
-        ensures { result ≡ (facts_of self.now).command_limit }
+        ensures limit { result ≡ (facts_of self.now).command_limit }
+        ensures facts { AreInRange (facts_of self.now) }
     {
         self.settings.command_limit
     }
 
     /// How many branches there are.
     pub fn branches(&self) -> usize
-        ensures { result ≡ (facts_of self.now).branches }
+        ensures count { result ≡ (facts_of self.now).branches }
+        ensures facts { AreInRange (facts_of self.now) }
     {
         self.branches.count()
     }
 
     /// How many terminals there are.
     pub fn terminals(&self) -> usize
-        ensures { result ≡ (facts_of self.now).terminals }
+        ensures count { result ≡ (facts_of self.now).terminals }
+        ensures facts { AreInRange (facts_of self.now) }
     {
         self.terminals.count()
     }
 
     /// How many patrons there are.
     pub fn patrons(&self) -> usize
-        ensures { result ≡ (facts_of self.now).patrons }
+        ensures count { result ≡ (facts_of self.now).patrons }
+        ensures facts { AreInRange (facts_of self.now) }
     {
         self.patrons.count()
     }
 
     /// How many titles there are.
     pub fn titles(&self) -> usize
-        ensures { result ≡ (facts_of self.now).titles }
+        ensures count { result ≡ (facts_of self.now).titles }
+        ensures facts { AreInRange (facts_of self.now) }
     {
         self.titles.count()
     }
 
     /// How many copies there are.
     pub fn copies(&self) -> usize
-        ensures { result ≡ (facts_of self.now).copies }
+        ensures count { result ≡ (facts_of self.now).copies }
+        ensures facts { AreInRange (facts_of self.now) }
     {
         self.copies.count()
     }
@@ -120,6 +128,7 @@ impl<A: Allocator + Copy> Catalogue<A> {
         requires { copy < (facts_of self.now).copies }
         ensures title { result ≡ (facts_of self.now).title_of copy }
         ensures in_range { result < (facts_of self.now).titles }
+        ensures facts { AreInRange (facts_of self.now) }
     {
         let number = copy.number() as usize;
         self.copies.facts(number).unwrap().title
@@ -130,49 +139,10 @@ impl<A: Allocator + Copy> Catalogue<A> {
         requires { copy < (facts_of self.now).copies }
         ensures branch { result ≡ (facts_of self.now).home copy }
         ensures in_range { result < (facts_of self.now).branches }
+        ensures facts { AreInRange (facts_of self.now) }
     {
         let number = copy.number() as usize;
         self.copies.facts(number).unwrap().home
-    }
-
-    /// The name of a branch.
-    pub fn branch_name(&self, branch: BranchNo) -> &[u8]
-        requires { branch < (facts_of self.now).branches }
-        ensures name { branch_name self.now branch ≡ Some result.now }
-        ensures found { branch_number self.now result.now ≡ Some branch }
-    {
-        let number = branch.number() as usize;
-        self.branches.name(number).unwrap()
-    }
-
-    /// The name of a title.
-    pub fn title_name(&self, title: TitleNo) -> &[u8]
-        requires { title < (facts_of self.now).titles }
-        ensures name { title_name self.now title ≡ Some result.now }
-        ensures found { title_number self.now result.now ≡ Some title }
-    {
-        let number = title.number() as usize;
-        self.titles.name(number).unwrap()
-    }
-
-    /// The name of a copy.
-    pub fn copy_name(&self, copy: CopyNo) -> &[u8]
-        requires { copy < (facts_of self.now).copies }
-        ensures name { copy_name self.now copy ≡ Some result.now }
-        ensures found { copy_number self.now result.now ≡ Some copy }
-    {
-        let number = copy.number() as usize;
-        self.copies.name(number).unwrap()
-    }
-
-    /// The name of a patron.
-    pub fn patron_name(&self, patron: PatronNo) -> &[u8]
-        requires { patron < (facts_of self.now).patrons }
-        ensures name { patron_name self.now patron ≡ Some result.now }
-        ensures found { patron_number self.now result.now ≡ Some patron }
-    {
-        let number = patron.number() as usize;
-        self.patrons.name(number).unwrap()
     }
 
     /// Shows that the facts keep to their limits, and that each number among them is one of the catalogue.
@@ -180,23 +150,5 @@ impl<A: Allocator + Copy> Catalogue<A> {
         ensures { AreInRange (facts_of self.now) }
     {
         let _ = &self.settings;
-    }
-
-    /// Shows that the institution and every name have 1 to 60 bytes.
-    pub fn names_are_short(&self)
-        ensures { HasShortNames self.now }
-    {
-        let _ = &self.settings;
-    }
-
-    /// Shows that no name is defined twice in its kind.
-    pub fn names_are_distinct(&self)
-        ensures { AreDistinctNames self.now }
-    {
-        self.branches.are_distinct();
-        self.terminals.are_distinct();
-        self.patrons.are_distinct();
-        self.titles.are_distinct();
-        self.copies.are_distinct();
     }
 }

@@ -1,7 +1,8 @@
 //! Reads a catalogue file.
 ghost use Rattle.std.specs.Prelude.{IfErr, IfOk};
 ghost use Rattle.hd_catalogue.specs.Files.{IsAccepted, IsFirstBad, lines_of};
-ghost use Rattle.hd_catalogue.specs.Lines.{begun, header_cause, line_cause, values_cause, with_line, with_values};
+ghost use Rattle.hd_catalogue.specs.Lines.{begun, header_cause, line_cause, values_cause, with_line};
+ghost use Rattle.hd_catalogue.specs.Lines.{with_values};
 ghost use Rattle.hd_catalogue.specs.Reading.{Begins, Reads};
 
 use crate::catalogue::Catalogue;
@@ -66,7 +67,8 @@ impl<A: Allocator + Copy> Catalogue<A> {
 
     /// Reads the values of a line after the first.
     fn read_values(&mut self, alloc: A, long: bool, values: Values<'_>) -> Result<(), Cause>
-        ensures { Reads (values_cause long self.old values.entry) (with_values self.old values.entry) self.new result }
+        ensures { Reads (values_cause long self.old values.entry)
+            (with_values self.old values.entry) self.new result }
     {
         let mut values = values;
         let Some(kind) = values.take() else {

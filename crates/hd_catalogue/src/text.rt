@@ -2,7 +2,8 @@
 ghost use Rattle.std.specs.Prelude.{◌≡◌, ◌≤◌, IfSome};
 ghost use Rattle.hd_rules.specs.declared.limits.TheConstants.{MOST_COMMANDS};
 ghost use Rattle.std.specs.List.{list_all};
-ghost use Rattle.hd_catalogue.specs.Text.{command_limit_to, is_letter, is_local, is_long, is_name, is_name_byte, is_priority, number_of_digits, number_to, offset_to};
+ghost use Rattle.hd_catalogue.specs.Text.{command_limit_to, is_letter, is_local, is_long, is_name};
+ghost use Rattle.hd_catalogue.specs.Text.{is_name_byte, is_priority, number_of_digits, number_to, offset_to};
 
 use hd_date::OffsetMinutes;
 

@@ -1,5 +1,6 @@
 -- The answers of the indexes are those of the rules.
-use Rattle.std.proofs.Common.{◌≡◌, ◌≢◌, ℕ, ◌<◌, ◌≤◌, ◌==◌, ◌&&◌, Bool, true, false, nat_lt, Option, None, Some, List, get_or, refl, ap, sym, ◌∙◌, inl, inr, arith, eq-eqb}
+use Rattle.std.proofs.Common.{◌≡◌, ◌≢◌, ℕ, ◌<◌, ◌≤◌, ◌==◌, ◌&&◌, Bool, true, false, nat_lt, Option, None, Some, List, get_or, refl, ap, sym}
+use Rattle.std.proofs.Common.{◌∙◌, inl, inr, arith, eq-eqb}
 use Rattle.std.specs.Prelude.{IsSome}
 use mir.Val.{bool_byte}
 use Rattle.std.proofs.lemmas.Bool.{cases_lt}
@@ -34,27 +35,34 @@ lent p (OnHoldShelf s) = refl
 lent p (InTransit t) = refl
 
 -- the copy of the desk is the entry of the list
-at_desk : (k : Facts) (states : List CopyState) (d : Desk) → AreStates k states → d.copy ≡ state_in states → (n : ℕ) → n < k.copies → slice_get states n ≡ Some (d.copy n)
+at_desk : (k : Facts) (states : List CopyState) (d : Desk) → AreStates k states → d.copy ≡ state_in states → (n : ℕ) → n < k.copies →
+    slice_get states n ≡ Some (d.copy n)
 at_desk k states d fit e n l = found_in states n (omega (arith, fit.copies)) ∙ (λ i. Some (sym e i n))
 
 -- a patron's loans
-pub loans-are : (k : Facts) (states : List CopyState) (x : IndexesValue) (d : Desk) (p count : ℕ) → AreKept k states x → d.copy ≡ state_in states → count ≡ loans_of x.loans.loans x.loans.copies p → count ≡ loans k d p
+pub loans-are : (k : Facts) (states : List CopyState) (x : IndexesValue) (d : Desk) (p count : ℕ) → AreKept k states x →
+    d.copy ≡ state_in states → count ≡ loans_of x.loans.loans x.loans.copies p → count ≡ loans k d p
 loans-are k states x d p count kept e is = is ∙ ap (count_below (λ c. is_loan_to p (get x.loans.loans c))) kept.indexed.loans.copies_in
     ∙ count_below-same (λ n. is_lent_to p (d.copy n)) (λ c. is_loan_to p (get x.loans.loans c)) k.copies
-    (λ n l. ap (is_loan_to p) (kept.indexed.loans.loan n) ∙ ap (λ (o : Option CopyState). is_loan_to p (loan_of o)) (at_desk k states d kept.fit e n l) ∙ lent p (d.copy n))
+    (λ n l. ap (is_loan_to p) (kept.indexed.loans.loan n)
+    ∙ ap (λ (o : Option CopyState). is_loan_to p (loan_of o)) (at_desk k states d kept.fit e n l) ∙ lent p (d.copy n))
 
 -- the copies on open shelves
-pub shelved-are : (k : Facts) (states : List CopyState) (d : Desk) (t : ℕ) (kind : HoldKind) (pickup : ℕ) → AreStates k states → d.copy ≡ state_in states → shelved k (slice_get states) t kind pickup ≡ on_shelf k d t kind pickup
+pub shelved-are : (k : Facts) (states : List CopyState) (d : Desk) (t : ℕ) (kind : HoldKind) (pickup : ℕ) → AreStates k states →
+    d.copy ≡ state_in states → shelved k (slice_get states) t kind pickup ≡ on_shelf k d t kind pickup
 shelved-are k states d t kind pickup fit e =
-    count_below-same (λ n. ((k.title_of n) == t) && (admits k kind pickup n && is_on_shelf (d.copy n))) (is_counted k (slice_get states) t kind pickup) k.copies
+    count_below-same (λ n. ((k.title_of n) == t) && (admits k kind pickup n && is_on_shelf (d.copy n)))
+    (is_counted k (slice_get states) t kind pickup) k.copies
     (λ n l. ap (λ (o : Option CopyState). ((k.title_of n) == t) && (admits k kind pickup n && is_shelved o)) (at_desk k states d fit e n l))
 
 -- those of a title
-pub title-is : (k : Facts) (states : List CopyState) (x : IndexesValue) (d : Desk) (t pickup count : ℕ) → AreKept k states x → d.copy ≡ state_in states → count ≡ of_title x.stock t → count ≡ on_shelf k d t Any pickup
+pub title-is : (k : Facts) (states : List CopyState) (x : IndexesValue) (d : Desk) (t pickup count : ℕ) → AreKept k states x →
+    d.copy ≡ state_in states → count ≡ of_title x.stock t → count ≡ on_shelf k d t Any pickup
 title-is k states x d t pickup count kept e is = is ∙ kept.indexed.stock.title t pickup ∙ shelved-are k states d t Any pickup kept.fit e
 
 -- and with this home
-pub home-is : (k : Facts) (states : List CopyState) (x : IndexesValue) (d : Desk) (t pickup count : ℕ) → AreKept k states x → d.copy ≡ state_in states → count ≡ of_home x.stock t pickup → count ≡ on_shelf k d t AtBranch pickup
+pub home-is : (k : Facts) (states : List CopyState) (x : IndexesValue) (d : Desk) (t pickup count : ℕ) → AreKept k states x →
+    d.copy ≡ state_in states → count ≡ of_home x.stock t pickup → count ≡ on_shelf k d t AtBranch pickup
 home-is k states x d t pickup count kept e is = is ∙ kept.indexed.stock.home t pickup ∙ shelved-are k states d t AtBranch pickup kept.fit e
 
 -- where one number alone may pass, it is counted or none is
@@ -72,9 +80,11 @@ no_other true b = refl
 no_other false b = refl
 
 -- the named copy alone
-pub one-is : (k : Facts) (d : Desk) (f : ℕ → CopyState) (t c pickup : ℕ) → d.copy ≡ f → one (stands_ready k f t c) ≡ on_shelf k d t (One c) pickup
+pub one-is : (k : Facts) (d : Desk) (f : ℕ → CopyState) (t c pickup : ℕ) → d.copy ≡ f →
+    one (stands_ready k f t c) ≡ on_shelf k d t (One c) pickup
 one-is k d f t c pickup e = ap (λ (g : ℕ → CopyState). one (stands_ready k g t c)) (sym e) ∙ sym (
-    count-one test c k.copies (λ x other. let apart : (c == x) ≡ false = other_number c x (λ same. other (sym same)) in rw apart (no_other ((k.title_of x) == t) (is_on_shelf (d.copy x))))
+    count-one test c k.copies (λ x other. let apart : (c == x) ≡ false = other_number c x (λ same. other (sym same)) in
+    rw apart (no_other ((k.title_of x) == t) (is_on_shelf (d.copy x))))
     ∙ (let itself : (c == c) ≡ true = eq-eqb c c refl in rw itself refl))
   where
     test : ℕ → Bool
@@ -85,7 +95,8 @@ some_number None is = absurd (let no : ⊥ = cc in no)
 some_number (Some n) is = (n, refl)
 
 -- the least free place
-pub least-is : (k : Facts) (states : List CopyState) (x : IndexesValue) (d : Desk) (b f : ℕ) → AreKept k states x → b < k.branches → d.copy ≡ state_in states → IsLeast (get_or x.shelves b no_shelf).copies f → f ≡ place k d b
+pub least-is : (k : Facts) (states : List CopyState) (x : IndexesValue) (d : Desk) (b f : ℕ) → AreKept k states x → b < k.branches →
+    d.copy ≡ state_in states → IsLeast (get_or x.shelves b no_shelf).copies f → f ≡ place k d b
 least-is k states x d b f kept l e is = (place_is_only k d b f).0 (record { from_one = is.from_one; free = free; least = least })
   where
     free : (c : ℕ) → c < k.copies → stands_at b f (d.copy c) ≡ false

@@ -16,14 +16,19 @@ use Rattle.hd_copies.proofs.Moving.{Moves}
 abbrev pub is_counted : Facts → (ℕ → Option CopyState) → ℕ → HoldKind → ℕ → ℕ → Bool
 is_counted k copies t kind pickup n = ((k.title_of n) == t) && (admits k kind pickup n && is_shelved (copies n))
 
-counted-at : (k : Facts) (f : ℕ → Option CopyState) (t : ℕ) (kind : HoldKind) (pickup n : ℕ) (b : Bool) → is_shelved (f n) ≡ b → is_counted k f t kind pickup n ≡ (((k.title_of n) == t) && (admits k kind pickup n && b))
+counted-at : (k : Facts) (f : ℕ → Option CopyState) (t : ℕ) (kind : HoldKind) (pickup n : ℕ) (b : Bool) → is_shelved (f n) ≡ b →
+    is_counted k f t kind pickup n ≡ (((k.title_of n) == t) && (admits k kind pickup n && b))
 counted-at k f t kind pickup n b e = ap (λ (x : Bool). ((k.title_of n) == t) && (admits k kind pickup n && x)) e
 
-pub shelved-alike : (k : Facts) (f g : ℕ → Option CopyState) (t : ℕ) (kind : HoldKind) (pickup : ℕ) → ((n : ℕ) → n < k.copies → is_shelved (g n) ≡ is_shelved (f n)) → shelved k g t kind pickup ≡ shelved k f t kind pickup
-shelved-alike k f g t kind pickup same = count_below-same (is_counted k f t kind pickup) (is_counted k g t kind pickup) k.copies (λ n l. counted-at k g t kind pickup n (is_shelved (f n)) (same n l))
+pub shelved-alike : (k : Facts) (f g : ℕ → Option CopyState) (t : ℕ) (kind : HoldKind) (pickup : ℕ) →
+    ((n : ℕ) → n < k.copies → is_shelved (g n) ≡ is_shelved (f n)) → shelved k g t kind pickup ≡ shelved k f t kind pickup
+shelved-alike k f g t kind pickup same =
+    count_below-same (is_counted k f t kind pickup) (is_counted k g t kind pickup) k.copies
+    (λ n l. counted-at k g t kind pickup n (is_shelved (f n)) (same n l))
 
 -- no copy goes to or from an open shelf
-pub stock-alike : (k : Facts) (f g : ℕ → Option CopyState) (stock : StockValue) → ((n : ℕ) → is_shelved (g n) ≡ is_shelved (f n)) → IsStock k f stock → IsStock k g stock
+pub stock-alike : (k : Facts) (f g : ℕ → Option CopyState) (stock : StockValue) → ((n : ℕ) → is_shelved (g n) ≡ is_shelved (f n)) →
+    IsStock k f stock → IsStock k g stock
 stock-alike k f g stock same is = record {
   title = λ t pickup. is.title t pickup ∙ sym (shelved-alike k f g t Any pickup (λ n l. same n));
   home = λ t b. is.home t b ∙ sym (shelved-alike k f g t AtBranch b (λ n l. same n));
@@ -45,35 +50,55 @@ and_true true = refl
 and_true false = refl
 
 -- a copy leaves its open shelf: its title and home have one less
-shelved-out : (k : Facts) (f g : ℕ → Option CopyState) (c x : ℕ) → Moves c f g (Some (Shelf x)) None → c < k.copies → (t : ℕ) (kind : HoldKind) (pickup : ℕ) →
+shelved-out : (k : Facts) (f g : ℕ → Option CopyState) (c x : ℕ) → Moves c f g (Some (Shelf x)) None → c < k.copies →
+    (t : ℕ) (kind : HoldKind) (pickup : ℕ) →
     shelved k f t kind pickup ≡ shelved k g t kind pickup + one (((k.title_of c) == t) && admits k kind pickup c)
 shelved-out k f g c x moves l t kind pickup =
     let changed = count_below-changed (is_counted k f t kind pickup) (is_counted k g t kind pickup) k.copies c l
     (λ n other. counted-at k g t kind pickup n (is_shelved (f n)) (ap is_shelved (moves.others n other))) in
-    let before : is_counted k f t kind pickup c ≡ (((k.title_of c) == t) && (admits k kind pickup c && true)) = counted-at k f t kind pickup c true (ap is_shelved moves.was) in
-    let after : is_counted k g t kind pickup c ≡ false = counted-at k g t kind pickup c false (ap is_shelved moves.is) ∙ no_and ((k.title_of c) == t) (admits k kind pickup c) in
+    let before : is_counted k f t kind pickup c ≡ (((k.title_of c) == t) && (admits k kind pickup c && true)) =
+    counted-at k f t kind pickup c true (ap is_shelved moves.was) in
+    let after : is_counted k g t kind pickup c ≡ false =
+    counted-at k g t kind pickup c false (ap is_shelved moves.is) ∙ no_and ((k.title_of c) == t) (admits k kind pickup c) in
     omega (arith, changed, ap one before, ap one after, one_and ((k.title_of c) == t) (admits k kind pickup c))
 
 -- and one more where it comes to one
-shelved-in : (k : Facts) (f g : ℕ → Option CopyState) (c x : ℕ) → Moves c f g None (Some (Shelf x)) → c < k.copies → (t : ℕ) (kind : HoldKind) (pickup : ℕ) →
+shelved-in : (k : Facts) (f g : ℕ → Option CopyState) (c x : ℕ) → Moves c f g None (Some (Shelf x)) → c < k.copies →
+    (t : ℕ) (kind : HoldKind) (pickup : ℕ) →
     shelved k g t kind pickup ≡ shelved k f t kind pickup + one (((k.title_of c) == t) && admits k kind pickup c)
 shelved-in k f g c x moves l t kind pickup =
     let changed = count_below-changed (is_counted k f t kind pickup) (is_counted k g t kind pickup) k.copies c l
     (λ n other. counted-at k g t kind pickup n (is_shelved (f n)) (ap is_shelved (moves.others n other))) in
-    let before : is_counted k f t kind pickup c ≡ false = counted-at k f t kind pickup c false (ap is_shelved moves.was) ∙ no_and ((k.title_of c) == t) (admits k kind pickup c) in
-    let after : is_counted k g t kind pickup c ≡ (((k.title_of c) == t) && (admits k kind pickup c && true)) = counted-at k g t kind pickup c true (ap is_shelved moves.is) in
+    let before : is_counted k f t kind pickup c ≡ false =
+    counted-at k f t kind pickup c false (ap is_shelved moves.was) ∙ no_and ((k.title_of c) == t) (admits k kind pickup c) in
+    let after : is_counted k g t kind pickup c ≡ (((k.title_of c) == t) && (admits k kind pickup c && true)) =
+    counted-at k g t kind pickup c true (ap is_shelved moves.is) in
     omega (arith, changed, ap one before, ap one after, one_and ((k.title_of c) == t) (admits k kind pickup c))
 
-pub stock-out : (k : Facts) (f g : ℕ → Option CopyState) (c x : ℕ) (old new : StockValue) → Moves c f g (Some (Shelf x)) None → c < k.copies → HasOneMore old new (k.title_of c) (k.home c) → KeepsEntries old new → IsStock k f old → IsStock k g new
+pub stock-out : (k : Facts) (f g : ℕ → Option CopyState) (c x : ℕ) (old new : StockValue) → Moves c f g (Some (Shelf x)) None →
+    c < k.copies → HasOneMore old new (k.title_of c) (k.home c) → KeepsEntries old new → IsStock k f old → IsStock k g new
 stock-out k f g c x old new moves l less keeps is = record {
-  title = λ t pickup. omega (arith, less.titles t, is.title t pickup, shelved-out k f g c x moves l t Any pickup, and_true ((k.title_of c) == t));
+  title = λ t pickup. omega (
+    arith,
+    less.titles t,
+    is.title t pickup,
+    shelved-out k f g c x moves l t Any pickup,
+    and_true ((k.title_of c) == t),
+  );
   home = λ t b. omega (arith, less.homes t b, is.home t b, shelved-out k f g c x moves l t AtBranch b);
   entry = λ n below. keeps.homes (k.title_of n) (k.home n) (is.entry n below);
 }
 
-pub stock-in : (k : Facts) (f g : ℕ → Option CopyState) (c x : ℕ) (old new : StockValue) → Moves c f g None (Some (Shelf x)) → c < k.copies → HasOneMore new old (k.title_of c) (k.home c) → KeepsEntries old new → IsStock k f old → IsStock k g new
+pub stock-in : (k : Facts) (f g : ℕ → Option CopyState) (c x : ℕ) (old new : StockValue) → Moves c f g None (Some (Shelf x)) →
+    c < k.copies → HasOneMore new old (k.title_of c) (k.home c) → KeepsEntries old new → IsStock k f old → IsStock k g new
 stock-in k f g c x old new moves l more keeps is = record {
-  title = λ t pickup. omega (arith, more.titles t, is.title t pickup, shelved-in k f g c x moves l t Any pickup, and_true ((k.title_of c) == t));
+  title = λ t pickup. omega (
+    arith,
+    more.titles t,
+    is.title t pickup,
+    shelved-in k f g c x moves l t Any pickup,
+    and_true ((k.title_of c) == t),
+  );
   home = λ t b. omega (arith, more.homes t b, is.home t b, shelved-in k f g c x moves l t AtBranch b);
   entry = λ n below. keeps.homes (k.title_of n) (k.home n) (is.entry n below);
 }

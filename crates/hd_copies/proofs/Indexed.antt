@@ -1,5 +1,6 @@
 -- The indexes, as a copy leaves them and comes into them.
-use Rattle.std.proofs.Common.{◌≡◌, ℕ, ◌<◌, ◌≤◌, ◌==◌, ◌&&◌, Bool, true, false, Option, None, Some, List, length, get_or, refl, ap, sym, ◌∙◌, arith, eq-eqb, inl, inr}
+use Rattle.std.proofs.Common.{◌≡◌, ℕ, ◌<◌, ◌≤◌, ◌==◌, ◌&&◌, Bool, true, false, Option, None, Some, List, length, get_or, refl, ap, sym, ◌∙◌}
+use Rattle.std.proofs.Common.{arith, eq-eqb, inl, inr}
 use Rattle.std.proofs.Math.ListN.{set, get_or-map}
 use Rattle.std.proofs.lemmas.List.{get_or_default, map-set, set-get_or}
 use Rattle.std.proofs.lemmas.Bool.{cases_lt, eqb-true}
@@ -25,15 +26,18 @@ use Rattle.hd_stock.specs.StockValue.{StockValue}
 use Rattle.hd_stock.specs.Counts.{HasOneMore, KeepsEntries, of_home, of_title}
 use Rattle.hd_copies.specs.IndexesValue.{IndexesValue}
 use Rattle.hd_copies.specs.Standing.{AreStates, state_in}
-use Rattle.hd_copies.specs.Indexing.{AreLoans, AreTransits, AreShelves, IsIndexed, all_but, copy_at, is_placed, is_shelved, loan_of, no_shelf, rooms_in, transit_of}
+use Rattle.hd_copies.specs.Indexing.{AreLoans, AreTransits, AreShelves, IsIndexed, all_but, copy_at, is_placed, is_shelved, loan_of}
+use Rattle.hd_copies.specs.Indexing.{no_shelf, rooms_in, transit_of}
 use Rattle.hd_copies.proofs.Moving.{Moves, alike, but_here, but_there, found_in, map-in, map-out, state_at}
 use Rattle.hd_copies.proofs.Shelves.{shelves-alike, shelves-in, shelves-out}
 use Rattle.hd_copies.proofs.Counting.{is_counted, stock-alike, stock-in, stock-out}
 
-loans-alike : (k : Facts) (f g : ℕ → Option CopyState) (loans : LoansValue) → ((c : ℕ) → loan_of (g c) ≡ loan_of (f c)) → AreLoans k f loans → AreLoans k g loans
+loans-alike : (k : Facts) (f g : ℕ → Option CopyState) (loans : LoansValue) → ((c : ℕ) → loan_of (g c) ≡ loan_of (f c)) →
+    AreLoans k f loans → AreLoans k g loans
 loans-alike k f g loans same are = record { copies_in = are.copies_in; patrons_in = are.patrons_in; loan = λ c. are.loan c ∙ sym (same c) }
 
-transits-alike : (k : Facts) (f g : ℕ → Option CopyState) (transits : TransitsValue) → ((c : ℕ) → transit_of (g c) ≡ transit_of (f c)) → AreTransits k f transits → AreTransits k g transits
+transits-alike : (k : Facts) (f g : ℕ → Option CopyState) (transits : TransitsValue) → ((c : ℕ) → transit_of (g c) ≡ transit_of (f c)) →
+    AreTransits k f transits → AreTransits k g transits
 transits-alike k f g transits same are = record { copies_in = are.copies_in; transit = λ c. are.transit c ∙ sym (same c) }
 
 no_and : (a b : Bool) → (a && (b && false)) ≡ false
@@ -43,7 +47,8 @@ no_and false b = refl
 
 module _ (k : Facts) (f g : ℕ → Option CopyState) (c : ℕ) (x : IndexesValue) (indexed : IsIndexed k f x) where
   -- a copy leaves its open shelf
-  pub shelf-out : (b : ℕ) (stock : StockValue) → Moves c f g (Some (Shelf b)) None → c < k.copies → HasOneMore x.stock stock (k.title_of c) (k.home c) → KeepsEntries x.stock stock →
+  pub shelf-out : (b : ℕ) (stock : StockValue) → Moves c f g (Some (Shelf b)) None → c < k.copies →
+      HasOneMore x.stock stock (k.title_of c) (k.home c) → KeepsEntries x.stock stock →
       IsIndexed k g (record { loans = x.loans; transits = x.transits; shelves = x.shelves; stock = stock })
   shelf-out b stock moves l less keeps = record {
     loans = loans-alike k f g x.loans (alike loan_of c f g _ _ moves refl) indexed.loans;
@@ -53,7 +58,8 @@ module _ (k : Facts) (f g : ℕ → Option CopyState) (c : ℕ) (x : IndexesValu
   }
 
   -- and comes to one
-  pub shelf-in : (b : ℕ) (stock : StockValue) → Moves c f g None (Some (Shelf b)) → c < k.copies → HasOneMore stock x.stock (k.title_of c) (k.home c) → KeepsEntries x.stock stock →
+  pub shelf-in : (b : ℕ) (stock : StockValue) → Moves c f g None (Some (Shelf b)) → c < k.copies →
+      HasOneMore stock x.stock (k.title_of c) (k.home c) → KeepsEntries x.stock stock →
       IsIndexed k g (record { loans = x.loans; transits = x.transits; shelves = x.shelves; stock = stock })
   shelf-in b stock moves l more keeps = record {
     loans = loans-alike k f g x.loans (alike loan_of c f g _ _ moves refl) indexed.loans;
@@ -63,7 +69,8 @@ module _ (k : Facts) (f g : ℕ → Option CopyState) (c : ℕ) (x : IndexesValu
   }
 
   -- a loan ends
-  pub loan-out : (v : Loan) (loans : LoansValue) → Moves c f g (Some (OnLoan v)) None → loans.loans ≡ remove x.loans.loans c → loans.copies ≡ x.loans.copies → loans.patrons ≡ x.loans.patrons →
+  pub loan-out : (v : Loan) (loans : LoansValue) → Moves c f g (Some (OnLoan v)) None → loans.loans ≡ remove x.loans.loans c →
+      loans.copies ≡ x.loans.copies → loans.patrons ≡ x.loans.patrons →
       IsIndexed k g (record { loans = loans; transits = x.transits; shelves = x.shelves; stock = x.stock })
   loan-out v loans moves out copies patrons = record {
     loans = record {
@@ -77,7 +84,8 @@ module _ (k : Facts) (f g : ℕ → Option CopyState) (c : ℕ) (x : IndexesValu
   }
 
   -- and begins
-  pub loan-in : (v : Loan) (loans : LoansValue) → Moves c f g None (Some (OnLoan v)) → loans.loans ≡ insert x.loans.loans c v → loans.copies ≡ x.loans.copies → loans.patrons ≡ x.loans.patrons →
+  pub loan-in : (v : Loan) (loans : LoansValue) → Moves c f g None (Some (OnLoan v)) → loans.loans ≡ insert x.loans.loans c v →
+      loans.copies ≡ x.loans.copies → loans.patrons ≡ x.loans.patrons →
       IsIndexed k g (record { loans = loans; transits = x.transits; shelves = x.shelves; stock = x.stock })
   loan-in v loans moves into copies patrons = record {
     loans = record {
@@ -91,7 +99,8 @@ module _ (k : Facts) (f g : ℕ → Option CopyState) (c : ℕ) (x : IndexesValu
   }
 
   -- a transit ends
-  pub transit-out : (v : Transit) (transits : TransitsValue) → Moves c f g (Some (InTransit v)) None → transits.transits ≡ remove x.transits.transits c → transits.copies ≡ x.transits.copies →
+  pub transit-out : (v : Transit) (transits : TransitsValue) → Moves c f g (Some (InTransit v)) None →
+      transits.transits ≡ remove x.transits.transits c → transits.copies ≡ x.transits.copies →
       IsIndexed k g (record { loans = x.loans; transits = transits; shelves = x.shelves; stock = x.stock })
   transit-out v transits moves out copies = record {
     loans = loans-alike k f g x.loans (alike loan_of c f g _ _ moves refl) indexed.loans;
@@ -104,7 +113,8 @@ module _ (k : Facts) (f g : ℕ → Option CopyState) (c : ℕ) (x : IndexesValu
   }
 
   -- and begins
-  pub transit-in : (v : Transit) (transits : TransitsValue) → Moves c f g None (Some (InTransit v)) → transits.transits ≡ insert x.transits.transits c v → transits.copies ≡ x.transits.copies →
+  pub transit-in : (v : Transit) (transits : TransitsValue) → Moves c f g None (Some (InTransit v)) →
+      transits.transits ≡ insert x.transits.transits c v → transits.copies ≡ x.transits.copies →
       IsIndexed k g (record { loans = x.loans; transits = transits; shelves = x.shelves; stock = x.stock })
   transit-in v transits moves into copies = record {
     loans = loans-alike k f g x.loans (alike loan_of c f g _ _ moves refl) indexed.loans;
@@ -117,7 +127,8 @@ module _ (k : Facts) (f g : ℕ → Option CopyState) (c : ℕ) (x : IndexesValu
   }
 
   -- a copy leaves its hold shelf
-  pub place-out : (w : HoldPlace) (s : PlacesValue) → Moves c f g (Some (OnHoldShelf w)) None → w.branch < k.branches → s.copies ≡ remove (get_or x.shelves w.branch no_shelf).copies w.place →
+  pub place-out : (w : HoldPlace) (s : PlacesValue) → Moves c f g (Some (OnHoldShelf w)) None → w.branch < k.branches →
+      s.copies ≡ remove (get_or x.shelves w.branch no_shelf).copies w.place →
       IsIndexed k g (record { loans = x.loans; transits = x.transits; shelves = set x.shelves w.branch s; stock = x.stock })
   place-out w s moves known out = record {
     loans = loans-alike k f g x.loans (alike loan_of c f g _ _ moves refl) indexed.loans;
@@ -127,7 +138,8 @@ module _ (k : Facts) (f g : ℕ → Option CopyState) (c : ℕ) (x : IndexesValu
   }
 
   -- and comes to one
-  pub place-in : (w : HoldPlace) (s : PlacesValue) → Moves c f g None (Some (OnHoldShelf w)) → w.branch < k.branches → copy_at x.shelves w.branch w.place ≡ None → s.copies ≡ insert (get_or x.shelves w.branch no_shelf).copies w.place c →
+  pub place-in : (w : HoldPlace) (s : PlacesValue) → Moves c f g None (Some (OnHoldShelf w)) → w.branch < k.branches →
+      copy_at x.shelves w.branch w.place ≡ None → s.copies ≡ insert (get_or x.shelves w.branch no_shelf).copies w.place c →
       IsIndexed k g (record { loans = x.loans; transits = x.transits; shelves = set x.shelves w.branch s; stock = x.stock })
   place-in w s moves known free into = record {
     loans = loans-alike k f g x.loans (alike loan_of c f g _ _ moves refl) indexed.loans;
@@ -137,7 +149,9 @@ module _ (k : Facts) (f g : ℕ → Option CopyState) (c : ℕ) (x : IndexesValu
   }
 
   uncounted : (kind : HoldKind) (pickup : ℕ) → f c ≡ None → is_counted k f (k.title_of c) kind pickup c ≡ false
-  uncounted kind pickup none = ap (λ (o : Option CopyState). ((k.title_of c) == (k.title_of c)) && (admits k kind pickup c && is_shelved o)) none ∙ no_and ((k.title_of c) == (k.title_of c)) (admits k kind pickup c)
+  uncounted kind pickup none =
+      ap (λ (o : Option CopyState). ((k.title_of c) == (k.title_of c)) && (admits k kind pickup c && is_shelved o)) none
+      ∙ no_and ((k.title_of c) == (k.title_of c)) (admits k kind pickup c)
 
   -- a copy that is on no open shelf isn't counted, so there is room for one more
   pub few_of_title : f c ≡ None → c < k.copies → k.copies ≤ MOST_COPIES → of_title x.stock (k.title_of c) < MOST_COPIES
@@ -148,7 +162,11 @@ module _ (k : Facts) (f g : ℕ → Option CopyState) (c : ℕ) (x : IndexesValu
   pub few_of_home : f c ≡ None → c < k.copies → k.copies ≤ MOST_COPIES → of_home x.stock (k.title_of c) (k.home c) < MOST_COPIES
   few_of_home none l most =
       let off : is_counted k f (k.title_of c) AtBranch (k.home c) c ≡ false = uncounted AtBranch (k.home c) none in
-      omega (arith, indexed.stock.home (k.title_of c) (k.home c), count_below-free (is_counted k f (k.title_of c) AtBranch (k.home c)) k.copies c l off)
+      omega (
+        arith,
+        indexed.stock.home (k.title_of c) (k.home c),
+        count_below-free (is_counted k f (k.title_of c) AtBranch (k.home c)) k.copies c l off,
+      )
 
   -- and one that is on an open shelf is counted
   pub some_of_title : (b : ℕ) → f c ≡ Some (Shelf b) → c < k.copies → 1 ≤ of_title x.stock (k.title_of c)
@@ -158,18 +176,25 @@ module _ (k : Facts) (f g : ℕ → Option CopyState) (c : ℕ) (x : IndexesValu
 
   pub some_of_home : (b : ℕ) → f c ≡ Some (Shelf b) → c < k.copies → 1 ≤ of_home x.stock (k.title_of c) (k.home c)
   some_of_home b at l =
-      let on : is_counted k f (k.title_of c) AtBranch (k.home c) c ≡ true = rw (at, eq-eqb (k.title_of c) (k.title_of c) refl, eq-eqb (k.home c) (k.home c) refl) refl in
-      omega (arith, indexed.stock.home (k.title_of c) (k.home c), count_below-some (is_counted k f (k.title_of c) AtBranch (k.home c)) k.copies c l on)
+      let on : is_counted k f (k.title_of c) AtBranch (k.home c) c ≡ true =
+      rw (at, eq-eqb (k.title_of c) (k.title_of c) refl, eq-eqb (k.home c) (k.home c) refl) refl in
+      omega (
+        arith,
+        indexed.stock.home (k.title_of c) (k.home c),
+        count_below-some (is_counted k f (k.title_of c) AtBranch (k.home c)) k.copies c l on,
+      )
 
 -- a shelf whose room stays
-pub rooms-same : (shelves : List PlacesValue) (i : ℕ) (s : PlacesValue) → s.room ≡ (get_or shelves i no_shelf).room → rooms_in (set shelves i s) ≡ rooms_in shelves
+pub rooms-same : (shelves : List PlacesValue) (i : ℕ) (s : PlacesValue) → s.room ≡ (get_or shelves i no_shelf).room →
+    rooms_in (set shelves i s) ≡ rooms_in shelves
 rooms-same shelves i s same =
     let rooms = rooms_in shelves in
     let now : s.room ≡ get_or rooms i 0 = same ∙ sym (get_or-map (λ (x : PlacesValue). x.room) shelves i no_shelf) in
     map-set (λ (x : PlacesValue). x.room) shelves i s ∙ ap (λ (n : ℕ). set rooms i n) now ∙ set-get_or rooms i 0
 
 -- an element that was read, as the shelf of its branch
-pub shelf_at : (shelves : List PlacesValue) (i b : ℕ) (s : PlacesValue) → i ≡ b → b < length shelves → s ≡ get_or shelves i s → s ≡ get_or shelves b no_shelf
+pub shelf_at : (shelves : List PlacesValue) (i b : ℕ) (s : PlacesValue) → i ≡ b → b < length shelves → s ≡ get_or shelves i s →
+    s ≡ get_or shelves b no_shelf
 shelf_at shelves i b s at l is = is ∙ ap (λ (j : ℕ). get_or shelves j s) at ∙ get_or_default shelves b s no_shelf l
 
 none_or_some : (o : Option ℕ) → ((n : ℕ) → o ≡ Some n → ⊥) → o ≡ None
@@ -177,13 +202,15 @@ none_or_some None never = refl
 none_or_some (Some n) never = absurd (never n refl)
 
 -- a copy that is nowhere stands at no place
-pub nowhere_on : (k : Facts) (f : ℕ → Option CopyState) (shelves : List PlacesValue) (c b p : ℕ) → AreShelves k f shelves → f c ≡ None → copy_at shelves b p ≡ Some c → ⊥
+pub nowhere_on : (k : Facts) (f : ℕ → Option CopyState) (shelves : List PlacesValue) (c b p : ℕ) → AreShelves k f shelves → f c ≡ None →
+    copy_at shelves b p ≡ Some c → ⊥
 nowhere_on k f shelves c b p are none at =
     let off : is_placed b p (f c) ≡ false = ap (is_placed b p) none in
     let no : true ≡ false = sym (are.stands b p c at) ∙ off in cc
 
 -- a copy that stands at a place is one of the list
-pub placed_in : (k : Facts) (states : List CopyState) (n b p : ℕ) → AreStates k states → is_placed b p (slice_get states n) ≡ true → (n < k.copies) × (stands_at b p (state_in states n) ≡ true)
+pub placed_in : (k : Facts) (states : List CopyState) (n b p : ℕ) → AreStates k states → is_placed b p (slice_get states n) ≡ true →
+    (n < k.copies) × (stands_at b p (state_in states n) ≡ true)
 placed_in k states n b p fit there = elim (cases_lt n (length states)) [
   | inl below ↦ (omega (arith, fit.copies), sym (ap (is_placed b p) (found_in states n below)) ∙ there)
   | inr above ↦ absurd (
@@ -199,14 +226,16 @@ held_at b p (OnLoan l) is = absurd (let no : ⊥ = cc in no)
 held_at b p (InTransit t) is = absurd (let no : ⊥ = cc in no)
 
 -- two copies with one place are one
-same_place : (k : Facts) (states : List CopyState) (n c : ℕ) (w : HoldPlace) → AreStates k states → c < k.copies → state_in states c ≡ OnHoldShelf w → is_placed w.branch w.place (slice_get states n) ≡ true → n ≡ c
+same_place : (k : Facts) (states : List CopyState) (n c : ℕ) (w : HoldPlace) → AreStates k states → c < k.copies →
+    state_in states c ≡ OnHoldShelf w → is_placed w.branch w.place (slice_get states n) ≡ true → n ≡ c
 same_place k states n c w fit l at there =
     let in_list = placed_in k states n w.branch w.place fit there in
     let held = held_at w.branch w.place (state_in states n) in_list.1 in
     fit.places.apart n c held.0 w in_list.0 l held.1 at held.2 held.3
 
 -- where places are fit, no other copy has the place of this one
-pub free_for : (k : Facts) (states : List CopyState) (shelves : List PlacesValue) (c : ℕ) (w : HoldPlace) → AreShelves k (all_but c (slice_get states)) shelves → AreStates k states → c < k.copies → slice_get states c ≡ Some (OnHoldShelf w) →
+pub free_for : (k : Facts) (states : List CopyState) (shelves : List PlacesValue) (c : ℕ) (w : HoldPlace) →
+    AreShelves k (all_but c (slice_get states)) shelves → AreStates k states → c < k.copies → slice_get states c ≡ Some (OnHoldShelf w) →
     copy_at shelves w.branch w.place ≡ None
 free_for k states shelves c w are fit l at = none_or_some (copy_at shelves w.branch w.place) taken
   where
@@ -218,8 +247,10 @@ free_for k states shelves c w are fit l at = none_or_some (copy_at shelves w.bra
 
         by_test : (t : Bool) → (n == c) ≡ t → ⊥
         by_test true e =
-            let none : all_but c (slice_get states) n ≡ None = ap (all_but c (slice_get states)) (eqb-true n c e) ∙ but_here (slice_get states) c in
+            let none : all_but c (slice_get states) n ≡ None =
+            ap (all_but c (slice_get states)) (eqb-true n c e) ∙ but_here (slice_get states) c in
             let no : true ≡ false = sym placed ∙ ap (is_placed w.branch w.place) none in cc
         by_test false e =
-            let there : is_placed w.branch w.place (slice_get states n) ≡ true = sym (ap (is_placed w.branch w.place) (but_there (slice_get states) c n (number_not n c e))) ∙ placed in
+            let there : is_placed w.branch w.place (slice_get states n) ≡ true =
+            sym (ap (is_placed w.branch w.place) (but_there (slice_get states) c n (number_not n c e))) ∙ placed in
             number_not n c e (same_place k states n c w fit l (state_at k states c (OnHoldShelf w) fit l at) there)

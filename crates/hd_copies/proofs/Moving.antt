@@ -1,5 +1,6 @@
 -- One copy goes, and the others stay where they are.
-use Rattle.std.proofs.Common.{◌≡◌, ◌≢◌, ℕ, ◌<◌, ◌==◌, Bool, true, false, cond, Option, None, Some, List, length, get_or, refl, ap, sym, ◌∙◌, subst, inl, inr, arith, eq-eqb}
+use Rattle.std.proofs.Common.{◌≡◌, ◌≢◌, ℕ, ◌<◌, ◌==◌, Bool, true, false, cond, Option, None, Some, List, length, get_or, refl, ap, sym, ◌∙◌}
+use Rattle.std.proofs.Common.{subst, inl, inr, arith, eq-eqb}
 use Rattle.std.proofs.Math.ListN.{set, length-set}
 use Rattle.std.proofs.lemmas.Bool.{eqb-true, cases_Bool, cases_lt}
 use Rattle.std.proofs.lemmas.List.{get_or-set_other}
@@ -23,7 +24,8 @@ pub record Moves (copy : ℕ) (before after : ℕ → Option CopyState) (here th
   pub others : (x : ℕ) → x ≢ copy → after x ≡ before x
 
 -- what is the same of both places is the same of all copies
-pub alike : {X : Type 0} (of : Option CopyState → X) (c : ℕ) (f g : ℕ → Option CopyState) (a b : Option CopyState) → Moves c f g a b → of b ≡ of a → (x : ℕ) → of (g x) ≡ of (f x)
+pub alike : {X : Type 0} (of : Option CopyState → X) (c : ℕ) (f g : ℕ → Option CopyState) (a b : Option CopyState) → Moves c f g a b →
+    of b ≡ of a → (x : ℕ) → of (g x) ≡ of (f x)
 alike of c f g a b moves same x = elim (cases_Bool (x == c)) [
   | inl e ↦ (let at : x ≡ c = eqb-true x c e in
       ap (λ (y : ℕ). of (g y)) at ∙ ap of moves.is ∙ same ∙ sym (ap of moves.was) ∙ sym (ap (λ (y : ℕ). of (f y)) at))
@@ -31,7 +33,9 @@ alike of c f g a b moves same x = elim (cases_Bool (x == c)) [
 ]
 
 -- a map by copies loses the entry of the one that goes
-pub map-out : {X : Type 0} (of : Option CopyState → Option X) (m : FinMap nat_cmp X) (c : ℕ) (f g : ℕ → Option CopyState) (a b : Option CopyState) → Moves c f g a b → of b ≡ None → ((x : ℕ) → get m x ≡ of (f x)) → (x : ℕ) → get (remove m c) x ≡ of (g x)
+pub map-out : {X : Type 0} (of : Option CopyState → Option X) (m : FinMap nat_cmp X) (c : ℕ) (f g : ℕ →
+    Option CopyState) (a b : Option CopyState) → Moves c f g a b → of b ≡ None → ((x : ℕ) → get m x ≡ of (f x)) → (x : ℕ) →
+    get (remove m c) x ≡ of (g x)
 map-out {X} of m c f g a b moves none all x = get-remove_number m c x ∙ by_test (x == c) refl
   where
     by_test : (t : Bool) → (x == c) ≡ t → cond t None (get m x) ≡ of (g x)
@@ -39,7 +43,9 @@ map-out {X} of m c f g a b moves none all x = get-remove_number m c x ∙ by_tes
     by_test false e = all x ∙ ap of (sym (moves.others x (number_not x c e)))
 
 -- and gains one for it
-pub map-in : {X : Type 0} (of : Option CopyState → Option X) (m : FinMap nat_cmp X) (c : ℕ) (f g : ℕ → Option CopyState) (a b : Option CopyState) (v : X) → Moves c f g a b → of b ≡ Some v → ((x : ℕ) → get m x ≡ of (f x)) → (x : ℕ) → get (insert m c v) x ≡ of (g x)
+pub map-in : {X : Type 0} (of : Option CopyState → Option X) (m : FinMap nat_cmp X) (c : ℕ) (f g : ℕ →
+    Option CopyState) (a b : Option CopyState) (v : X) → Moves c f g a b → of b ≡ Some v → ((x : ℕ) → get m x ≡ of (f x)) → (x : ℕ) →
+    get (insert m c v) x ≡ of (g x)
 map-in {X} of m c f g a b v moves some all x = get-insert_number m c v x ∙ by_test (x == c) refl
   where
     by_test : (t : Bool) → (x == c) ≡ t → cond t (Some v) (get m x) ≡ of (g x)
@@ -75,7 +81,8 @@ slice_get-set_other states i x v other = elim (cases_lt x (length states)) [
 ]
 
 -- all but the one whose entry is written are where they were
-pub but-set : (states : List CopyState) (i c : ℕ) (v : CopyState) → i ≡ c → all_but c (slice_get (set states i v)) ≡ all_but c (slice_get states)
+pub but-set : (states : List CopyState) (i c : ℕ) (v : CopyState) → i ≡ c →
+    all_but c (slice_get (set states i v)) ≡ all_but c (slice_get states)
 but-set states i c v at = λ j. λ x. each x j
   where
     each : (x : ℕ) → all_but c (slice_get (set states i v)) x ≡ all_but c (slice_get states) x
@@ -85,12 +92,17 @@ but-set states i c v at = λ j. λ x. each x j
     ]
 
 -- an entry that was read is where its copy is
-pub read_at : (k : Facts) (states : List CopyState) (i c : ℕ) (d v : CopyState) → AreStates k states → c < k.copies → i ≡ c → get_or states i d ≡ v → slice_get states c ≡ Some v
-read_at k states i c d v are l at is = slice_get-get_or states c d (omega (arith, are.copies)) ∙ ap (λ (s : CopyState). Some s) (ap (λ (j : ℕ). get_or states j d) (sym at) ∙ is)
+pub read_at : (k : Facts) (states : List CopyState) (i c : ℕ) (d v : CopyState) → AreStates k states → c < k.copies → i ≡ c →
+    get_or states i d ≡ v → slice_get states c ≡ Some v
+read_at k states i c d v are l at is =
+    slice_get-get_or states c d (omega (arith, are.copies))
+    ∙ ap (λ (s : CopyState). Some s) (ap (λ (j : ℕ). get_or states j d) (sym at) ∙ is)
 
-pub state_at : (k : Facts) (states : List CopyState) (c : ℕ) (v : CopyState) → AreStates k states → c < k.copies → slice_get states c ≡ Some v → state_in states c ≡ v
+pub state_at : (k : Facts) (states : List CopyState) (c : ℕ) (v : CopyState) → AreStates k states → c < k.copies →
+    slice_get states c ≡ Some v → state_in states c ≡ v
 state_at k states c v are l at = some_is _ v (sym (found_in states c (omega (arith, are.copies))) ∙ at)
 
 -- and names things of the catalogue
-pub known_at : (k : Facts) (states : List CopyState) (c : ℕ) (v : CopyState) → AreStates k states → c < k.copies → slice_get states c ≡ Some v → IsKnownState k v
+pub known_at : (k : Facts) (states : List CopyState) (c : ℕ) (v : CopyState) → AreStates k states → c < k.copies →
+    slice_get states c ≡ Some v → IsKnownState k v
 known_at k states c v are l at = subst (IsKnownState k) (state_at k states c v are l at) (are.known c l)

@@ -1,5 +1,6 @@
 -- A copy leaves a hold shelf, and comes to one.
-use Rattle.std.proofs.Common.{◌≡◌, ℕ, ◌<◌, ◌==◌, ◌&&◌, Bool, true, false, cond, Option, None, Some, List, length, refl, ap, sym, ◌∙◌, inl, inr, arith, get_or, eq-eqb}
+use Rattle.std.proofs.Common.{◌≡◌, ℕ, ◌<◌, ◌==◌, ◌&&◌, Bool, true, false, cond, Option, None, Some, List, length, refl, ap, sym, ◌∙◌, inl}
+use Rattle.std.proofs.Common.{inr, arith, get_or, eq-eqb}
 use Rattle.std.proofs.Math.ListN.{set, length-set}
 use Rattle.std.proofs.lemmas.Bool.{eqb-true, cases_Bool}
 use Rattle.std.proofs.lemmas.Grind.{get_or-set_at}
@@ -24,18 +25,21 @@ is_there-same : (branch place b p : ℕ) → is_there branch place b p ≡ true 
 is_there-same branch place b p is = (eqb-true branch b (and_left _ _ is), eqb-true place p (and_right _ _ is))
 
 -- one shelf is written
-copy_at-set : (shelves : List PlacesValue) (i : ℕ) (s : PlacesValue) (b p : ℕ) → i < length shelves → copy_at (set shelves i s) b p ≡ cond (i == b) (get s.copies p) (copy_at shelves b p)
+copy_at-set : (shelves : List PlacesValue) (i : ℕ) (s : PlacesValue) (b p : ℕ) → i < length shelves →
+    copy_at (set shelves i s) b p ≡ cond (i == b) (get s.copies p) (copy_at shelves b p)
 copy_at-set shelves i s b p l = elim (cases_Bool (i == b)) [
   | inl e ↦ rw e (ap (λ (x : PlacesValue). get x.copies p) (get_or-set_at shelves i b s no_shelf (sym (eqb-true i b e)) l))
   | inr e ↦ rw e (ap (λ (x : PlacesValue). get x.copies p) (get_or-set_other shelves i b s no_shelf (λ same. number_not i b e (sym same))))
 ]
 
 -- a place is freed
-copy_at-out : (shelves : List PlacesValue) (branch place : ℕ) (s : PlacesValue) (b p : ℕ) → branch < length shelves → s.copies ≡ remove (get_or shelves branch no_shelf).copies place →
+copy_at-out : (shelves : List PlacesValue) (branch place : ℕ) (s : PlacesValue) (b p : ℕ) → branch < length shelves →
+    s.copies ≡ remove (get_or shelves branch no_shelf).copies place →
     copy_at (set shelves branch s) b p ≡ cond (is_there branch place b p) None (copy_at shelves b p)
 copy_at-out shelves branch place s b p l out = copy_at-set shelves branch s b p l ∙ by_branch (branch == b) refl
   where
-    by_branch : (t : Bool) → (branch == b) ≡ t → cond t (get s.copies p) (copy_at shelves b p) ≡ cond (t && (place == p)) None (copy_at shelves b p)
+    by_branch : (t : Bool) → (branch == b) ≡ t → cond t (get s.copies p) (copy_at shelves b p) ≡ cond (t && (place == p)) None
+        (copy_at shelves b p)
     by_branch true e =
         let same : branch ≡ b = eqb-true branch b e in
         ap (λ (m : FinMap nat_cmp ℕ). get m p) out ∙ get-remove_number (get_or shelves branch no_shelf).copies place p
@@ -52,11 +56,13 @@ copy_at-out shelves branch place s b p l out = copy_at-set shelves branch s b p 
     by_branch false e = refl
 
 -- a place is taken
-copy_at-in : (shelves : List PlacesValue) (branch place c : ℕ) (s : PlacesValue) (b p : ℕ) → branch < length shelves → s.copies ≡ insert (get_or shelves branch no_shelf).copies place c →
+copy_at-in : (shelves : List PlacesValue) (branch place c : ℕ) (s : PlacesValue) (b p : ℕ) → branch < length shelves →
+    s.copies ≡ insert (get_or shelves branch no_shelf).copies place c →
     copy_at (set shelves branch s) b p ≡ cond (is_there branch place b p) (Some c) (copy_at shelves b p)
 copy_at-in shelves branch place c s b p l out = copy_at-set shelves branch s b p l ∙ by_branch (branch == b) refl
   where
-    by_branch : (t : Bool) → (branch == b) ≡ t → cond t (get s.copies p) (copy_at shelves b p) ≡ cond (t && (place == p)) (Some c) (copy_at shelves b p)
+    by_branch : (t : Bool) → (branch == b) ≡ t → cond t (get s.copies p) (copy_at shelves b p) ≡ cond (t && (place == p)) (Some c)
+        (copy_at shelves b p)
     by_branch true e =
         let same : branch ≡ b = eqb-true branch b e in
         ap (λ (m : FinMap nat_cmp ℕ). get m p) out ∙ get-insert_number (get_or shelves branch no_shelf).copies place c p
@@ -73,7 +79,8 @@ copy_at-in shelves branch place c s b p l out = copy_at-set shelves branch s b p
     by_branch false e = refl
 
 -- no copy goes to or from a hold shelf
-pub shelves-alike : (k : Facts) (f g : ℕ → Option CopyState) (shelves : List PlacesValue) → ((b p x : ℕ) → is_placed b p (g x) ≡ is_placed b p (f x)) → AreShelves k f shelves → AreShelves k g shelves
+pub shelves-alike : (k : Facts) (f g : ℕ → Option CopyState) (shelves : List PlacesValue) →
+    ((b p x : ℕ) → is_placed b p (g x) ≡ is_placed b p (f x)) → AreShelves k f shelves → AreShelves k g shelves
 shelves-alike k f g shelves same are = record {
   branches_in = are.branches_in;
   stands = λ b p x at. same b p x ∙ are.stands b p x at;
@@ -81,7 +88,8 @@ shelves-alike k f g shelves same are = record {
 }
 
 -- a copy leaves its place
-pub shelves-out : (k : Facts) (f g : ℕ → Option CopyState) (c : ℕ) (w : HoldPlace) (shelves : List PlacesValue) (s : PlacesValue) → Moves c f g (Some (OnHoldShelf w)) None → AreShelves k f shelves → w.branch < k.branches →
+pub shelves-out : (k : Facts) (f g : ℕ → Option CopyState) (c : ℕ) (w : HoldPlace) (shelves : List PlacesValue) (s : PlacesValue) →
+    Moves c f g (Some (OnHoldShelf w)) None → AreShelves k f shelves → w.branch < k.branches →
     s.copies ≡ remove (get_or shelves w.branch no_shelf).copies w.place → AreShelves k g (set shelves w.branch s)
 shelves-out k f g c w shelves s moves are known out = record {
   branches_in = length-set shelves w.branch s ∙ are.branches_in;
@@ -92,27 +100,33 @@ shelves-out k f g c w shelves s moves are known out = record {
     left : (b p : ℕ) → copy_at (set shelves w.branch s) b p ≡ cond (is_there w.branch w.place b p) None (copy_at shelves b p)
     left b p = copy_at-out shelves w.branch w.place s b p (let l : w.branch < length shelves = omega (arith, are.branches_in) in l) out
 
-    stands : (b p x : ℕ) (t : Bool) → is_there w.branch w.place b p ≡ t → cond t None (copy_at shelves b p) ≡ Some x → (u : Bool) → (x == c) ≡ u → is_placed b p (g x) ≡ true
+    stands : (b p x : ℕ) (t : Bool) → is_there w.branch w.place b p ≡ t → cond t None (copy_at shelves b p) ≡ Some x → (u : Bool) →
+        (x == c) ≡ u → is_placed b p (g x) ≡ true
     stands b p x true is none u e = absurd (let no : ⊥ = cc in no)
     stands b p x false is some true e = absurd (
         let placed : is_placed b p (f x) ≡ true = are.stands b p x some in
-        let here : is_placed b p (f x) ≡ is_there w.branch w.place b p = ap (λ (y : ℕ). is_placed b p (f y)) (eqb-true x c e) ∙ ap (is_placed b p) moves.was in
+        let here : is_placed b p (f x) ≡ is_there w.branch w.place b p =
+        ap (λ (y : ℕ). is_placed b p (f y)) (eqb-true x c e) ∙ ap (is_placed b p) moves.was in
         let no : true ≡ false = sym placed ∙ here ∙ is in cc)
     stands b p x false is some false e = ap (is_placed b p) (moves.others x (number_not x c e)) ∙ are.stands b p x some
 
-    found : (b p x : ℕ) → b < k.branches → (t : Bool) → is_there w.branch w.place b p ≡ t → (u : Bool) → (x == c) ≡ u → is_placed b p (g x) ≡ true → cond t None (copy_at shelves b p) ≡ Some x
+    found : (b p x : ℕ) → b < k.branches → (t : Bool) → is_there w.branch w.place b p ≡ t → (u : Bool) → (x == c) ≡ u →
+        is_placed b p (g x) ≡ true → cond t None (copy_at shelves b p) ≡ Some x
     found b p x l t is true e placed = absurd (
         let none : is_placed b p (g x) ≡ false = ap (λ (y : ℕ). is_placed b p (g y)) (eqb-true x c e) ∙ ap (is_placed b p) moves.is in
         let no : true ≡ false = sym placed ∙ none in cc)
     found b p x l true is false e placed = absurd (number_not x c e (
-        let one : copy_at shelves b p ≡ Some x = are.found b p x l (sym (ap (is_placed b p) (moves.others x (number_not x c e))) ∙ placed) in
+        let one : copy_at shelves b p ≡ Some x =
+        are.found b p x l (sym (ap (is_placed b p) (moves.others x (number_not x c e))) ∙ placed) in
         let other : copy_at shelves b p ≡ Some c = are.found b p c l (ap (is_placed b p) moves.was ∙ is) in
         some_is x c (sym one ∙ other)))
     found b p x l false is false e placed = are.found b p x l (sym (ap (is_placed b p) (moves.others x (number_not x c e))) ∙ placed)
 
 -- a copy comes to a free place
-pub shelves-in : (k : Facts) (f g : ℕ → Option CopyState) (c : ℕ) (w : HoldPlace) (shelves : List PlacesValue) (s : PlacesValue) → Moves c f g None (Some (OnHoldShelf w)) → AreShelves k f shelves → w.branch < k.branches →
-    copy_at shelves w.branch w.place ≡ None → s.copies ≡ insert (get_or shelves w.branch no_shelf).copies w.place c → AreShelves k g (set shelves w.branch s)
+pub shelves-in : (k : Facts) (f g : ℕ → Option CopyState) (c : ℕ) (w : HoldPlace) (shelves : List PlacesValue) (s : PlacesValue) →
+    Moves c f g None (Some (OnHoldShelf w)) → AreShelves k f shelves → w.branch < k.branches →
+    copy_at shelves w.branch w.place ≡ None → s.copies ≡ insert (get_or shelves w.branch no_shelf).copies w.place c →
+    AreShelves k g (set shelves w.branch s)
 shelves-in k f g c w shelves s moves are known free into = record {
   branches_in = length-set shelves w.branch s ∙ are.branches_in;
   stands = λ b p x at. stands b p x (is_there w.branch w.place b p) refl (sym (entered b p) ∙ at);
@@ -131,15 +145,18 @@ shelves-in k f g c w shelves s moves are known free into = record {
         let no : true ≡ false = sym (are.stands b p x some) ∙ none in cc)
     old b p x some false e = ap (is_placed b p) (moves.others x (number_not x c e)) ∙ are.stands b p x some
 
-    stands : (b p x : ℕ) (t : Bool) → is_there w.branch w.place b p ≡ t → cond t (Some c) (copy_at shelves b p) ≡ Some x → is_placed b p (g x) ≡ true
+    stands : (b p x : ℕ) (t : Bool) → is_there w.branch w.place b p ≡ t → cond t (Some c) (copy_at shelves b p) ≡ Some x →
+        is_placed b p (g x) ≡ true
     stands b p x true is some = here b p x (sym (some_is c x some)) ∙ is
     stands b p x false is some = old b p x some (x == c) refl
 
-    found : (b p x : ℕ) → b < k.branches → (t : Bool) → is_there w.branch w.place b p ≡ t → (u : Bool) → (x == c) ≡ u → is_placed b p (g x) ≡ true → cond t (Some c) (copy_at shelves b p) ≡ Some x
+    found : (b p x : ℕ) → b < k.branches → (t : Bool) → is_there w.branch w.place b p ≡ t → (u : Bool) → (x == c) ≡ u →
+        is_placed b p (g x) ≡ true → cond t (Some c) (copy_at shelves b p) ≡ Some x
     found b p x l true is true e placed = ap (λ (y : ℕ). Some y) (sym (eqb-true x c e))
     found b p x l false is true e placed = absurd (let no : true ≡ false = sym placed ∙ here b p x (eqb-true x c e) ∙ is in cc)
     found b p x l true is false e placed = absurd (
-        let some : copy_at shelves b p ≡ Some x = are.found b p x l (sym (ap (is_placed b p) (moves.others x (number_not x c e))) ∙ placed) in
+        let some : copy_at shelves b p ≡ Some x =
+        are.found b p x l (sym (ap (is_placed b p) (moves.others x (number_not x c e))) ∙ placed) in
         let same = is_there-same w.branch w.place b p is in
         let none : copy_at shelves b p ≡ None = (λ i. copy_at shelves (sym same.0 i) (sym same.1 i)) ∙ free in
         let no : ⊥ = cc in no)

@@ -1,5 +1,6 @@
 -- The states of copies, before and after one copy goes somewhere else.
-use Rattle.std.proofs.Common.{◌≡◌, ℕ, ◌<◌, ◌≤◌, ◌==◌, true, false, cond, nat_lt, List, None, Some, length, get_or, refl, ap, sym, ◌∙◌, subst, inl, inr, arith, eq-eqb}
+use Rattle.std.proofs.Common.{◌≡◌, ℕ, ◌<◌, ◌≤◌, ◌==◌, true, false, cond, nat_lt, List, None, Some, length, get_or, refl, ap, sym, ◌∙◌}
+use Rattle.std.proofs.Common.{subst, inl, inr, arith, eq-eqb}
 use Rattle.std.proofs.Math.ListN.{set, length-set}
 use Rattle.std.proofs.lemmas.Bool.{eqb-true, cases_Bool, cases_lt}
 use Rattle.std.proofs.lemmas.List.{get_or-set_same, get_or-set_other, get_or_past}
@@ -22,21 +23,25 @@ use Rattle.hd_copies.specs.Indexing.{each_at_home}
 use Rattle.hd_copies.specs.Standing.{IsAlone, IsWelcome, AreStates, AreAtHome, state_in}
 
 -- one entry of the list is written
-pub state_in-set : (states : List CopyState) (i c : ℕ) (v : CopyState) → i ≡ c → c < length states → state_in (set states i v) ≡ (λ x. cond (c == x) v (state_in states x))
+pub state_in-set : (states : List CopyState) (i c : ℕ) (v : CopyState) → i ≡ c → c < length states →
+    state_in (set states i v) ≡ (λ x. cond (c == x) v (state_in states x))
 state_in-set states i c v at l = λ j. λ x. each x j
   where
     each : (x : ℕ) → state_in (set states i v) x ≡ cond (c == x) v (state_in states x)
     each x = elim (cases_Bool (c == x)) [
       | inl b ↦ (let e : c ≡ x = eqb-true c x b in
-          rw b (ap (λ (u : ℕ). get_or (set states u v) x (Shelf 0)) (at ∙ e) ∙ get_or-set_same states x v (Shelf 0) (let lt : x < length states = omega arith in lt)))
+          rw b (ap (λ (u : ℕ). get_or (set states u v) x (Shelf 0)) (at ∙ e)
+          ∙ get_or-set_same states x v (Shelf 0) (let lt : x < length states = omega arith in lt)))
       | inr b ↦ rw b (get_or-set_other states i x v (Shelf 0) (λ e. let s : (c == x) ≡ true = eq-eqb c x (sym at ∙ sym e) in cc))
     ]
 
 -- a copy goes somewhere else
-pub known-put : (k : Facts) (f : ℕ → CopyState) (c : ℕ) (v : CopyState) → ((x : ℕ) → x < k.copies → IsKnownState k (f x)) → IsKnownState k v → (x : ℕ) → x < k.copies → IsKnownState k (cond (c == x) v (f x))
+pub known-put : (k : Facts) (f : ℕ → CopyState) (c : ℕ) (v : CopyState) → ((x : ℕ) → x < k.copies → IsKnownState k (f x)) →
+    IsKnownState k v → (x : ℕ) → x < k.copies → IsKnownState k (cond (c == x) v (f x))
 known-put k f c v all here x l = copy_cases (IsKnownState k) c x v (f x) (λ e. here) (λ other. all x l)
 
-pub welcome-at : (k : Facts) (f : ℕ → CopyState) (c : ℕ) (v : CopyState) → IsWelcome k f c v → (s : HoldPlace) → v ≡ OnHoldShelf s → Welcome k f c s
+pub welcome-at : (k : Facts) (f : ℕ → CopyState) (c : ℕ) (v : CopyState) → IsWelcome k f c v → (s : HoldPlace) → v ≡ OnHoldShelf s →
+    Welcome k f c s
 welcome-at k f c v welcome s is = alone (subst (IsWelcome k f c) is welcome)
   where
     alone : IsAlone k f c s → Welcome k f c s
@@ -49,16 +54,19 @@ welcome-at k f c v welcome s is = alone (subst (IsWelcome k f c) is welcome)
           let none : ⊥ = cc in none;
     }
 
-pub places-put : (k : Facts) (f : ℕ → CopyState) (c : ℕ) (v : CopyState) → PlacesFit k f → IsWelcome k f c v → PlacesFit k (λ x. cond (c == x) v (f x))
+pub places-put : (k : Facts) (f : ℕ → CopyState) (c : ℕ) (v : CopyState) → PlacesFit k f → IsWelcome k f c v →
+    PlacesFit k (λ x. cond (c == x) v (f x))
 places-put k f c v fit welcome = places_put k (record { copy = f; hold = λ t p. None }) c v fit (welcome-at k f c v welcome)
 
-pub states-put : (k : Facts) (states : List CopyState) (i c : ℕ) (v : CopyState) → AreStates k states → i ≡ c → c < k.copies → IsKnownState k v → IsWelcome k (state_in states) c v → AreStates k (set states i v)
+pub states-put : (k : Facts) (states : List CopyState) (i c : ℕ) (v : CopyState) → AreStates k states → i ≡ c → c < k.copies →
+    IsKnownState k v → IsWelcome k (state_in states) c v → AreStates k (set states i v)
 states-put k states i c v is at l known welcome =
     let there : c < length states = omega (arith, is.copies) in
     let e : (λ x. cond (c == x) v (state_in states x)) ≡ state_in (set states i v) = sym (state_in-set states i c v at there) in
     record {
       copies = length-set states i v ∙ is.copies;
-      known = subst (λ (f : ℕ → CopyState). (x : ℕ) → x < k.copies → IsKnownState k (f x)) e (known-put k (state_in states) c v is.known known);
+      known = subst (λ (f : ℕ → CopyState). (x : ℕ) → x < k.copies → IsKnownState k (f x)) e
+          (known-put k (state_in states) c v is.known known);
       places = subst (PlacesFit k) e (places-put k (state_in states) c v is.places welcome);
     }
 
@@ -73,7 +81,8 @@ pub home_past : (copies : List (List ℕ × CopyFacts)) (c : ℕ) → length cop
 home_past copies c l = rw (slice_get_past copies c l) refl
 
 -- each copy that there is, and no other one, stands where its home is
-pub standing-home : (k : Contents) (states : List CopyState) → AreAtHome (facts_of k) states → state_in states ≡ (λ c. Shelf ((facts_of k).home c))
+pub standing-home : (k : Contents) (states : List CopyState) → AreAtHome (facts_of k) states →
+    state_in states ≡ (λ c. Shelf ((facts_of k).home c))
 unfolding facts_of
 standing-home k states home = λ i. λ c. each c i
   where
@@ -111,7 +120,8 @@ found-home k states home = λ i. λ c. each c i
     each : (c : ℕ) → slice_get states c ≡ each_at_home k c
     each c = elim (cases_lt c k.copies) [
       | inl below ↦ (let lt : nat_lt c k.copies ≡ true = grind (arith, nat_tests) in
-          slice_get-get_or states c (Shelf 0) (omega (arith, home.copies)) ∙ ap (λ (s : CopyState). Some s) (home.home c below) ∙ sym (rw lt refl))
+          slice_get-get_or states c (Shelf 0) (omega (arith, home.copies)) ∙ ap (λ (s : CopyState). Some s) (home.home c below)
+          ∙ sym (rw lt refl))
       | inr above ↦ (let not_lt : nat_lt c k.copies ≡ false = nat_lt-not c k.copies above in
           slice_get_past states c (omega (arith, home.copies)) ∙ sym (rw not_lt refl))
     ]

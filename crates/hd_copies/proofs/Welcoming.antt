@@ -12,13 +12,15 @@ use Rattle.hd_copies.specs.Standing.{IsAlone, IsWelcome}
 use Rattle.hd_copies.proofs.Indexed.{held_at}
 
 -- no copy stands at the branch's least free place, so any is welcome there
-pub IsAlone-least : (k : Facts) (d : Desk) (c b p patron : ℕ) → p ≡ place k d b → IsAlone k d.copy c (record { branch = b; place = p; patron = patron })
+pub IsAlone-least : (k : Facts) (d : Desk) (c b p patron : ℕ) → p ≡ place k d b →
+    IsAlone k d.copy c (record { branch = b; place = p; patron = patron })
 IsAlone-least k d c b p patron e =
     let least : LeastFree k d b p = subst (LeastFree k d b) (sym e) (place_is_least k d b) in
     record { from_one = least.from_one; alone = λ x l other. least.free x l }
 
 -- where places are fit once the copy stands there, it is welcome there
-pub IsWelcome-fit : (k : Facts) (f : ℕ → CopyState) (c : ℕ) (v : CopyState) → c < k.copies → PlacesFit k (λ x. cond (c == x) v (f x)) → IsWelcome k f c v
+pub IsWelcome-fit : (k : Facts) (f : ℕ → CopyState) (c : ℕ) (v : CopyState) → c < k.copies → PlacesFit k (λ x. cond (c == x) v (f x)) →
+    IsWelcome k f c v
 IsWelcome-fit k f c (Shelf b) l fit = tt
 IsWelcome-fit k f c (OnLoan b) l fit = tt
 IsWelcome-fit k f c (InTransit b) l fit = tt

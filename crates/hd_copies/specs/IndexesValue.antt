@@ -16,11 +16,19 @@ pub record IndexesValue : Type 0 where
 
 -- counts are stored as the pair of their lists
 abbrev pub home_code : Coded Home
-home_code = code_by (ℕ × ℕ) (coded× coded_ℕ coded_ℕ) (λ h. (h.title, h.branch)) (λ p. record { title = p.0; branch = p.1 }) (λ _. refl)
+home_code =
+    code_by (ℕ × ℕ) (coded× coded_ℕ coded_ℕ) (λ h. (h.title, h.branch))
+    (λ p. record { title = p.0; branch = p.1 }) (λ _. refl)
 
 abbrev pub stock_code : Coded StockValue
-stock_code = code_by (List ℕ × List (Home × ℕ)) (coded× (coded_list coded_ℕ) (coded_list (coded× home_code coded_ℕ))) (λ s. (s.titles, s.homes)) (λ p. record { titles = p.0; homes = p.1 }) (λ _. refl)
+stock_code =
+    code_by (List ℕ × List (Home × ℕ)) (coded× (coded_list coded_ℕ) (coded_list (coded× home_code coded_ℕ)))
+    (λ s. (s.titles, s.homes)) (λ p. record { titles = p.0; homes = p.1 }) (λ _. refl)
 
 -- and indexes as the tuple of their fields
 abbrev pub indexes_code : Coded IndexesValue
-indexes_code = code_by (LoansValue × (TransitsValue × (List PlacesValue × StockValue))) (coded× loans_code (coded× transits_code (coded× (coded_list places_code) stock_code))) (λ x. (x.loans, (x.transits, (x.shelves, x.stock)))) (λ p. record { loans = p.0; transits = p.1.0; shelves = p.1.1.0; stock = p.1.1.1 }) (λ _. refl)
+indexes_code =
+    code_by (LoansValue × (TransitsValue × (List PlacesValue × StockValue)))
+    (coded× loans_code (coded× transits_code (coded× (coded_list places_code) stock_code)))
+    (λ x. (x.loans, (x.transits, (x.shelves, x.stock))))
+    (λ p. record { loans = p.0; transits = p.1.0; shelves = p.1.1.0; stock = p.1.1.1 }) (λ _. refl)

@@ -1,5 +1,6 @@
 -- What the indexes of copies say.
-use Rattle.std.specs.Prelude.{◌≡◌, ℕ, ◌<◌, Bool, true, false, ◌==◌, ◌&&◌, nat_lt, if◌then◌else◌, Option, None, Some, List, length, get_or, map}
+use Rattle.std.specs.Prelude.{◌≡◌, ℕ, ◌<◌, Bool, true, false, ◌==◌, ◌&&◌, nat_lt, if◌then◌else◌, Option, None}
+use Rattle.std.specs.Prelude.{Some, List, length, get_or, map}
 use Rattle.std.specs.FinMap as finmap
 use Rattle.hd_rules.specs.declared.holds.HoldKind.{HoldKind}
 use Rattle.hd_rules.specs.declared.holds.HoldKind.TheVariants.{Any, AtBranch}
@@ -82,7 +83,8 @@ rooms_in shelves = map (λ (s : PlacesValue). s.room) shelves
 pub record AreShelves (k : Facts) (copies : ℕ → Option CopyState) (shelves : List PlacesValue) : Type 0 where
   pub branches_in : length shelves ≡ k.branches
   pub stands : (b place c : ℕ) → copy_at shelves b place ≡ Some c → is_placed b place (copies c) ≡ true
-  pub found : (b place c : ℕ) → b < k.branches → is_placed b place (copies c) ≡ true → copy_at shelves b place ≡ Some c
+  pub found : (b place c : ℕ) → b < k.branches → is_placed b place (copies c) ≡ true →
+      copy_at shelves b place ≡ Some c
 
 -- the counts of the copies on open shelves, with an entry for each copy of the catalogue
 pub record IsStock (k : Facts) (copies : ℕ → Option CopyState) (stock : StockValue) : Type 0 where

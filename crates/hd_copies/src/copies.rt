@@ -6,11 +6,13 @@ ghost use Rattle.std.specs.Arc.{arc_value};
 ghost use Rattle.hd_rules.specs.declared.copies.CopyState.{CopyState};
 ghost use Rattle.hd_rules.specs.declared.copies.CopyState.TheVariants.{Shelf};
 ghost use Rattle.hd_rules.specs.Desk.{Desk};
+ghost use Rattle.hd_rules.specs.Facts.{AreInRange};
 ghost use Rattle.hd_rules.specs.Choose.{loans, on_shelf, place};
 ghost use Rattle.hd_rules.specs.Known.{IsKnownState};
 ghost use Rattle.hd_rules.specs.Sound.{PlacesFit};
 ghost use Rattle.hd_catalogue.specs.Contents.{facts_of};
-ghost use Rattle.hd_copies.specs.Standing.{AreAtHome, HasRoom, IsFromOne, IsWelcome, facts, standing, stands_ready};
+ghost use Rattle.hd_copies.specs.Standing.{AreAtHome, HasRoom, IsFromOne, IsWelcome, facts, standing};
+ghost use Rattle.hd_copies.specs.Standing.{stands_ready};
 
 use crate::indexes::Indexes;
 use hd_catalogue::Catalogue;
@@ -42,7 +44,11 @@ impl<A: Allocator> Model for Copies<A> {
 
     ghost Value = { CopiesValue };
 
-    ghost view = { λ c. record { contents = arc_value c.catalogue; states = c.states.items; rooms = rooms_in c.indexes.shelves } };
+    ghost view = { λ c. record {
+      contents = arc_value c.catalogue;
+      states = c.states.items;
+      rooms = rooms_in c.indexes.shelves;
+    } };
 
     ghost invariant = { λ c. AreKept (facts_of (arc_value c.catalogue)) c.states.items c.indexes };
 }
@@ -55,6 +61,7 @@ impl<A: Allocator + Copy> Copies<A> {
         ensures contents { IfOk result (λ made. made.contents ≡ arc_value catalogue) }
         ensures at_home { IfOk result
             (λ made. standing made ≡ (λ c. Shelf ((facts_of (arc_value catalogue)).home c))) }
+        ensures range { IfOk result (λ made. AreInRange (facts made)) }
     {
         catalogue.facts_are_in_range();
         let states = at_home(alloc, &catalogue)?;
@@ -73,19 +80,20 @@ impl<A: Allocator + Copy> Copies<A> {
         &self.catalogue
     }
 
-    /// Where the copy is.
+    /// Where the copy is. No two copies share a place of a hold shelf.
     pub fn get(&self, copy: CopyNo) -> CopyState
         requires { copy < (facts self.now).copies }
         ensures state { result ≡ standing self.now copy }
         ensures known { IsKnownState (facts self.now) result }
+        ensures places { PlacesFit (facts self.now) (standing self.now) }
     {
         self.states[copy.number() as usize]
     }
 
     /// Makes room for a copy to go there.
     ///
-    /// Answers `AllocError` where there is no memory for it, and then nothing is changed. It does so only for a place of a
-    /// hold shelf that has no room yet.
+    /// Answers `AllocError` where there is no memory for it, and then nothing is changed. It does so only for
+    /// a place of a hold shelf that has no room yet.
     pub fn ready(&mut self, new: &CopyState) -> Result<(), AllocError>
         requires known { IsKnownState (facts self.old) new.now }
         requires from_one { IsFromOne new.now }
@@ -125,7 +133,8 @@ impl<A: Allocator + Copy> Copies<A> {
         self.indexes.loans.count(patron)
     }
 
-    /// The least place, from 1, of the branch's hold shelf at which no copy stands (docs/desk-rules.md, "Place").
+    /// The least place, from 1, of the branch's hold shelf at which no copy stands (docs/desk-rules.md,
+    /// "Place").
     pub fn least_free(&self, branch: BranchNo) -> u32
         requires { branch < (facts self.now).branches }
         ensures { (d : Desk) → d.copy ≡ standing self.now → result ≡ place (facts self.now) d branch }
@@ -136,7 +145,8 @@ impl<A: Allocator + Copy> Copies<A> {
     /// How many copies of the title that a hold of this kind and pickup admits stand on open shelves.
     pub fn on_shelf(&self, title: TitleNo, kind: &HoldKind, pickup: BranchNo) -> u32
         requires { title < (facts self.now).titles }
-        ensures { (d : Desk) → d.copy ≡ standing self.now → result ≡ on_shelf (facts self.now) d title kind.now pickup }
+        ensures { (d : Desk) → d.copy ≡ standing self.now
+            → result ≡ on_shelf (facts self.now) d title kind.now pickup }
     {
         match *kind {
             HoldKind::Any => self.indexes.stock.of_title(title),
@@ -152,14 +162,6 @@ impl<A: Allocator + Copy> Copies<A> {
         (copy.number() as usize) < self.states.len()
             && self.catalogue.title_of(copy) == title
             && matches!(self.get(copy), CopyState::Shelf(_))
-    }
-
-    /// Shows that places are fit, and that all that states name is of the catalogue.
-    pub fn copies_are_fit(&self)
-        ensures places { PlacesFit (facts self.now) (standing self.now) }
-        ensures known { (c : ℕ) → c < (facts self.now).copies → IsKnownState (facts self.now) (standing self.now c) }
-    {
-        let _ = &self.states;
     }
 }
 

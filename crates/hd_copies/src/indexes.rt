@@ -1,5 +1,6 @@
 //! The indexes by which copies are found.
-ghost use Rattle.std.specs.Prelude.{◌≡◌, ◌≤◌, ℕ, ◌<◌, IfOk, OnOk, OnErr, Option, length, slice_get, slice_index};
+ghost use Rattle.std.specs.Prelude.{◌≡◌, ◌≤◌, ℕ, ◌<◌, IfOk, OnOk, OnErr, Option, length, slice_get};
+ghost use Rattle.std.specs.Prelude.{slice_index};
 ghost use Rattle.hd_rules.specs.declared.copies.CopyState.{CopyState};
 ghost use Rattle.hd_rules.specs.Facts.{Facts};
 ghost use Rattle.hd_rules.specs.Choose.{LeastFree};
@@ -36,13 +37,19 @@ impl<A: Allocator> Model for Indexes<A> {
 
     ghost coded = { indexes_code };
 
-    ghost view = { λ x. record { loans = x.loans; transits = x.transits; shelves = x.shelves.items; stock = x.stock } };
+    ghost view = { λ x. record {
+      loans = x.loans;
+      transits = x.transits;
+      shelves = x.shelves.items;
+      stock = x.stock;
+    } };
 }
 
 impl<A: Allocator + Copy> Indexes<A> {
     /// Each copy on the open shelf of its home.
     pub(crate) fn new(alloc: A, catalogue: &Catalogue<A>) -> Result<Indexes<A>, AllocError>
-        ensures { IfOk result (λ made. IsIndexed (facts_of catalogue.now) (each_at_home (facts_of catalogue.now)) made) }
+        ensures { IfOk result (λ made. IsIndexed (facts_of catalogue.now)
+            (each_at_home (facts_of catalogue.now)) made) }
     {
         catalogue.facts_are_in_range();
         let copies = catalogue.copies() as u32;
@@ -102,15 +109,18 @@ impl<A: Allocator + Copy> Indexes<A> {
 
     /// Makes room on the branch's hold shelf for this place and each lower one.
     ///
-    /// Answers `AllocError` where there is no memory for it, and then nothing is changed. It never does so for a place that has room.
+    /// Answers `AllocError` where there is no memory for it, and then nothing is changed. It never does so
+    /// for a place that has room.
     pub(crate) fn ready(&mut self, branch: BranchNo, place: u32) -> Result<(), AllocError>
         requires branch { branch < length self.old.shelves }
         requires from_one { 1 ≤ place }
-        ensures indexed { (k : Facts) (copies : ℕ → Option CopyState) → IsIndexed k copies self.old → IsIndexed k copies self.new }
+        ensures indexed { (k : Facts) (copies : ℕ → Option CopyState) → IsIndexed k copies self.old
+            → IsIndexed k copies self.new }
         ensures ok { OnOk result (place ≤ slice_index (rooms_in self.new.shelves) branch) }
         ensures err { OnErr result (self.new ≡ self.old) }
         ensures full { OnErr result (slice_index (rooms_in self.old.shelves) branch < place) }
-        ensures room { (b : ℕ) → slice_index (rooms_in self.old.shelves) b ≤ slice_index (rooms_in self.new.shelves) b }
+        ensures room { (b : ℕ) → slice_index (rooms_in self.old.shelves) b ≤ slice_index
+            (rooms_in self.new.shelves) b }
     {
         self.shelves[branch.number() as usize].ready(place)
     }
@@ -121,7 +131,8 @@ fn empty_shelves<A: Allocator + Copy>(
     alloc: A,
     catalogue: &Catalogue<A>,
 ) -> Result<Vec<Places<A>, A>, AllocError>
-    ensures { IfOk result (λ made. AreShelves (facts_of catalogue.now) (each_at_home (facts_of catalogue.now)) made.items) }
+    ensures { IfOk result (λ made. AreShelves (facts_of catalogue.now) (each_at_home (facts_of catalogue.now))
+        made.items) }
 {
     let branches = catalogue.branches();
     let mut shelves = Vec::with_capacity(alloc, branches)?;
@@ -136,7 +147,8 @@ fn full_stock<A: Allocator + Copy>(
     alloc: A,
     catalogue: &Catalogue<A>,
 ) -> Result<Stock<A>, AllocError>
-    ensures { IfOk result (λ made. IsStock (facts_of catalogue.now) (each_at_home (facts_of catalogue.now)) made) }
+    ensures { IfOk result (λ made. IsStock (facts_of catalogue.now) (each_at_home (facts_of catalogue.now))
+        made) }
 {
     catalogue.facts_are_in_range();
     let mut stock = Stock::new(alloc, catalogue.titles())?;

@@ -1,5 +1,6 @@
 -- The numbers of days.
-use Rattle.std.proofs.Common.{◌≡◌, ℕ, suc, zero, ◌+◌, ◌<◌, ◌≤◌, inl, inr, ⊎_elim, ℤ, pos, negsuc, neg_ℤ, unsigned_abs, ◌+ℤ◌, ◌<ℤ◌, ◌≤ℤ◌, refl, sym, ap, subst, ◌∙◌, arith, rules}
+use Rattle.std.proofs.Common.{◌≡◌, ℕ, suc, zero, ◌+◌, ◌<◌, ◌≤◌, inl, inr, ⊎_elim, ℤ, pos, negsuc, neg_ℤ, unsigned_abs, ◌+ℤ◌, ◌<ℤ◌, ◌≤ℤ◌}
+use Rattle.std.proofs.Common.{refl, sym, ap, subst, ◌∙◌, arith, rules}
 use Rattle.std.proofs.lemmas.Bool.{cases_lt}
 use Rattle.jiff_core.specs.Calendar.{IsCivilDate, day_count, days_from_civil, days_of_months, days_of_years}
 use Rattle.jiff_core.specs.Date.{epoch_day}
@@ -64,9 +65,11 @@ size_of (pos n) h = refl
 size_of (negsuc n) h = absurd (h (omega (arith, signed_arith)))
 
 -- a date is on the calendar on the day of its number
-pub shown : (d : Date) (number : ℕ) → epoch_day d +ℤ pos 4_371_587 ≡ pos (number + 3_652_059) → IsCalendarDay (unsigned_abs d.year) d.month d.day number
+pub shown : (d : Date) (number : ℕ) → epoch_day d +ℤ pos 4_371_587 ≡ pos (number + 3_652_059)
+    → IsCalendarDay (unsigned_abs d.year) d.month d.day number
 shown d number e =
-    let year : pos (unsigned_abs d.year) ≡ d.year = size_of d.year (λ early. let low = before_zero d early in omega (arith, signed_arith)) in
+    let year : pos (unsigned_abs d.year) ≡ d.year =
+    size_of d.year (λ early. let low = before_zero d early in omega (arith, signed_arith)) in
     let counted : epoch_day d ≡ days_from_civil (pos 0) 1 1 +ℤ pos number = omega (arith, signed_arith, day_zero) in
     record {
       real = subst (λ y. IsCivilDate y d.month d.day) (sym year) (civil d);
@@ -74,10 +77,13 @@ shown d number e =
     }
 
 -- the same of the date that was made from a year, a month and a day
-pub made : (d : Date) (year month day number : ℕ) → d.year ≡ pos year → d.month ≡ month → d.day ≡ day → epoch_day d +ℤ pos 4_371_587 ≡ pos (number + 3_652_059) → IsCalendarDay year month day number
+pub made : (d : Date) (year month day number : ℕ) → d.year ≡ pos year → d.month ≡ month → d.day ≡ day
+    → epoch_day d +ℤ pos 4_371_587 ≡ pos (number + 3_652_059) → IsCalendarDay year month day number
 made d year month day number y m k e =
     let size : unsigned_abs d.year ≡ year = ap unsigned_abs y in
-    subst (λ a. IsCalendarDay a month day number) size (subst (λ a. IsCalendarDay (unsigned_abs d.year) a day number) m (subst (λ a. IsCalendarDay (unsigned_abs d.year) d.month a number) k (shown d number e)))
+    subst (λ a. IsCalendarDay a month day number) size
+    (subst (λ a. IsCalendarDay (unsigned_abs d.year) a day number) m
+    (subst (λ a. IsCalendarDay (unsigned_abs d.year) d.month a number) k (shown d number e)))
 
 -- 9999-12-31 is 3,652,424 days after 0000-01-01
 pub last_day : days_from_civil (pos 9999) 12 31 ≡ days_from_civil (pos 0) 1 1 +ℤ pos 3_652_424

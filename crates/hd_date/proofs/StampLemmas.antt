@@ -1,5 +1,7 @@
 -- What is printed of a stamp is read as that stamp, and as nothing else.
-use Rattle.std.proofs.Common.{zero, suc, Result, Ok, Err, IfOk, IfErr, None, ◌≡◌, ℕ, ◌+◌, ◌*◌, ◌/◌, ◌%◌, ◌<◌, ⊎_elim, List, Some, All, ℤ, pos, ◌+ℤ◌, refl, sym, ap, subst, ◌∙◌, arith, [], ◌∷◌, ◌++◌, ◌≤◌, length, drop, replicate, slice_range, append_assoc, ◌-◌, Bool, true, false, drop-drop, codes, if◌then◌else◌}
+use Rattle.std.proofs.Common.{zero, suc, None, ◌≡◌, ℕ, ◌+◌, ◌*◌, ◌/◌, ◌%◌, ◌<◌, ⊎_elim, List, Some, All, ℤ}
+use Rattle.std.proofs.Common.{pos, ◌+ℤ◌, refl, sym, ap, subst, ◌∙◌, arith, [], ◌∷◌, ◌++◌, ◌≤◌, length, drop, replicate, slice_range}
+use Rattle.std.proofs.Common.{append_assoc, ◌-◌, Bool, true, false, drop-drop, codes, if◌then◌else◌}
 use Rattle.std.specs.Str.{bytes_eq}
 use Rattle.std.proofs.Math.ListN.{drop_of_length-le}
 use Rattle.std.proofs.lemmas.Bool.{cases_Bool}
@@ -12,7 +14,8 @@ use Rattle.jiff_core.specs.declared.civil.date.Date.{Date}
 use Rattle.jiff_core.proofs.DateLemmas.{epoch_day_injective}
 use Rattle.hd_date.specs.Days.{IsCalendarDay, IsPrinted, date_text, four_digits, two_digits}
 use Rattle.hd_date.specs.Faults.{IsFirstFault}
-use Rattle.hd_date.specs.Stamps.{IsDigit, IsFormed, IsInYears, IsLocal, IsMoment, IsStamp, Stamp, States, decimal, local_moment, minute_of_day, minutes, spelled, time_digits}
+use Rattle.hd_date.specs.Stamps.{IsDigit, IsFormed, IsInYears, IsLocal, IsMoment, IsStamp, Prints, Stamp, States}
+use Rattle.hd_date.specs.Stamps.{decimal, local_moment, minute_of_day, minutes, spelled, time_digits}
 use Rattle.hd_date.specs.declared.fault.DateFault.{DateFault}
 use Rattle.hd_date.specs.declared.fault.DateFault.TheVariants.{Length, Digits, Zone, Calendar, Range}
 use Rattle.hd_date.specs.declared.zone.Zone.{Zone as TheZone}
@@ -135,7 +138,8 @@ shows_printed text offset s moment p =
     let hours : decimal (two_digits (s.minute / 60)) ≡ s.minute / 60 = two_back (s.minute / 60) (omega arith) in
     let minutes_in : decimal (two_digits (s.minute % 60)) ≡ s.minute % 60 = two_back (s.minute % 60) (omega arith) in
     let seconds : decimal (two_digits s.second) ≡ s.second = two_back s.second (omega arith) in
-    let of_day : 60 * decimal (two_digits (s.minute / 60)) + decimal (two_digits (s.minute % 60)) ≡ s.minute = omega (arith, hours, minutes_in) in
+    let of_day : 60 * decimal (two_digits (s.minute / 60)) + decimal (two_digits (s.minute % 60)) ≡ s.minute =
+    omega (arith, hours, minutes_in) in
     subst (λ t. IsStamp t offset s) (sym p.spelled)
     record {
       zone = Local;
@@ -162,12 +166,6 @@ shows_printed text offset s moment p =
       second = sym seconds;
     }
 
--- a result that shows a moment, or else has a fault, is the moment that is shown
-pub is_shown : (text : List ℕ) (offset : ℤ) (s : Stamp) (r : Result Stamp DateFault) → IsMoment s → IsStamp text offset s →
-    IfOk r (IsStamp text offset) → IfErr r (IsFirstFault text offset) → r ≡ Ok s
-is_shown text offset s (Ok t) moment shown p q = ap Ok (same_stamp text offset t s p shown)
-is_shown text offset s (Err f) moment shown p q = absurd (no_fault text offset s f shown q)
-
 -- digits are those of the number that they write
 four_again : (xs : List ℕ) → length xs ≡ 4 → All IsDigit xs → four_digits (decimal xs) ≡ xs
 four_again [] h p = absurd (omega arith)
@@ -181,7 +179,8 @@ four_again (a ∷ b ∷ c ∷ d ∷ []) h p =
     let four : IsDigit d = p 3 0 (omega arith) in
     digits_of a b c d one two three four
   where
-    digits_of : (a b c d : ℕ) → IsDigit a → IsDigit b → IsDigit c → IsDigit d → four_digits (decimal (a ∷ b ∷ c ∷ d ∷ [])) ≡ a ∷ b ∷ c ∷ d ∷ []
+    digits_of : (a b c d : ℕ) → IsDigit a → IsDigit b → IsDigit c → IsDigit d
+        → four_digits (decimal (a ∷ b ∷ c ∷ d ∷ [])) ≡ a ∷ b ∷ c ∷ d ∷ []
     digits_of a b c d one two three four =
         let n = decimal (a ∷ b ∷ c ∷ d ∷ []) in
         let first : 48 + n / 1000 ≡ a = omega arith in
@@ -212,11 +211,22 @@ part i j text h =
     rw (← past) (take-append-drop (j - i) (drop i text))
 
 pub in_parts : (text : List ℕ) → length text ≡ 18 →
-    slice_range text 0 4 ++ (slice_range text 4 6 ++ (slice_range text 6 8 ++ (slice_range text 8 12 ++ (slice_range text 12 14 ++ (slice_range text 14 16 ++ slice_range text 16 18))))) ≡ text
+    slice_range text 0 4
+    ++ (slice_range text 4 6
+    ++ (slice_range text 6 8
+    ++ (slice_range text 8 12 ++ (slice_range text 12 14 ++ (slice_range text 14 16 ++ slice_range text 16 18))))) ≡ text
 in_parts text h =
     let all : slice_range text 16 18 ≡ drop 16 text =
-    sym (append-nil (slice_range text 16 18)) ∙ ap (λ end. slice_range text 16 18 ++ end) (sym (drop_of_length-le text {i = 18} (omega arith))) ∙ part 16 18 text (omega arith) in
-    rw (all, part 14 16 text (omega arith), part 12 14 text (omega arith), part 8 12 text (omega arith), part 6 8 text (omega arith), part 4 6 text (omega arith)) (part 0 4 text (omega arith))
+    sym (append-nil (slice_range text 16 18))
+    ∙ ap (λ end. slice_range text 16 18 ++ end) (sym (drop_of_length-le text {i = 18} (omega arith))) ∙ part 16 18 text (omega arith) in
+    rw (
+      all,
+      part 14 16 text (omega arith),
+      part 12 14 text (omega arith),
+      part 8 12 text (omega arith),
+      part 6 8 text (omega arith),
+      part 4 6 text (omega arith),
+    ) (part 0 4 text (omega arith))
 
 -- a number's year, month and day are one
 pub one_date : (y m d y₂ m₂ d₂ n : ℕ) → IsCalendarDay y m d n → IsCalendarDay y₂ m₂ d₂ n → (y ≡ y₂) × (m ≡ m₂) × (d ≡ d₂)
@@ -230,7 +240,8 @@ one_date y m d y₂ m₂ d₂ n p q =
 -- the blanks of local time
 blanks : (text : List ℕ) → IsLocal text → slice_range text 8 12 ≡ replicate 4 32
 blanks text h =
-    ⊎_elim (λ (yes : bytes_eq (slice_range text 8 12) (codes "    ") ≡ true). (bytes_eq-Decides (slice_range text 8 12) (codes "    ")).0 yes)
+    ⊎_elim (λ (yes : bytes_eq (slice_range text 8 12) (codes "    ") ≡ true).
+    (bytes_eq-Decides (slice_range text 8 12) (codes "    ")).0 yes)
     (λ (no : bytes_eq (slice_range text 8 12) (codes "    ") ≡ false).
     absurd (not_local (bytes_eq (slice_range text 8 12) (codes "   Z")) (rw no at h)))
     (cases_Bool (bytes_eq (slice_range text 8 12) (codes "    ")))
@@ -243,18 +254,21 @@ blanks text h =
 joined : List ℕ → List ℕ → List ℕ → List ℕ → List ℕ → List ℕ → List ℕ
 joined a b c d e f = a ++ b ++ c ++ replicate 4 32 ++ (d ++ e ++ f)
 
-joined_digits : (y m d h n s : ℕ) → joined (four_digits y) (two_digits m) (two_digits d) (two_digits h) (two_digits n) (two_digits s) ≡ date_text y m d (two_digits h ++ two_digits n ++ two_digits s)
+joined_digits : (y m d h n s : ℕ)
+    → joined (four_digits y) (two_digits m) (two_digits d) (two_digits h) (two_digits n) (two_digits s)
+    ≡ date_text y m d (two_digits h ++ two_digits n ++ two_digits s)
 unfolding joined
 joined_digits y m d h n s = refl
 
 joined_parts : (text : List ℕ) → length text ≡ 18 → IsLocal text →
-    joined (slice_range text 0 4) (slice_range text 4 6) (slice_range text 6 8) (slice_range text 12 14) (slice_range text 14 16) (slice_range text 16 18) ≡ text
+    joined (slice_range text 0 4) (slice_range text 4 6) (slice_range text 6 8) (slice_range text 12 14) (slice_range text 14 16)
+    (slice_range text 16 18) ≡ text
 unfolding joined
 joined_parts text size l = rw (← blanks text l) (simp append_assoc (in_parts text size))
 
--- what is printed of a stamp that a text in local time shows is that text
-pub same_text : (text printed : List ℕ) (offset : ℤ) (s : Stamp) → IsLocal text → IsStamp text offset s → IsPrinted s.day (time_digits s) printed → printed ≡ text
-same_text text printed offset s l p q =
+-- a text in local time is what is printed of a stamp that it shows
+pub own_print : (text : List ℕ) (offset : ℤ) (s : Stamp) → IsLocal text → IsStamp text offset s → Prints s text
+own_print text offset s l p =
     let n = spelled text in
     let zone : p.zone ≡ Local = same_some (sym p.states.formed.stated ∙ l) in
     let e : pos (minutes s.day s.minute) ≡ pos (minutes p.number (minute_of_day n)) +ℤ pos 0 =
@@ -263,7 +277,6 @@ same_text text printed offset s l p q =
     let of_day : minute_of_day n < 1440 = omega (arith, p.states.time) in
     let day : s.day ≡ p.number = minutes_day _ _ _ _ p.minute of_day e in
     let minute : s.minute ≡ minute_of_day n = minutes_minute _ _ _ _ p.minute of_day e in
-    let date = one_date _ _ _ _ _ _ p.number (subst (IsCalendarDay q.year q.month q.day) day q.shows) p.states.shows in
     let hour : s.minute / 60 ≡ n.hour = omega (arith, p.states.time) in
     let minutes_in : s.minute % 60 ≡ n.minute = omega (arith, p.states.time) in
     let d = p.states.formed.digits in
@@ -275,11 +288,25 @@ same_text text printed offset s l p q =
     let hours : two_digits n.hour ≡ slice_range text 12 14 = two_again _ (long 12 14 (omega arith) (omega arith)) d.hour in
     let of_hour : two_digits n.minute ≡ slice_range text 14 16 = two_again _ (long 14 16 (omega arith) (omega arith)) d.minute in
     let seconds : two_digits n.second ≡ slice_range text 16 18 = two_again _ (long 16 18 (omega arith) (omega arith)) d.second in
-    let numbers : date_text q.year q.month q.day (time_digits s) ≡ joined (four_digits n.year) (two_digits n.month) (two_digits n.day) (two_digits n.hour) (two_digits n.minute) (two_digits n.second) =
-    rw (date.0, date.1, date.2, hour, minutes_in, p.second) (sym (joined_digits n.year n.month n.day n.hour n.minute n.second)) in
-    let parts : joined (four_digits n.year) (two_digits n.month) (two_digits n.day) (two_digits n.hour) (two_digits n.minute) (two_digits n.second) ≡ text =
+    let numbers : date_text n.year n.month n.day (time_digits s)
+    ≡ joined (four_digits n.year) (two_digits n.month) (two_digits n.day) (two_digits n.hour) (two_digits n.minute) (two_digits n.second) =
+    rw (hour, minutes_in, p.second) (sym (joined_digits n.year n.month n.day n.hour n.minute n.second)) in
+    let parts : joined (four_digits n.year) (two_digits n.month) (two_digits n.day) (two_digits n.hour) (two_digits n.minute)
+    (two_digits n.second) ≡ text =
     rw (year, month, of_month, hours, of_hour, seconds) (joined_parts text size l) in
-    q.spelled ∙ numbers ∙ parts
+    record {
+      year = n.year;
+      month = n.month;
+      day = n.day;
+      shows = subst (IsCalendarDay n.year n.month n.day) (sym day) p.states.shows;
+      spelled = sym (numbers ∙ parts);
+    }
   where
     same_some : {A : Type 0} {a b : A} → Some a ≡ Some b → a ≡ b
     same_some e = cc
+
+-- a day is printed in one way
+pub printed_once : (number : ℕ) (time a b : List ℕ) → IsPrinted number time a → IsPrinted number time b → a ≡ b
+printed_once number time a b p q =
+    let date = one_date _ _ _ _ _ _ number p.shows q.shows in
+    p.spelled ∙ rw (date.0, date.1, date.2) (sym q.spelled)

@@ -1,4 +1,5 @@
--- Days, by the number of days from 1 January of the year 0. The calendar is that of `jiff`: the Gregorian one, in which the year 0 is a leap year.
+-- Days, by the number of days from 1 January of the year 0. The calendar is
+-- that of `jiff`: the Gregorian one, in which the year 0 is a leap year.
 use Rattle.std.specs.Prelude.{◌≡◌, ℕ, ◌+◌, ◌/◌, ◌%◌, List, [], ◌∷◌, ◌++◌, replicate, pos, ◌+ℤ◌}
 use Rattle.jiff_core.specs.Calendar.{IsCivilDate, days_from_civil}
 
@@ -6,7 +7,8 @@ use Rattle.jiff_core.specs.Calendar.{IsCivilDate, days_from_civil}
 abbrev pub end_of_days : ℕ
 end_of_days = 3_652_425
 
--- The day of this number is this day of the calendar: a real one, that many days after 1 January of the year 0.
+-- The day of this number is this day of the calendar: a
+-- real one, that many days after 1 January of the year 0.
 pub record IsCalendarDay (year month day number : ℕ) : Type 0 where
   pub real : IsCivilDate (pos year) month day
   pub counted : days_from_civil (pos year) month day ≡ days_from_civil (pos 0) 1 1 +ℤ pos number
@@ -21,7 +23,8 @@ four_digits n = (48 + n / 1000) ∷ (48 + n / 100 % 10) ∷ (48 + n / 10 % 10) �
 
 -- the text of a day of the calendar with a time of six digits, in local time: four blanks stand for its zone
 abbrev pub date_text : ℕ → ℕ → ℕ → List ℕ → List ℕ
-date_text year month day time = four_digits year ++ two_digits month ++ two_digits day ++ replicate 4 32 ++ time
+date_text year month day time =
+    four_digits year ++ two_digits month ++ two_digits day ++ replicate 4 32 ++ time
 
 -- The text is that of the day of a number with a time of six digits.
 pub record IsPrinted (number : ℕ) (time text : List ℕ) : Type 0 where

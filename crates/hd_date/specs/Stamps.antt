@@ -1,8 +1,9 @@
 -- Stamps: a day with a time of day, and the texts of 18 bytes that are read as one.
-use Rattle.std.specs.Prelude.{◌≡◌, ℕ, ◌+◌, ◌-◌, ◌*◌, ◌/◌, ◌%◌, ◌<◌, ◌≤◌, List, ◌++◌, Option, None, Some, All, codes, fold, length, slice_range, ℤ, pos, ◌+ℤ◌, ◌≤ℤ◌, ◌<ℤ◌, if◌then◌else◌}
+use Rattle.std.specs.Prelude.{◌≡◌, ℕ, ◌+◌, ◌-◌, ◌*◌, ◌/◌, ◌%◌, ◌<◌, ◌≤◌, List, ◌++◌, Option, None, Some, All}
+use Rattle.std.specs.Prelude.{codes, fold, length, slice_range, ℤ, pos, ◌+ℤ◌, ◌≤ℤ◌, ◌<ℤ◌, if◌then◌else◌}
 use Rattle.std.specs.Str.{bytes_eq}
 use Rattle.jiff_core.specs.Calendar.{IsCivilDate}
-use Rattle.hd_date.specs.Days.{IsCalendarDay, end_of_days, two_digits}
+use Rattle.hd_date.specs.Days.{IsCalendarDay, IsPrinted, end_of_days, two_digits}
 use Rattle.hd_date.specs.declared.numbers.Numbers.{Numbers}
 use Rattle.hd_date.specs.declared.zone.Zone.{Zone}
 use Rattle.hd_date.specs.declared.zone.Zone.TheVariants.{Local, Universal}
@@ -102,7 +103,8 @@ pub record IsStamp (text : List ℕ) (offset : ℤ) (stamp : Stamp) : Type 0 whe
   pub zone : Zone
   pub number : ℕ
   pub states : States text zone number
-  pub moment : pos (minutes stamp.day stamp.minute) ≡ local_moment number (minute_of_day (spelled text)) zone offset
+  pub moment : pos (minutes stamp.day stamp.minute)
+      ≡ local_moment number (minute_of_day (spelled text)) zone offset
   pub day : stamp.day < end_of_days
   pub minute : stamp.minute < 1440
   pub second : stamp.second ≡ (spelled text).second
@@ -122,4 +124,17 @@ pub record IsOutOfRange (text : List ℕ) (offset : ℤ) : Type 0 where
 
 -- the digits of a moment's time
 abbrev pub time_digits : Stamp → List ℕ
-time_digits stamp = two_digits (stamp.minute / 60) ++ two_digits (stamp.minute % 60) ++ two_digits stamp.second
+time_digits stamp =
+    two_digits (stamp.minute / 60) ++ two_digits (stamp.minute % 60) ++ two_digits stamp.second
+
+-- the text is what is printed of a stamp
+abbrev pub Prints : Stamp → List ℕ → Type 0
+Prints stamp text = IsPrinted stamp.day (time_digits stamp) text
+
+-- the text is in local form: it has the length of a stamp's text and states local time
+abbrev pub IsInLocalForm : List ℕ → Type 0
+IsInLocalForm text = (length text ≡ 18) × IsLocal text
+
+-- the text is what is printed of each stamp that it shows
+abbrev pub IsOwnPrint : List ℕ → Type 0
+IsOwnPrint text = (offset : ℤ) (stamp : Stamp) → IsStamp text offset stamp → Prints stamp text

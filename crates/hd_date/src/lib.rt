@@ -16,9 +16,9 @@ mod zone;
 
 pub use crate::day::Day;
 pub use crate::fault::DateFault;
-pub use crate::law::{days_are_dates, print_read, read_printed, texts_show_one_stamp};
+pub use crate::law::{days_are_dates, prints_show_their_stamp, texts_show_one_stamp};
 pub use crate::offset::OffsetMinutes;
-pub use crate::reading::read;
+pub use crate::reading::{local_text, read};
 pub use crate::stamp::Stamp18;
 
 #[cfg(test)]

@@ -11,7 +11,8 @@ const MINUTES_OF_A_DAY: u16 = 1440;
 /// The day and the minute of the day that lie `offset` minutes later, if the years 0000 to 9999 have it.
 pub(crate) fn shifted(day: Day, minute: u16, offset: i16) -> Option<(Day, u16)>
     requires minute { minute < 1440 }
-    ensures value { IfSome result (λ moved. pos (minutes moved.0 moved.1) ≡ pos (minutes day minute) +ℤ offset) }
+    ensures value { IfSome result
+        (λ moved. pos (minutes moved.0 moved.1) ≡ pos (minutes day minute) +ℤ offset) }
     ensures day { IfSome result (λ moved. moved.0 < end_of_days) }
     ensures minute { IfSome result (λ moved. moved.1 < 1440) }
     ensures none { IfNone result (¬ IsInYears (pos (minutes day minute) +ℤ offset)) }

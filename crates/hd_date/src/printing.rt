@@ -1,7 +1,7 @@
 //! Printing days and stamps.
 ghost use Rattle.std.specs.Prelude.{◌≡◌, ◌+◌, ◌/◌, ◌%◌, ◌<◌, ◌≤◌, ◌++◌, codes};
 ghost use Rattle.hd_date.specs.Days.{IsPrinted, date_text, two_digits};
-ghost use Rattle.hd_date.specs.Stamps.{IsMoment, time_digits};
+ghost use Rattle.hd_date.specs.Stamps.{IsMoment, Prints};
 
 use crate::calendar::date_of;
 use crate::day::Day;
@@ -10,7 +10,7 @@ use crate::stamp::Stamp18;
 impl Stamp18 {
     /// The stamp as it is printed, in local time: `YYYYMMDD    HHMMSS`.
     pub fn print(&self) -> [u8; 18]
-        ensures text { IsPrinted self.now.day (time_digits self.now) result }
+        ensures text { Prints self.now result }
         ensures in_range { IsMoment self.now }
     {
         let (year, month, day) = date_of(self.day());

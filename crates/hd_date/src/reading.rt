@@ -3,7 +3,8 @@ ghost use Rattle.std.specs.Prelude.{◌≡◌, ◌<◌, IfErr, IfNone, IfOk, IfS
 ghost use Rattle.std.specs.Option.{SomeIff};
 ghost use Rattle.hd_date.specs.Days.{IsCalendarDay};
 ghost use Rattle.hd_date.specs.Faults.{IsFirstFault};
-ghost use Rattle.hd_date.specs.Stamps.{HasDigits, IsDate, IsStamp, IsTime, minute_of_day, shift, spelled, zone_of};
+ghost use Rattle.hd_date.specs.Stamps.{HasDigits, IsDate, IsInLocalForm, IsOwnPrint, IsStamp, IsTime};
+ghost use Rattle.hd_date.specs.Stamps.{minute_of_day, shift, spelled, zone_of};
 
 use crate::calendar::day_of;
 use crate::day::Day;
@@ -41,6 +42,23 @@ pub fn read(text: &[u8], offset: OffsetMinutes) -> Result<Stamp18, DateFault>
         return Err(DateFault::Range);
     };
     Ok(Stamp18::new(day, minute, numbers.second))
+}
+
+/// The text itself where it is in local form: 18 bytes, with four blanks for the zone.
+///
+/// Where such a text shows a stamp, it is what is printed of the stamp (docs/protocol.md, "Dates").
+pub fn local_text(text: &[u8]) -> Option<&[u8; 18]>
+    ensures same { IfSome result (λ local. local.now ≡ text.now) }
+    ensures printed { IfSome result (λ local. IsOwnPrint local.now) }
+    ensures none { IfNone result (¬ IsInLocalForm text.now) }
+{
+    let Ok(text) = <&[u8; 18]>::try_from(text) else {
+        return None;
+    };
+    match zone(text) {
+        Some(Zone::Local) => Some(text),
+        _ => None,
+    }
 }
 
 /// The numbers of a text, if all but its zone are digits.

@@ -1,5 +1,5 @@
 //! Examples of dates.
-use crate::{DateFault, OffsetMinutes, Stamp18, read};
+use crate::{DateFault, OffsetMinutes, Stamp18, local_text, read};
 use std::test::Fail;
 
 /// What a text shows where local time is an hour later than universal time.
@@ -27,6 +27,14 @@ fn universal_time_is_made_local(rt: HostRuntime) -> Result<(), Fail> {
         b"20260323    235900".as_slice()
     );
     Ok(())
+}
+
+#[test]
+fn a_text_in_local_form_is_its_own_print(rt: HostRuntime) {
+    let text = b"20260301    100000";
+    assert!(rt; local_text(text) == Some(text));
+    assert!(rt; local_text(b"20260301   Z100000").is_none());
+    assert!(rt; local_text(b"20260301    1000000").is_none());
 }
 
 #[test]

@@ -29,7 +29,8 @@ otherwise_is k d e (Refuse r) = refl
 otherwise_is k d e (Accept done) = refl
 
 -- one more question
-pub findings_more : (k : Facts) (d : Desk) (qs : List Question) (q : Question) → findings k d (qs ++ q ∷ []) ≡ findings k d qs ++ record { question = q; noted = note k d q } ∷ []
+pub findings_more : (k : Facts) (d : Desk) (qs : List Question) (q : Question) →
+    findings k d (qs ++ q ∷ []) ≡ findings k d qs ++ record { question = q; noted = note k d q } ∷ []
 findings_more k d [] q = refl
 findings_more k d (x ∷ xs) q = ap (λ (fs : List Finding). record { question = x; noted = note k d x } ∷ fs) (findings_more k d xs q)
 
@@ -37,7 +38,8 @@ pub asked_more : (fs : List Finding) (f : Finding) → asked_of (fs ++ f ∷ [])
 asked_more [] f = refl
 asked_more (x ∷ xs) f = ap (λ (qs : List Question). x.question ∷ qs) (asked_more xs f)
 
-pub known_more : (k : Facts) (qs : List Question) (q : Question) → AreKnownQuestions k qs → IsKnownQuestion k q → AreKnownQuestions k (qs ++ q ∷ [])
+pub known_more : (k : Facts) (qs : List Question) (q : Question) → AreKnownQuestions k qs → IsKnownQuestion k q →
+    AreKnownQuestions k (qs ++ q ∷ [])
 known_more k [] q all is = (is, tt)
 known_more k (x ∷ xs) q all is = (all.0, known_more k xs q all.1 is)
 

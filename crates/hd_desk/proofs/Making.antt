@@ -1,5 +1,6 @@
 -- Making changes one after another.
-use Rattle.std.proofs.Common.{arith, ◌≡◌, refl, sym, ◌∙◌, ap, subst, ℕ, zero, suc, ◌+◌, ◌<◌, ◌≤◌, Bool, true, false, cond, not, List, [], ◌∷◌, ◌++◌, length, drop, take, get_or}
+use Rattle.std.proofs.Common.{arith, ◌≡◌, refl, sym, ◌∙◌, ap, subst, ℕ, zero, suc, ◌+◌, ◌<◌, ◌≤◌, Bool, true, false, cond, not, List, []}
+use Rattle.std.proofs.Common.{◌∷◌, ◌++◌, length, drop, take, get_or}
 use Rattle.std.proofs.lemmas.List.{drop_all, take_all, take_more}
 use Rattle.hd_rules.specs.declared.copies.CopyState.{CopyState}
 use Rattle.hd_rules.specs.declared.holds.Hold.{Hold}
@@ -26,17 +27,21 @@ use Rattle.hd_desk.specs.Cells.{AreKnown, HasRoomFor, HaveRoom, IsFromOneValue, 
 use Rattle.hd_desk.proofs.Writing.{copy-welcome, hold-welcome, drop_at}
 
 -- what a desk's cells ask of a write
-pub put-copy : (d : DeskValue) (cell : Cell) (v : Value) (c : ℕ) (s : CopyState) → cell ≡ CopyCell c → v ≡ CopyHas s → IsKnownCell (facts d) cell → IsFit (facts d) (put (desk_of d) cell v) → IsWelcome (facts d) (standing d.copies) c s
+pub put-copy : (d : DeskValue) (cell : Cell) (v : Value) (c : ℕ) (s : CopyState) → cell ≡ CopyCell c → v ≡ CopyHas s →
+    IsKnownCell (facts d) cell → IsFit (facts d) (put (desk_of d) cell v) → IsWelcome (facts d) (standing d.copies) c s
 unfolding desk_of
 put-copy d cell v c s is_cell is_value known fit =
     copy-welcome (facts d) (desk_of d) c s (subst (IsKnownCell (facts d)) is_cell known)
-    (subst (λ (w : Value). IsFit (facts d) (put (desk_of d) (CopyCell c) w)) is_value (subst (λ (x : Cell). IsFit (facts d) (put (desk_of d) x v)) is_cell fit))
+    (subst (λ (w : Value). IsFit (facts d) (put (desk_of d) (CopyCell c) w)) is_value
+    (subst (λ (x : Cell). IsFit (facts d) (put (desk_of d) x v)) is_cell fit))
 
-pub put-hold : (d : DeskValue) (cell : Cell) (v : Value) (t p : ℕ) (o : Option Hold) → cell ≡ HoldCell t p → v ≡ HoldHas o → IsFit (facts d) (put (desk_of d) cell v) → IsWelcomeHold (held d.holds) t p o
+pub put-hold : (d : DeskValue) (cell : Cell) (v : Value) (t p : ℕ) (o : Option Hold) → cell ≡ HoldCell t p → v ≡ HoldHas o →
+    IsFit (facts d) (put (desk_of d) cell v) → IsWelcomeHold (held d.holds) t p o
 unfolding desk_of
 put-hold d cell v t p o is_cell is_value fit =
     hold-welcome (facts d) (desk_of d) t p o
-    (subst (λ (w : Value). IsFit (facts d) (put (desk_of d) (HoldCell t p) w)) is_value (subst (λ (x : Cell). IsFit (facts d) (put (desk_of d) x v)) is_cell fit))
+    (subst (λ (w : Value). IsFit (facts d) (put (desk_of d) (HoldCell t p) w)) is_value
+    (subst (λ (x : Cell). IsFit (facts d) (put (desk_of d) x v)) is_cell fit))
 
 -- room for more is room for fewer
 room-less : (d : DeskValue) (x : Cell) (v : Value) (m n : ℕ) → m ≤ n → HasRoomFor d x v n → HasRoomFor d x v m
@@ -44,11 +49,13 @@ room-less d (CopyCell c) (CopyHas s) m n le room = room
 room-less d (CopyCell c) (HoldHas o) m n le room = tt
 room-less d (HoldCell t p) v m n le room = omega arith
 
-room-on : (d e : DeskValue) (m n : ℕ) (cs : List Change) → ((x : Cell) (v : Value) → HasRoomFor d x v m → HasRoomFor e x v n) → HaveRoom d m cs → HaveRoom e n cs
+room-on : (d e : DeskValue) (m n : ℕ) (cs : List Change) → ((x : Cell) (v : Value) → HasRoomFor d x v m → HasRoomFor e x v n) →
+    HaveRoom d m cs → HaveRoom e n cs
 room-on d e m n [] goes room = tt
 room-on d e m n (c ∷ cs) goes room = (goes c.cell c.new room.0, room-on d e m n cs goes room.1)
 
-room-more : (d : DeskValue) (n : ℕ) (cs : List Change) (c : Change) → HaveRoom d n cs → HasRoomFor d c.cell c.new n → HaveRoom d n (cs ++ c ∷ [])
+room-more : (d : DeskValue) (n : ℕ) (cs : List Change) (c : Change) → HaveRoom d n cs → HasRoomFor d c.cell c.new n →
+    HaveRoom d n (cs ++ c ∷ [])
 room-more d n [] c room one = (one, tt)
 room-more d n (x ∷ xs) c room one = (room.0, room-more d n xs c room.1 one)
 
@@ -61,7 +68,8 @@ pub record Making (d : DeskValue) (m : Counts) (cs : List Change) (i : ℕ) (now
   pub fit : EachOnIsFit (facts d) (drop i cs) (desk_of now)
   pub counted : written (length (drop i cs)) meter ≡ written (length cs) m
 
-pub making-start : (d : DeskValue) (m : Counts) (cs : List Change) → AreKnown (facts d) cs → HaveRoom d (length cs) cs → EachOnIsFit (facts d) cs (desk_of d) → Making d m cs 0 d m
+pub making-start : (d : DeskValue) (m : Counts) (cs : List Change) → AreKnown (facts d) cs → HaveRoom d (length cs) cs →
+    EachOnIsFit (facts d) cs (desk_of d) → Making d m cs 0 d m
 making-start d m cs known room fit = record { rest = refl; same = refl; known = known; room = room; fit = fit; counted = refl }
 
 -- the next change can be made
@@ -72,12 +80,15 @@ pub record Next (now : DeskValue) (c : Change) : Type 0 where
   pub room : HasRoomFor now c.cell c.new 1
   pub fit : IsFit (facts now) (put (desk_of now) c.cell c.new)
 
-pub making-next : (d : DeskValue) (m : Counts) (cs : List Change) (i : ℕ) (now : DeskValue) (meter : Counts) (c : Change) → Making d m cs i now meter → i < length cs → c ≡ get_or cs i c → Next now c
+pub making-next : (d : DeskValue) (m : Counts) (cs : List Change) (i : ℕ) (now : DeskValue) (meter : Counts) (c : Change) →
+    Making d m cs i now meter → i < length cs → c ≡ get_or cs i c → Next now c
 making-next d m cs i now meter c making below is =
     let at : drop i cs ≡ c ∷ drop (i + 1) cs = drop_at cs i c below is in
     let known : AreKnown (facts d) (c ∷ drop (i + 1) cs) = subst (AreKnown (facts d)) at making.known in
-    let room : HaveRoom now (length (c ∷ drop (i + 1) cs)) (c ∷ drop (i + 1) cs) = subst (λ (xs : List Change). HaveRoom now (length xs) xs) at making.room in
-    let fit : EachOnIsFit (facts d) (c ∷ drop (i + 1) cs) (desk_of now) = subst (λ (xs : List Change). EachOnIsFit (facts d) xs (desk_of now)) at making.fit in
+    let room : HaveRoom now (length (c ∷ drop (i + 1) cs)) (c ∷ drop (i + 1) cs) =
+    subst (λ (xs : List Change). HaveRoom now (length xs) xs) at making.room in
+    let fit : EachOnIsFit (facts d) (c ∷ drop (i + 1) cs) (desk_of now) =
+    subst (λ (xs : List Change). EachOnIsFit (facts d) xs (desk_of now)) at making.fit in
     let k : facts d ≡ facts now = ap facts_of (sym making.same) in
     record {
       cell = subst (λ (x : Facts). IsKnownCell x c.cell) k known.0;
@@ -87,19 +98,24 @@ making-next d m cs i now meter c making below is =
       fit = subst (λ (x : Facts). IsFit x (put (desk_of now) c.cell c.new)) k fit.0;
     }
 
-pub making-on : (d : DeskValue) (m : Counts) (cs : List Change) (i : ℕ) (now : DeskValue) (meter : Counts) (c : Change) (next : DeskValue) (raised : Counts) → Making d m cs i now meter → i < length cs → c ≡ get_or cs i c → desk_of next ≡ put (desk_of now) c.cell c.new → contents next ≡ contents now → ((x : Cell) (v : Value) (n : ℕ) → HasRoomFor now x v (n + 1) → HasRoomFor next x v n) → raised ≡ add meter Written → Making d m cs (i + 1) next raised
+pub making-on : (d : DeskValue) (m : Counts) (cs : List Change) (i : ℕ) (now : DeskValue) (meter : Counts) (c : Change) (next : DeskValue)
+    (raised : Counts) → Making d m cs i now meter → i < length cs → c ≡ get_or cs i c → desk_of next ≡ put (desk_of now) c.cell c.new →
+    contents next ≡ contents now → ((x : Cell) (v : Value) (n : ℕ) → HasRoomFor now x v (n + 1) → HasRoomFor next x v n) →
+    raised ≡ add meter Written → Making d m cs (i + 1) next raised
 making-on d m cs i now meter c next raised making below is desk same room_on counts =
     let rest : List Change = drop (i + 1) cs in
     let at : drop i cs ≡ c ∷ rest = drop_at cs i c below is in
     let known : AreKnown (facts d) (c ∷ rest) = subst (AreKnown (facts d)) at making.known in
     let room : HaveRoom now (length (c ∷ rest)) (c ∷ rest) = subst (λ (xs : List Change). HaveRoom now (length xs) xs) at making.room in
-    let fit : EachOnIsFit (facts d) (c ∷ rest) (desk_of now) = subst (λ (xs : List Change). EachOnIsFit (facts d) xs (desk_of now)) at making.fit in
+    let fit : EachOnIsFit (facts d) (c ∷ rest) (desk_of now) =
+    subst (λ (xs : List Change). EachOnIsFit (facts d) xs (desk_of now)) at making.fit in
     let more : length (c ∷ rest) ≡ length rest + 1 = omega arith in
     record {
       rest = ap (after rest) desk ∙ ap (λ (xs : List Change). after xs (desk_of now)) (sym at) ∙ making.rest;
       same = same ∙ making.same;
       known = known.4;
-      room = room-on now next (length rest + 1) (length rest) rest (λ x v. room_on x v (length rest)) (subst (λ (n : ℕ). HaveRoom now n rest) more room.1);
+      room = room-on now next (length rest + 1) (length rest) rest (λ x v. room_on x v (length rest))
+          (subst (λ (n : ℕ). HaveRoom now n rest) more room.1);
       fit = subst (EachOnIsFit (facts d) rest) (sym desk) fit.1;
       counted = ap (written (length rest)) counts ∙ ap (λ (xs : List Change). written (length xs) meter) (sym at) ∙ making.counted;
     }
@@ -109,7 +125,8 @@ pub record Made (d : DeskValue) (m : Counts) (cs : List Change) (now : DeskValue
   pub same : contents now ≡ contents d
   pub counted : meter ≡ written (length cs) m
 
-pub making-end : (d : DeskValue) (m : Counts) (cs : List Change) (i : ℕ) (now : DeskValue) (meter : Counts) → Making d m cs i now meter → length cs ≤ i → Made d m cs now meter
+pub making-end : (d : DeskValue) (m : Counts) (cs : List Change) (i : ℕ) (now : DeskValue) (meter : Counts) → Making d m cs i now meter →
+    length cs ≤ i → Made d m cs now meter
 making-end d m cs i now meter making past =
     let none : drop i cs ≡ [] = drop_all i cs past in
     record {
@@ -133,12 +150,16 @@ pub record NextRoom (now : DeskValue) (c : Change) : Type 0 where
   pub known : IsKnownValue (facts now) c.new
   pub from_one : IsFromOneValue c.new
 
-pub readying-next : (d : DeskValue) (cs : List Change) (i : ℕ) (now : DeskValue) (c : Change) → Readying d cs i now → i < length cs → c ≡ get_or cs i c → NextRoom now c
+pub readying-next : (d : DeskValue) (cs : List Change) (i : ℕ) (now : DeskValue) (c : Change) → Readying d cs i now → i < length cs →
+    c ≡ get_or cs i c → NextRoom now c
 readying-next d cs i now c readying below is =
     let known : AreKnown (facts now) (c ∷ drop (i + 1) cs) = subst (AreKnown (facts now)) (drop_at cs i c below is) readying.known in
     record { cell = known.0; known = known.1; from_one = known.3 }
 
-pub readying-on : (d : DeskValue) (cs : List Change) (i : ℕ) (now : DeskValue) (c : Change) (next : DeskValue) → Readying d cs i now → i < length cs → c ≡ get_or cs i c → desk_of next ≡ desk_of now → contents next ≡ contents now → ((x : Cell) (v : Value) (n : ℕ) → HasRoomFor now x v n → HasRoomFor next x v n) → HasRoomFor next c.cell c.new (length cs) → Readying d cs (i + 1) next
+pub readying-on : (d : DeskValue) (cs : List Change) (i : ℕ) (now : DeskValue) (c : Change) (next : DeskValue) → Readying d cs i now →
+    i < length cs → c ≡ get_or cs i c → desk_of next ≡ desk_of now → contents next ≡ contents now →
+    ((x : Cell) (v : Value) (n : ℕ) → HasRoomFor now x v n → HasRoomFor next x v n) → HasRoomFor next c.cell c.new (length cs) →
+    Readying d cs (i + 1) next
 readying-on d cs i now c next readying below is desk same room_on one =
     let known : AreKnown (facts now) (c ∷ drop (i + 1) cs) = subst (AreKnown (facts now)) (drop_at cs i c below is) readying.known in
     let more : take (i + 1) cs ≡ take i cs ++ c ∷ [] = take_more cs i c below ∙ ap (λ (x : Change). take i cs ++ x ∷ []) (sym is) in
@@ -147,10 +168,12 @@ readying-on d cs i now c next readying below is desk same room_on one =
       same = same ∙ readying.same;
       known = subst (λ (x : Contents). AreKnown (facts_of x) (drop (i + 1) cs)) (sym same) known.4;
       room = subst (HaveRoom next (length cs)) (sym more)
-          (room-more next (length cs) (take i cs) c (room-on now next (length cs) (length cs) (take i cs) (λ x v. room_on x v (length cs)) readying.room) one);
+          (room-more next (length cs) (take i cs) c
+          (room-on now next (length cs) (length cs) (take i cs) (λ x v. room_on x v (length cs)) readying.room) one);
     }
 
-pub readying-end : (d : DeskValue) (cs : List Change) (i : ℕ) (now : DeskValue) → Readying d cs i now → length cs ≤ i → HaveRoom now (length cs) cs
+pub readying-end : (d : DeskValue) (cs : List Change) (i : ℕ) (now : DeskValue) → Readying d cs i now → length cs ≤ i →
+    HaveRoom now (length cs) cs
 readying-end d cs i now readying past = subst (HaveRoom now (length cs)) (take_all i cs past) readying.room
 
 -- the real ones among changes, with one more
@@ -158,7 +181,8 @@ first-same : (b : Bool) (x : Change) (xs ys : List Change) → xs ≡ ys → con
 first-same true x xs ys is = ap (λ (zs : List Change). x ∷ zs) is
 first-same false x xs ys is = is
 
-first-other : (b : Bool) (x : Change) (xs ys : List Change) (c : Change) → xs ≡ ys ++ c ∷ [] → cond b (x ∷ xs) xs ≡ cond b (x ∷ ys) ys ++ c ∷ []
+first-other : (b : Bool) (x : Change) (xs ys : List Change) (c : Change) → xs ≡ ys ++ c ∷ [] →
+    cond b (x ∷ xs) xs ≡ cond b (x ∷ ys) ys ++ c ∷ []
 first-other true x xs ys c is = ap (λ (zs : List Change). x ∷ zs) is
 first-other false x xs ys c is = is
 
@@ -170,7 +194,8 @@ real-same (x ∷ xs) c is = first-same (not (same_value x.old x.new)) x (real_ch
 pub real-other : (cs : List Change) (c : Change) → same_value c.old c.new ≡ false → real_changes (cs ++ c ∷ []) ≡ real_changes cs ++ c ∷ []
 unfolding real_changes
 real-other [] c is = rw is refl
-real-other (x ∷ xs) c is = first-other (not (same_value x.old x.new)) x (real_changes (xs ++ c ∷ [])) (real_changes xs) c (real-other xs c is)
+real-other (x ∷ xs) c is =
+    first-other (not (same_value x.old x.new)) x (real_changes (xs ++ c ∷ [])) (real_changes xs) c (real-other xs c is)
 
 -- How far the real changes were picked out.
 pub record Picked (cs : List Change) (i : ℕ) (real : List Change) : Type 0 where
@@ -188,12 +213,14 @@ one_longer : (xs : List Change) (x : Change) → length (xs ++ x ∷ []) ≡ len
 one_longer [] x = refl
 one_longer (y ∷ ys) x = omega (arith, one_longer ys x)
 
-pub picked-one : (cs : List Change) (i : ℕ) (real new : List Change) (c : Change) (r : Bool) → Picked cs i real → i < length cs → c ≡ get_or cs i c → r ≡ not (same_value c.old c.new) → r ≡ true → new ≡ real ++ c ∷ [] → Picked cs (i + 1) new
+pub picked-one : (cs : List Change) (i : ℕ) (real new : List Change) (c : Change) (r : Bool) → Picked cs i real → i < length cs →
+    c ≡ get_or cs i c → r ≡ not (same_value c.old c.new) → r ≡ true → new ≡ real ++ c ∷ [] → Picked cs (i + 1) new
 picked-one cs i real new c r picked below is test on goes =
     let other : same_value c.old c.new ≡ false = not_true (same_value c.old c.new) (sym on ∙ test) in
     let more : length (real ++ c ∷ []) ≡ length real + 1 = one_longer real c in
     record {
-      are = goes ∙ ap (λ (xs : List Change). xs ++ c ∷ []) picked.are ∙ sym (real-other (take i cs) c other) ∙ ap real_changes (sym (take_at cs i c below is));
+      are = goes ∙ ap (λ (xs : List Change). xs ++ c ∷ []) picked.are ∙ sym (real-other (take i cs) c other)
+          ∙ ap real_changes (sym (take_at cs i c below is));
       few = rw goes (omega (arith, more, picked.few));
     }
   where
@@ -201,7 +228,8 @@ picked-one cs i real new c r picked below is test on goes =
     not_true true is = cc
     not_true false is = refl
 
-pub picked-none : (cs : List Change) (i : ℕ) (real new : List Change) (c : Change) (r : Bool) → Picked cs i real → i < length cs → c ≡ get_or cs i c → r ≡ not (same_value c.old c.new) → r ≡ false → new ≡ real → Picked cs (i + 1) new
+pub picked-none : (cs : List Change) (i : ℕ) (real new : List Change) (c : Change) (r : Bool) → Picked cs i real → i < length cs →
+    c ≡ get_or cs i c → r ≡ not (same_value c.old c.new) → r ≡ false → new ≡ real → Picked cs (i + 1) new
 picked-none cs i real new c r picked below is test off goes =
     let same : same_value c.old c.new ≡ true = not_false (same_value c.old c.new) (sym off ∙ test) in
     record {

@@ -1,6 +1,7 @@
 -- A command at a desk, from its questions to its changes.
 use Rattle.std.proofs.lemmas.List.{drop_all}
-use Rattle.std.proofs.Common.{arith, drop, add-one, drop-cons, Bool, true, false, cond, not, ◌≡◌, refl, sym, ◌∙◌, ap, subst, ℕ, ◌+◌, ◌<◌, ◌≤◌, Bor, Option, Some, None, is_some, IfSome, List, [], ◌∷◌, ◌++◌, Result, Ok, length, get_or, zero, suc}
+use Rattle.std.proofs.Common.{arith, drop, add-one, drop-cons, Bool, true, false, cond, not, ◌≡◌, refl, sym, ◌∙◌, ap, subst, ℕ, ◌+◌, ◌<◌}
+use Rattle.std.proofs.Common.{◌≤◌, Bor, Option, Some, None, is_some, IfSome, List, [], ◌∷◌, ◌++◌, Result, Ok, length, get_or, zero, suc}
 use Rattle.std.specs.Option.{option_copied}
 use Rattle.hd_rules.specs.declared.holds.Hold.{Hold}
 use Rattle.hd_rules.specs.declared.copies.CopyState.{CopyState}
@@ -22,8 +23,8 @@ use Rattle.hd_rules.specs.Sound.{Sound, EachOnIsFit}
 use Rattle.hd_rules.specs.Step.{plan}
 use Rattle.hd_rules.proofs.Familiar.{known_done}
 use Rattle.hd_rules.proofs.Onward.{on_through_fit, sound_after}
-use Rattle.hd_rules.proofs.Reach.{later_sound}
-use Rattle.hd_catalogue.specs.Contents.{facts_of}
+use Rattle.hd_desk.proofs.Kept.{sound-later}
+use Rattle.hd_catalogue.specs.Contents.{Contents, facts_of}
 use Rattle.hd_queue.specs.Holds.{hold_of}
 use Rattle.hd_copies.specs.CopiesValue.{CopiesValue}
 use Rattle.hd_copies.specs.Standing.{standing}
@@ -40,7 +41,7 @@ use Rattle.hd_rules.specs.Same.{same_answer}
 use Rattle.hd_desk.specs.Asking.{InquiryValue, ending, ending_of, asked_of, some_otherwise, AreKnownQuestions}
 use Rattle.hd_desk.specs.Cells.{AreKnown}
 use Rattle.hd_desk.specs.DeskValue.{DeskValue}
-use Rattle.hd_desk.specs.Desks.{contents, desk_of, facts}
+use Rattle.hd_desk.specs.Desks.{IsKept, contents, desk_of, facts}
 use Rattle.hd_desk.proofs.Following.{ending_is, otherwise_is, findings_more, asked_more, asked_findings, known_more}
 use Rattle.hd_desk.proofs.Writing.{are-known}
 
@@ -49,44 +50,66 @@ pub record Followed (k : Facts) (d : Desk) (p : Plan) (r : Result Done Refusal) 
   pub outcome : r ≡ outcome k d p
   pub asks : asked ≡ asks k d p
 
-pub followed : (d : DeskValue) (n : ℕ) (command : Command) (q : InquiryValue) (r : Result Done Refusal) (asked : List Question) → q ≡ record { desk = d; asked = [] } → (r, asked) ≡ ending_of q (plan (facts q.desk) n command) → Followed (facts d) (desk_of d) (plan (facts d) n command) r asked
+pub followed : (d : DeskValue) (n : ℕ) (command : Command) (q : InquiryValue) (r : Result Done Refusal) (asked : List Question) →
+    q ≡ record { desk = d; asked = [] } → (r, asked) ≡ ending_of q (plan (facts q.desk) n command) →
+    Followed (facts d) (desk_of d) (plan (facts d) n command) r asked
 followed d n command q r asked start ends =
     let p : Plan = plan (facts d) n command in
     let all : (r, asked) ≡ (outcome (facts d) (desk_of d) p, asks (facts d) (desk_of d) p) =
     ends ∙ ap (λ (x : InquiryValue). ending_of x (plan (facts x.desk) n command)) start ∙ ending_is (facts d) (desk_of d) p [] in
-    record { outcome = ap (λ (x : Result Done Refusal × List Question). x.0) all; asks = ap (λ (x : Result Done Refusal × List Question). x.1) all }
+    record {
+      outcome = ap (λ (x : Result Done Refusal × List Question). x.0) all;
+      asks = ap (λ (x : Result Done Refusal × List Question). x.1) all;
+    }
 
 -- what was found on the way
-pub found-so : (d : DeskValue) (q new : InquiryValue) (fs : List Finding) (asked : List Question) → q ≡ record { desk = d; asked = [] } → new.desk ≡ q.desk → fs ≡ findings (facts new.desk) (desk_of new.desk) new.asked → new.asked ≡ asked → fs ≡ findings (facts d) (desk_of d) asked
+pub found-so : (d : DeskValue) (q new : InquiryValue) (fs : List Finding) (asked : List Question) → q ≡ record { desk = d; asked = [] } →
+    new.desk ≡ q.desk → fs ≡ findings (facts new.desk) (desk_of new.desk) new.asked → new.asked ≡ asked →
+    fs ≡ findings (facts d) (desk_of d) asked
 found-so d q new fs asked start same found as_asked =
     let here : new.desk ≡ d = same ∙ ap (λ (x : InquiryValue). x.desk) start in
     found ∙ (λ i. findings (facts (here i)) (desk_of (here i)) (as_asked i))
 
 -- one more finding is kept
-pub keep-more : (k : Facts) (d : Desk) (fs : List Finding) (q : Question) (n : Noted) (new : List Finding) → new ≡ fs ++ record { question = q; noted = n } ∷ [] → fs ≡ findings k d (asked_of fs) → AreKnownQuestions k (asked_of fs) → IsKnownQuestion k q → n ≡ note k d q → (new ≡ findings k d (asked_of new)) × AreKnownQuestions k (asked_of new)
+pub keep-more : (k : Facts) (d : Desk) (fs : List Finding) (q : Question) (n : Noted) (new : List Finding) →
+    new ≡ fs ++ record { question = q; noted = n } ∷ [] → fs ≡ findings k d (asked_of fs) → AreKnownQuestions k (asked_of fs) →
+    IsKnownQuestion k q → n ≡ note k d q → (new ≡ findings k d (asked_of new)) × AreKnownQuestions k (asked_of new)
 keep-more k d fs q n new goes are known is noted =
     let asked : asked_of new ≡ asked_of fs ++ q ∷ [] = ap asked_of goes ∙ asked_more fs (record { question = q; noted = n }) in (
-      goes ∙ (λ i. are i ++ record { question = q; noted = noted i } ∷ []) ∙ sym (findings_more k d (asked_of fs) q) ∙ ap (findings k d) (sym asked),
+      goes ∙ (λ i. are i ++ record { question = q; noted = noted i } ∷ []) ∙ sym (findings_more k d (asked_of fs) q)
+          ∙ ap (findings k d) (sym asked),
       subst (AreKnownQuestions k) (sym asked) (known_more k (asked_of fs) q known is),
     )
 
 -- the question of a finding
-pub known-at : (k : Facts) (fs : List Finding) (i : ℕ) (f : Finding) → AreKnownQuestions k (asked_of fs) → i < length fs → f ≡ get_or fs i f → IsKnownQuestion k f.question
+pub known-at : (k : Facts) (fs : List Finding) (i : ℕ) (f : Finding) → AreKnownQuestions k (asked_of fs) → i < length fs →
+    f ≡ get_or fs i f → IsKnownQuestion k f.question
 known-at k [] i f all below is = absurd (omega arith)
 known-at k (x ∷ xs) zero f all below is = subst (λ (y : Finding). IsKnownQuestion k y.question) (sym is) all.0
 known-at k (x ∷ xs) (suc i) f all below is = known-at k xs i f all.1 (omega arith) is
 
 -- the opening desk
-pub desk-opening : (copies : CopiesValue) (holds : HoldsValue) (k : Facts) → standing copies ≡ (λ c. Shelf (k.home c)) → held holds ≡ (λ t p. None) → desk_of (record { copies = copies; holds = holds }) ≡ opening k
+pub desk-opening : (copies : CopiesValue) (holds : HoldsValue) (k : Facts) → standing copies ≡ (λ c. Shelf (k.home c)) →
+    held holds ≡ (λ t p. None) → desk_of (record { copies = copies; holds = holds }) ≡ opening k
 unfolding desk_of
 desk-opening copies holds k at_home none = λ i. record { copy = at_home i; hold = none i }
+
+-- and what stays true of it
+pub desk-opened : (copies : CopiesValue) (holds : HoldsValue) (x : Contents) → copies.contents ≡ x →
+    standing copies ≡ (λ c. Shelf ((facts_of x).home c)) → held holds ≡ (λ t p. None) →
+    desk_of (record { copies = copies; holds = holds }) ≡ opening (facts_of copies.contents)
+desk-opened copies holds x same at_home none =
+    desk-opening copies holds (facts_of copies.contents)
+    (at_home ∙ ap (λ (y : Contents). λ n. Shelf ((facts_of y).home n)) (sym same)) none
 
 all-of-patrons : (n : ℕ) (hs : List Hold) → AreOfPatrons n hs → AreAllOfPatrons n hs
 all-of-patrons n [] all = tt
 all-of-patrons n (h ∷ hs) all = (all.0, all-of-patrons n hs all.1)
 
 -- a queue as the one of a copy's title
-pub is-at : (d : DeskValue) (h : HoldsValue) (holds : List Hold) (copy : CopyFacts) (t : ℕ) → h ≡ d.holds → h.contents ≡ d.copies.contents → t ≡ (facts d).title_of copy.copy → copy.home ≡ (facts d).home copy.copy → copy.priority ≡ (facts d).priority t → ((p : ℕ) → held h t p ≡ hold_of holds p) → AreOfPatrons (facts_of h.contents).patrons holds → IsAt (facts d) (desk_of d) holds copy
+pub is-at : (d : DeskValue) (h : HoldsValue) (holds : List Hold) (copy : CopyFacts) (t : ℕ) → h ≡ d.holds → h.contents ≡ d.copies.contents →
+    t ≡ (facts d).title_of copy.copy → copy.home ≡ (facts d).home copy.copy → copy.priority ≡ (facts d).priority t →
+    ((p : ℕ) → held h t p ≡ hold_of holds p) → AreOfPatrons (facts_of h.contents).patrons holds → IsAt (facts d) (desk_of d) holds copy
 unfolding desk_of
 is-at d h holds copy t same contents title home priority each patrons = record {
   home = sym home;
@@ -96,7 +119,8 @@ is-at d h holds copy t same contents title home priority each patrons = record {
 }
 
 -- what was chosen names things of the catalogue
-pub chosen-known : (k : Facts) (holds : List Hold) (r : Option (Bor Hold)) (o : Option Hold) → o ≡ option_copied r → IfSome r (λ h. Waits holds h.now) → AreKnownHolds k holds → IsKnownHeld k o
+pub chosen-known : (k : Facts) (holds : List Hold) (r : Option (Bor Hold)) (o : Option Hold) → o ≡ option_copied r →
+    IfSome r (λ h. Waits holds h.now) → AreKnownHolds k holds → IsKnownHeld k o
 chosen-known k holds None o is waits known = subst (IsKnownHeld k) (sym is) tt
 chosen-known k holds (Some b) o is waits known =
     subst (IsKnownHeld k) (waits.queued ∙ sym is) (known-held k holds b.now.patron known)
@@ -107,7 +131,8 @@ pub record CanBeMade (k : Facts) (d : Desk) (n : ℕ) (done : Done) : Type 0 whe
   pub fit : EachOnIsFit k done.changes d
   pub sound : Sound k (n + 1) (after done.changes d)
 
-pub can-be-made : (k : Facts) (d : Desk) (n : ℕ) (command : Command) (done : Done) → AreInRange k → IsKnownDesk k d → IsKnownAction k command.action → Sound k n d → outcome k d (plan k n command) ≡ Ok done → CanBeMade k d n done
+pub can-be-made : (k : Facts) (d : Desk) (n : ℕ) (command : Command) (done : Done) → AreInRange k → IsKnownDesk k d →
+    IsKnownAction k command.action → Sound k n d → outcome k d (plan k n command) ≡ Ok done → CanBeMade k d n done
 can-be-made k d n command done range desk action sound is =
     let fit : EachOnIsFit k done.changes d = on_through_fit k d n command done sound is in
     let after_it : AreChanges done.changes × Sound k (n + 1) (after done.changes d) = sound_after k d n command done sound is in
@@ -118,7 +143,7 @@ can-be-made k d n command done range desk action sound is =
     }
 
 pub still-sound : (k : Facts) (n : ℕ) (d : Desk) → Sound k n d → Sound k (n + 1) d
-still-sound k n d sound = later_sound k n (n + 1) d (omega arith) sound
+still-sound k n d sound = sound-later k n (n + 1) d (omega arith) sound
 
 -- An accepted command: its outcome, and that its changes can be made.
 pub record Planned (d : DeskValue) (n : ℕ) (command : Command) (done : Done) (asked : List Question) : Type 0 where
@@ -126,26 +151,34 @@ pub record Planned (d : DeskValue) (n : ℕ) (command : Command) (done : Done) (
   pub asks : asked ≡ asks (facts d) (desk_of d) (plan (facts d) n command)
   pub can : CanBeMade (facts d) (desk_of d) n done
 
-pub planned : (d : DeskValue) (n : ℕ) (command : Command) (q : InquiryValue) (r : Result Done Refusal) (asked : List Question) (accepted done : Done) → q ≡ record { desk = d; asked = [] } → (r, asked) ≡ ending_of q (plan (facts q.desk) n command) → r ≡ Ok accepted → done ≡ accepted → AreInRange (facts d) → IsKnownDesk (facts d) (desk_of d) → IsKnownAction (facts d) command.action → Sound (facts d) n (desk_of d) → Planned d n command done asked
-planned d n command q r asked accepted done start ends is same range desk action sound =
+pub planned : (d : DeskValue) (n : ℕ) (command : Command) (q : InquiryValue) (r : Result Done Refusal) (asked : List Question)
+    (accepted done : Done) → q ≡ record { desk = d; asked = [] } → (r, asked) ≡ ending_of q (plan (facts q.desk) n command) →
+    r ≡ Ok accepted → done ≡ accepted → IsKept (facts d) (desk_of d) → IsKnownAction (facts d) command.action →
+    Sound (facts d) n (desk_of d) → Planned d n command done asked
+planned d n command q r asked accepted done start ends is same kept action sound =
     let f : Followed (facts d) (desk_of d) (plan (facts d) n command) r asked = followed d n command q r asked start ends in
     let ok : outcome (facts d) (desk_of d) (plan (facts d) n command) ≡ Ok done = sym f.outcome ∙ is ∙ ap (λ (x : Done). Ok x) (sym same) in
-    record { outcome = ok; asks = f.asks; can = can-be-made (facts d) (desk_of d) n command done range desk action sound ok }
+    record { outcome = ok; asks = f.asks; can = can-be-made (facts d) (desk_of d) n command done kept.range kept.known action sound ok }
 
 -- once there is room for them
 pub record MayMake (e : DeskValue) (cs : List Change) : Type 0 where
   pub known : AreKnown (facts e) cs
   pub fit : EachOnIsFit (facts e) cs (desk_of e)
 
-pub may-make : (d e : DeskValue) (n : ℕ) (done : Done) (cs : List Change) → CanBeMade (facts d) (desk_of d) n done → contents e ≡ contents d → desk_of e ≡ desk_of d → cs ≡ done.changes → MayMake e cs
+pub may-make : (d e : DeskValue) (n : ℕ) (done : Done) (cs : List Change) → CanBeMade (facts d) (desk_of d) n done →
+    contents e ≡ contents d → desk_of e ≡ desk_of d → cs ≡ done.changes → MayMake e cs
 may-make d e n done cs can same desk are = record {
-  known = subst (λ (xs : List Change). AreKnown (facts e) xs) (sym are) (subst (λ x. AreKnown (facts_of x) done.changes) (sym same) can.known);
+  known = subst (λ (xs : List Change). AreKnown (facts e) xs) (sym are)
+      (subst (λ x. AreKnown (facts_of x) done.changes) (sym same) can.known);
   fit = subst (λ (xs : List Change). EachOnIsFit (facts e) xs (desk_of e)) (sym are)
-      (subst (λ (x : Desk). EachOnIsFit (facts e) done.changes x) (sym desk) (subst (λ x. EachOnIsFit (facts_of x) done.changes (desk_of d)) (sym same) can.fit));
+      (subst (λ (x : Desk). EachOnIsFit (facts e) done.changes x) (sym desk)
+      (subst (λ x. EachOnIsFit (facts_of x) done.changes (desk_of d)) (sym same) can.fit));
 }
 
 -- and when they are made
-pub left-sound : (d e f : DeskValue) (n : ℕ) (done : Done) (cs : List Change) → CanBeMade (facts d) (desk_of d) n done → contents e ≡ contents d → desk_of e ≡ desk_of d → cs ≡ done.changes → contents f ≡ contents e → desk_of f ≡ after cs (desk_of e) → Sound (facts f) (n + 1) (desk_of f)
+pub left-sound : (d e f : DeskValue) (n : ℕ) (done : Done) (cs : List Change) → CanBeMade (facts d) (desk_of d) n done →
+    contents e ≡ contents d → desk_of e ≡ desk_of d → cs ≡ done.changes → contents f ≡ contents e → desk_of f ≡ after cs (desk_of e) →
+    Sound (facts f) (n + 1) (desk_of f)
 left-sound d e f n done cs can same desk are same_there made =
     let there : desk_of f ≡ after done.changes (desk_of d) = made ∙ (λ i. after (are i) (desk i)) in
     subst (λ (x : Desk). Sound (facts f) (n + 1) x) (sym there)
@@ -165,7 +198,8 @@ pub record Compared (d e : DeskValue) (f : Finding) (a b : Answer) (r : Bool) : 
   pub there : b ≡ told (facts e) (desk_of e) f.question
   pub test : r ≡ not (same_answer a b)
 
-compared-test : (d e : DeskValue) (f : Finding) (a b : Answer) (r : Bool) → Compared d e f a b r → r ≡ not (same_answer (told (facts d) (desk_of d) f.question) (told (facts d) (desk_of e) f.question))
+compared-test : (d e : DeskValue) (f : Finding) (a b : Answer) (r : Bool) → Compared d e f a b r →
+    r ≡ not (same_answer (told (facts d) (desk_of d) f.question) (told (facts d) (desk_of e) f.question))
 compared-test d e f a b r c =
     c.test ∙ (λ i. not (same_answer (c.here i) ((c.there ∙ ap (λ x. told (facts_of x) (desk_of e) f.question) (sym c.catalogue)) i)))
 
@@ -177,37 +211,56 @@ not-false : (b : Bool) → false ≡ not b → b ≡ true
 not-false true is = refl
 not-false false is = cc
 
-first_of : (d e : DeskValue) (fs : List Finding) (i : ℕ) (f : Finding) → i < length fs → f ≡ get_or fs i f → some_otherwise (facts d) (desk_of d) (desk_of e) (asked_of (drop i fs)) ≡ cond (same_answer (told (facts d) (desk_of d) f.question) (told (facts d) (desk_of e) f.question)) (some_otherwise (facts d) (desk_of d) (desk_of e) (asked_of (drop (i + 1) fs))) true
-first_of d e fs i f below is = ap (λ (xs : List Finding). some_otherwise (facts d) (desk_of d) (desk_of e) (asked_of xs)) (drop_at fs i f below is)
+first_of : (d e : DeskValue) (fs : List Finding) (i : ℕ) (f : Finding) → i < length fs → f ≡ get_or fs i f →
+    some_otherwise (facts d) (desk_of d) (desk_of e) (asked_of (drop i fs))
+    ≡ cond (same_answer (told (facts d) (desk_of d) f.question) (told (facts d) (desk_of e) f.question))
+    (some_otherwise (facts d) (desk_of d) (desk_of e) (asked_of (drop (i + 1) fs))) true
+first_of d e fs i f below is =
+    ap (λ (xs : List Finding). some_otherwise (facts d) (desk_of d) (desk_of e) (asked_of xs)) (drop_at fs i f below is)
 
-pub differs-here : (d e : DeskValue) (fs : List Finding) (i : ℕ) (f : Finding) (a b : Answer) (r : Bool) → i < length fs → f ≡ get_or fs i f → Compared d e f a b r → r ≡ true → some_otherwise (facts d) (desk_of d) (desk_of e) (asked_of (drop i fs)) ≡ true
+pub differs-here : (d e : DeskValue) (fs : List Finding) (i : ℕ) (f : Finding) (a b : Answer) (r : Bool) → i < length fs →
+    f ≡ get_or fs i f → Compared d e f a b r → r ≡ true → some_otherwise (facts d) (desk_of d) (desk_of e) (asked_of (drop i fs)) ≡ true
 differs-here d e fs i f a b r below is c on =
     first_of d e fs i f below is
-    ∙ ap (λ (x : Bool). cond x (some_otherwise (facts d) (desk_of d) (desk_of e) (asked_of (drop (i + 1) fs))) true) (not-true _ (sym on ∙ compared-test d e f a b r c))
+    ∙ ap (λ (x : Bool). cond x (some_otherwise (facts d) (desk_of d) (desk_of e) (asked_of (drop (i + 1) fs))) true)
+    (not-true _ (sym on ∙ compared-test d e f a b r c))
 
-pub alike-here : (d e : DeskValue) (fs : List Finding) (i : ℕ) (f : Finding) (a b : Answer) (r : Bool) → i < length fs → f ≡ get_or fs i f → Compared d e f a b r → r ≡ false → some_otherwise (facts d) (desk_of d) (desk_of e) (asked_of (drop i fs)) ≡ some_otherwise (facts d) (desk_of d) (desk_of e) (asked_of (drop (i + 1) fs))
+pub alike-here : (d e : DeskValue) (fs : List Finding) (i : ℕ) (f : Finding) (a b : Answer) (r : Bool) → i < length fs → f ≡ get_or fs i f →
+    Compared d e f a b r → r ≡ false → some_otherwise (facts d) (desk_of d) (desk_of e) (asked_of (drop i fs))
+    ≡ some_otherwise (facts d) (desk_of d) (desk_of e) (asked_of (drop (i + 1) fs))
 alike-here d e fs i f a b r below is c off =
     first_of d e fs i f below is
-    ∙ ap (λ (x : Bool). cond x (some_otherwise (facts d) (desk_of d) (desk_of e) (asked_of (drop (i + 1) fs))) true) (not-false _ (sym off ∙ compared-test d e f a b r c))
+    ∙ ap (λ (x : Bool). cond x (some_otherwise (facts d) (desk_of d) (desk_of e) (asked_of (drop (i + 1) fs))) true)
+    (not-false _ (sym off ∙ compared-test d e f a b r c))
 
-pub none-differs : (d e : DeskValue) (fs : List Finding) (i : ℕ) → length fs ≤ i → some_otherwise (facts d) (desk_of d) (desk_of e) (asked_of (drop i fs)) ≡ false
+pub none-differs : (d e : DeskValue) (fs : List Finding) (i : ℕ) → length fs ≤ i →
+    some_otherwise (facts d) (desk_of d) (desk_of e) (asked_of (drop i fs)) ≡ false
 none-differs d e fs i past = ap (λ (xs : List Finding). some_otherwise (facts d) (desk_of d) (desk_of e) (asked_of xs)) (drop_all i fs past)
 
 -- the questions of a command
-pub otherwise-so : (d e : DeskValue) (n : ℕ) (command : Command) (fs : List Finding) (r : Bool) → fs ≡ findings (facts d) (desk_of d) (asks (facts d) (desk_of d) (plan (facts d) n command)) → r ≡ some_otherwise (facts d) (desk_of d) (desk_of e) (asked_of fs) → r ≡ answered_otherwise (facts d) (desk_of d) (desk_of e) (plan (facts d) n command)
+pub otherwise-so : (d e : DeskValue) (n : ℕ) (command : Command) (fs : List Finding) (r : Bool) →
+    fs ≡ findings (facts d) (desk_of d) (asks (facts d) (desk_of d) (plan (facts d) n command)) →
+    r ≡ some_otherwise (facts d) (desk_of d) (desk_of e) (asked_of fs) →
+    r ≡ answered_otherwise (facts d) (desk_of d) (desk_of e) (plan (facts d) n command)
 otherwise-so d e n command fs r found is =
     let p : Plan = plan (facts d) n command in
-    is ∙ ap (some_otherwise (facts d) (desk_of d) (desk_of e)) (ap asked_of found ∙ asked_findings (facts d) (desk_of d) (asks (facts d) (desk_of d) p))
+    is ∙ ap (some_otherwise (facts d) (desk_of d) (desk_of e))
+    (ap asked_of found ∙ asked_findings (facts d) (desk_of d) (asks (facts d) (desk_of d) p))
     ∙ sym (otherwise_is (facts d) (desk_of d) (desk_of e) p)
 
-pub known-findings : (d : DeskValue) (q new : InquiryValue) (fs gs : List Finding) → q ≡ record { desk = d; asked = [] } → new.desk ≡ q.desk → gs ≡ findings (facts new.desk) (desk_of new.desk) new.asked → AreKnownQuestions (facts new.desk) new.asked → fs ≡ gs → AreKnownQuestions (facts d) (asked_of fs)
+pub known-findings : (d : DeskValue) (q new : InquiryValue) (fs gs : List Finding) → q ≡ record { desk = d; asked = [] } →
+    new.desk ≡ q.desk → gs ≡ findings (facts new.desk) (desk_of new.desk) new.asked → AreKnownQuestions (facts new.desk) new.asked →
+    fs ≡ gs → AreKnownQuestions (facts d) (asked_of fs)
 known-findings d q new fs gs start same found known are =
     let here : new.desk ≡ d = same ∙ ap (λ (x : InquiryValue). x.desk) start in
     let asked : asked_of fs ≡ new.asked = ap asked_of (are ∙ found) ∙ asked_findings (facts new.desk) (desk_of new.desk) new.asked in
     subst (AreKnownQuestions (facts d)) (sym asked) (subst (λ (x : DeskValue). AreKnownQuestions (facts x) new.asked) here known)
 
 -- a copy's view
-pub item-so : (d : DeskValue) (h : HoldsValue) (copy t : ℕ) (state : CopyState) (n : ℕ) → h ≡ d.holds → h.contents ≡ d.copies.contents → state ≡ (desk_of d).copy copy → t ≡ (facts d).title_of copy → n ≡ count_below (λ p. is_some (held h t p)) (facts_of h.contents).patrons → record { state = state; holds = n } ≡ item_view (facts d) (desk_of d) copy
+pub item-so : (d : DeskValue) (h : HoldsValue) (copy t : ℕ) (state : CopyState) (n : ℕ) → h ≡ d.holds → h.contents ≡ d.copies.contents →
+    state ≡ (desk_of d).copy copy → t ≡ (facts d).title_of copy →
+    n ≡ count_below (λ p. is_some (held h t p)) (facts_of h.contents).patrons →
+    record { state = state; holds = n } ≡ item_view (facts d) (desk_of d) copy
 unfolding desk_of
 item-so d h copy t state n same contents is title count = λ i. record {
   state = is i;

@@ -1,5 +1,6 @@
 -- Writing a cell of a fit desk.
-use Rattle.std.proofs.Common.{arith, ◌≡◌, ◌≢◌, refl, sym, ◌∙◌, ap, subst, ℕ, ◌+◌, ◌<◌, ◌≤◌, Bool, true, false, cond, ◌==◌, ◌&&◌, Option, Some, None, List, [], ◌∷◌, length, drop, get_or, add-one, drop-cons, eq-eqb, inl, inr}
+use Rattle.std.proofs.Common.{arith, ◌≡◌, ◌≢◌, refl, sym, ◌∙◌, ap, subst, ℕ, ◌+◌, ◌<◌, ◌≤◌, Bool, true, false, cond, ◌==◌, ◌&&◌, Option}
+use Rattle.std.proofs.Common.{Some, None, List, [], ◌∷◌, length, drop, get_or, add-one, drop-cons, eq-eqb, inl, inr}
 use Rattle.hd_rules.specs.declared.holds.Hold.{Hold}
 use Rattle.hd_rules.specs.declared.copies.HoldPlace.{HoldPlace}
 use Rattle.hd_rules.specs.declared.copies.CopyState.{CopyState}
@@ -27,8 +28,10 @@ here c s v = rw (eq-eqb c c refl) refl
 there : (c x : ℕ) (s v : CopyState) → (c == x) ≡ false → cond (c == x) s v ≡ v
 there c x s v other = rw other refl
 
-at-place : (b place : ℕ) (v : CopyState) → stands_at b place v ≡ true → (r : HoldPlace) × (v ≡ OnHoldShelf r) × (b ≡ r.branch) × (place ≡ r.place)
-at-place b place (OnHoldShelf r) is = (r, refl, sym (number_is r.branch b (and_left _ _ is)), sym (number_is r.place place (and_right _ _ is)))
+at-place : (b place : ℕ) (v : CopyState) → stands_at b place v ≡ true → (r : HoldPlace) × (v ≡ OnHoldShelf r) × (b ≡ r.branch)
+    × (place ≡ r.place)
+at-place b place (OnHoldShelf r) is =
+    (r, refl, sym (number_is r.branch b (and_left _ _ is)), sym (number_is r.place place (and_right _ _ is)))
 at-place b place (Shelf x) is = cc
 at-place b place (OnLoan l) is = cc
 at-place b place (InTransit t) is = cc
@@ -41,7 +44,8 @@ not-same c x other = by_test (c == x) refl
     by_test false is = refl
 
 -- a copy that makes a fit desk has its place alone
-pub copy-welcome : (k : Facts) (d : Desk) (c : ℕ) (s : CopyState) → c < k.copies → IsFit k (put d (CopyCell c) (CopyHas s)) → IsWelcome k d.copy c s
+pub copy-welcome : (k : Facts) (d : Desk) (c : ℕ) (s : CopyState) → c < k.copies → IsFit k (put d (CopyCell c) (CopyHas s)) →
+    IsWelcome k d.copy c s
 copy-welcome k d c (Shelf b) below fit = tt
 copy-welcome k d c (OnLoan l) below fit = tt
 copy-welcome k d c (InTransit t) below fit = tt
@@ -53,8 +57,11 @@ copy-welcome k d c (OnHoldShelf s) below fit = record {
     by_test : (x : ℕ) → x < k.copies → x ≢ c → (b : Bool) → stands_at s.branch s.place (d.copy x) ≡ b → b ≡ false
     by_test x in_x other false is = refl
     by_test x in_x other true is =
-        let r : (r : HoldPlace) × (d.copy x ≡ OnHoldShelf r) × (s.branch ≡ r.branch) × (s.place ≡ r.place) = at-place s.branch s.place (d.copy x) is in
-        let same : c ≡ x = fit.places.apart c x s r.0 below in_x (here c (OnHoldShelf s) (d.copy c)) (there c x (OnHoldShelf s) (d.copy x) (not-same c x other) ∙ r.1) r.2 r.3 in
+        let r : (r : HoldPlace) × (d.copy x ≡ OnHoldShelf r) × (s.branch ≡ r.branch) × (s.place ≡ r.place) =
+        at-place s.branch s.place (d.copy x) is in
+        let same : c ≡ x =
+        fit.places.apart c x s r.0 below in_x (here c (OnHoldShelf s) (d.copy c))
+        (there c x (OnHoldShelf s) (d.copy x) (not-same c x other) ∙ r.1) r.2 r.3 in
         absurd (other (sym same))
 
 hold-here : (t p : ℕ) (o v : Option Hold) → cond ((t == t) && (p == p)) o v ≡ o
@@ -64,9 +71,11 @@ hold-there : (t p q : ℕ) (o v : Option Hold) → (p == q) ≡ false → cond (
 hold-there t p q o v other = rw (eq-eqb t t refl, other) refl
 
 -- a hold that makes a fit desk is its patron's own, and its stamp is no other's
-pub hold-welcome : (k : Facts) (d : Desk) (t p : ℕ) (o : Option Hold) → IsFit k (put d (HoldCell t p) (HoldHas o)) → IsWelcomeHold d.hold t p o
+pub hold-welcome : (k : Facts) (d : Desk) (t p : ℕ) (o : Option Hold) → IsFit k (put d (HoldCell t p) (HoldHas o)) →
+    IsWelcomeHold d.hold t p o
 hold-welcome k d t p None fit = tt
-hold-welcome k d t p (Some h) fit = (fit.named t p h (hold-here t p (Some h) (d.hold t p)), λ q g has same. by_test q g has same (p == q) refl)
+hold-welcome k d t p (Some h) fit =
+    (fit.named t p h (hold-here t p (Some h) (d.hold t p)), λ q g has same. by_test q g has same (p == q) refl)
   where
     by_test : (q : ℕ) (g : Hold) → d.hold t q ≡ Some g → g.stamp ≡ h.stamp → (b : Bool) → (p == q) ≡ b → q ≡ p
     by_test q g has same true is = sym (number_is p q is)
@@ -84,11 +93,17 @@ from-one k d (HoldCell t p) (CopyHas s) kind fit = absurd kind
 from-one k d (HoldCell t p) (HoldHas o) kind fit = tt
 
 -- changes that name things of the catalogue and lead through fit desks can be made
-pub are-known : (k : Facts) (d : Desk) (cs : List Change) → AreChanges cs → ((c : Change) → IsAmong c cs → IsKnownCell k c.cell × IsKnownValue k c.new) → EachOnIsFit k cs d → AreKnown k cs
+pub are-known : (k : Facts) (d : Desk) (cs : List Change) → AreChanges cs →
+    ((c : Change) → IsAmong c cs → IsKnownCell k c.cell × IsKnownValue k c.new) → EachOnIsFit k cs d → AreKnown k cs
 are-known k d [] are known fit = tt
 are-known k d (c ∷ cs) are known fit =
-    let first : IsKnownCell k c.cell × IsKnownValue k c.new = known c (inl refl) in
-    (first.0, first.1, are.1, from-one k d c.cell c.new are.1 fit.0, are-known k (put d c.cell c.new) cs are.3 (λ x among. known x (inr among)) fit.1)
+    let first : IsKnownCell k c.cell × IsKnownValue k c.new = known c (inl refl) in (
+      first.0,
+      first.1,
+      are.1,
+      from-one k d c.cell c.new are.1 fit.0,
+      are-known k (put d c.cell c.new) cs are.3 (λ x among. known x (inr among)) fit.1,
+    )
 
 -- what stands at an index
 drop_from : (cs : List Change) (i : ℕ) (c : Change) → i < length cs → drop i cs ≡ get_or cs i c ∷ drop (i + 1) cs

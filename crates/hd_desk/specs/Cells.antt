@@ -22,7 +22,8 @@ IsFromOneValue (HoldHas o) = Unit {0}
 -- of cells of the catalogue, to values of their kind that name things of it
 abbrev pub AreKnown : Facts → List Change → Type 0
 AreKnown k [] = Unit {0}
-AreKnown k (c ∷ cs) = IsKnownCell k c.cell × IsKnownValue k c.new × Fits c.cell c.new × IsFromOneValue c.new × AreKnown k cs
+AreKnown k (c ∷ cs) = IsKnownCell k c.cell × IsKnownValue k c.new × Fits c.cell c.new × IsFromOneValue c.new
+    × AreKnown k cs
 
 -- room for that many writes like this one
 abbrev pub HasRoomFor : DeskValue → Cell → Value → ℕ → Type 0

@@ -2,9 +2,11 @@
 use Rattle.std.specs.Prelude.{◌≡◌, ℕ, nat_lt, true, false, Option, None, Some, Result}
 use Rattle.hd_rules.specs.declared.commands.Command.{Command}
 use Rattle.hd_rules.specs.declared.replies.Refusal.{Refusal}
-use Rattle.hd_rules.specs.Facts.{Facts}
+use Rattle.hd_rules.specs.Facts.{Facts, AreInRange}
 use Rattle.hd_rules.specs.Desk.{Desk}
 use Rattle.hd_rules.specs.Ask.{Done, outcome}
+use Rattle.hd_rules.specs.Known.{IsKnownDesk}
+use Rattle.hd_rules.specs.Sound.{IsFit}
 use Rattle.hd_rules.specs.Step.{plan, due_day, last_day}
 use Rattle.hd_catalogue.specs.Contents.{Contents, facts_of}
 use Rattle.hd_copies.specs.Standing.{standing}
@@ -21,6 +23,13 @@ facts d = facts_of d.copies.contents
 -- where each copy is, and each patron's hold of each title
 unfoldable pub desk_of : DeskValue → Desk
 desk_of d = record { copy = standing d.copies; hold = held d.holds }
+
+-- What stays true of a desk: its catalogue keeps to the limits, its cells name things of the catalogue, and
+-- it is fit.
+pub record IsKept (k : Facts) (d : Desk) : Type 0 where
+  pub range : AreInRange k
+  pub known : IsKnownDesk k d
+  pub fit : IsFit k d
 
 -- how a command with this number ends there
 abbrev pub outcome_at : DeskValue → ℕ → Command → Result Done Refusal

@@ -40,7 +40,9 @@ impl<'a, A: Allocator + Copy> Inquiry<'a, A> {
         reply: Reply,
     ) -> Result<Accepted, Refusal>
         requires { length changes.now ≤ 4 }
-        ensures { (asked : List Question) → (result, asked) ≡ ending (facts self.now.desk) (desk_of self.now.desk) (accept (facts self.now.desk) number changes.now reply) asked }
+        ensures { (asked : List Question)
+            → (result, asked) ≡ ending (facts self.now.desk) (desk_of self.now.desk)
+            (accept (facts self.now.desk) number changes.now reply) asked }
     {
         let desk = self.desk;
         if desk.command_limit() < number {

@@ -62,8 +62,6 @@ impl<A: Allocator + Copy> Desk<A> {
             copy,
             home: self.home(copy),
             priority: self.has_priority(title),
-            shelf: None,
-            tied: None,
         };
         choice(&queue, &copy, branch, day).copied()
     }

@@ -1,7 +1,7 @@
 //! Commands.
 #![tactic(auto)]
 
-ghost use Rattle.std.specs.Prelude.{◌≡◌, ◌+◌, Bool, IfOk, OnErr, [], length};
+ghost use Rattle.std.specs.Prelude.{◌≡◌, ◌<◌, ◌+◌, ℕ, IfOk, OnErr, [], length};
 ghost use Rattle.hd_rules.specs.Ask.{asks};
 ghost use Rattle.hd_rules.specs.Depends.{answered_otherwise};
 ghost use Rattle.hd_rules.specs.Desk.{after};
@@ -29,10 +29,11 @@ use hd_rules::{Action, Command, Finding, Hold, Refusal};
 use std::alloc::Allocator;
 
 impl<A: Allocator + Copy> Desk<A> {
-    /// Does a command. Its number is above every stamp of the desk, and what it names is of the desk's catalogue.
+    /// Does a command. Its number is above every stamp of the desk, and what it names is of the desk's
+    /// catalogue.
     ///
-    /// Want of memory comes after every refusal, and neither changes anything but the meter. That counts one command step,
-    /// and one cell written per change.
+    /// Want of memory comes after every refusal, and neither changes anything but the meter. That counts one
+    /// command step, and one cell written per change.
     pub fn apply(
         &mut self,
         number: u64,
@@ -42,16 +43,18 @@ impl<A: Allocator + Copy> Desk<A> {
         requires known { IsKnownAction (facts self.old) command.now.action }
         requires sound { Sound (facts self.old) number (desk_of self.old) }
         ensures outcome { IsTold (outcome_at self.old number command.now) result }
-        ensures findings { IfOk result (λ done. done.findings ≡ findings (facts self.old) (desk_of self.old) (asks (facts self.old) (desk_of self.old) (plan (facts self.old) number command.now))) }
+        ensures findings { IfOk result (λ done. done.findings
+            ≡ findings (facts self.old) (desk_of self.old)
+            (asks (facts self.old) (desk_of self.old) (plan (facts self.old) number command.now))) }
         ensures after { IfOk result (λ done. desk_of self.new ≡ after done.changes (desk_of self.old)) }
         ensures unchanged { OnErr result (desk_of self.new ≡ desk_of self.old) }
         ensures contents { contents self.new ≡ contents self.old }
         ensures sound { Sound (facts self.new) (number + 1) (desk_of self.new) }
+        ensures later { (n : ℕ) → number < n → Sound (facts self.new) n (desk_of self.new) }
         ensures step { OnErr result (meter.new ≡ add meter.old Step) }
-        ensures written { IfOk result (λ done. meter.new ≡ written (length done.changes) (add meter.old Step)) }
+        ensures written { IfOk result (λ done. meter.new
+            ≡ written (length done.changes) (add meter.old Step)) }
     {
-        self.desk_is_fit();
-        self.facts_are_in_range();
         meter.add(Count::Step);
         let mut inquiry = Inquiry::new(self);
         let accepted = match inquiry.follow(number, command) {
@@ -71,11 +74,13 @@ impl<A: Allocator + Copy> Desk<A> {
         })
     }
 
-    /// Whether some question of the command has another answer at the other desk of this catalogue. It takes no memory.
+    /// Whether some question of the command has another answer at the other desk of this catalogue. It takes
+    /// no memory.
     pub fn is_answered_otherwise(&self, other: &Desk<A>, number: u64, command: &Command) -> bool
         requires known { IsKnownAction (facts self.now) command.now.action }
         requires catalogue { contents self.now ≡ contents other.now }
-        ensures { result ≡ answered_otherwise (facts self.now) (desk_of self.now) (desk_of other.now) (plan (facts self.now) number command.now) }
+        ensures { result ≡ answered_otherwise (facts self.now) (desk_of self.now) (desk_of other.now)
+            (plan (facts self.now) number command.now) }
     {
         let mut inquiry = Inquiry::new(self);
         let _ = inquiry.follow(number, command);
@@ -87,7 +92,8 @@ impl<A: Allocator + Copy> Desk<A> {
     fn is_other(&self, other: &Desk<A>, findings: &[Finding]) -> bool
         requires known { AreKnownQuestions (facts self.now) (asked_of findings.now) }
         requires catalogue { contents self.now ≡ contents other.now }
-        ensures { result ≡ some_otherwise (facts self.now) (desk_of self.now) (desk_of other.now) (asked_of findings.now) }
+        ensures { result ≡ some_otherwise (facts self.now) (desk_of self.now) (desk_of other.now)
+            (asked_of findings.now) }
     {
         for finding in findings {
             let here = self.answer(&finding.question);
@@ -106,7 +112,8 @@ impl<'a, A: Allocator + Copy> Inquiry<'a, A> {
         requires known { IsKnownAction (facts self.old.desk) command.now.action }
         requires none { self.old.asked ≡ [] }
         ensures desk { self.new.desk ≡ self.old.desk }
-        ensures ends { (result, self.new.asked) ≡ ending_of self.old (plan (facts self.old.desk) number command.now) }
+        ensures ends { (result, self.new.asked)
+            ≡ ending_of self.old (plan (facts self.old.desk) number command.now) }
     {
         let day = command.day;
         match command.action {

@@ -39,7 +39,8 @@ impl<A: Allocator + Copy> Desk<A> {
         ensures desk { desk_of self.new ≡ desk_of self.old }
         ensures contents { contents self.new ≡ contents self.old }
         ensures ok { OnOk result (HasRoomFor self.new cell.now value.now more) }
-        ensures room { (x : Cell) (v : Value) (n : ℕ) → HasRoomFor self.old x v n → HasRoomFor self.new x v n }
+        ensures room { (x : Cell) (v : Value) (n : ℕ) → HasRoomFor self.old x v n
+            → HasRoomFor self.new x v n }
     {
         match (cell, value) {
             (Cell::Copy(_), Value::Copy(state)) => self.copies.ready(state),
@@ -72,7 +73,8 @@ impl<A: Allocator + Copy> Desk<A> {
         requires fit { IsFit (facts self.old) (put (desk_of self.old) cell.now value.now) }
         ensures desk { desk_of self.new ≡ put (desk_of self.old) cell.now value.now }
         ensures contents { contents self.new ≡ contents self.old }
-        ensures room { (x : Cell) (v : Value) (n : ℕ) → HasRoomFor self.old x v (n + 1) → HasRoomFor self.new x v n }
+        ensures room { (x : Cell) (v : Value) (n : ℕ) → HasRoomFor self.old x v (n + 1)
+            → HasRoomFor self.new x v n }
     {
         match (cell, value) {
             (Cell::Copy(copy), Value::Copy(state)) => self.copies.put(*copy, state),

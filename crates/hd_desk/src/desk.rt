@@ -1,14 +1,14 @@
 //! The desk.
 #![tactic(auto, unfolding(crate::specs::Desks::desk_of))]
 
-ghost use Rattle.std.specs.Prelude.{◌≡◌, ◌<◌, IfOk};
+ghost use Rattle.std.specs.Prelude.{◌≡◌, ◌<◌, ℕ, IfOk};
 ghost use Rattle.std.specs.Arc.{arc_value};
 ghost use Rattle.hd_rules.specs.Desk.{opening};
-ghost use Rattle.hd_rules.specs.Known.{IsKnownDesk, IsKnownHeld, IsKnownState};
-ghost use Rattle.hd_rules.specs.Sound.{IsFit};
+ghost use Rattle.hd_rules.specs.Known.{IsKnownHeld, IsKnownState};
+ghost use Rattle.hd_rules.specs.Sound.{Sound};
 ghost use Rattle.hd_rules.specs.Turns.{item_view};
 ghost use Rattle.hd_catalogue.specs.Contents.{facts_of};
-ghost use Rattle.hd_desk.specs.Desks.{contents, desk_of, facts};
+ghost use Rattle.hd_desk.specs.Desks.{IsKept, contents, desk_of, facts};
 
 use hd_catalogue::Catalogue;
 use hd_copies::Copies;
@@ -24,25 +24,31 @@ use std::sync::Arc;
 pub struct Desk<A: Allocator = Global> {
     pub(crate) copies: Copies<A>,
     pub(crate) holds: Holds<A>,
-    /// Stands in lists of at most four changes or questions, which are kept in place. It is never asked for memory.
+    /// Stands in lists of at most four changes or questions, which are kept in place. It is never asked for
+    /// memory.
     pub(crate) inline: Global,
 }
 
 impl<A: Allocator> Model for Desk<A> {
-    ghost use Rattle.hd_desk.specs.DeskValue.{DeskValue};
     ghost use Rattle.std.specs.Prelude.{◌≡◌};
+    ghost use Rattle.hd_catalogue.specs.Contents.{facts_of};
+    ghost use Rattle.hd_desk.specs.DeskValue.{DeskValue};
+    ghost use Rattle.hd_desk.specs.Desks.{IsKept, desk_of};
 
     ghost Value = { DeskValue };
 
     ghost view = { λ d. record { copies = d.copies; holds = d.holds } };
 
-    ghost invariant = { λ d. d.holds.contents ≡ d.copies.contents };
+    ghost invariant = { λ d. (d.holds.contents ≡ d.copies.contents)
+        × IsKept (facts_of d.copies.contents) (desk_of (record { copies = d.copies; holds = d.holds })) };
 }
 
 impl<A: Allocator + Copy> Desk<A> {
-    /// The opening desk of a catalogue: each copy at home, and no holds.
+    /// The opening desk of a catalogue: each copy at home, and no holds. It is sound, with any number above
+    /// its stamps.
     ///
-    /// `inline` is never asked for memory: it stands in lists of at most four changes, which are kept in place.
+    /// `inline` is never asked for memory: it stands in lists of at most four changes, which are kept in
+    /// place.
     pub fn open(
         alloc: A,
         inline: Global,
@@ -50,6 +56,7 @@ impl<A: Allocator + Copy> Desk<A> {
     ) -> Result<Desk<A>, AllocError>
         ensures contents { IfOk result (λ desk. contents desk ≡ arc_value catalogue) }
         ensures opening { IfOk result (λ desk. desk_of desk ≡ opening (facts_of (arc_value catalogue))) }
+        ensures sound { IfOk result (λ desk. (n : ℕ) → Sound (facts desk) n (desk_of desk)) }
     {
         let copies = Copies::open(alloc, Arc::try_clone(&catalogue)?)?;
         let holds = Holds::open(alloc, catalogue)?;
@@ -72,20 +79,24 @@ impl<A: Allocator + Copy> Desk<A> {
         self.inline
     }
 
-    /// Where the copy is.
+    /// Where the copy is. The desk is fit: each hold stands under its own patron, no two holds of a title
+    /// have one stamp, and no two copies have one place.
     pub fn copy(&self, copy: CopyNo) -> CopyState
         requires { copy < (facts self.now).copies }
         ensures state { result ≡ (desk_of self.now).copy copy }
         ensures known { IsKnownState (facts self.now) result }
+        ensures kept { IsKept (facts self.now) (desk_of self.now) }
     {
         self.copies.get(copy)
     }
 
-    /// The patron's hold of the title, or `None` where there is none.
+    /// The patron's hold of the title, or `None` where there is none. The desk is fit, as
+    /// [`copy`](Desk::copy) says.
     pub fn hold(&self, title: TitleNo, patron: PatronNo) -> Option<Hold>
         requires { title < (facts self.now).titles }
         ensures held { result ≡ (desk_of self.now).hold title patron }
         ensures known { IsKnownHeld (facts self.now) result }
+        ensures kept { IsKept (facts self.now) (desk_of self.now) }
     {
         self.holds.get(title, patron)
     }
@@ -99,15 +110,5 @@ impl<A: Allocator + Copy> Desk<A> {
         let holds = self.holds.count(title);
         let state = self.copy(copy);
         ItemView { state, holds }
-    }
-
-    /// Shows that the desk is fit: each hold stands under its own patron, no two holds of a title have one stamp, and no
-    /// two copies have one place.
-    pub fn desk_is_fit(&self)
-        ensures fit { IsFit (facts self.now) (desk_of self.now) }
-        ensures known { IsKnownDesk (facts self.now) (desk_of self.now) }
-    {
-        self.copies.copies_are_fit();
-        self.holds.holds_are_fit();
     }
 }

@@ -2,7 +2,6 @@
 #![tactic(auto)]
 
 ghost use Rattle.std.specs.Prelude.{◌≡◌, ◌<◌, ◌+◌, nat_lt, true, false, MatchOption};
-ghost use Rattle.hd_rules.specs.Facts.{AreInRange};
 ghost use Rattle.hd_rules.specs.Step.{due_day, last_day};
 ghost use Rattle.hd_desk.specs.Desks.{facts, IsDue};
 
@@ -51,13 +50,6 @@ impl<A: Allocator + Copy> Desk<A> {
         ensures { result ≡ (facts self.now).loan_limit patron }
     {
         self.catalogue().loan_limit(patron)
-    }
-
-    /// Shows that what the catalogue says keeps to its limits.
-    pub(crate) fn facts_are_in_range(&self)
-        ensures { AreInRange (facts self.now) }
-    {
-        self.catalogue().facts_are_in_range();
     }
 
     /// The last number that a command can have.

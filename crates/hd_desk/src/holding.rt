@@ -5,14 +5,15 @@ ghost use Rattle.std.specs.Prelude.{◌≡◌, ◌<◌, ◌≤◌, ◌++◌, ℕ
 ghost use Rattle.hd_rules.specs.declared.cells.Change.{Change};
 ghost use Rattle.hd_rules.specs.declared.replies.Reply.TheVariants.{Held};
 ghost use Rattle.hd_rules.specs.Ask.{Plan};
-ghost use Rattle.hd_rules.specs.Choose.{has_expired};
 ghost use Rattle.hd_rules.specs.Known.{IsKnownHeld, IsKnownState};
-ghost use Rattle.hd_rules.specs.Step.{add, change, change_to, changed as as_changed, delete, delete_with, release};
+ghost use Rattle.hd_rules.specs.Step.{add, change, change_to, changed as as_changed, delete, delete_with};
+ghost use Rattle.hd_rules.specs.Step.{release};
 ghost use Rattle.hd_desk.specs.Asking.{ending_of, listed};
 ghost use Rattle.hd_desk.specs.Desks.{facts};
 
 use crate::accepted::{Accepted, copy_becomes, hold_becomes};
 use crate::inquiry::Inquiry;
+use hd_allocate::has_expired;
 use hd_rules::{
     BranchNo, Change, CopyNo, CopyState, Day, Hold, HoldKind, PatronNo, Refusal, Reply, TitleNo,
     Transit,
@@ -46,7 +47,8 @@ impl<'a, A: Allocator + Copy> Inquiry<'a, A> {
         requires title { title < (facts self.old.desk).titles }
         requires few { length self.old.asked ≤ 1 }
         ensures desk { self.new.desk ≡ self.old.desk }
-        ensures ends { (result, self.new.asked) ≡ ending_of self.old (add (facts self.old.desk) hold.now.stamp hold.now title day held.now) }
+        ensures ends { (result, self.new.asked)
+            ≡ ending_of self.old (add (facts self.old.desk) hold.now.stamp hold.now title day held.now) }
     {
         if held.is_some() {
             return Err(Refusal::HoldExists);
@@ -73,7 +75,8 @@ impl<'a, A: Allocator + Copy> Inquiry<'a, A> {
         requires known { IsKnownHeld (facts self.old.desk) held.now }
         requires few { length self.old.asked ≤ 1 }
         ensures desk { self.new.desk ≡ self.old.desk }
-        ensures ends { (result, self.new.asked) ≡ ending_of self.old (delete (facts self.old.desk) number title patron day held.now) }
+        ensures ends { (result, self.new.asked)
+            ≡ ending_of self.old (delete (facts self.old.desk) number title patron day held.now) }
     {
         let Some(hold) = held else {
             return Err(Refusal::NoSuchHold);
@@ -103,7 +106,9 @@ impl<'a, A: Allocator + Copy> Inquiry<'a, A> {
         requires known { IsKnownState (facts self.old.desk) old.now }
         requires few { length self.old.asked ≤ 2 }
         ensures desk { self.new.desk ≡ self.old.desk }
-        ensures released { (rest : List Change → Plan) → ending_of self.old (release (facts self.old.desk) copy day old.now rest) ≡ ending_of self.new (rest (listed result.copy ++ listed result.gets)) }
+        ensures released { (rest : List Change → Plan)
+            → ending_of self.old (release (facts self.old.desk) copy day old.now rest)
+            ≡ ending_of self.new (rest (listed result.copy ++ listed result.gets)) }
         ensures both { result.copy ≡ None → result.gets ≡ None }
     {
         match old {
@@ -150,7 +155,9 @@ impl<'a, A: Allocator + Copy> Inquiry<'a, A> {
         requires title { title < (facts self.old.desk).titles }
         requires few { length self.old.asked ≤ 1 }
         ensures desk { self.new.desk ≡ self.old.desk }
-        ensures ends { (result, self.new.asked) ≡ ending_of self.old (change (facts self.old.desk) number title patron wishes.now.kind wishes.now.pickup wishes.now.expiry day held.now) }
+        ensures ends { (result, self.new.asked)
+            ≡ ending_of self.old (change (facts self.old.desk) number title patron wishes.now.kind
+            wishes.now.pickup wishes.now.expiry day held.now) }
     {
         let Some(hold) = held else {
             return Err(Refusal::NoSuchHold);
@@ -192,11 +199,4 @@ fn changed(wishes: &Wishes, hold: &Hold) -> Hold
         expiry: wishes.expiry.or(hold.expiry),
         ..*hold
     }
-}
-
-/// Whether the last day of a hold lies before the day.
-fn has_expired(expiry: Option<Day>, day: Day) -> bool
-    ensures { result ≡ has_expired expiry day }
-{
-    expiry.is_some_and(|last| last < day)
 }

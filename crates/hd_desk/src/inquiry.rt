@@ -2,7 +2,8 @@
 #![tactic(auto)]
 
 ghost use Rattle.std.specs.Prelude.{◌≡◌, ◌<◌, ◌+◌, nat_lt, [], ◌∷◌, ◌++◌, length};
-ghost use Rattle.hd_rules.specs.declared.questions.Question.TheVariants.{Value as ValueOf, Choice, Place, Room, Position, OnShelf};
+ghost use Rattle.hd_rules.specs.declared.questions.Question.TheVariants.{Value as ValueOf, Choice, Place};
+ghost use Rattle.hd_rules.specs.declared.questions.Question.TheVariants.{Room, Position, OnShelf};
 ghost use Rattle.hd_rules.specs.declared.cells.Cell.TheVariants.{Copy as CopyCell, Hold as HoldCell};
 ghost use Rattle.hd_rules.specs.declared.cells.Value.TheVariants.{Copy as CopyHas, Hold as HoldHas};
 ghost use Rattle.hd_rules.specs.declared.questions.Noted.TheVariants as noted;
@@ -12,7 +13,7 @@ ghost use Rattle.hd_rules.specs.Known.{IsKnownHeld, IsKnownState};
 ghost use Rattle.hd_rules.specs.Record.{findings, note};
 ghost use Rattle.hd_rules.specs.Known.{IsKnownQuestion};
 ghost use Rattle.hd_desk.specs.Asking.{AreKnownQuestions};
-ghost use Rattle.hd_desk.specs.Desks.{desk_of, facts};
+ghost use Rattle.hd_desk.specs.Desks.{IsKept, desk_of, facts};
 
 use crate::desk::Desk;
 use hd_footprint::Findings;
@@ -23,8 +24,8 @@ use hd_rules::{
 use std::alloc::{Allocator, Global};
 use std::marker::Model;
 
-/// A desk, and what a command has asked it: each question with its noted answer, in order. It changes nothing and takes no
-/// memory.
+/// A desk, and what a command has asked it: each question with its noted answer, in order. It changes nothing
+/// and takes no memory.
 #[derive(Drop)]
 pub(crate) struct Inquiry<'a, A: Allocator = Global> {
     pub(crate) desk: &'a Desk<A>,
@@ -42,13 +43,16 @@ impl<'a, A: Allocator> Model for Inquiry<'a, A> {
 
     ghost view = { λ q. record { desk = q.desk.now; asked = asked_of q.findings } };
 
-    ghost invariant = { λ q. (q.findings ≡ found (facts q.desk.now) (desk_of q.desk.now) (asked_of q.findings)) × AreKnownQuestions (facts q.desk.now) (asked_of q.findings) };
+    ghost invariant = { λ q. (q.findings
+        ≡ found (facts q.desk.now) (desk_of q.desk.now) (asked_of q.findings))
+        × AreKnownQuestions (facts q.desk.now) (asked_of q.findings) };
 }
 
 impl<'a, A: Allocator + Copy> Inquiry<'a, A> {
     /// Nothing is asked yet.
     pub(crate) fn new(desk: &'a Desk<A>) -> Inquiry<'a, A>
-        ensures { result ≡ record { desk = desk.now; asked = [] } }
+        ensures start { result ≡ record { desk = desk.now; asked = [] } }
+        ensures kept { IsKept (facts desk.now) (desk_of desk.now) }
     {
         Inquiry {
             desk,
@@ -58,7 +62,8 @@ impl<'a, A: Allocator + Copy> Inquiry<'a, A> {
 
     /// The questions with their noted answers.
     pub(crate) fn into_findings(self) -> Findings
-        ensures findings { result ≡ findings (facts self.entry.desk) (desk_of self.entry.desk) self.entry.asked }
+        ensures findings { result ≡ findings (facts self.entry.desk) (desk_of self.entry.desk)
+            self.entry.asked }
         ensures known { AreKnownQuestions (facts self.entry.desk) self.entry.asked }
     {
         self.findings
@@ -142,7 +147,8 @@ impl<'a, A: Allocator + Copy> Inquiry<'a, A> {
     pub(crate) fn room(&mut self, patron: PatronNo) -> bool
         requires patron { patron < (facts self.old.desk).patrons }
         requires few { length self.old.asked < 4 }
-        ensures answer { result ≡ nat_lt (loans (facts self.old.desk) (desk_of self.old.desk) patron) ((facts self.old.desk).loan_limit patron) }
+        ensures answer { result ≡ nat_lt (loans (facts self.old.desk) (desk_of self.old.desk) patron)
+            ((facts self.old.desk).loan_limit patron) }
         ensures desk { self.new.desk ≡ self.old.desk }
         ensures asked { self.new.asked ≡ self.old.asked ++ Room patron ∷ [] }
         ensures more { length self.new.asked ≡ length self.old.asked + 1 }
@@ -170,7 +176,8 @@ impl<'a, A: Allocator + Copy> Inquiry<'a, A> {
     pub(crate) fn on_shelf(&mut self, title: TitleNo, kind: &HoldKind, pickup: BranchNo) -> bool
         requires title { title < (facts self.old.desk).titles }
         requires few { length self.old.asked < 4 }
-        ensures answer { result ≡ nat_lt 0 (on_shelf (facts self.old.desk) (desk_of self.old.desk) title kind.now pickup) }
+        ensures answer { result ≡ nat_lt 0
+            (on_shelf (facts self.old.desk) (desk_of self.old.desk) title kind.now pickup) }
         ensures desk { self.new.desk ≡ self.old.desk }
         ensures asked { self.new.asked ≡ self.old.asked ++ OnShelf title kind.now pickup ∷ [] }
         ensures more { length self.new.asked ≡ length self.old.asked + 1 }

@@ -5,7 +5,8 @@ ghost use Rattle.std.specs.Prelude.{◌≡◌, ◌<◌, ◌≤◌, ◌+◌, ◌�
 ghost use Rattle.hd_rules.specs.declared.copies.CopyState.TheVariants.{OnLoan as IsOnLoan};
 ghost use Rattle.hd_rules.specs.Ask.{Plan};
 ghost use Rattle.hd_rules.specs.Settle.{hold_becomes as change_of_hold};
-ghost use Rattle.hd_rules.specs.Step.{cannot_renew, checkout_at, due_day, is_wanted, lend, lend_from_shelf, lend_held, lent, renew_at, renew_loan};
+ghost use Rattle.hd_rules.specs.Step.{cannot_renew, checkout_at, due_day, is_wanted, lend, lend_from_shelf};
+ghost use Rattle.hd_rules.specs.Step.{lend_held, lent, renew_at, renew_loan};
 ghost use Rattle.hd_desk.specs.Asking.{ending_of};
 ghost use Rattle.hd_desk.specs.Desks.{facts};
 
@@ -37,7 +38,9 @@ impl<'a, A: Allocator + Copy> Inquiry<'a, A> {
         requires patron { message.now.patron < (facts self.old.desk).patrons }
         requires few { length self.old.asked ≤ 1 }
         ensures desk { self.new.desk ≡ self.old.desk }
-        ensures ends { (result, self.new.asked) ≡ ending_of self.old (checkout_at (facts self.old.desk) message.now.number message.now.patron message.now.copy may_renew message.now.day old.now) }
+        ensures ends { (result, self.new.asked)
+            ≡ ending_of self.old (checkout_at (facts self.old.desk) message.now.number message.now.patron
+            message.now.copy may_renew message.now.day old.now) }
     {
         match old {
             CopyState::Shelf(_) => {
@@ -63,7 +66,8 @@ impl<'a, A: Allocator + Copy> Inquiry<'a, A> {
         }
     }
 
-    /// Lends a copy from the open shelf, where nobody's hold comes first, or the patron's own, which then ends.
+    /// Lends a copy from the open shelf, where nobody's hold comes first, or the patron's own, which then
+    /// ends.
     fn lend_from_shelf(
         &mut self,
         message: &Lending,
@@ -74,7 +78,9 @@ impl<'a, A: Allocator + Copy> Inquiry<'a, A> {
         requires patron { message.now.patron < (facts self.old.desk).patrons }
         requires few { length self.old.asked ≤ 2 }
         ensures desk { self.new.desk ≡ self.old.desk }
-        ensures ends { (result, self.new.asked) ≡ ending_of self.old (lend_from_shelf (facts self.old.desk) message.now.number message.now.patron message.now.copy message.now.day old.now chosen.now) }
+        ensures ends { (result, self.new.asked)
+            ≡ ending_of self.old (lend_from_shelf (facts self.old.desk) message.now.number message.now.patron
+            message.now.copy message.now.day old.now chosen.now) }
     {
         match chosen {
             None => {
@@ -97,7 +103,9 @@ impl<'a, A: Allocator + Copy> Inquiry<'a, A> {
         requires patron { message.now.patron < (facts self.old.desk).patrons }
         requires few { length self.old.asked ≤ 2 }
         ensures desk { self.new.desk ≡ self.old.desk }
-        ensures ends { (result, self.new.asked) ≡ ending_of self.old (lend_held (facts self.old.desk) message.now.number message.now.patron message.now.copy message.now.day old.now) }
+        ensures ends { (result, self.new.asked)
+            ≡ ending_of self.old (lend_held (facts self.old.desk) message.now.number message.now.patron
+            message.now.copy message.now.day old.now) }
     {
         let due = self.lend(message)?;
         let title = self.desk.title_of(message.copy);
@@ -113,9 +121,14 @@ impl<'a, A: Allocator + Copy> Inquiry<'a, A> {
         requires few { length self.old.asked ≤ 2 }
         ensures desk { self.new.desk ≡ self.old.desk }
         ensures more { length self.new.asked ≡ length self.old.asked + 1 }
-        ensures due { IfOk result (λ due. due ≡ due_day (facts self.old.desk) message.now.copy message.now.day) }
-        ensures lent { IfOk result (λ due. (rest : Plan) → ending_of self.old (lend (facts self.old.desk) message.now.patron message.now.copy message.now.day rest) ≡ ending_of self.new rest) }
-        ensures refused { IfErr result (λ refusal. (rest : Plan) → ending_of self.old (lend (facts self.old.desk) message.now.patron message.now.copy message.now.day rest) ≡ (Err refusal, self.new.asked)) }
+        ensures due { IfOk result (λ due. due
+            ≡ due_day (facts self.old.desk) message.now.copy message.now.day) }
+        ensures lent { IfOk result (λ due. (rest : Plan)
+            → ending_of self.old (lend (facts self.old.desk) message.now.patron message.now.copy
+            message.now.day rest) ≡ ending_of self.new rest) }
+        ensures refused { IfErr result (λ refusal. (rest : Plan)
+            → ending_of self.old (lend (facts self.old.desk) message.now.patron message.now.copy
+            message.now.day rest) ≡ (Err refusal, self.new.asked)) }
     {
         if !self.room(message.patron) {
             return Err(Refusal::LoanLimit);
@@ -136,7 +149,9 @@ impl<'a, A: Allocator + Copy> Inquiry<'a, A> {
         requires copy { message.now.copy < (facts self.now.desk).copies }
         requires due { due ≡ due_day (facts self.now.desk) message.now.copy message.now.day }
         requires few { length ends.now ≤ 1 }
-        ensures { (result, self.now.asked) ≡ ending_of self.now (lent (facts self.now.desk) message.now.number message.now.patron message.now.copy message.now.day old.now ends.now) }
+        ensures { (result, self.now.asked)
+            ≡ ending_of self.now (lent (facts self.now.desk) message.now.number message.now.patron
+            message.now.copy message.now.day old.now ends.now) }
     {
         let loan = CopyState::OnLoan(Loan {
             patron: message.patron,
@@ -161,7 +176,9 @@ impl<'a, A: Allocator + Copy> Inquiry<'a, A> {
         requires copy { message.now.copy < (facts self.old.desk).copies }
         requires few { length self.old.asked ≤ 1 }
         ensures desk { self.new.desk ≡ self.old.desk }
-        ensures ends { (result, self.new.asked) ≡ ending_of self.old (renew_at (facts self.old.desk) message.now.number message.now.patron message.now.copy message.now.day old.now) }
+        ensures ends { (result, self.new.asked)
+            ≡ ending_of self.old (renew_at (facts self.old.desk) message.now.number message.now.patron
+            message.now.copy message.now.day old.now) }
     {
         match old {
             CopyState::OnLoan(loan) => {
@@ -180,7 +197,9 @@ impl<'a, A: Allocator + Copy> Inquiry<'a, A> {
         requires copy { message.now.copy < (facts self.old.desk).copies }
         requires few { length self.old.asked ≤ 1 }
         ensures desk { self.new.desk ≡ self.old.desk }
-        ensures ends { (result, self.new.asked) ≡ ending_of self.old (renew_loan (facts self.old.desk) message.now.number message.now.patron message.now.copy message.now.day loan.now) }
+        ensures ends { (result, self.new.asked)
+            ≡ ending_of self.old (renew_loan (facts self.old.desk) message.now.number message.now.patron
+            message.now.copy message.now.day loan.now) }
     {
         let home = self.desk.home(message.copy);
         let chosen = self.choice(message.copy, home, message.day);

@@ -1,8 +1,8 @@
 //! The hold desk: where the copies are, the holds of each title, and the commands.
 //!
 //! A command is carried out in two halves. First an [`inquiry`] asks the desk, question by question, as
-//! docs/desk-rules.md has it, and ends in a refusal or in changes and a reply; nothing is changed by it, and it takes no
-//! memory. Then the desk makes room for the changes and makes them.
+//! docs/desk-rules.md has it, and ends in a refusal or in changes and a reply; nothing is changed by it, and
+//! it takes no memory. Then the desk makes room for the changes and makes them.
 #![tactic(auto)]
 
 mod accepted;

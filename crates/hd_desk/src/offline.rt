@@ -28,7 +28,8 @@ impl<'a, A: Allocator + Copy> Inquiry<'a, A> {
         requires copy { copy < (facts self.old.desk).copies }
         requires few { length self.old.asked ≤ 1 }
         ensures desk { self.new.desk ≡ self.old.desk }
-        ensures ends { (result, self.new.asked) ≡ ending_of self.old (off_line (facts self.old.desk) number patron copy due) }
+        ensures ends { (result, self.new.asked)
+            ≡ ending_of self.old (off_line (facts self.old.desk) number patron copy due) }
     {
         let old = self.copy(copy);
         let title = self.desk.title_of(copy);
@@ -91,7 +92,9 @@ impl<'a, A: Allocator + Copy> Inquiry<'a, A> {
         freed: &Option<Change>,
     ) -> Result<Accepted, Refusal>
         requires copy { copy < (facts self.now.desk).copies }
-        ensures { (result, self.now.asked) ≡ ending_of self.now (lend_off_line (facts self.now.desk) number patron copy due old.now (listed ended.now ++ listed freed.now)) }
+        ensures { (result, self.now.asked)
+            ≡ ending_of self.now (lend_off_line (facts self.now.desk) number patron copy due old.now
+            (listed ended.now ++ listed freed.now)) }
     {
         let loan = CopyState::OnLoan(Loan {
             patron,
@@ -115,7 +118,8 @@ impl<'a, A: Allocator + Copy> Inquiry<'a, A> {
 
 /// The hold that the loan takes the copy from, which keeps its place in the queue.
 fn freed(title: TitleNo, patron: PatronNo, held: &Option<Hold>) -> Option<Change>
-    ensures { (k : Facts) (copy : ℕ) → k.title_of copy ≡ title → listed result ≡ freed k copy patron held.now }
+    ensures { (k : Facts) (copy : ℕ) → k.title_of copy ≡ title
+        → listed result ≡ freed k copy patron held.now }
 {
     let hold = held.as_ref()?;
     Some(hold_becomes(title, patron, held, &Some(with_copy(None, hold))))

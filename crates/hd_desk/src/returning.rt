@@ -24,7 +24,8 @@ impl<'a, A: Allocator + Copy> Inquiry<'a, A> {
         requires branch { branch < (facts self.old.desk).branches }
         requires few { length self.old.asked ≤ 0 }
         ensures desk { self.new.desk ≡ self.old.desk }
-        ensures ends { (result, self.new.asked) ≡ ending_of self.old (checkin (facts self.old.desk) number copy branch day) }
+        ensures ends { (result, self.new.asked)
+            ≡ ending_of self.old (checkin (facts self.old.desk) number copy branch day) }
     {
         let old = self.copy(copy);
         let settled = self.settle(copy, branch, day, &old);

@@ -1,4 +1,5 @@
-//! Where a copy goes when it is handed in, or when its hold ends on a hold shelf (docs/desk-rules.md, "Settle").
+//! Where a copy goes when it is handed in, or when its hold ends on a hold shelf (docs/desk-rules.md,
+//! "Settle").
 #![tactic(auto)]
 
 ghost use Rattle.std.specs.Prelude.{◌≡◌, ◌<◌, ◌≤◌, ◌+◌, None, List, length};
@@ -6,7 +7,9 @@ ghost use Rattle.hd_rules.specs.declared.cells.Change.{Change};
 ghost use Rattle.hd_rules.specs.declared.copies.CopyState.{CopyState};
 ghost use Rattle.hd_rules.specs.Ask.{Plan};
 ghost use Rattle.hd_rules.specs.Known.{IsKnownHeld, IsKnownHold, IsKnownState};
-ghost use Rattle.hd_rules.specs.Settle.{allot, keep, place_at as has_place_at, sent_home, sent_to as on_the_way_to, settle, settle_tied, tied_to as kept_for, with_copy as having_copy};
+ghost use Rattle.hd_rules.specs.Settle.{allot, keep, place_at as has_place_at, sent_home};
+ghost use Rattle.hd_rules.specs.Settle.{sent_to as on_the_way_to, settle, settle_tied, tied_to as kept_for};
+ghost use Rattle.hd_rules.specs.Settle.{with_copy as having_copy};
 ghost use Rattle.hd_desk.specs.Asking.{ending_of, listed};
 ghost use Rattle.hd_desk.specs.Desks.{facts};
 
@@ -35,7 +38,9 @@ impl<'a, A: Allocator + Copy> Inquiry<'a, A> {
         requires branch { branch < (facts self.old.desk).branches }
         requires few { length self.old.asked ≤ 1 }
         ensures desk { self.new.desk ≡ self.old.desk }
-        ensures settled { (rest : CopyState → List Change → Plan) → ending_of self.old (settle (facts self.old.desk) copy branch day old.now (kept_for old.now) rest) ≡ ending_of self.new (rest result.state (listed result.gets)) }
+        ensures settled { (rest : CopyState → List Change → Plan)
+            → ending_of self.old (settle (facts self.old.desk) copy branch day old.now (kept_for old.now)
+            rest) ≡ ending_of self.new (rest result.state (listed result.gets)) }
     {
         match tied_to(old) {
             Some(patron) => {
@@ -62,7 +67,9 @@ impl<'a, A: Allocator + Copy> Inquiry<'a, A> {
         requires branch { branch < (facts self.old.desk).branches }
         requires few { length self.old.asked ≤ 3 }
         ensures desk { self.new.desk ≡ self.old.desk }
-        ensures settled { (rest : CopyState → List Change → Plan) → ending_of self.old (settle_tied (facts self.old.desk) copy branch old.now held.now rest) ≡ ending_of self.new (rest result.state (listed result.gets)) }
+        ensures settled { (rest : CopyState → List Change → Plan)
+            → ending_of self.old (settle_tied (facts self.old.desk) copy branch old.now held.now rest)
+            ≡ ending_of self.new (rest result.state (listed result.gets)) }
     {
         let state = match held {
             Some(hold) => self.keep_for(branch, hold, place_at(branch, old)),
@@ -71,7 +78,8 @@ impl<'a, A: Allocator + Copy> Inquiry<'a, A> {
         Settled { state, gets: None }
     }
 
-    /// Gives a copy that no hold has to the one that was chosen for it, if one was. On the branch's hold shelf it has that place.
+    /// Gives a copy that no hold has to the one that was chosen for it, if one was. On the branch's hold
+    /// shelf it has that place.
     pub(crate) fn allot(
         &mut self,
         copy: CopyNo,
@@ -85,7 +93,9 @@ impl<'a, A: Allocator + Copy> Inquiry<'a, A> {
         requires few { length self.old.asked ≤ 3 }
         requires few_for_a_place { place ≡ None → length self.old.asked ≤ 2 }
         ensures desk { self.new.desk ≡ self.old.desk }
-        ensures settled { (rest : CopyState → List Change → Plan) → ending_of self.old (allot (facts self.old.desk) copy branch place chosen.now rest) ≡ ending_of self.new (rest result.state (listed result.gets)) }
+        ensures settled { (rest : CopyState → List Change → Plan)
+            → ending_of self.old (allot (facts self.old.desk) copy branch place chosen.now rest)
+            ≡ ending_of self.new (rest result.state (listed result.gets)) }
     {
         match chosen {
             Some(hold) => {
@@ -105,12 +115,14 @@ impl<'a, A: Allocator + Copy> Inquiry<'a, A> {
         }
     }
 
-    /// Keeps a copy for a hold: at its pickup on the place that it has or on the least free one, else on the way there.
+    /// Keeps a copy for a hold: at its pickup on the place that it has or on the least free one, else on the
+    /// way there.
     fn keep_for(&mut self, branch: BranchNo, hold: &Hold, place: Option<u32>) -> CopyState
         requires branch { branch < (facts self.old.desk).branches }
         requires few { place ≡ None → length self.old.asked ≤ 3 }
         ensures desk { self.new.desk ≡ self.old.desk }
-        ensures kept { (rest : CopyState → Plan) → ending_of self.old (keep branch hold.now place rest) ≡ ending_of self.new (rest result) }
+        ensures kept { (rest : CopyState → Plan) → ending_of self.old (keep branch hold.now place rest)
+            ≡ ending_of self.new (rest result) }
     {
         if hold.pickup != branch {
             return sent_to(branch, hold);

@@ -6,8 +6,8 @@ use smallvec::SmallVec;
 use std::alloc::Global;
 use std::marker::Model;
 
-/// The questions that one command asks with their noted answers, in order: at most four (docs/desk-rules.md). They stand in
-/// the value itself, and no call takes memory.
+/// The questions that one command asks with their noted answers, in order: at most four (docs/desk-rules.md).
+/// They stand in the value itself, and no call takes memory.
 #[derive(Drop, Debug)]
 pub struct Findings {
     findings: SmallVec<Finding, 4>,
@@ -49,23 +49,5 @@ impl Findings {
         ensures few { length self.now ≤ 4 }
     {
         self.findings.as_slice()
-    }
-
-    /// How many questions there are.
-    pub fn len(&self) -> usize
-        ensures count { result ≡ length self.now }
-        ensures few { result ≤ 4 }
-    {
-        self.findings.len()
-    }
-
-    /// The same questions and noted answers once more.
-    pub fn copied(&self) -> Findings
-        ensures { result ≡ self.now }
-    {
-        let copy = SmallVec::from_slice(*self.findings.allocator(), self.findings());
-        Findings {
-            findings: copy.unwrap(),
-        }
     }
 }

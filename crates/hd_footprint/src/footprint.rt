@@ -6,8 +6,8 @@ use smallvec::SmallVec;
 use std::alloc::Global;
 use std::marker::Model;
 
-/// The changes that one command makes, in order: at most four (docs/desk-rules.md). They stand in the value itself, and no
-/// call takes memory.
+/// The changes that one command makes, in order: at most four (docs/desk-rules.md). They stand in the value
+/// itself, and no call takes memory.
 #[derive(Drop, Debug)]
 pub struct Footprint {
     changes: SmallVec<Change, 4>,
@@ -49,23 +49,5 @@ impl Footprint {
         ensures few { length self.now ≤ 4 }
     {
         self.changes.as_slice()
-    }
-
-    /// How many changes there are.
-    pub fn len(&self) -> usize
-        ensures count { result ≡ length self.now }
-        ensures few { result ≤ 4 }
-    {
-        self.changes.len()
-    }
-
-    /// The same changes once more.
-    pub fn copied(&self) -> Footprint
-        ensures { result ≡ self.now }
-    {
-        let copy = SmallVec::from_slice(*self.changes.allocator(), self.changes());
-        Footprint {
-            changes: copy.unwrap(),
-        }
     }
 }

@@ -21,7 +21,12 @@ impl Model for Meter {
 
     ghost Value = { Counts };
 
-    ghost view = { λ m. record { steps = m.steps; written = m.written; looks = m.looks; compared = m.compared } };
+    ghost view = { λ m. record {
+      steps = m.steps;
+      written = m.written;
+      looks = m.looks;
+      compared = m.compared;
+    } };
 }
 
 impl Meter {

@@ -28,12 +28,9 @@ fn changes_stand_in_order(rt: HostRuntime) -> Result<(), Fail> {
     let mut footprint = Footprint::new(rt.alloc());
     footprint.push(moved(copy, north, south));
     footprint.push(moved(copy, south, north));
-    assert_eq!(rt; footprint.len(), 2);
     let changes = footprint.changes();
     assert_eq!(rt; changes.first().copied(), Some(moved(copy, north, south)));
     assert_eq!(rt; changes.last().copied(), Some(moved(copy, south, north)));
-    let copied = footprint.copied();
-    assert_eq!(rt; copied.changes(), changes);
     Ok(())
 }
 
@@ -44,12 +41,9 @@ fn findings_stand_in_order(rt: HostRuntime) -> Result<(), Fail> {
     let mut asked = Findings::new(rt.alloc());
     asked.push(free(north, 3));
     asked.push(free(south, 1));
-    assert_eq!(rt; asked.len(), 2);
     let findings = asked.findings();
     assert_eq!(rt; findings.first().copied(), Some(free(north, 3)));
     assert_eq!(rt; findings.last().copied(), Some(free(south, 1)));
-    let copied = asked.copied();
-    assert_eq!(rt; copied.findings(), findings);
     Ok(())
 }
 

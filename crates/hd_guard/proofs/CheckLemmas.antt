@@ -25,11 +25,16 @@ by_values a b c d w x y z ha hb hc hd = rw (ha, hb, hc, hd) (omega arith)
 pub four_write : (n : ℕ) → n < 65536 → n ≡ digits_value 16 (four_digits n)
 four_write n h =
     let high : n / 4096 < 16 = omega arith in
-    let written = by_values (upper_digit (n / 4096)) (upper_digit (n / 256 % 16)) (upper_digit (n / 16 % 16)) (upper_digit (n % 16)) (n / 4096) (n / 256 % 16) (n / 16 % 16) (n % 16) (value_of_upper (n / 4096) high) (value_of_upper (n / 256 % 16) (omega arith)) (value_of_upper (n / 16 % 16) (omega arith)) (value_of_upper (n % 16) (omega arith)) in
+    let written =
+    by_values (upper_digit (n / 4096)) (upper_digit (n / 256 % 16)) (upper_digit (n / 16 % 16)) (upper_digit (n % 16)) (n / 4096)
+    (n / 256 % 16) (n / 16 % 16) (n % 16) (value_of_upper (n / 4096) high) (value_of_upper (n / 256 % 16) (omega arith))
+    (value_of_upper (n / 16 % 16) (omega arith)) (value_of_upper (n % 16) (omega arith)) in
     let number : n ≡ ((n / 4096 * 16 + n / 256 % 16) * 16 + n / 16 % 16) * 16 + n % 16 = omega arith in
     number ∙ sym written
 
 -- each of the four is a digit
 pub four_are_digits : (n : ℕ) → n < 65536 → AllDigits 16 (four_digits n)
-four_are_digits n h =
-    (small_upper (n / 4096) (omega arith), (small_upper (n / 256 % 16) (omega arith), (small_upper (n / 16 % 16) (omega arith), (small_upper (n % 16) (omega arith), tt))))
+four_are_digits n h = (
+  small_upper (n / 4096) (omega arith),
+  (small_upper (n / 256 % 16) (omega arith), (small_upper (n / 16 % 16) (omega arith), (small_upper (n % 16) (omega arith), tt))),
+)

@@ -1,5 +1,6 @@
 -- Sequence digits.
-use Rattle.std.specs.Prelude.{◌≡◌, ℕ, ◌+◌, ◌%◌, ◌<◌, List, [], ◌∷◌, ◌++◌, Option, None, Some, IfNone, IfSome, codes}
+use Rattle.std.specs.Prelude.{◌≡◌, ℕ, ◌+◌, ◌%◌, ◌<◌, List, [], ◌∷◌, ◌++◌, Option, None, Some, IfNone, IfSome}
+use Rattle.std.specs.Prelude.{codes}
 
 -- the digit that follows another: 9 is followed by 0
 abbrev pub next_digit : ℕ → ℕ

@@ -1,5 +1,6 @@
 //! Writing a trailer.
-ghost use Rattle.std.specs.Prelude.{◌≡◌, ◌+◌, ◌<◌, ◌≤◌, ◌++◌, IfNone, IfSome, OnOk, OnErr, drop, vec_len, vec_capacity};
+ghost use Rattle.std.specs.Prelude.{◌≡◌, ◌+◌, ◌<◌, ◌≤◌, ◌++◌, IfNone, IfSome, OnOk, OnErr, drop, vec_len};
+ghost use Rattle.std.specs.Prelude.{vec_capacity};
 ghost use Rattle.hd_guard.specs.Check.{four_digits, upper_digit};
 ghost use Rattle.hd_guard.specs.Sequence.{EndsInSequence, sequence};
 ghost use Rattle.hd_guard.specs.Trailer.{EndsRight, IsChecked, trailer_len, trailer_text};
@@ -14,9 +15,9 @@ const SEQUENCE_LEN: usize = 3;
 /// The bytes of a check number: `AZ` and four digits.
 const CHECK_LEN: usize = 6;
 
-/// Adds its trailer to the text that begins at `from` in `out`: `AY` and the sequence digit where one is given, `AZ`, and
-/// the check number that makes the text right, in four upper-case hexadecimal digits (SIP2 2.00, checksum and sequence
-/// number). No carriage return is added.
+/// Adds its trailer to the text that begins at `from` in `out`: `AY` and the sequence digit where one
+/// is given, `AZ`, and the check number that makes the text right, in four upper-case hexadecimal
+/// digits (SIP2 2.00, checksum and sequence number). No carriage return is added.
 ///
 /// At most 9 bytes are added, and without a digit 6. Where memory for them is refused nothing is changed.
 pub fn seal<A: Allocator>(
@@ -25,8 +26,10 @@ pub fn seal<A: Allocator>(
     seq: Option<Seq>,
 ) -> Result<(), AllocError>
     requires { from ≤ vec_len out.old }
-    ensures appended { OnOk result (out.new.items ≡ out.old.items ++ trailer_text (drop from out.old.items) seq) }
-    ensures right { OnOk result (EndsRight (drop from out.new.items) (drop from out.old.items ++ sequence seq)) }
+    ensures appended { OnOk result
+        (out.new.items ≡ out.old.items ++ trailer_text (drop from out.old.items) seq) }
+    ensures right { OnOk result
+        (EndsRight (drop from out.new.items) (drop from out.old.items ++ sequence seq)) }
     ensures err { OnErr result (out.new.items ≡ out.old.items) }
 
     // Sealed with no digit, the text must not end in that of a digit itself.

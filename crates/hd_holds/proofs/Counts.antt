@@ -1,5 +1,6 @@
 -- Counts of numbers, and of the holds of a queue by patron.
-use Rattle.std.proofs.Common.{◌≡◌, ◌≢◌, ℕ, ◌+◌, ◌<◌, ◌≤◌, Bool, true, false, cond, List, [], ◌∷◌, Option, None, Some, refl, ap, sym, ◌∙◌, inl, inr, arith, length, zero, suc, eq-eqb}
+use Rattle.std.proofs.Common.{◌≡◌, ◌≢◌, ℕ, ◌+◌, ◌<◌, ◌≤◌, Bool, true, false, cond, List, [], ◌∷◌, Option, None, Some, refl, ap, sym, ◌∙◌}
+use Rattle.std.proofs.Common.{inl, inr, arith, length, zero, suc, eq-eqb}
 use Rattle.std.specs.List.{count_by}
 use Rattle.std.proofs.lemmas.Bool.Decides.{nat_tests}
 use Rattle.std.proofs.lemmas.Grind.{common_steps}
@@ -27,7 +28,8 @@ count-le f (suc m) = elim (f m) as (λ (b : Bool). cond b 1 0 + count_below f m 
 ]
 
 -- two tests that differ at one number alone, which passes the first and not the second
-pub count-differs : (f g : ℕ → Bool) (p m : ℕ) → g p ≡ false → ((n : ℕ) → n ≢ p → f n ≡ g n) → p < m → count_below f m ≡ cond (f p) 1 0 + count_below g m
+pub count-differs : (f g : ℕ → Bool) (p m : ℕ) → g p ≡ false → ((n : ℕ) → n ≢ p → f n ≡ g n) → p < m →
+    count_below f m ≡ cond (f p) 1 0 + count_below g m
 count-differs f g p zero none same l = absurd (omega arith)
 count-differs f g p (suc m) none same l = elim (cases_lt p m) [
   | inl below ↦ (let here : f m ≡ g m = same m (λ e. omega arith) in
@@ -48,13 +50,16 @@ pub hold_of-here : (h : Hold) (hs : List Hold) → hold_of (h ∷ hs) h.patron �
 hold_of-here h hs = rw (eq-eqb h.patron h.patron refl) refl
 
 -- the holds of a queue that pass, counted by patron
-pub count-holds : (test : Option Hold → Bool) → test None ≡ false → (hs : List Hold) (m : ℕ) → HasPatronsOnce hs → AreOfPatrons m hs → count_below (λ n. test (hold_of hs n)) m ≡ count_by (λ h. test (Some h)) hs
+pub count-holds : (test : Option Hold → Bool) → test None ≡ false → (hs : List Hold) (m : ℕ) → HasPatronsOnce hs → AreOfPatrons m hs →
+    count_below (λ n. test (hold_of hs n)) m ≡ count_by (λ h. test (Some h)) hs
 count-holds test none [] m once patrons = rw none (count-none m)
 count-holds test none (h ∷ hs) m once patrons =
     let off : test (hold_of hs h.patron) ≡ false = ap test once.0 ∙ none in
     let on : test (hold_of (h ∷ hs) h.patron) ≡ test (Some h) = ap test (hold_of-here h hs) in
-    let split : count_below (λ n. test (hold_of (h ∷ hs) n)) m ≡ cond (test (hold_of (h ∷ hs) h.patron)) 1 0 + count_below (λ n. test (hold_of hs n)) m =
-    count-differs (λ n. test (hold_of (h ∷ hs) n)) (λ n. test (hold_of hs n)) h.patron m off (λ n other. ap test (hold_of-other h hs n other)) patrons.0 in
+    let split : count_below (λ n. test (hold_of (h ∷ hs) n)) m ≡ cond (test (hold_of (h ∷ hs) h.patron)) 1 0 + count_below
+    (λ n. test (hold_of hs n)) m =
+    count-differs (λ n. test (hold_of (h ∷ hs) n)) (λ n. test (hold_of hs n)) h.patron m off
+    (λ n other. ap test (hold_of-other h hs n other)) patrons.0 in
     let rest : count_below (λ n. test (hold_of hs n)) m ≡ count_by (λ k. test (Some k)) hs = count-holds test none hs m once.1 patrons.1 in
     split ∙ (λ i. cond (on i) 1 0 + rest i) ∙ sym (sum_by-cons (λ k. cond (test (Some k)) 1 0) h hs)
 

@@ -1,5 +1,6 @@
 -- The holds of one title, as a list.
-use Rattle.std.proofs.Common.{◌≡◌, ◌≢◌, ℕ, ◌<◌, ◌==◌, nat_lt, Bool, true, false, cond, List, [], ◌∷◌, Option, None, Some, refl, ap, sym, ◌∙◌, inl, inr, ◌⊎◌, arith, eq-eqb}
+use Rattle.std.proofs.Common.{◌≡◌, ◌≢◌, ℕ, ◌<◌, ◌==◌, nat_lt, Bool, true, false, cond, List, [], ◌∷◌, Option, None, Some, refl, ap, sym}
+use Rattle.std.proofs.Common.{◌∙◌, inl, inr, ◌⊎◌, arith, eq-eqb}
 use Rattle.std.proofs.lemmas.Bool.Decides.{nat_tests}
 use Rattle.std.proofs.lemmas.Grind.{common_steps}
 use Rattle.std.proofs.lemmas.Bool.{cases_Bool, eqb-true}
@@ -7,7 +8,8 @@ use Rattle.hd_rules.specs.declared.holds.Hold.{Hold}
 use Rattle.hd_rules.specs.Facts.{Facts}
 use Rattle.hd_rules.specs.Known.{IsKnownHeld, IsKnownHold}
 use Rattle.hd_queue.specs.Holds.{AllAfter, HasNoStamp, HasPatronsOnce, IsInOrder, hold_of, with_hold, without}
-use Rattle.hd_queue.proofs.HoldsLemmas.{HasPatronsOnce-filter, HasPatronsOnce-with_hold, IsInOrder-filter, IsInOrder-with_hold, hold_of-with_hold}
+use Rattle.hd_queue.proofs.HoldsLemmas.{HasPatronsOnce-filter, HasPatronsOnce-with_hold, IsInOrder-filter, IsInOrder-with_hold}
+use Rattle.hd_queue.proofs.HoldsLemmas.{hold_of-with_hold}
 use Rattle.hd_holds.specs.Held.{AreKnown, AreOfPatrons, IsQueue, with_held}
 use Rattle.hd_holds.proofs.Counts.{hold_of-here, hold_of-other}
 
@@ -15,10 +17,12 @@ some-is : (g h : Hold) → Some g ≡ Some h → g ≡ h
 some-is g h e = cc
 
 -- a patron's hold is the first one if that is the patron's, and else among the others
-hold_of-cases : (x : Hold) (hs : List Hold) (p : ℕ) (g : Hold) → hold_of (x ∷ hs) p ≡ Some g → ((x.patron ≡ p) × (x ≡ g)) ⊎ (hold_of hs p ≡ Some g)
+hold_of-cases : (x : Hold) (hs : List Hold) (p : ℕ) (g : Hold) → hold_of (x ∷ hs) p ≡ Some g →
+    ((x.patron ≡ p) × (x ≡ g)) ⊎ (hold_of hs p ≡ Some g)
 hold_of-cases x hs p g is = by_test (x.patron == p) refl is
   where
-    by_test : (b : Bool) → (x.patron == p) ≡ b → cond b (Some x) (hold_of hs p) ≡ Some g → ((x.patron ≡ p) × (x ≡ g)) ⊎ (hold_of hs p ≡ Some g)
+    by_test : (b : Bool) → (x.patron == p) ≡ b → cond b (Some x) (hold_of hs p) ≡ Some g →
+        ((x.patron ≡ p) × (x ≡ g)) ⊎ (hold_of hs p ≡ Some g)
     by_test true same here = inl (eqb-true x.patron p same, some-is x g here)
     by_test false other there = inr there
 
@@ -37,12 +41,14 @@ stamp-after s (x ∷ hs) p g all is = elim (hold_of-cases x hs p g is) [
 ]
 
 -- no two holds of a queue have one stamp
-pub stamps-apart : (hs : List Hold) → IsInOrder hs → (p q : ℕ) (g h : Hold) → hold_of hs p ≡ Some g → hold_of hs q ≡ Some h → g.stamp ≡ h.stamp → p ≡ q
+pub stamps-apart : (hs : List Hold) → IsInOrder hs → (p q : ℕ) (g h : Hold) → hold_of hs p ≡ Some g → hold_of hs q ≡ Some h →
+    g.stamp ≡ h.stamp → p ≡ q
 stamps-apart [] order p q g h one two same = cc
 stamps-apart (x ∷ hs) order p q g h one two same =
     both (hold_of-cases x hs p g one) (hold_of-cases x hs q h two) (λ a b. stamps-apart hs order.1 p q g h a b same)
   where
-    both : (((x.patron ≡ p) × (x ≡ g)) ⊎ (hold_of hs p ≡ Some g)) → (((x.patron ≡ q) × (x ≡ h)) ⊎ (hold_of hs q ≡ Some h)) → (hold_of hs p ≡ Some g → hold_of hs q ≡ Some h → p ≡ q) → p ≡ q
+    both : (((x.patron ≡ p) × (x ≡ g)) ⊎ (hold_of hs p ≡ Some g)) → (((x.patron ≡ q) × (x ≡ h)) ⊎ (hold_of hs q ≡ Some h)) →
+        (hold_of hs p ≡ Some g → hold_of hs q ≡ Some h → p ≡ q) → p ≡ q
     both (inl a) (inl b) rest = sym a.0 ∙ b.0
     both (inl a) (inr b) rest =
         let less : x.stamp < h.stamp = stamp-after x.stamp hs q h order.0 b in
@@ -69,15 +75,19 @@ pub hold_of-taken : (hs : List Hold) (p : ℕ) → hold_of (without hs p) p ≡ 
 hold_of-taken hs p = grind (arith, nat_tests, hold_of-without hs p p)
 
 -- and has a stamp only where another patron's hold has it
-pub no_stamp-without : (n : ℕ) (hs : List Hold) (p : ℕ) → HasPatronsOnce hs → ((q : ℕ) (h : Hold) → hold_of hs q ≡ Some h → h.stamp ≡ n → q ≡ p) → HasNoStamp n (without hs p)
-no_stamp-without n hs p once alone = no_stamp n (without hs p) (HasPatronsOnce-filter _ hs once) (λ q h is same. by_test (p == q) q refl h (sym (hold_of-without hs p q) ∙ is) same)
+pub no_stamp-without : (n : ℕ) (hs : List Hold) (p : ℕ) → HasPatronsOnce hs →
+    ((q : ℕ) (h : Hold) → hold_of hs q ≡ Some h → h.stamp ≡ n → q ≡ p) → HasNoStamp n (without hs p)
+no_stamp-without n hs p once alone =
+    no_stamp n (without hs p) (HasPatronsOnce-filter _ hs once)
+    (λ q h is same. by_test (p == q) q refl h (sym (hold_of-without hs p q) ∙ is) same)
   where
     by_test : (b : Bool) (q : ℕ) → (p == q) ≡ b → (h : Hold) → cond b None (hold_of hs q) ≡ Some h → h.stamp ≡ n → ⊥
     by_test true q e h is same = cc
     by_test false q e h is same = let there : (p == q) ≡ true = eq-eqb p q (sym (alone q h is same)) in cc
 
 -- the list in which a patron's hold is another, or none
-pub hold_of-with_held : (hs : List Hold) (p q : ℕ) (o : Option Hold) → ((h : Hold) → o ≡ Some h → h.patron ≡ p) → hold_of (with_held hs p o) q ≡ cond (p == q) o (hold_of hs q)
+pub hold_of-with_held : (hs : List Hold) (p q : ℕ) (o : Option Hold) → ((h : Hold) → o ≡ Some h → h.patron ≡ p) →
+    hold_of (with_held hs p o) q ≡ cond (p == q) o (hold_of hs q)
 hold_of-with_held hs p q None own = hold_of-without hs p q
 hold_of-with_held hs p q (Some h) own =
     let own_hold : h.patron ≡ p = own h refl in
@@ -110,7 +120,8 @@ known-patrons k [] all = tt
 known-patrons k (h ∷ hs) all = (all.0.patron, known-patrons k hs all.1)
 
 -- a queue in which a patron's hold becomes another, or none
-pub queue-with_held : (k : Facts) (hs : List Hold) (p : ℕ) (o : Option Hold) → IsQueue k hs → IsKnownHeld k o → ((h : Hold) → o ≡ Some h → h.patron ≡ p) → ((h : Hold) → o ≡ Some h → HasNoStamp h.stamp (without hs p)) → IsQueue k (with_held hs p o)
+pub queue-with_held : (k : Facts) (hs : List Hold) (p : ℕ) (o : Option Hold) → IsQueue k hs → IsKnownHeld k o →
+    ((h : Hold) → o ≡ Some h → h.patron ≡ p) → ((h : Hold) → o ≡ Some h → HasNoStamp h.stamp (without hs p)) → IsQueue k (with_held hs p o)
 queue-with_held k hs p None is known own apart = record {
   ordered = IsInOrder-filter _ hs is.ordered;
   once = HasPatronsOnce-filter _ hs is.once;
@@ -118,6 +129,7 @@ queue-with_held k hs p None is known own apart = record {
 }
 queue-with_held k hs p (Some h) is known own apart = record {
   ordered = IsInOrder-with_hold (without hs p) h (IsInOrder-filter _ hs is.ordered) (apart h refl);
-  once = HasPatronsOnce-with_hold (without hs p) h (HasPatronsOnce-filter _ hs is.once) (ap (hold_of (without hs p)) (own h refl) ∙ hold_of-taken hs p);
+  once = HasPatronsOnce-with_hold (without hs p) h (HasPatronsOnce-filter _ hs is.once) (ap (hold_of (without hs p)) (own h refl)
+      ∙ hold_of-taken hs p);
   known = known-with_hold k (without hs p) h (known-without k hs p is.known) known;
 }

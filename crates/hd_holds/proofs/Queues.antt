@@ -1,5 +1,6 @@
 -- The queues of all titles.
-use Rattle.std.proofs.Common.{◌≡◌, ℕ, ◌+◌, ◌<◌, ◌≤◌, ◌==◌, ◌&&◌, Bool, true, false, cond, List, [], ◌∷◌, ◌++◌, Option, None, Some, is_some, refl, ap, sym, ◌∙◌, inl, inr, arith, length, zero, suc, eq-eqb, get_or}
+use Rattle.std.proofs.Common.{◌≡◌, ℕ, ◌+◌, ◌<◌, ◌≤◌, ◌==◌, ◌&&◌, Bool, true, false, cond, List, [], ◌∷◌, ◌++◌, Option, None, Some, is_some}
+use Rattle.std.proofs.Common.{refl, ap, sym, ◌∙◌, inl, inr, arith, length, zero, suc, eq-eqb, get_or}
 use Rattle.std.proofs.Math.ListN.{set}
 use Rattle.std.proofs.lemmas.Grind.{common_steps}
 use Rattle.std.proofs.lemmas.Bool.{cases_Bool, eqb-true}
@@ -42,13 +43,15 @@ unfolding held
 held-empty v all = λ i t p. hold_of (empty-queue v.queues all t i) p
 
 -- the queues after one of them is written
-pub queue_of-set : (qs : List QueueValue) (i : ℕ) (q : QueueValue) (t : ℕ) → i < length qs → queue_of (set qs i q) t ≡ cond (i == t) q (queue_of qs t)
+pub queue_of-set : (qs : List QueueValue) (i : ℕ) (q : QueueValue) (t : ℕ) → i < length qs →
+    queue_of (set qs i q) t ≡ cond (i == t) q (queue_of qs t)
 queue_of-set qs i q t l = elim (cases_Bool (i == t)) [
   | inl b ↦ (let e : i ≡ t = eqb-true i t b in rw b (ap (queue_of (set qs i q)) (sym e) ∙ get_or-set_same qs i q _ l))
   | inr b ↦ rw b (get_or-set_other qs i t q _ (λ e. let s : (i == t) ≡ true = eq-eqb i t (sym e) in cc))
 ]
 
-pub queues-set : (k : Facts) (qs : List QueueValue) (i : ℕ) (q : QueueValue) → i < length qs → AreQueues k qs → IsQueue k q.holds → AreQueues k (set qs i q)
+pub queues-set : (k : Facts) (qs : List QueueValue) (i : ℕ) (q : QueueValue) → i < length qs → AreQueues k qs → IsQueue k q.holds →
+    AreQueues k (set qs i q)
 queues-set k qs i q l all is = record {
   titles = length-set qs i q ∙ all.titles;
   queue = λ t. rw (queue_of-set qs i q t l) (one (i == t) t);
@@ -59,11 +62,13 @@ queues-set k qs i q l all is = record {
     one false t = all.queue t
 
 -- what is held after a queue is written that has a patron's hold otherwise, and is otherwise the title's
-pub held-set : (v e : HoldsValue) (i : ℕ) (q : QueueValue) (p : ℕ) (o : Option Hold) → e.queues ≡ set v.queues i q → i < length v.queues → ((n : ℕ) → hold_of q.holds n ≡ cond (p == n) o (held v i n)) → held e ≡ (λ t n. cond ((i == t) && (p == n)) o (held v t n))
+pub held-set : (v e : HoldsValue) (i : ℕ) (q : QueueValue) (p : ℕ) (o : Option Hold) → e.queues ≡ set v.queues i q → i < length v.queues →
+    ((n : ℕ) → hold_of q.holds n ≡ cond (p == n) o (held v i n)) → held e ≡ (λ t n. cond ((i == t) && (p == n)) o (held v t n))
 unfolding held
 held-set v e i q p o queues l holds = λ j t n. all t n j
   where
-    one : (b : Bool) (t n : ℕ) → (i == t) ≡ b → hold_of (cond b q (queue_of v.queues t)).holds n ≡ cond (b && (p == n)) o (hold_of (queue_of v.queues t).holds n)
+    one : (b : Bool) (t n : ℕ) → (i == t) ≡ b → hold_of (cond b q (queue_of v.queues t)).holds n
+        ≡ cond (b && (p == n)) o (hold_of (queue_of v.queues t).holds n)
     one true t n is = holds n ∙ ap (λ (u : ℕ). cond (p == n) o (hold_of (queue_of v.queues u).holds n)) (eqb-true i t is)
     one false t n is = refl
 
@@ -72,7 +77,8 @@ held-set v e i q p o queues l holds = λ j t n. all t n j
         ∙ ap (λ (r : QueueValue). hold_of r.holds n) (queue_of-set v.queues i q t l) ∙ one (i == t) t n refl
 
 -- the holds are as they were
-pub held-same : (v e : HoldsValue) (i : ℕ) (q : QueueValue) → e.queues ≡ set v.queues i q → i < length v.queues → q.holds ≡ (queue_of v.queues i).holds → held e ≡ held v
+pub held-same : (v e : HoldsValue) (i : ℕ) (q : QueueValue) → e.queues ≡ set v.queues i q → i < length v.queues →
+    q.holds ≡ (queue_of v.queues i).holds → held e ≡ held v
 unfolding held
 held-same v e i q queues l holds = λ j t n. hold_of (all t j) n
   where
@@ -89,7 +95,8 @@ welcome-own : (v : HoldsValue) (t p : ℕ) (o : Option Hold) → IsWelcome (held
 welcome-own v t p None fit h is = cc
 welcome-own v t p (Some x) fit h is = let same : x ≡ h = cc in ap (λ (y : Hold). y.patron) (sym same) ∙ fit.0
 
-welcome-stamp : (v : HoldsValue) (t p : ℕ) (o : Option Hold) → IsQueue (facts v) (queue_of v.queues t).holds → IsWelcome (held v) t p o → (h : Hold) → o ≡ Some h → HasNoStamp h.stamp (without (queue_of v.queues t).holds p)
+welcome-stamp : (v : HoldsValue) (t p : ℕ) (o : Option Hold) → IsQueue (facts v) (queue_of v.queues t).holds → IsWelcome (held v) t p o →
+    (h : Hold) → o ≡ Some h → HasNoStamp h.stamp (without (queue_of v.queues t).holds p)
 unfolding held
 welcome-stamp v t p None is fit h e = cc
 welcome-stamp v t p (Some x) is fit h e =
@@ -97,17 +104,23 @@ welcome-stamp v t p (Some x) is fit h e =
     rw (← same) (no_stamp-without x.stamp (queue_of v.queues t).holds p is.once fit.1)
 
 -- the answers from a queue
-pub position-queue : (v : HoldsValue) (t stamp : ℕ) → IsQueue (facts v) (queue_of v.queues t).holds → (d : Desk) → d.hold ≡ held v → count_before (queue_of v.queues t).holds stamp + 1 ≡ position (facts v) d t stamp
+pub position-queue : (v : HoldsValue) (t stamp : ℕ) → IsQueue (facts v) (queue_of v.queues t).holds → (d : Desk) → d.hold ≡ held v →
+    count_before (queue_of v.queues t).holds stamp + 1 ≡ position (facts v) d t stamp
 unfolding held
 position-queue v t stamp is d same =
     sym (ap (λ (n : ℕ). n + 1) (ap (λ (h : ℕ → ℕ → Option Hold). count_below (λ n. is_before stamp (h t n)) (facts v).patrons) same
-    ∙ count-holds (is_before stamp) refl (queue_of v.queues t).holds (facts v).patrons is.once (known-patrons (facts v) (queue_of v.queues t).holds is.known)))
+    ∙ count-holds (is_before stamp) refl (queue_of v.queues t).holds (facts v).patrons is.once
+    (known-patrons (facts v) (queue_of v.queues t).holds is.known)))
 
-pub count-queue : (v : HoldsValue) (t : ℕ) → IsQueue (facts v) (queue_of v.queues t).holds → length (queue_of v.queues t).holds ≡ count_below (λ p. is_some (held v t p)) (facts v).patrons
+pub count-queue : (v : HoldsValue) (t : ℕ) → IsQueue (facts v) (queue_of v.queues t).holds →
+    length (queue_of v.queues t).holds ≡ count_below (λ p. is_some (held v t p)) (facts v).patrons
 unfolding held
-count-queue v t is = sym (count-holds is_some refl (queue_of v.queues t).holds (facts v).patrons is.once (known-patrons (facts v) (queue_of v.queues t).holds is.known) ∙ count-all (queue_of v.queues t).holds)
+count-queue v t is =
+    sym (count-holds is_some refl (queue_of v.queues t).holds (facts v).patrons is.once
+    (known-patrons (facts v) (queue_of v.queues t).holds is.known) ∙ count-all (queue_of v.queues t).holds)
 
-pub few-holds : (v : HoldsValue) (t : ℕ) → IsQueue (facts v) (queue_of v.queues t).holds → length (queue_of v.queues t).holds ≤ (facts v).patrons
+pub few-holds : (v : HoldsValue) (t : ℕ) → IsQueue (facts v) (queue_of v.queues t).holds →
+    length (queue_of v.queues t).holds ≤ (facts v).patrons
 few-holds v t is = rw (count-queue v t is) (count-le (λ p. is_some (held v t p)) (facts v).patrons)
 
 -- the queue of a title as the code reads it, of holds v that are w
@@ -131,25 +144,30 @@ reads-queue v w i t q reads = get_or_read v.queues i q (reads-within v w i t q r
 -- more room alone
 pub held-ready : (v w : HoldsValue) (i t : ℕ) (q r : QueueValue) → Reads v w i t q → r.holds ≡ q.holds → held (written v i r) ≡ held w
 held-ready v w i t q r reads holds =
-    held-same v (written v i r) i r refl (reads-within v w i t q reads) (holds ∙ ap (λ (x : QueueValue). x.holds) (reads-queue v w i t q reads))
+    held-same v (written v i r) i r refl (reads-within v w i t q reads)
+    (holds ∙ ap (λ (x : QueueValue). x.holds) (reads-queue v w i t q reads))
     ∙ ap held reads.same
 
 -- a patron's hold becomes another, or none
-welcome-read : (v w : HoldsValue) (i t : ℕ) (q : QueueValue) (p : ℕ) (o : Option Hold) → Reads v w i t q → IsWelcome (held w) t p o → IsWelcome (held v) i p o
+welcome-read : (v w : HoldsValue) (i t : ℕ) (q : QueueValue) (p : ℕ) (o : Option Hold) → Reads v w i t q → IsWelcome (held w) t p o →
+    IsWelcome (held v) i p o
 welcome-read v w i t q p o reads fit = rw (reads.same, reads.index) fit
 
-pub stamp-put : (v w : HoldsValue) (i t : ℕ) (q : QueueValue) (p : ℕ) (o : Option Hold) → Reads v w i t q → IsWelcome (held w) t p o → (h : Hold) → o ≡ Some h → HasNoStamp h.stamp (without q.holds p)
+pub stamp-put : (v w : HoldsValue) (i t : ℕ) (q : QueueValue) (p : ℕ) (o : Option Hold) → Reads v w i t q → IsWelcome (held w) t p o →
+    (h : Hold) → o ≡ Some h → HasNoStamp h.stamp (without q.holds p)
 stamp-put v w i t q p o reads fit =
     rw (reads-queue v w i t q reads) (welcome-stamp v i p o (reads.all.queue i) (welcome-read v w i t q p o reads fit))
 
-pub queues-put : (v w : HoldsValue) (i t : ℕ) (q r : QueueValue) (p : ℕ) (o : Option Hold) → Reads v w i t q → IsWelcome (held w) t p o → IsKnownHeld (facts w) o → r.holds ≡ with_held q.holds p o → AreQueues (facts v) (set v.queues i r)
+pub queues-put : (v w : HoldsValue) (i t : ℕ) (q r : QueueValue) (p : ℕ) (o : Option Hold) → Reads v w i t q → IsWelcome (held w) t p o →
+    IsKnownHeld (facts w) o → r.holds ≡ with_held q.holds p o → AreQueues (facts v) (set v.queues i r)
 queues-put v w i t q r p o reads fit known holds =
     let is : IsQueue (facts v) q.holds = rw (reads-queue v w i t q reads) (reads.all.queue i) in
     let own : (h : Hold) → o ≡ Some h → h.patron ≡ p = welcome-own v i p o (welcome-read v w i t q p o reads fit) in
     queues-set (facts v) v.queues i r (reads-within v w i t q reads) reads.all
     (rw holds (queue-with_held (facts v) q.holds p o is (rw reads.same known) own (stamp-put v w i t q p o reads fit)))
 
-pub held-put : (v w : HoldsValue) (i t : ℕ) (q r : QueueValue) (p : ℕ) (o : Option Hold) → Reads v w i t q → IsWelcome (held w) t p o → r.holds ≡ with_held q.holds p o → held (written v i r) ≡ (λ u n. cond ((t == u) && (p == n)) o (held w u n))
+pub held-put : (v w : HoldsValue) (i t : ℕ) (q r : QueueValue) (p : ℕ) (o : Option Hold) → Reads v w i t q → IsWelcome (held w) t p o →
+    r.holds ≡ with_held q.holds p o → held (written v i r) ≡ (λ u n. cond ((t == u) && (p == n)) o (held w u n))
 unfolding held
 held-put v w i t q r p o reads fit holds =
     let own : (h : Hold) → o ≡ Some h → h.patron ≡ p = welcome-own v i p o (welcome-read v w i t q p o reads fit) in

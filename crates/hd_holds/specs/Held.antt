@@ -49,7 +49,8 @@ abbrev pub AreKnown : Facts → List Hold → Type 0
 AreKnown k [] = Unit {0}
 AreKnown k (h ∷ hs) = IsKnownHold k h × AreKnown k hs
 
--- A queue of a title: stamps rise, each patron has at most one hold in it, and holds name things of the catalogue.
+-- A queue of a title: stamps rise, each patron has at most one hold in it, and holds name things of the
+-- catalogue.
 pub record IsQueue (k : Facts) (holds : List Hold) : Type 0 where
   pub ordered : IsInOrder holds
   pub once : HasPatronsOnce holds

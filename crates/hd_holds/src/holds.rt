@@ -1,15 +1,17 @@
 //! Holds, a queue for each title.
 #![tactic(auto, unfolding(crate::specs::Held::held, crate::specs::Held::room_of))]
 
-ghost use Rattle.std.specs.Prelude.{◌≡◌, ◌+◌, ◌<◌, ◌≤◌, ◌==◌, ◌&&◌, ℕ, if◌then◌else◌, IfOk, None, OnErr, OnOk, Option, is_some};
+ghost use Rattle.std.specs.Prelude.{◌≡◌, ◌+◌, ◌<◌, ◌≤◌, ◌==◌, ◌&&◌, ℕ, if◌then◌else◌, IfOk, None, OnErr};
+ghost use Rattle.std.specs.Prelude.{OnOk, Option, is_some};
 ghost use Rattle.std.specs.Arc.{arc_value};
 ghost use Rattle.std.specs.Option.{ForSome};
 ghost use Rattle.hd_rules.specs.Choose.{count_below, position};
 ghost use Rattle.hd_rules.specs.Desk.{Desk};
 ghost use Rattle.hd_rules.specs.Known.{IsKnownHeld};
 ghost use Rattle.hd_rules.specs.Sound.{AreNamed, StampsApart};
-ghost use Rattle.hd_queue.specs.Holds.{HasNoStamp, hold_of, without};
-ghost use Rattle.hd_holds.specs.Held.{AreKnown, AreOfPatrons, IsQueue, IsWelcome, facts, held, queue_of, room_of, with_held};
+ghost use Rattle.hd_queue.specs.Holds.{HasNoStamp, HasPatronsOnce, IsInOrder, hold_of, without};
+ghost use Rattle.hd_holds.specs.Held.{AreKnown, AreOfPatrons, AreQueues, IsQueue, IsWelcome, facts, held};
+ghost use Rattle.hd_holds.specs.Held.{queue_of, room_of, with_held};
 
 use hd_catalogue::Catalogue;
 use hd_queue::{Queue, QueueView};
@@ -56,18 +58,15 @@ impl<A: Allocator + Copy> Holds<A> {
         Ok(Holds { catalogue, queues })
     }
 
-    /// The catalogue.
-    pub fn catalogue(&self) -> &Arc<Catalogue<A>, A>
-        ensures { arc_value result.now ≡ self.now.contents }
-    {
-        &self.catalogue
-    }
-
     /// The patron's hold of the title, or `None` where there is none.
+    ///
+    /// Holds stand under their own patrons, and no two of a title have one stamp.
     pub fn get(&self, title: TitleNo, patron: PatronNo) -> Option<Hold>
         requires { title < (facts self.now).titles }
         ensures held { result ≡ held self.now title patron }
         ensures known { IsKnownHeld (facts self.now) result }
+        ensures named { AreNamed (held self.now) }
+        ensures apart { StampsApart (held self.now) }
     {
         self.queue(title).hold_of(patron)
     }
@@ -89,7 +88,8 @@ impl<A: Allocator + Copy> Holds<A> {
 
     /// The patron's hold of the title becomes this, or ends. It takes no memory.
     ///
-    /// A new hold needs room at the title. It is the patron's own, and no other patron's hold of the title has its stamp.
+    /// A new hold needs room at the title. It is the patron's own, and no other patron's hold of the title
+    /// has its stamp.
     pub fn put(&mut self, title: TitleNo, patron: PatronNo, new: &Option<Hold>)
         requires title { title < (facts self.old).titles }
         requires patron { patron < (facts self.old).patrons }
@@ -123,25 +123,16 @@ impl<A: Allocator + Copy> Holds<A> {
         self.queue(title).len() as u32
     }
 
-    /// The title's queue.
+    /// The title's queue. The stamps rise, and no patron has two holds.
     pub fn view(&self, title: TitleNo) -> QueueView<'_>
         requires { title < (facts self.now).titles }
         ensures holds { (p : ℕ) → held self.now title p ≡ hold_of result p }
+        ensures ordered { IsInOrder result }
+        ensures once { HasPatronsOnce result }
         ensures patrons { AreOfPatrons (facts self.now).patrons result }
         ensures known { AreKnown (facts self.now) result }
     {
         self.queue(title).view()
-    }
-
-    /// Shows that holds stand under their own patrons, that no two of a title have one stamp, and that they name things of
-    /// the catalogue.
-    pub fn holds_are_fit(&self)
-        ensures named { AreNamed (held self.now) }
-        ensures apart { StampsApart (held self.now) }
-        ensures known { (t p : ℕ) → t < (facts self.now).titles → p < (facts self.now).patrons
-            → IsKnownHeld (facts self.now) (held self.now t p) }
-    {
-        let _ = &self.queues;
     }
 
     /// The title's queue, as it is kept.
@@ -149,6 +140,7 @@ impl<A: Allocator + Copy> Holds<A> {
         requires { title < (facts self.now).titles }
         ensures value { result.now ≡ queue_of self.now.queues title }
         ensures queue { IsQueue (facts self.now) (queue_of self.now.queues title).holds }
+        ensures all { AreQueues (facts self.now) self.now.queues }
     {
         &self.queues[title.number() as usize]
     }

@@ -1,14 +1,13 @@
 -- A journal goes on by one turn.
-use Rattle.std.proofs.Common.{arith, ◌≡◌, refl, sym, ◌∙◌, ap, subst, ℕ, ◌+◌, ◌≤◌, ◌⊎◌, inl, inr, List, [], ◌∷◌, ◌++◌, length, length-append, Option, Some, None}
-use Rattle.hd_rules.specs.declared.commands.Command.{Command}
-use Rattle.hd_rules.specs.declared.commands.Cancel.{Cancel}
+use Rattle.std.proofs.Common.{arith, ◌≡◌, refl, sym, ◌∙◌, ap, subst, ℕ, ◌+◌, ◌≤◌, ◌⊎◌, inl, inr}
+use Rattle.std.proofs.Common.{List, [], ◌∷◌, ◌++◌, length, length-append, Option, Some, None, Result, Ok, Err, OnErr}
+use Rattle.hd_rules.specs.declared.turns.Asked.{Asked}
 use Rattle.hd_rules.specs.declared.turns.Asked.TheVariants as ask
 use Rattle.hd_rules.specs.declared.replies.TurnReply.{TurnReply}
-use Rattle.hd_rules.specs.declared.replies.TurnReply.TheVariants.{Item}
 use Rattle.hd_rules.specs.Facts.{Facts, AreInRange}
 use Rattle.hd_rules.specs.Known.{IsKnown}
-use Rattle.hd_rules.specs.Run.{IsAmong, run}
-use Rattle.hd_rules.specs.Turns.{Message, Kept, State, Answered, repeated_of, item_view, answered_unless, with_kept, turn_of, start}
+use Rattle.hd_rules.specs.Run.{IsAmong}
+use Rattle.hd_rules.specs.Turns.{Message, Kept, State, Answered, repeated_of, repeated, answered_unless, with_kept, turn_of, start}
 use Rattle.hd_rules.specs.Journal.{Turn, state_after}
 use Rattle.hd_rules.proofs.Journals.{legal_is_run, legal_joined, state_joined}
 use Rattle.hd_rules.proofs.Theorem.{headline}
@@ -16,31 +15,76 @@ use Rattle.hd_rules.proofs.ReplyingTurns.{each_replies}
 use Rattle.hd_rules.proofs.FamiliarTurns.{known_journal}
 use Rattle.hd_rules.proofs.Splits.{among_either}
 use Rattle.hd_catalogue.specs.Contents.{Contents, facts_of}
+use Rattle.hd_footprint.specs.Meter.{Counts}
 use Rattle.hd_journal.specs.declared.turn.Turn.{Turn as OneTurn}
-use Rattle.hd_journal.specs.Running.{Running, Submitted, Withdrawn, state_at}
-use Rattle.hd_journal.specs.Telling.{Told, with_turn, kept_in, kept_by}
-use Rattle.hd_journal.specs.Books.{Book, AddsTurn, IsLegalBook, AskKnown, IsKept, asking}
+use Rattle.hd_journal.specs.Asks.{asking}
+use Rattle.hd_journal.specs.Running.{Running, IsCarriedOut, state_at, state_alone}
+use Rattle.hd_journal.specs.Telling.{Told, after_turn, kept_in, kept_by}
+use Rattle.hd_journal.specs.Working.{IsWork, OnlyRise}
+use Rattle.hd_journal.specs.Books.{Book, AddsTurn, IsLegalBook, MakesNoTurn, AskKnown, IsKept}
 
 -- the answer to a repeat
-pub repeat_answer : (r : Running) (kept : ℕ → Option Kept) (m : Message) (reply : TurnReply) → Some reply ≡ repeated_of (kept m.terminal) m.asked m.line → turn_of (facts_of r.contents) (state_at r kept) m ≡ record { reply = reply; state = state_at r kept }
+pub repeat_answer : (r : Running) (kept : ℕ → Option Kept) (m : Message) (reply : TurnReply)
+    → Some reply ≡ repeated_of (kept m.terminal) m.asked m.line
+    → turn_of (facts_of r.contents) (state_at r kept) m ≡ record { reply = reply; state = state_at r kept }
 repeat_answer r kept m reply is = ap (answered_unless (facts_of r.contents) (state_at r kept) m) (sym is)
 
+abbrev turn_with : ℕ → ℕ → Asked → Option (List ℕ) → TurnReply → Turn
+turn_with seat terminal asked line reply = record { seat = seat; message = asking terminal asked line; reply = reply }
+
 -- the answer to another message
-pub submit_answer : (r next : Running) (kept : ℕ → Option Kept) (seat terminal : ℕ) (command : Command) (line : Option (List ℕ)) (reply : TurnReply) → None ≡ repeated_of (kept terminal) (ask.Command command) line → Submitted r terminal command reply next → turn_of (facts_of r.contents) (state_at r kept) (asking terminal (ask.Command command) line) ≡ record { reply = reply; state = state_at next (with_turn (record { seat = seat; message = asking terminal (ask.Command command) line; reply = reply }) kept) }
-submit_answer r next kept seat terminal command line reply new is =
+new_answer : (r next : Running) (kept : ℕ → Option Kept) (seat terminal : ℕ) (asked : Asked) (line : Option (List ℕ)) (reply : TurnReply)
+    → None ≡ repeated_of (kept terminal) asked line
+    → IsCarriedOut r terminal asked reply next
+    → turn_of (facts_of r.contents) (state_at r kept) (asking terminal asked line)
+    ≡ record { reply = reply; state = state_at next (after_turn (turn_with seat terminal asked line reply) kept) }
+new_answer r next kept seat terminal (ask.Command command) line reply new is =
     let m : Message = asking terminal (ask.Command command) line in
     ap (answered_unless (facts_of r.contents) (state_at r kept) m) (sym new) ∙ ap (with_kept m) (is kept)
-
-pub cancel_answer : (r next : Running) (kept : ℕ → Option Kept) (seat terminal : ℕ) (what : Cancel) (line : Option (List ℕ)) (reply : TurnReply) → None ≡ repeated_of (kept terminal) (ask.Cancel what) line → Withdrawn r terminal what reply next → turn_of (facts_of r.contents) (state_at r kept) (asking terminal (ask.Cancel what) line) ≡ record { reply = reply; state = state_at next (with_turn (record { seat = seat; message = asking terminal (ask.Cancel what) line; reply = reply }) kept) }
-cancel_answer r next kept seat terminal what line reply new is =
+new_answer r next kept seat terminal (ask.Cancel what) line reply new is =
     let m : Message = asking terminal (ask.Cancel what) line in
     ap (answered_unless (facts_of r.contents) (state_at r kept) m) (sym new) ∙ ap (with_kept m) (is kept)
+new_answer r next kept seat terminal (ask.Item copy) line reply new is =
+    ap (answered_unless (facts_of r.contents) (state_at r kept) (asking terminal (ask.Item copy) line)) (sym new)
+    ∙ (λ j. record { reply = sym is.0 j; state = state_at (sym is.1 j) kept })
 
--- the answer to a query
-pub query_answer : (r : Running) (kept : ℕ → Option Kept) (terminal item : ℕ) (line : Option (List ℕ)) (reply : TurnReply) → None ≡ repeated_of (kept terminal) (ask.Item item) line → reply ≡ Item (item_view (facts_of r.contents) (run (facts_of r.contents) r.survivors) item) → turn_of (facts_of r.contents) (state_at r kept) (asking terminal (ask.Item item) line) ≡ record { reply = reply; state = state_at r kept }
-query_answer r kept terminal item line reply new is =
-    ap (answered_unless (facts_of r.contents) (state_at r kept) (asking terminal (ask.Item item) line)) (sym new)
-    ∙ (λ j. record { reply = sym is j; state = state_at r kept })
+pub carried_answer : (r next : Running) (kept : ℕ → Option Kept) (turn : Turn)
+    → None ≡ repeated_of (kept turn.message.terminal) turn.message.asked turn.message.line
+    → IsCarriedOut r turn.message.terminal turn.message.asked turn.reply next
+    → turn_of (facts_of r.contents) (state_at r kept) turn.message
+    ≡ record { reply = turn.reply; state = state_at next (after_turn turn kept) }
+carried_answer r next kept turn new is =
+    new_answer r next kept turn.seat turn.message.terminal turn.message.asked turn.message.line turn.reply new is
+
+-- a repeat raises nothing
+still_work : (k : Facts) (s : State) (terminal : ℕ) (asked : Asked) (reply : TurnReply) (work : Counts)
+    → IsWork k s terminal asked (Some reply) work work
+still_work k s terminal (ask.Command command) reply work = refl
+still_work k s terminal (ask.Cancel what) reply work = refl
+still_work k s terminal (ask.Item copy) reply work = refl
+
+pub repeat_work : (r : Running) (kept : ℕ → Option Kept) (m : Message) (reply : TurnReply) (work : Counts)
+    → Some reply ≡ repeated_of (kept m.terminal) m.asked m.line
+    → IsWork (facts_of r.contents) (state_at r kept) m.terminal m.asked (repeated (state_at r kept) m) work work
+repeat_work r kept m reply work is =
+    subst (λ (again : Option TurnReply). IsWork (facts_of r.contents) (state_at r kept) m.terminal m.asked again work work) is
+    (still_work (facts_of r.contents) (state_at r kept) m.terminal m.asked reply work)
+
+-- what is kept has no part in the work of another message
+work_beside : (r : Running) (kept : ℕ → Option Kept) (terminal : ℕ) (asked : Asked) (old new : Counts)
+    → IsWork (facts_of r.contents) (state_alone r) terminal asked None old new
+    → IsWork (facts_of r.contents) (state_at r kept) terminal asked None old new
+work_beside r kept terminal (ask.Command command) old new is = is
+work_beside r kept terminal (ask.Cancel what) old new is = is
+work_beside r kept terminal (ask.Item copy) old new is = is
+
+pub carried_work : (r : Running) (kept : ℕ → Option Kept) (m : Message) (old new : Counts)
+    → None ≡ repeated_of (kept m.terminal) m.asked m.line
+    → IsWork (facts_of r.contents) (state_alone r) m.terminal m.asked None old new
+    → IsWork (facts_of r.contents) (state_at r kept) m.terminal m.asked (repeated (state_at r kept) m) old new
+carried_work r kept m old new none is =
+    subst (λ (again : Option TurnReply). IsWork (facts_of r.contents) (state_at r kept) m.terminal m.asked again old new) none
+    (work_beside r kept m.terminal m.asked old new is)
 
 -- what the machine answers next, by the state that it has come to
 pub record Goes (turns more : List Turn) (r next : Running) (kept later : ℕ → Option Kept) (turn : Turn) : Type 0 where
@@ -51,17 +95,23 @@ pub record Goes (turns more : List Turn) (r next : Running) (kept later : ℕ �
   pub known : IsKnown (facts_of r.contents) turn.message.asked
   pub answer : turn_of (facts_of r.contents) (state_at r kept) turn.message ≡ record { reply = turn.reply; state = state_at next later }
 
-pub answered_so : (turns items : List Turn) (r next : Running) (kept later : ℕ → Option Kept) (turn : Turn) → Goes turns items r next kept later turn → turn_of (facts_of r.contents) (state_after (facts_of r.contents) turns) turn.message ≡ record { reply = turn.reply; state = state_at next later }
+pub answered_so : (turns items : List Turn) (r next : Running) (kept later : ℕ → Option Kept) (turn : Turn)
+    → Goes turns items r next kept later turn
+    → turn_of (facts_of r.contents) (state_after (facts_of r.contents) turns) turn.message
+    ≡ record { reply = turn.reply; state = state_at next later }
 answered_so turns items r next kept later turn h =
     ap (λ (s : State). turn_of (facts_of r.contents) s turn.message) h.was.state ∙ h.answer
 
-pub state_goes : (turns items : List Turn) (r next : Running) (kept later : ℕ → Option Kept) (turn : Turn) → Goes turns items r next kept later turn → state_after (facts_of r.contents) (turns ++ turn ∷ []) ≡ state_at next later
+pub state_goes : (turns items : List Turn) (r next : Running) (kept later : ℕ → Option Kept) (turn : Turn)
+    → Goes turns items r next kept later turn
+    → state_after (facts_of r.contents) (turns ++ turn ∷ []) ≡ state_at next later
 state_goes turns items r next kept later turn h =
     state_joined (facts_of r.contents) (start (facts_of r.contents)) turns (turn ∷ [])
     ∙ ap (λ (a : Answered). a.state) (answered_so turns items r next kept later turn h)
 
 -- one message more
-known_more : (k : Facts) (turns : List Turn) (turn : Turn) → AskKnown k turns → IsKnown k turn.message.asked → AskKnown k (turns ++ turn ∷ [])
+known_more : (k : Facts) (turns : List Turn) (turn : Turn) → AskKnown k turns → IsKnown k turn.message.asked
+    → AskKnown k (turns ++ turn ∷ [])
 known_more k turns turn all known one among = by_place (among_either one turns (turn ∷ []) among)
   where
     by_place : IsAmong one turns ⊎ IsAmong one (turn ∷ []) → IsKnown k one.message.asked
@@ -69,7 +119,9 @@ known_more k turns turn all known one among = by_place (among_either one turns (
     by_place (inr (inl same)) = subst (λ (x : Turn). IsKnown k x.message.asked) (sym same) known
     by_place (inr (inr none)) = absurd none
 
-kept_after : (turns items : List Turn) (r next : Running) (kept later : ℕ → Option Kept) (turn : Turn) → Goes turns items r next kept later turn → IsKept (turns ++ turn ∷ []) (record { contents = r.contents; survivors = next.survivors; last = next.last }) later
+kept_after : (turns items : List Turn) (r next : Running) (kept later : ℕ → Option Kept) (turn : Turn)
+    → Goes turns items r next kept later turn
+    → IsKept (turns ++ turn ∷ []) (record { contents = r.contents; survivors = next.survivors; last = next.last }) later
 kept_after turns items r next kept later turn h =
     let k : Facts = facts_of r.contents in
     let goes : turn_of k (state_after k turns) turn.message ≡ record { reply = turn.reply; state = state_at next later } =
@@ -85,14 +137,19 @@ kept_after turns items r next kept later turn h =
       last = omega (arith, length-append turns (turn ∷ []));
     }
 
-pub kept_on : (turns items : List Turn) (r next : Running) (kept later : ℕ → Option Kept) (turn : Turn) → Goes turns items r next kept later turn → IsKept items next later
+pub kept_on : (turns items : List Turn) (r next : Running) (kept later : ℕ → Option Kept) (turn : Turn)
+    → Goes turns items r next kept later turn → IsKept items next later
 kept_on turns items r next kept later turn h =
+    let there : Contents → Running = λ x. record { contents = x; survivors = next.survivors; last = next.last } in
     subst (λ (xs : List Turn). IsKept xs next later) (sym h.items)
-    (subst (λ (x : Contents). IsKept (turns ++ turn ∷ []) (record { contents = x; survivors = next.survivors; last = next.last }) later) (sym h.contents)
+    (subst (λ (x : Contents). IsKept (turns ++ turn ∷ []) (there x) later) (sym h.contents)
     (kept_after turns items r next kept later turn h))
 
 -- a journal without turns
-pub kept_at_start : (contents : Contents) (r : Running) (turns : List Turn) (places : List (Option ℕ)) → AreInRange (facts_of contents) → r ≡ record { contents = contents; survivors = []; last = 0 } → turns ≡ [] → places ≡ [] → IsKept turns r (kept_in turns places)
+pub kept_at_start : (contents : Contents) (r : Running) (turns : List Turn) (places : List (Option ℕ))
+    → AreInRange (facts_of contents)
+    → r ≡ record { contents = contents; survivors = []; last = 0 }
+    → turns ≡ [] → places ≡ [] → IsKept turns r (kept_in turns places)
 kept_at_start contents r turns places range is none nowhere =
     let opening : Running = record { contents = contents; survivors = []; last = 0 } in
     let start_kept : IsKept [] opening (kept_in [] []) = record {
@@ -106,7 +163,7 @@ kept_at_start contents r turns places range is none nowhere =
     (subst (λ (xs : List Turn). IsKept xs opening (kept_in xs places)) (sym none)
     (subst (λ (ps : List (Option ℕ)). IsKept [] opening (kept_in [] ps)) (sym nowhere) start_kept))
 
-pub legal_book : (turns : List Turn) (r : Running) (kept : ℕ → Option Kept) → IsKept turns r kept → IsLegalBook (record { contents = r.contents; turns = turns })
+pub legal_book : (turns : List Turn) (r : Running) (kept : ℕ → Option Kept) → IsKept turns r kept → IsLegalBook r.contents turns
 legal_book turns r kept is = record {
   legal = is.legal;
   run = legal_is_run (facts_of r.contents) turns is.legal;
@@ -115,76 +172,98 @@ legal_book turns r kept is = record {
   known = known_journal (facts_of r.contents) turns is.range is.legal is.known;
 }
 
+-- the same of a journal that is equal to its parts
+pub legal_there : (turns : List Turn) (r : Running) (kept : ℕ → Option Kept) (work : Counts) (book : Book)
+    → IsKept turns r kept → record { contents = r.contents; turns = turns; work = work } ≡ book → IsLegalBook book.contents book.turns
+legal_there turns r kept work book is same =
+    subst (λ (x : Book). IsLegalBook x.contents x.turns) same (legal_book turns r kept is)
+
 -- the same at a list and what is kept that are equal to these
-pub kept_there : (turns more : List Turn) (r : Running) (kept later : ℕ → Option Kept) → IsKept turns r kept → more ≡ turns → later ≡ kept → IsKept more r later
+pub kept_there : (turns more : List Turn) (r : Running) (kept later : ℕ → Option Kept)
+    → IsKept turns r kept → more ≡ turns → later ≡ kept → IsKept more r later
 kept_there turns more r kept later is same still =
     subst (λ (xs : List Turn). IsKept xs r later) (sym same) (subst (λ (x : ℕ → Option Kept). IsKept turns r x) (sym still) is)
 
-pub adds_turn : (turns more : List Turn) (r next : Running) (kept later : ℕ → Option Kept) (turn : Turn) → Goes turns more r next kept later turn → AddsTurn (record { contents = r.contents; turns = turns }) (record { contents = next.contents; turns = more }) turn.seat turn.message (record { at = length more; reply = turn.reply })
-adds_turn turns more r next kept later turn h =
-    let k : Facts = facts_of r.contents in
-    let goes : turn_of k (state_after k turns) turn.message ≡ record { reply = turn.reply; state = state_at next later } =
-    answered_so turns more r next kept later turn h in
-    let told : turn.reply ≡ (turn_of k (state_after k turns) turn.message).reply = ap (λ (a : Answered). a.reply) (sym goes) in
-    record {
-      turns = (λ j. record { contents = h.contents j; turns = h.items j })
-          ∙ (λ j. record { contents = r.contents; turns = turns ++ record { seat = turn.seat; message = turn.message; reply = told j } ∷ [] });
-      state = (λ j. state_after (facts_of (h.contents j)) (h.items j))
-          ∙ state_goes turns more r next kept later turn h
-          ∙ ap (λ (a : Answered). a.state) (sym goes);
-      reply = told;
-      number = refl;
-    }
+-- a journal of these parts
+abbrev pub book_at : Running → List Turn → Counts → Book
+book_at r turns work = record { contents = r.contents; turns = turns; work = work }
 
--- the turn with such a line
-abbrev pub copied_turn : Turn → Option (List ℕ) → Turn
-copied_turn turn copy = record { seat = turn.seat; message = asking turn.message.terminal turn.message.asked copy; reply = turn.reply }
+-- what holds at each end holds at an error
+pub on_err : {T E : Type 0} (result : Result T E) (P : Type 0) → P → OnErr result P
+on_err (Ok value) P holds = tt
+on_err (Err why) P holds = holds
 
--- What a message comes to in the code: room was made, which changes nothing; a turn was added, with a copy of the line.
-pub record Made (was ready now : Told) (r next : Running) (turn : Turn) (copy : Option (List ℕ)) : Type 0 where
+-- nothing was done
+pub still_book : (book : Book) → MakesNoTurn book book
+still_book book = record { contents = refl; turns = refl; work = ([], refl) }
+
+-- no turn was made
+pub no_turn : (was ready : Told) (r next : Running) (old new : Counts) (book : Book)
+    → book_at r was.turns old ≡ book → ready.turns ≡ was.turns → next ≡ r → OnlyRise old new
+    → MakesNoTurn book (book_at next ready.turns new)
+no_turn was ready r next old new book same still stays rise =
+    subst (λ (x : Book). MakesNoTurn x (book_at next ready.turns new)) same
+    (record { contents = ap (λ (x : Running). x.contents) stays; turns = still; work = rise })
+
+-- One turn of the code: room was made, which changes nothing; the machine answers so; the turn was added; its work is counted.
+pub record Makes (was ready now : Told) (r next : Running) (turn : Turn) (old new : Counts) : Type 0 where
   pub kept : IsKept was.turns r (kept_by was)
   pub ready_turns : ready.turns ≡ was.turns
   pub ready_kept : kept_by ready ≡ kept_by was
-  pub copied : copy ≡ turn.message.line
-  pub turns : now.turns ≡ ready.turns ++ copied_turn turn copy ∷ []
+  pub turns : now.turns ≡ ready.turns ++ turn ∷ []
   pub contents : next.contents ≡ r.contents
   pub last : next.last ≤ r.last + 1
   pub known : IsKnown (facts_of r.contents) turn.message.asked
+  pub answer : turn_of (facts_of r.contents) (state_at r (kept_by ready)) turn.message
+      ≡ record { reply = turn.reply; state = state_at next (kept_by now) }
+  pub work : IsWork (facts_of r.contents) (state_at r (kept_by ready)) turn.message.terminal turn.message.asked
+      (repeated (state_at r (kept_by ready)) turn.message) old new
 
-copied_is : (turn : Turn) (copy : Option (List ℕ)) → copy ≡ turn.message.line → copied_turn turn copy ≡ turn
-copied_is turn copy is = ap (copied_turn turn) is
-
-pub ready_is : (was ready now : Told) (r next : Running) (turn : Turn) (copy : Option (List ℕ)) → Made was ready now r next turn copy → IsKept ready.turns r (kept_by ready)
-ready_is was ready now r next turn copy h = kept_there was.turns ready.turns r (kept_by was) (kept_by ready) h.kept h.ready_turns h.ready_kept
-
--- a message that leaves the state
-pub goes_still : (was ready now : Told) (r : Running) (turn : Turn) (copy : Option (List ℕ)) → Made was ready now r r turn copy → kept_by now ≡ kept_by ready → turn_of (facts_of r.contents) (state_at r (kept_by ready)) turn.message ≡ record { reply = turn.reply; state = state_at r (kept_by ready) } → Goes ready.turns now.turns r r (kept_by ready) (kept_by now) turn
-goes_still was ready now r turn copy h still is = record {
-  was = ready_is was ready now r r turn copy h;
+goes_on : (was ready now : Told) (r next : Running) (turn : Turn) (old new : Counts) → Makes was ready now r next turn old new
+    → Goes ready.turns now.turns r next (kept_by ready) (kept_by now) turn
+goes_on was ready now r next turn old new h = record {
+  was = kept_there was.turns ready.turns r (kept_by was) (kept_by ready) h.kept h.ready_turns h.ready_kept;
   contents = h.contents;
-  items = h.turns ∙ ap (λ (x : Turn). ready.turns ++ x ∷ []) (copied_is turn copy h.copied);
+  items = h.turns;
   last = h.last;
   known = h.known;
-  answer = is ∙ (λ j. record { reply = turn.reply; state = state_at r (sym still j) });
+  answer = h.answer;
 }
 
--- a repeat
-pub goes_repeat : (was ready now : Told) (r : Running) (turn : Turn) (copy : Option (List ℕ)) → Made was ready now r r turn copy → kept_by now ≡ kept_by ready → Some turn.reply ≡ repeated_of (kept_by ready turn.message.terminal) turn.message.asked turn.message.line → Goes ready.turns now.turns r r (kept_by ready) (kept_by now) turn
-goes_repeat was ready now r turn copy h still again =
-    goes_still was ready now r turn copy h still (repeat_answer r (kept_by ready) turn.message turn.reply again)
+pub makes_kept : (was ready now : Told) (r next : Running) (turn : Turn) (old new : Counts) → Makes was ready now r next turn old new
+    → IsKept now.turns next (kept_by now)
+makes_kept was ready now r next turn old new h =
+    kept_on ready.turns now.turns r next (kept_by ready) (kept_by now) turn (goes_on was ready now r next turn old new h)
 
--- a message that is none
-pub goes_new : (was ready now : Told) (r next : Running) (turn : Turn) (copy : Option (List ℕ)) → Made was ready now r next turn copy → kept_by now ≡ with_turn (copied_turn turn copy) (kept_by ready) → turn_of (facts_of r.contents) (state_at r (kept_by ready)) turn.message ≡ record { reply = turn.reply; state = state_at next (with_turn turn (kept_by ready)) } → Goes ready.turns now.turns r next (kept_by ready) (kept_by now) turn
-goes_new was ready now r next turn copy h keeps is = record {
-  was = ready_is was ready now r next turn copy h;
-  contents = h.contents;
-  items = h.turns ∙ ap (λ (x : Turn). ready.turns ++ x ∷ []) (copied_is turn copy h.copied);
-  last = h.last;
-  known = h.known;
-  answer = is ∙ (λ j. record { reply = turn.reply; state = state_at next (sym (keeps ∙ ap (λ (x : Turn). with_turn x (kept_by ready)) (copied_is turn copy h.copied)) j) });
-}
+adds_here : (was ready now : Told) (r next : Running) (turn : Turn) (old new : Counts) → Makes was ready now r next turn old new
+    → AddsTurn (book_at r ready.turns old) (book_at next now.turns new) turn.seat turn.message
+    (record { at = length now.turns; reply = turn.reply })
+adds_here was ready now r next turn old new h =
+    let k : Facts = facts_of r.contents in
+    let on : Goes ready.turns now.turns r next (kept_by ready) (kept_by now) turn = goes_on was ready now r next turn old new h in
+    let goes : turn_of k (state_after k ready.turns) turn.message ≡ record { reply = turn.reply; state = state_at next (kept_by now) } =
+    answered_so ready.turns now.turns r next (kept_by ready) (kept_by now) turn on in
+    let told : turn.reply ≡ (turn_of k (state_after k ready.turns) turn.message).reply = ap (λ (a : Answered). a.reply) (sym goes) in
+    record {
+      contents = h.contents;
+      turns = h.turns ∙ (λ j. ready.turns ++ record { seat = turn.seat; message = turn.message; reply = told j } ∷ []);
+      state = (λ j. state_after (facts_of (h.contents j)) (h.turns j))
+          ∙ state_goes ready.turns now.turns r next (kept_by ready) (kept_by now) turn on
+          ∙ ap (λ (a : Answered). a.state) (sym goes);
+      reply = told;
+      number = refl;
+      work = subst (λ (s : State). IsWork k s turn.message.terminal turn.message.asked (repeated s turn.message) old new)
+          (sym on.was.state) h.work;
+    }
 
--- the same of a journal and an answer that are equal to these
-pub adds_there : (old was new : Book) (seat : ℕ) (message : Message) (so made : OneTurn) → old ≡ was → made ≡ so → AddsTurn old new seat message so → AddsTurn was new seat message made
-adds_there old was new seat message so made same is h =
-    subst (λ (x : Book). AddsTurn x new seat message made) same (subst (λ (x : OneTurn). AddsTurn old new seat message x) (sym is) h)
+-- the turn was added to the journal, and this is told of it
+pub makes_turn : (was ready now : Told) (r next : Running) (turn : Turn) (old new : Counts) (book : Book) (made : OneTurn)
+    → Makes was ready now r next turn old new
+    → book_at r was.turns old ≡ book
+    → made ≡ record { at = length now.turns; reply = turn.reply }
+    → AddsTurn book (book_at next now.turns new) turn.seat turn.message made
+makes_turn was ready now r next turn old new book made h same is =
+    let there : book_at r ready.turns old ≡ book = (λ j. book_at r (h.ready_turns j) old) ∙ same in
+    subst (λ (x : Book). AddsTurn x (book_at next now.turns new) turn.seat turn.message made) there
+    (subst (λ (x : OneTurn). AddsTurn (book_at r ready.turns old) (book_at next now.turns new) turn.seat turn.message x) (sym is)
+    (adds_here was ready now r next turn old new h))

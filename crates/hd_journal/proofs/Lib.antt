@@ -1,7 +1,7 @@
 pub mod Runs
 pub mod Walks
 pub mod KeptLines
+pub mod Raising
 pub mod Submitting
 pub mod Withdrawing
 pub mod Keeping
-pub mod Taking

@@ -1,5 +1,6 @@
 -- Runs of lists in parts, and the stamps of their desks.
-use Rattle.std.proofs.Common.{arith, ◌≡◌, refl, sym, ◌∙◌, ap, subst, ℕ, ◌+◌, ◌<◌, ◌≤◌, List, [], ◌∷◌, ◌++◌, length, take, drop, get_or, add-one, drop-cons, length-drop, ◌-◌}
+use Rattle.std.proofs.Common.{arith, ◌≡◌, refl, sym, ◌∙◌, ap, subst, ℕ, ◌+◌, ◌<◌, ◌≤◌, List, [], ◌∷◌, ◌++◌, length, take, drop, get_or}
+use Rattle.std.proofs.Common.{add-one, drop-cons, length-drop, ◌-◌}
 use Rattle.std.proofs.lemmas.List.{take-append-drop, take_more, take_all}
 use Rattle.hd_rules.specs.declared.commands.Survivor.{Survivor}
 use Rattle.hd_rules.specs.Facts.{Facts}
@@ -40,7 +41,8 @@ run_more k xs s d e is next =
     next ∙ ap (λ (x : Desk). step k x s) is ∙ sym (run_from-append k (opening k) xs (s ∷ []))
 
 -- the numbers of those before it are smaller
-next_at : (n : ℕ) (older : List Survivor) (c : Survivor) (newer : List Survivor) → Rising n (older ++ c ∷ newer) → next_number n older ≤ c.number
+next_at : (n : ℕ) (older : List Survivor) (c : Survivor) (newer : List Survivor) → Rising n (older ++ c ∷ newer)
+    → next_number n older ≤ c.number
 next_at n [] c newer rising = rising.0
 next_at n (s ∷ ss) c newer rising = next_at (s.number + 1) ss c newer rising.1
 
@@ -49,7 +51,8 @@ pub sound_below : (k : Facts) (xs : List Survivor) (n : ℕ) (d : Desk) → d �
 sound_below k xs n d is rising next =
     subst (Sound k n) (sym is) (later_sound k (next_number 1 xs) n (run k xs) next (reachable_sound k 1 xs rising))
 
-pub sound_at : (k : Facts) (xs : List Survivor) (s : Survivor) (rest : List Survivor) (d : Desk) → d ≡ run k xs → Rising 1 (xs ++ s ∷ rest) → Sound k s.number d
+pub sound_at : (k : Facts) (xs : List Survivor) (s : Survivor) (rest : List Survivor) (d : Desk) → d ≡ run k xs → Rising 1 (xs ++ s ∷ rest)
+    → Sound k s.number d
 sound_at k xs s rest d is rising =
     sound_below k xs s.number d is (rising_first 1 xs (s ∷ rest) rising) (next_at 1 xs s rest rising)
 
@@ -66,7 +69,8 @@ all_both : (k : Facts) (xs ys : List Survivor) → AllKnownSurvivors k xs → Al
 all_both k [] ys left right = right
 all_both k (x ∷ xs) ys left right = (left.0, all_both k xs ys left.1 right)
 
-pub known_at : (k : Facts) (xs : List Survivor) (i : ℕ) (s : Survivor) → AllKnownSurvivors k xs → i < length xs → s ≡ get_or xs i s → IsKnownSurvivor k s
+pub known_at : (k : Facts) (xs : List Survivor) (i : ℕ) (s : Survivor) → AllKnownSurvivors k xs → i < length xs → s ≡ get_or xs i s
+    → IsKnownSurvivor k s
 known_at k xs i s all below is =
     (all_rest k (take i xs) (s ∷ drop (i + 1) xs) (subst (AllKnownSurvivors k) (split_at xs i s below is) all)).0
 
@@ -87,7 +91,8 @@ may_run_without k xs c ys may = record {
 }
 
 -- with one more
-pub may_run_last : (k : Facts) (xs : List Survivor) (s : Survivor) → MayRun k xs → IsKnownSurvivor k s → next_number 1 xs ≤ s.number → MayRun k (xs ++ s ∷ [])
+pub may_run_last : (k : Facts) (xs : List Survivor) (s : Survivor) → MayRun k xs → IsKnownSurvivor k s → next_number 1 xs ≤ s.number
+    → MayRun k (xs ++ s ∷ [])
 may_run_last k xs s may adds next = record {
   rising = rising_more 1 xs s may.rising next;
   known = all_both k xs (s ∷ []) may.known (adds, tt);

@@ -21,7 +21,9 @@ next_last : (n : ℕ) (xs : List Survivor) (s : Survivor) → next_number n (xs 
 next_last n [] s = refl
 next_last n (x ∷ xs) s = next_last (x.number + 1) xs s
 
-more : (r : Running) (d e : Desk) (new : Survivor) (done : Done) → IsRunning r d → IsKnownSurvivor (facts_of r.contents) new → new.number ≡ r.last + 1 → outcome_of (facts_of r.contents) d new ≡ Ok done → e ≡ after done.changes d → IsRunning (record { contents = r.contents; survivors = r.survivors ++ new ∷ []; last = r.last + 1 }) e
+more : (r : Running) (d e : Desk) (new : Survivor) (done : Done) → IsRunning r d → IsKnownSurvivor (facts_of r.contents) new
+    → new.number ≡ r.last + 1 → outcome_of (facts_of r.contents) d new ≡ Ok done → e ≡ after done.changes d
+    → IsRunning (record { contents = r.contents; survivors = r.survivors ++ new ∷ []; last = r.last + 1 }) e
 more r d e new done is adds number accepted goes =
     let low : next_number 1 r.survivors ≤ r.last + 1 = is.last in
     let next : next_number 1 (r.survivors ++ new ∷ []) ≡ new.number + 1 = next_last 1 r.survivors new in
@@ -31,7 +33,10 @@ more r d e new done is adds number accepted goes =
       last = omega arith;
     }
 
-pub running_more : (r : Running) (d e : Desk) (contents : Contents) (items : List Survivor) (new : Survivor) (done : Done) → IsRunning r d → IsKnownSurvivor (facts_of r.contents) new → new.number ≡ r.last + 1 → contents ≡ r.contents → items ≡ r.survivors ++ new ∷ [] → outcome_of (facts_of r.contents) d new ≡ Ok done → e ≡ after done.changes d → IsRunning (record { contents = contents; survivors = items; last = r.last + 1 }) e
+pub running_more : (r : Running) (d e : Desk) (contents : Contents) (items : List Survivor) (new : Survivor) (done : Done) → IsRunning r d
+    → IsKnownSurvivor (facts_of r.contents) new → new.number ≡ r.last + 1 → contents ≡ r.contents → items ≡ r.survivors ++ new ∷ []
+    → outcome_of (facts_of r.contents) d new ≡ Ok done → e ≡ after done.changes d
+    → IsRunning (record { contents = contents; survivors = items; last = r.last + 1 }) e
 running_more r d e contents items new done is adds number same goes_on accepted goes =
     subst (λ (x : Contents). IsRunning (record { contents = x; survivors = items; last = r.last + 1 }) e) (sym same)
     (subst (λ (xs : List Survivor). IsRunning (record { contents = r.contents; survivors = xs; last = r.last + 1 }) e) (sym goes_on)
@@ -41,20 +46,27 @@ running_more r d e contents items new done is adds number same goes_on accepted 
 abbrev new_of : Running → ℕ → Command → Survivor
 new_of r terminal command = record { number = r.last + 1; terminal = terminal; command = command }
 
-done_so : (r : Running) (d : Desk) (terminal : ℕ) (command : Command) (done : Done) → d ≡ run (facts_of r.contents) r.survivors → outcome_of (facts_of r.contents) d (new_of r terminal command) ≡ Ok done → Submitted r terminal command (Accepted (r.last + 1) done.reply) (record { contents = r.contents; survivors = r.survivors ++ new_of r terminal command ∷ []; last = r.last + 1 })
+done_so : (r : Running) (d : Desk) (terminal : ℕ) (command : Command) (done : Done) → d ≡ run (facts_of r.contents) r.survivors
+    → outcome_of (facts_of r.contents) d (new_of r terminal command) ≡ Ok done
+    → Submitted r terminal command (Accepted (r.last + 1) done.reply)
+    (record { contents = r.contents; survivors = r.survivors ++ new_of r terminal command ∷ []; last = r.last + 1 })
 done_so r d terminal command done at accepted kept =
     let k : Facts = facts_of r.contents in
     let new : Survivor = new_of r terminal command in
     let there : outcome_of k (run k r.survivors) new ≡ Ok done = ap (λ (x : Desk). outcome_of k x new) (sym at) ∙ accepted in
     let desk : after done.changes (run k r.survivors) ≡ run k (r.survivors ++ new ∷ []) =
-    run_more k r.survivors new (run k r.survivors) (after done.changes (run k r.survivors)) refl (stepped k (run k r.survivors) (after done.changes (run k r.survivors)) new done there refl) in
+    run_more k r.survivors new (run k r.survivors) (after done.changes (run k r.survivors)) refl
+    (stepped k (run k r.survivors) (after done.changes (run k r.survivors)) new done there refl) in
     ap (answered_command (state_at r kept) new) there
     ∙ (λ j. record {
       reply = Accepted new.number done.reply;
       state = record { desk = desk j; survivors = r.survivors ++ new ∷ []; last = new.number; kept = kept };
     })
 
-pub submitted_done : (r : Running) (d : Desk) (contents : Contents) (items : List Survivor) (terminal : ℕ) (command : Command) (done : Done) → d ≡ run (facts_of r.contents) r.survivors → contents ≡ r.contents → items ≡ r.survivors ++ new_of r terminal command ∷ [] → outcome_of (facts_of r.contents) d (new_of r terminal command) ≡ Ok done → Submitted r terminal command (Accepted (r.last + 1) done.reply) (record { contents = contents; survivors = items; last = r.last + 1 })
+pub submitted_done : (r : Running) (d : Desk) (contents : Contents) (items : List Survivor) (terminal : ℕ) (command : Command) (done : Done)
+    → d ≡ run (facts_of r.contents) r.survivors → contents ≡ r.contents → items ≡ r.survivors ++ new_of r terminal command ∷ []
+    → outcome_of (facts_of r.contents) d (new_of r terminal command) ≡ Ok done
+    → Submitted r terminal command (Accepted (r.last + 1) done.reply) (record { contents = contents; survivors = items; last = r.last + 1 })
 submitted_done r d contents items terminal command done at same goes_on accepted =
     subst (λ (x : Running). Submitted r terminal command (Accepted (r.last + 1) done.reply) x)
     (λ j. record { contents = sym same j; survivors = sym goes_on j; last = r.last + 1 })

@@ -15,11 +15,13 @@ use Rattle.hd_journal.specs.declared.decision.Decision.TheVariants.{Stands, Depe
 abbrev pub IsTargetAt : ℕ → Cancel → List Survivor → ℕ → Type 0
 IsTargetAt terminal what survivors i =
     (c : Survivor) × (c ≡ slice_index_or survivors i c)
-    × (target terminal what survivors ≡ Some (record { older = take i survivors; survivor = c; newer = drop (i + 1) survivors }))
+    × (target terminal what survivors
+    ≡ Some (record { older = take i survivors; survivor = c; newer = drop (i + 1) survivors }))
 
 -- what the walk over the survivors later than this place finds
 abbrev pub found : Facts → List Survivor → ℕ → Option ℕ
-found k survivors i = first_otherwise k (run k (take (i + 1) survivors)) (run k (take i survivors)) (drop (i + 1) survivors)
+found k survivors i =
+    first_otherwise k (run k (take (i + 1) survivors)) (run k (take i survivors)) (drop (i + 1) survivors)
 
 -- none asks otherwise, and this is the desk without the one at that place; or the first that does
 abbrev pub Decides : {A : Type 0} → Contents → List Survivor → ℕ → Decision A → Type 0

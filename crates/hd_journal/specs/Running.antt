@@ -1,5 +1,5 @@
 -- The commands that survive, and their run.
-use Rattle.std.specs.Prelude.{◌≡◌, ℕ, ◌+◌, ◌≤◌, Option, List, [], ◌∷◌}
+use Rattle.std.specs.Prelude.{◌≡◌, ℕ, ◌+◌, ◌≤◌, Option, None, List, [], ◌∷◌}
 use Rattle.hd_rules.specs.declared.commands.Survivor.{Survivor}
 use Rattle.hd_rules.specs.Facts.{Facts}
 use Rattle.hd_rules.specs.Desk.{Desk}
@@ -9,7 +9,10 @@ use Rattle.hd_rules.specs.declared.commands.Cancel.{Cancel}
 use Rattle.hd_rules.specs.declared.commands.Command.{Command}
 use Rattle.hd_rules.specs.declared.replies.TurnReply.{TurnReply}
 use Rattle.hd_rules.specs.Target.{target}
-use Rattle.hd_rules.specs.Turns.{Kept, State, next_survivor, answered_command, answered_cancel}
+use Rattle.hd_rules.specs.declared.replies.TurnReply.TheVariants.{Item}
+use Rattle.hd_rules.specs.declared.turns.Asked.{Asked}
+use Rattle.hd_rules.specs.declared.turns.Asked.TheVariants as ask
+use Rattle.hd_rules.specs.Turns.{Kept, State, item_view, next_survivor, answered_command, answered_cancel}
 use Rattle.hd_catalogue.specs.Contents.{Contents, facts_of}
 
 -- the survivors and the last number given, over a catalogue
@@ -20,7 +23,12 @@ pub record Running : Type 0 where
 
 -- the machine's state: the desk is the run of the survivors
 abbrev pub state_at : Running → (ℕ → Option Kept) → State
-state_at r kept = record { desk = run (facts_of r.contents) r.survivors; survivors = r.survivors; last = r.last; kept = kept }
+state_at r kept = record {
+  desk = run (facts_of r.contents) r.survivors;
+  survivors = r.survivors;
+  last = r.last;
+  kept = kept;
+}
 
 -- what the survivor names is of the catalogue
 abbrev pub IsKnownSurvivor : Facts → Survivor → Type 0
@@ -41,14 +49,27 @@ pub record IsRunning (r : Running) (d : Desk) : Type 0 where
   pub may_run : MayRun (facts_of r.contents) r.survivors
   pub last : next_number 1 r.survivors ≤ r.last + 1
 
+-- the same with nothing kept
+abbrev pub state_alone : Running → State
+state_alone r = state_at r (λ t. None)
+
 -- The terminal's command is answered so, and this is left; whatever is kept beside it stays.
 abbrev pub Submitted : Running → ℕ → Command → TurnReply → Running → Type 0
 Submitted r terminal command reply next = (kept : ℕ → Option Kept) →
     answered_command (state_at r kept) (next_survivor (state_at r kept) terminal command)
-    (outcome_of (facts_of r.contents) (run (facts_of r.contents) r.survivors) (next_survivor (state_at r kept) terminal command))
+    (outcome_of (facts_of r.contents) (run (facts_of r.contents) r.survivors)
+    (next_survivor (state_at r kept) terminal command))
     ≡ record { reply = reply; state = state_at next kept }
 
 -- The terminal's cancellation is answered so, and this is left.
 abbrev pub Withdrawn : Running → ℕ → Cancel → TurnReply → Running → Type 0
 Withdrawn r terminal what reply next = (kept : ℕ → Option Kept) →
-    answered_cancel (facts_of r.contents) (state_at r kept) (target terminal what r.survivors) ≡ record { reply = reply; state = state_at next kept }
+    answered_cancel (facts_of r.contents) (state_at r kept) (target terminal what r.survivors)
+    ≡ record { reply = reply; state = state_at next kept }
+
+-- What a terminal asks that is no repeat is answered so, and this is left.
+abbrev pub IsCarriedOut : Running → ℕ → Asked → TurnReply → Running → Type 0
+IsCarriedOut r terminal (ask.Command command) reply next = Submitted r terminal command reply next
+IsCarriedOut r terminal (ask.Cancel what) reply next = Withdrawn r terminal what reply next
+IsCarriedOut r terminal (ask.Item copy) reply next =
+    (reply ≡ Item (item_view (facts_of r.contents) (run (facts_of r.contents) r.survivors) copy)) × (next ≡ r)

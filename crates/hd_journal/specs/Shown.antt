@@ -7,6 +7,10 @@ use Rattle.hd_journal.specs.declared.turn.TurnRef.{TurnRef}
 abbrev pub shown : TurnRef → Turn
 shown turn = record {
   seat = turn.seat;
-  message = record { terminal = turn.terminal; asked = turn.asked; line = option_map (λ bytes. bytes.now) turn.line };
+  message = record {
+    terminal = turn.terminal;
+    asked = turn.asked;
+    line = option_map (λ bytes. bytes.now) turn.line;
+  };
   reply = turn.reply;
 }

@@ -1,7 +1,9 @@
 -- The turns, and what is kept of each terminal's last changing message.
-use Rattle.std.specs.Prelude.{◌≡◌, ℕ, ◌<◌, Option, Some, None, List, length, slice_get, slice_index_or, if◌then◌else◌, ◌==◌}
+use Rattle.std.specs.Prelude.{◌≡◌, ℕ, ◌<◌, Option, Some, None, List, length, slice_get, slice_index_or}
+use Rattle.std.specs.Prelude.{if◌then◌else◌, ◌==◌}
 use Rattle.hd_rules.specs.Turns.{Kept, kept_of}
 use Rattle.hd_rules.specs.Journal.{Turn}
+use Rattle.hd_journal.specs.Asks.{is_query}
 
 -- The turns, by terminal the place of its last changing turn, and for how many turns there is room.
 pub record Told : Type 0 where
@@ -27,7 +29,14 @@ kept_by told = kept_in told.turns told.places
 
 -- the same, where this turn is its terminal's last changing one
 abbrev pub with_turn : Turn → (ℕ → Option Kept) → ℕ → Option Kept
-with_turn turn kept = λ t. if t == turn.message.terminal then kept_of turn.message.line turn.message.asked turn.reply else kept t
+with_turn turn kept =
+    λ t. if t == turn.message.terminal
+    then kept_of turn.message.line turn.message.asked turn.reply
+    else kept t
+
+-- the same after a turn that is no repeat: nothing is kept of a query
+abbrev pub after_turn : Turn → (ℕ → Option Kept) → ℕ → Option Kept
+after_turn turn kept = if is_query turn.message.asked then kept else with_turn turn kept
 
 -- each place is that of a turn
 abbrev pub AreTurns : List Turn → List (Option ℕ) → Type 0

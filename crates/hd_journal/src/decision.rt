@@ -1,6 +1,7 @@
 //! How a cancellation is decided: by two runs side by side, with the target and without it.
 
-ghost use Rattle.std.specs.Prelude.{◌≡◌, ◌+◌, ◌<◌, IfOk, OnOk, IfSome, MatchOption, length, take, drop, ◌++◌, None};
+ghost use Rattle.std.specs.Prelude.{◌≡◌, ◌+◌, ◌<◌, IfOk, OnOk, IfSome, MatchOption};
+ghost use Rattle.std.specs.Prelude.{length, take, drop, ◌++◌, None};
 ghost use Rattle.hd_rules.specs.Run.{run, step};
 ghost use Rattle.hd_rules.specs.Sound.{Sound};
 ghost use Rattle.hd_rules.specs.Target.{target, is_target, is_of_kind as fits_kind};
@@ -8,6 +9,7 @@ ghost use Rattle.hd_catalogue.specs.Contents.{facts_of};
 ghost use Rattle.hd_desk.specs.Desks.{contents, desk_of};
 ghost use Rattle.hd_journal.specs.Running.{IsKnownSurvivor, MayRun};
 ghost use Rattle.hd_journal.specs.Deciding.{IsTargetAt, Decides, found};
+ghost use Rattle.hd_journal.specs.Working.{OnlyRise};
 
 use hd_desk::{Desk, Meter, Refused};
 use hd_rules::{Action, Cancel, Survivor, TerminalNo};
@@ -77,7 +79,8 @@ fn is_of_kind(what: &Cancel, action: &Action) -> bool
 /// The place of the newest survivor that such a cancellation by the terminal takes back.
 pub(crate) fn newest(survivors: &[Survivor], terminal: TerminalNo, what: &Cancel) -> Option<usize>
     ensures within { IfSome result (λ i. i < length survivors.now) }
-    ensures found { MatchOption result (target terminal what.now survivors.now ≡ None) (IsTargetAt terminal what.now survivors.now) }
+    ensures found { MatchOption result (target terminal what.now survivors.now ≡ None)
+        (IsTargetAt terminal what.now survivors.now) }
 {
     for i in (0..survivors.len()).rev() {
         if may_cancel(terminal, what, &survivors[i]) {
@@ -95,8 +98,10 @@ fn advance<A: Allocator + Copy>(
 ) -> Result<(), AllocError>
     requires known { IsKnownSurvivor (facts_of (contents desk.old)) survivor.now }
     requires sound { Sound (facts_of (contents desk.old)) survivor.now.number (desk_of desk.old) }
-    ensures ok { OnOk result (desk_of desk.new ≡ step (facts_of (contents desk.old)) (desk_of desk.old) survivor.now) }
+    ensures ok { OnOk result
+        (desk_of desk.new ≡ step (facts_of (contents desk.old)) (desk_of desk.old) survivor.now) }
     ensures contents { contents desk.new ≡ contents desk.old }
+    ensures rise { OnlyRise meter.old meter.new }
 {
     match desk.apply(survivor.number, &survivor.command, meter) {
         Ok(_) => Ok(()),
@@ -115,6 +120,7 @@ fn replay<A: Allocator + Copy>(
     requires { MayRun (facts_of (contents other.now)) survivors.now }
     ensures contents { IfOk result (λ desk. contents desk ≡ contents other.now) }
     ensures run { IfOk result (λ desk. desk_of desk ≡ run (facts_of (contents other.now)) survivors.now) }
+    ensures rise { OnlyRise meter.old meter.new }
 {
     let catalogue = Arc::try_clone(other.catalogue())?;
     let mut desk = Desk::open(alloc, other.inline(), catalogue)?;
@@ -124,7 +130,8 @@ fn replay<A: Allocator + Copy>(
     Ok(desk)
 }
 
-/// The first of the survivors later than the place that asks otherwise at the second desk, or both desks after all of them.
+/// The first of the survivors later than the place that asks otherwise at the second desk, or both desks
+/// after all of them.
 fn walk<A: Allocator + Copy>(
     with: &mut Desk<A>,
     without: &mut Desk<A>,
@@ -138,8 +145,10 @@ fn walk<A: Allocator + Copy>(
     requires with { desk_of with.old ≡ run (facts_of (contents with.old)) (take (at + 1) survivors.now) }
     requires without { desk_of without.old ≡ run (facts_of (contents with.old)) (take at survivors.now) }
     ensures found { IfOk result (λ first. first ≡ found (facts_of (contents with.old)) survivors.now at) }
-    ensures stands { IfOk result (λ first. first ≡ None → desk_of without.new ≡ run (facts_of (contents with.old)) (take at survivors.now ++ drop (at + 1) survivors.now)) }
+    ensures stands { IfOk result (λ first. first ≡ None → desk_of without.new
+        ≡ run (facts_of (contents with.old)) (take at survivors.now ++ drop (at + 1) survivors.now)) }
     ensures contents { contents without.new ≡ contents without.old }
+    ensures rise { OnlyRise meter.old meter.new }
 {
     for survivor in &survivors[at + 1..] {
         if with.is_answered_otherwise(without, survivor.number, &survivor.command) {
@@ -161,7 +170,8 @@ pub(crate) fn decide<A: Allocator + Copy>(
 ) -> Result<Decision<A>, AllocError>
     requires within { at < length survivors.now }
     requires may_run { MayRun (facts_of (contents desk.now)) survivors.now }
-    ensures { IfOk result (Decides (contents desk.now) survivors.now at) }
+    ensures decides { IfOk result (Decides (contents desk.now) survivors.now at) }
+    ensures rise { OnlyRise meter.old meter.new }
 {
     let mut with = replay(alloc, desk, &survivors[..at + 1], meter)?;
     let mut without = replay(alloc, desk, &survivors[..at], meter)?;

@@ -1,24 +1,24 @@
-//! A turn as the journal keeps it.
+//! Turns as values.
 
-ghost use Rattle.std.specs.Prelude.{◌≡◌, Some, option_map};
-ghost use Rattle.hd_rules.specs.Same.{same_asked as is_same_asked};
+ghost use Rattle.std.specs.Prelude.{◌≡◌, ◌↔◌, Some, IsTrue};
 ghost use Rattle.hd_rules.specs.Turns.{kept_of, repeated_of};
+ghost use Rattle.hd_journal.specs.Asks.{is_query};
 ghost use Rattle.hd_journal.specs.Shown.{shown};
 
-use crate::line::{Line, same_bytes};
-use crate::numbers::SeatNo;
+use crate::ask::OwnedAsk;
+use crate::line::{same_line, same_lines};
 use crate::turn::TurnRef;
-use hd_rules::{Asked, TerminalNo, TurnReply};
+use hd_rules::{Asked, TurnReply, same_asked, same_turn_reply};
 use std::alloc::Allocator;
 use std::marker::Model;
 
-/// A turn: what the seat's terminal asked, the line where it carried a sequence number, and the reply.
+/// A turn as a value: what the seat's terminal asked, with a copy of the line where that is kept, and the
+/// reply.
+///
+/// It is made by `OwnedAsk::with_reply`.
 #[derive(Drop)]
-pub(crate) struct Entry<A: Allocator> {
-    pub(crate) seat: SeatNo,
-    pub(crate) terminal: TerminalNo,
-    pub(crate) asked: Asked,
-    pub(crate) line: Option<Line<A>>,
+pub struct Entry<A: Allocator> {
+    pub(crate) ask: OwnedAsk<A>,
     pub(crate) reply: TurnReply,
 }
 
@@ -27,49 +27,62 @@ impl<A: Allocator> Model for Entry<A> {
 
     ghost Value = { Turn };
 
-    ghost view = { λ e. record { seat = e.seat; message = record { terminal = e.terminal; asked = e.asked; line = e.line }; reply = e.reply } };
+    ghost view = { λ e. record { seat = e.ask.seat; message = e.ask.message; reply = e.reply } };
 }
 
 impl<A: Allocator> Entry<A> {
     /// The turn, with its line lent.
-    pub(crate) fn show(&self) -> TurnRef<'_>
+    pub fn show(&self) -> TurnRef<'_>
         ensures { shown result ≡ self.now }
     {
         TurnRef {
-            seat: self.seat,
-            terminal: self.terminal,
-            asked: self.asked,
-            line: lent(&self.line),
+            seat: self.ask.seat,
+            terminal: self.ask.terminal,
+            asked: self.ask.asked,
+            line: self.ask.line(),
             reply: self.reply,
         }
     }
 
+    /// Whether this is that turn: the same seat, terminal, question, line and reply.
+    pub fn is_of(&self, turn: &TurnRef<'_>) -> bool
+        ensures { IsTrue result ↔ (shown turn.now ≡ self.now) }
+    {
+        self.ask.seat == turn.seat
+            && self.ask.terminal == turn.terminal
+            && same_asked(&self.ask.asked, &turn.asked)
+            && same_lines(self.ask.line(), turn.line)
+            && same_turn_reply(&self.reply, &turn.reply)
+    }
+
+    /// Whether two entries are the same turn.
+    pub fn is_same(&self, other: &Entry<A>) -> bool
+        ensures { IsTrue result ↔ (self.now ≡ other.now) }
+    {
+        other.is_of(&self.show())
+    }
+
     /// The reply that it was told, where it asked this with this line.
     pub(crate) fn answered(&self, asked: &Asked, line: &[u8]) -> Option<TurnReply>
-        ensures { result ≡ repeated_of (kept_of self.now.message.line self.now.message.asked self.now.reply) asked.now (Some line.now) }
+        ensures { result
+            ≡ repeated_of (kept_of self.now.message.line self.now.message.asked self.now.reply)
+            asked.now (Some line.now) }
     {
-        let kept = self.line.as_ref()?;
-        if same_asked(&self.asked, asked) && same_bytes(kept.bytes(), line) {
+        let kept = self.ask.line()?;
+        if same_asked(&self.ask.asked, asked) && same_line(kept, line) {
             Some(self.reply)
         } else {
             None
         }
     }
-}
 
-/// The bytes of a line, where there is one.
-fn lent<A: Allocator>(line: &Option<Line<A>>) -> Option<&[u8]>
-    ensures { option_map (λ bytes. bytes.now) result ≡ line.now }
-{
-    match line {
-        Some(line) => Some(line.bytes()),
-        None => None,
+    /// Whether it asked for no change.
+    pub(crate) fn is_query(&self) -> bool
+        ensures { result ≡ is_query self.now.message.asked }
+    {
+        match &self.ask.asked {
+            Asked::Command(_) | Asked::Cancel(_) => false,
+            Asked::Item(_) => true,
+        }
     }
-}
-
-/// Whether two messages ask the same.
-fn same_asked(one: &Asked, other: &Asked) -> bool
-    ensures { result ≡ is_same_asked one.now other.now }
-{
-    one == other
 }

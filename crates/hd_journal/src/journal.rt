@@ -1,38 +1,41 @@
 //! The journal.
 
-ghost use Rattle.std.specs.Prelude.{◌≡◌, ◌<◌, [], IfOk, OnErr, length, option_map};
+ghost use Rattle.std.specs.Prelude.{◌≡◌, ◌<◌, [], None, IfOk, OnErr, length, option_map};
 ghost use Rattle.hd_catalogue.specs.Contents.{facts_of};
 ghost use Rattle.hd_rules.specs.Desk.{opening};
 ghost use Rattle.hd_rules.specs.Known.{IsKnownAction, IsKnownCancel};
 ghost use Rattle.hd_rules.specs.Run.{run};
-ghost use Rattle.hd_rules.specs.Turns.{turn_of};
 ghost use Rattle.hd_desk.specs.Desks.{contents, desk_of};
-ghost use Rattle.hd_journal.specs.Books.{facts, state, asking, turn_numbered, AddsTurn, IsLegalBook};
-ghost use Rattle.hd_journal.specs.Running.{state_at};
+ghost use Rattle.hd_journal.specs.Asks.{IsKnownMessage, asking, sent};
+ghost use Rattle.hd_journal.specs.Books.{AddsTurn, IsLegalBook, MakesNoTurn, facts, state, turn_numbered};
 ghost use Rattle.hd_journal.specs.Shown.{shown};
-ghost use Rattle.hd_journal.specs.Telling.{kept_by};
 
-use crate::entry::Entry;
+use crate::ask::{Ask, OwnedAsk};
 use crate::fault::Fault;
-use crate::line::copied;
 use crate::numbers::SeatNo;
 use crate::running::Running;
 use crate::told::Told;
 use crate::turn::{Turn, TurnRef};
 use hd_desk::{Desk, Meter};
-use hd_rules::{Asked, Cancel, Command, CopyNo, Survivor, TerminalNo, TurnReply};
+use hd_rules::{Asked, Cancel, Command, CopyNo, Survivor, TerminalNo};
 use std::alloc::{Allocator, Global};
 use std::marker::Model;
 
 /// Every turn, and the desk of the commands that were not cancelled.
 ///
-/// A terminal's message is one call, and makes one turn or, for want of memory, none. A message that equals what is kept of
-/// the terminal's last changing message gets the same reply again, and nothing else changes (docs/protocol.md, "Repeats").
+/// What a terminal asks is one call, and makes one turn or, for want of memory, none. A message that equals
+/// what is kept of the terminal's last changing message gets the same reply again, and nothing else changes
+/// (docs/protocol.md, "Repeats").
+///
+/// Whatever turns it has come through, each reply is the turn machine's, the desk is that of the run of the
+/// survivors, each with the reply that it got, and the headline holds of the turns: `legal` of each call
+/// below.
 #[derive(Drop)]
 pub struct Journal<A: Allocator = Global> {
     alloc: A,
     running: Running<A>,
     told: Told<A>,
+    meter: Meter,
 }
 
 impl<A: Allocator> Model for Journal<A> {
@@ -41,29 +44,76 @@ impl<A: Allocator> Model for Journal<A> {
 
     ghost Value = { Book };
 
-    ghost view = { λ journal. record { contents = journal.running.contents; turns = journal.told.turns } };
+    ghost view = { λ journal. record {
+      contents = journal.running.contents;
+      turns = journal.told.turns;
+      work = journal.meter;
+    } };
 
     ghost invariant = { λ journal. IsKept journal.told.turns journal.running (kept_by journal.told) };
 }
 
 impl<A: Allocator + Copy> Journal<A> {
-    /// A journal without turns, over a desk as `Desk::open` gave it. It counts its work by the meter.
+    /// A journal without turns, over a desk as `Desk::open` gave it. It counts its work by the meter, from
+    /// there on.
     pub fn new(alloc: A, desk: Desk<A>, meter: Meter) -> Journal<A>
         requires { desk_of desk ≡ opening (facts_of (contents desk)) }
-        ensures { result ≡ record { contents = contents desk; turns = [] } }
+        ensures new { result ≡ record { contents = contents desk; turns = []; work = meter } }
+        ensures legal { IsLegalBook result.contents result.turns }
     {
         desk.catalogue().facts_are_in_range();
         Journal {
             alloc,
-            running: Running::new(alloc, desk, meter),
+            running: Running::new(alloc, desk),
             told: Told::new(alloc),
+            meter,
         }
     }
 
-    /// One turn: a terminal's command, with the message's line where that carried a sequence number.
+    /// One turn: what a terminal of a seat asks. What it names, and the terminal, are of the journal's
+    /// catalogue.
     ///
-    /// It is accepted with the next number, or refused by the first refusal that applies, or repeated. Its numbers, and the
-    /// terminal's, are those of the journal's catalogue.
+    /// A command is accepted with the next number, or refused by the first refusal that applies. A
+    /// cancellation takes back the newest surviving command of its kind that the terminal sent, and is
+    /// refused where there is none (`NothingToCancel`) or where a later survivor depends on it (`Depends`,
+    /// with the least number of one that does); the desk is then that of the run of the other survivors.
+    /// Either may be a repeat. A query shows where the copy is and how many holds its title has; desk,
+    /// survivors and what is kept stay.
+    ///
+    /// The turn is the ask itself with its reply: nothing is copied.
+    ///
+    /// # Errors
+    /// `Memory`. There is no turn then.
+    pub fn take(&mut self, ask: OwnedAsk<A>) -> Result<Turn, Fault>
+        requires { IsKnownMessage (facts self.old) ask.message }
+        ensures turn { IfOk result (AddsTurn self.old self.new ask.seat ask.message) }
+        ensures legal { IsLegalBook self.new.contents self.new.turns }
+        ensures err { OnErr result (MakesNoTurn self.old self.new) }
+    {
+        self.told.ready(ask.terminal())?;
+        let repeated = self.told.repeated(&ask);
+        if let Some(reply) = repeated {
+            let again = ask.with_reply(reply);
+            return Ok(self.told.add_repeat(again));
+        }
+        let reply = self.running.answer(self.alloc, &ask, &mut self.meter)?;
+        let turn = ask.with_reply(reply);
+        Ok(self.told.add(turn))
+    }
+
+    /// One turn: what a terminal of a seat asks, of which the journal makes its own copy. As `take`.
+    pub fn take_copy(&mut self, ask: &Ask<'_>) -> Result<Turn, Fault>
+        requires { IsKnownMessage (facts self.old) (sent ask.now).message }
+        ensures turn { IfOk result (AddsTurn self.old self.new (sent ask.now).seat (sent ask.now).message) }
+        ensures legal { IsLegalBook self.new.contents self.new.turns }
+        ensures err { OnErr result (MakesNoTurn self.old self.new) }
+    {
+        let own = ask.to_owned(self.alloc())?;
+        self.take(own)
+    }
+
+    /// One turn: a terminal's command, with the message's line where that carried a sequence number. As
+    /// `take`.
     pub fn submit(
         &mut self,
         terminal: TerminalNo,
@@ -73,41 +123,16 @@ impl<A: Allocator + Copy> Journal<A> {
     ) -> Result<Turn, Fault>
         requires known { IsKnownAction (facts self.old) command.now.action }
         requires terminal { terminal < (facts self.old).terminals }
-        ensures turn { IfOk result (AddsTurn self.old self.new seat (asking terminal (Asked.Command command.now) (option_map (λ bytes. bytes.now) line.entry))) }
-        ensures legal { IsLegalBook self.new }
-        ensures err { OnErr result (self.new ≡ self.old) }
+        ensures turn { IfOk result (AddsTurn self.old self.new seat
+            (asking terminal (Asked.Command command.now) (option_map (λ bytes. bytes.now) line.entry))) }
+        ensures legal { IsLegalBook self.new.contents self.new.turns }
+        ensures err { OnErr result (MakesNoTurn self.old self.new) }
     {
-        self.told.ready(terminal)?;
-        let copy = copied(self.alloc, line)?;
-        let asked = Asked::Command(*command);
-        let repeated = self.told.repeated(terminal, &asked, line);
-        if let Some(reply) = repeated {
-            let turn = Entry {
-                seat,
-                terminal,
-                asked,
-                line: copy,
-                reply,
-            };
-            return Ok(self.told.add_repeat(turn));
-        }
-        let reply = self.running.submit(terminal, command)?;
-        let turn = Entry {
-            seat,
-            terminal,
-            asked,
-            line: copy,
-            reply,
-        };
-        Ok(self.told.add(turn))
+        self.take_copy(&Ask::new(seat, terminal, Asked::Command(*command), line))
     }
 
-    /// One turn: a terminal's cancellation, with the message's line where that carried a sequence number.
-    ///
-    /// It takes back the newest surviving command of its kind that the terminal sent, and is refused where there is none
-    /// (`NothingToCancel`) or where a later survivor depends on it (`Depends`, with the least number of one that does); or
-    /// it is repeated. The desk is then that of the run of the other survivors. Its numbers, and the terminal's, are those
-    /// of the journal's catalogue.
+    /// One turn: a terminal's cancellation, with the message's line where that carried a sequence number. As
+    /// `take`.
     pub fn cancel(
         &mut self,
         terminal: TerminalNo,
@@ -117,68 +142,37 @@ impl<A: Allocator + Copy> Journal<A> {
     ) -> Result<Turn, Fault>
         requires known { IsKnownCancel (facts self.old) what.now }
         requires terminal { terminal < (facts self.old).terminals }
-        ensures turn { IfOk result (AddsTurn self.old self.new seat (asking terminal (Asked.Cancel what.now) (option_map (λ bytes. bytes.now) line.entry))) }
-        ensures legal { IsLegalBook self.new }
-        ensures err { OnErr result (self.new ≡ self.old) }
+        ensures turn { IfOk result (AddsTurn self.old self.new seat
+            (asking terminal (Asked.Cancel what.now) (option_map (λ bytes. bytes.now) line.entry))) }
+        ensures legal { IsLegalBook self.new.contents self.new.turns }
+        ensures err { OnErr result (MakesNoTurn self.old self.new) }
     {
-        self.told.ready(terminal)?;
-        let copy = copied(self.alloc, line)?;
-        let asked = Asked::Cancel(*what);
-        let repeated = self.told.repeated(terminal, &asked, line);
-        if let Some(reply) = repeated {
-            let turn = Entry {
-                seat,
-                terminal,
-                asked,
-                line: copy,
-                reply,
-            };
-            return Ok(self.told.add_repeat(turn));
-        }
-        let reply = self.running.cancel(self.alloc, terminal, what)?;
-        let turn = Entry {
-            seat,
-            terminal,
-            asked,
-            line: copy,
-            reply,
-        };
-        Ok(self.told.add(turn))
+        self.take_copy(&Ask::new(seat, terminal, Asked::Cancel(*what), line))
     }
 
-    /// One turn: a terminal's query of a copy, with the message's line where that carried a sequence number.
-    ///
-    /// It shows where the copy is and how many holds its title has; desk, survivors and what is kept stay. The copy, and the
-    /// terminal, are those of the journal's catalogue.
-    pub fn query(
-        &mut self,
-        terminal: TerminalNo,
-        seat: SeatNo,
-        item: CopyNo,
-        line: Option<&[u8]>,
-    ) -> Result<Turn, Fault>
+    /// One turn: a terminal's query of a copy. As `take`.
+    pub fn query(&mut self, terminal: TerminalNo, seat: SeatNo, item: CopyNo) -> Result<Turn, Fault>
         requires known { item < (facts self.old).copies }
         requires terminal { terminal < (facts self.old).terminals }
-        ensures turn { IfOk result (AddsTurn self.old self.new seat (asking terminal (Asked.Item item) (option_map (λ bytes. bytes.now) line.entry))) }
-        ensures legal { IsLegalBook self.new }
-        ensures err { OnErr result (self.new ≡ self.old) }
+        ensures turn { IfOk result (AddsTurn self.old self.new seat
+            (asking terminal (Asked.Item item) None)) }
+        ensures legal { IsLegalBook self.new.contents self.new.turns }
+        ensures err { OnErr result (MakesNoTurn self.old self.new) }
     {
-        self.told.ready(terminal)?;
-        let copy = copied(self.alloc, line)?;
-        let reply = view_of(&self.told, &self.running, terminal, item, line);
-        let turn = Entry {
-            seat,
-            terminal,
-            asked: Asked::Item(item),
-            line: copy,
-            reply,
-        };
-        Ok(self.told.add_repeat(turn))
+        self.take_copy(&Ask::new(seat, terminal, Asked::Item(item), None))
+    }
+
+    /// Where its memory comes from.
+    fn alloc(&self) -> A
+        ensures { IsLegalBook self.now.contents self.now.turns }
+    {
+        self.alloc
     }
 
     /// How many turns there are.
     pub fn front(&self) -> usize
-        ensures { result ≡ length self.now.turns }
+        ensures count { result ≡ length self.now.turns }
+        ensures legal { IsLegalBook self.now.contents self.now.turns }
     {
         self.told.len()
     }
@@ -209,37 +203,15 @@ impl<A: Allocator + Copy> Journal<A> {
         ensures contents { contents result.now ≡ self.now.contents }
         ensures state { desk_of result.now ≡ (state self.now).desk }
         ensures run { desk_of result.now ≡ run (facts self.now) (state self.now).survivors }
+        ensures legal { IsLegalBook self.now.contents self.now.turns }
     {
         self.running.desk()
     }
 
     /// The work that was done: command steps, and cells written.
-    pub fn meter(&self) -> &Meter {
-        self.running.meter()
-    }
-
-    /// Whatever turns it has come through: each reply is the turn machine's, the desk is that of the run of the survivors,
-    /// each with the reply that it got, and the headline holds of the turns.
-    pub fn headline(&self)
-        ensures { IsLegalBook self.now }
+    pub fn meter(&self) -> &Meter
+        ensures { result.now ≡ self.now.work }
     {
-        let _ = &self.running;
-    }
-}
-
-/// What a query is answered: what the desk shows, or the same again.
-fn view_of<A: Allocator + Copy>(
-    told: &Told<A>,
-    running: &Running<A>,
-    terminal: TerminalNo,
-    item: CopyNo,
-    line: Option<&[u8]>,
-) -> TurnReply
-    requires { item < (facts_of running.now.contents).copies }
-    ensures { turn_of (facts_of running.now.contents) (state_at running.now (kept_by told.now)) (asking terminal (Asked.Item item) (option_map (λ bytes. bytes.now) line.entry)) ≡ record { reply = result; state = state_at running.now (kept_by told.now) } }
-{
-    match told.repeated(terminal, &Asked::Item(item), line) {
-        Some(reply) => reply,
-        None => running.item(item),
+        &self.meter
     }
 }

@@ -1,21 +1,22 @@
 //! The journal of the hold desk: every turn, and the desk of the commands that were not cancelled.
 #![tactic(auto)]
 
+mod ask;
 mod decision;
 mod entry;
 mod fault;
 mod journal;
 mod line;
-mod messages;
 mod numbers;
 mod room;
 mod running;
 mod told;
 mod turn;
 
+pub use crate::ask::{Ask, OwnedAsk};
+pub use crate::entry::Entry;
 pub use crate::fault::Fault;
 pub use crate::journal::Journal;
-pub use crate::messages::Message;
 pub use crate::numbers::SeatNo;
 pub use crate::turn::{Turn, TurnRef};
 pub use hd_desk::{Catalogue, Desk};

@@ -1,7 +1,7 @@
 //! The bytes of a line.
 
-ghost use Rattle.std.specs.Prelude.{◌≡◌, List, ℕ, IfOk, option_map};
-ghost use Rattle.hd_rules.specs.Same.{same_line};
+ghost use Rattle.std.specs.Prelude.{◌≡◌, ◌↔◌, None, IfOk, IsOk, IsTrue, option_map};
+ghost use Rattle.hd_rules.specs.Same.{same_line as is_same_line};
 
 use std::alloc::{AllocError, Allocator};
 use std::marker::Model;
@@ -22,7 +22,7 @@ impl<A: Allocator> Model for Line<A> {
 
 impl<A: Allocator> Line<A> {
     /// A copy of these bytes.
-    pub(crate) fn copied(alloc: A, bytes: &[u8]) -> Result<Line<A>, AllocError>
+    fn copied(alloc: A, bytes: &[u8]) -> Result<Line<A>, AllocError>
         ensures { IfOk result (λ line. line ≡ bytes.now) }
     {
         let bytes = Vec::from_slice(alloc, bytes)?;
@@ -30,29 +30,53 @@ impl<A: Allocator> Line<A> {
     }
 
     /// The bytes.
-    pub(crate) fn bytes(&self) -> &[u8]
+    fn bytes(&self) -> &[u8]
         ensures { result.now ≡ self.now }
     {
         self.bytes.as_slice()
     }
 }
 
-/// Whether two lines are the same bytes.
-pub(crate) fn same_bytes(one: &[u8], other: &[u8]) -> bool
-    ensures { result ≡ same_line one.now other.now }
-{
-    one == other
-}
-
-/// A copy of the line, where there is one.
+/// A copy of the line, where there is one. Without a line no memory is wanted.
 pub(crate) fn copied<A: Allocator>(
     alloc: A,
     line: Option<&[u8]>,
 ) -> Result<Option<Line<A>>, AllocError>
-    ensures { IfOk result (λ copy. copy ≡ option_map (λ bytes. bytes.now) line.entry) }
+    ensures same { IfOk result (λ copy. copy ≡ option_map (λ bytes. bytes.now) line.entry) }
+    ensures no_line { line.entry ≡ None → IsOk result }
 {
     match line {
         None => Ok(None),
         Some(bytes) => Ok(Some(Line::copied(alloc, bytes)?)),
+    }
+}
+
+/// The bytes of a line, where there is one.
+pub(crate) fn lent<A: Allocator>(line: &Option<Line<A>>) -> Option<&[u8]>
+    ensures { option_map (λ bytes. bytes.now) result ≡ line.now }
+{
+    match line {
+        Some(line) => Some(line.bytes()),
+        None => None,
+    }
+}
+
+/// Whether two lines are the same bytes. It is the test by which the turn machine tells a repeat.
+pub(crate) fn same_line(one: &[u8], other: &[u8]) -> bool
+    ensures exact { IsTrue result ↔ (one.now ≡ other.now) }
+    ensures told { result ≡ is_same_line one.now other.now }
+{
+    one == other
+}
+
+/// Whether two messages carried the same line, or both none.
+pub(crate) fn same_lines(one: Option<&[u8]>, other: Option<&[u8]>) -> bool
+    ensures { IsTrue result
+        ↔ (option_map (λ bytes. bytes.now) one.entry ≡ option_map (λ bytes. bytes.now) other.entry) }
+{
+    match (one, other) {
+        (None, None) => true,
+        (Some(bytes), Some(again)) => same_line(bytes, again),
+        _ => false,
     }
 }

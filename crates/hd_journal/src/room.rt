@@ -1,6 +1,7 @@
 //! Room that is made first.
 
-ghost use Rattle.std.specs.Prelude.{◌≡◌, ◌<◌, ◌++◌, ◌∷◌, [], ℕ, Option, None, OnOk, OnErr, length, vec_len, vec_capacity, slice_index_or};
+ghost use Rattle.std.specs.Prelude.{◌≡◌, ◌<◌, ◌++◌, ◌∷◌, [], ℕ, Option, None, OnOk, OnErr, length, vec_len};
+ghost use Rattle.std.specs.Prelude.{vec_capacity, slice_index_or};
 
 use std::alloc::{AllocError, Allocator};
 
@@ -14,7 +15,8 @@ pub(crate) fn push_ready<T: Drop, A: Allocator>(items: &mut Vec<T, A>, item: T)
     }
 }
 
-/// Makes the list reach to an index, by places that are none. A place that is read there is none before and afterwards.
+/// Makes the list reach to an index, by places that are none. A place that is read there is none before and
+/// afterwards.
 pub(crate) fn reach<A: Allocator>(
     places: &mut Vec<Option<usize>, A>,
     index: usize,

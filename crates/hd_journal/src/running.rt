@@ -1,18 +1,20 @@
 //! The commands that survive, and the desk of their run.
 
-ghost use Rattle.std.specs.Prelude.{◌≡◌, ◌+◌, ◌<◌, ◌≤◌, ◌^◌, [], ℕ, Option, IfOk, OnErr};
+ghost use Rattle.std.specs.Prelude.{◌≡◌, ◌+◌, ◌<◌, ◌≤◌, ◌^◌, [], ℕ, None, Option, IfOk, OnErr};
 ghost use Rattle.hd_catalogue.specs.Contents.{facts_of};
 ghost use Rattle.hd_rules.specs.Desk.{opening};
-ghost use Rattle.hd_rules.specs.Known.{IsKnownAction};
-ghost use Rattle.hd_rules.specs.Run.{run};
-ghost use Rattle.hd_rules.specs.Turns.{Kept, item_view};
+ghost use Rattle.hd_rules.specs.Known.{IsKnown, IsKnownAction};
+ghost use Rattle.hd_rules.specs.Run.{outcome_of, run};
+ghost use Rattle.hd_rules.specs.Turns.{Kept, item_view, next_survivor};
 ghost use Rattle.hd_desk.specs.Desks.{contents, desk_of, facts};
-ghost use Rattle.hd_journal.specs.Running.{Submitted, Withdrawn};
+ghost use Rattle.hd_journal.specs.Running.{IsCarriedOut, Submitted, Withdrawn, state_alone};
+ghost use Rattle.hd_journal.specs.Working.{IsWork, OnlyRise, command_work};
 
+use crate::ask::OwnedAsk;
 use crate::decision::{Decision, decide, newest};
 use crate::room::push_ready;
 use hd_desk::{Desk, Done, Meter, Refused};
-use hd_rules::{Cancel, Command, CopyNo, Refusal, Reply, Survivor, TerminalNo, TurnReply};
+use hd_rules::{Asked, Cancel, Command, CopyNo, Refusal, Reply, Survivor, TerminalNo, TurnReply};
 use std::alloc::{AllocError, Allocator};
 use std::marker::Model;
 
@@ -22,7 +24,6 @@ pub(crate) struct Running<A: Allocator> {
     desk: Desk<A>,
     survivors: Vec<Survivor, A>,
     last: u64,
-    meter: Meter,
 }
 
 impl<A: Allocator> Model for Running<A> {
@@ -33,12 +34,14 @@ impl<A: Allocator> Model for Running<A> {
 
     ghost view = { λ r. record { contents = contents r.desk; survivors = r.survivors.items; last = r.last } };
 
-    ghost invariant = { λ r. IsRunning (record { contents = contents r.desk; survivors = r.survivors.items; last = r.last }) (desk_of r.desk) };
+    ghost invariant = { λ r. IsRunning
+        (record { contents = contents r.desk; survivors = r.survivors.items; last = r.last })
+        (desk_of r.desk) };
 }
 
 impl<A: Allocator + Copy> Running<A> {
     /// No survivors, at an opening desk.
-    pub(crate) fn new(alloc: A, desk: Desk<A>, meter: Meter) -> Running<A>
+    pub(crate) fn new(alloc: A, desk: Desk<A>) -> Running<A>
         requires { desk_of desk ≡ opening (facts desk) }
         ensures { result ≡ record { contents = contents desk; survivors = []; last = 0 } }
     {
@@ -46,7 +49,6 @@ impl<A: Allocator + Copy> Running<A> {
             desk,
             survivors: Vec::new(alloc),
             last: 0,
-            meter,
         }
     }
 
@@ -56,11 +58,6 @@ impl<A: Allocator + Copy> Running<A> {
         ensures run { desk_of result.now ≡ run (facts_of self.now.contents) self.now.survivors }
     {
         &self.desk
-    }
-
-    /// The work that was done.
-    pub(crate) fn meter(&self) -> &Meter {
-        &self.meter
     }
 
     /// The survivors, by number.
@@ -77,30 +74,64 @@ impl<A: Allocator + Copy> Running<A> {
         self.last
     }
 
+    /// Carries out what a terminal asks that is no repeat, and counts the work: its reply.
+    pub(crate) fn answer(
+        &mut self,
+        alloc: A,
+        ask: &OwnedAsk<A>,
+        meter: &mut Meter,
+    ) -> Result<TurnReply, AllocError>
+        requires known { IsKnown (facts_of self.old.contents) ask.now.message.asked }
+        requires number { self.old.last + 1 < 2 ^ 64 }
+        ensures answered { IfOk result (λ reply. IsCarriedOut self.old
+            ask.now.message.terminal ask.now.message.asked reply self.new) }
+        ensures work { IfOk result (λ _. IsWork (facts_of self.old.contents) (state_alone self.old)
+            ask.now.message.terminal ask.now.message.asked None meter.old meter.new) }
+        ensures contents { self.new.contents ≡ self.old.contents }
+        ensures last { self.new.last ≤ self.old.last + 1 }
+        ensures err { OnErr result (self.new ≡ self.old) }
+        ensures rise { OnErr result (OnlyRise meter.old meter.new) }
+    {
+        match &ask.asked {
+            Asked::Command(command) => self.submit(ask.terminal(), command, meter),
+            Asked::Cancel(what) => self.cancel(alloc, ask.terminal(), what, meter),
+            Asked::Item(copy) => Ok(self.item(*copy)),
+        }
+    }
+
     /// What the desk shows of a copy.
-    pub(crate) fn item(&self, item: CopyNo) -> TurnReply
+    fn item(&self, item: CopyNo) -> TurnReply
         requires { item < (facts_of self.now.contents).copies }
-        ensures { result ≡ TurnReply.Item (item_view (facts_of self.now.contents) (run (facts_of self.now.contents) self.now.survivors) item) }
+        ensures { result
+            ≡ TurnReply.Item
+            (item_view (facts_of self.now.contents)
+            (run (facts_of self.now.contents) self.now.survivors) item) }
     {
         TurnReply::Item(self.desk.item(item))
     }
 
     /// Does the terminal's command with the next number, or tells why it is refused.
-    pub(crate) fn submit(
+    fn submit(
         &mut self,
         terminal: TerminalNo,
         command: &Command,
+        meter: &mut Meter,
     ) -> Result<TurnReply, AllocError>
         requires known { IsKnownAction (facts_of self.old.contents) command.now.action }
         requires number { self.old.last + 1 < 2 ^ 64 }
         ensures submitted { IfOk result (λ reply. Submitted self.old terminal command.now reply self.new) }
+        ensures work { IfOk result (λ _. meter.new ≡ command_work
+            (outcome_of (facts_of self.old.contents) (state_alone self.old).desk
+            (next_survivor (state_alone self.old) terminal command.now))
+            meter.old) }
+        ensures rise { OnErr result (OnlyRise meter.old meter.new) }
         ensures contents { self.new.contents ≡ self.old.contents }
         ensures last { self.new.last ≤ self.old.last + 1 }
         ensures err { OnErr result (self.new ≡ self.old) }
     {
         self.survivors.reserve(1)?;
         let number = self.last + 1;
-        match self.desk.apply(number, command, &mut self.meter) {
+        match self.desk.apply(number, command, meter) {
             Ok(done) => {
                 let survivor = Survivor {
                     number,
@@ -120,13 +151,15 @@ impl<A: Allocator + Copy> Running<A> {
     }
 
     /// Takes back what the terminal's cancellation takes back, or tells why it can't.
-    pub(crate) fn cancel(
+    fn cancel(
         &mut self,
         alloc: A,
         terminal: TerminalNo,
         what: &Cancel,
+        meter: &mut Meter,
     ) -> Result<TurnReply, AllocError>
         ensures cancelled { IfOk result (λ reply. Withdrawn self.old terminal what.now reply self.new) }
+        ensures rise { OnlyRise meter.old meter.new }
         ensures contents { self.new.contents ≡ self.old.contents }
         ensures last { self.new.last ≡ self.old.last }
         ensures err { OnErr result (self.new ≡ self.old) }
@@ -134,13 +167,7 @@ impl<A: Allocator + Copy> Running<A> {
         let Some(at) = newest(self.survivors.as_slice(), terminal, what) else {
             return Ok(TurnReply::Refused(Refusal::NothingToCancel));
         };
-        match decide(
-            alloc,
-            &self.desk,
-            self.survivors.as_slice(),
-            at,
-            &mut self.meter,
-        )? {
+        match decide(alloc, &self.desk, self.survivors.as_slice(), at, meter)? {
             Decision::Depends(number) => Ok(TurnReply::Refused(Refusal::Depends { number })),
             Decision::Stands(without) => {
                 let target = self.survivors.remove(at);

@@ -1,14 +1,16 @@
 //! What was told: the turns, and what is kept of each terminal's last changing message.
 
-ghost use Rattle.std.specs.Prelude.{◌≡◌, ◌<◌, ◌+◌, ◌^◌, ◌++◌, ◌∷◌, [], OnOk, length, option_map, slice_get};
+ghost use Rattle.std.specs.Prelude.{◌≡◌, ◌<◌, ◌+◌, ◌^◌, ◌++◌, ◌∷◌, [], OnOk};
+ghost use Rattle.std.specs.Prelude.{length, option_map, slice_get};
 ghost use Rattle.hd_rules.specs.Turns.{repeated_of};
 ghost use Rattle.hd_journal.specs.Shown.{shown};
-ghost use Rattle.hd_journal.specs.Telling.{kept_by, with_turn};
+ghost use Rattle.hd_journal.specs.Telling.{after_turn, kept_by, with_turn};
 
+use crate::ask::OwnedAsk;
 use crate::entry::Entry;
 use crate::room::{push_ready, reach};
 use crate::turn::{Turn, TurnRef};
-use hd_rules::{Asked, TerminalNo, TurnReply};
+use hd_rules::{TerminalNo, TurnReply};
 use std::alloc::{AllocError, Allocator};
 use std::marker::Model;
 
@@ -25,7 +27,11 @@ impl<A: Allocator> Model for Told<A> {
 
     ghost Value = { Told };
 
-    ghost view = { λ told. record { turns = told.turns.items; places = told.places.items; room = vec_capacity told.turns } };
+    ghost view = { λ told. record {
+      turns = told.turns.items;
+      places = told.places.items;
+      room = vec_capacity told.turns;
+    } };
 
     ghost invariant = { λ told. AreTurns told.turns.items told.places.items };
 }
@@ -70,18 +76,15 @@ impl<A: Allocator + Copy> Told<A> {
     }
 
     /// The reply to a message that equals what is kept of its terminal's last.
-    pub(crate) fn repeated(
-        &self,
-        terminal: TerminalNo,
-        asked: &Asked,
-        line: Option<&[u8]>,
-    ) -> Option<TurnReply>
-        ensures { result ≡ repeated_of (kept_by self.now terminal) asked.now (option_map (λ bytes. bytes.now) line.entry) }
+    pub(crate) fn repeated(&self, ask: &OwnedAsk<A>) -> Option<TurnReply>
+        ensures { result
+            ≡ repeated_of (kept_by self.now ask.now.message.terminal)
+            ask.now.message.asked ask.now.message.line }
     {
-        let line = line?;
-        let place = (*self.places.get(terminal.number() as usize)?)?;
+        let line = ask.line()?;
+        let place = (*self.places.get(ask.terminal().number() as usize)?)?;
         let turn = self.turns.get(place)?;
-        turn.answered(asked, line)
+        turn.answered(&ask.asked, line)
     }
 
     /// A turn that leaves what is kept.
@@ -96,8 +99,23 @@ impl<A: Allocator + Copy> Told<A> {
         Turn::new(self.turns.as_slice().len(), reply)
     }
 
-    /// A turn of which is kept what carried a line.
+    /// A turn that is no repeat: a query leaves what is kept, and of any other is kept what carried a line.
     pub(crate) fn add(&mut self, turn: Entry<A>) -> Turn
+        requires room { length self.old.turns < self.old.room }
+        requires terminal { turn.message.terminal < length self.old.places }
+        ensures turns { self.new.turns ≡ self.old.turns ++ turn ∷ [] }
+        ensures kept { kept_by self.new ≡ after_turn turn (kept_by self.old) }
+        ensures made { result ≡ record { at = length self.new.turns; reply = turn.reply } }
+    {
+        if turn.is_query() {
+            self.add_repeat(turn)
+        } else {
+            self.add_change(turn)
+        }
+    }
+
+    /// A turn of which is kept what carried a line.
+    fn add_change(&mut self, turn: Entry<A>) -> Turn
         requires room { length self.old.turns < self.old.room }
         requires terminal { turn.message.terminal < length self.old.places }
         ensures turns { self.new.turns ≡ self.old.turns ++ turn ∷ [] }
@@ -105,7 +123,7 @@ impl<A: Allocator + Copy> Told<A> {
         ensures made { result ≡ record { at = length self.new.turns; reply = turn.reply } }
     {
         let reply = turn.reply;
-        let terminal = turn.terminal.number() as usize;
+        let terminal = turn.ask.terminal().number() as usize;
         let place = self.turns.as_slice().len();
         push_ready(&mut self.turns, turn);
         self.places[terminal] = Some(place);

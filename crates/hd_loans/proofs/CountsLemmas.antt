@@ -11,7 +11,8 @@ count_below-same t u zero h = refl
 count_below-same t u (suc n) h = rw (h n (omega arith), count_below-same t u n (λ k l. h k (omega arith)))
 
 -- tests that differ at one number alone have counts that differ by it alone
-pub count_below-changed : (t u : ℕ → Bool) (n k : ℕ) → k < n → ((q : ℕ) → q ≢ k → u q ≡ t q) → count_below u n + one (t k) ≡ count_below t n + one (u k)
+pub count_below-changed : (t u : ℕ → Bool) (n k : ℕ) → k < n → ((q : ℕ) → q ≢ k → u q ≡ t q) →
+    count_below u n + one (t k) ≡ count_below t n + one (u k)
 count_below-changed t u zero k l h = absurd (omega arith)
 count_below-changed t u (suc n) k l h = elim (cases_lt k n) [
   | inl below ↦ rw (h n (omega arith)) (omega (arith, count_below-changed t u n k below h))

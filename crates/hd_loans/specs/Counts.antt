@@ -1,5 +1,6 @@
 -- How many loans each patron has.
-use Rattle.std.specs.Prelude.{◌≡◌, ℕ, ◌<◌, ◌+◌, ◌^◌, length, Bool, false, ◌==◌, Option, None, Some, List, slice_index}
+use Rattle.std.specs.Prelude.{◌≡◌, ℕ, ◌<◌, ◌+◌, ◌^◌, length, Bool, false, ◌==◌, Option, None, Some, List}
+use Rattle.std.specs.Prelude.{slice_index}
 use Rattle.std.specs.Ordering.{nat_cmp}
 use Rattle.std.specs.FinMap as map
 use Rattle.hd_rules.specs.declared.copies.Loan.{Loan}
@@ -16,7 +17,8 @@ loans_of loans copies patron = count_below (λ copy. is_loan_to patron (map.get 
 
 -- each loan is of a copy and a patron below these numbers
 abbrev pub AreBelow : map.FinMap nat_cmp Loan → ℕ → ℕ → Type 0
-AreBelow loans copies patrons = (copy : ℕ) (loan : Loan) → map.get loans copy ≡ Some loan → (copy < copies) × (loan.patron < patrons)
+AreBelow loans copies patrons = (copy : ℕ) (loan : Loan) → map.get loans copy ≡ Some loan →
+    (copy < copies) × (loan.patron < patrons)
 
 -- the numbers kept for the patrons are those of their loans
 pub record AreCounts (loans : map.FinMap nat_cmp Loan) (copies : ℕ) (counts : List ℕ) : Type 0 where
@@ -35,4 +37,5 @@ renewed_loan loan due = record { patron = loan.patron; due = due; renewals = loa
 
 -- the loans with that of a copy renewed
 abbrev pub renewed : map.FinMap nat_cmp Loan → ℕ → ℕ → map.FinMap nat_cmp Loan
-renewed loans copy due = elim (map.get loans copy) [ None ↦ loans | Some loan ↦ map.insert loans copy (renewed_loan loan due) ]
+renewed loans copy due =
+    elim (map.get loans copy) [ None ↦ loans | Some loan ↦ map.insert loans copy (renewed_loan loan due) ]

@@ -13,8 +13,13 @@ pub record LoansValue : Type 0 where
 
 -- a loan is stored as the tuple of its fields
 abbrev pub loan_code : Coded Loan
-loan_code = code_by (ℕ × (ℕ × ℕ)) (coded× coded_ℕ (coded× coded_ℕ coded_ℕ)) (λ l. (l.patron, (l.due, l.renewals))) (λ p. record { patron = p.0; due = p.1.0; renewals = p.1.1 }) (λ _. refl)
+loan_code =
+    code_by (ℕ × (ℕ × ℕ)) (coded× coded_ℕ (coded× coded_ℕ coded_ℕ)) (λ l. (l.patron, (l.due, l.renewals)))
+    (λ p. record { patron = p.0; due = p.1.0; renewals = p.1.1 }) (λ _. refl)
 
 -- and so are the loans of a desk
 abbrev pub loans_code : Coded LoansValue
-loans_code = code_by (map.FinMap nat_cmp Loan × (ℕ × ℕ)) (coded× (map.code coded_ℕ loan_code) (coded× coded_ℕ coded_ℕ)) (λ l. (l.loans, (l.copies, l.patrons))) (λ p. record { loans = p.0; copies = p.1.0; patrons = p.1.1 }) (λ _. refl)
+loans_code =
+    code_by (map.FinMap nat_cmp Loan × (ℕ × ℕ)) (coded× (map.code coded_ℕ loan_code) (coded× coded_ℕ coded_ℕ))
+    (λ l. (l.loans, (l.copies, l.patrons))) (λ p. record { loans = p.0; copies = p.1.0; patrons = p.1.1 })
+    (λ _. refl)

@@ -26,7 +26,11 @@ impl<A: Allocator> Model for Loans<A> {
 
     ghost coded = { loans_code };
 
-    ghost view = { λ l. record { loans = l.table.entries; copies = l.table.size; patrons = vec_len l.counts } };
+    ghost view = { λ l. record {
+      loans = l.table.entries;
+      copies = l.table.size;
+      patrons = vec_len l.counts;
+    } };
 
     ghost invariant = { λ l. AreCounts l.table.entries l.table.size l.counts.items };
 }
@@ -90,13 +94,6 @@ impl<A: Allocator> Loans<A> {
             };
             self.table.set(at, renewed);
         }
-    }
-
-    /// The loan of a copy, if it is on loan.
-    pub fn loan_of(&self, copy: CopyNo) -> Option<Loan>
-        ensures { result ≡ map.get self.now.loans copy }
-    {
-        self.table.get(copy.number() as usize).copied()
     }
 
     /// How many loans a patron has.

@@ -36,7 +36,8 @@ fn loans_are_counted_by_patron(rt: HostRuntime) -> Result<(), Fail> {
     assert_eq!(rt; renewed.due, due);
     assert_eq!(rt; renewed.renewals, 1);
     assert_eq!(rt; loans.count(patron), 1);
-    assert_eq!(rt; loans.loan_of(last), None);
-    assert_eq!(rt; loans.loan_of(first), Some(loan));
+    assert_eq!(rt; loans.end(last), None);
+    assert_eq!(rt; loans.end(first), Some(loan));
+    assert_eq!(rt; loans.count(patron), 0);
     Ok(())
 }

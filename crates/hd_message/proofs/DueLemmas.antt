@@ -1,5 +1,6 @@
 -- The date that many days after 1 January of the year 0 is the date of the day of that number.
-use Rattle.std.proofs.Common.{◌≡◌, ℕ, zero, suc, ◌+◌, ◌<◌, ◌≤◌, Bool, true, false, List, codes, nat_lt, pos, ◌+ℤ◌, ◌≤ℤ◌, refl, ap, subst, ◌∙◌, ⊎_elim, arith, rules, if◌then◌else◌}
+use Rattle.std.proofs.Common.{◌≡◌, ℕ, zero, suc, ◌+◌, ◌<◌, ◌≤◌, Bool, true, false, List, codes, nat_lt, pos, ◌+ℤ◌, ◌≤ℤ◌, refl, ap, subst}
+use Rattle.std.proofs.Common.{◌∙◌, ⊎_elim, arith, rules, if◌then◌else◌}
 use borrow.Author.Tests.{ltb-true, ltb-false}
 use Rattle.std.proofs.lemmas.Bool.{cases_lt}
 use Rattle.jiff_core.specs.Calendar.{days_from_civil, days_in_month}
@@ -23,17 +24,20 @@ after y m d more late =
     else record { year = y + 1; month = 1; day = 1 }
 
 -- the year 9999 has no day after the last
-before_the_end : (y n : ℕ) → suc n < end_of_days → pos y ≤ℤ pos 9999 → days_from_civil (pos y) 12 31 ≡ days_from_civil (pos 0) 1 1 +ℤ pos n → y < 9999
+before_the_end : (y n : ℕ) → suc n < end_of_days → pos y ≤ℤ pos 9999 →
+    days_from_civil (pos y) 12 31 ≡ days_from_civil (pos 0) 1 1 +ℤ pos n → y < 9999
 before_the_end y n h bound counted =
     ⊎_elim
     (λ (l : y < 9999). l)
     (λ (l : 9999 ≤ y).
     let year : y ≡ 9999 = omega (arith, signed_arith) in
-    let last : days_from_civil (pos 9999) 12 31 ≡ days_from_civil (pos 0) 1 1 +ℤ pos n = subst (λ x. days_from_civil (pos x) 12 31 ≡ days_from_civil (pos 0) 1 1 +ℤ pos n) year counted in
+    let last : days_from_civil (pos 9999) 12 31 ≡ days_from_civil (pos 0) 1 1 +ℤ pos n =
+    subst (λ x. days_from_civil (pos x) 12 31 ≡ days_from_civil (pos 0) 1 1 +ℤ pos n) year counted in
     absurd (omega (arith, signed_arith, last_day, last)))
     (cases_lt y 9999)
 
-next_of : (y m d n : ℕ) (more late : Bool) → nat_lt d (days_in_month (pos y) m) ≡ more → nat_lt m 12 ≡ late → suc n < end_of_days → IsCalendarDay y m d n → IsAt (after y m d more late) (suc n)
+next_of : (y m d n : ℕ) (more late : Bool) → nat_lt d (days_in_month (pos y) m) ≡ more → nat_lt m 12 ≡ late → suc n < end_of_days →
+    IsCalendarDay y m d n → IsAt (after y m d more late) (suc n)
 next_of y m d n true late e f h day =
     let within : d < days_in_month (pos y) m = ltb-true _ _ e in
     let moved = days_from_civil-day (pos y) m d (d + 1) day.real.2.0 (omega arith) in
@@ -55,11 +59,17 @@ next_of y m d n false false e f h day =
     let end : d ≡ days_in_month (pos y) m = omega (arith, day.real.2.1) in
     let month : m ≡ 12 = omega (arith, ltb-false _ _ f, day.real.1.1) in
     let last : d ≡ 31 = end ∙ ap (days_in_month (pos y)) month in
-    let counted : days_from_civil (pos y) 12 31 ≡ days_from_civil (pos 0) 1 1 +ℤ pos n = subst (λ k. days_from_civil (pos y) 12 k ≡ days_from_civil (pos 0) 1 1 +ℤ pos n) last (subst (λ k. days_from_civil (pos y) k d ≡ days_from_civil (pos 0) 1 1 +ℤ pos n) month day.counted) in
+    let counted : days_from_civil (pos y) 12 31 ≡ days_from_civil (pos 0) 1 1 +ℤ pos n =
+    subst (λ k. days_from_civil (pos y) 12 k ≡ days_from_civil (pos 0) 1 1 +ℤ pos n) last
+    (subst (λ k. days_from_civil (pos y) k d ≡ days_from_civil (pos 0) 1 1 +ℤ pos n) month day.counted) in
     let early : y < 9999 = before_the_end y n h day.real.0.1 counted in
     let moved = days_from_civil-next_year (pos y) (pos (y + 1)) (omega (arith, signed_arith)) (omega (arith, signed_arith)) in
     record {
-      real = ((omega (arith, signed_arith), omega (arith, signed_arith)), (omega arith, omega arith), (omega arith, omega (arith, days_in_month_bounds (pos (y + 1)) 1)));
+      real = (
+        (omega (arith, signed_arith), omega (arith, signed_arith)),
+        (omega arith, omega arith),
+        (omega arith, omega (arith, days_in_month_bounds (pos (y + 1)) 1)),
+      );
       counted = omega (arith, signed_arith, moved, counted);
     }
 

@@ -2,7 +2,9 @@ pub mod DueLemmas
 pub mod LengthLemmas
 pub mod RepeatedLemmas
 pub mod WrittenLemmas
+pub mod WalkLemmas
 pub mod ReadBackLemmas
+pub mod ReadingLemmas
 pub mod ReadableLemmas
 pub mod ItemReadBack
 pub mod CheckoutReadBack

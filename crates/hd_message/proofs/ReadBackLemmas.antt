@@ -1,5 +1,6 @@
 -- A body that states some values is read as a request that has them.
-use Rattle.std.proofs.Common.{◌≡◌, ℕ, zero, suc, ◌≤◌, ◌||◌, Bool, true, false, Option, None, Some, IfSome, List, [], ◌∷◌, ◌++◌, codes, length, take, drop, refl, sym, ap, subst, ◌∙◌, arith, nat_lt, length-append, if◌then◌else◌}
+use Rattle.std.proofs.Common.{◌≡◌, ℕ, zero, suc, ◌≤◌, ◌||◌, Bool, true, false, Option, None, Some, IfSome, List, [], ◌∷◌, ◌++◌, codes}
+use Rattle.std.proofs.Common.{length, take, drop, refl, sym, ap, subst, ◌∙◌, arith, nat_lt, length-append, if◌then◌else◌}
 use Rattle.std.specs.Str.{bytes_eq}
 use Rattle.hd_field.specs.Fields.{width_of}
 use Rattle.hd_message.specs.Grammar.{AreWritable, IsGiven, Written, cancel, has_bar, optional, value_of}
@@ -8,6 +9,7 @@ use Rattle.hd_message.specs.Table.{code_of, fields_part, fixed_part, fixed_width
 use Rattle.hd_message.specs.Values.{is_yes, unless_empty}
 use Rattle.hd_message.specs.declared.kind.Kind.{Kind}
 use Rattle.hd_message.specs.declared.kind.Kind.TheVariants as Kinds
+use Rattle.hd_message.specs.declared.kind.DeskKind.TheVariants as Desks
 use Rattle.hd_message.specs.declared.request.Request.{Request}
 use Rattle.hd_message.specs.declared.request.Request.TheVariants.{Login, Status, Checkout, Checkin, Hold, Renew, Item, Resend, Unsupported}
 
@@ -16,22 +18,22 @@ decode : List ℕ → Kind
 decode code =
     if bytes_eq code (codes "93") then Kinds.Login
     else if bytes_eq code (codes "99") then Kinds.Status
-    else if bytes_eq code (codes "11") then Kinds.Checkout
-    else if bytes_eq code (codes "09") then Kinds.Checkin
-    else if bytes_eq code (codes "15") then Kinds.Hold
-    else if bytes_eq code (codes "29") then Kinds.Renew
-    else if bytes_eq code (codes "17") then Kinds.Item
+    else if bytes_eq code (codes "11") then Kinds.Desk Desks.Checkout
+    else if bytes_eq code (codes "09") then Kinds.Desk Desks.Checkin
+    else if bytes_eq code (codes "15") then Kinds.Desk Desks.Hold
+    else if bytes_eq code (codes "29") then Kinds.Desk Desks.Renew
+    else if bytes_eq code (codes "17") then Kinds.Desk Desks.Item
     else Kinds.Resend
 
 decoded : (kind : Kind) → decode (code_of kind) ≡ kind
 unfolding decode
 decoded Kinds.Login = refl
 decoded Kinds.Status = refl
-decoded Kinds.Checkout = refl
-decoded Kinds.Checkin = refl
-decoded Kinds.Hold = refl
-decoded Kinds.Renew = refl
-decoded Kinds.Item = refl
+decoded (Kinds.Desk Desks.Checkout) = refl
+decoded (Kinds.Desk Desks.Checkin) = refl
+decoded (Kinds.Desk Desks.Hold) = refl
+decoded (Kinds.Desk Desks.Renew) = refl
+decoded (Kinds.Desk Desks.Item) = refl
 decoded Kinds.Resend = refl
 
 -- two kinds of one code are one
@@ -56,7 +58,8 @@ not_less : (m n : ℕ) → n ≤ m → nat_lt m n ≡ false
 not_less m n h = grind arith
 
 -- a message is its fixed part and its fields
-pub message_of : (kind : Kind) (fixed part : List ℕ) (request : Request) → length fixed ≡ fixed_width kind → take 2 (fixed ++ part) ≡ code_of kind →
+pub message_of : (kind : Kind) (fixed part : List ℕ) (request : Request) → length fixed ≡ fixed_width kind →
+    take 2 (fixed ++ part) ≡ code_of kind →
     is_incomplete kind fixed part ≡ false → States (code_of kind) fixed part request → IsMessage (fixed ++ part) request
 message_of kind fixed part request width code complete states =
     let front = take_fixed (fixed_width kind) fixed part width in
@@ -70,29 +73,33 @@ message_of kind fixed part request width code complete states =
           ∙ ap (λ f. is_incomplete kind f (fields_part kind (fixed ++ part))) front
           ∙ ap (λ p. is_incomplete kind fixed p) back
           ∙ complete;
-      states = subst (λ f. States (code_of kind) f (fields_part kind (fixed ++ part)) request) (sym front) (subst (λ p. States (code_of kind) fixed p request) (sym back) states);
+      states = subst (λ f. States (code_of kind) f (fields_part kind (fixed ++ part)) request) (sym front)
+          (subst (λ p. States (code_of kind) fixed p request) (sym back) states);
     }
 
 -- and states the request that it is read as
-pub states_of : (kind : Kind) (fixed part : List ℕ) (request : Request) → length fixed ≡ fixed_width kind → take 2 (fixed ++ part) ≡ code_of kind →
+pub states_of : (kind : Kind) (fixed part : List ℕ) (request : Request) → length fixed ≡ fixed_width kind →
+    take 2 (fixed ++ part) ≡ code_of kind →
     IsMessage (fixed ++ part) request → States (code_of kind) fixed part request
 states_of kind fixed part request width code message =
     let same : message.kind ≡ kind = one_kind message.kind kind (sym message.code ∙ code) in
     let front = take_fixed (fixed_width kind) fixed part width in
     let back = drop_fixed (fixed_width kind) fixed part width in
     let body = fixed ++ part in
-    let stated : States (code_of kind) (fixed_part kind body) (fields_part kind body) request = subst (λ k. States (code_of k) (fixed_part k body) (fields_part k body) request) same message.states in
-    subst (λ p. States (code_of kind) fixed p request) back (subst (λ f. States (code_of kind) f (fields_part kind body) request) front stated)
+    let stated : States (code_of kind) (fixed_part kind body) (fields_part kind body) request =
+    subst (λ k. States (code_of k) (fixed_part k body) (fields_part k body) request) same message.states in
+    subst (λ p. States (code_of kind) fixed p request) back
+    (subst (λ f. States (code_of kind) f (fields_part kind body) request) front stated)
 
 -- the kind of message that a request is
 abbrev pub kind_of : Request → Kind
 kind_of (Login request) = Kinds.Login
 kind_of Status = Kinds.Status
-kind_of (Checkout request) = Kinds.Checkout
-kind_of (Checkin request) = Kinds.Checkin
-kind_of (Hold request) = Kinds.Hold
-kind_of (Renew request) = Kinds.Renew
-kind_of (Item request) = Kinds.Item
+kind_of (Checkout request) = Kinds.Desk Desks.Checkout
+kind_of (Checkin request) = Kinds.Desk Desks.Checkin
+kind_of (Hold request) = Kinds.Desk Desks.Hold
+kind_of (Renew request) = Kinds.Desk Desks.Renew
+kind_of (Item request) = Kinds.Desk Desks.Item
 kind_of Resend = Kinds.Resend
 kind_of Unsupported = Kinds.Resend
 
@@ -108,13 +115,16 @@ code_stated code fixed part Resend h = h
 code_stated code fixed part Unsupported h = absurd h
 
 -- a message of a kind is read as a request of that kind
-pub kind_stated : (kind : Kind) (fixed part : List ℕ) (request : Request) → States (code_of kind) fixed part request → kind ≡ kind_of request
+pub kind_stated : (kind : Kind) (fixed part : List ℕ) (request : Request) → States (code_of kind) fixed part request →
+    kind ≡ kind_of request
 kind_stated kind fixed part request h = one_kind kind (kind_of request) (code_stated (code_of kind) fixed part request h)
 
 -- a body isn't read as a request of another kind
-pub apart : (kind : Kind) (fixed part : List ℕ) (request : Request) → length fixed ≡ fixed_width kind → take 2 (fixed ++ part) ≡ code_of kind →
+pub apart : (kind : Kind) (fixed part : List ℕ) (request : Request) → length fixed ≡ fixed_width kind →
+    take 2 (fixed ++ part) ≡ code_of kind →
     IsMessage (fixed ++ part) request → (kind ≡ kind_of request → ⊥) → ⊥
-apart kind fixed part request width code message other = other (kind_stated kind fixed part request (states_of kind fixed part request width code message))
+apart kind fixed part request width code message other =
+    other (kind_stated kind fixed part request (states_of kind fixed part request width code message))
 
 pub take_whole : (n : ℕ) (xs : List ℕ) → length xs ≡ n → take n xs ≡ xs
 take_whole zero [] h = refl
@@ -133,20 +143,24 @@ cancel_is false = refl
 
 -- an optional field can be written
 pub optional_writable : (code : List ℕ) (value : Option (List ℕ)) (rest : List Written) → length code ≡ 2 → has_bar code ≡ false →
-    IfSome value (λ x. has_bar x ≡ false) → IfSome value (λ x. IfSome (width_of code) (λ width. length x ≤ width)) → AreWritable rest → AreWritable (optional code value ++ rest)
+    IfSome value (λ x. has_bar x ≡ false) → IfSome value (λ x. IfSome (width_of code) (λ width. length x ≤ width)) → AreWritable rest →
+    AreWritable (optional code value ++ rest)
 optional_writable code None rest two begins plain narrow writable = writable
-optional_writable code (Some value) rest two begins plain narrow writable = (record { two = two; begins = begins; plain = plain; narrow = narrow }, writable)
+optional_writable code (Some value) rest two begins plain narrow writable =
+    (record { two = two; begins = begins; plain = plain; narrow = narrow }, writable)
 
 pub cancel_writable : (cancels : Bool) → AreWritable (cancel cancels)
 cancel_writable true = (record { two = refl; begins = refl; plain = refl; narrow = omega arith }, tt)
 cancel_writable false = tt
 
 -- it is found by its identifier, and passed over by another
-pub optional_found : (code : List ℕ) (value : Option (List ℕ)) (rest : List Written) → bytes_eq code code ≡ true → value_of rest code ≡ None → value_of (optional code value ++ rest) code ≡ value
+pub optional_found : (code : List ℕ) (value : Option (List ℕ)) (rest : List Written) → bytes_eq code code ≡ true →
+    value_of rest code ≡ None → value_of (optional code value ++ rest) code ≡ value
 optional_found code None rest same none = none
 optional_found code (Some value) rest same none = rw same refl
 
-pub optional_passed : (code other : List ℕ) (value : Option (List ℕ)) (rest : List Written) → bytes_eq code other ≡ false → value_of (optional code value ++ rest) other ≡ value_of rest other
+pub optional_passed : (code other : List ℕ) (value : Option (List ℕ)) (rest : List Written) → bytes_eq code other ≡ false →
+    value_of (optional code value ++ rest) other ≡ value_of rest other
 optional_passed code other None rest apart = refl
 optional_passed code other (Some value) rest apart = rw apart refl
 

@@ -1,5 +1,6 @@
 -- The values that a reply repeats lie side by side in the body of their message.
-use Rattle.std.proofs.Common.{◌≡◌, ℕ, zero, suc, ◌+◌, ◌-◌, ◌≤◌, ◌==◌, cond, Bool, true, false, Option, None, Some, List, [], ◌∷◌, codes, length, take, refl, sym, ap, subst, ◌∙◌, arith, length-drop, if◌then◌else◌}
+use Rattle.std.proofs.Common.{◌≡◌, ℕ, zero, suc, ◌+◌, ◌-◌, ◌≤◌, ◌==◌, cond, Bool, true, false, Option, None, Some, List, [], ◌∷◌, codes}
+use Rattle.std.proofs.Common.{length, take, refl, sym, ap, subst, ◌∙◌, arith, length-drop, if◌then◌else◌}
 use Rattle.std.proofs.lemmas.List.{length-take}
 use Rattle.std.proofs.lemmas.Slice.Eq.{bytes_eq-Decides}
 use Rattle.std.specs.List.{find}
@@ -13,9 +14,11 @@ use Rattle.hd_message.specs.Repeated.{readable_bytes, repeated_bytes}
 use Rattle.hd_message.specs.Table.{fields_part, fixed_width}
 use Rattle.hd_message.specs.Values.{first_value, unless_empty}
 use Rattle.hd_message.specs.declared.kind.Kind.{Kind}
+use Rattle.hd_message.specs.declared.kind.Kind.TheVariants as Kinds
 use Rattle.hd_message.specs.declared.request.Request.{Request}
 use Rattle.hd_message.specs.declared.request.Request.TheVariants.{Login, Status, Checkout, Checkin, Hold, Renew, Item, Resend, Unsupported}
 use Rattle.hd_message.specs.declared.unreadable.Unreadable.{Unreadable}
+use Rattle.hd_message.specs.declared.unreadable.Unreadable.TheVariants as Unread
 
 -- the bytes of all values
 abbrev all_bytes : List Occurrence → ℕ
@@ -31,11 +34,13 @@ abbrev bytes_where : Bool → Occurrence → ℕ → ℕ
 bytes_where found o later = if found then length o.value else later
 
 first_step : (found : Bool) (o : Occurrence) (os : List Occurrence) (code : List ℕ) →
-    bytes_of (option_map (λ (x : Occurrence). x.value) (cond found (Some o) (find (has_code code) os))) ≡ bytes_where found o (first_bytes code os)
+    bytes_of (option_map (λ (x : Occurrence). x.value) (cond found (Some o) (find (has_code code) os)))
+    ≡ bytes_where found o (first_bytes code os)
 first_step true o os code = refl
 first_step false o os code = refl
 
-three_step : (a b c : Bool) (o : Occurrence) (x y z n : ℕ) → (a ≡ true → b ≡ false) → (a ≡ true → c ≡ false) → (b ≡ true → c ≡ false) → x + y + z ≤ n →
+three_step : (a b c : Bool) (o : Occurrence) (x y z n : ℕ) → (a ≡ true → b ≡ false) → (a ≡ true → c ≡ false) → (b ≡ true → c ≡ false) →
+    x + y + z ≤ n →
     bytes_where a o x + bytes_where b o y + bytes_where c o z ≤ length o.value + n
 three_step true true c o x y z n ab ac bc h = absurd (cc (ab refl))
 three_step true false true o x y z n ab ac bc h = absurd (cc (ac refl))
@@ -61,11 +66,13 @@ three_values a b c (o ∷ os) ab ac bc =
       first_step (has_code a o) o os a,
       first_step (has_code b o) o os b,
       first_step (has_code c o) o os c,
-      three_step (has_code a o) (has_code b o) (has_code c o) o _ _ _ _ (one_text o.code a b ab) (one_text o.code a c ac) (one_text o.code b c bc) (three_values a b c os ab ac bc),
+      three_step (has_code a o) (has_code b o) (has_code c o) o _ _ _ _ (one_text o.code a b ab) (one_text o.code a c ac)
+          (one_text o.code b c bc) (three_values a b c os ab ac bc),
     )
 
 -- each value has bytes of its own
-one_more : (test : Bool) (o : Occurrence) (past behind : List Occurrence) (end n : ℕ) → length o.value ≤ end → length o.value ≤ n → all_bytes past ≤ suc n → all_bytes behind ≤ suc n - suc end →
+one_more : (test : Bool) (o : Occurrence) (past behind : List Occurrence) (end n : ℕ) → length o.value ≤ end → length o.value ≤ n →
+    all_bytes past ≤ suc n → all_bytes behind ≤ suc n - suc end →
     all_bytes (if test then past else o ∷ behind) ≤ suc (suc n)
 one_more true o past behind end n e v p h = omega (arith, p)
 one_more false o past behind end n e v p h = omega (arith, h)
@@ -80,14 +87,16 @@ own_bytes zero at (b ∷ c ∷ bytes) =
     let value : length (take end bytes) ≤ end = omega (arith, length-take end bytes) in
     let within : length (take end bytes) ≤ length bytes = omega (arith, length-take end bytes) in
     let past : all_bytes (fields_at 0 (at + 1) (c ∷ bytes)) ≤ suc (length bytes) = omega (arith, own_bytes 0 (at + 1) (c ∷ bytes)) in
-    let all : all_bytes (if b == BAR then fields_at 0 (at + 1) (c ∷ bytes) else record { code = b ∷ c ∷ []; value = take end bytes; at = at + 2 } ∷ fields_at (suc end) (at + 1) (c ∷ bytes)) ≤ suc (suc (length bytes)) =
+    let all : all_bytes (if b == BAR then fields_at 0 (at + 1) (c ∷ bytes) else record
+    { code = b ∷ c ∷ []; value = take end bytes; at = at + 2 } ∷ fields_at (suc end) (at + 1) (c ∷ bytes)) ≤ suc (suc (length bytes)) =
     one_more (b == BAR) _ _ _ end (length bytes) value within past (own_bytes (suc end) (at + 1) (c ∷ bytes)) in
     omega (arith, all)
 
 -- the patron, the copy and the title of a part
 part_values : (kind : Kind) (body : List ℕ) →
     let part = fields_part kind body in
-    bytes_of (first_value part (codes "AA")) + bytes_of (first_value part (codes "AB")) + bytes_of (first_value part (codes "AJ")) ≤ length body
+    bytes_of (first_value part (codes "AA")) + bytes_of (first_value part (codes "AB")) + bytes_of (first_value part (codes "AJ"))
+    ≤ length body
 part_values kind body =
     let part = fields_part kind body in
     omega (
@@ -149,12 +158,13 @@ request_bytes body Unsupported h = omega arith
 
 -- a message that can't be read
 pub unreadable_bytes : (body : List ℕ) (message : Unreadable) → IsUnreadable body message → readable_bytes message ≤ length body
-unreadable_bytes body message u =
-    let part = fields_part message.kind body in
+unreadable_bytes body Unread.Login u = omega arith
+unreadable_bytes body (Unread.Desk message) u =
+    let part = fields_part (Kinds.Desk message.kind) body in
     omega (
       arith,
       ap bytes_of u.patron,
       ap bytes_of u.copy ∙ filled_bytes (first_value part (codes "AB")),
       ap bytes_of u.title ∙ filled_bytes (first_value part (codes "AJ")),
-      part_values message.kind body,
+      part_values (Kinds.Desk message.kind) body,
     )

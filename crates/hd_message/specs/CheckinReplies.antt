@@ -1,7 +1,8 @@
 -- The reply to a checkin (10).
 use Rattle.std.specs.Prelude.{ℕ, Bool, true, false, List, [], ◌∷◌, codes}
 use Rattle.std.specs.List.{concat}
-use Rattle.hd_message.specs.Fields.{bound_field, cancelled_field, field_text, place_field, reason_field, yes_no}
+use Rattle.hd_message.specs.Fields.{bound_field, cancelled_field, field_text, place_field, refusal_field}
+use Rattle.hd_message.specs.Fields.{yes_no}
 use Rattle.hd_message.specs.declared.reply.CheckinReply.{CheckinReply}
 use Rattle.hd_message.specs.declared.reply.CheckinOutcome.{CheckinOutcome}
 use Rattle.hd_message.specs.declared.reply.CheckinOutcome.TheVariants.{Returned, Cancelled, Refused}
@@ -41,13 +42,13 @@ checkin_layout reply (Cancelled home title number) =
     ∷ field_text (codes "AJ") title.now
     ∷ cancelled_field number
     ∷ []
-checkin_layout reply (Refused reason) =
+checkin_layout reply (Refused refusal) =
     codes "100NNN"
     ∷ reply.date.now
     ∷ field_text (codes "AO") reply.institution.now
     ∷ field_text (codes "AB") reply.copy.now
     ∷ field_text (codes "AQ") []
-    ∷ reason_field reason
+    ∷ refusal_field refusal
     ∷ []
 
 -- the text of the reply

@@ -12,7 +12,8 @@ pub record Date : Type 0 where
 -- the date after a date: the next day of its month, or the first of the next month or of the next year
 abbrev pub next_date : Date → Date
 next_date date =
-    if nat_lt date.day (days_in_month (pos date.year) date.month) then record { year = date.year; month = date.month; day = date.day + 1 }
+    if nat_lt date.day (days_in_month (pos date.year) date.month)
+    then record { year = date.year; month = date.month; day = date.day + 1 }
     else if nat_lt date.month 12 then record { year = date.year; month = date.month + 1; day = 1 }
     else record { year = date.year + 1; month = 1; day = 1 }
 

@@ -2,8 +2,8 @@
 use Rattle.std.specs.Prelude.{ℕ, Bool, List, [], ◌++◌, Option, None, Some, codes, decimal, if◌then◌else◌}
 use Rattle.std.specs.Option.{option_map}
 use Rattle.hd_message.specs.Due.{due_text}
-use Rattle.hd_message.specs.Reasons.{reason_text}
-use Rattle.hd_message.specs.declared.reason.Reason.{Reason}
+use Rattle.hd_rules.specs.RefusalTexts.{refusal_text}
+use Rattle.hd_rules.specs.declared.replies.Refusal.{Refusal}
 
 -- Y where something holds, else N
 abbrev pub yes_no : Bool → List ℕ
@@ -46,6 +46,6 @@ bound_field branch = field_text (codes "CL") (codes "T" ++ branch)
 abbrev pub cancelled_field : ℕ → List ℕ
 cancelled_field number = field_text (codes "AF") (codes "CANCELLED " ++ decimal number)
 
--- AF with the reason of a refusal
-abbrev pub reason_field : Reason → List ℕ
-reason_field reason = field_text (codes "AF") (reason_text reason)
+-- AF with the text of a refusal
+abbrev pub refusal_field : Refusal → List ℕ
+refusal_field refusal = field_text (codes "AF") (refusal_text refusal)

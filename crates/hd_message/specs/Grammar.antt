@@ -1,5 +1,6 @@
 -- What terminals write: the bodies of messages, by their fields.
-use Rattle.std.specs.Prelude.{◌≡◌, ℕ, ◌==◌, Bool, false, List, [], ◌∷◌, ◌++◌, ◌≤◌, ⊤, Option, None, Some, IfSome, codes, length, if◌then◌else◌}
+use Rattle.std.specs.Prelude.{◌≡◌, ℕ, ◌==◌, Bool, false, List, [], ◌∷◌, ◌++◌, ◌≤◌, ⊤, Option, None, Some}
+use Rattle.std.specs.Prelude.{IfSome, codes, length, if◌then◌else◌}
 use Rattle.std.specs.List.{list_any}
 use Rattle.std.specs.Str.{bytes_eq}
 use Rattle.hd_field.specs.Fields.{width_of}
@@ -27,7 +28,8 @@ value_of (field ∷ fields) code = if bytes_eq field.code code then Some field.v
 abbrev pub has_bar : List ℕ → Bool
 has_bar value = list_any (λ b. b == BAR) value
 
--- A field can be written: its identifier is two bytes, neither has a bar, and the value fits the width of its identifier.
+-- A field can be written: its identifier is two bytes, neither has a bar, and the value fits the width of its
+-- identifier.
 pub record IsWritable (field : Written) : Type 0 where
   pub two : length field.code ≡ 2
   pub begins : has_bar field.code ≡ false
@@ -63,4 +65,6 @@ body_of fixed fields = fixed ++ fields_text fields
 
 -- a body is read as a request exactly where that states these values
 abbrev pub IsReadBack : List ℕ → (Request → Type 0) → Type 0
-IsReadBack body states = (request : Request) → ((IsRequest body request → states request) × (states request → IsRequest body request))
+IsReadBack body states =
+    (request : Request) →
+    ((IsRequest body request → states request) × (states request → IsRequest body request))

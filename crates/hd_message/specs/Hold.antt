@@ -1,10 +1,12 @@
 -- What a hold message holds.
-use Rattle.std.specs.Prelude.{◌≡◌, ℕ, ◌==◌, ◌||◌, ◌&&◌, not, Bool, true, false, List, [], ◌∷◌, Option, None, Some, MatchBool, codes, replicate, is_none, if◌then◌else◌}
+use Rattle.std.specs.Prelude.{◌≡◌, ℕ, ◌==◌, ◌||◌, ◌&&◌, not, Bool, true, false, List, [], ◌∷◌, Option, None}
+use Rattle.std.specs.Prelude.{Some, MatchBool, codes, replicate, is_none, if◌then◌else◌}
 use Rattle.std.specs.Option.{option_copied}
 use Rattle.std.specs.Str.{bytes_eq}
 use Rattle.hd_message.specs.Table.{byte_of, column_of}
 use Rattle.hd_message.specs.Values.{filled_value, first_value, is_yes}
-use Rattle.hd_message.specs.declared.kind.Kind.TheVariants.{Hold}
+use Rattle.hd_message.specs.declared.kind.Kind.TheVariants.{Desk}
+use Rattle.hd_message.specs.declared.kind.DeskKind.TheVariants.{Hold}
 use Rattle.hd_message.specs.declared.request.Mode.{Mode}
 use Rattle.hd_message.specs.declared.request.Mode.TheVariants.{Add, Delete, Change}
 use Rattle.hd_message.specs.declared.request.Wanted.{Wanted}
@@ -60,12 +62,13 @@ AreWishesOf part (Some wishes) =
 
 -- a message has the wishes that its fields state where it has wishes, and none elsewhere
 abbrev pub AreWishes : List ℕ → Mode → Bool → Option Wishes → Type 0
-AreWishes part mode cancels wishes = MatchBool (has_wishes mode cancels) (AreWishesOf part wishes) (wishes ≡ None)
+AreWishes part mode cancels wishes =
+    MatchBool (has_wishes mode cancels) (AreWishesOf part wishes) (wishes ≡ None)
 
 -- 15: mode, transaction date; AA, and AB or AJ; BW, BS, BY, BI.
 pub record IsHold (fixed part : List ℕ) (hold : HoldRequest) : Type 0 where
-  pub mode : mode_of (byte_of Hold 0 fixed) ≡ Some hold.mode
-  pub date : hold.date.now ≡ column_of Hold 1 fixed
+  pub mode : mode_of (byte_of (Desk Hold) 0 fixed) ≡ Some hold.mode
+  pub date : hold.date.now ≡ column_of (Desk Hold) 1 fixed
   pub patron : first_value part (codes "AA") ≡ Some hold.patron.now
   pub copy : option_copied hold.copy ≡ filled_value part (codes "AB")
   pub title : option_copied hold.title ≡ filled_value part (codes "AJ")
@@ -92,9 +95,9 @@ abbrev pub is_bad_mode : List ℕ → Option Mode → Bool → Bool
 is_bad_mode part None cancels = true
 is_bad_mode part (Some mode) cancels = has_bad_wishes part mode cancels
 
--- whether a hold message doesn't say what it must: it names neither a copy nor a title, there is no such mode, or its wishes can't
--- be read
+-- whether a hold message doesn't say what it must: it names neither a copy nor a title, there is no such
+-- mode, or its wishes can't be read
 abbrev pub is_bad_hold : List ℕ → List ℕ → Bool
 is_bad_hold fixed part =
     names_nothing part
-    || is_bad_mode part (mode_of (byte_of Hold 0 fixed)) (is_yes (first_value part (codes "BI")))
+    || is_bad_mode part (mode_of (byte_of (Desk Hold) 0 fixed)) (is_yes (first_value part (codes "BI")))

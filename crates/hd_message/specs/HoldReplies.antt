@@ -2,7 +2,8 @@
 use Rattle.std.specs.Prelude.{ℕ, List, [], ◌∷◌, codes}
 use Rattle.std.specs.List.{concat}
 use Rattle.std.specs.Option.{option_copied}
-use Rattle.hd_message.specs.Fields.{cancelled_field, expiry_field, field_text, optional_text, position_field, reason_field, yes_no}
+use Rattle.hd_message.specs.Fields.{cancelled_field, expiry_field, field_text, optional_text, position_field}
+use Rattle.hd_message.specs.Fields.{refusal_field, yes_no}
 use Rattle.hd_message.specs.declared.reply.HoldReply.{HoldReply}
 use Rattle.hd_message.specs.declared.reply.HoldOutcome.{HoldOutcome}
 use Rattle.hd_message.specs.declared.reply.HoldOutcome.TheVariants.{Held, Deleted, Cancelled, Refused}
@@ -38,14 +39,14 @@ hold_layout reply (Cancelled title number) =
     ∷ field_text (codes "AJ") title.now
     ∷ cancelled_field number
     ∷ []
-hold_layout reply (Refused title reason) =
+hold_layout reply (Refused title refusal) =
     codes "160N"
     ∷ reply.date.now
     ∷ field_text (codes "AO") reply.institution.now
     ∷ field_text (codes "AA") reply.patron.now
     ∷ optional_text (codes "AB") (option_copied reply.copy)
     ∷ optional_text (codes "AJ") (option_copied title)
-    ∷ reason_field reason
+    ∷ refusal_field refusal
     ∷ []
 
 -- the text of the reply

@@ -1,7 +1,7 @@
 -- The reply to a question about a copy (18).
 use Rattle.std.specs.Prelude.{ℕ, List, [], ◌∷◌, codes}
 use Rattle.std.specs.List.{concat}
-use Rattle.hd_message.specs.Fields.{due_field, field_text, holds_field, reason_field}
+use Rattle.hd_message.specs.Fields.{due_field, field_text, holds_field, refusal_field}
 use Rattle.hd_message.specs.declared.reply.ItemReply.{ItemReply}
 use Rattle.hd_message.specs.declared.reply.ItemOutcome.{ItemOutcome}
 use Rattle.hd_message.specs.declared.reply.ItemOutcome.TheVariants.{Found, Refused}
@@ -44,12 +44,12 @@ item_layout reply (Found holds title home circulation) =
     ∷ field_text (codes "AQ") home.now
     ∷ branch_field circulation
     ∷ []
-item_layout reply (Refused reason) =
+item_layout reply (Refused refusal) =
     codes "18010001"
     ∷ reply.date.now
     ∷ field_text (codes "AB") reply.copy.now
     ∷ field_text (codes "AJ") []
-    ∷ reason_field reason
+    ∷ refusal_field refusal
     ∷ []
 
 -- the text of the reply

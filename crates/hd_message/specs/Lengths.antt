@@ -2,12 +2,10 @@
 use Rattle.std.specs.Prelude.{◌≡◌, ℕ, ◌+◌, ◌^◌, ◌<◌, ◌≤◌, ⊤, List, Option, None, Some, length}
 use Rattle.std.specs.Option.{option_copied}
 use Rattle.hd_message.specs.Replies.{reply_text}
-use Rattle.hd_message.specs.declared.reason.Reason.{Reason}
-use Rattle.hd_message.specs.declared.reason.Reason.TheVariants.{Depends}
-use Rattle.hd_message.specs.declared.reply.CheckoutOutcome.{CheckoutOutcome}
-use Rattle.hd_message.specs.declared.reply.CheckoutOutcome.TheVariants as OfCheckout
-use Rattle.hd_message.specs.declared.reply.RenewOutcome.{RenewOutcome}
-use Rattle.hd_message.specs.declared.reply.RenewOutcome.TheVariants as OfRenewal
+use Rattle.hd_rules.specs.declared.replies.Refusal.{Refusal}
+use Rattle.hd_rules.specs.declared.replies.Refusal.TheVariants.{Depends}
+use Rattle.hd_message.specs.declared.reply.LoanOutcome.{LoanOutcome}
+use Rattle.hd_message.specs.declared.reply.LoanOutcome.TheVariants as OfLoan
 use Rattle.hd_message.specs.declared.reply.Whereabouts.{Whereabouts}
 use Rattle.hd_message.specs.declared.reply.Whereabouts.TheVariants as OfReturn
 use Rattle.hd_message.specs.declared.reply.CheckinOutcome.{CheckinOutcome}
@@ -19,7 +17,8 @@ use Rattle.hd_message.specs.declared.reply.Circulation.TheVariants as OfCopy
 use Rattle.hd_message.specs.declared.reply.ItemOutcome.{ItemOutcome}
 use Rattle.hd_message.specs.declared.reply.ItemOutcome.TheVariants as OfItem
 use Rattle.hd_message.specs.declared.reply.Reply.{Reply}
-use Rattle.hd_message.specs.declared.reply.Reply.TheVariants.{Login, Status, Checkout, Checkin, Hold, Renew, Item, RequestScResend}
+use Rattle.hd_message.specs.declared.reply.Reply.TheVariants.{Login, Status, Checkout, Checkin, Hold, Renew}
+use Rattle.hd_message.specs.declared.reply.Reply.TheVariants.{Item, RequestScResend}
 
 -- a name of the catalogue
 abbrev pub IsName : List ℕ → Type 0
@@ -39,23 +38,17 @@ bytes_of None = 0
 bytes_of (Some value) = length value
 
 -- the number of a refusal
-abbrev pub HasNumber : Reason → Type 0
+abbrev pub HasNumber : Refusal → Type 0
 HasNumber (Depends number) = IsNumber number
-HasNumber reason = ⊤
+HasNumber refusal = ⊤
 
--- the names and numbers that the outcome of a checkout prints
-abbrev pub IsCheckoutShort : CheckoutOutcome → Type 0
-IsCheckoutShort (OfCheckout.Lent renewed title due) = IsName title.now
-IsCheckoutShort (OfCheckout.Cancelled title number) = IsName title.now × IsNumber number
-IsCheckoutShort (OfCheckout.Refused reason) = HasNumber reason
+-- the names and numbers that the outcome of a checkout or a renewal prints
+abbrev pub IsLoanShort : LoanOutcome → Type 0
+IsLoanShort (OfLoan.Lent renewed title due) = IsName title.now
+IsLoanShort (OfLoan.Cancelled title number) = IsName title.now × IsNumber number
+IsLoanShort (OfLoan.Refused refusal) = HasNumber refusal
 
--- the same of a renewal
-abbrev pub IsRenewalShort : RenewOutcome → Type 0
-IsRenewalShort (OfRenewal.Renewed title due) = IsName title.now
-IsRenewalShort (OfRenewal.Cancelled title number) = IsName title.now × IsNumber number
-IsRenewalShort (OfRenewal.Refused reason) = HasNumber reason
-
--- of where a copy is after its return
+-- the same of where a copy is after its return
 abbrev pub IsReturnShort : Whereabouts → Type 0
 IsReturnShort OfReturn.OpenShelf = ⊤
 IsReturnShort (OfReturn.HoldShelf place) = IsNumber place
@@ -63,23 +56,25 @@ IsReturnShort (OfReturn.Transit branch) = IsName branch.now
 
 -- of a checkin
 abbrev pub IsCheckinShort : CheckinOutcome → Type 0
-IsCheckinShort (OfCheckin.Returned home title whereabouts) = IsName home.now × IsName title.now × IsReturnShort whereabouts
+IsCheckinShort (OfCheckin.Returned home title whereabouts) =
+    IsName home.now × IsName title.now × IsReturnShort whereabouts
 IsCheckinShort (OfCheckin.Cancelled home title number) = IsName home.now × IsName title.now × IsNumber number
-IsCheckinShort (OfCheckin.Refused reason) = HasNumber reason
+IsCheckinShort (OfCheckin.Refused refusal) = HasNumber refusal
 
 -- of a hold message
 abbrev pub IsHoldShort : HoldOutcome → Type 0
-IsHoldShort (OfHold.Held available expiry position pickup title) = IsNumber position × IsName pickup.now × IsName title.now
+IsHoldShort (OfHold.Held available expiry position pickup title) =
+    IsNumber position × IsName pickup.now × IsName title.now
 IsHoldShort (OfHold.Deleted title) = IsName title.now
 IsHoldShort (OfHold.Cancelled title number) = IsName title.now × IsNumber number
-IsHoldShort (OfHold.Refused title reason) = HasNumber reason
+IsHoldShort (OfHold.Refused title refusal) = HasNumber refusal
 
 -- how many bytes of the message's own title it prints
 abbrev pub title_bytes : HoldOutcome → ℕ
 title_bytes (OfHold.Held available expiry position pickup title) = 0
 title_bytes (OfHold.Deleted title) = 0
 title_bytes (OfHold.Cancelled title number) = 0
-title_bytes (OfHold.Refused title reason) = bytes_of (option_copied title)
+title_bytes (OfHold.Refused title refusal) = bytes_of (option_copied title)
 
 -- of where a copy is
 abbrev pub IsCopyShort : Circulation → Type 0
@@ -90,15 +85,16 @@ IsCopyShort OfCopy.Transit = ⊤
 
 -- of a question about a copy
 abbrev pub IsItemShort : ItemOutcome → Type 0
-IsItemShort (OfItem.Found holds title home circulation) = IsNumber holds × IsName title.now × IsName home.now × IsCopyShort circulation
-IsItemShort (OfItem.Refused reason) = HasNumber reason
+IsItemShort (OfItem.Found holds title home circulation) =
+    IsNumber holds × IsName title.now × IsName home.now × IsCopyShort circulation
+IsItemShort (OfItem.Refused refusal) = HasNumber refusal
 
 -- a reply prints names of the catalogue, dates, numbers, and at most 1,024 bytes of the message's values
 abbrev pub IsShort : Reply → Type 0
 IsShort (Login reply) = ⊤
 IsShort (Status reply) = IsDate reply.date.now × IsName reply.institution.now
 IsShort (Checkout reply) =
-    IsDate reply.date.now × IsName reply.institution.now × IsCheckoutShort reply.outcome
+    IsDate reply.date.now × IsName reply.institution.now × IsLoanShort reply.outcome
     × (length reply.patron.now + length reply.copy.now ≤ 1024)
 IsShort (Checkin reply) =
     IsDate reply.date.now × IsName reply.institution.now × IsCheckinShort reply.outcome
@@ -107,7 +103,7 @@ IsShort (Hold reply) =
     IsDate reply.date.now × IsName reply.institution.now × IsHoldShort reply.outcome
     × (length reply.patron.now + bytes_of (option_copied reply.copy) + title_bytes reply.outcome ≤ 1024)
 IsShort (Renew reply) =
-    IsDate reply.date.now × IsName reply.institution.now × IsRenewalShort reply.outcome
+    IsDate reply.date.now × IsName reply.institution.now × IsLoanShort reply.outcome
     × (length reply.patron.now + length reply.copy.now ≤ 1024)
 IsShort (Item reply) = IsDate reply.date.now × IsItemShort reply.outcome × (length reply.copy.now ≤ 1024)
 IsShort RequestScResend = ⊤

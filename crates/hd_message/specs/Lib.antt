@@ -1,10 +1,10 @@
 pub mod Values
+pub mod Walk
 pub mod Table
 pub mod Hold
 pub mod Requests
 pub mod Reading
 pub mod Due
-pub mod Reasons
 pub mod Fields
 pub mod LoanReplies
 pub mod CheckinReplies

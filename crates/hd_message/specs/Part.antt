@@ -1,9 +1,11 @@
 -- The text of a reply's part.
 use Rattle.std.specs.Prelude.{ℕ, List, codes}
 use Rattle.std.specs.Option.{option_copied}
-use Rattle.hd_message.specs.Fields.{bound_field, cancelled_field, field_text, holds_field, optional_text, place_field, position_field, reason_field, yes_no}
+use Rattle.hd_message.specs.Fields.{bound_field, cancelled_field, field_text, holds_field, optional_text}
+use Rattle.hd_message.specs.Fields.{place_field, position_field, refusal_field, yes_no}
 use Rattle.hd_message.specs.declared.part.Part.{Part}
-use Rattle.hd_message.specs.declared.part.Part.TheVariants.{Text, YesNo, Field, Optional, Due, Expiry, Position, Holds, Place, Bound, Cancelled, Refused}
+use Rattle.hd_message.specs.declared.part.Part.TheVariants.{Text, YesNo, Field, Optional, Due, Expiry}
+use Rattle.hd_message.specs.declared.part.Part.TheVariants.{Position, Holds, Place, Bound, Cancelled, Refused}
 
 -- the text of each part
 abbrev pub part_text : Part → List ℕ
@@ -18,4 +20,4 @@ part_text (Holds holds) = holds_field holds
 part_text (Place place) = place_field place
 part_text (Bound branch) = bound_field branch.now
 part_text (Cancelled number) = cancelled_field number
-part_text (Refused reason) = reason_field reason
+part_text (Refused refusal) = refusal_field refusal

@@ -9,7 +9,8 @@ use Rattle.hd_message.specs.LoanReplies.{checkout_text, renew_text}
 use Rattle.hd_message.specs.declared.reply.LoginReply.{LoginReply}
 use Rattle.hd_message.specs.declared.reply.StatusReply.{StatusReply}
 use Rattle.hd_message.specs.declared.reply.Reply.{Reply}
-use Rattle.hd_message.specs.declared.reply.Reply.TheVariants.{Login, Status, Checkout, Checkin, Hold, Renew, Item, RequestScResend}
+use Rattle.hd_message.specs.declared.reply.Reply.TheVariants.{Login, Status, Checkout, Checkin, Hold, Renew}
+use Rattle.hd_message.specs.declared.reply.Reply.TheVariants.{Item, RequestScResend}
 
 -- 94: accepted, refused
 abbrev pub login_text : LoginReply → List ℕ

@@ -1,54 +1,53 @@
 -- The table of messages: for each its code, the widths of its fixed part, and the fields that it must have.
-use Rattle.std.specs.Prelude.{ℕ, ◌+◌, Bool, List, [], ◌∷◌, Option, None, Some, codes, drop, length, nat_lt, slice_index, slice_range, sum, take, if◌then◌else◌}
+use Rattle.std.specs.Prelude.{ℕ, ◌+◌, Bool, List, [], ◌∷◌, Option, None, Some, codes, if◌then◌else◌}
+use Rattle.std.specs.Prelude.{drop, length, nat_lt, slice_index, slice_range, sum, take}
 use Rattle.std.specs.List.{list_any}
-use Rattle.std.specs.Option.{option_map}
 use Rattle.hd_message.specs.Values.{lacks}
 use Rattle.hd_message.specs.declared.kind.Kind.{Kind}
-use Rattle.hd_message.specs.declared.kind.Kind.TheVariants.{Login, Status, Checkout, Checkin, Hold, Renew, Item, Resend}
+use Rattle.hd_message.specs.declared.kind.Kind.TheVariants.{Login, Status, Resend, Desk}
+use Rattle.hd_message.specs.declared.kind.DeskKind.{DeskKind}
+use Rattle.hd_message.specs.declared.kind.DeskKind.TheVariants.{Checkout, Checkin, Hold, Renew, Item}
 
 -- the code
 abbrev pub code_of : Kind → List ℕ
 code_of Login = codes "93"
 code_of Status = codes "99"
-code_of Checkout = codes "11"
-code_of Checkin = codes "09"
-code_of Hold = codes "15"
-code_of Renew = codes "29"
-code_of Item = codes "17"
 code_of Resend = codes "97"
+code_of (Desk Checkout) = codes "11"
+code_of (Desk Checkin) = codes "09"
+code_of (Desk Hold) = codes "15"
+code_of (Desk Renew) = codes "29"
+code_of (Desk Item) = codes "17"
 
 -- the widths of the columns of the fixed part, behind the code; that of 99 isn't looked at, and may be short
 abbrev pub widths : Kind → List ℕ
 widths Login = 1 ∷ 1 ∷ []
 widths Status = []
-widths Checkout = 1 ∷ 1 ∷ 18 ∷ 18 ∷ []
-widths Checkin = 1 ∷ 18 ∷ 18 ∷ []
-widths Hold = 1 ∷ 18 ∷ []
-widths Renew = 1 ∷ 1 ∷ 18 ∷ 18 ∷ []
-widths Item = 18 ∷ []
 widths Resend = []
+widths (Desk Checkout) = 1 ∷ 1 ∷ 18 ∷ 18 ∷ []
+widths (Desk Checkin) = 1 ∷ 18 ∷ 18 ∷ []
+widths (Desk Hold) = 1 ∷ 18 ∷ []
+widths (Desk Renew) = 1 ∷ 1 ∷ 18 ∷ 18 ∷ []
+widths (Desk Item) = 18 ∷ []
 
 -- which column is the transaction date, counted from 0
-abbrev pub date_column : Kind → Option ℕ
-date_column Login = None
-date_column Status = None
-date_column Checkout = Some 2
-date_column Checkin = Some 1
-date_column Hold = Some 1
-date_column Renew = Some 2
-date_column Item = Some 0
-date_column Resend = None
+abbrev pub date_column : DeskKind → ℕ
+date_column Checkout = 2
+date_column Checkin = 1
+date_column Hold = 1
+date_column Renew = 2
+date_column Item = 0
 
 -- the identifiers of the fields that it must have; a hold must name a copy or a title besides
 abbrev pub required : Kind → List (List ℕ)
 required Login = codes "CN" ∷ codes "CO" ∷ []
 required Status = []
-required Checkout = codes "AA" ∷ codes "AB" ∷ []
-required Checkin = codes "AB" ∷ []
-required Hold = codes "AA" ∷ []
-required Renew = codes "AA" ∷ codes "AB" ∷ []
-required Item = codes "AB" ∷ []
 required Resend = []
+required (Desk Checkout) = codes "AA" ∷ codes "AB" ∷ []
+required (Desk Checkin) = codes "AB" ∷ []
+required (Desk Hold) = codes "AA" ∷ []
+required (Desk Renew) = codes "AA" ∷ codes "AB" ∷ []
+required (Desk Item) = codes "AB" ∷ []
 
 -- whether one of these is missing
 abbrev pub lacks_required : Kind → List ℕ → Bool
@@ -79,10 +78,10 @@ abbrev pub byte_of : Kind → ℕ → List ℕ → ℕ
 byte_of kind column fixed = slice_index fixed (column_start kind column)
 
 -- the place of the transaction date
-abbrev pub date_start : Kind → Option ℕ
-date_start kind = option_map (column_start kind) (date_column kind)
+abbrev pub date_start : DeskKind → ℕ
+date_start kind = column_start (Desk kind) (date_column kind)
 
 -- the 18 bytes at a place, where the body has them whole
-abbrev pub date_at : List ℕ → Option ℕ → Option (List ℕ)
-date_at body None = None
-date_at body (Some place) = if nat_lt (length body) (place + 18) then None else Some (slice_range body place (place + 18))
+abbrev pub date_at : List ℕ → ℕ → Option (List ℕ)
+date_at body place =
+    if nat_lt (length body) (place + 18) then None else Some (slice_range body place (place + 18))

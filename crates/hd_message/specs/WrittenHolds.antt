@@ -1,5 +1,6 @@
 -- What terminals write for a hold message, by the values that it states.
-use Rattle.std.specs.Prelude.{◌≡◌, ℕ, ◌&&◌, Bool, false, List, ◌∷◌, ◌++◌, ⊤, Option, None, Some, MatchBool, is_none, codes, length, replicate}
+use Rattle.std.specs.Prelude.{◌≡◌, ℕ, ◌&&◌, Bool, false, List, ◌∷◌, ◌++◌, ⊤, Option, None, Some, MatchBool}
+use Rattle.std.specs.Prelude.{is_none, codes, length, replicate}
 use Rattle.std.specs.Option.{option_copied}
 use Rattle.std.specs.Str.{bytes_eq}
 use Rattle.hd_message.specs.Grammar.{IsDate, IsGiven, Written, cancel, has_bar, optional}
@@ -59,7 +60,8 @@ hold_fields v =
 -- an expiration date that is given has 18 bytes and isn't blank
 abbrev pub IsExpiry : Option (List ℕ) → Type 0
 IsExpiry None = ⊤
-IsExpiry (Some value) = (has_bar value ≡ false) × (length value ≡ 18) × (bytes_eq value (replicate 18 32) ≡ false)
+IsExpiry (Some value) =
+    (has_bar value ≡ false) × (length value ≡ 18) × (bytes_eq value (replicate 18 32) ≡ false)
 
 -- It names a copy or a title, and a copy where it wishes for one copy.
 pub record IsHoldWritable (v : HoldValues) : Type 0 where
@@ -77,7 +79,9 @@ pub record IsHoldWritable (v : HoldValues) : Type 0 where
 abbrev pub HasWishValues : HoldValues → Option Wishes → Type 0
 HasWishValues v None = ⊥
 HasWishValues v (Some wishes) =
-    (wishes.wanted ≡ v.wanted) × (option_copied wishes.pickup ≡ v.pickup) × (option_copied wishes.expiry ≡ v.expiry)
+    (wishes.wanted ≡ v.wanted)
+    × (option_copied wishes.pickup ≡ v.pickup)
+    × (option_copied wishes.expiry ≡ v.expiry)
 
 -- The hold message that it is read as: wishes count in an add and a change that cancel nothing.
 pub record HasHoldValues (v : HoldValues) (hold : HoldRequest) : Type 0 where

@@ -1,5 +1,7 @@
--- What terminals write for a login, a checkout, a checkin, a renewal and a question about a copy, by the values that they state.
-use Rattle.std.specs.Prelude.{◌≡◌, ℕ, ◌==◌, ◌&&◌, not, Bool, false, List, [], ◌∷◌, ◌++◌, Option, None, Some, codes, if◌then◌else◌}
+-- What terminals write for a login, a checkout, a checkin, a renewal and a question about a copy, by the
+-- values that they state.
+use Rattle.std.specs.Prelude.{◌≡◌, ℕ, ◌==◌, ◌&&◌, not, Bool, false, List, [], ◌∷◌, ◌++◌, Option, None, Some}
+use Rattle.std.specs.Prelude.{codes, if◌then◌else◌}
 use Rattle.std.specs.List.{concat}
 use Rattle.std.specs.Option.{option_copied}
 use Rattle.hd_message.specs.Fields.{yes_no}

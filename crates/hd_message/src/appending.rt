@@ -1,11 +1,12 @@
 //! Appending the parts of a reply.
-ghost use Rattle.std.specs.Prelude.{◌≡◌, ◌+◌, ◌<◌, ◌≤◌, ◌++◌, OnOk, OnErr, codes, decimal, length, vec_len, vec_capacity};
+ghost use Rattle.std.specs.Prelude.{◌≡◌, ◌+◌, ◌<◌, ◌≤◌, ◌++◌, OnOk, OnErr, codes, decimal, length, vec_len};
+ghost use Rattle.std.specs.Prelude.{vec_capacity};
 ghost use Rattle.std.specs.List.{flat_map};
-ghost use Rattle.hd_message.specs.Fields.{field_text, reason_field, yes_no};
+ghost use Rattle.hd_message.specs.Fields.{field_text, refusal_field, yes_no};
 ghost use Rattle.hd_message.specs.Part.{part_text};
 
 use crate::part::Part;
-use crate::reason::Reason;
+use hd_rules::Refusal;
 use itoa::Buffer;
 use std::alloc::{AllocError, Allocator};
 
@@ -16,7 +17,8 @@ pub(crate) fn append<A: Allocator>(
 ) -> Result<(), AllocError>
     ensures ok { OnOk result (out.new.items ≡ out.old.items ++ flat_map part_text parts.now) }
     ensures err { OnErr result (out.new.items ≡ out.old.items) }
-    ensures full { OnErr result (vec_capacity out.old < vec_len out.old + length (flat_map part_text parts.now)) }
+    ensures full { OnErr result (vec_capacity out.old
+        < vec_len out.old + length (flat_map part_text parts.now)) }
     ensures capacity { vec_capacity out.old ≤ vec_capacity out.new }
 {
     let start = out.len();
@@ -48,7 +50,7 @@ fn put<A: Allocator>(out: &mut Vec<u8, A>, part: Part<'_>) -> Result<(), AllocEr
         Part::Place(place) => put_number(out, *b"CL", b"H", u64::from(place)),
         Part::Bound(branch) => put_joined(out, *b"CL", b"T", branch),
         Part::Cancelled(number) => put_number(out, *b"AF", b"CANCELLED ", number),
-        Part::Refused(reason) => put_reason(out, reason),
+        Part::Refused(refusal) => put_refusal(out, refusal),
     }
 }
 
@@ -59,16 +61,16 @@ fn yes_no(holds: bool) -> &'static [u8]
     if holds { b"Y" } else { b"N" }
 }
 
-/// Appends AF with the reason of a refusal, whole or not at all.
-fn put_reason<A: Allocator>(out: &mut Vec<u8, A>, reason: Reason) -> Result<(), AllocError>
-    ensures ok { OnOk result (out.new.items ≡ out.old.items ++ reason_field reason) }
+/// Appends AF with the text of a refusal, whole or not at all.
+fn put_refusal<A: Allocator>(out: &mut Vec<u8, A>, refusal: Refusal) -> Result<(), AllocError>
+    ensures ok { OnOk result (out.new.items ≡ out.old.items ++ refusal_field refusal) }
     ensures err { OnErr result (out.new.items ≡ out.old.items) }
-    ensures full { OnErr result (vec_capacity out.old < vec_len out.old + length (reason_field reason)) }
+    ensures full { OnErr result (vec_capacity out.old < vec_len out.old + length (refusal_field refusal)) }
     ensures capacity { vec_capacity out.old ≤ vec_capacity out.new }
 {
-    match reason {
-        Reason::Depends { number } => put_number(out, *b"AF", b"DEPENDS ", number),
-        _ => put_field(out, *b"AF", reason.words()),
+    match refusal {
+        Refusal::Depends { number } => put_number(out, *b"AF", b"DEPENDS ", number),
+        _ => put_field(out, *b"AF", refusal.words()),
     }
 }
 
@@ -80,7 +82,8 @@ fn put_field<A: Allocator>(
 ) -> Result<(), AllocError>
     ensures ok { OnOk result (out.new.items ≡ out.old.items ++ field_text code value.now) }
     ensures err { OnErr result (out.new.items ≡ out.old.items) }
-    ensures full { OnErr result (vec_capacity out.old < vec_len out.old + length (field_text code value.now)) }
+    ensures full { OnErr result (vec_capacity out.old
+        < vec_len out.old + length (field_text code value.now)) }
     ensures capacity { vec_capacity out.old ≤ vec_capacity out.new }
 {
     out.reserve(value.len() + 3)?;
@@ -100,7 +103,8 @@ fn put_joined<A: Allocator>(
     requires { length text.now < 16 }
     ensures ok { OnOk result (out.new.items ≡ out.old.items ++ field_text code (text.now ++ rest.now)) }
     ensures err { OnErr result (out.new.items ≡ out.old.items) }
-    ensures full { OnErr result (vec_capacity out.old < vec_len out.old + length (field_text code (text.now ++ rest.now))) }
+    ensures full { OnErr result (vec_capacity out.old
+        < vec_len out.old + length (field_text code (text.now ++ rest.now))) }
     ensures capacity { vec_capacity out.old ≤ vec_capacity out.new }
 {
     out.reserve(text.len() + rest.len() + 3)?;
@@ -121,7 +125,8 @@ fn put_number<A: Allocator>(
     requires { length text.now < 16 }
     ensures ok { OnOk result (out.new.items ≡ out.old.items ++ field_text code (text.now ++ decimal number)) }
     ensures err { OnErr result (out.new.items ≡ out.old.items) }
-    ensures full { OnErr result (vec_capacity out.old < vec_len out.old + length (field_text code (text.now ++ decimal number))) }
+    ensures full { OnErr result (vec_capacity out.old
+        < vec_len out.old + length (field_text code (text.now ++ decimal number))) }
     ensures capacity { vec_capacity out.old ≤ vec_capacity out.new }
 {
     let mut buffer = Buffer::new();

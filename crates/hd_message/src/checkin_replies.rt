@@ -7,8 +7,8 @@ ghost use Rattle.hd_message.specs.declared.reply.CheckinOutcome.TheVariants as O
 
 use crate::appending::append;
 use crate::part::Part;
-use crate::reason::Reason;
 use crate::reply::{CheckinOutcome, CheckinReply, Whereabouts};
+use hd_rules::Refusal;
 use std::alloc::{AllocError, Allocator};
 
 /// Appends the text of the reply to a checkin, whole or not at all.
@@ -32,7 +32,7 @@ pub(crate) fn write_checkin<A: Allocator>(
             title,
             number,
         } => append(out, &checkout_cancelled(reply, home, title, number)),
-        CheckinOutcome::Refused { reason } => append(out, &checkin_refused(reply, reason)),
+        CheckinOutcome::Refused { refusal } => append(out, &checkin_refused(reply, refusal)),
     }
 }
 
@@ -43,7 +43,8 @@ fn returned<'a>(
     title: &'a [u8],
     whereabouts: Whereabouts<'a>,
 ) -> [Part<'a>; 8]
-    ensures { flat_map part_text result ≡ concat (checkin_layout reply.now (OfCheckin.Returned home.entry title.entry whereabouts.entry)) }
+    ensures { flat_map part_text result
+        ≡ concat (checkin_layout reply.now (OfCheckin.Returned home.entry title.entry whereabouts.entry)) }
 {
     [
         Part::Text(b"101YN"),
@@ -64,7 +65,8 @@ fn checkout_cancelled<'a>(
     title: &'a [u8],
     number: u64,
 ) -> [Part<'a>; 7]
-    ensures { flat_map part_text result ≡ concat (checkin_layout reply.now (OfCheckin.Cancelled home.entry title.entry number)) }
+    ensures { flat_map part_text result
+        ≡ concat (checkin_layout reply.now (OfCheckin.Cancelled home.entry title.entry number)) }
 {
     [
         Part::Text(b"101YNN"),
@@ -78,8 +80,8 @@ fn checkout_cancelled<'a>(
 }
 
 /// The parts of the reply to a checkin that is refused.
-fn checkin_refused<'a>(reply: &CheckinReply<'a>, reason: Reason) -> [Part<'a>; 6]
-    ensures { flat_map part_text result ≡ concat (checkin_layout reply.now (OfCheckin.Refused reason)) }
+fn checkin_refused<'a>(reply: &CheckinReply<'a>, refusal: Refusal) -> [Part<'a>; 6]
+    ensures { flat_map part_text result ≡ concat (checkin_layout reply.now (OfCheckin.Refused refusal)) }
 {
     [
         Part::Text(b"100NNN"),
@@ -87,7 +89,7 @@ fn checkin_refused<'a>(reply: &CheckinReply<'a>, reason: Reason) -> [Part<'a>; 6
         Part::Field(*b"AO", reply.institution),
         Part::Field(*b"AB", reply.copy),
         Part::Field(*b"AQ", b""),
-        Part::Refused(reason),
+        Part::Refused(refusal),
     ]
 }
 

@@ -1,25 +1,34 @@
 //! Reading a hold message.
-ghost use Rattle.std.specs.Prelude.{◌≡◌, ◌||◌, length, IfSome, is_none, codes};
+ghost use Rattle.std.specs.Prelude.{◌≡◌, ◌||◌, List, ℕ, length, IfSome, is_none};
 ghost use Rattle.std.specs.Option.{option_copied};
-ghost use Rattle.hd_message.specs.Hold.{AreWishes, IsHold, expiry_of, has_bad_wishes, is_bad_hold, mode_of, names_nothing, wanted_of};
+ghost use Rattle.hd_message.specs.Hold.{AreWishes, IsHold, expiry_of, has_bad_wishes, is_bad_hold, mode_of};
+ghost use Rattle.hd_message.specs.Hold.{wanted_of};
 ghost use Rattle.hd_message.specs.Table.{lacks_required};
-ghost use Rattle.hd_message.specs.Values.{filled_value, first_value};
-ghost use Rattle.hd_message.specs.declared.kind.Kind.TheVariants.{Hold};
+ghost use Rattle.hd_message.specs.Values.{unless_empty};
+ghost use Rattle.hd_message.specs.Walk.{AreFirst};
+ghost use Rattle.hd_message.specs.declared.kind.Kind.TheVariants.{Desk};
+ghost use Rattle.hd_message.specs.declared.kind.DeskKind.TheVariants.{Hold};
 
 use crate::request::{HoldRequest, Mode, Wanted, Wishes};
-use crate::values::{filled, is_cancel, value};
+use crate::values::{Values, filled, first_values, is_yes};
 
 /// The hold request of a fixed part and its fields, if it is readable.
 pub(crate) fn hold<'a>(fixed: &'a [u8], part: &'a [u8]) -> Option<HoldRequest<'a>>
     requires { length fixed.now ≡ 21 }
     ensures held { IfSome result (IsHold fixed.now part.now) }
-    ensures unreadable { is_none result ≡ (lacks_required Hold part.now || is_bad_hold fixed.now part.now) }
+    ensures unreadable { is_none result
+        ≡ (lacks_required (Desk Hold) part.now || is_bad_hold fixed.now part.now) }
 {
     let mode = mode(fixed[2])?;
-    let patron = value(part, *b"AA")?;
-    let (copy, title) = named(part)?;
-    let cancels = is_cancel(part);
-    let wishes = wishes(part, mode, cancels)?;
+    let values = first_values(part);
+    let patron = values.patron?;
+    let copy = filled(values.copy);
+    let title = filled(values.title);
+    if copy.is_none() && title.is_none() {
+        return None;
+    }
+    let cancels = is_yes(values.cancel);
+    let wishes = wishes(&values, mode, cancels)?;
     Some(HoldRequest {
         mode,
         cancels,
@@ -31,36 +40,25 @@ pub(crate) fn hold<'a>(fixed: &'a [u8], part: &'a [u8]) -> Option<HoldRequest<'a
     })
 }
 
-/// The copy and the title that the fields name, if they name one of them.
-fn named(part: &[u8]) -> Option<(Option<&[u8]>, Option<&[u8]>)>
-    ensures copy { IfSome result (λ names. option_copied names.0 ≡ filled_value part.now (codes "AB")) }
-    ensures title { IfSome result (λ names. option_copied names.1 ≡ filled_value part.now (codes "AJ")) }
-    ensures none { is_none result ≡ names_nothing part.now }
-{
-    let copy = filled(part, *b"AB");
-    let title = filled(part, *b"AJ");
-    if copy.is_none() && title.is_none() {
-        return None;
-    }
-    Some((copy, title))
-}
-
-/// The wishes that the fields state, where the mode has wishes; nothing where they are unreadable.
-fn wishes(part: &[u8], mode: Mode, cancels: bool) -> Option<Option<Wishes<'_>>>
-    ensures wishes { IfSome result (AreWishes part.now mode cancels) }
-    ensures unreadable { is_none result ≡ has_bad_wishes part.now mode cancels }
+/// The wishes that the first values of a part state, where the mode has wishes; nothing where they are
+/// unreadable.
+fn wishes<'a>(values: &Values<'a>, mode: Mode, cancels: bool) -> Option<Option<Wishes<'a>>>
+    ensures wishes { (part : List ℕ) → AreFirst part values.now →
+        IfSome result (AreWishes part mode cancels) }
+    ensures unreadable { (part : List ℕ) → AreFirst part values.now →
+        is_none result ≡ has_bad_wishes part mode cancels }
 {
     if cancels || mode == Mode::Delete {
         return Some(None);
     }
-    let wanted = wanted(part)?;
-    if wanted == Some(Wanted::OneCopy) && filled(part, *b"AB").is_none() {
+    let wanted = wanted(values.wanted)?;
+    if wanted == Some(Wanted::OneCopy) && filled(values.copy).is_none() {
         return None;
     }
     Some(Some(Wishes {
         wanted,
-        pickup: filled(part, *b"BS"),
-        expiry: expiry(part),
+        pickup: filled(values.pickup),
+        expiry: expiry(values.expiry),
     }))
 }
 
@@ -76,11 +74,11 @@ fn mode(byte: u8) -> Option<Mode>
     }
 }
 
-/// Which copies the fields ask for, where they say so; nothing where that is unreadable.
-fn wanted(part: &[u8]) -> Option<Option<Wanted>>
-    ensures { result ≡ wanted_of (first_value part.now (codes "BY")) }
+/// Which copies a value of BY asks for, where it says so; nothing where that is unreadable.
+fn wanted(value: Option<&[u8]>) -> Option<Option<Wanted>>
+    ensures { result ≡ wanted_of (option_copied value.entry) }
 {
-    match value(part, *b"BY") {
+    match value {
         None | Some([]) | Some([b' ' | b'1', ..]) => Some(None),
         Some([b'2', ..]) => Some(Some(Wanted::AnyCopy)),
         Some([b'3', ..]) => Some(Some(Wanted::OneCopy)),
@@ -89,11 +87,11 @@ fn wanted(part: &[u8]) -> Option<Option<Wanted>>
     }
 }
 
-/// The date of expiry, where there is one.
-fn expiry(part: &[u8]) -> Option<&[u8]>
-    ensures { option_copied result ≡ expiry_of (filled_value part.now (codes "BW")) }
+/// The date of expiry of a value of BW, where there is one.
+fn expiry(value: Option<&[u8]>) -> Option<&[u8]>
+    ensures { option_copied result ≡ expiry_of (unless_empty (option_copied value.entry)) }
 {
-    let text = filled(part, *b"BW")?;
+    let text = filled(value)?;
     if text == [b' '; 18].as_slice() {
         None
     } else {

@@ -8,9 +8,9 @@ ghost use Rattle.hd_message.specs.declared.reply.HoldOutcome.TheVariants as OfHo
 use crate::appending::append;
 use crate::days::printed_if_any;
 use crate::part::Part;
-use crate::reason::Reason;
 use crate::reply::{HoldOutcome, HoldReply};
 use hd_date::Day;
+use hd_rules::Refusal;
 use std::alloc::{AllocError, Allocator};
 
 /// Appends the text of the reply to a hold message, whole or not at all.
@@ -38,7 +38,10 @@ pub(crate) fn write_hold<A: Allocator>(
         HoldOutcome::Cancelled { title, number } => {
             append(out, &hold_cancelled(reply, title, number))
         }
-        HoldOutcome::Refused { title, reason } => append(out, &hold_refused(reply, title, reason)),
+        HoldOutcome::Refused { title, refusal } => append(
+            out,
+            &hold_refused(reply, title, refusal),
+        ),
     }
 }
 
@@ -51,7 +54,9 @@ fn held<'a>(
     pickup: &'a [u8],
     title: &'a [u8],
 ) -> [Part<'a>; 10]
-    ensures { flat_map part_text result ≡ concat (hold_layout reply.now (OfHold.Held available expiry.entry position pickup.entry title.entry)) }
+    ensures { flat_map part_text result
+        ≡ concat (hold_layout reply.now
+        (OfHold.Held available expiry.entry position pickup.entry title.entry)) }
 {
     [
         Part::Text(b"161"),
@@ -83,7 +88,8 @@ fn deleted<'a>(reply: &HoldReply<'a>, title: &'a [u8]) -> [Part<'a>; 6]
 
 /// The parts of the reply to a hold message that cancels another.
 fn hold_cancelled<'a>(reply: &HoldReply<'a>, title: &'a [u8], number: u64) -> [Part<'a>; 7]
-    ensures { flat_map part_text result ≡ concat (hold_layout reply.now (OfHold.Cancelled title.entry number)) }
+    ensures { flat_map part_text result
+        ≡ concat (hold_layout reply.now (OfHold.Cancelled title.entry number)) }
 {
     [
         Part::Text(b"161N"),
@@ -97,8 +103,13 @@ fn hold_cancelled<'a>(reply: &HoldReply<'a>, title: &'a [u8], number: u64) -> [P
 }
 
 /// The parts of the reply to a hold message that is refused.
-fn hold_refused<'a>(reply: &HoldReply<'a>, title: Option<&'a [u8]>, reason: Reason) -> [Part<'a>; 7]
-    ensures { flat_map part_text result ≡ concat (hold_layout reply.now (OfHold.Refused title.entry reason)) }
+fn hold_refused<'a>(
+    reply: &HoldReply<'a>,
+    title: Option<&'a [u8]>,
+    refusal: Refusal,
+) -> [Part<'a>; 7]
+    ensures { flat_map part_text result
+        ≡ concat (hold_layout reply.now (OfHold.Refused title.entry refusal)) }
 {
     [
         Part::Text(b"160N"),
@@ -107,6 +118,6 @@ fn hold_refused<'a>(reply: &HoldReply<'a>, title: Option<&'a [u8]>, reason: Reas
         Part::Field(*b"AA", reply.patron),
         Part::Optional(*b"AB", reply.copy),
         Part::Optional(*b"AJ", title),
-        Part::Refused(reason),
+        Part::Refused(refusal),
     ]
 }

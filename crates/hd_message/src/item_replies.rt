@@ -8,8 +8,8 @@ ghost use Rattle.hd_message.specs.declared.reply.ItemOutcome.TheVariants as OfIt
 use crate::appending::append;
 use crate::days::printed;
 use crate::part::Part;
-use crate::reason::Reason;
 use crate::reply::{Circulation, ItemOutcome, ItemReply};
+use hd_rules::Refusal;
 use std::alloc::{AllocError, Allocator};
 
 /// Appends the text of the reply to a question about a copy, whole or not at all.
@@ -29,7 +29,7 @@ pub(crate) fn write_item<A: Allocator>(
             home,
             circulation,
         } => append(out, &found(reply, holds, title, home, circulation)),
-        ItemOutcome::Refused { reason } => append(out, &item_refused(reply, reason)),
+        ItemOutcome::Refused { refusal } => append(out, &item_refused(reply, refusal)),
     }
 }
 
@@ -41,7 +41,8 @@ fn found<'a>(
     home: &'a [u8],
     circulation: Circulation<'a>,
 ) -> [Part<'a>; 10]
-    ensures { flat_map part_text result ≡ concat (item_layout reply.now (OfItem.Found holds title.entry home.entry circulation.entry)) }
+    ensures { flat_map part_text result
+        ≡ concat (item_layout reply.now (OfItem.Found holds title.entry home.entry circulation.entry)) }
 {
     [
         Part::Text(b"18"),
@@ -58,15 +59,15 @@ fn found<'a>(
 }
 
 /// The parts of the reply to a question that is refused.
-fn item_refused<'a>(reply: &ItemReply<'a>, reason: Reason) -> [Part<'a>; 5]
-    ensures { flat_map part_text result ≡ concat (item_layout reply.now (OfItem.Refused reason)) }
+fn item_refused<'a>(reply: &ItemReply<'a>, refusal: Refusal) -> [Part<'a>; 5]
+    ensures { flat_map part_text result ≡ concat (item_layout reply.now (OfItem.Refused refusal)) }
 {
     [
         Part::Text(b"18010001"),
         Part::Text(reply.date),
         Part::Field(*b"AB", reply.copy),
         Part::Field(*b"AJ", b""),
-        Part::Refused(reason),
+        Part::Refused(refusal),
     ]
 }
 

@@ -3,18 +3,16 @@
 
 mod appending;
 mod checkin_replies;
-mod checkout_replies;
 mod days;
 mod hold;
 mod hold_replies;
 mod item_replies;
 mod kind;
 mod laws;
+mod loan_replies;
 mod messages;
 mod part;
 mod reading;
-mod reason;
-mod renew_replies;
 mod reply;
 #[cfg(test)]
 mod reply_tests;
@@ -26,21 +24,19 @@ mod unreadable;
 mod values;
 mod writing;
 
-pub use crate::kind::Kind;
+pub use crate::kind::DeskKind;
 pub use crate::laws::{
     repeated_values_fit_their_body, replies_are_short, requests_are_read_back,
     requests_are_readable,
 };
 pub use crate::reading::read;
-pub use crate::reason::Reason;
 pub use crate::reply::{
-    CheckinOutcome, CheckinReply, CheckoutOutcome, CheckoutReply, Circulation, HoldOutcome,
-    HoldReply, ItemOutcome, ItemReply, LoginReply, RenewOutcome, RenewReply, Reply, StatusReply,
-    Whereabouts,
+    CheckinOutcome, CheckinReply, Circulation, HoldOutcome, HoldReply, ItemOutcome, ItemReply,
+    LoanOutcome, LoanReply, LoginReply, Reply, StatusReply, Whereabouts,
 };
 pub use crate::request::{
     CheckinRequest, CheckoutRequest, HoldRequest, ItemRequest, LoginRequest, Mode, RenewRequest,
     Request, Wanted, Wishes,
 };
-pub use crate::unreadable::Unreadable;
+pub use crate::unreadable::{Unreadable, UnreadableMessage};
 pub use crate::writing::write;

@@ -2,10 +2,11 @@
 ghost use Rattle.std.specs.Prelude.{◌≡◌, length, IfSome, is_none};
 ghost use Rattle.hd_message.specs.Requests.{IsCheckin, IsCheckout, IsItem, IsLogin, IsRenew};
 ghost use Rattle.hd_message.specs.Table.{lacks_required};
-ghost use Rattle.hd_message.specs.declared.kind.Kind.TheVariants.{Login, Checkout, Checkin, Renew, Item};
+ghost use Rattle.hd_message.specs.declared.kind.Kind.TheVariants.{Login, Desk};
+ghost use Rattle.hd_message.specs.declared.kind.DeskKind.TheVariants.{Checkout, Checkin, Renew, Item};
 
 use crate::request::{CheckinRequest, CheckoutRequest, ItemRequest, LoginRequest, RenewRequest};
-use crate::values::{filled, is_cancel, value};
+use crate::values::{filled, first_values, is_yes};
 
 /// The login of a fixed part and its fields, if it is readable.
 pub(crate) fn login<'a>(fixed: &'a [u8], part: &'a [u8]) -> Option<LoginRequest<'a>>
@@ -13,8 +14,9 @@ pub(crate) fn login<'a>(fixed: &'a [u8], part: &'a [u8]) -> Option<LoginRequest<
     ensures held { IfSome result (IsLogin fixed.now part.now) }
     ensures unreadable { is_none result ≡ lacks_required Login part.now }
 {
-    let name = value(part, *b"CN")?;
-    let password = value(part, *b"CO")?;
+    let values = first_values(part);
+    let name = values.name?;
+    let password = values.password?;
     Some(LoginRequest {
         clear: fixed[2] == b'0' && fixed[3] == b'0',
         name,
@@ -26,11 +28,12 @@ pub(crate) fn login<'a>(fixed: &'a [u8], part: &'a [u8]) -> Option<LoginRequest<
 pub(crate) fn checkout<'a>(fixed: &'a [u8], part: &'a [u8]) -> Option<CheckoutRequest<'a>>
     requires { length fixed.now ≡ 40 }
     ensures held { IfSome result (IsCheckout fixed.now part.now) }
-    ensures unreadable { is_none result ≡ lacks_required Checkout part.now }
+    ensures unreadable { is_none result ≡ lacks_required (Desk Checkout) part.now }
 {
-    let patron = value(part, *b"AA")?;
-    let copy = value(part, *b"AB")?;
-    let cancels = is_cancel(part);
+    let values = first_values(part);
+    let patron = values.patron?;
+    let copy = values.copy?;
+    let cancels = is_yes(values.cancel);
     let offline = fixed[3] == b'Y' && !cancels;
     Some(CheckoutRequest {
         renews: fixed[2] == b'Y',
@@ -46,14 +49,15 @@ pub(crate) fn checkout<'a>(fixed: &'a [u8], part: &'a [u8]) -> Option<CheckoutRe
 pub(crate) fn checkin<'a>(fixed: &'a [u8], part: &'a [u8]) -> Option<CheckinRequest<'a>>
     requires { length fixed.now ≡ 39 }
     ensures held { IfSome result (IsCheckin fixed.now part.now) }
-    ensures unreadable { is_none result ≡ lacks_required Checkin part.now }
+    ensures unreadable { is_none result ≡ lacks_required (Desk Checkin) part.now }
 {
-    let copy = value(part, *b"AB")?;
+    let values = first_values(part);
+    let copy = values.copy?;
     Some(CheckinRequest {
         date: &fixed[3..21],
         copy,
-        branch: filled(part, *b"AP"),
-        cancels: is_cancel(part),
+        branch: filled(values.branch),
+        cancels: is_yes(values.cancel),
     })
 }
 
@@ -61,16 +65,17 @@ pub(crate) fn checkin<'a>(fixed: &'a [u8], part: &'a [u8]) -> Option<CheckinRequ
 pub(crate) fn renew<'a>(fixed: &'a [u8], part: &'a [u8]) -> Option<RenewRequest<'a>>
     requires { length fixed.now ≡ 40 }
     ensures held { IfSome result (IsRenew fixed.now part.now) }
-    ensures unreadable { is_none result ≡ lacks_required Renew part.now }
+    ensures unreadable { is_none result ≡ lacks_required (Desk Renew) part.now }
 {
-    let patron = value(part, *b"AA")?;
-    let copy = value(part, *b"AB")?;
+    let values = first_values(part);
+    let patron = values.patron?;
+    let copy = values.copy?;
     Some(RenewRequest {
         date: &fixed[4..22],
         patron,
         copy,
-        title: filled(part, *b"AJ"),
-        cancels: is_cancel(part),
+        title: filled(values.title),
+        cancels: is_yes(values.cancel),
     })
 }
 
@@ -78,9 +83,10 @@ pub(crate) fn renew<'a>(fixed: &'a [u8], part: &'a [u8]) -> Option<RenewRequest<
 pub(crate) fn item<'a>(fixed: &'a [u8], part: &'a [u8]) -> Option<ItemRequest<'a>>
     requires { length fixed.now ≡ 20 }
     ensures held { IfSome result (IsItem fixed.now part.now) }
-    ensures unreadable { is_none result ≡ lacks_required Item part.now }
+    ensures unreadable { is_none result ≡ lacks_required (Desk Item) part.now }
 {
-    let copy = value(part, *b"AB")?;
+    let values = first_values(part);
+    let copy = values.copy?;
     Some(ItemRequest {
         date: &fixed[2..20],
         copy,

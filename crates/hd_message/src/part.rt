@@ -1,5 +1,5 @@
 //! The parts of a reply.
-use crate::reason::Reason;
+use hd_rules::Refusal;
 
 /// AH without a due day.
 pub(crate) const NO_DUE_DAY: Part<'static> = Part::Field(*b"AH", b"");
@@ -29,6 +29,6 @@ pub(crate) enum Part<'a> {
     Bound(&'a [u8]),
     /// AF with the number of what was cancelled.
     Cancelled(u64),
-    /// AF with the reason of a refusal.
-    Refused(Reason),
+    /// AF with the text of a refusal.
+    Refused(Refusal),
 }

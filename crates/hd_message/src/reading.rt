@@ -1,25 +1,28 @@
 //! Reading the body of a message.
-ghost use Rattle.std.specs.Prelude.{◌≡◌, ◌≢◌, length, take, codes, is_none, IfNone, IfSome, IfErr, IfOk};
+ghost use Rattle.std.specs.Prelude.{◌≡◌, ◌≢◌, ◌≤◌, length, take, codes, is_none, IfNone, IfSome, IfErr, IfOk};
 ghost use Rattle.std.specs.Option.{option_copied};
-ghost use Rattle.hd_message.specs.Reading.{IsMessage, IsRequest, IsUnreadable, States, is_incomplete, is_unreadable};
-ghost use Rattle.hd_message.specs.Table.{code_of, date_at, date_start, fields_part, fixed_width};
+ghost use Rattle.hd_message.specs.Reading.{IsRequest, IsUnreadable, States, is_incomplete, is_unreadable};
+ghost use Rattle.hd_message.specs.Requests.{IsLogin};
+ghost use Rattle.hd_message.specs.Table.{code_of, date_at, date_start, fields_part, fixed_part, fixed_width};
 ghost use Rattle.hd_message.specs.Values.{filled_value, first_value};
+ghost use Rattle.hd_message.specs.declared.kind.Kind.TheVariants.{Desk, Login};
 
 use crate::hold::hold;
-use crate::kind::Kind;
+use crate::kind::{DeskKind, Kind};
 use crate::messages::{checkin, checkout, item, login, renew};
-use crate::request::Request;
+use crate::request::{LoginRequest, Request};
 use crate::table::{date_place, kind_of, width};
-use crate::unreadable::Unreadable;
-use crate::values::{filled, value};
+use crate::unreadable::{Unreadable, UnreadableMessage};
+use crate::values::{filled, first_values};
 
 /// How many bytes a date has (SIP2 2.00, date fields).
 const DATE: usize = 18;
 
-/// The request of a body, or what its refusal prints of it where it can't be read (docs/protocol.md, "Messages read").
+/// The request of a body, or what its refusal prints of it where it can't be read (docs/protocol.md,
+/// "Messages read").
 ///
-/// The body is a message without its trailer and carriage return. Every value is the slice of the body behind the first of its
-/// identifiers. It looks nothing up, reads no date and takes no memory.
+/// The body is a message without its trailer and carriage return. Every value is the slice of the body
+/// behind the first of its identifiers. It looks nothing up, reads no date and takes no memory.
 pub fn read(body: &[u8]) -> Result<Request<'_>, Unreadable<'_>>
     ensures request { IfOk result (IsRequest body.now) }
     ensures unreadable { IfErr result (IsUnreadable body.now) }
@@ -27,15 +30,24 @@ pub fn read(body: &[u8]) -> Result<Request<'_>, Unreadable<'_>>
     let Some(kind) = kind(body) else {
         return Ok(Request::Unsupported);
     };
-    match request(kind, body) {
-        Some(request) => Ok(request),
-        None => Err(unreadable(kind, body)),
+    match kind {
+        Kind::Status => Ok(Request::Status),
+        Kind::Resend => Ok(Request::Resend),
+        Kind::Login => match login_of(body) {
+            Some(login) => Ok(Request::Login(login)),
+            None => Err(Unreadable::Login),
+        },
+        Kind::Desk(kind) => match request(kind, body) {
+            Some(request) => Ok(request),
+            None => Err(Unreadable::Desk(unreadable(kind, body))),
+        },
     }
 }
 
-/// The kind of a body's message, if it is one that is read.
+/// The kind of a body's message, if it is one that is read: then the body has its code.
 fn kind(body: &[u8]) -> Option<Kind>
     ensures found { IfSome result (λ kind. take 2 body.now ≡ code_of kind) }
+    ensures whole { IfSome result (λ kind. 2 ≤ length body.now) }
     ensures none { IfNone result ((kind : Kind) → take 2 body.now ≢ code_of kind) }
 {
     let [first, second, ..] = body else {
@@ -44,65 +56,74 @@ fn kind(body: &[u8]) -> Option<Kind>
     kind_of([*first, *second])
 }
 
-/// The request of a message of this kind, if it is readable.
-fn request(kind: Kind, body: &[u8]) -> Option<Request<'_>>
-    requires { take 2 body.now ≡ code_of kind }
-    ensures held { IfSome result (IsRequest body.now) }
-    ensures unreadable { is_none result ≡ is_unreadable kind body.now }
+/// The login, if it is readable.
+fn login_of(body: &[u8]) -> Option<LoginRequest<'_>>
+    ensures held { IfSome result (IsLogin (fixed_part Login body.now) (fields_part Login body.now)) }
+    ensures unreadable { is_none result ≡ is_unreadable Login body.now }
 {
-    let (fixed, part) = body.split_at_checked(width(kind))?;
+    let (fixed, part) = body.split_at_checked(width(Kind::Login))?;
+    login(fixed, part)
+}
+
+/// The request of a message of this kind, if it is readable.
+fn request(kind: DeskKind, body: &[u8]) -> Option<Request<'_>>
+    ensures states { IfSome result
+        (States (code_of (Desk kind)) (fixed_part (Desk kind) body.now) (fields_part (Desk kind) body.now)) }
+    ensures unreadable { is_none result ≡ is_unreadable (Desk kind) body.now }
+{
+    let (fixed, part) = body.split_at_checked(width(Kind::Desk(kind)))?;
     stated(kind, fixed, part)
 }
 
 /// The request that a fixed part and fields state, if they are readable.
-fn stated<'a>(kind: Kind, fixed: &'a [u8], part: &'a [u8]) -> Option<Request<'a>>
-    requires { length fixed.now ≡ fixed_width kind }
-    ensures states { IfSome result (States (code_of kind) fixed.now part.now) }
-    ensures incomplete { is_none result ≡ is_incomplete kind fixed.now part.now }
+fn stated<'a>(kind: DeskKind, fixed: &'a [u8], part: &'a [u8]) -> Option<Request<'a>>
+    requires { length fixed.now ≡ fixed_width (Desk kind) }
+    ensures states { IfSome result (States (code_of (Desk kind)) fixed.now part.now) }
+    ensures incomplete { is_none result ≡ is_incomplete (Desk kind) fixed.now part.now }
 {
     match kind {
-        Kind::Login => Some(Request::Login(login(fixed, part)?)),
-        Kind::Status => Some(Request::Status),
-        Kind::Checkout => Some(Request::Checkout(checkout(fixed, part)?)),
-        Kind::Checkin => Some(Request::Checkin(checkin(fixed, part)?)),
-        Kind::Hold => Some(Request::Hold(hold(fixed, part)?)),
-        Kind::Renew => Some(Request::Renew(renew(fixed, part)?)),
-        Kind::Item => Some(Request::Item(item(fixed, part)?)),
-        Kind::Resend => Some(Request::Resend),
+        DeskKind::Checkout => Some(Request::Checkout(checkout(fixed, part)?)),
+        DeskKind::Checkin => Some(Request::Checkin(checkin(fixed, part)?)),
+        DeskKind::Hold => Some(Request::Hold(hold(fixed, part)?)),
+        DeskKind::Renew => Some(Request::Renew(renew(fixed, part)?)),
+        DeskKind::Item => Some(Request::Item(item(fixed, part)?)),
     }
 }
 
 /// What the refusal of a message prints of it.
-fn unreadable(kind: Kind, body: &[u8]) -> Unreadable<'_>
+fn unreadable(kind: DeskKind, body: &[u8]) -> UnreadableMessage<'_>
     ensures kind { result.kind ≡ kind }
     ensures date { option_copied result.date ≡ date_at body.now (date_start kind) }
-    ensures patron { option_copied result.patron ≡ first_value (fields_part kind body.now) (codes "AA") }
-    ensures copy { option_copied result.copy ≡ filled_value (fields_part kind body.now) (codes "AB") }
-    ensures title { option_copied result.title ≡ filled_value (fields_part kind body.now) (codes "AJ") }
+    ensures patron { option_copied result.patron
+        ≡ first_value (fields_part (Desk kind) body.now) (codes "AA") }
+    ensures copy { option_copied result.copy
+        ≡ filled_value (fields_part (Desk kind) body.now) (codes "AB") }
+    ensures title { option_copied result.title
+        ≡ filled_value (fields_part (Desk kind) body.now) (codes "AJ") }
 {
-    let part = fields_part(kind, body);
-    Unreadable {
+    let values = first_values(fields_part(kind, body));
+    UnreadableMessage {
         kind,
         date: date(kind, body),
-        patron: value(part, *b"AA"),
-        copy: filled(part, *b"AB"),
-        title: filled(part, *b"AJ"),
+        patron: values.patron,
+        copy: filled(values.copy),
+        title: filled(values.title),
     }
 }
 
 /// The transaction date of a message of this kind, where the body has it.
-fn date(kind: Kind, body: &[u8]) -> Option<&[u8]>
+fn date(kind: DeskKind, body: &[u8]) -> Option<&[u8]>
     ensures { option_copied result ≡ date_at body.now (date_start kind) }
 {
-    let place = date_place(kind)?;
+    let place = date_place(kind);
     body.get(place..place + DATE)
 }
 
 /// What stands behind the fixed part of a message; nothing where that is short.
-fn fields_part(kind: Kind, body: &[u8]) -> &[u8]
-    ensures { result.now ≡ fields_part kind body.now }
+fn fields_part(kind: DeskKind, body: &[u8]) -> &[u8]
+    ensures { result.now ≡ fields_part (Desk kind) body.now }
 {
-    match body.split_at_checked(width(kind)) {
+    match body.split_at_checked(width(Kind::Desk(kind))) {
         Some((_, part)) => part,
         None => &[],
     }

@@ -1,23 +1,24 @@
 //! Replies: what a terminal is answered. Their texts are in docs/protocol.md, "Replies written".
 //!
-//! A date of a reply is 18 bytes, as it is printed. A copy, a title or a patron that the message names is printed as the message
-//! has it, empty where it has none.
-use crate::reason::Reason;
+//! A date of a reply is 18 bytes, as it is printed. A copy, a title or a patron that the message names is
+//! printed as the message has it, empty where it has none.
 use hd_date::Day;
+use hd_rules::Refusal;
 
-/// What became of a checkout.
+/// What became of a checkout or a renewal.
 #[derive(Clone, Copy)]
-pub enum CheckoutOutcome<'a> {
+pub enum LoanOutcome<'a> {
     /// The copy is on loan to the patron.
     Lent {
-        /// Whether a loan of the patron was renewed.
+        /// Whether a loan of the patron was renewed. The reply to a renewal doesn't look at it: it says that
+        /// one was.
         renewed: bool,
         /// AJ, the title identifier.
         title: &'a [u8],
         /// AH, the day on which the copy is due.
         due: &'a Day,
     },
-    /// An earlier checkin is cancelled.
+    /// An earlier message is cancelled: a checkin by a checkout, a renewal by a renewal.
     Cancelled {
         /// AJ, the title identifier.
         title: &'a [u8],
@@ -27,13 +28,13 @@ pub enum CheckoutOutcome<'a> {
     /// Nothing is changed.
     Refused {
         /// AF.
-        reason: Reason,
+        refusal: Refusal,
     },
 }
 
-/// The reply to a checkout (12, Checkout Response).
+/// The reply to a checkout (12, Checkout Response) or a renewal (30, Renew Response).
 #[derive(Clone, Copy)]
-pub struct CheckoutReply<'a> {
+pub struct LoanReply<'a> {
     /// The transaction date of the message.
     pub date: &'a [u8],
     /// AO, the institution of the catalogue.
@@ -43,46 +44,7 @@ pub struct CheckoutReply<'a> {
     /// AB, the item identifier of the message.
     pub copy: &'a [u8],
     /// What became of it.
-    pub outcome: CheckoutOutcome<'a>,
-}
-
-/// What became of a renewal.
-#[derive(Clone, Copy)]
-pub enum RenewOutcome<'a> {
-    /// The loan is renewed.
-    Renewed {
-        /// AJ, the title identifier.
-        title: &'a [u8],
-        /// AH, the day on which the copy is due.
-        due: &'a Day,
-    },
-    /// An earlier renewal is cancelled.
-    Cancelled {
-        /// AJ, the title identifier.
-        title: &'a [u8],
-        /// The number of the cancelled command.
-        number: u64,
-    },
-    /// Nothing is changed.
-    Refused {
-        /// AF.
-        reason: Reason,
-    },
-}
-
-/// The reply to a renewal (30, Renew Response).
-#[derive(Clone, Copy)]
-pub struct RenewReply<'a> {
-    /// The transaction date of the message.
-    pub date: &'a [u8],
-    /// AO, the institution of the catalogue.
-    pub institution: &'a [u8],
-    /// AA, the patron identifier of the message.
-    pub patron: &'a [u8],
-    /// AB, the item identifier of the message.
-    pub copy: &'a [u8],
-    /// What became of it.
-    pub outcome: RenewOutcome<'a>,
+    pub outcome: LoanOutcome<'a>,
 }
 
 /// Where a copy is after its return.
@@ -126,7 +88,7 @@ pub enum CheckinOutcome<'a> {
     /// Nothing is changed.
     Refused {
         /// AF.
-        reason: Reason,
+        refusal: Refusal,
     },
 }
 
@@ -176,7 +138,7 @@ pub enum HoldOutcome<'a> {
         /// AJ, the title identifier of the message; nothing where that is empty.
         title: Option<&'a [u8]>,
         /// AF.
-        reason: Reason,
+        refusal: Refusal,
     },
 }
 
@@ -234,7 +196,7 @@ pub enum ItemOutcome<'a> {
     /// The question is refused.
     Refused {
         /// AF.
-        reason: Reason,
+        refusal: Refusal,
     },
 }
 
@@ -273,13 +235,13 @@ pub enum Reply<'a> {
     /// 98, ACS Status.
     Status(StatusReply<'a>),
     /// 12, Checkout Response.
-    Checkout(CheckoutReply<'a>),
+    Checkout(LoanReply<'a>),
     /// 10, Checkin Response.
     Checkin(CheckinReply<'a>),
     /// 16, Hold Response.
     Hold(HoldReply<'a>),
     /// 30, Renew Response.
-    Renew(RenewReply<'a>),
+    Renew(LoanReply<'a>),
     /// 18, Item Information Response.
     Item(ItemReply<'a>),
     /// 96, Request SC Resend: the message is none that is read, or came damaged.

@@ -1,10 +1,10 @@
 //! Examples of replies. The dates of the messages are 1 March 2026, ten o'clock.
 use crate::{
-    CheckinOutcome, CheckinReply, CheckoutOutcome, CheckoutReply, Circulation, HoldOutcome,
-    HoldReply, ItemOutcome, ItemReply, LoginReply, Reason, RenewOutcome, RenewReply, Reply,
-    StatusReply, Whereabouts, write,
+    CheckinOutcome, CheckinReply, Circulation, HoldOutcome, HoldReply, ItemOutcome, ItemReply,
+    LoanOutcome, LoanReply, LoginReply, Reply, StatusReply, Whereabouts, write,
 };
 use hd_date::{Day, OffsetMinutes};
+use hd_rules::Refusal;
 use std::alloc::{AllocError, Global};
 use std::test::Fail;
 
@@ -28,12 +28,12 @@ fn day(date: &[u8]) -> Result<Day, Fail> {
 
 /// The reply to a checkout of a1 of ta by p1 that is accepted.
 fn lent(renewed: bool, due: &Day) -> Reply<'_> {
-    Reply::Checkout(CheckoutReply {
+    Reply::Checkout(LoanReply {
         date: DATE,
         institution: b"lib",
         patron: b"p1",
         copy: b"a1",
-        outcome: CheckoutOutcome::Lent {
+        outcome: LoanOutcome::Lent {
             renewed,
             title: b"ta",
             due,
@@ -43,12 +43,12 @@ fn lent(renewed: bool, due: &Day) -> Reply<'_> {
 
 /// The reply to a checkout that cancels a checkin.
 fn checkin_cancelled(number: u64) -> Reply<'static> {
-    Reply::Checkout(CheckoutReply {
+    Reply::Checkout(LoanReply {
         date: DATE,
         institution: b"lib",
         patron: b"p1",
         copy: b"a1",
-        outcome: CheckoutOutcome::Cancelled {
+        outcome: LoanOutcome::Cancelled {
             title: b"ta",
             number,
         },
@@ -60,14 +60,14 @@ fn checkout_refused(
     date: &'static [u8],
     patron: &'static [u8],
     copy: &'static [u8],
-    reason: Reason,
+    refusal: Refusal,
 ) -> Reply<'static> {
-    Reply::Checkout(CheckoutReply {
+    Reply::Checkout(LoanReply {
         date,
         institution: b"lib",
         patron,
         copy,
-        outcome: CheckoutOutcome::Refused { reason },
+        outcome: LoanOutcome::Refused { refusal },
     })
 }
 
@@ -143,7 +143,7 @@ fn unknown_names(rt: HostRuntime) -> Result<(), Fail> {
         copy: None,
         outcome: HoldOutcome::Refused {
             title: Some(b"tx"),
-            reason: Reason::UnknownTitle,
+            refusal: Refusal::UnknownTitle,
         },
     });
     let text = b"160N20260301    100000AOlib|AAp1|AJtx|AFUNKNOWN TITLE|";
@@ -224,12 +224,16 @@ fn checkout_cancelled(rt: HostRuntime) -> Result<(), Fail> {
 
 /// The reply to a renewal of a1 by p1.
 fn renew_reply<'a>(date: &'a [u8], due: &'a Day) -> Reply<'a> {
-    Reply::Renew(RenewReply {
+    Reply::Renew(LoanReply {
         date,
         institution: b"lib",
         patron: b"p1",
         copy: b"a1",
-        outcome: RenewOutcome::Renewed { title: b"ta", due },
+        outcome: LoanOutcome::Lent {
+            renewed: true,
+            title: b"ta",
+            due,
+        },
     })
 }
 
@@ -239,23 +243,23 @@ fn renewal(rt: HostRuntime) -> Result<(), Fail> {
     let reply = renew_reply(b"20260310    100000", &due);
     let text = b"301YNN20260310    100000AOlib|AAp1|ABa1|AJta|AH20260331    235900|";
     assert_eq!(rt; text_of(rt.alloc(), &reply)?.as_slice(), text.as_slice());
-    let refused = Reply::Renew(RenewReply {
+    let refused = Reply::Renew(LoanReply {
         date: b"20260310    100000",
         institution: b"lib",
         patron: b"p1",
         copy: b"a1",
-        outcome: RenewOutcome::Refused {
-            reason: Reason::NotRenewable,
+        outcome: LoanOutcome::Refused {
+            refusal: Refusal::NotRenewable,
         },
     });
     let text = b"300NNN20260310    100000AOlib|AAp1|ABa1|AJ|AH|AFNOT RENEWABLE|";
     assert_eq!(rt; text_of(rt.alloc(), &refused)?.as_slice(), text.as_slice());
-    let cancelled = Reply::Renew(RenewReply {
+    let cancelled = Reply::Renew(LoanReply {
         date: DATE,
         institution: b"lib",
         patron: b"p1",
         copy: b"a1",
-        outcome: RenewOutcome::Cancelled {
+        outcome: LoanOutcome::Cancelled {
             title: b"ta",
             number: 2,
         },
@@ -290,7 +294,7 @@ fn least_free_place(rt: HostRuntime) -> Result<(), Fail> {
 
 #[test]
 fn dependent_cancellations(rt: HostRuntime) -> Result<(), Fail> {
-    let checkout = checkout_refused(DATE, b"p1", b"a1", Reason::Depends { number: 4 });
+    let checkout = checkout_refused(DATE, b"p1", b"a1", Refusal::Depends { number: 4 });
     let text = b"120NNN20260301    100000AOlib|AAp1|ABa1|AJ|AH|AFDEPENDS 4|";
     assert_eq!(rt; text_of(rt.alloc(), &checkout)?.as_slice(), text.as_slice());
     let checkin = Reply::Checkin(CheckinReply {
@@ -298,7 +302,7 @@ fn dependent_cancellations(rt: HostRuntime) -> Result<(), Fail> {
         institution: b"lib",
         copy: b"a1",
         outcome: CheckinOutcome::Refused {
-            reason: Reason::Depends { number: 2 },
+            refusal: Refusal::Depends { number: 2 },
         },
     });
     let text = b"100NNN20260301    100000AOlib|ABa1|AQ|AFDEPENDS 2|";
@@ -331,14 +335,14 @@ fn unchanged_return_cancelled(rt: HostRuntime) -> Result<(), Fail> {
 
 #[test]
 fn unreadable_checkout_and_not_logged_in(rt: HostRuntime) -> Result<(), Fail> {
-    let checkout = checkout_refused(b"20260301    120000", b"", b"", Reason::Unreadable);
+    let checkout = checkout_refused(b"20260301    120000", b"", b"", Refusal::Unreadable);
     let text = b"120NNN20260301    120000AOlib|AA|AB|AJ|AH|AFMESSAGE UNREADABLE|";
     assert_eq!(rt; text_of(rt.alloc(), &checkout)?.as_slice(), text.as_slice());
     let question = Reply::Item(ItemReply {
         date: DATE,
         copy: b"a1",
         outcome: ItemOutcome::Refused {
-            reason: Reason::NotLoggedIn,
+            refusal: Refusal::NotLoggedIn,
         },
     });
     let text = b"1801000120260301    100000ABa1|AJ|AFNOT LOGGED IN|";
@@ -349,24 +353,24 @@ fn unreadable_checkout_and_not_logged_in(rt: HostRuntime) -> Result<(), Fail> {
 #[test]
 fn refusal_texts(rt: HostRuntime) {
     let texts = [
-        (Reason::BadDate, b"DATE UNREADABLE".as_slice()),
-        (Reason::UnknownPatron, b"UNKNOWN PATRON".as_slice()),
-        (Reason::UnknownItem, b"UNKNOWN ITEM".as_slice()),
-        (Reason::UnknownBranch, b"UNKNOWN BRANCH".as_slice()),
-        (Reason::HoldExists, b"HOLD EXISTS".as_slice()),
-        (Reason::NoSuchHold, b"NO SUCH HOLD".as_slice()),
-        (Reason::HoldHasCopy, b"HOLD HAS ITS COPY".as_slice()),
-        (Reason::ExpiryPassed, b"EXPIRY PASSED".as_slice()),
-        (Reason::OnLoan, b"ON LOAN".as_slice()),
-        (Reason::KeptForAnother, b"KEPT FOR ANOTHER".as_slice()),
-        (Reason::InTransit, b"IN TRANSIT".as_slice()),
-        (Reason::LoanLimit, b"LOAN LIMIT".as_slice()),
-        (Reason::NotOnLoan, b"NOT ON LOAN TO PATRON".as_slice()),
-        (Reason::DueRange, b"DUE DATE OUT OF RANGE".as_slice()),
-        (Reason::JournalFull, b"JOURNAL FULL".as_slice()),
-        (Reason::NothingToCancel, b"NOTHING TO CANCEL".as_slice()),
+        (Refusal::BadDate, b"DATE UNREADABLE".as_slice()),
+        (Refusal::UnknownPatron, b"UNKNOWN PATRON".as_slice()),
+        (Refusal::UnknownItem, b"UNKNOWN ITEM".as_slice()),
+        (Refusal::UnknownBranch, b"UNKNOWN BRANCH".as_slice()),
+        (Refusal::HoldExists, b"HOLD EXISTS".as_slice()),
+        (Refusal::NoSuchHold, b"NO SUCH HOLD".as_slice()),
+        (Refusal::HoldHasCopy, b"HOLD HAS ITS COPY".as_slice()),
+        (Refusal::ExpiryPassed, b"EXPIRY PASSED".as_slice()),
+        (Refusal::OnLoan, b"ON LOAN".as_slice()),
+        (Refusal::KeptForAnother, b"KEPT FOR ANOTHER".as_slice()),
+        (Refusal::InTransit, b"IN TRANSIT".as_slice()),
+        (Refusal::LoanLimit, b"LOAN LIMIT".as_slice()),
+        (Refusal::NotOnLoan, b"NOT ON LOAN TO PATRON".as_slice()),
+        (Refusal::DueRange, b"DUE DATE OUT OF RANGE".as_slice()),
+        (Refusal::JournalFull, b"JOURNAL FULL".as_slice()),
+        (Refusal::NothingToCancel, b"NOTHING TO CANCEL".as_slice()),
     ];
-    for (reason, text) in texts {
-        assert_eq!(rt; reason.words(), text);
+    for (refusal, text) in texts {
+        assert_eq!(rt; refusal.words(), text);
     }
 }

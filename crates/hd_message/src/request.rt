@@ -70,7 +70,8 @@ pub struct CheckoutRequest<'a> {
     pub renews: bool,
     /// The 18 bytes of the transaction date.
     pub date: &'a [u8],
-    /// The 18 bytes of the nb due date where the checkout took place off-line: no block is `Y`, and it cancels nothing.
+    /// The 18 bytes of the nb due date where the checkout took place off-line: no block is `Y`, and it
+    /// cancels nothing.
     pub due: Option<&'a [u8]>,
     /// AA, the patron identifier; it may be empty.
     pub patron: &'a [u8],

@@ -2,7 +2,7 @@
 ghost use Rattle.std.specs.Prelude.{◌≡◌, ◌≢◌, IfNone, IfSome};
 ghost use Rattle.hd_message.specs.Table.{code_of, date_start, fixed_width};
 
-use crate::kind::Kind;
+use crate::kind::{DeskKind, Kind};
 
 /// The kind of a message by its code, if it is a message that is read.
 pub(crate) fn kind_of(code: [u8; 2]) -> Option<Kind>
@@ -12,11 +12,11 @@ pub(crate) fn kind_of(code: [u8; 2]) -> Option<Kind>
     match &code {
         b"93" => Some(Kind::Login),
         b"99" => Some(Kind::Status),
-        b"11" => Some(Kind::Checkout),
-        b"09" => Some(Kind::Checkin),
-        b"15" => Some(Kind::Hold),
-        b"29" => Some(Kind::Renew),
-        b"17" => Some(Kind::Item),
+        b"11" => Some(Kind::Desk(DeskKind::Checkout)),
+        b"09" => Some(Kind::Desk(DeskKind::Checkin)),
+        b"15" => Some(Kind::Desk(DeskKind::Hold)),
+        b"29" => Some(Kind::Desk(DeskKind::Renew)),
+        b"17" => Some(Kind::Desk(DeskKind::Item)),
         b"97" => Some(Kind::Resend),
         _ => None,
     }
@@ -29,21 +29,20 @@ pub(crate) fn width(kind: Kind) -> usize
     match kind {
         Kind::Status | Kind::Resend => 2,
         Kind::Login => 4,
-        Kind::Item => 20,
-        Kind::Hold => 21,
-        Kind::Checkin => 39,
-        Kind::Checkout | Kind::Renew => 40,
+        Kind::Desk(DeskKind::Item) => 20,
+        Kind::Desk(DeskKind::Hold) => 21,
+        Kind::Desk(DeskKind::Checkin) => 39,
+        Kind::Desk(DeskKind::Checkout | DeskKind::Renew) => 40,
     }
 }
 
-/// The place of a message's transaction date, where it has one.
-pub(crate) fn date_place(kind: Kind) -> Option<usize>
+/// The place of a message's transaction date.
+pub(crate) fn date_place(kind: DeskKind) -> usize
     ensures { result ≡ date_start kind }
 {
     match kind {
-        Kind::Login | Kind::Status | Kind::Resend => None,
-        Kind::Item => Some(2),
-        Kind::Hold | Kind::Checkin => Some(3),
-        Kind::Checkout | Kind::Renew => Some(4),
+        DeskKind::Item => 2,
+        DeskKind::Hold | DeskKind::Checkin => 3,
+        DeskKind::Checkout | DeskKind::Renew => 4,
     }
 }

@@ -1,6 +1,7 @@
 //! Examples of requests. The dates of the messages are 1 March 2026, ten o'clock.
 use crate::{
-    CheckoutRequest, HoldRequest, ItemRequest, Kind, Mode, Request, Unreadable, Wanted, read,
+    CheckoutRequest, DeskKind, HoldRequest, ItemRequest, Mode, Request, Unreadable,
+    UnreadableMessage, Wanted, read,
 };
 use std::test::Fail;
 
@@ -31,9 +32,10 @@ fn item(body: &[u8]) -> Result<ItemRequest<'_>, Fail> {
 }
 
 /// What is left of a body that can't be read.
-fn unreadable(body: &[u8]) -> Result<Unreadable<'_>, Fail> {
+fn unreadable(body: &[u8]) -> Result<UnreadableMessage<'_>, Fail> {
     match read(body) {
-        Err(message) => Ok(message),
+        Err(Unreadable::Desk(message)) => Ok(message),
+        Err(Unreadable::Login) => Err("a login".into()),
         Ok(_) => Err("readable".into()),
     }
 }
@@ -50,7 +52,7 @@ fn a_login_is_read(rt: HostRuntime) -> Result<(), Fail> {
         return Err("no login".into());
     };
     assert!(rt; !login.clear);
-    assert!(rt; unreadable(b"9300CNt1|")?.kind == Kind::Login);
+    assert!(rt; matches!(read(b"9300CNt1|"), Err(Unreadable::Login)));
     Ok(())
 }
 
@@ -167,7 +169,7 @@ fn a_question_is_read(rt: HostRuntime) -> Result<(), Fail> {
 #[test]
 fn damaged_lines(rt: HostRuntime) -> Result<(), Fail> {
     let message = unreadable(b"11NN20260301    10000020260301    100000AOlib|AAp1")?;
-    assert!(rt; message.kind == Kind::Checkout);
+    assert!(rt; message.kind == DeskKind::Checkout);
     assert_eq!(rt; message.date.ok_or("no date")?, DATE);
     assert_eq!(rt; message.patron.ok_or("no patron")?, b"p1".as_slice());
     assert!(rt; message.copy.is_none());
@@ -179,7 +181,7 @@ fn damaged_lines(rt: HostRuntime) -> Result<(), Fail> {
 #[test]
 fn a_short_fixed_part_keeps_a_whole_date(rt: HostRuntime) -> Result<(), Fail> {
     let short = unreadable(b"11NN")?;
-    assert!(rt; short.kind == Kind::Checkout && short.date.is_none());
+    assert!(rt; short.kind == DeskKind::Checkout && short.date.is_none());
     let dated = unreadable(b"11NN20260301    100000AAp1|ABa1|")?;
     assert_eq!(rt; dated.date.ok_or("no date")?, DATE);
     assert!(rt; dated.patron.is_none() && dated.copy.is_none());
@@ -189,7 +191,7 @@ fn a_short_fixed_part_keeps_a_whole_date(rt: HostRuntime) -> Result<(), Fail> {
 #[test]
 fn an_unreadable_hold_keeps_what_it_has(rt: HostRuntime) -> Result<(), Fail> {
     let message = unreadable(b"15+20260301    100000BY3|AAp1|AJta|")?;
-    assert!(rt; message.kind == Kind::Hold && message.copy.is_none());
+    assert!(rt; message.kind == DeskKind::Hold && message.copy.is_none());
     assert_eq!(rt; message.date.ok_or("no date")?, DATE);
     assert_eq!(rt; message.patron.ok_or("no patron")?, b"p1".as_slice());
     assert_eq!(rt; message.title.ok_or("no title")?, b"ta".as_slice());

@@ -1,13 +1,24 @@
 //! Messages that can't be read.
-use crate::kind::Kind;
+use crate::kind::DeskKind;
 
-/// A message that can't be read, and what its refusal prints of it. Its values are slices of the body.
+/// A message that can't be read. A status message and a request for the last reply are read whatever they
+/// have.
+#[derive(Clone, Copy)]
+pub enum Unreadable<'a> {
+    /// 93, Login: it is refused.
+    Login,
+    /// A message that asks something of the desk.
+    Desk(UnreadableMessage<'a>),
+}
+
+/// A message that asks something of the desk and can't be read, and what its refusal prints of it. Its values
+/// are slices of the body.
 ///
 /// Fields begin behind a whole fixed part alone: where that is short there are none.
 #[derive(Clone, Copy)]
-pub struct Unreadable<'a> {
+pub struct UnreadableMessage<'a> {
     /// What kind of message it is.
-    pub kind: Kind,
+    pub kind: DeskKind,
     /// The 18 bytes of the transaction date, where the body is long enough for it.
     pub date: Option<&'a [u8]>,
     /// AA, the patron identifier.

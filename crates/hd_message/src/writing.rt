@@ -6,18 +6,18 @@ ghost use Rattle.hd_message.specs.Replies.{login_text, reply_text, status_layout
 
 use crate::appending::append;
 use crate::checkin_replies::write_checkin;
-use crate::checkout_replies::write_checkout;
 use crate::hold_replies::write_hold;
 use crate::item_replies::write_item;
+use crate::loan_replies::{checkout_front, renew_front, write_loan};
 use crate::part::Part;
-use crate::renew_replies::write_renew;
 use crate::reply::{LoginReply, Reply, StatusReply};
 use std::alloc::{AllocError, Allocator};
 
 /// BX of an ACS Status: which messages are supported. Nothing is claimed of its positions.
 const SUPPORTED: &[u8] = b"NYYNYYYNNNYNNYYN";
 
-/// Appends the text of a reply, without trailer and carriage return, whole or not at all (docs/protocol.md, "Replies written").
+/// Appends the text of a reply, without trailer and carriage return, whole or not at all (docs/protocol.md,
+/// "Replies written").
 ///
 /// An error is want of memory; where `out` has room for the text there is none.
 pub fn write<A: Allocator>(reply: &Reply<'_>, out: &mut Vec<u8, A>) -> Result<(), AllocError>
@@ -31,10 +31,10 @@ pub fn write<A: Allocator>(reply: &Reply<'_>, out: &mut Vec<u8, A>) -> Result<()
     match reply {
         Reply::Login(reply) => append(out, &[Part::Text(login_text(reply))]),
         Reply::Status(reply) => append(out, &status(reply)),
-        Reply::Checkout(reply) => write_checkout(reply, out),
+        Reply::Checkout(reply) => write_loan(checkout_front(&reply.outcome), reply, out),
         Reply::Checkin(reply) => write_checkin(reply, out),
         Reply::Hold(reply) => write_hold(reply, out),
-        Reply::Renew(reply) => write_renew(reply, out),
+        Reply::Renew(reply) => write_loan(renew_front(&reply.outcome), reply, out),
         Reply::Item(reply) => write_item(reply, out),
         Reply::RequestScResend => append(out, &[Part::Text(b"96")]),
     }

@@ -1,5 +1,6 @@
 -- Lemmas on the lists of holds of one title.
-use Rattle.std.proofs.Common.{◌≡◌, ℕ, zero, suc, ◌+◌, ◌<◌, ◌≤◌, Bool, true, false, cond, ◌==◌, nat_lt, List, [], ◌∷◌, Option, None, Some, refl, ap, sym, subst, ◌∙◌, inl, inr, arith, length, get_or}
+use Rattle.std.proofs.Common.{◌≡◌, ℕ, zero, suc, ◌+◌, ◌<◌, ◌≤◌, Bool, true, false, cond, ◌==◌, nat_lt, List, [], ◌∷◌, Option, None, Some}
+use Rattle.std.proofs.Common.{refl, ap, sym, subst, ◌∙◌, inl, inr, arith, length, get_or}
 use Rattle.std.specs.List.{insert, remove, filter, count_by}
 use Rattle.std.specs.List.Sorted.{IsNonDecreasingBy, IsPartitionPoint}
 use Rattle.std.proofs.lemmas.Bool.Decides.{nat_tests}
@@ -19,10 +20,12 @@ insert-cons h x hs n m e = grind (arith, common_steps, e)
 count_before-less : (h : Hold) (hs : List Hold) (t : ℕ) → h.stamp < t → count_before (h ∷ hs) t ≡ count_before hs t + 1
 count_before-less h hs t l = grind (arith, nat_tests, common_steps, sum_by-cons (λ k. cond (nat_lt k.stamp t) 1 0) h hs)
 
-insert-count_before_less : (h x : Hold) (hs : List Hold) → h.stamp < x.stamp → insert hs (count_before hs x.stamp) x ≡ with_hold hs x → insert (h ∷ hs) (count_before (h ∷ hs) x.stamp) x ≡ with_hold (h ∷ hs) x
+insert-count_before_less : (h x : Hold) (hs : List Hold) → h.stamp < x.stamp → insert hs (count_before hs x.stamp) x ≡ with_hold hs x →
+    insert (h ∷ hs) (count_before (h ∷ hs) x.stamp) x ≡ with_hold (h ∷ hs) x
 insert-count_before_less h x hs l e = insert-cons h x hs _ _ (count_before-less h hs x.stamp l) ∙ grind (arith, nat_tests, e)
 
-insert-count_before_more : (h x : Hold) (hs : List Hold) → x.stamp ≤ h.stamp → AllAfter h.stamp hs → insert (h ∷ hs) (count_before (h ∷ hs) x.stamp) x ≡ with_hold (h ∷ hs) x
+insert-count_before_more : (h x : Hold) (hs : List Hold) → x.stamp ≤ h.stamp → AllAfter h.stamp hs →
+    insert (h ∷ hs) (count_before (h ∷ hs) x.stamp) x ≡ with_hold (h ∷ hs) x
 insert-count_before_more h x hs l o =
     let none : count_before (h ∷ hs) x.stamp ≡ 0 = grind (arith, nat_tests, count_before-after h.stamp x.stamp hs o l)
     in rw none (grind (arith, nat_tests))
@@ -44,7 +47,8 @@ AllAfter-below s t (k ∷ ks) a h = (omega (arith, a.0), AllAfter-below s t ks a
 
 pub IsInOrder-with_hold : (hs : List Hold) (x : Hold) → IsInOrder hs → HasNoStamp x.stamp hs → IsInOrder (with_hold hs x)
 IsInOrder-with_hold [] x o n = (tt, tt)
-IsInOrder-with_hold (h ∷ hs) x o n = grind (arith, nat_tests, IsInOrder-with_hold hs x o.1 n.1, AllAfter-with_hold h.stamp hs x o.0, AllAfter-below h.stamp x.stamp hs o.0)
+IsInOrder-with_hold (h ∷ hs) x o n =
+    grind (arith, nat_tests, IsInOrder-with_hold hs x o.1 n.1, AllAfter-with_hold h.stamp hs x o.0, AllAfter-below h.stamp x.stamp hs o.0)
 
 -- taking a hold out
 
@@ -70,13 +74,16 @@ without-absent (h ∷ hs) patron e = grind (arith, nat_tests, common_steps, with
 
 -- putting a hold in
 
-pub hold_of-with_hold : (hs : List Hold) (x : Hold) (patron : ℕ) → hold_of hs x.patron ≡ None → hold_of (with_hold hs x) patron ≡ cond (x.patron == patron) (Some x) (hold_of hs patron)
+pub hold_of-with_hold : (hs : List Hold) (x : Hold) (patron : ℕ) → hold_of hs x.patron ≡ None →
+    hold_of (with_hold hs x) patron ≡ cond (x.patron == patron) (Some x) (hold_of hs patron)
 hold_of-with_hold [] x patron e = refl
 hold_of-with_hold (h ∷ hs) x patron e = grind (arith, nat_tests, common_steps, hold_of-with_hold hs x patron)
 
-pub HasPatronsOnce-with_hold : (hs : List Hold) (x : Hold) → HasPatronsOnce hs → hold_of hs x.patron ≡ None → HasPatronsOnce (with_hold hs x)
+pub HasPatronsOnce-with_hold : (hs : List Hold) (x : Hold) → HasPatronsOnce hs → hold_of hs x.patron ≡ None →
+    HasPatronsOnce (with_hold hs x)
 HasPatronsOnce-with_hold [] x o e = (refl, tt)
-HasPatronsOnce-with_hold (h ∷ hs) x o e = grind (arith, nat_tests, common_steps, HasPatronsOnce-with_hold hs x o.1, hold_of-with_hold hs x h.patron)
+HasPatronsOnce-with_hold (h ∷ hs) x o e =
+    grind (arith, nat_tests, common_steps, HasPatronsOnce-with_hold hs x o.1, hold_of-with_hold hs x h.patron)
 
 -- the place of a stamp is the number of smaller ones
 
@@ -92,16 +99,22 @@ IsNonDecreasingBy-from_order (h ∷ hs) o zero (suc j) d b l = omega (arith, All
 IsNonDecreasingBy-from_order (h ∷ hs) o (suc i) zero d b l = absurd (omega arith)
 IsNonDecreasingBy-from_order (h ∷ hs) o (suc i) (suc j) d b l = IsNonDecreasingBy-from_order hs o.1 i j d (omega arith) (omega arith)
 
-pub count_by-point : (p : Hold → Bool) (hs : List Hold) (i : ℕ) → i ≤ length hs → IsPartitionPoint (λ h. p h ≡ true) (λ h. p h ≡ false) hs i → count_by p hs ≡ i
+pub count_by-point : (p : Hold → Bool) (hs : List Hold) (i : ℕ) → i ≤ length hs →
+    IsPartitionPoint (λ h. p h ≡ true) (λ h. p h ≡ false) hs i → count_by p hs ≡ i
 count_by-point p [] i l s = omega arith
 count_by-point p (h ∷ hs) zero l s =
     let no : p h ≡ false = s.1 0 h (omega arith) (omega arith)
-    in let rest : count_by p hs ≡ 0 = count_by-point p hs 0 (omega arith) (λ k d a b. absurd (omega arith), λ k d a b. s.1 (suc k) d (omega arith) (omega arith))
+    in let rest : count_by p hs ≡ 0 =
+    count_by-point p hs 0 (omega arith) (λ k d a b. absurd (omega arith), λ k d a b. s.1 (suc k) d (omega arith) (omega arith))
     in let more : count_by p (h ∷ hs) ≡ cond (p h) 1 0 + count_by p hs = sum_by-cons (λ k. cond (p k) 1 0) h hs
     in grind (arith, more, no, rest)
 count_by-point p (h ∷ hs) (suc i) l s =
     let yes : p h ≡ true = s.0 0 h (omega arith) (omega arith)
-    in let rest : count_by p hs ≡ i = count_by-point p hs i (omega arith) (λ k d a b. s.0 (suc k) d (omega arith) (omega arith), λ k d a b. s.1 (suc k) d (omega arith) (omega arith))
+    in let rest : count_by p hs ≡ i =
+    count_by-point p hs i (omega arith) (
+      λ k d a b. s.0 (suc k) d (omega arith) (omega arith),
+      λ k d a b. s.1 (suc k) d (omega arith) (omega arith),
+    )
     in let more : count_by p (h ∷ hs) ≡ cond (p h) 1 0 + count_by p hs = sum_by-cons (λ k. cond (p k) 1 0) h hs
     in grind (arith, more, yes, rest)
 
@@ -117,7 +130,8 @@ remove-here h hs n e = grind (arith, common_steps, e)
 pub hold_of-first : (h x : Hold) (hs : List Hold) (patron : ℕ) → (h.patron == patron) ≡ true → hold_of (h ∷ hs) patron ≡ Some x → h ≡ x
 hold_of-first h x hs patron t e = let same : ◌≡◌ {A = Option Hold} (Some h) (Some x) = sym (rw t) ∙ e in cc
 
-pub hold_of-later : (h x : Hold) (hs : List Hold) (patron : ℕ) → (h.patron == patron) ≡ false → hold_of (h ∷ hs) patron ≡ Some x → hold_of hs patron ≡ Some x
+pub hold_of-later : (h x : Hold) (hs : List Hold) (patron : ℕ) → (h.patron == patron) ≡ false → hold_of (h ∷ hs) patron ≡ Some x →
+    hold_of hs patron ≡ Some x
 hold_of-later h x hs patron t e = sym (rw t) ∙ e
 
 AllAfter-hold_of : (s : ℕ) (hs : List Hold) (patron : ℕ) (x : Hold) → AllAfter s hs → hold_of hs patron ≡ Some x → s < x.stamp
@@ -129,19 +143,29 @@ AllAfter-hold_of s (h ∷ hs) patron x a e = elim (cases_Bool (h.patron == patro
 
 -- no stamp is smaller than the first
 count_before-first : (h : Hold) (hs : List Hold) → AllAfter h.stamp hs → count_before (h ∷ hs) h.stamp ≡ 0
-count_before-first h hs a = grind (arith, nat_tests, common_steps, sum_by-cons (λ k. cond (nat_lt k.stamp h.stamp) 1 0) h hs, count_before-after h.stamp h.stamp hs a)
+count_before-first h hs a =
+    grind (
+      arith,
+      nat_tests,
+      common_steps,
+      sum_by-cons (λ k. cond (nat_lt k.stamp h.stamp) 1 0) h hs,
+      count_before-after h.stamp h.stamp hs a,
+    )
 
-pub remove-count_before : (hs : List Hold) (x : Hold) → IsInOrder hs → HasPatronsOnce hs → hold_of hs x.patron ≡ Some x → remove hs (count_before hs x.stamp) ≡ without hs x.patron
+pub remove-count_before : (hs : List Hold) (x : Hold) → IsInOrder hs → HasPatronsOnce hs → hold_of hs x.patron ≡ Some x →
+    remove hs (count_before hs x.stamp) ≡ without hs x.patron
 remove-count_before [] x o once e = absurd (cc e)
 remove-count_before (h ∷ hs) x o once e = elim (cases_Bool (h.patron == x.patron)) [
   | inl t ↦
       let same : h ≡ x = hold_of-first h x hs x.patron t e
-      in let at : count_before (h ∷ hs) x.stamp ≡ 0 = subst (λ (k : Hold). count_before (h ∷ hs) k.stamp ≡ 0) same (count_before-first h hs o.0)
+      in let at : count_before (h ∷ hs) x.stamp ≡ 0 =
+      subst (λ (k : Hold). count_before (h ∷ hs) k.stamp ≡ 0) same (count_before-first h hs o.0)
       in let none : hold_of hs x.patron ≡ None = subst (λ (k : Hold). hold_of hs k.patron ≡ None) same once.0
       in remove-here h hs _ at ∙ sym (without-absent hs x.patron none) ∙ rw t
   | inr t ↦
       let later : hold_of hs x.patron ≡ Some x = hold_of-later h x hs x.patron t e
-      in let at : count_before (h ∷ hs) x.stamp ≡ count_before hs x.stamp + 1 = count_before-less h hs x.stamp (AllAfter-hold_of h.stamp hs x.patron x o.0 later)
+      in let at : count_before (h ∷ hs) x.stamp ≡ count_before hs x.stamp + 1 =
+      count_before-less h hs x.stamp (AllAfter-hold_of h.stamp hs x.patron x o.0 later)
       in remove-cons h hs _ _ at ∙ rw t (ap (λ ks. h ∷ ks) (remove-count_before hs x o.1 once.1 later))
 ]
 
@@ -150,10 +174,12 @@ count_before-below [] x o e = absurd (cc e)
 count_before-below (h ∷ hs) x o e = elim (cases_Bool (h.patron == x.patron)) [
   | inl t ↦
       let same : h ≡ x = hold_of-first h x hs x.patron t e
-      in let at : count_before (h ∷ hs) x.stamp ≡ 0 = subst (λ (k : Hold). count_before (h ∷ hs) k.stamp ≡ 0) same (count_before-first h hs o.0)
+      in let at : count_before (h ∷ hs) x.stamp ≡ 0 =
+      subst (λ (k : Hold). count_before (h ∷ hs) k.stamp ≡ 0) same (count_before-first h hs o.0)
       in omega (arith, at)
   | inr t ↦
       let later : hold_of hs x.patron ≡ Some x = hold_of-later h x hs x.patron t e
-      in let at : count_before (h ∷ hs) x.stamp ≡ count_before hs x.stamp + 1 = count_before-less h hs x.stamp (AllAfter-hold_of h.stamp hs x.patron x o.0 later)
+      in let at : count_before (h ∷ hs) x.stamp ≡ count_before hs x.stamp + 1 =
+      count_before-less h hs x.stamp (AllAfter-hold_of h.stamp hs x.patron x o.0 later)
       in omega (arith, at, count_before-below hs x o.1 later)
 ]

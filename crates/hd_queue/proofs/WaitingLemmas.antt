@@ -9,7 +9,8 @@ use Rattle.hd_rules.specs.declared.holds.Hold.{Hold}
 use Rattle.hd_rules.specs.declared.holds.HoldKind.{HoldKind}
 use Rattle.hd_rules.specs.declared.holds.HoldKind.TheVariants.{Any, One, AtBranch}
 use Rattle.hd_queue.specs.Holds.{AllAfter, IsInOrder, HasPatronsOnce, HasNoStamp, hold_of, with_hold, without}
-use Rattle.hd_queue.specs.Waiting.{is_one, is_at_branch, names, waits_for_any, waits_for_one, waits_for, waits_at_branch, waits_at, AreWaiting}
+use Rattle.hd_queue.specs.Waiting.{is_one, is_at_branch, names, waits_for_any, waits_for_one, waits_for, waits_at_branch, waits_at}
+use Rattle.hd_queue.specs.Waiting.{AreWaiting}
 use Rattle.hd_queue.specs.WaitingValue.{IsNew, IsListed}
 use Rattle.hd_queue.proofs.HoldsLemmas.{AllAfter-filter, hold_of-filter, hold_of-first, hold_of-later, without-absent}
 
@@ -18,29 +19,46 @@ with_hold-front : (hs : List Hold) (x : Hold) (s : ℕ) → AllAfter s hs → na
 with_hold-front [] x s a e = refl
 with_hold-front (h ∷ hs) x s a e = grind (arith, nat_tests, a.0)
 
-filter-with_hold : (p : Hold → Bool) (hs : List Hold) (x : Hold) → IsInOrder hs → filter p (with_hold hs x) ≡ cond (p x) (with_hold (filter p hs) x) (filter p hs)
+filter-with_hold : (p : Hold → Bool) (hs : List Hold) (x : Hold) → IsInOrder hs →
+    filter p (with_hold hs x) ≡ cond (p x) (with_hold (filter p hs) x) (filter p hs)
 filter-with_hold p [] x o = elim (cases_Bool (p x)) [ inl e ↦ rw e | inr e ↦ rw e ]
-filter-with_hold p (h ∷ hs) x o = grind (arith, nat_tests, common_steps, filter-with_hold p hs x o.1, with_hold-front (filter p hs) x h.stamp (AllAfter-filter p h.stamp hs o.0))
+filter-with_hold p (h ∷ hs) x o =
+    grind (
+      arith,
+      nat_tests,
+      common_steps,
+      filter-with_hold p hs x o.1,
+      with_hold-front (filter p hs) x h.stamp (AllAfter-filter p h.stamp hs o.0),
+    )
 
 filter-without : (p : Hold → Bool) (hs : List Hold) (patron : ℕ) → filter p (without hs patron) ≡ without (filter p hs) patron
 filter-without p [] patron = refl
 filter-without p (h ∷ hs) patron = elim (cases_Bool (h.patron == patron)) [
   | inl e ↦ elim (cases_Bool (p h)) [ inl t ↦ rw (e, t, e) (filter-without p hs patron) | inr t ↦ rw (e, t) (filter-without p hs patron) ]
-  | inr e ↦ elim (cases_Bool (p h)) [ inl t ↦ rw (e, t, e) (ap (λ ks. h ∷ ks) (filter-without p hs patron)) | inr t ↦ rw (e, t) (filter-without p hs patron) ]
+  | inr e ↦ elim (cases_Bool (p h)) [
+    | inl t ↦ rw (e, t, e) (ap (λ ks. h ∷ ks) (filter-without p hs patron))
+    | inr t ↦ rw (e, t)
+        (filter-without p hs patron)
+  ]
 ]
 
 -- a new hold
 
 HasNoStamp-filter : (p : Hold → Bool) (s : ℕ) (hs : List Hold) → HasNoStamp s hs → HasNoStamp s (filter p hs)
 HasNoStamp-filter p s [] n = tt
-HasNoStamp-filter p s (h ∷ hs) n = elim (cases_Bool (p h)) [ inl e ↦ rw e (n.0, HasNoStamp-filter p s hs n.1) | inr e ↦ rw e (HasNoStamp-filter p s hs n.1) ]
+HasNoStamp-filter p s (h ∷ hs) n =
+    elim (cases_Bool (p h)) [ inl e ↦ rw e (n.0, HasNoStamp-filter p s hs n.1) | inr e ↦ rw e (HasNoStamp-filter p s hs n.1) ]
 
 -- a hold that is new to a list is new to the part that passes
-pub IsNew-filter : (p : Hold → Bool) (hs ks : List Hold) (x : Hold) → ks ≡ filter p hs → hold_of hs x.patron ≡ None → HasNoStamp x.stamp hs → IsNew x ks
-IsNew-filter p hs ks x e none stamp = rw e (record { patron = hold_of-filter p hs x.patron none; stamp = HasNoStamp-filter p x.stamp hs stamp })
+pub IsNew-filter : (p : Hold → Bool) (hs ks : List Hold) (x : Hold) → ks ≡ filter p hs → hold_of hs x.patron ≡ None →
+    HasNoStamp x.stamp hs → IsNew x ks
+IsNew-filter p hs ks x e none stamp =
+    rw e (record { patron = hold_of-filter p hs x.patron none; stamp = HasNoStamp-filter p x.stamp hs stamp })
 
 -- the waiting lists after a hold is put
-pub AreWaiting-with_hold : (hs xs os bs : List Hold) (x : Hold) → IsInOrder hs → AreWaiting hs xs os bs → AreWaiting (with_hold hs x) (cond (waits_for_any x) (with_hold xs x) xs) (cond (waits_for_one x) (with_hold os x) os) (cond (waits_at_branch x) (with_hold bs x) bs)
+pub AreWaiting-with_hold : (hs xs os bs : List Hold) (x : Hold) → IsInOrder hs → AreWaiting hs xs os bs →
+    AreWaiting (with_hold hs x) (cond (waits_for_any x) (with_hold xs x) xs) (cond (waits_for_one x) (with_hold os x) os)
+    (cond (waits_at_branch x) (with_hold bs x) bs)
 AreWaiting-with_hold hs xs os bs x o w = record {
   for_any = rw w.for_any (sym (filter-with_hold waits_for_any hs x o));
   for_one = rw w.for_one (sym (filter-with_hold waits_for_one hs x o));
@@ -60,12 +78,14 @@ hold_of-patron (h ∷ hs) patron x e = elim (cases_Bool (h.patron == patron)) [
 pub hold_of-own : (hs : List Hold) (patron : ℕ) (x : Hold) → hold_of hs patron ≡ Some x → hold_of hs x.patron ≡ Some x
 hold_of-own hs patron x e = ap (hold_of hs) (hold_of-patron hs patron x e) ∙ e
 
-listed : (p : Hold → Bool) (hs : List Hold) (x : Hold) → HasPatronsOnce hs → hold_of hs x.patron ≡ Some x → hold_of (filter p hs) x.patron ≡ cond (p x) (Some x) None
+listed : (p : Hold → Bool) (hs : List Hold) (x : Hold) → HasPatronsOnce hs → hold_of hs x.patron ≡ Some x →
+    hold_of (filter p hs) x.patron ≡ cond (p x) (Some x) None
 listed p [] x o e = absurd (cc e)
 listed p (h ∷ hs) x o e = elim (cases_Bool (h.patron == x.patron)) [
   | inl t ↦
       let same : h ≡ x = hold_of-first h x hs x.patron t e
-      in let none : hold_of (filter p hs) x.patron ≡ None = hold_of-filter p hs x.patron (ap (λ (k : Hold). hold_of hs k.patron) (sym same) ∙ o.0)
+      in let none : hold_of (filter p hs) x.patron ≡ None =
+      hold_of-filter p hs x.patron (ap (λ (k : Hold). hold_of hs k.patron) (sym same) ∙ o.0)
       in let passes : p h ≡ p x = ap p same
       in elim (cases_Bool (p h)) [
         | inl u ↦ rw (u, t, sym passes ∙ u) (ap Some same)
@@ -77,10 +97,12 @@ listed p (h ∷ hs) x o e = elim (cases_Bool (h.patron == x.patron)) [
 ]
 
 -- a hold of the list is in the part that passes exactly where it passes
-pub IsListed-filter : (p : Hold → Bool) (hs ks : List Hold) (x : Hold) → ks ≡ filter p hs → HasPatronsOnce hs → hold_of hs x.patron ≡ Some x → IsListed p x ks
+pub IsListed-filter : (p : Hold → Bool) (hs ks : List Hold) (x : Hold) → ks ≡ filter p hs → HasPatronsOnce hs →
+    hold_of hs x.patron ≡ Some x → IsListed p x ks
 IsListed-filter p hs ks x e once there = rw e (listed p hs x once there)
 
-filter-taken : (p : Hold → Bool) (hs ks : List Hold) (x : Hold) → ks ≡ filter p hs → HasPatronsOnce hs → hold_of hs x.patron ≡ Some x → cond (p x) (without ks x.patron) ks ≡ filter p (without hs x.patron)
+filter-taken : (p : Hold → Bool) (hs ks : List Hold) (x : Hold) → ks ≡ filter p hs → HasPatronsOnce hs → hold_of hs x.patron ≡ Some x →
+    cond (p x) (without ks x.patron) ks ≡ filter p (without hs x.patron)
 filter-taken p hs ks x e once there =
     let split : filter p (without hs x.patron) ≡ without (filter p hs) x.patron = filter-without p hs x.patron
     in let is : hold_of (filter p hs) x.patron ≡ cond (p x) (Some x) None = listed p hs x once there
@@ -92,7 +114,9 @@ filter-taken p hs ks x e once there =
     ]
 
 -- the waiting lists after a hold is taken
-pub AreWaiting-without : (hs xs os bs : List Hold) (x : Hold) → HasPatronsOnce hs → hold_of hs x.patron ≡ Some x → AreWaiting hs xs os bs → AreWaiting (without hs x.patron) (cond (waits_for_any x) (without xs x.patron) xs) (cond (waits_for_one x) (without os x.patron) os) (cond (waits_at_branch x) (without bs x.patron) bs)
+pub AreWaiting-without : (hs xs os bs : List Hold) (x : Hold) → HasPatronsOnce hs → hold_of hs x.patron ≡ Some x → AreWaiting hs xs os bs →
+    AreWaiting (without hs x.patron) (cond (waits_for_any x) (without xs x.patron) xs) (cond (waits_for_one x) (without os x.patron) os)
+    (cond (waits_at_branch x) (without bs x.patron) bs)
 AreWaiting-without hs xs os bs x once there w = record {
   for_any = filter-taken waits_for_any hs xs x w.for_any once there;
   for_one = filter-taken waits_for_one hs os x w.for_one once there;
@@ -133,7 +157,12 @@ pub any-wanted : (hs : List Hold) → filter (λ h. true) (filter waits_for_any 
 any-wanted hs = filter-both (λ h. true) waits_for_any waits_for_any (λ h. and-true (waits_for_any h)) hs
 
 pub copy-wanted : (copy : ℕ) (hs : List Hold) → filter (λ h. names copy h.kind) (filter waits_for_one hs) ≡ filter (waits_for copy) hs
-copy-wanted copy hs = filter-both (λ h. names copy h.kind) waits_for_one (waits_for copy) (λ h. and-assoc (is_none h.copy) (is_one h.kind) (names copy h.kind) ∙ ap (λ b. is_none h.copy && b) (one-names h.kind copy)) hs
+copy-wanted copy hs =
+    filter-both (λ h. names copy h.kind) waits_for_one (waits_for copy) (λ h. and-assoc (is_none h.copy) (is_one h.kind) (names copy h.kind)
+    ∙ ap (λ b. is_none h.copy && b) (one-names h.kind copy)) hs
 
-pub branch-wanted : (branch : ℕ) (hs : List Hold) → filter (λ h. h.pickup == branch) (filter waits_at_branch hs) ≡ filter (waits_at branch) hs
-branch-wanted branch hs = filter-both (λ h. h.pickup == branch) waits_at_branch (waits_at branch) (λ h. and-assoc (is_none h.copy) (is_at_branch h.kind) (h.pickup == branch)) hs
+pub branch-wanted : (branch : ℕ) (hs : List Hold) →
+    filter (λ h. h.pickup == branch) (filter waits_at_branch hs) ≡ filter (waits_at branch) hs
+branch-wanted branch hs =
+    filter-both (λ h. h.pickup == branch) waits_at_branch (waits_at branch)
+    (λ h. and-assoc (is_none h.copy) (is_at_branch h.kind) (h.pickup == branch)) hs

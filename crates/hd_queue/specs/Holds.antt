@@ -1,5 +1,6 @@
 -- Lists of the holds of one title.
-use Rattle.std.specs.Prelude.{◌≡◌, ◌≢◌, ℕ, ◌<◌, not, ◌==◌, nat_lt, if◌then◌else◌, List, [], ◌∷◌, Option, None, find, filter, count_by}
+use Rattle.std.specs.Prelude.{◌≡◌, ◌≢◌, ℕ, ◌<◌, not, ◌==◌, nat_lt, if◌then◌else◌, List, [], ◌∷◌, Option, None}
+use Rattle.std.specs.Prelude.{find, filter, count_by}
 use Rattle.hd_rules.specs.declared.holds.Hold.{Hold}
 
 -- the hold of a patron, if any

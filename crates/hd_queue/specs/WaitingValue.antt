@@ -3,7 +3,8 @@ use Rattle.std.specs.Prelude.{◌≡◌, ℕ, Bool, if◌then◌else◌, List, N
 use Rattle.hd_rules.specs.declared.holds.Hold.{Hold}
 use Rattle.hd_queue.specs.Holds.{HasNoStamp, hold_of}
 
--- those that wait for any copy, for one copy and for a copy of a branch, and how many more each list has room for
+-- those that wait for any copy, for one copy and for a copy of a branch, and how many more each list has room
+-- for
 pub record WaitingValue : Type 0 where
   pub for_any : List Hold
   pub for_one : List Hold

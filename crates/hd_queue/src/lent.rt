@@ -1,5 +1,5 @@
 //! A list of holds, lent.
-ghost use Rattle.std.specs.Prelude.{◌≡◌, ◌++◌, length};
+ghost use Rattle.std.specs.Prelude.{◌≡◌, ◌++◌};
 ghost use Rattle.std.specs.Option.{option_copied};
 ghost use Rattle.std.specs.Iterator.{YieldsFirstRef, item_count};
 ghost use Rattle.hd_queue.specs.Holds.{hold_of};
@@ -49,13 +49,6 @@ impl<'a> HoldSlices<'a> {
             Some(hold) => Some(hold),
             None => hold_in(self.back, patron),
         }
-    }
-
-    /// How many holds there are.
-    pub(crate) fn len(&self) -> usize
-        ensures { result ≡ length self.now }
-    {
-        self.front.len() + self.back.len()
     }
 }
 

@@ -1,6 +1,7 @@
 //! Holds as one list in order of stamp.
 ghost use Rattle.std.specs.Prelude.{◌≡◌, ◌+◌, ◌<◌, ◌≤◌, ◌^◌, [], None, Some, OnErr, OnOk, length};
-ghost use Rattle.hd_queue.specs.Holds.{HasNoStamp, HasPatronsOnce, IsInOrder, count_before, hold_of, with_hold, without};
+ghost use Rattle.hd_queue.specs.Holds.{HasNoStamp, HasPatronsOnce, IsInOrder, count_before, hold_of};
+ghost use Rattle.hd_queue.specs.Holds.{with_hold, without};
 
 use crate::lent::HoldSlices;
 use hd_rules::{Hold, PatronNo};
@@ -39,7 +40,8 @@ impl<A: Allocator> HoldList<A> {
         }
     }
 
-    /// Makes room for that many more holds. Want of memory keeps the holds, and comes only where there was less room.
+    /// Makes room for that many more holds. Want of memory keeps the holds, and comes only where there was
+    /// less room.
     pub(crate) fn ready(&mut self, more: usize) -> Result<(), AllocError>
         ensures holds { self.new.holds ≡ self.old.holds }
         ensures ok { OnOk result (more ≤ self.new.room) }
@@ -56,6 +58,7 @@ impl<A: Allocator> HoldList<A> {
         requires stamp { HasNoStamp hold.stamp self.old.holds }
         ensures holds { self.new.holds ≡ with_hold self.old.holds hold }
         ensures room { self.old.room ≤ self.new.room + 1 }
+        ensures ordered { IsInOrder self.old.holds }
     {
         let at = number_before(&self.ring, hold.stamp);
         self.ring.insert(at, hold).unwrap();
@@ -66,6 +69,7 @@ impl<A: Allocator> HoldList<A> {
         requires { hold_of self.old.holds hold.now.patron ≡ Some hold.now }
         ensures holds { self.new.holds ≡ without self.old.holds hold.now.patron }
         ensures room { self.old.room ≤ self.new.room }
+        ensures once { HasPatronsOnce self.old.holds }
     {
         let at = number_before(&self.ring, hold.stamp);
         let _ = self.ring.remove(at);
@@ -94,20 +98,14 @@ impl<A: Allocator> HoldList<A> {
         self.ring.len()
     }
 
-    /// The holds, lent.
+    /// The holds, lent. The stamps rise, and no patron has two holds.
     pub(crate) fn lend(&self) -> HoldSlices<'_>
-        ensures { result ≡ self.now.holds }
+        ensures holds { result ≡ self.now.holds }
+        ensures ordered { IsInOrder result }
+        ensures once { HasPatronsOnce result }
     {
         let (front, back) = self.ring.as_slices();
         HoldSlices::new(front, back)
-    }
-
-    /// Shows that the stamps rise, and that no patron has two holds.
-    pub(crate) fn holds_are_in_order(&self)
-        ensures ordered { IsInOrder self.now.holds }
-        ensures once { HasPatronsOnce self.now.holds }
-    {
-        let _ = &self.ring;
     }
 }
 

@@ -1,6 +1,7 @@
 //! A queue of holds in order of stamp.
 ghost use Rattle.std.specs.Prelude.{◌≡◌, ◌+◌, ◌<◌, ◌≤◌, ◌^◌, [], None, Some, OnErr, OnOk, length, option_map};
-ghost use Rattle.hd_queue.specs.Holds.{HasNoStamp, HasPatronsOnce, IsInOrder, count_before, hold_of, with_hold, without};
+ghost use Rattle.hd_queue.specs.Holds.{HasNoStamp, HasPatronsOnce, IsInOrder, count_before, hold_of};
+ghost use Rattle.hd_queue.specs.Holds.{with_hold, without};
 
 use crate::list::HoldList;
 use crate::view::QueueView;
@@ -45,7 +46,8 @@ impl<A: Allocator + Copy> Queue<A> {
 }
 
 impl<A: Allocator> Queue<A> {
-    /// Makes room for that many more holds. Want of memory changes nothing, and comes only where there was less room.
+    /// Makes room for that many more holds. Want of memory changes nothing, and comes only where there was
+    /// less room.
     pub fn ready(&mut self, more: usize) -> Result<(), AllocError>
         ensures holds { self.new.holds ≡ self.old.holds }
         ensures ok { OnOk result (more ≤ self.new.room) }
@@ -69,7 +71,6 @@ impl<A: Allocator> Queue<A> {
         ensures holds { self.new.holds ≡ with_hold self.old.holds hold }
         ensures room { self.old.room ≤ self.new.room + 1 }
     {
-        self.list.holds_are_in_order();
         self.list.put(hold);
         self.waiting.put(&hold);
         self.room -= 1;
@@ -92,7 +93,6 @@ impl<A: Allocator> Queue<A> {
         ensures holds { self.new.holds ≡ without self.old.holds hold.now.patron }
         ensures room { self.old.room ≤ self.new.room }
     {
-        self.list.holds_are_in_order();
         self.list.remove(hold);
         self.waiting.remove(hold);
     }
@@ -106,7 +106,8 @@ impl<A: Allocator> Queue<A> {
 
     /// The place of a patron's hold in the queue, from 1, or `None` where there is no such hold.
     pub fn position(&self, patron: PatronNo) -> Option<u64>
-        ensures { result ≡ option_map (λ h. count_before self.now.holds h.stamp + 1) (hold_of self.now.holds patron) }
+        ensures { result ≡ option_map (λ h. count_before self.now.holds h.stamp + 1)
+            (hold_of self.now.holds patron) }
     {
         let hold = self.list.hold_of(patron)?;
         Some(self.list.count_before(hold.stamp) as u64 + 1)
@@ -128,19 +129,13 @@ impl<A: Allocator> Queue<A> {
         self.list.len()
     }
 
-    /// Shows that the stamps rise, and that no patron has two holds.
-    pub fn holds_are_in_order(&self)
-        ensures ordered { IsInOrder self.now.holds }
-        ensures once { HasPatronsOnce self.now.holds }
-    {
-        self.list.holds_are_in_order();
-    }
-
-    /// The holds, lent, with those that wait by what they wait for. It takes no memory.
+    /// The holds, lent, with those that wait by what they wait for. The stamps rise, and no patron has two
+    /// holds. It takes no memory.
     pub fn view(&self) -> QueueView<'_>
-        ensures { result ≡ self.now.holds }
+        ensures holds { result ≡ self.now.holds }
+        ensures ordered { IsInOrder result }
+        ensures once { HasPatronsOnce result }
     {
-        self.list.holds_are_in_order();
         QueueView::new(
             self.list.lend(),
             self.waiting.for_any(),

@@ -1,14 +1,13 @@
 //! The holds of a queue, lent, and going over those that wait.
-ghost use Rattle.std.specs.Prelude.{◌≡◌, filter, length};
-ghost use Rattle.std.specs.Option.{option_copied};
+ghost use Rattle.std.specs.Prelude.{◌≡◌, filter};
 ghost use Rattle.std.specs.Iterator.{YieldsFirstRef, item_count};
-ghost use Rattle.hd_queue.specs.Holds.{HasPatronsOnce, IsInOrder, hold_of};
+ghost use Rattle.hd_queue.specs.Holds.{HasPatronsOnce, IsInOrder};
 ghost use Rattle.hd_queue.specs.Waiting.{AreWaiting, waits_at, waits_for, waits_for_any};
 ghost use Rattle.hd_queue.specs.Wanted.{is_wanted};
 
 use crate::lent::HoldSlices;
 use crate::wanted::Wanted;
-use hd_rules::{BranchNo, CopyNo, Hold, PatronNo};
+use hd_rules::{BranchNo, CopyNo, Hold};
 use std::marker::Model;
 
 /// The holds of one title, lent, in order of stamp. Its calls take no memory.
@@ -30,7 +29,8 @@ impl<'a> Model for QueueView<'a> {
 
     ghost view = { λ v. v.holds };
 
-    ghost invariant = { λ v. IsInOrder v.holds × HasPatronsOnce v.holds × AreWaiting v.holds v.for_any v.for_one v.at_branch };
+    ghost invariant = { λ v. IsInOrder v.holds × HasPatronsOnce v.holds
+        × AreWaiting v.holds v.for_any v.for_one v.at_branch };
 }
 
 impl<'a> QueueView<'a> {
@@ -54,9 +54,12 @@ impl<'a> QueueView<'a> {
         }
     }
 
-    /// The holds that wait for any copy, in order of stamp.
+    /// The holds that wait for any copy, in order of stamp. In a queue the stamps rise, and no patron has two
+    /// holds.
     pub fn any(&self) -> Waiting<'a>
-        ensures { result ≡ filter waits_for_any self.now }
+        ensures waiting { result ≡ filter waits_for_any self.now }
+        ensures ordered { IsInOrder self.now }
+        ensures once { HasPatronsOnce self.now }
     {
         Waiting::new(&self.for_any, Wanted::All)
     }
@@ -73,28 +76,6 @@ impl<'a> QueueView<'a> {
         ensures { result ≡ filter (waits_at branch) self.now }
     {
         Waiting::new(&self.at_branch, Wanted::PickedUpAt(branch))
-    }
-
-    /// A patron's hold, or `None` where there is none.
-    pub fn hold_of(&self, patron: PatronNo) -> Option<&'a Hold>
-        ensures { option_copied result ≡ hold_of self.now patron }
-    {
-        self.holds.hold_of(patron)
-    }
-
-    /// How many holds there are.
-    pub fn len(&self) -> usize
-        ensures { result ≡ length self.now }
-    {
-        self.holds.len()
-    }
-
-    /// Shows that the stamps rise, and that no patron has two holds.
-    pub fn holds_are_in_order(&self)
-        ensures ordered { IsInOrder self.now }
-        ensures once { HasPatronsOnce self.now }
-    {
-        let _ = &self.holds;
     }
 }
 

@@ -27,7 +27,12 @@ impl<A: Allocator> Model for WaitingLists<A> {
 
     ghost Value = { WaitingValue };
 
-    ghost view = { λ w. record { for_any = w.for_any.holds; for_one = w.for_one.holds; at_branch = w.at_branch.holds; room = min w.for_any.room (min w.for_one.room w.at_branch.room) } };
+    ghost view = { λ w. record {
+      for_any = w.for_any.holds;
+      for_one = w.for_one.holds;
+      at_branch = w.at_branch.holds;
+      room = min w.for_any.room (min w.for_one.room w.at_branch.room);
+    } };
 }
 
 impl<A: Allocator + Copy> WaitingLists<A> {
@@ -68,9 +73,13 @@ impl<A: Allocator> WaitingLists<A> {
         requires for_any { IsNew hold.now self.old.for_any }
         requires for_one { IsNew hold.now self.old.for_one }
         requires at_branch { IsNew hold.now self.old.at_branch }
-        ensures for_any { self.new.for_any ≡ (if waits_for_any hold.now then with_hold self.old.for_any hold.now else self.old.for_any) }
-        ensures for_one { self.new.for_one ≡ (if waits_for_one hold.now then with_hold self.old.for_one hold.now else self.old.for_one) }
-        ensures at_branch { self.new.at_branch ≡ (if waits_at_branch hold.now then with_hold self.old.at_branch hold.now else self.old.at_branch) }
+        ensures for_any { self.new.for_any
+            ≡ (if waits_for_any hold.now then with_hold self.old.for_any hold.now else self.old.for_any) }
+        ensures for_one { self.new.for_one
+            ≡ (if waits_for_one hold.now then with_hold self.old.for_one hold.now else self.old.for_one) }
+        ensures at_branch { self.new.at_branch
+            ≡ (if waits_at_branch hold.now then with_hold self.old.at_branch hold.now
+            else self.old.at_branch) }
         ensures room { self.old.room ≤ self.new.room + 1 }
     {
         if hold.copy.is_none() {
@@ -87,9 +96,15 @@ impl<A: Allocator> WaitingLists<A> {
         requires for_any { IsListed waits_for_any hold.now self.old.for_any }
         requires for_one { IsListed waits_for_one hold.now self.old.for_one }
         requires at_branch { IsListed waits_at_branch hold.now self.old.at_branch }
-        ensures for_any { self.new.for_any ≡ (if waits_for_any hold.now then without self.old.for_any hold.now.patron else self.old.for_any) }
-        ensures for_one { self.new.for_one ≡ (if waits_for_one hold.now then without self.old.for_one hold.now.patron else self.old.for_one) }
-        ensures at_branch { self.new.at_branch ≡ (if waits_at_branch hold.now then without self.old.at_branch hold.now.patron else self.old.at_branch) }
+        ensures for_any { self.new.for_any
+            ≡ (if waits_for_any hold.now then without self.old.for_any hold.now.patron
+            else self.old.for_any) }
+        ensures for_one { self.new.for_one
+            ≡ (if waits_for_one hold.now then without self.old.for_one hold.now.patron
+            else self.old.for_one) }
+        ensures at_branch { self.new.at_branch
+            ≡ (if waits_at_branch hold.now then without self.old.at_branch hold.now.patron
+            else self.old.at_branch) }
         ensures room { self.old.room ≤ self.new.room }
     {
         if hold.copy.is_some() {

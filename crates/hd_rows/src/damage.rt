@@ -53,7 +53,8 @@ pub(crate) fn damaged(alloc: Global, line: &[u8], damage: Damage) -> Result<Vec<
     Ok(came)
 }
 
-/// What is known of the answer to a line that came with this damage. A line with a trailer is taken to have the right number.
+/// What is known of the answer to a line that came with this damage. A line with a trailer is taken to have
+/// the right number.
 pub(crate) fn wanted_of(line: &[u8], damage: Damage) -> Wanted {
     let Some(trailer) = trailer_at(line) else {
         return Wanted::Anything;

@@ -6,7 +6,7 @@ use crate::hearing::is_return;
 use crate::row::Row;
 use crate::tally::Tally;
 use crate::terminals::Terminals;
-use std::alloc::AllocError;
+use std::alloc::{AllocError, Global};
 use std::io;
 
 /// The row whose lines come with damage.
@@ -42,6 +42,16 @@ fn damage_row(rt: &HostRuntime, row: &Row) -> io::Result<()> {
     tally.print(rt)
 }
 
+/// A line that comes with damage, the lines before it, and those from it on as they are whole.
+#[derive(Clone, Copy)]
+struct Trial<'a> {
+    before: &'a [Exchange<'a>],
+    rest: &'a [Exchange<'a>],
+    line: &'a [u8],
+    damage: Damage,
+    wanted: Wanted,
+}
+
 /// Plays the lines of a row up to the one at a place, which comes with damage, and counts it.
 fn count(
     rt: &HostRuntime,
@@ -58,44 +68,55 @@ fn count(
         return Ok(());
     };
     let wanted = wanted_of(exchange.line, damage);
-    let is_borne = is_borne(rt, row, before, rest, exchange.line, damage, wanted)?;
-    tally.add(damage, wanted, is_borne);
+    let trial = Trial {
+        before,
+        rest,
+        line: exchange.line,
+        damage,
+        wanted,
+    };
+    tally.add(damage, wanted, is_borne(rt, row, &trial)?);
     Ok(())
 }
 
-/// Whether a line that comes with damage, after the lines before it, is answered so. Where it is asked for again, it is sent again
-/// whole with the rest of the lines, and all are answered as if it had never come with damage.
-fn is_borne(
-    rt: &HostRuntime,
+/// Whether terminals before any line are answered so.
+fn is_borne(rt: &HostRuntime, row: &Row, trial: &Trial<'_>) -> Result<bool, AllocError> {
+    match Terminals::open(rt, row)? {
+        Some(mut terminals) => is_line_borne(rt.alloc(), row, &mut terminals, trial),
+        None => Ok(false),
+    }
+}
+
+/// Whether a line that comes with damage, after the lines before it, is answered so. Where it is asked for
+/// again, it is sent again whole with the rest of the lines, and all are answered as if it had never come
+/// with damage.
+fn is_line_borne(
+    alloc: Global,
     row: &Row,
-    before: &[Exchange<'_>],
-    rest: &[Exchange<'_>],
-    line: &[u8],
-    damage: Damage,
-    wanted: Wanted,
+    terminals: &mut Terminals,
+    trial: &Trial<'_>,
 ) -> Result<bool, AllocError> {
-    let alloc = rt.alloc();
-    let Some(mut terminals) = Terminals::open(rt, row)? else {
-        return Ok(false);
-    };
-    if !are_answered(alloc, &mut terminals, before)? {
+    if !are_answered(alloc, terminals, trial.before)? {
         return Ok(false);
     }
-    let came = damaged(alloc, line, damage)?;
-    send(alloc, &mut terminals, came.as_slice())?;
-    if !is_each_line_answered(came.as_slice(), &terminals) || !is_as_wanted(wanted, &terminals) {
+    let came = damaged(alloc, trial.line, trial.damage)?;
+    send(alloc, terminals, came.as_slice())?;
+    if !is_each_line_answered(came.as_slice(), terminals)
+        || !is_as_wanted(trial.wanted, terminals)
+    {
         return Ok(false);
     }
-    match wanted {
+    match trial.wanted {
         Wanted::AskedAgain => Ok(
-            are_answered(alloc, &mut terminals, rest)?
-                && are_gaps_counted(row.script(), &terminals),
+            are_answered(alloc, terminals, trial.rest)?
+                && are_gaps_counted(row.script(), terminals),
         ),
         Wanted::WithoutTrailer | Wanted::Anything => Ok(true),
     }
 }
 
-/// Whether the first terminal got one reply, with its carriage return, to each line that came and isn't empty, and its session goes on.
+/// Whether the first terminal got one reply, with its carriage return, to each line that came and isn't
+/// empty, and its session goes on.
 fn is_each_line_answered(came: &[u8], terminals: &Terminals) -> bool {
     let lines = came
         .split(is_return)

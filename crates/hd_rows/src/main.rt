@@ -1,10 +1,11 @@
-//! Plays rows of messages and replies through `replay` and through sessions whose lines are cut into pieces, and lines with damage
-//! through sessions; says of each whether it was answered as it is to be.
+//! Plays rows of messages and replies through `replay` and through sessions whose lines are cut into pieces,
+//! and lines with damage through sessions; says of each whether it was answered as it is to be.
 //!
-//! A row is a script in `data/`: `catalogue FILE` and `now DATE` say what `replay` is given. `> LINE` is a line of its
-//! input; the lines that answer it stand under it: `< LINE` whole, `<~ SESSION PART` some reply of that session with that
-//! part (several of these in a row speak of one reply), `<* SESSION` some reply of that session. `error LINE` says how
-//! `replay` ends where it doesn't end well. `gaps SESSION NUMBER` says how many gaps the session has counted at the end.
+//! A row is a script in `data/`: `catalogue FILE` and `now DATE` say what `replay` is given. `> LINE` is a
+//! line of its input; the lines that answer it stand under it: `< LINE` whole, `<~ SESSION PART` some reply
+//! of that session with that part (several of these in a row speak of one reply), `<* SESSION` some reply of
+//! that session. `error LINE` says how `replay` ends where it doesn't end well. `gaps SESSION NUMBER` says
+//! how many gaps the session has counted at the end.
 #![tactic(auto)]
 
 mod answers;

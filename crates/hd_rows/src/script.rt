@@ -33,7 +33,8 @@ pub(crate) fn input_of<A: Allocator>(alloc: A, script: &[u8]) -> Result<Vec<u8, 
     Ok(input)
 }
 
-/// The session that a line begins with, counted from 0, and what follows it. The line has it as one digit from 1 on, and then a blank.
+/// The session that a line begins with, counted from 0, and what follows it. The line has it as one digit
+/// from 1 on, and then a blank.
 pub(crate) fn of_session(line: &[u8]) -> Option<(usize, &[u8])> {
     match line {
         [digit @ b'1'..=b'9', b' ', rest @ ..] => Some((usize::from(*digit - b'1'), rest)),

@@ -1,8 +1,7 @@
 //! Terminals at one journal.
 ghost use Rattle.std.specs.Prelude.{◌≡◌, ◌+◌, ◌++◌, ◌∷◌, [], IfOk, OnOk, vec_len};
-ghost use Rattle.hd_rules.specs.Facts.{Facts};
-ghost use Rattle.hd_catalogue.specs.Contents.{facts_of};
-ghost use Rattle.hd_session.specs.Scripts.{AreKnown};
+ghost use Rattle.hd_catalogue.specs.Contents.{Contents};
+ghost use Rattle.hd_session.specs.Scripts.{AreKnownTo};
 ghost use Rattle.hd_session.specs.Sessions.{new_session};
 
 use crate::cuts::{Cut, pieces_of};
@@ -11,8 +10,7 @@ use hd_catalogue::Catalogue;
 use hd_date::Stamp18;
 use hd_desk::{Desk, Meter};
 use hd_journal::Journal;
-use hd_session::Session;
-use hd_session::script::run_journal;
+use hd_session::{Session, script};
 use std::alloc::{AllocError, Global};
 use std::sync::Arc;
 
@@ -28,11 +26,12 @@ pub(crate) struct Terminals {
     /// What each session was answered to the last line.
     outs: Vec<Vec<u8>>,
     ghost as_many: { vec_len outs ≡ vec_len sessions },
-    ghost known: { AreKnown (facts_of journal.contents) sessions.items },
+    ghost known: { AreKnownTo journal.contents sessions.items },
 }
 
 impl Terminals {
-    /// The terminals before any line, in the library and at the present of a row. None where that has no such library or present.
+    /// The terminals before any line, in the library and at the present of a row. None where that has no such
+    /// library or present.
     pub(crate) fn open(rt: &HostRuntime, row: &Row) -> Result<Option<Terminals>, AllocError> {
         let alloc = rt.alloc();
         let Ok(catalogue) = Catalogue::read(alloc, row.catalogue()) else {
@@ -64,7 +63,7 @@ impl Terminals {
         for out in self.outs.iter_mut() {
             out.clear();
         }
-        let _ = run_journal(
+        let _ = script::run(
             &mut self.journal,
             &self.now,
             self.sessions.as_mut_slice(),
@@ -101,7 +100,7 @@ impl Terminals {
 /// The sessions before any line.
 fn new_sessions(alloc: Global) -> Result<Vec<Session>, AllocError>
     ensures size { IfOk result (λ sessions. vec_len sessions ≡ 9) }
-    ensures known { (k : Facts) → IfOk result (λ sessions. AreKnown k sessions.items) }
+    ensures known { (k : Contents) → IfOk result (λ sessions. AreKnownTo k sessions.items) }
 {
     let mut sessions = Vec::new(alloc);
     for _ in 0..TERMINALS {

@@ -86,7 +86,8 @@ fn hear_cut_in_two(rt: &HostRuntime, row: &Row) -> io::Result<()> {
     heard_cut_in_two(rt, row)?.print(rt, what.as_str())
 }
 
-/// Plays a row with each of its lines cut in two: at each byte of the longest one, and the others there too or at their ends.
+/// Plays a row with each of its lines cut in two: at each byte of the longest one, and the others there too
+/// or at their ends.
 fn heard_cut_in_two(rt: &HostRuntime, row: &Row) -> Result<Count, AllocError> {
     let mut heard = Count::NONE;
     for at in 0..longest_message(row.script()) {

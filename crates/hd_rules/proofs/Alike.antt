@@ -1,17 +1,21 @@
 -- Values that the test takes for one are one.
 use Rattle.std.proofs.Common.{ℕ, ◌≡◌, refl, ap, Bool, true, false, List, [], ◌∷◌, Option, Some, None}
 use Rattle.std.proofs.lemmas.Bool.{eqb-true}
-use Rattle.hd_rules.specs.Words.{Answer, Action, Cancel, Asked, Hold, HoldKind, Any, One, AtBranch, CopyState, Shelf, OnLoan, OnHoldShelf, InTransit, Value, CopyHas, HoldHas, Refusal, Reply, LentOrRenewed, Returned, Held, Deleted, ItemView, TurnReply}
+use Rattle.hd_rules.specs.Words.{Answer, Action, Cancel, Asked, Hold, HoldKind, Any, One, AtBranch, CopyState, Shelf, OnLoan, OnHoldShelf}
+use Rattle.hd_rules.specs.Words.{InTransit, Value, CopyHas, HoldHas, Refusal, Reply, LentOrRenewed, Returned, Held, Deleted, ItemView}
+use Rattle.hd_rules.specs.Words.{TurnReply}
 use Rattle.hd_rules.specs.declared.replies.Refusal.TheVariants as refusal
 use Rattle.hd_rules.specs.declared.replies.TurnReply.TheVariants.{Done as Accepted, Refused, Cancelled, Item}
 use Rattle.hd_rules.specs.declared.questions.Answer.TheVariants as answers
 use Rattle.hd_rules.specs.declared.commands.Action.TheVariants as action
 use Rattle.hd_rules.specs.declared.commands.Cancel.TheVariants as cancel
 use Rattle.hd_rules.specs.declared.turns.Asked.TheVariants as ask
-use Rattle.hd_rules.specs.Same.{same_bool, same_number, same_option, same_kind, same_hold, same_place, same_value, same_answer, same_action, same_cancel, same_asked, same_line, same_refusal, same_reply, same_item, same_turn_reply}
+use Rattle.hd_rules.specs.Same.{same_bool, same_number, same_option, same_kind, same_hold, same_place, same_value, same_answer, same_action}
+use Rattle.hd_rules.specs.Same.{same_cancel, same_asked, same_line, same_refusal, same_reply, same_item, same_turn_reply}
 use Rattle.hd_rules.proofs.Tests.{and_left, and_right, number_is}
 
-option_is : {A : Type 0} (same : A → A → Bool) → ((x y : A) → same x y ≡ true → x ≡ y) → (o v : Option A) → same_option same o v ≡ true → o ≡ v
+option_is : {A : Type 0} (same : A → A → Bool) → ((x y : A) → same x y ≡ true → x ≡ y) → (o v : Option A) → same_option same o v ≡ true
+    → o ≡ v
 option_is same ok None None is = refl
 option_is same ok (Some x) (Some y) is = ap Some (ok x y is)
 option_is same ok None (Some y) is = cc

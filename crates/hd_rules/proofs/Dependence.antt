@@ -1,7 +1,8 @@
 -- A later command depends on an earlier one exactly where the test says so.
 use Rattle.std.proofs.Common.{◌≡◌, refl, ap, subst, Bool, true, false, cond, ◌⊎◌, inl, inr, List, Option, ◌↔◌}
 use Rattle.std.specs.Prelude.{IsTrue}
-use Rattle.hd_rules.specs.Words.{CopyCell, HoldCell, CopyState, Hold, CopyHas, HoldHas, Question, ValueOf, Choice, Place, Room, Position, OnShelf, Answer, Survivor}
+use Rattle.hd_rules.specs.Words.{CopyCell, HoldCell, CopyState, Hold, CopyHas, HoldHas, Question, ValueOf, Choice, Place, Room, Position}
+use Rattle.hd_rules.specs.Words.{OnShelf, Answer, Survivor}
 use Rattle.hd_rules.specs.declared.questions.Answer.TheVariants as answers
 use Rattle.hd_rules.specs.Facts.{Facts}
 use Rattle.hd_rules.specs.Desk.{Desk}
@@ -39,10 +40,13 @@ told_alike k d e q = (answer_is_told k d e q, told_is_answer k d e q)
 pub otherwise_is : (k : Facts) (d e : Desk) (p : Plan) → answered_otherwise k d e p ≡ true → AnsweredOtherwise k d e p
 otherwise_is k d e (Ask q rest) h = by_test (same_answer (told k d q) (told k e q)) refl h (otherwise_is k d e (rest (answer k d q)))
   where
-    by_test : (b : Bool) → same_answer (told k d q) (told k e q) ≡ b → cond b (answered_otherwise k d e (rest (answer k d q))) true ≡ true → (answered_otherwise k d e (rest (answer k d q)) ≡ true → AnsweredOtherwise k d e (rest (answer k d q))) → AnsweredOtherwise k d e (Ask q rest)
+    by_test : (b : Bool) → same_answer (told k d q) (told k e q) ≡ b → cond b (answered_otherwise k d e (rest (answer k d q))) true ≡ true
+        → (answered_otherwise k d e (rest (answer k d q)) ≡ true → AnsweredOtherwise k d e (rest (answer k d q)))
+        → AnsweredOtherwise k d e (Ask q rest)
     by_test true is h more = inr (more h)
     by_test false is h more = inl (λ same.
-        let one : same_answer (told k d q) (told k e q) ≡ true = subst (λ (a : Answer). same_answer (told k d q) a ≡ true) (told_is_answer k d e q same) (answer_self (told k d q)) in
+        let one : same_answer (told k d q) (told k e q) ≡ true =
+        subst (λ (a : Answer). same_answer (told k d q) a ≡ true) (told_is_answer k d e q same) (answer_self (told k d q)) in
         (let no : ⊥ = cc in no))
 otherwise_is k d e (Refuse r) h = cc
 otherwise_is k d e (Accept done) h = cc
@@ -51,7 +55,9 @@ otherwise_is k d e (Accept done) h = cc
 pub alike_is : (k : Facts) (d e : Desk) (p : Plan) → answered_otherwise k d e p ≡ false → AnsweredAlike k d e p
 alike_is k d e (Ask q rest) h = by_test (same_answer (told k d q) (told k e q)) refl h (alike_is k d e (rest (answer k d q)))
   where
-    by_test : (b : Bool) → same_answer (told k d q) (told k e q) ≡ b → cond b (answered_otherwise k d e (rest (answer k d q))) true ≡ false → (answered_otherwise k d e (rest (answer k d q)) ≡ false → AnsweredAlike k d e (rest (answer k d q))) → AnsweredAlike k d e (Ask q rest)
+    by_test : (b : Bool) → same_answer (told k d q) (told k e q) ≡ b → cond b (answered_otherwise k d e (rest (answer k d q))) true ≡ false
+        → (answered_otherwise k d e (rest (answer k d q)) ≡ false → AnsweredAlike k d e (rest (answer k d q)))
+        → AnsweredAlike k d e (Ask q rest)
     by_test true is h more = (answer_is_told k d e q (answer_is (told k d q) (told k e q) is), more h)
     by_test false is h more = cc
 alike_is k d e (Refuse r) h = tt

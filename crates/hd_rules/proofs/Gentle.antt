@@ -42,7 +42,8 @@ abbrev pub AreGentle : List Change → Type 0
 AreGentle cs = IsSingle cs ⊎ (AreMild cs × OneCopy cs)
 
 -- leaving some out keeps them gentle
-kept_or_not : (P : List Change → Type 0) (keep_it : Change → Bool) (c : Change) (cs : List Change) → P (c ∷ filter keep_it cs) → P (filter keep_it cs) → P (filter keep_it (c ∷ cs))
+kept_or_not : (P : List Change → Type 0) (keep_it : Change → Bool) (c : Change) (cs : List Change) → P (c ∷ filter keep_it cs)
+    → P (filter keep_it cs) → P (filter keep_it (c ∷ cs))
 kept_or_not P keep_it c cs with_it without_it = by_test (keep_it c) refl
   where
     by_test : (b : Bool) → keep_it c ≡ b → P (filter keep_it (c ∷ cs))
@@ -69,7 +70,8 @@ copy_filter : (keep_it : Change → Bool) (cs : List Change) → OneCopy cs → 
 copy_filter keep_it [] h = tt
 copy_filter keep_it (c ∷ cs) h = by_cell c.cell refl h (copy_filter keep_it cs)
   where
-    by_cell : (x : Cell) → c.cell ≡ x → OneCopyFirst x cs (OneCopy cs) → (OneCopy cs → OneCopy (filter keep_it cs)) → OneCopy (filter keep_it (c ∷ cs))
+    by_cell : (x : Cell) → c.cell ≡ x → OneCopyFirst x cs (OneCopy cs) → (OneCopy cs → OneCopy (filter keep_it cs))
+        → OneCopy (filter keep_it (c ∷ cs))
     by_cell (CopyCell n) is holds more =
         let of : AreOfHolds (filter keep_it cs) = holds_filter keep_it cs holds in
         kept_or_not OneCopy keep_it c cs

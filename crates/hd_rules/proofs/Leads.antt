@@ -30,13 +30,15 @@ AllLead k n d (Accept done) = Good k n d done.changes
 pub record Leads (k : Facts) (n : ℕ) (d : Desk) (plan : Plan) : Type 0 where
   pub all : AllLead k n d plan
 
-pub asked : {k : Facts} {n : ℕ} {d : Desk} {q : Question} {rest : AnswerTo q → Plan} → ((a : AnswerTo q) → answer k d q ≡ a → Leads k n d (rest a)) → Leads k n d (Ask q rest)
+pub asked : {k : Facts} {n : ℕ} {d : Desk} {q : Question} {rest : AnswerTo q → Plan}
+    → ((a : AnswerTo q) → answer k d q ≡ a → Leads k n d (rest a)) → Leads k n d (Ask q rest)
 asked {k} {n} {d} {q} h = record { all = (h (answer k d q) refl).all }
 
 pub refused : {k : Facts} {n : ℕ} {d : Desk} {r : Refusal} → Leads k n d (Refuse r)
 refused = record { all = tt }
 
-pub either : (k : Facts) (n : ℕ) (d : Desk) (b : Bool) (x y : Plan) → (b ≡ true → Leads k n d x) → (b ≡ false → Leads k n d y) → Leads k n d (if b then x else y)
+pub either : (k : Facts) (n : ℕ) (d : Desk) (b : Bool) (x y : Plan) → (b ≡ true → Leads k n d x) → (b ≡ false → Leads k n d y)
+    → Leads k n d (if b then x else y)
 either k n d true x y h g = h refl
 either k n d false x y h g = g refl
 
@@ -89,13 +91,17 @@ real_are d (c ∷ cs) proper = by_test (same_value c.old c.new) refl (real_are d
 after_real : (d : Desk) (cs : List Change) → Proper d cs → after (filter is_real cs) d ≡ after cs d
 after_real d [] proper = refl
 after_real d (c ∷ cs) proper =
-    by_test (same_value c.old c.new) refl (after_real d cs proper.3) (after_real (put d c.cell c.new) cs (proper_put d c.cell c.new cs proper.2 proper.3))
+    by_test (same_value c.old c.new) refl (after_real d cs proper.3)
+    (after_real (put d c.cell c.new) cs (proper_put d c.cell c.new cs proper.2 proper.3))
   where
-    by_test : (b : Bool) → same_value c.old c.new ≡ b → after (filter is_real cs) d ≡ after cs d → after (filter is_real cs) (put d c.cell c.new) ≡ after cs (put d c.cell c.new) → after (filter is_real (c ∷ cs)) d ≡ after cs (put d c.cell c.new)
+    by_test : (b : Bool) → same_value c.old c.new ≡ b → after (filter is_real cs) d ≡ after cs d
+        → after (filter is_real cs) (put d c.cell c.new) ≡ after cs (put d c.cell c.new)
+        → after (filter is_real (c ∷ cs)) d ≡ after cs (put d c.cell c.new)
     by_test true is left made = rw is (left ∙ ap (after cs) (sym (put_own d c.cell c.new proper.1 (proper.0 ∙ value_is c.old c.new is))))
     by_test false is left made = rw is made
 
-real_good : (k : Facts) (n : ℕ) (d : Desk) (cs : List Change) → Proper d cs → AreGentle cs → Sound k n (after cs d) → Good k n d (real_changes cs)
+real_good : (k : Facts) (n : ℕ) (d : Desk) (cs : List Change) → Proper d cs → AreGentle cs → Sound k n (after cs d)
+    → Good k n d (real_changes cs)
 unfolding real_changes
 real_good k n d cs proper gentle sound = record {
   are = real_are d cs proper;
@@ -103,11 +109,13 @@ real_good k n d cs proper gentle sound = record {
   sound = subst (λ (e : Desk). Sound k n e) (sym (after_real d cs proper)) sound;
 }
 
-pub accepted : (k : Facts) (n m : ℕ) (d : Desk) (cs : List Change) (r : Reply) → Proper d cs → AreGentle cs → Sound k m (after cs d) → Leads k m d (accept k n cs r)
+pub accepted : (k : Facts) (n m : ℕ) (d : Desk) (cs : List Change) (r : Reply) → Proper d cs → AreGentle cs → Sound k m (after cs d)
+    → Leads k m d (accept k n cs r)
 accepted k n m d cs r proper gentle sound =
     either k m d (nat_lt k.command_limit n) _ _ (λ is. refused) (λ is. record { all = real_good k m d cs proper gentle sound })
 
-pub leads_to : (k : Facts) (n : ℕ) (d : Desk) (plan : Plan) → AllLead k n d plan → (done : Done) → outcome k d plan ≡ Ok done → Good k n d done.changes
+pub leads_to : (k : Facts) (n : ℕ) (d : Desk) (plan : Plan) → AllLead k n d plan → (done : Done) → outcome k d plan ≡ Ok done
+    → Good k n d done.changes
 leads_to k n d (Ask q rest) h done is = leads_to k n d (rest (answer k d q)) h done is
 leads_to k n d (Refuse r) h done is = cc
 leads_to k n d (Accept a) h done is = subst (λ (x : Done). Good k n d x.changes) (done_is a done is) h

@@ -9,7 +9,8 @@ use Rattle.hd_rules.specs.Run.{IsAmong, outcome_of, changed_by, step, run_from, 
 use Rattle.hd_rules.specs.Depends.{AnsweredOtherwise, before, less, Depends, NoneDepends}
 use Rattle.hd_rules.specs.Laws.{IsAcceptedIn}
 use Rattle.hd_rules.proofs.Standing.{AllStand, EndAlike}
-use Rattle.hd_rules.proofs.Splits.{SplitAt, above, among_either, among_left, among_split, before_split, below, less_split, rising_after, rising_first, rising_without}
+use Rattle.hd_rules.proofs.Splits.{SplitAt, above, among_either, among_left, among_split, before_split, below, less_split, rising_after}
+use Rattle.hd_rules.proofs.Splits.{rising_first, rising_without}
 use Rattle.hd_rules.proofs.Walk.{all_stand}
 use Rattle.hd_rules.specs.Sound.{EachBackIsFit}
 use Rattle.hd_rules.proofs.Cancelling.{run_from-append, end_alike}
@@ -20,22 +21,26 @@ use Rattle.hd_rules.proofs.Back.{each_back}
 use Rattle.hd_rules.proofs.Reach.{reachable_sound, reachable_changes, reachable_gentle, differ}
 
 -- what is asked of a split run holds of the run
-pub on_split : (P : List Survivor → Type 0) (c : Survivor) (ss : List Survivor) → IsAmong c ss → ((older newer : List Survivor) → P (older ++ c ∷ newer)) → P ss
+pub on_split : (P : List Survivor → Type 0) (c : Survivor) (ss : List Survivor) → IsAmong c ss
+    → ((older newer : List Survivor) → P (older ++ c ∷ newer)) → P ss
 on_split P c ss among ok = let s : SplitAt c ss = among_split c ss among in subst P (sym s.is) (ok s.older s.newer)
 
 -- more survivors at the end change nothing of those before one of the first
-pub before_more : (ss zs : List Survivor) (s : Survivor) → Rising 1 (ss ++ zs) → IsAmong s ss → before s.number (ss ++ zs) ≡ before s.number ss
+pub before_more : (ss zs : List Survivor) (s : Survivor) → Rising 1 (ss ++ zs) → IsAmong s ss
+    → before s.number (ss ++ zs) ≡ before s.number ss
 before_more ss zs s rising among =
     on_split (λ xs. Rising 1 (xs ++ zs) → before s.number (xs ++ zs) ≡ before s.number xs) s ss among at rising
   where
-    at : (older newer : List Survivor) → Rising 1 ((older ++ s ∷ newer) ++ zs) → before s.number ((older ++ s ∷ newer) ++ zs) ≡ before s.number (older ++ s ∷ newer)
+    at : (older newer : List Survivor) → Rising 1 ((older ++ s ∷ newer) ++ zs)
+        → before s.number ((older ++ s ∷ newer) ++ zs) ≡ before s.number (older ++ s ∷ newer)
     at older newer r =
         let e : (older ++ s ∷ newer) ++ zs ≡ older ++ s ∷ (newer ++ zs) = append_assoc older (s ∷ newer) zs in
         ap (before s.number) e
         ∙ before_split 1 older s (newer ++ zs) (subst (Rising 1) e r)
         ∙ sym (before_split 1 older s newer (rising_first 1 (older ++ s ∷ newer) zs r))
 
-outcome_at : (k : Facts) (older : List Survivor) (c : Survivor) (newer : List Survivor) (done : Done) → Rising 1 (older ++ c ∷ newer) → outcome_of k (run k (before c.number (older ++ c ∷ newer))) c ≡ Ok done → outcome_of k (run k older) c ≡ Ok done
+outcome_at : (k : Facts) (older : List Survivor) (c : Survivor) (newer : List Survivor) (done : Done) → Rising 1 (older ++ c ∷ newer)
+    → outcome_of k (run k (before c.number (older ++ c ∷ newer))) c ≡ Ok done → outcome_of k (run k older) c ≡ Ok done
 outcome_at k older c newer done rising is =
     subst (λ (xs : List Survivor). outcome_of k (run k xs) c ≡ Ok done) (before_split 1 older c newer rising) is
 
@@ -46,19 +51,25 @@ changes_distinct k ss c done h =
     h.rising h.accepted
 
 -- the runs with and without a command on which none depends
-differ_split : (k : Facts) (older : List Survivor) (c : Survivor) (newer : List Survivor) (done : Done) → Rising 1 (older ++ c ∷ newer) → outcome_of k (run k older) c ≡ Ok done → NoneDepends k (older ++ c ∷ newer) c → DifferBy done.changes (run k (older ++ c ∷ newer)) (run k (less c.number (older ++ c ∷ newer)))
+differ_split : (k : Facts) (older : List Survivor) (c : Survivor) (newer : List Survivor) (done : Done) → Rising 1 (older ++ c ∷ newer)
+    → outcome_of k (run k older) c ≡ Ok done → NoneDepends k (older ++ c ∷ newer) c
+    → DifferBy done.changes (run k (older ++ c ∷ newer)) (run k (less c.number (older ++ c ∷ newer)))
 differ_split k older c newer done rising is none =
     subst (λ (xs : List Survivor). DifferBy done.changes (run k (older ++ c ∷ newer)) (run k xs)) (sym (less_split 1 older c newer rising))
     (differ k 1 older newer c done rising is
-    (subst (λ (r : Result Done Refusal). AllStand k (changed_by r (run k older)) (run k older) newer) is (all_stand k 1 older c newer rising none)))
+    (subst (λ (r : Result Done Refusal). AllStand k (changed_by r (run k older)) (run k older) newer) is
+    (all_stand k 1 older c newer rising none)))
 
-differ_without : (k : Facts) (ss : List Survivor) (c : Survivor) (done : Done) → IsAcceptedIn k ss c done → NoneDepends k ss c → DifferBy done.changes (run k ss) (run k (less c.number ss))
+differ_without : (k : Facts) (ss : List Survivor) (c : Survivor) (done : Done) → IsAcceptedIn k ss c done → NoneDepends k ss c
+    → DifferBy done.changes (run k ss) (run k (less c.number ss))
 differ_without k ss c done h =
-    on_split (λ xs. Rising 1 xs → outcome_of k (run k (before c.number xs)) c ≡ Ok done → NoneDepends k xs c → DifferBy done.changes (run k xs) (run k (less c.number xs))) c ss h.among
+    on_split (λ xs. Rising 1 xs → outcome_of k (run k (before c.number xs)) c ≡ Ok done → NoneDepends k xs c
+    → DifferBy done.changes (run k xs) (run k (less c.number xs))) c ss h.among
     (λ older newer rising is none. differ_split k older c newer done rising (outcome_at k older c newer done rising is) none)
     h.rising h.accepted
 
-pub undone_without : (k : Facts) (ss : List Survivor) (c : Survivor) (done : Done) → IsAcceptedIn k ss c done → NoneDepends k ss c → undone done.changes (run k ss) ≡ run k (less c.number ss)
+pub undone_without : (k : Facts) (ss : List Survivor) (c : Survivor) (done : Done) → IsAcceptedIn k ss c done → NoneDepends k ss c
+    → undone done.changes (run k ss) ≡ run k (less c.number ss)
 undone_without k ss c done h none = undone_is (run k ss) (run k (less c.number ss)) done.changes (differ_without k ss c done h none)
 
 changes_gentle : (k : Facts) (ss : List Survivor) (c : Survivor) (done : Done) → IsAcceptedIn k ss c done → AreGentle done.changes
@@ -74,19 +85,24 @@ less_rising ss c among rising =
     (λ older newer r. subst (Rising 1) (sym (less_split 1 older c newer r)) (rising_without 1 older c newer r)) rising
 
 -- taking the changes back leads through fit desks
-pub back_through_fit : (k : Facts) (ss : List Survivor) (c : Survivor) (done : Done) → IsAcceptedIn k ss c done → NoneDepends k ss c → EachBackIsFit k done.changes (run k ss)
+pub back_through_fit : (k : Facts) (ss : List Survivor) (c : Survivor) (done : Done) → IsAcceptedIn k ss c done → NoneDepends k ss c
+    → EachBackIsFit k done.changes (run k ss)
 back_through_fit k ss c done h none =
     each_back k (next_number 1 ss) (next_number 1 (less c.number ss)) (run k ss) (run k (less c.number ss)) done.changes
     (differ_without k ss c done h none) (changes_distinct k ss c done h) (changes_gentle k ss c done h)
     (reachable_sound k 1 ss h.rising) (reachable_sound k 1 (less c.number ss) (less_rising ss c h.among h.rising))
 
 -- a later one that ends alike, at the place where it stands
-ends_at : (k : Facts) (d e : Desk) (xs : List Survivor) (s : Survivor) (ys : List Survivor) → EndAlike k d e (xs ++ s ∷ ys) → outcome_of k (run_from k d xs) s ≡ outcome_of k (run_from k e xs) s
+ends_at : (k : Facts) (d e : Desk) (xs : List Survivor) (s : Survivor) (ys : List Survivor) → EndAlike k d e (xs ++ s ∷ ys)
+    → outcome_of k (run_from k d xs) s ≡ outcome_of k (run_from k e xs) s
 ends_at k d e [] s ys alike = alike.0
 ends_at k d e (x ∷ xs) s ys alike = ends_at k (step k d x) (step k e x) xs s ys alike.1
 
 -- a survivor older than the command
-older_stands : (k : Facts) (xs : List Survivor) (s : Survivor) (ys : List Survivor) (c : Survivor) (newer : List Survivor) → Rising 1 ((xs ++ s ∷ ys) ++ c ∷ newer) → outcome_of k (run k (before s.number ((xs ++ s ∷ ys) ++ newer))) s ≡ outcome_of k (run k (before s.number ((xs ++ s ∷ ys) ++ c ∷ newer))) s
+older_stands : (k : Facts) (xs : List Survivor) (s : Survivor) (ys : List Survivor) (c : Survivor) (newer : List Survivor)
+    → Rising 1 ((xs ++ s ∷ ys) ++ c ∷ newer)
+    → outcome_of k (run k (before s.number ((xs ++ s ∷ ys) ++ newer))) s
+    ≡ outcome_of k (run k (before s.number ((xs ++ s ∷ ys) ++ c ∷ newer))) s
 older_stands k xs s ys c newer rising = ap (λ (zs : List Survivor). outcome_of k (run k zs) s) (left ∙ sym right)
   where
     right : before s.number ((xs ++ s ∷ ys) ++ c ∷ newer) ≡ xs
@@ -100,11 +116,15 @@ older_stands k xs s ys c newer rising = ap (λ (zs : List Survivor). outcome_of 
         ap (before s.number) e ∙ before_split 1 xs s (ys ++ newer) (subst (Rising 1) e (rising_without 1 (xs ++ s ∷ ys) c newer rising))
 
 -- a survivor newer than the command
-newer_stands : (k : Facts) (older : List Survivor) (c : Survivor) (xs : List Survivor) (s : Survivor) (ys : List Survivor) → Rising 1 (older ++ c ∷ (xs ++ s ∷ ys)) → AllStand k (step k (run k older) c) (run k older) (xs ++ s ∷ ys) → outcome_of k (run k (before s.number (older ++ (xs ++ s ∷ ys)))) s ≡ outcome_of k (run k (before s.number (older ++ c ∷ (xs ++ s ∷ ys)))) s
+newer_stands : (k : Facts) (older : List Survivor) (c : Survivor) (xs : List Survivor) (s : Survivor) (ys : List Survivor)
+    → Rising 1 (older ++ c ∷ (xs ++ s ∷ ys)) → AllStand k (step k (run k older) c) (run k older) (xs ++ s ∷ ys)
+    → outcome_of k (run k (before s.number (older ++ (xs ++ s ∷ ys)))) s
+    ≡ outcome_of k (run k (before s.number (older ++ c ∷ (xs ++ s ∷ ys)))) s
 newer_stands k older c xs s ys rising stand =
     ap (λ (zs : List Survivor). outcome_of k (run k zs) s) left
     ∙ ap (λ (d : Desk). outcome_of k d s) (run_from-append k (opening k) older xs)
-    ∙ sym (ends_at k (step k (run k older) c) (run k older) xs s ys (end_alike k (step k (run k older) c) (run k older) (xs ++ s ∷ ys) stand))
+    ∙ sym (ends_at k (step k (run k older) c) (run k older) xs s ys
+    (end_alike k (step k (run k older) c) (run k older) (xs ++ s ∷ ys) stand))
     ∙ ap (λ (d : Desk). outcome_of k d s) (sym (run_from-append k (opening k) older (c ∷ xs)))
     ∙ ap (λ (zs : List Survivor). outcome_of k (run k zs) s) (sym right)
   where
@@ -118,45 +138,67 @@ newer_stands k older c xs s ys rising stand =
         let e : older ++ (xs ++ s ∷ ys) ≡ (older ++ xs) ++ s ∷ ys = sym (append_assoc older xs (s ∷ ys)) in
         ap (before s.number) e ∙ before_split 1 (older ++ xs) s ys (subst (Rising 1) e (rising_without 1 older c (xs ++ s ∷ ys) rising))
 
-stand_split : (k : Facts) (older : List Survivor) (c : Survivor) (newer : List Survivor) → Rising 1 (older ++ c ∷ newer) → AllStand k (step k (run k older) c) (run k older) newer → (s : Survivor) → IsAmong s (older ++ newer) → outcome_of k (run k (before s.number (older ++ newer))) s ≡ outcome_of k (run k (before s.number (older ++ c ∷ newer))) s
+stand_split : (k : Facts) (older : List Survivor) (c : Survivor) (newer : List Survivor) → Rising 1 (older ++ c ∷ newer)
+    → AllStand k (step k (run k older) c) (run k older) newer → (s : Survivor) → IsAmong s (older ++ newer)
+    → outcome_of k (run k (before s.number (older ++ newer))) s ≡ outcome_of k (run k (before s.number (older ++ c ∷ newer))) s
 stand_split k older c newer rising stand s h = cases (among_either s older newer h)
   where
-    cases : IsAmong s older ⊎ IsAmong s newer → outcome_of k (run k (before s.number (older ++ newer))) s ≡ outcome_of k (run k (before s.number (older ++ c ∷ newer))) s
+    cases : IsAmong s older ⊎ IsAmong s newer
+        → outcome_of k (run k (before s.number (older ++ newer))) s ≡ outcome_of k (run k (before s.number (older ++ c ∷ newer))) s
     cases (inl left) =
-        on_split (λ xs. Rising 1 (xs ++ c ∷ newer) → outcome_of k (run k (before s.number (xs ++ newer))) s ≡ outcome_of k (run k (before s.number (xs ++ c ∷ newer))) s) s older left
+        on_split (λ xs. Rising 1 (xs ++ c ∷ newer)
+        → outcome_of k (run k (before s.number (xs ++ newer))) s ≡ outcome_of k (run k (before s.number (xs ++ c ∷ newer))) s) s older
+        left
         (λ xs ys r. older_stands k xs s ys c newer r) rising
     cases (inr right) =
-        on_split (λ xs. Rising 1 (older ++ c ∷ xs) → AllStand k (step k (run k older) c) (run k older) xs → outcome_of k (run k (before s.number (older ++ xs))) s ≡ outcome_of k (run k (before s.number (older ++ c ∷ xs))) s) s newer right
+        on_split (λ xs. Rising 1 (older ++ c ∷ xs) → AllStand k (step k (run k older) c) (run k older) xs
+        → outcome_of k (run k (before s.number (older ++ xs))) s ≡ outcome_of k (run k (before s.number (older ++ c ∷ xs))) s) s newer
+        right
         (λ xs ys r st. newer_stands k older c xs s ys r st) rising stand
 
 -- without a command on which none depends, each survivor ends as it did
-pub outcomes_stand : (k : Facts) (ss : List Survivor) (c : Survivor) → Rising 1 ss → IsAmong c ss → NoneDepends k ss c → (s : Survivor) → IsAmong s (less c.number ss) → outcome_of k (run k (before s.number (less c.number ss))) s ≡ outcome_of k (run k (before s.number ss)) s
+pub outcomes_stand : (k : Facts) (ss : List Survivor) (c : Survivor) → Rising 1 ss → IsAmong c ss → NoneDepends k ss c → (s : Survivor)
+    → IsAmong s (less c.number ss)
+    → outcome_of k (run k (before s.number (less c.number ss))) s ≡ outcome_of k (run k (before s.number ss)) s
 outcomes_stand k ss c rising among none s h =
-    on_split (λ xs. Rising 1 xs → NoneDepends k xs c → IsAmong s (less c.number xs) → outcome_of k (run k (before s.number (less c.number xs))) s ≡ outcome_of k (run k (before s.number xs)) s) c ss among
+    on_split (λ xs. Rising 1 xs → NoneDepends k xs c → IsAmong s (less c.number xs)
+    → outcome_of k (run k (before s.number (less c.number xs))) s ≡ outcome_of k (run k (before s.number xs)) s) c ss among
     (λ older newer r no_one. split older newer r no_one) rising none h
   where
-    split : (older newer : List Survivor) → Rising 1 (older ++ c ∷ newer) → NoneDepends k (older ++ c ∷ newer) c → IsAmong s (less c.number (older ++ c ∷ newer)) → outcome_of k (run k (before s.number (less c.number (older ++ c ∷ newer)))) s ≡ outcome_of k (run k (before s.number (older ++ c ∷ newer))) s
+    split : (older newer : List Survivor) → Rising 1 (older ++ c ∷ newer) → NoneDepends k (older ++ c ∷ newer) c
+        → IsAmong s (less c.number (older ++ c ∷ newer))
+        → outcome_of k (run k (before s.number (less c.number (older ++ c ∷ newer)))) s
+        ≡ outcome_of k (run k (before s.number (older ++ c ∷ newer))) s
     split older newer r no_one =
         let e : less c.number (older ++ c ∷ newer) ≡ older ++ newer = less_split 1 older c newer r in
-        subst (λ (xs : List Survivor). IsAmong s xs → outcome_of k (run k (before s.number xs)) s ≡ outcome_of k (run k (before s.number (older ++ c ∷ newer))) s) (sym e)
+        subst (λ (xs : List Survivor). IsAmong s xs
+        → outcome_of k (run k (before s.number xs)) s ≡ outcome_of k (run k (before s.number (older ++ c ∷ newer))) s) (sym e)
         (stand_split k older c newer r (all_stand k 1 older c newer r no_one) s)
 
 -- what depends among the first ones depends among all
-depends_before : (k : Facts) (xs : List Survivor) (d : Survivor) (ys : List Survivor) (c x : Survivor) → Rising 1 (xs ++ d ∷ ys) → IsAmong x xs → Depends k xs c x → Depends k (xs ++ d ∷ ys) c x
+depends_before : (k : Facts) (xs : List Survivor) (d : Survivor) (ys : List Survivor) (c x : Survivor) → Rising 1 (xs ++ d ∷ ys)
+    → IsAmong x xs → Depends k xs c x → Depends k (xs ++ d ∷ ys) c x
 depends_before k xs d ys c x rising among dep =
-    subst (λ (zs : List Survivor). AnsweredOtherwise k (run k zs) (run k (less c.number zs)) (plan k x.number x.command)) (sym (before_more xs (d ∷ ys) x rising among)) dep
+    subst (λ (zs : List Survivor). AnsweredOtherwise k (run k zs) (run k (less c.number zs)) (plan k x.number x.command))
+    (sym (before_more xs (d ∷ ys) x rising among)) dep
 
-differ_at : (k : Facts) (xs : List Survivor) (d : Survivor) (ys : List Survivor) (c : Survivor) (done : Done) → IsAcceptedIn k (xs ++ d ∷ ys) c done → c.number < d.number → ((x : Survivor) → IsAmong x (xs ++ d ∷ ys) → c.number < x.number → x.number < d.number → Depends k (xs ++ d ∷ ys) c x → ⊥) → DifferBy done.changes (run k (before d.number (xs ++ d ∷ ys))) (run k (less c.number (before d.number (xs ++ d ∷ ys))))
+differ_at : (k : Facts) (xs : List Survivor) (d : Survivor) (ys : List Survivor) (c : Survivor) (done : Done)
+    → IsAcceptedIn k (xs ++ d ∷ ys) c done → c.number < d.number
+    → ((x : Survivor) → IsAmong x (xs ++ d ∷ ys) → c.number < x.number → x.number < d.number → Depends k (xs ++ d ∷ ys) c x → ⊥)
+    → DifferBy done.changes (run k (before d.number (xs ++ d ∷ ys))) (run k (less c.number (before d.number (xs ++ d ∷ ys))))
 differ_at k xs d ys c done h lt none =
     subst (λ (zs : List Survivor). DifferBy done.changes (run k zs) (run k (less c.number zs))) (sym (before_split 1 xs d ys h.rising))
-    (differ_without k xs c done accepted (λ x among later dep. none x (among_left x xs (d ∷ ys) among) later (below 1 xs d ys x h.rising among) (depends_before k xs d ys c x h.rising among dep)))
+    (differ_without k xs c done accepted
+    (λ x among later dep.
+    none x (among_left x xs (d ∷ ys) among) later (below 1 xs d ys x h.rising among) (depends_before k xs d ys c x h.rising among dep)))
   where
     among : IsAmong c xs
     among = cases (among_either c xs (d ∷ ys) h.among)
       where
         cases : IsAmong c xs ⊎ IsAmong c (d ∷ ys) → IsAmong c xs
         cases (inl left) = left
-        cases (inr right) = let up : d.number ≤ c.number = above d.number c (d ∷ ys) ((let le : d.number ≤ d.number = omega arith in le), rising_after 1 xs d ys h.rising) right in
+        cases (inr right) = let up : d.number ≤ c.number =
+            above d.number c (d ∷ ys) ((let le : d.number ≤ d.number = omega arith in le), rising_after 1 xs d ys h.rising) right in
             absurd (let no_ : ⊥ = omega arith in no_)
 
     accepted : IsAcceptedIn k xs c done
@@ -167,7 +209,12 @@ differ_at k xs d ys c done h lt none =
     }
 
 -- before each later survivor, where none in between depends, the desks with and without the command differ by its changes
-pub earlier_desks_differ : (k : Facts) (ss : List Survivor) (c : Survivor) (done : Done) (d : Survivor) → IsAcceptedIn k ss c done → IsAmong d ss → c.number < d.number → ((x : Survivor) → IsAmong x ss → c.number < x.number → x.number < d.number → Depends k ss c x → ⊥) → DifferBy done.changes (run k (before d.number ss)) (run k (less c.number (before d.number ss)))
+pub earlier_desks_differ : (k : Facts) (ss : List Survivor) (c : Survivor) (done : Done) (d : Survivor) → IsAcceptedIn k ss c done
+    → IsAmong d ss → c.number < d.number
+    → ((x : Survivor) → IsAmong x ss → c.number < x.number → x.number < d.number → Depends k ss c x → ⊥)
+    → DifferBy done.changes (run k (before d.number ss)) (run k (less c.number (before d.number ss)))
 earlier_desks_differ k ss c done d h among =
-    on_split (λ zs. IsAcceptedIn k zs c done → c.number < d.number → ((x : Survivor) → IsAmong x zs → c.number < x.number → x.number < d.number → Depends k zs c x → ⊥) → DifferBy done.changes (run k (before d.number zs)) (run k (less c.number (before d.number zs)))) d ss among
+    on_split (λ zs. IsAcceptedIn k zs c done → c.number < d.number
+    → ((x : Survivor) → IsAmong x zs → c.number < x.number → x.number < d.number → Depends k zs c x → ⊥)
+    → DifferBy done.changes (run k (before d.number zs)) (run k (less c.number (before d.number zs)))) d ss among
     (λ older newer. differ_at k older d newer c done) h

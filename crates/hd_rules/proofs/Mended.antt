@@ -1,5 +1,6 @@
 -- In the run without a command on which none depends, each record is the same but for what is noted.
-use Rattle.std.proofs.Common.{arith, ◌≡◌, refl, sym, ◌∙◌, ap, subst, ℕ, ◌<◌, ◌≤◌, ◌⊎◌, inl, inr, Bool, true, false, not, ◌==◌, List, [], ◌∷◌}
+use Rattle.std.proofs.Common.{arith, ◌≡◌, refl, sym, ◌∙◌, ap, subst, ℕ, ◌<◌, ◌≤◌, ◌⊎◌, inl, inr, Bool, true, false, not, ◌==◌, List, []}
+use Rattle.std.proofs.Common.{◌∷◌}
 use Rattle.std.specs.Prelude.{nat_lt, filter}
 use Rattle.std.proofs.lemmas.Bool.{ltb-true, ltb-false}
 use Rattle.hd_rules.specs.Words.{Survivor, Question, Finding}
@@ -21,7 +22,8 @@ among_filter : (test : Survivor → Bool) (x : Survivor) (ss : List Survivor) �
 among_filter test x [] h = absurd h
 among_filter test x (s ∷ ss) h = by_test (test s) refl (among_filter test x ss)
   where
-    here : test s ≡ true → IsAmong x (s ∷ filter test ss) → (IsAmong x (filter test ss) → IsAmong x ss × (test x ≡ true)) → IsAmong x (s ∷ ss) × (test x ≡ true)
+    here : test s ≡ true → IsAmong x (s ∷ filter test ss) → (IsAmong x (filter test ss) → IsAmong x ss × (test x ≡ true))
+        → IsAmong x (s ∷ ss) × (test x ≡ true)
     here is (inl e) more = (inl e, ap test e ∙ is)
     here is (inr later) more = let r : IsAmong x ss × (test x ≡ true) = more later in (inr r.0, r.1)
 
@@ -44,18 +46,27 @@ noted_same k d e (q ∷ qs) = ap (λ (fs : List Finding). findings_first k e q f
     findings_first k e q fs = record { question = q; noted = note k e q } ∷ fs
 
 -- a survivor asks the same in the run without the command
-asks_stand : (k : Facts) (ss : List Survivor) (c s : Survivor) → NoneDepends k ss c → IsAmong s ss → (s.number ≡ c.number → ⊥) → asks k (run k (before s.number ss)) (plan k s.number s.command) ≡ asks k (run k (before s.number (less c.number ss))) (plan k s.number s.command)
-asks_stand k ss c s none among other = by_order (nat_lt c.number s.number) refl ∙ ap (λ (xs : List Survivor). asks k (run k xs) (plan k s.number s.command)) (less_before c.number s.number ss)
+asks_stand : (k : Facts) (ss : List Survivor) (c s : Survivor) → NoneDepends k ss c → IsAmong s ss → (s.number ≡ c.number → ⊥)
+    → asks k (run k (before s.number ss)) (plan k s.number s.command)
+    ≡ asks k (run k (before s.number (less c.number ss))) (plan k s.number s.command)
+asks_stand k ss c s none among other =
+    by_order (nat_lt c.number s.number) refl
+    ∙ ap (λ (xs : List Survivor). asks k (run k xs) (plan k s.number s.command)) (less_before c.number s.number ss)
   where
     those : List Survivor
     those = before s.number ss
 
-    stands : AnsweredOtherwise k (run k those) (run k (less c.number those)) (plan k s.number s.command) ⊎ AnsweredAlike k (run k those) (run k (less c.number those)) (plan k s.number s.command) → c.number < s.number → asks k (run k those) (plan k s.number s.command) ≡ asks k (run k (less c.number those)) (plan k s.number s.command)
+    stands : AnsweredOtherwise k (run k those) (run k (less c.number those)) (plan k s.number s.command)
+        ⊎ AnsweredAlike k (run k those) (run k (less c.number those)) (plan k s.number s.command) → c.number < s.number
+        → asks k (run k those) (plan k s.number s.command) ≡ asks k (run k (less c.number those)) (plan k s.number s.command)
     stands (inl dep) lt = absurd (none s among lt dep)
     stands (inr alike) lt = same_asks k (run k those) (run k (less c.number those)) (plan k s.number s.command) alike
 
-    by_order : (b : Bool) → nat_lt c.number s.number ≡ b → asks k (run k those) (plan k s.number s.command) ≡ asks k (run k (less c.number those)) (plan k s.number s.command)
-    by_order true is = stands (otherwise_or_alike k (run k those) (run k (less c.number those)) (plan k s.number s.command)) (ltb-true c.number s.number is)
+    by_order : (b : Bool) → nat_lt c.number s.number ≡ b
+        → asks k (run k those) (plan k s.number s.command) ≡ asks k (run k (less c.number those)) (plan k s.number s.command)
+    by_order true is =
+        stands (otherwise_or_alike k (run k those) (run k (less c.number those)) (plan k s.number s.command))
+        (ltb-true c.number s.number is)
     by_order false is =
         ap (λ (xs : List Survivor). asks k (run k xs) (plan k s.number s.command)) (sym (less_none c.number those (λ x h same.
         let low : x.number < s.number = ltb-true x.number s.number (among_filter (λ (y : Survivor). nat_lt y.number s.number) x ss h).1 in
@@ -69,12 +80,15 @@ other_of m n is e = by_test (m == n) refl is
     by_test true same is = cc
     by_test false same is = number_not m n same e
 
-pub records_stand : (k : Facts) (ss : List Survivor) (c : Survivor) → Rising 1 ss → IsAmong c ss → NoneDepends k ss c → (s : Survivor) (r : Record) → IsAmong s (less c.number ss) → IsRecord k ss s r → IsRecord k (less c.number ss) s (mended k (run k (before s.number (less c.number ss))) r)
+pub records_stand : (k : Facts) (ss : List Survivor) (c : Survivor) → Rising 1 ss → IsAmong c ss → NoneDepends k ss c
+    → (s : Survivor) (r : Record) → IsAmong s (less c.number ss) → IsRecord k ss s r
+    → IsRecord k (less c.number ss) s (mended k (run k (before s.number (less c.number ss))) r)
 records_stand k ss c rising in_c none s r among is =
     let d : Desk = run k (before s.number ss) in
     let e : Desk = run k (before s.number (less c.number ss)) in
     let p : Plan = plan k s.number s.command in
-    let both : IsAmong s ss × (not (s.number == c.number) ≡ true) = among_filter (λ (x : Survivor). not (x.number == c.number)) s ss among in
+    let both : IsAmong s ss × (not (s.number == c.number) ≡ true) =
+    among_filter (λ (x : Survivor). not (x.number == c.number)) s ss among in
     record {
       number = is.number;
       terminal = is.terminal;

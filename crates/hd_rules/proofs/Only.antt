@@ -28,13 +28,15 @@ place_is_only k d b f = (
 )
 
 -- of two holds neither of which precedes the other, the stamps are one
-level : (x y : Bool) (m n : ℕ) → cond x (cond y (nat_lt m n) true) (cond y false (nat_lt m n)) ≡ false → cond y (cond x (nat_lt n m) true) (cond x false (nat_lt n m)) ≡ false → m ≡ n
+level : (x y : Bool) (m n : ℕ) → cond x (cond y (nat_lt m n) true) (cond y false (nat_lt m n)) ≡ false
+    → cond y (cond x (nat_lt n m) true) (cond x false (nat_lt n m)) ≡ false → m ≡ n
 level true true m n h g = let a : n ≤ m = ltb-false m n h in let b : m ≤ n = ltb-false n m g in omega arith
 level false false m n h g = let a : n ≤ m = ltb-false m n h in let b : m ≤ n = ltb-false n m g in omega arith
 level true false m n h g = cc
 level false true m n h g = cc
 
-first_is_only : (k : Facts) (d : Desk) (c b day : ℕ) (o v : Option Hold) → IsFit k d → FirstCandidate k d c b day o → FirstCandidate k d c b day v → o ≡ v
+first_is_only : (k : Facts) (d : Desk) (c b day : ℕ) (o v : Option Hold) → IsFit k d → FirstCandidate k d c b day o
+    → FirstCandidate k d c b day v → o ≡ v
 first_is_only k d c b day None None fit one other = refl
 first_is_only k d c b day None (Some h) fit one other =
     let e : None ≡ Some h = sym (one other.0.0 other.0.1) ∙ other.0.2 in cc
@@ -42,14 +44,17 @@ first_is_only k d c b day (Some g) None fit one other =
     let e : None ≡ Some g = sym (other one.0.0 one.0.1) ∙ one.0.2 in cc
 first_is_only k d c b day (Some g) (Some h) fit one other =
     let its : (d.hold (k.title_of c) one.0.0 ≡ Some g) × (g.copy ≡ None) = candidate_is k c day (d.hold (k.title_of c) one.0.0) g one.0.2 in
-    let that : (d.hold (k.title_of c) other.0.0 ≡ Some h) × (h.copy ≡ None) = candidate_is k c day (d.hold (k.title_of c) other.0.0) h other.0.2 in
+    let that : (d.hold (k.title_of c) other.0.0 ≡ Some h) × (h.copy ≡ None) =
+    candidate_is k c day (d.hold (k.title_of c) other.0.0) h other.0.2 in
     let not_before : precedes (k.priority (k.title_of c)) b g h ≡ false = other.1 one.0.0 g one.0.1 one.0.2 in
     let not_after : precedes (k.priority (k.title_of c)) b h g ≡ false = one.1 other.0.0 h other.0.1 other.0.2 in
-    let stamps : g.stamp ≡ h.stamp = level (is_local (k.priority (k.title_of c)) b g) (is_local (k.priority (k.title_of c)) b h) g.stamp h.stamp not_before not_after in
+    let stamps : g.stamp ≡ h.stamp =
+    level (is_local (k.priority (k.title_of c)) b g) (is_local (k.priority (k.title_of c)) b h) g.stamp h.stamp not_before not_after in
     let same : one.0.0 ≡ other.0.0 = fit.stamps (k.title_of c) one.0.0 other.0.0 g h its.0 that.0 stamps in
     sym its.0 ∙ ap (λ (p : ℕ). d.hold (k.title_of c) p) same ∙ that.0
 
-pub choice_is_only : (k : Facts) (d : Desk) (c b day : ℕ) (o : Option Hold) → IsFit k d → FirstCandidate k d c b day o ↔ (o ≡ choice k d c b day)
+pub choice_is_only : (k : Facts) (d : Desk) (c b day : ℕ) (o : Option Hold) → IsFit k d
+    → FirstCandidate k d c b day o ↔ (o ≡ choice k d c b day)
 choice_is_only k d c b day o fit = (
   (λ first. first_is_only k d c b day o (choice k d c b day) fit first (choice_is_first k d c b day)),
   (λ e. subst (FirstCandidate k d c b day) (sym e) (choice_is_first k d c b day)),

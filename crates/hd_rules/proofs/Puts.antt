@@ -17,7 +17,8 @@ copy_cases P c x s v here there = by_test (c == x) refl
     by_test false is = there is
 
 -- what the hold of t and p, or another, is after that one becomes o
-pub hold_cases : (P : Option Hold → Type 0) (t u : ℕ) (p q : ℕ) (o v : Option Hold) → (t ≡ u → p ≡ q → P o) → (((t == u) && (p == q)) ≡ false → P v) → P (cond ((t == u) && (p == q)) o v)
+pub hold_cases : (P : Option Hold → Type 0) (t u : ℕ) (p q : ℕ) (o v : Option Hold) → (t ≡ u → p ≡ q → P o)
+    → (((t == u) && (p == q)) ≡ false → P v) → P (cond ((t == u) && (p == q)) o v)
 hold_cases P t u p q o v here there = by_test ((t == u) && (p == q)) refl
   where
     by_test : (b : Bool) → ((t == u) && (p == q)) ≡ b → P (cond b o v)

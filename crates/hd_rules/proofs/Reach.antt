@@ -28,11 +28,13 @@ plan_leads k n d day (action.OffLine p c due) sound = asked (λ old told. asked 
 plan_leads k n d day (action.Checkin c b) sound = checkin_leads k n d c b day sound
 plan_leads k n d day (action.Add p t kind pickup expiry) sound = asked (λ old told. add_leads k n d _ t day old sound told refl refl)
 plan_leads k n d day (action.Delete p t) sound = asked (λ old told. delete_leads k n d t p day old sound told)
-plan_leads k n d day (action.ChangeHold p t kind pickup expiry) sound = asked (λ old told. change_leads k n d t p kind pickup expiry day old sound told)
+plan_leads k n d day (action.ChangeHold p t kind pickup expiry) sound =
+    asked (λ old told. change_leads k n d t p kind pickup expiry day old sound told)
 plan_leads k n d day (action.Renew p c) sound = asked (λ old told. renew_leads k n d p c day old sound told)
 
 -- an accepted command at a sound desk makes right changes, and leads to a sound desk
-pub good : (k : Facts) (d : Desk) (s : Survivor) → Sound k s.number d → (done : Done) → outcome_of k d s ≡ Ok done → Good k (s.number + 1) d done.changes
+pub good : (k : Facts) (d : Desk) (s : Survivor) → Sound k s.number d → (done : Done) → outcome_of k d s ≡ Ok done
+    → Good k (s.number + 1) d done.changes
 good k d s sound done is =
     leads_to k (s.number + 1) d (plan k s.number s.command) (plan_leads k s.number d s.command.day s.command.action sound).all done is
 
@@ -62,31 +64,39 @@ opening_sound k n = record {
 pub reachable_sound : (k : Facts) (n : ℕ) (ss : List Survivor) → Rising n ss → Sound k (next_number n ss) (run k ss)
 reachable_sound k n ss rising = run_sound k n (opening k) ss (opening_sound k n) rising
 
-rising_before : (n : ℕ) (before : List Survivor) (c : Survivor) (later : List Survivor) → Rising n (before ++ c ∷ later) → Rising n before × (next_number n before ≤ c.number)
+rising_before : (n : ℕ) (before : List Survivor) (c : Survivor) (later : List Survivor) → Rising n (before ++ c ∷ later)
+    → Rising n before × (next_number n before ≤ c.number)
 rising_before n [] c later rising = (tt, rising.0)
 rising_before n (s ∷ ss) c later rising =
     let rest : Rising (s.number + 1) ss × (next_number (s.number + 1) ss ≤ c.number) = rising_before (s.number + 1) ss c later rising.1 in
     ((rising.0, rest.0), rest.1)
 
-sound_before : (k : Facts) (n : ℕ) (before : List Survivor) (c : Survivor) (later : List Survivor) → Rising n (before ++ c ∷ later) → Sound k c.number (run k before)
+sound_before : (k : Facts) (n : ℕ) (before : List Survivor) (c : Survivor) (later : List Survivor) → Rising n (before ++ c ∷ later)
+    → Sound k c.number (run k before)
 sound_before k n before c later rising =
     let r : Rising n before × (next_number n before ≤ c.number) = rising_before n before c later rising in
     later_sound k (next_number n before) c.number (run k before) r.1 (reachable_sound k n before r.0)
 
 -- the changes of a command accepted in a legal run are of distinct cells, each to another value
-pub reachable_changes : (k : Facts) (n : ℕ) (before later : List Survivor) (c : Survivor) (done : Done) → Rising n (before ++ c ∷ later) → outcome_of k (run k before) c ≡ Ok done → AreChanges done.changes
+pub reachable_changes : (k : Facts) (n : ℕ) (before later : List Survivor) (c : Survivor) (done : Done) → Rising n (before ++ c ∷ later)
+    → outcome_of k (run k before) c ≡ Ok done → AreChanges done.changes
 reachable_changes k n before later c done rising is = (good k (run k before) c (sound_before k n before c later rising) done is).are
 
 -- the runs with and without a command on which nothing later depends
-pub differ : (k : Facts) (n : ℕ) (before later : List Survivor) (c : Survivor) (done : Done) → Rising n (before ++ c ∷ later) → outcome_of k (run k before) c ≡ Ok done → AllStand k (after done.changes (run k before)) (run k before) later → DifferBy done.changes (run k (before ++ c ∷ later)) (run k (before ++ later))
+pub differ : (k : Facts) (n : ℕ) (before later : List Survivor) (c : Survivor) (done : Done) → Rising n (before ++ c ∷ later)
+    → outcome_of k (run k before) c ≡ Ok done → AllStand k (after done.changes (run k before)) (run k before) later
+    → DifferBy done.changes (run k (before ++ c ∷ later)) (run k (before ++ later))
 differ k n before later c done rising is stand =
     runs_differ k before later c done is (reachable_changes k n before later c done rising is) stand
 
 -- accepted, and then cancelled at once
-pub cancelled_at_once : (k : Facts) (n : ℕ) (before : List Survivor) (c : Survivor) (done : Done) → Rising n (before ++ c ∷ []) → outcome_of k (run k before) c ≡ Ok done → undone done.changes (run k (before ++ c ∷ [])) ≡ run k before
+pub cancelled_at_once : (k : Facts) (n : ℕ) (before : List Survivor) (c : Survivor) (done : Done) → Rising n (before ++ c ∷ [])
+    → outcome_of k (run k before) c ≡ Ok done → undone done.changes (run k (before ++ c ∷ [])) ≡ run k before
 cancelled_at_once k n before c done rising is =
-    undone_is (run k (before ++ c ∷ [])) (run k (before ++ [])) done.changes (differ k n before [] c done rising is tt) ∙ ap (run k) (append-nil before)
+    undone_is (run k (before ++ c ∷ [])) (run k (before ++ [])) done.changes (differ k n before [] c done rising is tt)
+    ∙ ap (run k) (append-nil before)
 
 -- its changes are gentle
-pub reachable_gentle : (k : Facts) (n : ℕ) (before later : List Survivor) (c : Survivor) (done : Done) → Rising n (before ++ c ∷ later) → outcome_of k (run k before) c ≡ Ok done → AreGentle done.changes
+pub reachable_gentle : (k : Facts) (n : ℕ) (before later : List Survivor) (c : Survivor) (done : Done) → Rising n (before ++ c ∷ later)
+    → outcome_of k (run k before) c ≡ Ok done → AreGentle done.changes
 reachable_gentle k n before later c done rising is = (good k (run k before) c (sound_before k n before c later rising) done is).gentle

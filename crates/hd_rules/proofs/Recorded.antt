@@ -38,7 +38,8 @@ one_record k d s a b h g =
       changes = (done i).changes;
     }
 
-pub each_has_one : (k : Facts) (turns : List Turn) → IsLegal k turns → (s : Survivor) → IsAmong s (state_after k turns).survivors → IsKeptOf k turns (state_after k turns).survivors s
+pub each_has_one : (k : Facts) (turns : List Turn) → IsLegal k turns → (s : Survivor) → IsAmong s (state_after k turns).survivors
+    → IsKeptOf k turns (state_after k turns).survivors s
 each_has_one k turns legal s among =
     let ss : List Survivor = (state_after k turns).survivors in
     let r : (done : Done) × (outcome_of k (run k (before s.number ss)) s ≡ Ok done) × WasTold turns s done.reply =
@@ -54,5 +55,12 @@ each_has_one k turns legal s among =
       };
       is_record = record { number = refl; terminal = refl; command = refl; done = r.1; findings = refl };
       told = r.2;
-      only = λ other is. one_record k (run k (before s.number ss)) s other _ is (record { number = refl; terminal = refl; command = refl; done = r.1; findings = refl });
+      only = λ other is.
+          one_record k (run k (before s.number ss)) s other _ is (record {
+            number = refl;
+            terminal = refl;
+            command = refl;
+            done = r.1;
+            findings = refl;
+          });
     }

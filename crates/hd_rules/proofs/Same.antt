@@ -1,13 +1,15 @@
 -- A value is the same as itself.
 use Rattle.std.proofs.Common.{◌≡◌, ◌≢◌, refl, sym, ◌∙◌, ap, ℕ, Bool, true, false, List, [], ◌∷◌, Option, Some, None}
-use Rattle.hd_rules.specs.Words.{Answer, Action, Cancel, Asked, Hold, HoldKind, Any, One, AtBranch, CopyState, Shelf, OnLoan, OnHoldShelf, InTransit, Value, CopyHas, HoldHas, Refusal, Reply, LentOrRenewed, Returned, Held, Deleted, TurnReply}
+use Rattle.hd_rules.specs.Words.{Answer, Action, Cancel, Asked, Hold, HoldKind, Any, One, AtBranch, CopyState, Shelf, OnLoan, OnHoldShelf}
+use Rattle.hd_rules.specs.Words.{InTransit, Value, CopyHas, HoldHas, Refusal, Reply, LentOrRenewed, Returned, Held, Deleted, TurnReply}
 use Rattle.hd_rules.specs.declared.replies.Refusal.TheVariants as refusal
 use Rattle.hd_rules.specs.declared.replies.TurnReply.TheVariants.{Done as Accepted, Refused, Cancelled, Item}
 use Rattle.hd_rules.specs.declared.questions.Answer.TheVariants as answers
 use Rattle.hd_rules.specs.declared.commands.Action.TheVariants as action
 use Rattle.hd_rules.specs.declared.commands.Cancel.TheVariants as cancel
 use Rattle.hd_rules.specs.declared.turns.Asked.TheVariants as ask
-use Rattle.hd_rules.specs.Same.{same_bool, same_number, same_option, same_kind, same_hold, same_place, same_value, same_answer, same_action, same_cancel, same_asked, same_line, same_refusal, same_reply, same_turn_reply}
+use Rattle.hd_rules.specs.Same.{same_bool, same_number, same_option, same_kind, same_hold, same_place, same_value, same_answer, same_action}
+use Rattle.hd_rules.specs.Same.{same_cancel, same_asked, same_line, same_refusal, same_reply, same_turn_reply}
 use Rattle.hd_rules.proofs.Tests.{both_true, number_self}
 
 option_self : {A : Type 0} (same : A → A → Bool) → ((x : A) → same x x ≡ true) → (o : Option A) → same_option same o o ≡ true
@@ -20,14 +22,17 @@ kind_self (One c) = number_self c
 kind_self AtBranch = refl
 
 hold_self : (h : Hold) → same_hold h h ≡ true
-hold_self h = both_true _ _ (number_self h.patron) (both_true _ _ (number_self h.stamp) (both_true _ _ (kind_self h.kind) (both_true _ _ (number_self h.pickup)
+hold_self h =
+    both_true _ _ (number_self h.patron)
+    (both_true _ _ (number_self h.stamp) (both_true _ _ (kind_self h.kind) (both_true _ _ (number_self h.pickup)
     (both_true _ _ (option_self _ (λ d. number_self d) h.expiry) (option_self _ (λ c. number_self c) h.copy)))))
 
 place_self : (s : CopyState) → same_place s s ≡ true
 place_self (Shelf b) = number_self b
 place_self (OnLoan l) = both_true _ _ (number_self l.patron) (both_true _ _ (number_self l.due) (number_self l.renewals))
 place_self (OnHoldShelf s) = both_true _ _ (number_self s.branch) (both_true _ _ (number_self s.place) (number_self s.patron))
-place_self (InTransit t) = both_true _ _ (number_self t.from) (both_true _ _ (number_self t.to) (option_self _ (λ p. number_self p) t.patron))
+place_self (InTransit t) =
+    both_true _ _ (number_self t.from) (both_true _ _ (number_self t.to) (option_self _ (λ p. number_self p) t.patron))
 
 pub value_self : (v : Value) → same_value v v ≡ true
 value_self (CopyHas s) = place_self s

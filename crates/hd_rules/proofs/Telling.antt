@@ -1,14 +1,16 @@
 -- What the reply to an accepted command tells of.
 use Rattle.std.proofs.Common.{◌≡◌, sym, subst, ℕ, Bool, true, false, ◌==◌, if◌then◌else◌, List, [], ◌∷◌, Option, Some, None, Result, Ok}
 use Rattle.std.specs.Prelude.{nat_lt}
-use Rattle.hd_rules.specs.Words.{Hold, HoldKind, Loan, CopyState, Shelf, OnLoan, OnHoldShelf, InTransit, Change, Question, Action, Refusal, Reply}
+use Rattle.hd_rules.specs.Words.{Hold, HoldKind, Loan, CopyState, Shelf, OnLoan, OnHoldShelf, InTransit, Change, Question, Action, Refusal}
+use Rattle.hd_rules.specs.Words.{Reply}
 use Rattle.hd_rules.specs.declared.commands.Action.TheVariants as action
 use Rattle.hd_rules.specs.Facts.{Facts}
 use Rattle.hd_rules.specs.Desk.{Desk}
 use Rattle.hd_rules.specs.Choose.{has_expired}
 use Rattle.hd_rules.specs.Ask.{Plan, Ask, Refuse, Accept, Done, AnswerTo, answer, outcome}
 use Rattle.hd_rules.specs.Settle.{tied_to, place_at, keep, allot, settle_tied, settle}
-use Rattle.hd_rules.specs.Step.{accept, due_day, last_day, lend, lent, lend_held, lend_from_shelf, cannot_renew, renew_loan, checkout_at, off_line_at, checkin, add, release, delete_with, delete, change_to, change, renew_at, plan_of}
+use Rattle.hd_rules.specs.Step.{accept, due_day, last_day, lend, lent, lend_held, lend_from_shelf, cannot_renew, renew_loan, checkout_at}
+use Rattle.hd_rules.specs.Step.{off_line_at, checkin, add, release, delete_with, delete, change_to, change, renew_at, plan_of}
 use Rattle.hd_rules.specs.Replies.{TellsOf}
 use Rattle.hd_rules.proofs.Tests.{done_is}
 
@@ -69,20 +71,24 @@ renew_tells p c k n day (Shelf b) = refused
 renew_tells p c k n day (OnHoldShelf s) = refused
 renew_tells p c k n day (InTransit t) = refused
 
-off_line_tells : (p c due : ℕ) (k : Facts) (n : ℕ) (old : CopyState) (held : Option Hold) (tied : Option ℕ) → Tells (action.OffLine p c due) (off_line_at k n p c due old held tied)
+off_line_tells : (p c due : ℕ) (k : Facts) (n : ℕ) (old : CopyState) (held : Option Hold) (tied : Option ℕ)
+    → Tells (action.OffLine p c due) (off_line_at k n p c due old held tied)
 off_line_tells p c due k n old held None = accepted (action.OffLine p c due) k n _ _ tt
 off_line_tells p c due k n old held (Some q) = either (action.OffLine p c due) (q == p) _ _
     (accepted (action.OffLine p c due) k n _ _ tt) (asked (λ other. accepted (action.OffLine p c due) k n _ _ tt))
 
-keep_tells : (a : Action) (b : ℕ) (h : Hold) (at : Option ℕ) (rest : CopyState → Plan) → ((new : CopyState) → Tells a (rest new)) → Tells a (keep b h at rest)
+keep_tells : (a : Action) (b : ℕ) (h : Hold) (at : Option ℕ) (rest : CopyState → Plan) → ((new : CopyState) → Tells a (rest new))
+    → Tells a (keep b h at rest)
 keep_tells a b h None rest all = either a (h.pickup == b) _ _ (asked (λ spot. all _)) (all _)
 keep_tells a b h (Some spot) rest all = all _
 
-allot_tells : (a : Action) (k : Facts) (c b : ℕ) (at : Option ℕ) (chosen : Option Hold) (rest : CopyState → List Change → Plan) → ((new : CopyState) (gets : List Change) → Tells a (rest new gets)) → Tells a (allot k c b at chosen rest)
+allot_tells : (a : Action) (k : Facts) (c b : ℕ) (at : Option ℕ) (chosen : Option Hold) (rest : CopyState → List Change → Plan)
+    → ((new : CopyState) (gets : List Change) → Tells a (rest new gets)) → Tells a (allot k c b at chosen rest)
 allot_tells a k c b at None rest all = all _ []
 allot_tells a k c b at (Some h) rest all = asked (λ held. keep_tells a b h at _ (λ new. all new _))
 
-settle_tells : (a : Action) (k : Facts) (c b day : ℕ) (old : CopyState) (tied : Option ℕ) (rest : CopyState → List Change → Plan) → ((new : CopyState) (gets : List Change) → Tells a (rest new gets)) → Tells a (settle k c b day old tied rest)
+settle_tells : (a : Action) (k : Facts) (c b day : ℕ) (old : CopyState) (tied : Option ℕ) (rest : CopyState → List Change → Plan)
+    → ((new : CopyState) (gets : List Change) → Tells a (rest new gets)) → Tells a (settle k c b day old tied rest)
 settle_tells a k c b day old (Some p) rest all = asked (λ held. by_hold held)
   where
     by_hold : (held : Option Hold) → Tells a (settle_tied k c b old held rest)
@@ -91,14 +97,17 @@ settle_tells a k c b day old (Some p) rest all = asked (λ held. by_hold held)
 settle_tells a k c b day old None rest all = asked (λ chosen. allot_tells a k c b None chosen rest all)
 
 checkin_tells : (c b : ℕ) (k : Facts) (n day : ℕ) → Tells (action.Checkin c b) (checkin k n c b day)
-checkin_tells c b k n day = asked (λ old. settle_tells (action.Checkin c b) k c b day old (tied_to old) _ (λ new gets. accepted (action.Checkin c b) k n _ _ tt))
+checkin_tells c b k n day =
+    asked (λ old. settle_tells (action.Checkin c b) k c b day old (tied_to old) _ (λ new gets. accepted (action.Checkin c b) k n _ _ tt))
 
-add_tells : (p t : ℕ) (kind : HoldKind) (pickup : ℕ) (expiry : Option ℕ) (k : Facts) (n : ℕ) (h : Hold) (day : ℕ) (old : Option Hold) → Tells (action.Add p t kind pickup expiry) (add k n h t day old)
+add_tells : (p t : ℕ) (kind : HoldKind) (pickup : ℕ) (expiry : Option ℕ) (k : Facts) (n : ℕ) (h : Hold) (day : ℕ) (old : Option Hold)
+    → Tells (action.Add p t kind pickup expiry) (add k n h t day old)
 add_tells p t kind pickup expiry k n h day (Some old) = refused
 add_tells p t kind pickup expiry k n h day None = either (action.Add p t kind pickup expiry) (has_expired h.expiry day) _ _ refused
     (asked (λ spot. asked (λ available. accepted (action.Add p t kind pickup expiry) k n _ _ tt)))
 
-release_tells : (a : Action) (k : Facts) (c day : ℕ) (old : CopyState) (rest : List Change → Plan) → ((gets : List Change) → Tells a (rest gets)) → Tells a (release k c day old rest)
+release_tells : (a : Action) (k : Facts) (c day : ℕ) (old : CopyState) (rest : List Change → Plan)
+    → ((gets : List Change) → Tells a (rest gets)) → Tells a (release k c day old rest)
 release_tells a k c day (Shelf b) rest all = all []
 release_tells a k c day (OnLoan l) rest all = all []
 release_tells a k c day (InTransit t) rest all = all _
@@ -112,7 +121,8 @@ delete_tells p t k n day (Some h) = by_copy h.copy
     by_copy None = accepted (action.Delete p t) k n _ _ tt
     by_copy (Some c) = asked (λ old. release_tells (action.Delete p t) k c day old _ (λ gets. accepted (action.Delete p t) k n _ _ tt))
 
-change_tells : (p t : ℕ) (kind : Option HoldKind) (pickup expiry : Option ℕ) (k : Facts) (n day : ℕ) (old : Option Hold) → Tells (action.ChangeHold p t kind pickup expiry) (change k n t p kind pickup expiry day old)
+change_tells : (p t : ℕ) (kind : Option HoldKind) (pickup expiry : Option ℕ) (k : Facts) (n day : ℕ) (old : Option Hold)
+    → Tells (action.ChangeHold p t kind pickup expiry) (change k n t p kind pickup expiry day old)
 change_tells p t kind pickup expiry k n day None = refused
 change_tells p t kind pickup expiry k n day (Some h) = by_copy h.copy _
   where
@@ -136,5 +146,6 @@ ends_telling a k d (Refuse r) h done is = cc
 ends_telling a k d (Accept x) h done is = subst (λ (y : Done). TellsOf a y.reply) (done_is x done is) h
 
 -- the reply to an accepted command tells of what it did
-pub done_tells : (k : Facts) (d : Desk) (n day : ℕ) (a : Action) (done : Done) → outcome k d (plan_of k n day a) ≡ Ok done → TellsOf a done.reply
+pub done_tells : (k : Facts) (d : Desk) (n day : ℕ) (a : Action) (done : Done) → outcome k d (plan_of k n day a) ≡ Ok done
+    → TellsOf a done.reply
 done_tells k d n day a done is = ends_telling a k d (plan_of k n day a) (plan_tells k n day a).all done is

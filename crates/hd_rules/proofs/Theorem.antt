@@ -1,5 +1,6 @@
 -- The headline, over every legal list of turns.
-use Rattle.std.proofs.Common.{◌≡◌, refl, sym, ◌∙◌, ap, subst, ℕ, ◌+◌, Bool, true, cond, List, [], ◌∷◌, ◌++◌, Option, Some, None, Result, Ok, Err}
+use Rattle.std.proofs.Common.{◌≡◌, refl, sym, ◌∙◌, ap, subst, ℕ, ◌+◌, Bool, true, cond, List, [], ◌∷◌, ◌++◌, Option, Some, None, Result, Ok}
+use Rattle.std.proofs.Common.{Err}
 use Rattle.std.proofs.lemmas.List.{append-nil}
 use Rattle.hd_rules.specs.Words.{Command, Cancel, Refusal, Reply, TurnReply, Asked}
 use Rattle.hd_rules.specs.declared.turns.Asked.TheVariants as ask
@@ -10,9 +11,12 @@ use Rattle.hd_rules.specs.Ask.{Done}
 use Rattle.hd_rules.specs.Run.{outcome_of, run, Rising}
 use Rattle.hd_rules.specs.Depends.{less, NoneDepends, IsLeastDependent, first_dependent}
 use Rattle.hd_rules.specs.Target.{Split, is_of_kind, is_target, IsTarget, target}
-use Rattle.hd_rules.specs.Turns.{Message, State, Answered, start, kept_of, repeated_of, repeated, with_survivor, without, next_survivor, answered_command, answered_target, answered_cancel, keeping, with_kept, answered_new, answered_unless, turn_of, IsRepeat}
+use Rattle.hd_rules.specs.Turns.{Message, State, Answered, start, kept_of, repeated_of, repeated, with_survivor, without, next_survivor}
+use Rattle.hd_rules.specs.Turns.{answered_command, answered_target, answered_cancel, keeping, with_kept, answered_new, answered_unless}
+use Rattle.hd_rules.specs.Turns.{turn_of, IsRepeat}
 use Rattle.hd_rules.specs.Journal.{Turn, state_from, state_after, IsLegalFrom, IsLegal, RepliesStand, IsRunOfSurvivors}
-use Rattle.hd_rules.specs.Headline.{AllQueries, IsCancelledAtOnce, LeavesTheDesk, IsRunWithout, IsCancellation, IsDecided, IsRepeated, Headline, IsAimless, IsNothingToCancel}
+use Rattle.hd_rules.specs.Headline.{AllQueries, IsCancelledAtOnce, LeavesTheDesk, IsRunWithout, IsCancellation, IsDecided, IsRepeated}
+use Rattle.hd_rules.specs.Headline.{Headline, IsAimless, IsNothingToCancel}
 use Rattle.hd_rules.proofs.Tests.{number_self, both_true}
 use Rattle.hd_rules.proofs.Splits.{less_split}
 use Rattle.hd_rules.proofs.Newest.{found_at, no_target_is}
@@ -41,22 +45,36 @@ pub record WasAccepted (k : Facts) (s : State) (m : Message) (command : Command)
 accepted_is : (m n : ℕ) (a b : Reply) → Accepted m a ≡ Accepted n b → m ≡ n
 accepted_is m n a b e = cc
 
-was_accepted : (k : Facts) (s : State) (m : Message) (command : Command) (n : ℕ) (reply : Reply) → (answered_new k s m (ask.Command command)).reply ≡ Accepted n reply → WasAccepted k s m command n
+was_accepted : (k : Facts) (s : State) (m : Message) (command : Command) (n : ℕ) (reply : Reply)
+    → (answered_new k s m (ask.Command command)).reply ≡ Accepted n reply → WasAccepted k s m command n
 was_accepted k s m command n reply is = cases (outcome_of k s.desk (next_survivor s m.terminal command)) refl is
   where
-    cases : (r : Result Done Refusal) → outcome_of k s.desk (next_survivor s m.terminal command) ≡ r → (answered_command s (next_survivor s m.terminal command) r).reply ≡ Accepted n reply → WasAccepted k s m command n
+    cases : (r : Result Done Refusal) → outcome_of k s.desk (next_survivor s m.terminal command) ≡ r
+        → (answered_command s (next_survivor s m.terminal command) r).reply ≡ Accepted n reply → WasAccepted k s m command n
     cases (Ok done) so told = record { done = done; outcome = so; number = sym (accepted_is (s.last + 1) n done.reply reply told) }
     cases (Err r) so told = cc
 
 -- a cancellation is no repeat of a command
-no_repeat : (line : Option (List ℕ)) (asked : Asked) (reply : TurnReply) (command : Command) (what : Cancel) (other : Option (List ℕ)) → asked ≡ ask.Command command → repeated_of (kept_of line asked reply) (ask.Cancel what) other ≡ None
+no_repeat : (line : Option (List ℕ)) (asked : Asked) (reply : TurnReply) (command : Command) (what : Cancel) (other : Option (List ℕ))
+    → asked ≡ ask.Command command → repeated_of (kept_of line asked reply) (ask.Cancel what) other ≡ None
 no_repeat None asked reply command what other is = refl
 no_repeat (Some xs) asked reply command what None is = refl
 no_repeat (Some xs) asked reply command what (Some ys) is =
     ap (λ (a : Asked). repeated_of (Some (record { line = xs; asked = a; reply = reply })) (ask.Cancel what) (Some ys)) is
 
 -- after the command, and before anything else changes, its cancellation takes it back
-at_once : (k : Facts) (s : State) (m : Message) (command : Command) (done : Done) (told : TurnReply) (c : Message) (what : Cancel) → m.asked ≡ ask.Command command → c.asked ≡ ask.Cancel what → c.terminal ≡ m.terminal → is_of_kind what command.action ≡ true → turn_of k (keeping m told (with_survivor s (next_survivor s m.terminal command) (after done.changes s.desk))) c ≡ with_kept c (record { reply = Cancelled (s.last + 1); state = without k (keeping m told (with_survivor s (next_survivor s m.terminal command) (after done.changes s.desk))) (record { older = s.survivors; survivor = next_survivor s m.terminal command; newer = [] }) })
+at_once : (k : Facts) (s : State) (m : Message) (command : Command) (done : Done) (told : TurnReply) (c : Message) (what : Cancel)
+    → m.asked ≡ ask.Command command → c.asked ≡ ask.Cancel what → c.terminal ≡ m.terminal → is_of_kind what command.action ≡ true
+    → turn_of k (keeping m told (with_survivor s (next_survivor s m.terminal command) (after done.changes s.desk))) c
+    ≡ with_kept c (record {
+      reply = Cancelled (s.last + 1);
+      state =
+          without k (keeping m told (with_survivor s (next_survivor s m.terminal command) (after done.changes s.desk))) (record {
+            older = s.survivors;
+            survivor = next_survivor s m.terminal command;
+            newer = [];
+          });
+    })
 at_once k s m command done told c what is_command is_cancel terminal aimed =
     ap (answered_unless k next c) never ∙ ap (answered_new k next c) is_cancel
     ∙ ap (λ (o : Option Split). with_kept c (answered_cancel k next o)) found
@@ -68,16 +86,19 @@ at_once k s m command done told c what is_command is_cancel terminal aimed =
     never =
         ap (λ (a : Asked). repeated_of (next.kept c.terminal) a c.line) is_cancel
         ∙ ap (λ (t : ℕ). repeated_of (next.kept t) (ask.Cancel what) c.line) terminal
-        ∙ ap (λ (b : Bool). repeated_of (cond b (kept_of m.line m.asked told) (s.kept m.terminal)) (ask.Cancel what) c.line) (number_self m.terminal)
+        ∙ ap (λ (b : Bool). repeated_of (cond b (kept_of m.line m.asked told) (s.kept m.terminal)) (ask.Cancel what) c.line)
+        (number_self m.terminal)
         ∙ no_repeat m.line m.asked told command what c.line is_command
 
     fits : is_target c.terminal what (next_survivor s m.terminal command) ≡ true
     fits = ap (λ (t : ℕ). is_target t what (next_survivor s m.terminal command)) terminal ∙ both_true _ _ (number_self m.terminal) aimed
 
-    found : target c.terminal what next.survivors ≡ Some (record { older = s.survivors; survivor = next_survivor s m.terminal command; newer = [] })
+    found : target c.terminal what next.survivors
+        ≡ Some (record { older = s.survivors; survivor = next_survivor s m.terminal command; newer = [] })
     found = found_at c.terminal what s.survivors (next_survivor s m.terminal command) [] fits tt
 
-leaves : (k : Facts) (turns : List Turn) (submitted : Turn) (queries : List Turn) (cancelled : Turn) (n : ℕ) → IsCancelledAtOnce k turns submitted queries cancelled n → LeavesTheDesk k turns submitted queries cancelled n
+leaves : (k : Facts) (turns : List Turn) (submitted : Turn) (queries : List Turn) (cancelled : Turn) (n : ℕ)
+    → IsCancelledAtOnce k turns submitted queries cancelled n → LeavesTheDesk k turns submitted queries cancelled n
 leaves k turns submitted queries cancelled n h = record {
   answer = last_legal.0 ∙ ap (λ (a : Answered). a.reply) answered ∙ ap Cancelled (sym accepted.number);
   desk = ap (λ (x : State). x.desk) whole ∙ ap (run k) (append-nil s.survivors) ∙ sym (legal_is_run k turns parts.0).desk;
@@ -101,11 +122,13 @@ leaves k turns submitted queries cancelled n h = record {
     told = Accepted (s.last + 1) accepted.done.reply
 
     next : State
-    next = keeping submitted.message told (with_survivor s (next_survivor s submitted.message.terminal h.command) (after accepted.done.changes s.desk))
+    next = keeping submitted.message told
+        (with_survivor s (next_survivor s submitted.message.terminal h.command) (after accepted.done.changes s.desk))
 
     first : (turn_of k s submitted.message).state ≡ next
     first = ap (λ (a : Answered). a.state) (is_new
-        ∙ ap (λ (r : Result Done Refusal). with_kept submitted.message (answered_command s (next_survivor s submitted.message.terminal h.command) r)) accepted.outcome)
+        ∙ ap (λ (r : Result Done Refusal).
+        with_kept submitted.message (answered_command s (next_survivor s submitted.message.terminal h.command) r)) accepted.outcome)
 
     later : state_from k (turn_of k s submitted.message).state queries ≡ next
     later = ap (λ (x : State). state_from k x queries) first ∙ queries_leave k next queries h.only_queries
@@ -115,10 +138,14 @@ leaves k turns submitted queries cancelled n h = record {
         (legal_parts k (turn_of k s submitted.message).state queries (cancelled ∷ []) parts.1.1).1
 
     end : Answered
-    end = with_kept cancelled.message (record { reply = Cancelled (s.last + 1); state = without k next (record { older = s.survivors; survivor = next_survivor s submitted.message.terminal h.command; newer = [] }) })
+    end = with_kept cancelled.message (record {
+      reply = Cancelled (s.last + 1);
+      state = without k next (record { older = s.survivors; survivor = next_survivor s submitted.message.terminal h.command; newer = [] });
+    })
 
     answered : turn_of k next cancelled.message ≡ end
-    answered = at_once k s submitted.message h.command accepted.done told cancelled.message h.what h.is_command h.is_cancel h.same_terminal h.aimed
+    answered =
+        at_once k s submitted.message h.command accepted.done told cancelled.message h.what h.is_command h.is_cancel h.same_terminal h.aimed
 
     whole : state_after k (turns ++ submitted ∷ (queries ++ cancelled ∷ [])) ≡ end.state
     whole =
@@ -127,7 +154,9 @@ leaves k turns submitted queries cancelled n h = record {
         ∙ ap (λ (x : State). (turn_of k x cancelled.message).state) later
         ∙ ap (λ (a : Answered). a.state) answered
 
-run_without : (k : Facts) (turns : List Turn) (s : State) (at : Split) (next : State) → IsRunOfSurvivors k turns s → s.survivors ≡ at.older ++ at.survivor ∷ at.newer → NoneDepends k s.survivors at.survivor → next.desk ≡ run k (at.older ++ at.newer) → next.survivors ≡ at.older ++ at.newer → next.last ≡ s.last → IsRunWithout k turns s at.survivor.number next
+run_without : (k : Facts) (turns : List Turn) (s : State) (at : Split) (next : State) → IsRunOfSurvivors k turns s
+    → s.survivors ≡ at.older ++ at.survivor ∷ at.newer → NoneDepends k s.survivors at.survivor → next.desk ≡ run k (at.older ++ at.newer)
+    → next.survivors ≡ at.older ++ at.newer → next.last ≡ s.last → IsRunWithout k turns s at.survivor.number next
 run_without k turns s at next is split none desk survivors last = record {
   desk = desk ∙ ap (run k) (sym those);
   survivors = survivors ∙ sym those;
@@ -142,7 +171,9 @@ run_without k turns s at next is split none desk survivors last = record {
     left : Left k turns s.last at
     left = left_by k turns s.survivors s.last at split is.rising is.last is.replies none
 
-decided_as : (k : Facts) (turns : List Turn) (s : State) (m : Message) (what : Cancel) (at : Split) → IsRunOfSurvivors k turns s → IsTarget m.terminal what s.survivors at → (o : Option ℕ) → first_dependent k s.survivors at.survivor at.newer ≡ o → IsDecided k turns s at (with_kept m (answered_target k s at o))
+decided_as : (k : Facts) (turns : List Turn) (s : State) (m : Message) (what : Cancel) (at : Split) → IsRunOfSurvivors k turns s
+    → IsTarget m.terminal what s.survivors at → (o : Option ℕ) → first_dependent k s.survivors at.survivor at.newer ≡ o
+    → IsDecided k turns s at (with_kept m (answered_target k s at o))
 decided_as k turns s m what at is aimed None none =
     let no_one : NoneDepends k s.survivors at.survivor = decided_none k m.terminal what s.survivors at is.rising aimed none in
     record {
@@ -159,7 +190,8 @@ decided_as k turns s m what at is aimed (Some n) some =
       refused = λ not_clear. (n, refl, least, record { desk = refl; survivors = refl; last = refl });
     }
 
-decided : (k : Facts) (turns : List Turn) (s : State) (m : Message) (at : Split) → IsRunOfSurvivors k turns s → IsCancellation s m at → IsDecided k turns s at (turn_of k s m)
+decided : (k : Facts) (turns : List Turn) (s : State) (m : Message) (at : Split) → IsRunOfSurvivors k turns s → IsCancellation s m at
+    → IsDecided k turns s at (turn_of k s m)
 decided k turns s m at is h =
     let as_new : turn_of k s m ≡ with_kept m (answered_target k s at (first_dependent k s.survivors at.survivor at.newer)) =
     turn_of_new k s m h.is_new ∙ ap (answered_new k s m) h.is_cancel ∙ cancel_at k s m h.what at h.target in

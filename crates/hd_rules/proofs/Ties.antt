@@ -59,7 +59,8 @@ loose_untied k c d tie free = record {
 }
 
 -- a hold without a copy ends, begins or changes
-pub tie_edit : (k : Facts) (d : Desk) (t : ℕ) (p : ℕ) (o : Option Hold) → Tie k d → Bare (d.hold t p) → Bare o → Tie k (put d (HoldCell t p) (HoldHas o))
+pub tie_edit : (k : Facts) (d : Desk) (t : ℕ) (p : ℕ) (o : Option Hold) → Tie k d → Bare (d.hold t p) → Bare o
+    → Tie k (put d (HoldCell t p) (HoldHas o))
 tie_edit k d t p o tie was is = record {
   tied = λ u q x b. hold_cases (λ v. Has v x b → (k.title_of x ≡ u) × Tied (d.copy x) q b) t u p q o (d.hold u q)
       (λ e f h. absurd (bare_has o x b is h)) (λ other h. tie.tied u q x b h);
@@ -68,7 +69,8 @@ tie_edit k d t p o tie was is = record {
       (λ other. tie.has q x b h);
 }
 
-pub loose_edit : (k : Facts) (c : ℕ) (d : Desk) (t : ℕ) (p : ℕ) (o : Option Hold) → Loose k c d → Bare (d.hold t p) → Bare o → Loose k c (put d (HoldCell t p) (HoldHas o))
+pub loose_edit : (k : Facts) (c : ℕ) (d : Desk) (t : ℕ) (p : ℕ) (o : Option Hold) → Loose k c d → Bare (d.hold t p) → Bare o
+    → Loose k c (put d (HoldCell t p) (HoldHas o))
 loose_edit k c d t p o loose was is = record {
   tied = λ u q x b. hold_cases (λ v. Has v x b → ((c == x) ≡ false) × (k.title_of x ≡ u) × Tied (d.copy x) q b) t u p q o (d.hold u q)
       (λ e f h. absurd (bare_has o x b is h)) (λ other h. loose.tied u q x b h);
@@ -78,7 +80,8 @@ loose_edit k c d t p o loose was is = record {
 }
 
 -- the hold that has the copy ends, or goes on without it
-pub loosen : (k : Facts) (c : ℕ) (d : Desk) (t : ℕ) (p : ℕ) (a : ℕ) (o : Option Hold) → Tie k d → Has (d.hold t p) c a → Bare o → Loose k c (put d (HoldCell t p) (HoldHas o))
+pub loosen : (k : Facts) (c : ℕ) (d : Desk) (t : ℕ) (p : ℕ) (a : ℕ) (o : Option Hold) → Tie k d → Has (d.hold t p) c a → Bare o
+    → Loose k c (put d (HoldCell t p) (HoldHas o))
 loosen k c d t p a o tie had is = record {
   tied = λ u q x b. hold_cases (λ v. Has v x b → ((c == x) ≡ false) × (k.title_of x ≡ u) × Tied (d.copy x) q b) t u p q o (d.hold u q)
       (λ e f h. absurd (bare_has o x b is h))
@@ -92,7 +95,8 @@ loosen k c d t p a o tie had is = record {
         r.1,
       ));
   has = λ q x b apart h. hold_cases (λ v. Has v x b) t (k.title_of x) p q o (d.hold (k.title_of x) q)
-      (λ e f. absurd (number_not c x apart (has_one (d.hold t p) c x a b had (has_at d (k.title_of x) t q p x b (sym e) (sym f) (tie.has q x b h)))))
+      (λ e f. absurd
+      (number_not c x apart (has_one (d.hold t p) c x a b had (has_at d (k.title_of x) t q p x b (sym e) (sym f) (tie.has q x b h)))))
       (λ other. tie.has q x b h);
 }
 
@@ -113,9 +117,11 @@ close k c d loose free = record {
 }
 
 -- a loose copy that is tied to a hold's patron is given to that hold
-pub give : (k : Facts) (c : ℕ) (d : Desk) (q : ℕ) (h : Hold) → Loose k c d → d.hold (k.title_of c) q ≡ Some h → h.copy ≡ None → Tied (d.copy c) q h.pickup → Tie k (put d (HoldCell (k.title_of c) q) (HoldHas (Some (with_copy (Some c) h))))
+pub give : (k : Facts) (c : ℕ) (d : Desk) (q : ℕ) (h : Hold) → Loose k c d → d.hold (k.title_of c) q ≡ Some h → h.copy ≡ None
+    → Tied (d.copy c) q h.pickup → Tie k (put d (HoldCell (k.title_of c) q) (HoldHas (Some (with_copy (Some c) h))))
 give k c d q h loose was none to = record {
-  tied = λ u r x b. hold_cases (λ v. Has v x b → (k.title_of x ≡ u) × Tied (d.copy x) r b) (k.title_of c) u q r (Some (with_copy (Some c) h)) (d.hold u r)
+  tied = λ u r x b. hold_cases (λ v. Has v x b
+      → (k.title_of x ≡ u) × Tied (d.copy x) r b) (k.title_of c) u q r (Some (with_copy (Some c) h)) (d.hold u r)
       (λ e f has. let same : c ≡ x = some_one c x has.0 in
       (ap k.title_of (sym same) ∙ e, tied_copy d c x r b same (tied_as (d.copy c) q r h.pickup b f has.1 to)))
       (λ other has. let s : ((c == x) ≡ false) × (k.title_of x ≡ u) × Tied (d.copy x) r b = loose.tied u r x b has in (s.1, s.2));
@@ -131,15 +137,18 @@ give k c d q h loose was none to = record {
     bare : Bare (d.hold (k.title_of c) q)
     bare = subst Bare (sym was) none
 
-    here : (r : ℕ) (x : ℕ) (b : ℕ) → Tied (d.copy x) r b → k.title_of c ≡ k.title_of x → q ≡ r → (t : Bool) → (c == x) ≡ t → Has (Some (with_copy (Some c) h)) x b
+    here : (r : ℕ) (x : ℕ) (b : ℕ) → Tied (d.copy x) r b → k.title_of c ≡ k.title_of x → q ≡ r → (t : Bool) → (c == x) ≡ t
+        → Has (Some (with_copy (Some c) h)) x b
     here r x b tied e f true is =
         let same : c ≡ x = number_is c x is in
         (ap (λ (y : ℕ). Some y) same, tied_there (d.copy c) q r h.pickup b to (tied_copy d x c r b (sym same) tied))
     here r x b tied e f false is =
-        absurd (bare_has (d.hold (k.title_of c) q) x b bare (has_at d (k.title_of x) (k.title_of c) r q x b (sym e) (sym f) (loose.has r x b is tied)))
+        absurd (bare_has (d.hold (k.title_of c) q) x b bare
+        (has_at d (k.title_of x) (k.title_of c) r q x b (sym e) (sym f) (loose.has r x b is tied)))
 
 -- a copy moves, tied as before
-pub tie_move : (k : Facts) (c : ℕ) (d : Desk) (s : CopyState) → Tie k d → ((p : ℕ) (b : ℕ) → Tied s p b → Tied (d.copy c) p b) → ((p : ℕ) (b : ℕ) → Tied (d.copy c) p b → Tied s p b) → Tie k (put d (CopyCell c) (CopyHas s))
+pub tie_move : (k : Facts) (c : ℕ) (d : Desk) (s : CopyState) → Tie k d → ((p : ℕ) (b : ℕ) → Tied s p b → Tied (d.copy c) p b)
+    → ((p : ℕ) (b : ℕ) → Tied (d.copy c) p b → Tied s p b) → Tie k (put d (CopyCell c) (CopyHas s))
 tie_move k c d s tie back on = record {
   tied = λ t p x b h. let r : (k.title_of x ≡ t) × Tied (d.copy x) p b = tie.tied t p x b h in
       (r.0, copy_cases (λ v. Tied v p b) c x s (d.copy x) (λ e. on p b (tied_copy d x c p b (sym e) r.1)) (λ other. r.1));

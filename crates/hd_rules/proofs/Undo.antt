@@ -94,7 +94,8 @@ EachSame d e [] = Unit {0}
 EachSame d e (c ∷ cs) = (value d c.cell ≡ value e c.cell) × EachSame d e cs
 
 -- what has one value at both desks isn't among the changes in which they differ
-not_kept : (d e : Desk) (c g : Change) → DifferAt d e c → value d g.cell ≡ value e g.cell → (b : Bool) → same_cell g.cell c.cell ≡ b → b ≡ false
+not_kept : (d e : Desk) (c g : Change) → DifferAt d e c → value d g.cell ≡ value e g.cell → (b : Bool) → same_cell g.cell c.cell ≡ b
+    → b ≡ false
 not_kept d e c g kept same false h = refl
 not_kept d e c g kept same true h =
     let is : g.cell ≡ c.cell = same_cell_is _ _ h in
@@ -125,13 +126,16 @@ differ_after d e cs gs h same = record {
 }
 
 -- the value of a cell after the changes are taken back
-undone_at_first : (d e : Desk) (c : Change) (cs : List Change) (y : Cell) → DifferAt d e c → (same_cell c.cell y ≡ false → value (undone cs d) y ≡ value e y) → (b : Bool) → same_cell c.cell y ≡ b → value (put (undone cs d) c.cell c.old) y ≡ value e y
+undone_at_first : (d e : Desk) (c : Change) (cs : List Change) (y : Cell) → DifferAt d e c
+    → (same_cell c.cell y ≡ false → value (undone cs d) y ≡ value e y) → (b : Bool) → same_cell c.cell y ≡ b
+    → value (put (undone cs d) c.cell c.old) y ≡ value e y
 undone_at_first d e c cs y kept rest true is =
     put_same (undone cs d) c.cell c.old y (subst (Fits c.cell) kept.old (value_fits e c.cell)) is
     ∙ sym kept.old ∙ ap (value e) (same_cell_is _ _ is)
 undone_at_first d e c cs y kept rest false is = put_elsewhere (undone cs d) c.cell c.old y is ∙ rest is
 
-undone_at : (d e : Desk) (cs : List Change) (y : Cell) → DifferAtEach d e cs → (Elsewhere y cs → value d y ≡ value e y) → value (undone cs d) y ≡ value e y
+undone_at : (d e : Desk) (cs : List Change) (y : Cell) → DifferAtEach d e cs → (Elsewhere y cs → value d y ≡ value e y)
+    → value (undone cs d) y ≡ value e y
 undone_at d e [] y kept h = h tt
 undone_at d e (c ∷ cs) y kept h =
     undone_at_first d e c cs y kept.0 (λ is. undone_at d e cs y kept.1 (λ apart. h (is, apart))) (same_cell c.cell y) refl

@@ -1,6 +1,7 @@
 -- What a command may ask of a desk, and a command as the questions that it asks, one after another.
 use Rattle.std.specs.Prelude.{ℕ, Bool, nat_lt, Option, List, [], ◌∷◌, Result, Ok, Err}
-use Rattle.hd_rules.specs.Words.{Hold, CopyState, CopyCell, HoldCell, Change, Question, Answer, ValueOf, Choice, Place, Room, Position, OnShelf, Refusal, Reply}
+use Rattle.hd_rules.specs.Words.{Hold, CopyState, CopyCell, HoldCell, Change, Question, Answer, ValueOf}
+use Rattle.hd_rules.specs.Words.{Choice, Place, Room, Position, OnShelf, Refusal, Reply}
 use Rattle.hd_rules.specs.declared.questions.Answer.TheVariants as answers
 use Rattle.hd_rules.specs.Facts.{Facts}
 use Rattle.hd_rules.specs.Desk.{Desk, value}

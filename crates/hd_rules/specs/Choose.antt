@@ -1,6 +1,8 @@
 -- Which hold a copy is for, and which place is free.
-use Rattle.std.specs.Prelude.{◌≡◌, ℕ, max, ◌+◌, ◌≤◌, ◌<◌, Bool, true, false, ◌&&◌, not, ◌==◌, nat_lt, Option, Some, None, is_none, if◌then◌else◌, zero, suc}
-use Rattle.hd_rules.specs.Words.{Hold, HoldKind, Any, One, AtBranch, CopyState, Shelf, OnLoan, OnHoldShelf, InTransit}
+use Rattle.std.specs.Prelude.{◌≡◌, ℕ, max, ◌+◌, ◌≤◌, ◌<◌, Bool, true, false, ◌&&◌, not, ◌==◌, nat_lt, Option}
+use Rattle.std.specs.Prelude.{Some, None, is_none, if◌then◌else◌, zero, suc}
+use Rattle.hd_rules.specs.Words.{Hold, HoldKind, Any, One, AtBranch, CopyState, Shelf, OnLoan, OnHoldShelf}
+use Rattle.hd_rules.specs.Words.{InTransit}
 use Rattle.hd_rules.specs.Facts.{Facts}
 use Rattle.hd_rules.specs.Desk.{Desk}
 
@@ -43,7 +45,8 @@ earlier priority b (Some g) (Some h) = if precedes priority b h g then Some h el
 -- the first candidate among the holds of the patrons below n
 abbrev pub first_of : Facts → ℕ → ℕ → ℕ → (ℕ → Option Hold) → ℕ → Option Hold
 first_of k c b day holds zero = None
-first_of k c b day holds (suc n) = earlier (k.priority (k.title_of c)) b (first_of k c b day holds n) (candidate k c day (holds n))
+first_of k c b day holds (suc n) =
+    earlier (k.priority (k.title_of c)) b (first_of k c b day holds n) (candidate k c day (holds n))
 
 -- the hold that the copy is for, at a branch on a day
 abbrev pub choice : Facts → Desk → ℕ → ℕ → ℕ → Option Hold
@@ -54,7 +57,8 @@ abbrev pub FirstCandidate : Facts → Desk → ℕ → ℕ → ℕ → Option Ho
 FirstCandidate k d c b day None = (p : ℕ) → p < k.patrons → candidate k c day (d.hold (k.title_of c) p) ≡ None
 FirstCandidate k d c b day (Some h) =
     ((p : ℕ) × (p < k.patrons) × (candidate k c day (d.hold (k.title_of c) p) ≡ Some h))
-    × ((p : ℕ) (g : Hold) → p < k.patrons → candidate k c day (d.hold (k.title_of c) p) ≡ Some g → precedes (k.priority (k.title_of c)) b g h ≡ false)
+    × ((p : ℕ) (g : Hold) → p < k.patrons → candidate k c day (d.hold (k.title_of c) p) ≡ Some g
+    → precedes (k.priority (k.title_of c)) b g h ≡ false)
 
 -- how many of the numbers below n pass
 abbrev pub count_below : (ℕ → Bool) → ℕ → ℕ

@@ -1,5 +1,6 @@
 -- When a later command depends on an earlier one.
-use Rattle.std.specs.Prelude.{◌≡◌, ℕ, ◌<◌, Bool, true, false, not, ◌==◌, nat_lt, ◌⊎◌, if◌then◌else◌, filter, Option, Some, None, List, [], ◌∷◌}
+use Rattle.std.specs.Prelude.{◌≡◌, ℕ, ◌<◌, Bool, true, false, not, ◌==◌, nat_lt, ◌⊎◌, if◌then◌else◌, filter}
+use Rattle.std.specs.Prelude.{Option, Some, None, List, [], ◌∷◌}
 use Rattle.hd_rules.specs.Words.{Survivor}
 use Rattle.hd_rules.specs.Facts.{Facts}
 use Rattle.hd_rules.specs.Desk.{Desk}
@@ -36,20 +37,23 @@ before n survivors = filter (λ (s : Survivor). nat_lt s.number n) survivors
 abbrev pub less : ℕ → List Survivor → List Survivor
 less n survivors = filter (λ (s : Survivor). not (s.number == n)) survivors
 
--- Of two survivors d depends on c: some question that it asks, in the run of those before it, has another answer in the run of
--- those less c.
+-- Of two survivors d depends on c: some question that it asks, in the
+-- run of those before it, has another answer in the run of those less c.
 abbrev pub Depends : Facts → List Survivor → Survivor → Survivor → Type 0
 Depends k survivors c d =
-    AnsweredOtherwise k (run k (before d.number survivors)) (run k (less c.number (before d.number survivors))) (plan k d.number d.command)
+    AnsweredOtherwise k (run k (before d.number survivors))
+    (run k (less c.number (before d.number survivors))) (plan k d.number d.command)
 
 -- the same, as a test
 abbrev pub depends : Facts → List Survivor → Survivor → Survivor → Bool
 depends k survivors c d =
-    answered_otherwise k (run k (before d.number survivors)) (run k (less c.number (before d.number survivors))) (plan k d.number d.command)
+    answered_otherwise k (run k (before d.number survivors))
+    (run k (less c.number (before d.number survivors))) (plan k d.number d.command)
 
 -- no later survivor depends on it
 abbrev pub NoneDepends : Facts → List Survivor → Survivor → Type 0
-NoneDepends k survivors c = (d : Survivor) → IsAmong d survivors → c.number < d.number → Depends k survivors c d → ⊥
+NoneDepends k survivors c =
+    (d : Survivor) → IsAmong d survivors → c.number < d.number → Depends k survivors c d → ⊥
 
 -- the least number of a later survivor that depends on it
 pub record IsLeastDependent (k : Facts) (survivors : List Survivor) (c : Survivor) (n : ℕ) : Type 0 where
@@ -58,12 +62,14 @@ pub record IsLeastDependent (k : Facts) (survivors : List Survivor) (c : Survivo
   pub later : c.number < dependent.number
   pub depends : Depends k survivors c dependent
   pub named : n ≡ dependent.number
-  pub least : (d : Survivor) → IsAmong d survivors → c.number < d.number → d.number < n → Depends k survivors c d → ⊥
+  pub least : (d : Survivor) → IsAmong d survivors → c.number < d.number → d.number < n
+      → Depends k survivors c d → ⊥
 
 -- the number of the first of these that depends on it
 abbrev pub first_dependent : Facts → List Survivor → Survivor → List Survivor → Option ℕ
 first_dependent k survivors c [] = None
-first_dependent k survivors c (d ∷ ds) = if depends k survivors c d then Some d.number else first_dependent k survivors c ds
+first_dependent k survivors c (d ∷ ds) =
+    if depends k survivors c d then Some d.number else first_dependent k survivors c ds
 
 -- The same by one walk from the two desks on: that with c, and that without it.
 abbrev pub first_otherwise : Facts → Desk → Desk → List Survivor → Option ℕ

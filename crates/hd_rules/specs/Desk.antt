@@ -1,6 +1,7 @@
 -- A desk gives each copy a place and each pair of title and patron a hold or none.
 use Rattle.std.specs.Prelude.{ℕ, Bool, false, ◌&&◌, ◌==◌, Option, None, List, [], ◌∷◌, if◌then◌else◌}
-use Rattle.hd_rules.specs.Words.{Hold, CopyState, Shelf, Cell, CopyCell, HoldCell, Value, CopyHas, HoldHas, Change}
+use Rattle.hd_rules.specs.Words.{Hold, CopyState, Shelf, Cell, CopyCell, HoldCell, Value, CopyHas, HoldHas}
+use Rattle.hd_rules.specs.Words.{Change}
 use Rattle.hd_rules.specs.Facts.{Facts}
 
 -- what each cell has
@@ -27,7 +28,8 @@ same_cell (HoldCell t p) (HoldCell u q) = (t == u) && (p == q)
 -- the desk with this value in this cell
 abbrev pub put : Desk → Cell → Value → Desk
 put d (CopyCell c) (CopyHas v) = record { copy = λ x. if c == x then v else d.copy x; hold = d.hold }
-put d (HoldCell t p) (HoldHas v) = record { copy = d.copy; hold = λ u q. if (t == u) && (p == q) then v else d.hold u q }
+put d (HoldCell t p) (HoldHas v) =
+    record { copy = d.copy; hold = λ u q. if (t == u) && (p == q) then v else d.hold u q }
 put d (CopyCell c) (HoldHas v) = d
 put d (HoldCell t p) (CopyHas v) = d
 

@@ -1,6 +1,8 @@
 -- What a catalogue says.
 use Rattle.std.specs.Prelude.{ℕ, ◌<◌, ◌≤◌, Bool}
-use Rattle.hd_rules.specs.declared.limits.TheConstants.{MOST_BRANCHES, MOST_TERMINALS, MOST_TITLES, MOST_COPIES, MOST_PATRONS, MOST_LOAN_DAYS, MOST_RENEWALS, MOST_LOANS, MOST_COMMANDS}
+use Rattle.hd_rules.specs.declared.limits.TheConstants.{MOST_BRANCHES, MOST_TERMINALS, MOST_TITLES}
+use Rattle.hd_rules.specs.declared.limits.TheConstants.{MOST_COPIES, MOST_PATRONS, MOST_LOAN_DAYS}
+use Rattle.hd_rules.specs.declared.limits.TheConstants.{MOST_RENEWALS, MOST_LOANS, MOST_COMMANDS}
 
 -- How many there are of each kind, and what is known of each by its number.
 pub record Facts : Type 0 where

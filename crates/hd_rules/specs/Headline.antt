@@ -20,8 +20,10 @@ abbrev pub AllQueries : List Turn → Type 0
 AllQueries [] = Unit {0}
 AllQueries (turn ∷ turns) = ((c : ℕ) × (turn.message.asked ≡ ask.Item c)) × AllQueries turns
 
--- After the turns a command is accepted with this number, and the next changing message is its terminal's cancellation of it.
-pub record IsCancelledAtOnce (k : Facts) (turns : List Turn) (submitted : Turn) (queries : List Turn) (cancelled : Turn) (n : ℕ) : Type 0 where
+-- After the turns a command is accepted with this number, and the
+-- next changing message is its terminal's cancellation of it.
+pub record IsCancelledAtOnce (k : Facts) (turns : List Turn) (submitted : Turn) (queries : List Turn)
+    (cancelled : Turn) (n : ℕ) : Type 0 where
   pub legal : IsLegal k (turns ++ submitted ∷ (queries ++ cancelled ∷ []))
   pub command : Command
   pub is_command : submitted.message.asked ≡ ask.Command command
@@ -35,10 +37,13 @@ pub record IsCancelledAtOnce (k : Facts) (turns : List Turn) (submitted : Turn) 
   pub aimed : is_of_kind what command.action ≡ true
 
 -- the desk is as before the command
-pub record LeavesTheDesk (k : Facts) (turns : List Turn) (submitted : Turn) (queries : List Turn) (cancelled : Turn) (n : ℕ) : Type 0 where
+pub record LeavesTheDesk (k : Facts) (turns : List Turn) (submitted : Turn) (queries : List Turn)
+    (cancelled : Turn) (n : ℕ) : Type 0 where
   pub answer : cancelled.reply ≡ Cancelled n
-  pub desk : (state_after k (turns ++ submitted ∷ (queries ++ cancelled ∷ []))).desk ≡ (state_after k turns).desk
-  pub survivors : (state_after k (turns ++ submitted ∷ (queries ++ cancelled ∷ []))).survivors ≡ (state_after k turns).survivors
+  pub desk : (state_after k (turns ++ submitted ∷ (queries ++ cancelled ∷ []))).desk
+      ≡ (state_after k turns).desk
+  pub survivors : (state_after k (turns ++ submitted ∷ (queries ++ cancelled ∷ []))).survivors
+      ≡ (state_after k turns).survivors
 
 -- no cell, survivor or number changes
 pub record ChangesNothing (s next : State) : Type 0 where
@@ -72,25 +77,34 @@ pub record IsNothingToCancel (s : State) (answered : Answered) : Type 0 where
   pub answer : answered.reply ≡ Refused refusal.NothingToCancel
   pub nothing : ChangesNothing s answered.state
 
--- It is accepted exactly when no surviving later command depends on its target; otherwise the first that does is named.
-pub record IsDecided (k : Facts) (turns : List Turn) (s : State) (at : Split) (answered : Answered) : Type 0 where
+-- It is accepted exactly when no surviving later command depends
+-- on its target; otherwise the first that does is named.
+pub record IsDecided (k : Facts) (turns : List Turn) (s : State) (at : Split) (answered : Answered) :
+    Type 0 where
   pub accepted : (answered.reply ≡ Cancelled at.survivor.number) ↔ NoneDepends k s.survivors at.survivor
-  pub run_without : NoneDepends k s.survivors at.survivor → IsRunWithout k turns s at.survivor.number answered.state
+  pub run_without : NoneDepends k s.survivors at.survivor
+      → IsRunWithout k turns s at.survivor.number answered.state
   pub refused : (NoneDepends k s.survivors at.survivor → ⊥) →
-      (n : ℕ) × (answered.reply ≡ Refused (refusal.Depends n)) × IsLeastDependent k s.survivors at.survivor n × ChangesNothing s answered.state
+      (n : ℕ) × (answered.reply ≡ Refused (refusal.Depends n)) × IsLeastDependent k s.survivors at.survivor n
+      × ChangesNothing s answered.state
 
 -- A repeat is answered as before, and leaves all as it is.
 pub record IsRepeated (s : State) (reply : TurnReply) (answered : Answered) : Type 0 where
   pub answer : answered.reply ≡ reply
   pub state : answered.state ≡ s
 
--- Cancelled at once, a command leaves the desk as before; a cancellation is decided by dependence alone; a repeat changes nothing.
+-- Cancelled at once, a command leaves the desk as before; a cancellation
+-- is decided by dependence alone; a repeat changes nothing.
 pub record Headline (k : Facts) (turns : List Turn) : Type 0 where
   pub at_once : (submitted : Turn) (queries : List Turn) (cancelled : Turn) (n : ℕ) →
-      IsCancelledAtOnce k turns submitted queries cancelled n → LeavesTheDesk k turns submitted queries cancelled n
+      IsCancelledAtOnce k turns submitted queries cancelled n
+      → LeavesTheDesk k turns submitted queries cancelled n
   pub cancellation : (m : Message) (at : Split) →
-      IsCancellation (state_after k turns) m at → IsDecided k turns (state_after k turns) at (turn_of k (state_after k turns) m)
+      IsCancellation (state_after k turns) m at
+      → IsDecided k turns (state_after k turns) at (turn_of k (state_after k turns) m)
   pub aimless : (m : Message) →
-      IsAimless (state_after k turns) m → IsNothingToCancel (state_after k turns) (turn_of k (state_after k turns) m)
+      IsAimless (state_after k turns) m
+      → IsNothingToCancel (state_after k turns) (turn_of k (state_after k turns) m)
   pub repeat : (m : Message) (reply : TurnReply) →
-      IsRepeat (state_after k turns) m reply → IsRepeated (state_after k turns) reply (turn_of k (state_after k turns) m)
+      IsRepeat (state_after k turns) m reply
+      → IsRepeated (state_after k turns) reply (turn_of k (state_after k turns) m)

@@ -52,9 +52,11 @@ pub record WasTold (turns : List Turn) (s : Survivor) (reply : Reply) : Type 0 w
 -- Each of the survivors is accepted in their run, with the reply that it got.
 abbrev pub RepliesStand : Facts → List Turn → List Survivor → Type 0
 RepliesStand k turns survivors = (s : Survivor) → IsAmong s survivors →
-    (done : Done) × (outcome_of k (run k (before s.number survivors)) s ≡ Ok done) × WasTold turns s done.reply
+    (done : Done) × (outcome_of k (run k (before s.number survivors)) s ≡ Ok done)
+    × WasTold turns s done.reply
 
--- The desk is the run of the survivors; their numbers rise, and none is above the last one given; all their replies stand.
+-- The desk is the run of the survivors; their numbers rise, and
+-- none is above the last one given; all their replies stand.
 pub record IsRunOfSurvivors (k : Facts) (turns : List Turn) (s : State) : Type 0 where
   pub desk : s.desk ≡ run k s.survivors
   pub rising : Rising 1 s.survivors

@@ -1,6 +1,9 @@
 -- Numbers that a catalogue has given.
 use Rattle.std.specs.Prelude.{ℕ, ◌<◌, Option, Some, None, List}
-use Rattle.hd_rules.specs.Words.{Hold, HoldKind, Any, One, AtBranch, CopyState, Shelf, OnLoan, OnHoldShelf, InTransit, Cell, CopyCell, HoldCell, Value, CopyHas, HoldHas, Change, Question, ValueOf, Choice, Place, Room, Position, OnShelf, Action, Cancel, Asked, Reply, LentOrRenewed, Returned, Held, Deleted, TurnReply}
+use Rattle.hd_rules.specs.Words.{Hold, HoldKind, Any, One, AtBranch, CopyState, Shelf, OnLoan, OnHoldShelf}
+use Rattle.hd_rules.specs.Words.{InTransit, Cell, CopyCell, HoldCell, Value, CopyHas, HoldHas, Change}
+use Rattle.hd_rules.specs.Words.{Question, ValueOf, Choice, Place, Room, Position, OnShelf, Action, Cancel}
+use Rattle.hd_rules.specs.Words.{Asked, Reply, LentOrRenewed, Returned, Held, Deleted, TurnReply}
 use Rattle.hd_rules.specs.declared.replies.TurnReply.TheVariants.{Done as Accepted, Refused, Cancelled, Item}
 use Rattle.hd_rules.specs.declared.commands.Action.TheVariants as action
 use Rattle.hd_rules.specs.declared.commands.Cancel.TheVariants as cancel
@@ -47,7 +50,8 @@ IsKnownAction k (action.Checkin c b) = (c < k.copies) × (b < k.branches)
 IsKnownAction k (action.Add p t kind pickup expiry) =
     (p < k.patrons) × (t < k.titles) × IsKnownKind k kind × (pickup < k.branches)
 IsKnownAction k (action.Delete p t) = (p < k.patrons) × (t < k.titles)
-IsKnownAction k (action.ChangeHold p t kind pickup expiry) = (p < k.patrons) × (t < k.titles) × IsKnownChoice k kind pickup
+IsKnownAction k (action.ChangeHold p t kind pickup expiry) =
+    (p < k.patrons) × (t < k.titles) × IsKnownChoice k kind pickup
 IsKnownAction k (action.Renew p c) = (p < k.patrons) × (c < k.copies)
 
 -- and all that a cancellation names
@@ -120,7 +124,8 @@ IsKnownTurnReply k (Item view) = IsKnownState k view.state
 
 -- an accepted command writes cells of the catalogue, with values and a reply that name things of it
 pub record IsKnownDone (k : Facts) (done : Done) : Type 0 where
-  pub changes : (change : Change) → IsAmong change done.changes → IsKnownCell k change.cell × IsKnownValue k change.new
+  pub changes : (change : Change) → IsAmong change done.changes
+      → IsKnownCell k change.cell × IsKnownValue k change.new
   pub reply : IsKnownReply k done.reply
 
 -- all that a journal's desk has and its turns replied names things of the catalogue

@@ -19,3 +19,4 @@ pub mod Laws
 pub mod MachineLaws
 pub mod Known
 pub mod Replies
+pub mod RefusalTexts

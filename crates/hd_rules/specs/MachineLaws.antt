@@ -25,7 +25,8 @@ ALegalJournalIsTheRunOfItsSurvivors =
 abbrev pub ALegalJournalGoesOn : Type 0
 ALegalJournalGoesOn =
     (k : Facts) (turns : List Turn) (turn : Turn) →
-    (IsLegal k (turns ++ turn ∷ []) ↔ (IsLegal k turns × (turn.reply ≡ (turn_of k (state_after k turns) turn.message).reply)))
+    (IsLegal k (turns ++ turn ∷ [])
+    ↔ (IsLegal k turns × (turn.reply ≡ (turn_of k (state_after k turns) turn.message).reply)))
     × (state_after k (turns ++ turn ∷ []) ≡ (turn_of k (state_after k turns) turn.message).state)
 
 -- After every legal list of turns, so after every list of the terminals' messages, the headline holds.
@@ -36,7 +37,8 @@ TheHeadline = (k : Facts) (turns : List Turn) → IsLegal k turns → Headline k
 abbrev pub EachSurvivorHasOneRecord : Type 0
 EachSurvivorHasOneRecord =
     (k : Facts) (turns : List Turn) → IsLegal k turns →
-    (s : Survivor) → IsAmong s (state_after k turns).survivors → IsKeptOf k turns (state_after k turns).survivors s
+    (s : Survivor) → IsAmong s (state_after k turns).survivors
+    → IsKeptOf k turns (state_after k turns).survivors s
 
 -- where all that the messages name was given by the catalogue
 abbrev pub KnownMessagesGetKnownReplies : Type 0
@@ -47,9 +49,12 @@ KnownMessagesGetKnownReplies =
 -- Whatever the messages are, there is one legal list of turns with them.
 abbrev pub EveryListOfMessagesIsAnswered : Type 0
 EveryListOfMessagesIsAnswered =
-    (k : Facts) (turns : List Turn) → IsLegal k (replied_from k (start k) turns) × (IsLegal k turns → replied_from k (start k) turns ≡ turns)
+    (k : Facts) (turns : List Turn)
+    → IsLegal k (replied_from k (start k) turns)
+    × (IsLegal k turns → replied_from k (start k) turns ≡ turns)
 
 -- in every legal list of turns
 abbrev pub EachReplyIsToItsMessage : Type 0
 EachReplyIsToItsMessage =
-    (k : Facts) (turns : List Turn) → IsLegal k turns → (turn : Turn) → IsAmong turn turns → IsReplyTo turn.message.asked turn.reply
+    (k : Facts) (turns : List Turn) → IsLegal k turns → (turn : Turn) → IsAmong turn turns
+    → IsReplyTo turn.message.asked turn.reply

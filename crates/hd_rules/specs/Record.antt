@@ -1,6 +1,7 @@
 -- What a journal keeps of a survivor.
 use Rattle.std.specs.Prelude.{◌≡◌, ℕ, Ok, List, [], ◌∷◌}
-use Rattle.hd_rules.specs.Words.{Change, Question, ValueOf, Choice, Place, Room, Position, OnShelf, Noted, Finding, Command, Survivor, Reply}
+use Rattle.hd_rules.specs.Words.{Change, Question, ValueOf, Choice, Place, Room, Position, OnShelf, Noted}
+use Rattle.hd_rules.specs.Words.{Finding, Command, Survivor, Reply}
 use Rattle.hd_rules.specs.declared.questions.Noted.TheVariants as noted
 use Rattle.hd_rules.specs.Facts.{Facts}
 use Rattle.hd_rules.specs.Desk.{Desk, value}
@@ -11,7 +12,8 @@ use Rattle.hd_rules.specs.Run.{outcome_of, run}
 use Rattle.hd_rules.specs.Depends.{before}
 use Rattle.hd_rules.specs.Journal.{Turn, WasTold}
 
--- The answer that a desk gives: for room the number of loans, and for open shelves the number of copies that stand there.
+-- The answer that a desk gives: for room the number of loans,
+-- and for open shelves the number of copies that stand there.
 abbrev pub note : Facts → Desk → Question → Noted
 note k d (ValueOf x) = noted.Value (value d x)
 note k d (Choice c b day) = noted.Choice (choice k d c b day)

@@ -4,8 +4,8 @@ use Rattle.hd_rules.specs.declared.commands.Action.TheVariants as action
 use Rattle.hd_rules.specs.declared.turns.Asked.TheVariants as ask
 use Rattle.hd_rules.specs.declared.replies.TurnReply.TheVariants.{Done as Accepted, Refused, Cancelled, Item}
 
--- A reply to an accepted checkout or renewal tells of a loan, one to a checkin where the copy is, and one to a hold message of
--- the hold, or that it is deleted.
+-- A reply to an accepted checkout or renewal tells of a loan, one to a checkin
+-- where the copy is, and one to a hold message of the hold, or that it is deleted.
 abbrev pub TellsOf : Action → Reply → Type 0
 TellsOf (action.Checkout p c may_renew) (LentOrRenewed t due renewal) = Unit {0}
 TellsOf (action.OffLine p c due) (LentOrRenewed t day renewal) = Unit {0}

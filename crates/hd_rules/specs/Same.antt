@@ -1,6 +1,9 @@
 -- Whether two values are one: a change to the value that is there already is no change.
-use Rattle.std.specs.Prelude.{ℕ, Bool, true, false, ◌&&◌, ◌==◌, not, filter, Option, Some, None, List, [], ◌∷◌}
-use Rattle.hd_rules.specs.Words.{Answer, Action, Cancel, Asked, Hold, HoldKind, Any, One, AtBranch, CopyState, Shelf, OnLoan, OnHoldShelf, InTransit, Value, CopyHas, HoldHas, Change, Refusal, Reply, LentOrRenewed, Returned, Held, Deleted, ItemView, TurnReply}
+use Rattle.std.specs.Prelude.{ℕ, Bool, true, false, ◌&&◌, ◌==◌, not, filter, Option, Some, None, List, []}
+use Rattle.std.specs.Prelude.{◌∷◌}
+use Rattle.hd_rules.specs.Words.{Answer, Action, Cancel, Asked, Hold, HoldKind, Any, One, AtBranch, CopyState}
+use Rattle.hd_rules.specs.Words.{Shelf, OnLoan, OnHoldShelf, InTransit, Value, CopyHas, HoldHas, Change}
+use Rattle.hd_rules.specs.Words.{Refusal, Reply, LentOrRenewed, Returned, Held, Deleted, ItemView, TurnReply}
 use Rattle.hd_rules.specs.declared.replies.Refusal.TheVariants as refusal
 use Rattle.hd_rules.specs.declared.replies.TurnReply.TheVariants.{Done as Accepted, Refused, Cancelled, Item}
 use Rattle.hd_rules.specs.declared.questions.Answer.TheVariants as answers
@@ -41,7 +44,8 @@ same_hold g h =
 abbrev pub same_place : CopyState → CopyState → Bool
 same_place (Shelf b) (Shelf x) = b == x
 same_place (OnLoan l) (OnLoan m) = (l.patron == m.patron) && ((l.due == m.due) && (l.renewals == m.renewals))
-same_place (OnHoldShelf s) (OnHoldShelf t) = (s.branch == t.branch) && ((s.place == t.place) && (s.patron == t.patron))
+same_place (OnHoldShelf s) (OnHoldShelf t) =
+    (s.branch == t.branch) && ((s.place == t.place) && (s.patron == t.patron))
 same_place (InTransit s) (InTransit t) =
     (s.from == t.from) && ((s.to == t.to) && same_option same_number s.patron t.patron)
 same_place _ _ = false
@@ -69,7 +73,8 @@ same_action (action.Checkout p c may_renew) (action.Checkout q x might) =
 same_action (action.OffLine p c due) (action.OffLine q x day) = (p == q) && ((c == x) && (due == day))
 same_action (action.Checkin c b) (action.Checkin x a) = (c == x) && (b == a)
 same_action (action.Add p t kind pickup expiry) (action.Add q u sort branch day) =
-    (p == q) && ((t == u) && (same_kind kind sort && ((pickup == branch) && same_option same_number expiry day)))
+    (p == q)
+    && ((t == u) && (same_kind kind sort && ((pickup == branch) && same_option same_number expiry day)))
 same_action (action.Delete p t) (action.Delete q u) = (p == q) && (t == u)
 same_action (action.ChangeHold p t kind pickup expiry) (action.ChangeHold q u sort branch day) =
     (p == q) && ((t == u) && (same_option same_kind kind sort
@@ -121,8 +126,10 @@ same_refusal _ _ = false
 
 -- replies to commands
 abbrev pub same_reply : Reply → Reply → Bool
-same_reply (LentOrRenewed t due renewal) (LentOrRenewed u day renewed) = (t == u) && ((due == day) && same_bool renewal renewed)
-same_reply (Returned t home now) (Returned u branch place) = (t == u) && ((home == branch) && same_place now place)
+same_reply (LentOrRenewed t due renewal) (LentOrRenewed u day renewed) =
+    (t == u) && ((due == day) && same_bool renewal renewed)
+same_reply (Returned t home now) (Returned u branch place) =
+    (t == u) && ((home == branch) && same_place now place)
 same_reply (Held t available position h) (Held u some_there spot g) =
     (t == u) && (same_bool available some_there && ((position == spot) && same_hold h g))
 same_reply (Deleted t) (Deleted u) = t == u

@@ -1,6 +1,7 @@
 -- Where a copy goes when it is handed in at a branch, or its hold ends on a hold shelf.
 use Rattle.std.specs.Prelude.{ℕ, ◌==◌, Option, Some, None, List, [], ◌∷◌, if◌then◌else◌}
-use Rattle.hd_rules.specs.Words.{Hold, CopyState, Shelf, OnLoan, OnHoldShelf, InTransit, CopyCell, HoldCell, CopyHas, HoldHas, Change, ValueOf, Choice, Place}
+use Rattle.hd_rules.specs.Words.{Hold, CopyState, Shelf, OnLoan, OnHoldShelf, InTransit, CopyCell, HoldCell}
+use Rattle.hd_rules.specs.Words.{CopyHas, HoldHas, Change, ValueOf, Choice, Place}
 use Rattle.hd_rules.specs.Facts.{Facts}
 use Rattle.hd_rules.specs.Ask.{Plan, Ask}
 
@@ -27,18 +28,28 @@ place_at b (Shelf x) = None
 place_at b (OnLoan l) = None
 place_at b (InTransit t) = None
 
--- Kept for the hold's patron: at its pickup on the place that it has or on the least free one, else on the way there.
+-- Kept for the hold's patron: at its pickup on the place that
+-- it has or on the least free one, else on the way there.
 abbrev pub keep : ℕ → Hold → Option ℕ → (CopyState → Plan) → Plan
 keep b h None rest =
     if h.pickup == b
     then Ask (Place b) (λ place. rest (OnHoldShelf (record { branch = b; place = place; patron = h.patron })))
     else rest (sent_to b h)
 keep b h (Some place) rest =
-    rest (if h.pickup == b then OnHoldShelf (record { branch = b; place = place; patron = h.patron }) else sent_to b h)
+    rest (if h.pickup == b then OnHoldShelf (record { branch = b; place = place; patron = h.patron })
+    else sent_to b h)
 
 -- a hold with another copy, or with none
 abbrev pub with_copy : Option ℕ → Hold → Hold
-with_copy c h = record { patron = h.patron; stamp = h.stamp; kind = h.kind; pickup = h.pickup; expiry = h.expiry; copy = c }
+with_copy c h =
+    record {
+      patron = h.patron;
+      stamp = h.stamp;
+      kind = h.kind;
+      pickup = h.pickup;
+      expiry = h.expiry;
+      copy = c;
+    }
 
 -- a change of a copy's cell
 abbrev pub copy_becomes : ℕ → CopyState → CopyState → Change
@@ -52,7 +63,8 @@ hold_becomes t p old new = record { cell = HoldCell t p; old = HoldHas old; new 
 abbrev pub allot : Facts → ℕ → ℕ → Option ℕ → Option Hold → (CopyState → List Change → Plan) → Plan
 allot k c b at None rest = rest (sent_home k c b) []
 allot k c b at (Some h) rest = Ask (ValueOf (HoldCell (k.title_of c) h.patron)) (λ held.
-    keep b h at (λ new. rest new (hold_becomes (k.title_of c) h.patron held (Some (with_copy (Some c) h)) ∷ [])))
+    keep b h at
+    (λ new. rest new (hold_becomes (k.title_of c) h.patron held (Some (with_copy (Some c) h)) ∷ [])))
 
 -- A copy that its hold keeps. In a sound desk the hold is there.
 abbrev pub settle_tied : Facts → ℕ → ℕ → CopyState → Option Hold → (CopyState → List Change → Plan) → Plan
@@ -61,5 +73,6 @@ settle_tied k c b old (Some h) rest = keep b h (place_at b old) (λ new. rest ne
 
 -- the copy's new value, and the change of the hold that gets it
 abbrev pub settle : Facts → ℕ → ℕ → ℕ → CopyState → Option ℕ → (CopyState → List Change → Plan) → Plan
-settle k c b day old (Some p) rest = Ask (ValueOf (HoldCell (k.title_of c) p)) (λ held. settle_tied k c b old held rest)
+settle k c b day old (Some p) rest =
+    Ask (ValueOf (HoldCell (k.title_of c) p)) (λ held. settle_tied k c b old held rest)
 settle k c b day old None rest = Ask (Choice c b day) (λ chosen. allot k c b None chosen rest)

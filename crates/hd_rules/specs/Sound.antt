@@ -27,7 +27,8 @@ AreNamed holds = (t : ℕ) (p : ℕ) (h : Hold) → holds t p ≡ Some h → h.p
 
 -- no two holds of a title have one stamp
 abbrev pub StampsApart : (ℕ → ℕ → Option Hold) → Type 0
-StampsApart holds = (t : ℕ) (p q : ℕ) (g h : Hold) → holds t p ≡ Some g → holds t q ≡ Some h → g.stamp ≡ h.stamp → p ≡ q
+StampsApart holds =
+    (t : ℕ) (p q : ℕ) (g h : Hold) → holds t p ≡ Some g → holds t q ≡ Some h → g.stamp ≡ h.stamp → p ≡ q
 
 -- and each stamp is below n
 pub record HoldsFit (n : ℕ) (holds : ℕ → ℕ → Option Hold) : Type 0 where
@@ -38,7 +39,8 @@ pub record HoldsFit (n : ℕ) (holds : ℕ → ℕ → Option Hold) : Type 0 whe
 -- Places are numbered from 1, and no two of the catalogue's copies share a place of a branch.
 pub record PlacesFit (k : Facts) (copies : ℕ → CopyState) : Type 0 where
   pub from_one : (c : ℕ) (s : HoldPlace) → copies c ≡ OnHoldShelf s → 1 ≤ s.place
-  pub apart : (x y : ℕ) (s r : HoldPlace) → x < k.copies → y < k.copies → copies x ≡ OnHoldShelf s → copies y ≡ OnHoldShelf r → s.branch ≡ r.branch → s.place ≡ r.place → x ≡ y
+  pub apart : (x y : ℕ) (s r : HoldPlace) → x < k.copies → y < k.copies → copies x ≡ OnHoldShelf s
+      → copies y ≡ OnHoldShelf r → s.branch ≡ r.branch → s.place ≡ r.place → x ≡ y
 
 -- a fit desk
 pub record IsFit (k : Facts) (d : Desk) : Type 0 where
@@ -60,4 +62,5 @@ EachBackIsFit k (change ∷ changes) d = EachBackIsFit k changes d × IsFit k (u
 -- every desk on the way of making these changes, in order, is fit
 abbrev pub EachOnIsFit : Facts → List Change → Desk → Type 0
 EachOnIsFit k [] d = Unit {0}
-EachOnIsFit k (change ∷ changes) d = IsFit k (put d change.cell change.new) × EachOnIsFit k changes (put d change.cell change.new)
+EachOnIsFit k (change ∷ changes) d =
+    IsFit k (put d change.cell change.new) × EachOnIsFit k changes (put d change.cell change.new)

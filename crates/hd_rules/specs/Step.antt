@@ -1,6 +1,9 @@
 -- What each command asks, and what it then does.
-use Rattle.std.specs.Prelude.{ℕ, ◌+◌, Bool, true, false, ◌||◌, ◌==◌, nat_lt, nat_le, Option, Some, None, List, [], ◌∷◌, ◌++◌, if◌then◌else◌, unwrap_or}
-use Rattle.hd_rules.specs.Words.{Hold, HoldKind, Loan, CopyState, Shelf, OnLoan, OnHoldShelf, InTransit, CopyCell, HoldCell, Change, ValueOf, Choice, Room, Position, OnShelf, Reply, LentOrRenewed, Returned, Held, Deleted, Action, Command}
+use Rattle.std.specs.Prelude.{ℕ, ◌+◌, Bool, true, false, ◌||◌, ◌==◌, nat_lt, nat_le, Option, Some, None, List}
+use Rattle.std.specs.Prelude.{[], ◌∷◌, ◌++◌, if◌then◌else◌, unwrap_or}
+use Rattle.hd_rules.specs.Words.{Hold, HoldKind, Loan, CopyState, Shelf, OnLoan, OnHoldShelf, InTransit}
+use Rattle.hd_rules.specs.Words.{CopyCell, HoldCell, Change, ValueOf, Choice, Room, Position, OnShelf, Reply}
+use Rattle.hd_rules.specs.Words.{LentOrRenewed, Returned, Held, Deleted, Action, Command}
 use Rattle.hd_rules.specs.declared.replies.Refusal.TheVariants as refusal
 use Rattle.hd_rules.specs.declared.commands.Action.TheVariants as action
 use Rattle.hd_rules.specs.Facts.{Facts}
@@ -12,7 +15,8 @@ use Rattle.hd_rules.specs.Settle.{settle, allot, tied_to, copy_becomes, hold_bec
 -- the last number is the catalogue's limit
 abbrev pub accept : Facts → ℕ → List Change → Reply → Plan
 accept k n changes reply =
-    if nat_lt k.command_limit n then Refuse refusal.JournalFull else Accept (record { changes = real_changes changes; reply = reply })
+    if nat_lt k.command_limit n then Refuse refusal.JournalFull
+    else Accept (record { changes = real_changes changes; reply = reply })
 
 -- the last day that a due day may be
 abbrev pub last_day : ℕ
@@ -43,7 +47,8 @@ lend_held k n p c day old = lend k p c day (Ask (ValueOf (HoldCell (k.title_of c
 -- a copy from the open shelf: nobody's hold comes first, or the patron's own, which then ends
 abbrev pub lend_from_shelf : Facts → ℕ → ℕ → ℕ → ℕ → CopyState → Option Hold → Plan
 lend_from_shelf k n p c day old None = lend k p c day (lent k n p c day old [])
-lend_from_shelf k n p c day old (Some h) = if h.patron == p then lend_held k n p c day old else Refuse refusal.KeptForAnother
+lend_from_shelf k n p c day old (Some h) =
+    if h.patron == p then lend_held k n p c day old else Refuse refusal.KeptForAnother
 
 -- the copy's first hold is another patron's
 abbrev pub is_wanted : ℕ → Option Hold → Bool
@@ -60,12 +65,14 @@ renew_loan k n p c day l = Ask (Choice c (k.home c) day) (λ chosen.
     if cannot_renew k p c l chosen then Refuse refusal.NotRenewable
     else if nat_lt last_day (due_day k c day) then Refuse refusal.DueRange
     else accept k n
-    (copy_becomes c (OnLoan l) (OnLoan (record { patron = p; due = due_day k c day; renewals = l.renewals + 1 })) ∷ [])
+    (copy_becomes c (OnLoan l)
+    (OnLoan (record { patron = p; due = due_day k c day; renewals = l.renewals + 1 })) ∷ [])
     (LentOrRenewed (k.title_of c) (due_day k c day) true))
 
 -- a checkout, by where the copy is
 abbrev pub checkout_at : Facts → ℕ → ℕ → ℕ → Bool → ℕ → CopyState → Plan
-checkout_at k n p c may_renew day (Shelf b) = Ask (Choice c (k.home c) day) (λ chosen. lend_from_shelf k n p c day (Shelf b) chosen)
+checkout_at k n p c may_renew day (Shelf b) =
+    Ask (Choice c (k.home c) day) (λ chosen. lend_from_shelf k n p c day (Shelf b) chosen)
 checkout_at k n p c may_renew day (OnLoan l) =
     if l.patron == p
     then (if may_renew then renew_loan k n p c day l else Refuse refusal.OnLoan)
@@ -101,7 +108,8 @@ abbrev pub off_line_at : Facts → ℕ → ℕ → ℕ → ℕ → CopyState →
 off_line_at k n p c due old held None = lend_off_line k n p c due old (ended k c p held)
 off_line_at k n p c due old held (Some q) =
     if q == p then lend_off_line k n p c due old (ended k c p held)
-    else Ask (ValueOf (HoldCell (k.title_of c) q)) (λ other. lend_off_line k n p c due old (ended k c p held ++ freed k c q other))
+    else Ask (ValueOf (HoldCell (k.title_of c) q))
+    (λ other. lend_off_line k n p c due old (ended k c p held ++ freed k c q other))
 
 -- a loan that the terminal made on its own
 abbrev pub off_line : Facts → ℕ → ℕ → ℕ → ℕ → Plan
@@ -164,7 +172,8 @@ change_to k n t p expiry day h new None =
 -- the patron's hold of the title, changed
 abbrev pub change : Facts → ℕ → ℕ → ℕ → Option HoldKind → Option ℕ → Option ℕ → ℕ → Option Hold → Plan
 change k n t p kind pickup expiry day None = Refuse refusal.NoSuchHold
-change k n t p kind pickup expiry day (Some h) = change_to k n t p expiry day h (changed kind pickup expiry h) h.copy
+change k n t p kind pickup expiry day (Some h) =
+    change_to k n t p expiry day h (changed kind pickup expiry h) h.copy
 
 -- a renewal, by where the copy is
 abbrev pub renew_at : Facts → ℕ → ℕ → ℕ → ℕ → CopyState → Plan
@@ -180,7 +189,8 @@ plan_of k n day (action.Checkout p c may_renew) =
 plan_of k n day (action.OffLine p c due) = off_line k n p c due
 plan_of k n day (action.Checkin c b) = checkin k n c b day
 plan_of k n day (action.Add p t kind pickup expiry) = Ask (ValueOf (HoldCell t p)) (λ old.
-    add k n (record { patron = p; stamp = n; kind = kind; pickup = pickup; expiry = expiry; copy = None }) t day old)
+    add k n (record { patron = p; stamp = n; kind = kind; pickup = pickup; expiry = expiry; copy = None }) t
+    day old)
 plan_of k n day (action.Delete p t) = Ask (ValueOf (HoldCell t p)) (λ old. delete k n t p day old)
 plan_of k n day (action.ChangeHold p t kind pickup expiry) =
     Ask (ValueOf (HoldCell t p)) (λ old. change k n t p kind pickup expiry day old)

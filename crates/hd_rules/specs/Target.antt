@@ -1,14 +1,18 @@
 -- Which command a cancellation takes back.
-use Rattle.std.specs.Prelude.{◌≡◌, ℕ, Bool, true, false, ◌&&◌, ◌==◌, if◌then◌else◌, Option, Some, None, List, [], ◌∷◌, ◌++◌}
+use Rattle.std.specs.Prelude.{◌≡◌, ℕ, Bool, true, false, ◌&&◌, ◌==◌, if◌then◌else◌, Option, Some, None, List}
+use Rattle.std.specs.Prelude.{[], ◌∷◌, ◌++◌}
 use Rattle.hd_rules.specs.Words.{Action, Cancel, Survivor}
-use Rattle.hd_rules.specs.declared.commands.Action.TheVariants.{Checkout, OffLine, Checkin, Add, Delete, ChangeHold, Renew}
-use Rattle.hd_rules.specs.declared.commands.Cancel.TheVariants.{Loan, Return, Renewal, Adding, Deletion, Changing}
+use Rattle.hd_rules.specs.declared.commands.Action.TheVariants.{Checkout, OffLine, Checkin, Add, Delete}
+use Rattle.hd_rules.specs.declared.commands.Action.TheVariants.{ChangeHold, Renew}
+use Rattle.hd_rules.specs.declared.commands.Cancel.TheVariants.{Loan, Return, Renewal, Adding, Deletion}
+use Rattle.hd_rules.specs.declared.commands.Cancel.TheVariants.{Changing}
 
 -- the same patron and title
 abbrev pub same_pair : ℕ → ℕ → ℕ → ℕ → Bool
 same_pair p t q u = (p == q) && (t == u)
 
--- The action is what such a cancellation takes back. The patron of a loan or a renewal isn't compared, nor a return's branch.
+-- The action is what such a cancellation takes back. The patron
+-- of a loan or a renewal isn't compared, nor a return's branch.
 abbrev pub is_of_kind : Cancel → Action → Bool
 is_of_kind (Loan c) (Checkout p x may_renew) = c == x
 is_of_kind (Loan c) (OffLine p x due) = c == x
@@ -42,7 +46,8 @@ pub record IsTarget (terminal : ℕ) (what : Cancel) (survivors : List Survivor)
 
 -- the target among these later ones, or else the survivor before them
 abbrev pub newest_of : ℕ → Cancel → Survivor → List Survivor → Option Split → Option Split
-newest_of terminal what s ss (Some at) = Some (record { older = s ∷ at.older; survivor = at.survivor; newer = at.newer })
+newest_of terminal what s ss (Some at) =
+    Some (record { older = s ∷ at.older; survivor = at.survivor; newer = at.newer })
 newest_of terminal what s ss None =
     if is_target terminal what s then Some (record { older = []; survivor = s; newer = ss }) else None
 

@@ -1,5 +1,6 @@
 -- The turn machine: what each message is answered, and what it leaves.
-use Rattle.std.specs.Prelude.{◌≡◌, ℕ, ◌+◌, ◌&&◌, ◌==◌, ◌⊎◌, if◌then◌else◌, Result, Ok, Err, Option, Some, None, is_some, List, [], ◌∷◌, ◌++◌}
+use Rattle.std.specs.Prelude.{◌≡◌, ℕ, ◌+◌, ◌&&◌, ◌==◌, ◌⊎◌, if◌then◌else◌, Result, Ok, Err, Option, Some}
+use Rattle.std.specs.Prelude.{None, is_some, List, [], ◌∷◌, ◌++◌}
 use Rattle.hd_rules.specs.Words.{Command, Cancel, Survivor, Refusal, ItemView, TurnReply, Asked}
 use Rattle.hd_rules.specs.declared.turns.Asked.TheVariants as ask
 use Rattle.hd_rules.specs.declared.replies.Refusal.TheVariants as refusal
@@ -54,11 +55,18 @@ repeated s m = repeated_of (s.kept m.terminal) m.asked m.line
 
 -- the state after a survivor more, at this desk
 abbrev pub with_survivor : State → Survivor → Desk → State
-with_survivor s new desk = record { desk = desk; survivors = s.survivors ++ new ∷ []; last = new.number; kept = s.kept }
+with_survivor s new desk =
+    record { desk = desk; survivors = s.survivors ++ new ∷ []; last = new.number; kept = s.kept }
 
 -- the state without the survivor at which its survivors are split
 abbrev pub without : Facts → State → Split → State
-without k s at = record { desk = run k (at.older ++ at.newer); survivors = at.older ++ at.newer; last = s.last; kept = s.kept }
+without k s at =
+    record {
+      desk = run k (at.older ++ at.newer);
+      survivors = at.older ++ at.newer;
+      last = s.last;
+      kept = s.kept;
+    }
 
 -- the command with the next number
 abbrev pub next_survivor : State → ℕ → Command → Survivor
@@ -82,7 +90,8 @@ answered_cancel k s (Some at) = answered_target k s at (first_dependent k s.surv
 
 -- where the copy is, and how many holds its title has
 abbrev pub item_view : Facts → Desk → ℕ → ItemView
-item_view k d c = record { state = d.copy c; holds = count_below (λ p. is_some (d.hold (k.title_of c) p)) k.patrons }
+item_view k d c =
+    record { state = d.copy c; holds = count_below (λ p. is_some (d.hold (k.title_of c) p)) k.patrons }
 
 -- what is kept of a message: nothing where it had no line
 abbrev pub kept_of : Option (List ℕ) → Asked → TurnReply → Option Kept
@@ -132,7 +141,8 @@ abbrev pub IsCommandTurn : Facts → State → Message → Survivor → TurnRepl
 IsCommandTurn k s m new (Accepted n reply) next =
     (done : Done) × (outcome_of k s.desk new ≡ Ok done) × (n ≡ new.number) × (reply ≡ done.reply)
     × (next ≡ keeping m (Accepted n reply) (with_survivor s new (after done.changes s.desk)))
-IsCommandTurn k s m new (Refused r) next = (outcome_of k s.desk new ≡ Err r) × (next ≡ keeping m (Refused r) s)
+IsCommandTurn k s m new (Refused r) next =
+    (outcome_of k s.desk new ≡ Err r) × (next ≡ keeping m (Refused r) s)
 IsCommandTurn k s m new (Cancelled n) next = ⊥
 IsCommandTurn k s m new (Item view) next = ⊥
 
@@ -147,7 +157,8 @@ IsRefusedCancel k s m what _ = ⊥
 abbrev pub IsCancelTurn : Facts → State → Message → Cancel → TurnReply → State → Type 0
 IsCancelTurn k s m what (Refused r) next = IsRefusedCancel k s m what r × (next ≡ keeping m (Refused r) s)
 IsCancelTurn k s m what (Cancelled n) next =
-    (at : Split) × IsTarget m.terminal what s.survivors at × NoneDepends k s.survivors at.survivor × (n ≡ at.survivor.number)
+    (at : Split) × IsTarget m.terminal what s.survivors at × NoneDepends k s.survivors at.survivor
+    × (n ≡ at.survivor.number)
     × (next ≡ keeping m (Cancelled n) (without k s at))
 IsCancelTurn k s m what (Accepted n reply) next = ⊥
 IsCancelTurn k s m what (Item view) next = ⊥
@@ -161,7 +172,8 @@ IsQueryTurn k s c (Cancelled n) next = ⊥
 
 -- a message that is no repeat
 abbrev pub IsNewTurn : Facts → State → Message → Asked → TurnReply → State → Type 0
-IsNewTurn k s m (ask.Command command) reply next = IsCommandTurn k s m (next_survivor s m.terminal command) reply next
+IsNewTurn k s m (ask.Command command) reply next =
+    IsCommandTurn k s m (next_survivor s m.terminal command) reply next
 IsNewTurn k s m (ask.Cancel what) reply next = IsCancelTurn k s m what reply next
 IsNewTurn k s m (ask.Item c) reply next = IsQueryTurn k s c reply next
 

@@ -1,5 +1,5 @@
--- The types of this crate, and the names by which its files call their variants. Other crates import them from where they are
--- declared.
+-- The types of this crate, and the names by which its files call their
+-- variants. Other crates import them from where they are declared.
 pub use Rattle.hd_rules.specs.declared.holds.Hold.{Hold}
 pub use Rattle.hd_rules.specs.declared.holds.HoldKind.{HoldKind}
 pub use Rattle.hd_rules.specs.declared.holds.HoldKind.TheVariants.{Any, One, AtBranch}
@@ -14,7 +14,8 @@ pub use Rattle.hd_rules.specs.declared.cells.Value.{Value}
 pub use Rattle.hd_rules.specs.declared.cells.Value.TheVariants.{Copy as CopyHas, Hold as HoldHas}
 pub use Rattle.hd_rules.specs.declared.cells.Change.{Change}
 pub use Rattle.hd_rules.specs.declared.questions.Question.{Question}
-pub use Rattle.hd_rules.specs.declared.questions.Question.TheVariants.{Value as ValueOf, Choice, Place, Room, Position, OnShelf}
+pub use Rattle.hd_rules.specs.declared.questions.Question.TheVariants.{Value as ValueOf, Choice, Place, Room}
+pub use Rattle.hd_rules.specs.declared.questions.Question.TheVariants.{Position, OnShelf}
 pub use Rattle.hd_rules.specs.declared.questions.Answer.{Answer}
 pub use Rattle.hd_rules.specs.declared.questions.Noted.{Noted}
 pub use Rattle.hd_rules.specs.declared.questions.Finding.{Finding}

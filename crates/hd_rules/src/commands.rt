@@ -7,7 +7,8 @@ use hd_date::Day;
 /// What a command does (docs/desk-rules.md).
 #[derive(Clone, Copy, PartialEq, Eq, Debug)]
 pub enum Action {
-    /// Lends the copy to the patron; renews the loan where the patron has the copy and may renew by a checkout.
+    /// Lends the copy to the patron; renews the loan where
+    /// the patron has the copy and may renew by a checkout.
     Checkout {
         patron: PatronNo,
         copy: CopyNo,

@@ -1,15 +1,27 @@
 //! Laws. Each is the contract of a function without a body; its statement stands in `specs/Laws.antt`.
 
-ghost use Rattle.hd_rules.specs.Laws.{ACommandLeavesASoundDesk, AWalkFindsTheFirstDependent, AnswersAreTold, AtMostFourChanges, ChangesAreDistinct, ChangesLeadThroughFitDesks, ChoiceIsTheFirstCandidate, DependenceIsDecided, DesksDifferByTheChanges, EachCellWrittenIsAsked, EachDependsOrStands, EveryDeskIsSound, KnownCommandsDoKnownThings, LessAndBeforeCommute, NotedAnswersTell, NumbersSplitARun, OutcomesStand, PlaceIsTheLeastFree, RecordsStand, StepIsDetermined, TakingBackLeadsThroughFitDesks, TakingBackWhatDiffers, TestsAreExact, TheFirstCandidateIsOne, TheFirstDependentIsTheLeast, TheLeastFreePlaceIsOne, TheTargetIsTheNewest, UndoingIsTheRunWithout, UndoneAtOnceIsAsBefore};
-ghost use Rattle.hd_rules.specs.MachineLaws.{EachReplyIsToItsMessage, ALegalJournalGoesOn, ALegalJournalIsTheRunOfItsSurvivors, EachSurvivorHasOneRecord, EachTurnIsDetermined, EveryListOfMessagesIsAnswered, KnownMessagesGetKnownReplies, TheHeadline};
+ghost use Rattle.hd_rules.specs.Laws.{ACommandLeavesASoundDesk, AWalkFindsTheFirstDependent, AnswersAreTold};
+ghost use Rattle.hd_rules.specs.Laws.{AtMostFourChanges, ChangesAreDistinct, ChangesLeadThroughFitDesks};
+ghost use Rattle.hd_rules.specs.Laws.{ChoiceIsTheFirstCandidate, DependenceIsDecided};
+ghost use Rattle.hd_rules.specs.Laws.{DesksDifferByTheChanges, EachCellWrittenIsAsked, EachDependsOrStands};
+ghost use Rattle.hd_rules.specs.Laws.{EveryDeskIsSound, KnownCommandsDoKnownThings, LessAndBeforeCommute};
+ghost use Rattle.hd_rules.specs.Laws.{NotedAnswersTell, NumbersSplitARun, OutcomesStand, PlaceIsTheLeastFree};
+ghost use Rattle.hd_rules.specs.Laws.{RecordsStand, StepIsDetermined, TakingBackLeadsThroughFitDesks};
+ghost use Rattle.hd_rules.specs.Laws.{TakingBackWhatDiffers, TestsAreExact, TheFirstCandidateIsOne};
+ghost use Rattle.hd_rules.specs.Laws.{TheFirstDependentIsTheLeast, TheLeastFreePlaceIsOne};
+ghost use Rattle.hd_rules.specs.Laws.{TheTargetIsTheNewest, UndoingIsTheRunWithout, UndoneAtOnceIsAsBefore};
+ghost use Rattle.hd_rules.specs.MachineLaws.{EachReplyIsToItsMessage, ALegalJournalGoesOn};
+ghost use Rattle.hd_rules.specs.MachineLaws.{ALegalJournalIsTheRunOfItsSurvivors, EachSurvivorHasOneRecord};
+ghost use Rattle.hd_rules.specs.MachineLaws.{EachTurnIsDetermined, EveryListOfMessagesIsAnswered};
+ghost use Rattle.hd_rules.specs.MachineLaws.{KnownMessagesGetKnownReplies, TheHeadline};
 
 /// The tests of equality by which the rules speak are exact.
 pub fn tests_are_exact()
     ensures { TestsAreExact }
 {}
 
-/// A command asks all that it rests on: where its questions are answered alike at two desks, it ends alike and asks
-/// the same.
+/// A command asks all that it rests on: where its questions are
+/// answered alike at two desks, it ends alike and asks the same.
 pub fn step_is_determined()
     ensures { StepIsDetermined }
 {}
@@ -49,12 +61,14 @@ pub fn dependence_is_decided()
     ensures { DependenceIsDecided }
 {}
 
-/// Where the search among the later survivors finds one, it is the least that depends; where it finds none, none depends.
+/// Where the search among the later survivors finds one, it is
+/// the least that depends; where it finds none, none depends.
 pub fn the_first_dependent_is_the_least()
     ensures { TheFirstDependentIsTheLeast }
 {}
 
-/// The same is found by one walk over the later survivors, at two desks side by side: that with the command and that without it.
+/// The same is found by one walk over the later survivors, at two
+/// desks side by side: that with the command and that without it.
 pub fn a_walk_finds_the_first_dependent()
     ensures { AWalkFindsTheFirstDependent }
 {}
@@ -84,7 +98,8 @@ pub fn every_desk_is_sound()
     ensures { EveryDeskIsSound }
 {}
 
-/// The changes of a command accepted in a legal run are of distinct cells, each to another value of the cell's kind.
+/// The changes of a command accepted in a legal run are of
+/// distinct cells, each to another value of the cell's kind.
 pub fn changes_are_distinct()
     ensures { ChangesAreDistinct }
 {}
@@ -94,8 +109,8 @@ pub fn taking_back_what_differs()
     ensures { TakingBackWhatDiffers }
 {}
 
-/// Before each later survivor, as long as none in between depends on a command, the desks with and without that command
-/// differ by its changes and nothing else.
+/// Before each later survivor, as long as none in between depends on a command,
+/// the desks with and without that command differ by its changes and nothing else.
 pub fn desks_differ_by_the_changes()
     ensures { DesksDifferByTheChanges }
 {}
@@ -145,7 +160,8 @@ pub fn at_most_four_changes()
     ensures { AtMostFourChanges }
 {}
 
-/// Each cell that a command writes is among its questions, and the change begins from what the desk has there.
+/// Each cell that a command writes is among its questions,
+/// and the change begins from what the desk has there.
 pub fn each_cell_written_is_asked()
     ensures { EachCellWrittenIsAsked }
 {}
@@ -160,8 +176,8 @@ pub fn every_list_of_messages_is_answered()
     ensures { EveryListOfMessagesIsAnswered }
 {}
 
-/// After a legal list of turns the desk is the run of the survivors; their numbers rise, none above the last one given; and
-/// each is accepted in that run, with the reply that it got.
+/// After a legal list of turns the desk is the run of the survivors; their numbers rise, none
+/// above the last one given; and each is accepted in that run, with the reply that it got.
 pub fn a_legal_journal_is_the_run_of_its_survivors()
     ensures { ALegalJournalIsTheRunOfItsSurvivors }
 {}
@@ -181,16 +197,16 @@ pub fn each_survivor_has_one_record()
     ensures { EachSurvivorHasOneRecord }
 {}
 
-/// For every list of the terminals' messages, a command accepted and then cancelled at once leaves the desk as before; a
-/// cancellation is accepted exactly when no surviving later command depends on its target, and then the desk is that of the
-/// run without it, all surviving replies standing; otherwise it names the first dependent command and changes nothing; a
-/// repeated message changes nothing.
+/// For every list of the terminals' messages, a command accepted and then cancelled at once leaves the desk
+/// as before; a cancellation is accepted exactly when no surviving later command depends on its target, and
+/// then the desk is that of the run without it, all surviving replies standing; otherwise it names the first
+/// dependent command and changes nothing; a repeated message changes nothing.
 pub fn headline()
     ensures { TheHeadline }
 {}
 
-/// In a legal list of turns each reply is one to its message: a command is accepted, with a reply that tells of what it did, or
-/// refused; a cancellation is carried out or refused; a query shows its copy.
+/// In a legal list of turns each reply is one to its message: a command is accepted, with a reply that
+/// tells of what it did, or refused; a cancellation is carried out or refused; a query shows its copy.
 pub fn each_reply_is_to_its_message()
     ensures { EachReplyIsToItsMessage }
 {}

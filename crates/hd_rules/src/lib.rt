@@ -1,22 +1,26 @@
 //! The rules of the hold desk: its types, and what commands, cancellations and turns mean.
 //!
-//! The definitions stand in `specs/`. Each law of the module `laws` is the contract of a function without a body.
+//! The definitions stand in `specs/`. Each law of the module
+//! `laws` is the contract of a function without a body.
 #![tactic(auto)]
 
 mod cells;
 mod commands;
 mod copies;
+mod equality;
 mod holds;
 mod laws;
 mod limits;
 mod numbers;
 mod questions;
+mod refusals;
 mod replies;
 mod turns;
 
 pub use crate::cells::{Cell, Change, Value};
 pub use crate::commands::{Action, Cancel, Command, Survivor};
 pub use crate::copies::{CopyState, HoldPlace, Loan, Transit};
+pub use crate::equality::{same_asked, same_turn_reply};
 pub use crate::holds::{Hold, HoldKind};
 pub use crate::laws::{
     a_command_leaves_a_sound_desk, a_legal_journal_goes_on,

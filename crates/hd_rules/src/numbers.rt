@@ -4,7 +4,8 @@
 
 ghost use Rattle.std.specs.Prelude.{◌≡◌, ◌<◌, ℕ};
 ghost use Rattle.std.specs.Option.{SomeIff};
-ghost use Rattle.hd_rules.specs.declared.limits.TheConstants.{MOST_BRANCHES, MOST_COPIES, MOST_PATRONS, MOST_TERMINALS, MOST_TITLES};
+ghost use Rattle.hd_rules.specs.declared.limits.TheConstants.{MOST_BRANCHES, MOST_COPIES, MOST_PATRONS};
+ghost use Rattle.hd_rules.specs.declared.limits.TheConstants.{MOST_TERMINALS, MOST_TITLES};
 
 use crate::limits::{MOST_BRANCHES, MOST_COPIES, MOST_PATRONS, MOST_TERMINALS, MOST_TITLES};
 use std::marker::Model;

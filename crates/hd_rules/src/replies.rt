@@ -67,7 +67,8 @@ pub enum Reply {
         home: BranchNo,
         now: CopyState,
     },
-    /// To the adding or a change of a hold: the hold, its position, and whether some copy that it admits is available.
+    /// To the adding or a change of a hold: the hold, its position,
+    /// and whether some copy that it admits is available.
     Held {
         title: TitleNo,
         available: bool,

@@ -2,7 +2,8 @@ pub mod Told
 pub mod Lining
 pub mod Printed
 pub mod Prefixes
-pub mod Tabled
+pub mod Opening
+pub mod Playing
 pub mod Replayed
 pub mod Reading
 pub mod Ended

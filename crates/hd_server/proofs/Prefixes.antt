@@ -1,33 +1,97 @@
 -- The session's number at the beginning of a line.
-use Rattle.std.proofs.Common.{◌≡◌, ◌+◌, ◌∙◌, ℕ, List, [], ◌∷◌, ◌++◌, Option, None, Some, IfNone, IfSome, MatchOption, true, false, take, drop, length, decimal, nat_eq, ap, sym}
-use Rattle.std.proofs.lemmas.Bool.Decides.{Decides-eqb}
-use Rattle.std.proofs.lemmas.List.{append_cancel_left}
-use Rattle.std.proofs.lemmas.Slice.Eq.{strip_prefix_is}
-use Rattle.std.specs.Borrow.{Bor}
-use Rattle.std.specs.Cmp.Lexicographic.{pointwise}
+use Rattle.std.proofs.Common.{◌≡◌, ◌∙◌, ◌⊎◌, inl, inr, ⊎_elim, ◌+◌, ◌/◌, ◌%◌, ◌<◌, ◌≤◌, ℕ, zero, suc, List, [], ◌∷◌, ◌++◌, Contains}
+use Rattle.std.proofs.Common.{decimal, drop, get_or, length, length-append, ap, append_assoc, arith, refl, subst, sym}
+use Rattle.std.proofs.lemmas.Bool.{cases_lt}
+use Rattle.std.proofs.lemmas.Fmt.{decimal_digit, decimal_step}
+use Rattle.hd_server.specs.Inputs.{IsLineOf, IsNumber, Message}
+use Rattle.hd_server.proofs.Lining.{first_alone, stands_there}
 
--- what `strip_prefix` says
-abbrev pub Strips : List ℕ → List ℕ → Option (Bor (List ℕ)) → Type 0
-Strips s p r = MatchOption r (pointwise nat_eq (take (length p) s) p ≡ false) (λ x. (pointwise nat_eq (take (length p) s) p ≡ true) × (x.now ≡ drop (length p) s) × (length x.now + length p ≡ length s))
+-- a number of two digits
+decimal_two : (n : ℕ) → 10 ≤ n → n < 100 → decimal n ≡ (48 + n / 10) ∷ (48 + n % 10) ∷ []
+decimal_two n large small =
+    let tens : n / 10 < 10 = omega (arith, large, small) in
+    decimal_step n large (omega (arith, small)) ∙ ap (λ (t : List ℕ). t ++ (48 + n % 10) ∷ []) (decimal_digit (n / 10) tens)
 
--- what stands behind a number and a blank
-pub behind_found : (line digits : List ℕ) (n : ℕ) (after : Bor (List ℕ)) (r : Option (Bor (List ℕ))) → digits ≡ decimal n → Strips line digits (Some after) → Strips after.now (32 ∷ []) r
-    → IfSome r (λ x. line ≡ decimal n ++ 32 ∷ x.now)
-behind_found line digits n after None is first second = tt
-behind_found line digits n after (Some message) is first second =
-    let split = strip_prefix_is Decides-eqb line digits (Some after) first in
-    let blank = strip_prefix_is Decides-eqb after.now (32 ∷ []) (Some message) second in
-    split ∙ (ap (λ (t : List ℕ). digits ++ t) blank ∙ ap (λ (d : List ℕ). d ++ 32 ∷ message.now) is)
+-- how a session's number is written: with one digit, or with two
+abbrev pub HasDigits : ℕ → List ℕ → Type 0
+HasDigits n digits =
+    ((n < 10) × (length digits ≡ 1) × (get_or digits 0 0 ≡ 48 + n))
+    ⊎ ((10 ≤ n) × (length digits ≡ 2) × (get_or digits 0 0 ≡ 48 + n / 10) × (get_or digits 1 0 ≡ 48 + n % 10))
 
-pub behind_none : (line digits : List ℕ) (n : ℕ) (after : Bor (List ℕ)) (r : Option (Bor (List ℕ))) → digits ≡ decimal n → Strips line digits (Some after) → Strips after.now (32 ∷ []) r
-    → IfNone r ((message : List ℕ) → line ≡ decimal n ++ 32 ∷ message → ⊥)
-behind_none line digits n after None is first second = λ message whole.
-    let split = strip_prefix_is Decides-eqb line digits (Some after) first in
-    let blank = strip_prefix_is Decides-eqb after.now (32 ∷ []) None second in
-    blank message (append_cancel_left digits after.now (32 ∷ message) (sym split ∙ (whole ∙ ap (λ (d : List ℕ). d ++ 32 ∷ message) (sym is))))
-behind_none line digits n after (Some found) is first second = tt
+pub digits_of : (n : ℕ) (digits : List ℕ) → IsNumber n → decimal n ≡ digits → HasDigits n digits
+digits_of n digits is same =
+    let few = is.1 in
+    ⊎_elim
+    (λ one. subst (HasDigits n) (sym (decimal_digit n one) ∙ same) (inl (one, refl, refl)))
+    (λ two. subst (HasDigits n) (sym (decimal_two n two (omega (arith, few))) ∙ same) (inr (two, refl, refl, refl)))
+    (cases_lt n 10)
 
--- where the number doesn't stand there
-pub no_number : (line digits : List ℕ) (n : ℕ) → digits ≡ decimal n → Strips line digits None → (message : List ℕ) → line ≡ decimal n ++ 32 ∷ message → ⊥
-no_number line digits n is first message whole =
-    strip_prefix_is Decides-eqb line digits None first (32 ∷ message) (whole ∙ ap (λ (d : List ℕ). d ++ 32 ∷ message) (sym is))
+-- and what is written so is the number
+pub number_of_digits : (n : ℕ) (digits : List ℕ) → n < 100 → HasDigits n digits → decimal n ≡ digits
+number_of_digits n digits few (inl (one, len, first)) =
+    decimal_digit n one ∙ (ap (λ (d : ℕ). d ∷ []) (sym first) ∙ sym (one_byte digits len))
+  where
+    one_byte : (d : List ℕ) → length d ≡ 1 → d ≡ get_or d 0 0 ∷ []
+    one_byte [] len = absurd (omega (arith, len))
+    one_byte (a ∷ []) len = refl
+    one_byte (a ∷ b ∷ c) len = absurd (omega (arith, len))
+number_of_digits n digits few (inr (two, len, first, second)) =
+    decimal_two n two few ∙ (ap (λ (d : ℕ). d ∷ (48 + n % 10) ∷ []) (sym first)
+    ∙ (ap (λ (d : ℕ). get_or digits 0 0 ∷ d ∷ []) (sym second) ∙ sym (two_bytes digits len)))
+  where
+    two_bytes : (d : List ℕ) → length d ≡ 2 → d ≡ get_or d 0 0 ∷ get_or d 1 0 ∷ []
+    two_bytes [] len = absurd (omega (arith, len))
+    two_bytes (a ∷ []) len = absurd (omega (arith, len))
+    two_bytes (a ∷ b ∷ []) len = refl
+    two_bytes (a ∷ b ∷ c ∷ d) len = absurd (omega (arith, len))
+
+-- no blank stands in it
+no_blank : (n : ℕ) → IsNumber n → Contains (decimal n) 32 → ⊥
+no_blank n is there =
+    ⊎_elim
+    (λ one. in_one n one (subst (λ (d : List ℕ). Contains d 32) (decimal_digit n one) there))
+    (λ two. in_two n (subst (λ (d : List ℕ). Contains d 32) (decimal_two n two (let few = is.1 in omega (arith, few))) there))
+    (cases_lt n 10)
+  where
+    in_one : (n : ℕ) → n < 10 → Contains ((48 + n) ∷ []) 32 → ⊥
+    in_one n small (zero, within, same) = omega (arith, same)
+    in_one n small (suc i, within, same) = omega (arith, within)
+
+    in_two : (n : ℕ) → Contains ((48 + n / 10) ∷ (48 + n % 10) ∷ []) 32 → ⊥
+    in_two n (zero, within, same) = omega (arith, same)
+    in_two n (suc zero, within, same) = omega (arith, same)
+    in_two n (suc (suc i), within, same) = omega (arith, within)
+
+-- a line without a blank is no message's
+pub without_blank : (line : List ℕ) (message : Message) → (Contains line 32 → ⊥) → IsLineOf line message → ⊥
+without_blank line message none is =
+    none (subst (λ (l : List ℕ). Contains l 32) (sym is.1) (stands_there 32 (decimal message.session) message.text))
+
+-- nor is one whose first part is no session's number
+pub without_number : (line front behind : List ℕ) (message : Message) → line ≡ front ++ 32 ∷ behind → (Contains front 32 → ⊥) →
+    ((n : ℕ) → IsNumber n → decimal n ≡ front → ⊥) → IsLineOf line message → ⊥
+without_number line front behind message split first none is =
+    none message.session is.0 (first_alone 32 (decimal message.session) front message.text behind (no_blank message.session is.0) first
+    (sym is.1 ∙ split)).0
+
+-- what a line has behind its blank, with the carriage return behind the line
+pub behind_blank : (front behind text : List ℕ) → front ++ 32 ∷ behind ≡ text ++ 13 ∷ [] →
+    (message : List ℕ) × (behind ≡ message ++ 13 ∷ []) × (text ≡ front ++ 32 ∷ message)
+behind_blank [] behind [] same = let other : 32 ≡ 13 = ap (λ (t : List ℕ). get_or t 0 0) same in absurd (omega (arith, other))
+behind_blank [] behind (t ∷ text) same = (text, ap (drop 1) same, ap (λ (b : ℕ). b ∷ text) (sym (ap (λ (t : List ℕ). get_or t 0 0) same)))
+behind_blank (f ∷ front) behind [] same = let none : length (front ++ 32 ∷ behind) ≡ 0 =
+    ap (λ (t : List ℕ). length (drop 1 t)) same in let both = length-append front (32 ∷ behind) in absurd (omega (arith, none, both))
+behind_blank (f ∷ front) behind (t ∷ text) same =
+    let later = behind_blank front behind text (ap (drop 1) same) in (
+      later.0,
+      later.1,
+      ap (λ (l : List ℕ). t ∷ l) later.2
+          ∙ ap (λ (b : ℕ). b ∷ front ++ 32 ∷ later.0) (sym (ap (λ (t : List ℕ). get_or t 0 0) same)),
+    )
+
+-- a line that isn't a message's with a carriage return isn't one without
+pub no_message : (line text : List ℕ) → line ≡ text ++ 13 ∷ [] → ((message : Message) → IsLineOf line message → ⊥) → (message : Message) →
+    IsLineOf text message → ⊥
+no_message line text whole none message is =
+    none (record { session = message.session; text = message.text ++ 13 ∷ [] })
+    (is.0, whole ∙ (ap (λ (t : List ℕ). t ++ 13 ∷ []) is.1 ∙ append_assoc (decimal message.session) (32 ∷ message.text) (13 ∷ [])))

@@ -1,64 +1,73 @@
 -- Texts that are printed one after the other.
-use Rattle.std.proofs.Common.{◌≡◌, ◌∙◌, ℕ, List, [], ◌∷◌, ◌++◌, Option, None, Some, Result, Ok, Err, IsErr, codes, decimal, flat_map, take, drop, refl, sym, ap, append_assoc, append-nil, take-append-drop}
+use Rattle.std.proofs.Common.{◌≡◌, ◌∙◌, ℕ, List, [], ◌∷◌, ◌++◌, Result, Ok, Err, IsErr, decimal, flat_map, take, drop, refl, sym, ap}
+use Rattle.std.proofs.Common.{append_assoc, append-nil, take-append-drop}
 use Rattle.std.proofs.lemmas.Bool.{false≢true}
 use Rattle.std.proofs.lemmas.List.Concat.{flat_map-append}
 use Rattle.std.specs.Borrow.{Bor}
-use Rattle.hd_session.specs.declared.ended.Ended.{Ended}
-use Rattle.hd_server.specs.Printing.{Begins, Prints, end_text, printed}
+use Rattle.hd_server.specs.Printing.{Begins, Prints, printed}
 
 -- behind a text that was printed whole
-pub prints_after : {E : Type 0} (out between out' text more : List ℕ) (r : Result (Unit {0}) E) → between ≡ out ++ text → Prints between out' more r → Prints out out' (text ++ more) r
+pub prints_after : {E : Type 0} (out between out' text more : List ℕ) (r : Result (Unit {0}) E) → between ≡ out ++ text →
+    Prints between out' more r → Prints out out' (text ++ more) r
 prints_after out between out' text more (Ok done) first rest = rest ∙ (ap (λ (t : List ℕ). t ++ more) first ∙ append_assoc out text more)
-prints_after out between out' text more (Err fault) first rest =
-    (text ++ rest.0, (rest.1.0, ap (λ (t : List ℕ). text ++ t) rest.1.1 ∙ sym (append_assoc text rest.0 rest.1.0)), rest.2 ∙ (ap (λ (t : List ℕ). t ++ rest.0) first ∙ append_assoc out text rest.0))
+prints_after out between out' text more (Err fault) first rest = (
+  text ++ rest.0,
+  (rest.1.0, ap (λ (t : List ℕ). text ++ t) rest.1.1 ∙ sym (append_assoc text rest.0 rest.1.0)),
+  rest.2
+      ∙ (ap (λ (t : List ℕ). t ++ rest.0) first ∙ append_assoc out text rest.0),
+)
 
 -- some of a text is some of it and more
-pub prints_some : {E : Type 0} (out out' text more : List ℕ) (fault : E) → Prints {E = E} out out' text (Err fault) → Prints {E = E} out out' (text ++ more) (Err fault)
-prints_some out out' text more fault (part, begins, is) = (part, (begins.0 ++ more, ap (λ (t : List ℕ). t ++ more) begins.1 ∙ append_assoc part begins.0 more), is)
+pub prints_some : {E : Type 0} (out out' text more : List ℕ) (fault : E) → Prints {E = E} out out' text (Err fault) →
+    Prints {E = E} out out' (text ++ more) (Err fault)
+prints_some out out' text more fault (part, begins, is) =
+    (part, (begins.0 ++ more, ap (λ (t : List ℕ). t ++ more) begins.1 ∙ append_assoc part begins.0 more), is)
 
 -- the parts of a line that is printed, up to one of them
-pub line_begins : (session : ℕ) (number blank text feed : Bor (List ℕ)) (i : ℕ) → number.now ≡ decimal session → blank.now ≡ 32 ∷ [] → feed.now ≡ 10 ∷ []
+pub line_begins : (session : ℕ) (number blank text feed : Bor (List ℕ)) (i : ℕ) → number.now ≡ decimal session → blank.now ≡ 32 ∷ [] →
+    feed.now ≡ 10 ∷ []
     → Begins (printed session text.now) (flat_map (λ part. part.now) (take i (number ∷ blank ∷ text ∷ feed ∷ [])))
 line_begins session number blank text feed i is_number is_blank is_feed =
     let parts = number ∷ blank ∷ text ∷ feed ∷ [] in
-    let whole : printed session text.now ≡ flat_map (λ (part : Bor (List ℕ)). part.now) parts = rw (is_number, is_blank, is_feed) refl in
-    (flat_map (λ part. part.now) (drop i parts), whole ∙ (ap (flat_map (λ (part : Bor (List ℕ)). part.now)) (sym (take-append-drop i parts)) ∙ flat_map-append (λ (part : Bor (List ℕ)). part.now) (take i parts) (drop i parts)))
+    let whole : printed session text.now ≡ flat_map (λ (part : Bor (List ℕ)). part.now) parts = rw (is_number, is_blank, is_feed) refl in (
+      flat_map (λ part. part.now) (drop i parts),
+      whole
+          ∙ (ap (flat_map (λ (part : Bor (List ℕ)). part.now)) (sym (take-append-drop i parts))
+          ∙ flat_map-append (λ (part : Bor (List ℕ)). part.now) (take i parts) (drop i parts)),
+    )
 
 -- a text is printed up to some point
-pub printed_part : {E : Type 0} (out out' text part : List ℕ) (r : Result (Unit {0}) E) → IsErr r → Begins text part → out' ≡ out ++ part → Prints out out' text r
+pub printed_part : {E : Type 0} (out out' text part : List ℕ) (r : Result (Unit {0}) E) → IsErr r → Begins text part → out' ≡ out ++ part →
+    Prints out out' text r
 printed_part out out' text part (Ok done) err begins is = absurd (false≢true err)
 printed_part out out' text part (Err fault) err begins is = (part, begins, is)
 
 -- some replies, and part of another
-pub line_within : (session : ℕ) (done later : List (List ℕ)) (reply part : List ℕ) → Begins (printed session reply) part → Begins (flat_map (printed session) (done ++ reply ∷ later)) (flat_map (printed session) done ++ part)
+pub line_within : (session : ℕ) (done later : List (List ℕ)) (reply part : List ℕ) → Begins (printed session reply) part →
+    Begins (flat_map (printed session) (done ++ reply ∷ later)) (flat_map (printed session) done ++ part)
 line_within session done later reply part begins =
     let front = flat_map (printed session) done in
     let behind = flat_map (printed session) later in (
       begins.0 ++ behind,
       flat_map-append (printed session) done (reply ∷ later)
-          ∙ (ap (λ (t : List ℕ). front ++ (t ++ behind)) begins.1 ∙ (ap (λ (t : List ℕ). front ++ t) (append_assoc part begins.0 behind) ∙ sym (append_assoc front part (begins.0 ++ behind)))),
+          ∙ (ap (λ (t : List ℕ). front ++ (t ++ behind)) begins.1
+          ∙ (ap (λ (t : List ℕ). front ++ t) (append_assoc part begins.0 behind) ∙ sym (append_assoc front part (begins.0 ++ behind)))),
     )
 
 -- one reply more
-pub line_printed : (session : ℕ) (out between out' reply : List ℕ) (done : List (List ℕ)) → between ≡ out ++ flat_map (printed session) done → out' ≡ between ++ printed session reply → out' ≡ out ++ flat_map (printed session) (done ++ reply ∷ [])
+pub line_printed : (session : ℕ) (out between out' reply : List ℕ) (done : List (List ℕ)) →
+    between ≡ out ++ flat_map (printed session) done → out' ≡ between ++ printed session reply →
+    out' ≡ out ++ flat_map (printed session) (done ++ reply ∷ [])
 line_printed session out between out' reply done first then =
-    then ∙ (ap (λ (t : List ℕ). t ++ printed session reply) first ∙ (append_assoc out (flat_map (printed session) done) (printed session reply)
-    ∙ ap (λ (t : List ℕ). out ++ t) (ap (λ (t : List ℕ). flat_map (printed session) done ++ t) (sym (append-nil (printed session reply))) ∙ sym (flat_map-append (printed session) done (reply ∷ [])))))
-
--- replies of a session that goes on
-pub open_printed : (number : ℕ) (out out' replies : List ℕ) (ended : Option Ended) → ended ≡ None → out' ≡ out ++ replies → out' ≡ out ++ (replies ++ end_text number ended)
-open_printed number out out' replies ended none is = rw none (is ∙ ap (λ (t : List ℕ). out ++ t) (sym (append-nil replies)))
-
--- and of one that has ended
-pub end_printed : (number : ℕ) (out between out' replies : List ℕ) (ended : Option Ended) (why : Ended) → ended ≡ Some why → between ≡ out ++ replies → out' ≡ between ++ printed number (codes "ENDED") → out' ≡ out ++ (replies ++ end_text number ended)
-end_printed number out between out' replies ended why some first then = rw some (then ∙ (ap (λ (t : List ℕ). t ++ printed number (codes "ENDED")) first ∙ append_assoc out replies (printed number (codes "ENDED"))))
-
--- up to some point of that
-pub end_begun : (number : ℕ) (out between out' replies part : List ℕ) (ended : Option Ended) (why : Ended) → ended ≡ Some why → between ≡ out ++ replies → Begins (printed number (codes "ENDED")) part → out' ≡ between ++ part
-    → Begins (replies ++ end_text number ended) (replies ++ part) × (out' ≡ out ++ (replies ++ part))
-end_begun number out between out' replies part ended why some first begins then =
-    ((begins.0, rw some (ap (λ (t : List ℕ). replies ++ t) begins.1 ∙ sym (append_assoc replies part begins.0))), then ∙ (ap (λ (t : List ℕ). t ++ part) first ∙ append_assoc out replies part))
+    then ∙ (ap (λ (t : List ℕ). t ++ printed session reply) first
+    ∙ (append_assoc out (flat_map (printed session) done) (printed session reply)
+    ∙ ap (λ (t : List ℕ). out ++ t) (ap (λ (t : List ℕ). flat_map (printed session) done ++ t) (sym (append-nil (printed session reply)))
+    ∙ sym (flat_map-append (printed session) done (reply ∷ [])))))
 
 -- what begins a text begins a longer one
 pub begins_more : (text more part : List ℕ) → Begins text part → Begins (text ++ more) part
 begins_more text more part begins = (begins.0 ++ more, ap (λ (t : List ℕ). t ++ more) begins.1 ∙ append_assoc part begins.0 more)
+
+-- what begins what is behind a text
+pub begins_behind : (text more part : List ℕ) → Begins more part → Begins (text ++ more) (text ++ part)
+begins_behind text more part begins = (begins.0, ap (λ (t : List ℕ). text ++ t) begins.1 ∙ sym (append_assoc text part begins.0))

@@ -1,11 +1,20 @@
 -- The lines of an input.
-use Rattle.std.specs.Prelude.{◌≡◌, ℕ, ◌≤◌, List, [], ◌∷◌, ◌++◌, All, Contains, flat_map, decimal}
+use Rattle.std.specs.Prelude.{◌≡◌, ℕ, ◌+◌, ◌<◌, ◌≤◌, List, [], ◌∷◌, ◌++◌, All, Contains, drop, flat_map}
+use Rattle.std.specs.Prelude.{length, decimal}
 
 -- A text's lines: its parts that this byte ends, in order; and the rest, which nothing ends.
 pub record AreLines (end : ℕ) (text : List ℕ) (lines : List (List ℕ)) (rest : List ℕ) : Type 0 where
   pub whole : text ≡ flat_map (λ line. line ++ end ∷ []) lines ++ rest
   pub plain : All (λ line. ¬ Contains line end) lines
   pub unended : ¬ Contains rest end
+
+-- Of a text from a place on, the first line is ended by the byte at another place.
+pub record EndsFirst (end : ℕ) (text : List ℕ) (from at : ℕ) : Type 0 where
+  pub first : List ℕ
+  pub split : drop from text ≡ first ++ end ∷ drop (at + 1) text
+  pub plain : ¬ Contains first end
+  pub place : at ≡ from + length first
+  pub within : at < length text
 
 -- the lines of an input that has come to its end: the rest is one too, where it isn't empty
 abbrev pub with_rest : List (List ℕ) → List ℕ → List (List ℕ)
@@ -18,8 +27,11 @@ pub record Message : Type 0 where
   pub text : List ℕ
 
 -- sessions are numbered from 1 to 64
+abbrev pub IsNumber : ℕ → Type 0
+IsNumber number = (1 ≤ number) × (number ≤ 64)
+
 abbrev pub HasSession : Message → Type 0
-HasSession message = (1 ≤ message.session) × (message.session ≤ 64)
+HasSession message = IsNumber message.session
 
 -- the line of a message: the number of its session, a blank (32), and its text
 abbrev pub line_of : Message → List ℕ

@@ -1,30 +1,40 @@
 -- What is printed of a script's events.
-use Rattle.std.specs.Prelude.{◌≡◌, ℕ, ◌+◌, List, [], ◌∷◌, ◌++◌, Option, None, Some, Result, Ok, Err, codes, decimal, flat_map}
+use Rattle.std.specs.Prelude.{◌≡◌, ◌⊎◌, ℕ, ◌+◌, List, [], ◌∷◌, ◌++◌, Option, None, Some, Result, Ok, Err}
+use Rattle.std.specs.Prelude.{codes}
+use Rattle.std.specs.Prelude.{decimal, flat_map}
 use Rattle.hd_session.specs.Scripts.{Event}
 use Rattle.hd_session.specs.declared.ended.Ended.{Ended}
+use Rattle.hd_session.specs.declared.ended.Ended.TheVariants.{TooLong}
 use Rattle.hd_server.specs.Inputs.{AreLines}
 
 -- a line that is printed: the number of a session, a blank (32), a text, and a line feed (10)
 abbrev pub printed : ℕ → List ℕ → List ℕ
 printed number text = decimal number ++ 32 ∷ (text ++ 10 ∷ [])
 
--- that a session has ended, where it has
+-- that a session has ended, where a line too long has ended it; another end stops the replay instead
 abbrev pub end_text : ℕ → Option Ended → List ℕ
-end_text number None = []
-end_text number (Some why) = printed number (codes "ENDED")
+end_text number (Some TooLong) = printed number (codes "ENDED")
+end_text number end = []
 
--- Of an event each reply is printed, without its carriage return (13), and that its session has ended. Sessions are counted from
--- 0, and numbered from 1.
+-- a session goes on, or a line too long has ended it
+abbrev pub EndsWell : Option Ended → Type 0
+EndsWell end = (end ≡ None) ⊎ (end ≡ Some TooLong)
+
+-- Of an event each reply is printed, without its carriage return (13), and that its session has ended.
+-- Sessions are counted from 0, and numbered from 1.
 pub record IsPrinted (event : Event) (text : List ℕ) : Type 0 where
   pub replies : List (List ℕ)
   pub rest : List ℕ
   pub parts : AreLines 13 event.text replies rest
-  pub spelled : text ≡ flat_map (printed (event.session + 1)) replies ++ end_text (event.session + 1) event.ended
+  pub spelled : text
+      ≡ flat_map (printed (event.session + 1)) replies ++ end_text (event.session + 1) event.ended
 
 -- what is printed of some events, in order
 abbrev pub ArePrinted : List Event → List ℕ → Type 0
 ArePrinted [] text = text ≡ []
-ArePrinted (event ∷ events) text = (first : List ℕ) × (rest : List ℕ) × IsPrinted event first × ArePrinted events rest × (text ≡ first ++ rest)
+ArePrinted (event ∷ events) text =
+    (first : List ℕ) × (rest : List ℕ)
+    × IsPrinted event first × ArePrinted events rest × (text ≡ first ++ rest)
 
 -- a text begins so
 abbrev pub Begins : List ℕ → List ℕ → Type 0

@@ -1,73 +1,129 @@
 -- Replays: the lines of an input, answered in order.
-use Rattle.std.specs.Prelude.{◌≡◌, ℕ, ◌+◌, ◌-◌, List, [], ◌∷◌, ◌++◌, All, Result, Ok, Err, length, map, replicate}
+use Rattle.std.specs.Prelude.{◌≡◌, ◌≢◌, ◌⊎◌, ℕ, ◌+◌, ◌-◌, ⊤, List, [], ◌∷◌, ◌++◌, All, Some, Result, Ok}
+use Rattle.std.specs.Prelude.{Err, length, map, replicate, slice_index_or}
 use Rattle.hd_date.specs.Stamps.{Stamp}
 use Rattle.hd_rules.specs.Journal.{Turn}
 use Rattle.hd_catalogue.specs.Contents.{Contents}
-use Rattle.hd_session.specs.Scripts.{AreFed, Event, Piece, turns_of}
+use Rattle.hd_journal.specs.Books.{IsLegalBook}
+use Rattle.hd_exchange.specs.declared.fault.OfficeFault.{OfficeFault}
+use Rattle.hd_exchange.specs.declared.fault.OfficeFault.TheVariants as fault
+use Rattle.hd_session.specs.Scripts.{AreFed, Event, Step, session_at, turns_of}
 use Rattle.hd_session.specs.Sessions.{Hearing, new_session}
+use Rattle.hd_session.specs.declared.ended.Ended.TheVariants as ended
 use Rattle.hd_server.specs.declared.fault.ServerFault.{ServerFault}
-use Rattle.hd_server.specs.declared.fault.ServerFault.TheVariants.{Catalogue, BadNow, NoSession, InputTooLong, Read, Write, Memory}
+use Rattle.hd_server.specs.declared.fault.ServerFault.TheVariants.{Catalogue, BadNow, NoSession, InputTooLong}
+use Rattle.hd_server.specs.declared.fault.ServerFault.TheVariants.{Read, Write, Memory}
 use Rattle.hd_server.specs.Inputs.{HasSession, IsLineOf, Message, line_of}
-use Rattle.hd_server.specs.Printing.{ArePrinted, Begins}
+use Rattle.hd_server.specs.Printing.{ArePrinted, Begins, EndsWell}
 
--- the sessions of an input, before any line
-abbrev pub new_sessions : List Hearing
-new_sessions = replicate 64 new_session
+-- How far a replay has come: the library, the present, the sessions, the turns made, and the number of lines
+-- answered.
+pub record Progress : Type 0 where
+  pub contents : Contents
+  pub now : Stamp
+  pub sessions : List Hearing
+  pub turns : List Turn
+  pub lines : ℕ
 
--- what a message brings to its session: its text, and a carriage return (13)
-abbrev pub piece_of : Message → Piece
-piece_of message = record { session = message.session - 1; bytes = message.text ++ 13 ∷ [] }
+-- before any line
+abbrev pub opening : Contents → Stamp → Progress
+opening k now = record { contents = k; now = now; sessions = replicate 64 new_session; turns = []; lines = 0 }
 
--- The lines are messages, and are played as a script, of which this text is printed.
-pub record Replays (k : Contents) (now : Stamp) (lines : List (List ℕ)) (ss ss' : List Hearing) (turns turns' : List Turn) (text : List ℕ) : Type 0 where
+-- all turns are legal, and the headline holds of them
+abbrev pub IsLegal : Progress → Type 0
+IsLegal p = IsLegalBook p.contents p.turns
+
+-- what a journal alone can give: want of memory, and no other fault
+abbrev pub faults : OfficeFault → Type 0
+faults what = what ≡ fault.Memory
+
+-- what a message brings to its session at a present: its text, and a carriage return (13)
+abbrev pub step_of : Stamp → Message → Step
+step_of now message =
+    record { session = message.session - 1; piece = record { now = now; bytes = message.text ++ 13 ∷ [] } }
+
+-- a session goes on after an event, or a line too long has ended it then or before
+abbrev pub IsWell : Event → Type 0
+IsWell event = EndsWell event.ended
+
+-- so it is after all events but the last, at which want of memory may have ended its session
+abbrev pub AreWellToLast : List Event → Type 0
+AreWellToLast [] = ⊤
+AreWellToLast (event ∷ []) = IsWell event ⊎ (event.ended ≡ Some ended.Memory)
+AreWellToLast (event ∷ next ∷ events) = IsWell event × AreWellToLast (next ∷ events)
+
+-- Lines are replayed: they are messages, and are played as a script, of which this text is printed. Of its
+-- events this holds.
+pub record Replays (Holds : List Event → Type 0) (before after : Progress) (lines : List (List ℕ))
+    (text : List ℕ) : Type 0 where
   pub messages : List Message
   pub lines_are : lines ≡ map line_of messages
-  pub sessions : All HasSession messages
+  pub have_session : All HasSession messages
   pub events : List Event
-  pub fed : AreFed k 0 now (map piece_of messages) ss events ss'
-  pub turns_are : turns' ≡ turns ++ turns_of events
+  pub holds : Holds events
+  pub fed : AreFed before.contents 0 faults (map (step_of before.now) messages)
+      before.sessions events after.sessions
   pub printed : ArePrinted events text
+  pub same : (after.contents ≡ before.contents) × (after.now ≡ before.now)
+  pub turns_are : after.turns ≡ before.turns ++ turns_of events
+  pub counted : after.lines ≡ before.lines + length lines
 
--- All of the lines are replayed, and their text is put out.
-pub record AllReplayed (k : Contents) (now : Stamp) (lines : List (List ℕ)) (ss ss' : List Hearing) (turns turns' : List Turn) (IsPut : List ℕ → Type 0) : Type 0 where
-  pub text : List ℕ
-  pub replays : Replays k now lines ss ss' turns turns' text
-  pub put : IsPut text
+-- All of the lines are replayed, and this text is put out; each end of a session is a line too long.
+abbrev pub AllReplayed : Progress → Progress → List (List ℕ) → List ℕ → Type 0
+AllReplayed before after lines text = Replays (All IsWell) before after lines text
 
--- A line names no session: those before it are replayed, and their text is put out. So many lines went before them all.
-pub record StoppedAt (k : Contents) (now : Stamp) (lines : List (List ℕ)) (ss ss' : List Hearing) (turns turns' : List Turn) (earlier number : ℕ) (IsPut : List ℕ → Type 0) : Type 0 where
-  pub before : List (List ℕ)
+-- A line names no session: those before it are replayed, and their text is put out.
+pub record StoppedAt (before after : Progress) (lines : List (List ℕ)) (number : ℕ) (text : List ℕ)
+    : Type 0 where
+  pub first : List (List ℕ)
   pub line : List ℕ
   pub later : List (List ℕ)
-  pub split : lines ≡ before ++ line ∷ later
+  pub split : lines ≡ first ++ line ∷ later
   pub stranger : (message : Message) → ¬ IsLineOf line message
-  pub number_is : number ≡ earlier + length before + 1
-  pub text : List ℕ
-  pub replays : Replays k now before ss ss' turns turns' text
-  pub put : IsPut text
+  pub number_is : number ≡ before.lines + length first + 1
+  pub replayed : AllReplayed before after first text
 
--- Some of the lines are replayed, the first ones, and their text is put out up to some point.
-pub record PartReplayed (k : Contents) (now : Stamp) (lines : List (List ℕ)) (ss ss' : List Hearing) (turns turns' : List Turn) (IsPut : List ℕ → Type 0) : Type 0 where
-  pub before : List (List ℕ)
+-- Some of the lines are replayed, the first ones, and their text is put out up to some point. Each end of a
+-- session is a line too long; but at the last of them it may be want of memory.
+pub record PartReplayed (before after : Progress) (lines : List (List ℕ)) (part : List ℕ) : Type 0 where
+  pub first : List (List ℕ)
   pub later : List (List ℕ)
-  pub split : lines ≡ before ++ later
+  pub split : lines ≡ first ++ later
   pub text : List ℕ
-  pub replays : Replays k now before ss ss' turns turns' text
-  pub part : List ℕ
+  pub replays : Replays AreWellToLast before after first text
   pub begins : Begins text part
-  pub put : IsPut part
 
--- how far some lines are replayed, by how it ends: all where nothing is wrong with them, whatever else may be; those before one that
--- names no session; or some, where memory is wanting or a write fails
-abbrev pub AreReplayed : Result (Unit {0}) ServerFault → Contents → Stamp → List (List ℕ) → List Hearing → List Hearing → List Turn → List Turn → ℕ → (List ℕ → Type 0) → Type 0
-AreReplayed (Ok _) k now lines ss ss' turns turns' earlier IsPut = AllReplayed k now lines ss ss' turns turns' IsPut
-AreReplayed (Err Read) k now lines ss ss' turns turns' earlier IsPut = AllReplayed k now lines ss ss' turns turns' IsPut
-AreReplayed (Err InputTooLong) k now lines ss ss' turns turns' earlier IsPut = AllReplayed k now lines ss ss' turns turns' IsPut
-AreReplayed (Err (NoSession number)) k now lines ss ss' turns turns' earlier IsPut = StoppedAt k now lines ss ss' turns turns' earlier number IsPut
-AreReplayed (Err Memory) k now lines ss ss' turns turns' earlier IsPut = PartReplayed k now lines ss ss' turns turns' IsPut
-AreReplayed (Err Write) k now lines ss ss' turns turns' earlier IsPut = PartReplayed k now lines ss ss' turns turns' IsPut
-AreReplayed (Err (Catalogue fault)) k now lines ss ss' turns turns' earlier IsPut = ⊥
-AreReplayed (Err BadNow) k now lines ss ss' turns turns' earlier IsPut = ⊥
+-- how far some lines are replayed, and what is put out, where this fault is what it ends with: all where
+-- nothing is wrong with them; those before one that names no session; or some, where memory is wanting or a
+-- write fails
+abbrev pub ReplayedUpTo : ServerFault → Progress → Progress → List (List ℕ) → List ℕ → Type 0
+ReplayedUpTo Read before after lines put = AllReplayed before after lines put
+ReplayedUpTo InputTooLong before after lines put = AllReplayed before after lines put
+ReplayedUpTo (NoSession number) before after lines put = StoppedAt before after lines number put
+ReplayedUpTo Memory before after lines put = PartReplayed before after lines put
+ReplayedUpTo Write before after lines put = PartReplayed before after lines put
+ReplayedUpTo (Catalogue fault) before after lines put = ⊥
+ReplayedUpTo BadNow before after lines put = ⊥
+
+-- the same by how it ends: all where it ends well
+abbrev pub Replayed : {X : Type 0} → Progress → Progress → List (List ℕ) → Result X ServerFault → List ℕ
+    → Type 0
+Replayed before after lines (Ok _) put = AllReplayed before after lines put
+Replayed before after lines (Err fault) put = ReplayedUpTo fault before after lines put
+
+-- The same, where what is put out is appended to an out.
+abbrev pub ReplayedOnto : {X : Type 0} → Progress → Progress → List (List ℕ) → Result X ServerFault
+    → List ℕ → List ℕ → Type 0
+ReplayedOnto before after lines end out out' =
+    (put : List ℕ) × Replayed before after lines end put × (out' ≡ out ++ put)
+
+-- nothing is in any of the outs
+abbrev pub AreEmpty : List (List ℕ) → Type 0
+AreEmpty outs = (i : ℕ) → slice_index_or outs i [] ≡ []
+
+-- no session is estranged from the journal
+abbrev pub AreOfOffice : List Hearing → Type 0
+AreOfOffice sessions = (i : ℕ) → (session_at sessions i).ended ≢ Some ended.Estranged
 
 -- what may be wrong with a line: it names no session, or memory is wanting
 abbrev pub IsOfLine : ServerFault → Type 0

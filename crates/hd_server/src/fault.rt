@@ -1,7 +1,8 @@
 //! Why a program stops.
 ghost use Rattle.std.specs.Prelude.{◌≡◌};
-ghost use Rattle.hd_server.specs.declared.fault.ServerFault.TheVariants.{Memory};
+ghost use Rattle.hd_server.specs.declared.fault.ServerFault.TheVariants.{Memory, Read, Write};
 
+use crate::stream::{ReadFailed, WriteFailed};
 use hd_catalogue::CatFault;
 use std::alloc::{AllocError, AllocFailed};
 use thiserror::Error;
@@ -13,7 +14,8 @@ pub enum ServerFault {
     /// The catalogue file is refused, by this fault.
     #[error("catalogue {0}")]
     Catalogue(CatFault),
-    /// The stamp that is to be the present can't be read, or lies outside the years 0000 to 9999 in local time.
+    /// The stamp that is to be the present can't be read, or lies outside the years 0000 to 9999 in local
+    /// time.
     #[error("bad --now")]
     BadNow,
     /// The input line with this number, counted from 1, doesn't begin with a session's number and one blank.
@@ -46,5 +48,21 @@ impl<T: Drop> From<AllocFailed<T>> for ServerFault {
 
     fn from(_: AllocFailed<T>) -> ServerFault {
         ServerFault::Memory
+    }
+}
+
+impl From<ReadFailed> for ServerFault {
+    ghost from_gives = { λ _ fault. fault ≡ Read };
+
+    fn from(_: ReadFailed) -> ServerFault {
+        ServerFault::Read
+    }
+}
+
+impl From<WriteFailed> for ServerFault {
+    ghost from_gives = { λ _ fault. fault ≡ Write };
+
+    fn from(_: WriteFailed) -> ServerFault {
+        ServerFault::Write
     }
 }

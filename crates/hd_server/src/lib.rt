@@ -7,7 +7,6 @@ mod printing;
 mod replaying;
 mod sessions;
 mod stream;
-mod table;
 #[cfg(test)]
 mod tests;
 

@@ -1,8 +1,8 @@
 //! The session of a line of input.
-ghost use Rattle.std.specs.Prelude.{◌≡◌, ◌∷◌, ◌++◌, ℕ, List, IfNone, IfSome, decimal};
-ghost use Rattle.hd_server.specs.Inputs.{IsLineOf, Message};
+ghost use Rattle.std.specs.Prelude.{◌≡◌, ◌≤◌, ◌∷◌, ◌++◌, [], ℕ, Contains, IfNone, IfSome, decimal};
+ghost use Rattle.hd_server.specs.Inputs.{IsLineOf, IsNumber, Message};
 
-use itoa::Buffer;
+use memchr::memchr;
 
 /// How many sessions an input may have; they are numbered from 1.
 pub(crate) const SESSIONS: usize = 64;
@@ -11,25 +11,38 @@ pub(crate) const SESSIONS: usize = 64;
 ///
 /// The number is 1 to 64 without leading zero, and one blank follows it.
 pub(crate) fn session_of(line: &[u8]) -> Option<(usize, &[u8])>
-    ensures found { IfSome result (λ found. IsLineOf line.now (record { session = found.0; text = found.1.now })) }
+    ensures found { IfSome result (λ found.
+        IsLineOf line.now (record { session = found.0; text = found.1.now })) }
     ensures none { IfNone result ((message : Message) → ¬ IsLineOf line.now message) }
 {
-    for number in 1..=SESSIONS {
-        if let Some(message) = message_behind(line, number) {
-            return Some((number, message));
-        }
-    }
-    None
+    let (digits, message) = at_blank(line)?;
+    Some((number_of(digits)?, message))
 }
 
-/// What stands behind a number and a blank, where the line begins with them.
-fn message_behind(line: &[u8], number: usize) -> Option<&[u8]>
-    ensures found { IfSome result (λ message. line.now ≡ decimal number ++ 32 ∷ message.now) }
-    ensures none { IfNone result ((message : List ℕ) → ¬ (line.now ≡ decimal number ++ 32 ∷ message)) }
+/// What stands before the first blank of a line, and what behind it.
+fn at_blank(line: &[u8]) -> Option<(&[u8], &[u8])>
+    ensures found { IfSome result (λ parts.
+        (line.now ≡ parts.0.now ++ 32 ∷ parts.1.now) × (¬ Contains parts.0.now 32)) }
+    ensures none { IfNone result (¬ Contains line.now 32) }
 {
-    let mut buffer = Buffer::new();
-    match line.strip_prefix(buffer.format(number).as_bytes()) {
-        Some(after) => after.strip_prefix(b" "),
-        None => None,
+    let blank = memchr(b' ', line)?;
+    Some((&line[..blank], &line[blank + 1..]))
+}
+
+/// The session's number that is written so: one or two digits, the first of which is no zero.
+fn number_of(digits: &[u8]) -> Option<usize>
+    ensures found { IfSome result (λ number. IsNumber number × (decimal number ≡ digits.now)) }
+    ensures none { IfNone result ((number : ℕ) → IsNumber number → ¬ (decimal number ≡ digits.now)) }
+{
+    let number = match digits {
+        [ones @ b'1'..=b'9'] => usize::from(*ones - b'0'),
+        [tens @ b'1'..=b'9', ones @ b'0'..=b'9'] => {
+            10 * usize::from(*tens - b'0') + usize::from(*ones - b'0')
+        }
+        _ => return None,
+    };
+    if number > SESSIONS {
+        return None;
     }
+    Some(number)
 }

@@ -1,21 +1,76 @@
 //! What is printed of a session's replies.
-ghost use Rattle.std.specs.Prelude.{◌≡◌, ◌+◌, ◌∷◌, [], ◌++◌, ℕ, List, MatchResult, flat_map};
+ghost use Rattle.std.specs.Prelude.{◌≡◌, ◌≢◌, ◌+◌, ◌∷◌, [], ◌++◌, ℕ, IfErr, List, MatchResult, OnOk, Some};
+ghost use Rattle.std.specs.Prelude.{flat_map};
 ghost use Rattle.hd_server.specs.Inputs.{AreLines};
-ghost use Rattle.hd_server.specs.Printing.{Prints, printed};
+ghost use Rattle.hd_server.specs.Printing.{EndsWell, Prints, end_text, printed};
+ghost use Rattle.hd_server.specs.declared.fault.ServerFault.TheVariants as fault;
+ghost use Rattle.hd_session.specs.declared.ended.Ended.TheVariants as ended;
 
+use crate::fault::ServerFault;
 use hd_field::line;
+use hd_session::Ended;
 use itoa::Buffer;
 use std::alloc::{AllocError, Allocator};
 
-/// Prints the replies of a session, each with the session's number before it and a line feed in the place of its carriage return.
+/// Prints what a session answers to a line: its replies, and `ENDED` where a line too long has ended it.
+///
+/// An error is want of memory, here or in the session. The text is printed up to some point then.
+pub(crate) fn print_answer<A: Allocator>(
+    out: &mut Vec<u8, A>,
+    session: usize,
+    replies: &[u8],
+    end: Option<Ended>,
+) -> Result<(), ServerFault>
+    requires { end ≢ Some ended.Estranged }
+    ensures printed { (parts : List (List ℕ)) × (rest : List ℕ)
+        × AreLines 13 replies.now parts rest
+        × Prints out.old.items out.new.items (flat_map (printed session) parts ++ end_text session end)
+        result }
+    ensures well { OnOk result (EndsWell end) }
+    ensures memory { IfErr result (λ what. what ≡ fault.Memory) }
+{
+    print_replies(out, session, replies)?;
+    match end {
+        None => Ok(()),
+        Some(why) => print_end(out, session, why),
+    }
+}
+
+/// Prints that a line too long has ended a session. Want of memory in the session is an error.
 ///
 /// An error is want of memory. The text is printed up to some point then.
-pub(crate) fn print_replies<A: Allocator>(
+fn print_end<A: Allocator>(
+    out: &mut Vec<u8, A>,
+    session: usize,
+    why: Ended,
+) -> Result<(), ServerFault>
+    requires { why ≢ ended.Estranged }
+    ensures printed { Prints out.old.items out.new.items (end_text session (Some why)) result }
+    ensures well { OnOk result (why ≡ ended.TooLong) }
+    ensures memory { IfErr result (λ what. what ≡ fault.Memory) }
+{
+    match why {
+        Ended::TooLong => {
+            print_line(out, session, b"ENDED")?;
+            Ok(())
+        }
+        Ended::Memory => Err(ServerFault::Memory),
+        Ended::Estranged => unreachable!(),
+    }
+}
+
+/// Prints the replies of a session, each with the session's number before it and a line feed in the place of
+/// its carriage return.
+///
+/// An error is want of memory. The text is printed up to some point then.
+fn print_replies<A: Allocator>(
     out: &mut Vec<u8, A>,
     session: usize,
     replies: &[u8],
 ) -> Result<(), AllocError>
-    ensures { (parts : List (List ℕ)) × (rest : List ℕ) × AreLines 13 replies.now parts rest × Prints out.old.items out.new.items (flat_map (printed session) parts) result }
+    ensures { (parts : List (List ℕ)) × (rest : List ℕ)
+        × AreLines 13 replies.now parts rest
+        × Prints out.old.items out.new.items (flat_map (printed session) parts) result }
 {
     let mut rest = replies;
     while let Some(reply) = line(rest) {
@@ -29,7 +84,7 @@ pub(crate) fn print_replies<A: Allocator>(
 /// Prints a line of a session.
 ///
 /// An error is want of memory. The line is printed up to some point then.
-pub(crate) fn print_line<A: Allocator>(
+fn print_line<A: Allocator>(
     out: &mut Vec<u8, A>,
     session: usize,
     text: &[u8],

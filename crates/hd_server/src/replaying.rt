@@ -1,10 +1,12 @@
 //! `replay`: the lines of an input, answered in order.
-ghost use Rattle.std.specs.Prelude.{◌≡◌, ◌⊎◌, ◌<◌, ◌≤◌, ◌+◌, ◌^◌, [], ℕ, List, Err, IfErr, IfOk, OnOk, drop, if◌then◌else◌, length, take, vec_len};
+ghost use Rattle.std.specs.Prelude.{◌≡◌, ◌⊎◌, ◌<◌, ◌≤◌, ◌+◌, ◌^◌, [], ℕ, Contains, List, Err, IfErr, IfOk};
+ghost use Rattle.std.specs.Prelude.{OnOk};
+ghost use Rattle.std.specs.Prelude.{drop, vec_len};
 ghost use Rattle.std.specs.Io.KnownBytes.{Appends};
 ghost use Rattle.hd_server.specs.Ends.{IsReplayOf, IsUntouched, Reads, Replay};
 ghost use Rattle.hd_server.specs.declared.fault.ServerFault.TheVariants.{Memory};
 ghost use Rattle.hd_server.specs.Inputs.{AreLines, with_rest};
-ghost use Rattle.hd_server.specs.Replays.{AreReplayed, IsStop, new_sessions};
+ghost use Rattle.hd_server.specs.Replays.{IsLegal, IsStop, Replayed};
 
 use crate::fault::ServerFault;
 use crate::sessions::Sessions;
@@ -13,7 +15,6 @@ use hd_catalogue::Catalogue;
 use hd_date::Stamp18;
 use hd_desk::{Desk, Meter};
 use hd_journal::Journal;
-use memchr::memrchr;
 use std::alloc::{AllocError, Allocator};
 use std::io::{Read, Write};
 use std::sync::Arc;
@@ -26,17 +27,18 @@ const PIECE: usize = 65_536;
 
 /// Answers the messages that a reader gives, over the library of a catalogue file, and writes the replies.
 ///
-/// `now` is the present, a stamp of 18 bytes (docs/protocol.md, "Dates"); it stands in replies to unreadable dates. Each
-/// line of the input, ended by LF or by the end of input, is `<session> <message>`: a number from 1 to 64 without leading
-/// zero, one blank, and a message without its carriage return. Each reply is written as `<session> <reply>` and LF, and
-/// a session that has ended is answered `<session> ENDED` (docs/protocol.md, "The program replay"). Whole lines are
-/// answered, and their replies written, before the next read.
+/// `now` is the present, a stamp of 18 bytes (docs/protocol.md, "Dates"); it stands in replies to unreadable
+/// dates. Each line of the input, ended by LF or by the end of input, is `<session> <message>`: a number from
+/// 1 to 64 without leading zero, one blank, and a message without its carriage return. Each reply is written
+/// as `<session> <reply>` and LF, and a session that has ended is answered `<session> ENDED`
+/// (docs/protocol.md, "The program replay"). Whole lines are answered, and their replies written, before the
+/// next read.
 ///
-/// # Errors
-/// `Catalogue` where the file is refused, and then `BadNow`; nothing is read then. `NoSession` at the first line with no
-/// session; the lines before it are answered. `InputTooLong` past 16,777,216 bytes; the whole lines among them are
-/// answered. `Read` where a read fails; the whole lines read are answered. `Write` where a write fails, and `Memory` for want
-/// of memory: what was written is the beginning of the replies to the first lines.
+/// # Errors `Catalogue` where the file is refused, and then `BadNow`; nothing is read then. `NoSession` at
+/// the first line with no session; the lines before it are answered. `InputTooLong` past 16,777,216 bytes;
+/// the whole lines among them are answered. `Read` where a read fails; the whole lines read are answered.
+/// `Write` where a write fails, and `Memory` for want of memory, also in a session: what was written is the
+/// beginning of the replies to the first lines.
 pub fn replay<R: Read, W: Write>(
     rt: &HostRuntime,
     catalogue: &[u8],
@@ -44,7 +46,12 @@ pub fn replay<R: Read, W: Write>(
     from: &mut R,
     to: &mut W,
 ) -> Result<(), ServerFault>
-    ensures { IsReplayOf catalogue.now now.now (R.remaining from.old) (R.remaining from.new) (W.contents to.old) (W.contents to.new) result }
+    ensures { IsReplayOf catalogue.now now.now (record {
+      from = R.remaining from.old;
+      from' = R.remaining from.new;
+      to = W.contents to.old;
+      to' = W.contents to.new;
+    }) result }
 {
     match Catalogue::read(rt.alloc(), catalogue) {
         Ok(catalogue) => match hd_date::read(now, catalogue.offset()) {
@@ -63,16 +70,25 @@ fn replay_over<R: Read, W: Write>(
     from: &mut R,
     to: &mut W,
 ) -> Result<(), ServerFault>
-    ensures { (IsUntouched (R.remaining from.old) (R.remaining from.new) (W.contents to.old) (W.contents to.new) × (result ≡ Err Memory)) ⊎ Replay catalogue now (R.remaining from.old) (R.remaining from.new) (W.contents to.old) (W.contents to.new) result }
+    ensures { (IsUntouched (record {
+      from = R.remaining from.old;
+      from' = R.remaining from.new;
+      to = W.contents to.old;
+      to' = W.contents to.new;
+    }) × (result ≡ Err Memory))
+        ⊎ Replay catalogue now (record {
+          from = R.remaining from.old;
+          from' = R.remaining from.new;
+          to = W.contents to.old;
+          to' = W.contents to.new;
+        }) result }
 {
     let alloc = rt.alloc();
     let catalogue = Arc::new(alloc, catalogue)?;
     let desk = Desk::open(alloc, alloc, catalogue)?;
     let journal = Journal::new(alloc, desk, Meter::new(rt));
     let mut sessions = Sessions::new(alloc, journal, now)?;
-    let end = answer_input(alloc, &mut sessions, from, to);
-    sessions.headline();
-    end
+    answer_input(alloc, &mut sessions, from, to)
 }
 
 /// Answers the lines of an input.
@@ -82,9 +98,14 @@ fn answer_input<A: Allocator + Copy, R: Read, W: Write>(
     from: &mut R,
     to: &mut W,
 ) -> Result<(), ServerFault>
-    requires new { (sessions.old.table ≡ new_sessions) × (sessions.old.journal.turns ≡ []) × (sessions.old.lines ≡ 0) }
-    ensures reads { Reads sessions.old.journal.contents sessions.old.now (R.remaining from.old) (R.remaining from.new) (W.contents to.old) (W.contents to.new) sessions.new.journal.turns result }
-    ensures contents { sessions.new.journal.contents ≡ sessions.old.journal.contents }
+    requires { sessions.old.lines ≡ 0 }
+    ensures reads { Reads sessions.old sessions.new (record {
+      from = R.remaining from.old;
+      from' = R.remaining from.new;
+      to = W.contents to.old;
+      to' = W.contents to.new;
+    }) result }
+    ensures legal { IsLegal sessions.old → IsLegal sessions.new }
 {
     let mut input = Vec::new(alloc);
     let mut out = Vec::new(alloc);
@@ -92,67 +113,75 @@ fn answer_input<A: Allocator + Copy, R: Read, W: Write>(
     let mut room = LONGEST_INPUT;
     for _ in 0..=LONGEST_INPUT {
         let count = read_some(from, piece.as_mut_slice())?;
+        if count == 0 {
+            return answer_rest(sessions, &mut input, &mut out, to);
+        }
         let taken = count.min(room);
         room -= taken;
         input.extend_from_slice(&piece[..taken])?;
-        answer_whole(sessions, &mut input, count == 0, &mut out, to)?;
+        answer_whole(sessions, &mut input, &mut out, to)?;
         if taken < count {
             return Err(ServerFault::InputTooLong);
-        }
-        if count == 0 {
-            return Ok(());
         }
     }
     Err(ServerFault::InputTooLong)
 }
 
-/// Answers the whole lines of what was read, at the end of input also a last one that nothing ends, and writes the replies. What is
-/// left is the beginning of a line.
+/// Answers the whole lines of what was read, and writes the replies. What is left is the beginning of a line.
 fn answer_whole<A: Allocator + Copy, W: Write>(
     sessions: &mut Sessions<A>,
     input: &mut Vec<u8, A>,
-    at_end: bool,
     out: &mut Vec<u8, A>,
     to: &mut W,
 ) -> Result<(), ServerFault>
     requires lines { sessions.old.lines + vec_len input.old < 2 ^ 64 }
     requires out { out.old.items ≡ [] }
-    ensures replayed { (whole : List (List ℕ)) × (rest : List ℕ) × AreLines 10 input.old.items whole rest × AreReplayed result sessions.old.journal.contents sessions.old.now (if at_end then with_rest whole rest else whole) sessions.old.table sessions.new.table sessions.old.journal.turns sessions.new.journal.turns sessions.old.lines (Appends (W.contents to.old) (W.contents to.new)) × OnOk result (input.new.items ≡ (if at_end then [] else rest)) × OnOk result (sessions.new.lines ≡ sessions.old.lines + length (if at_end then with_rest whole rest else whole)) }
+    ensures replayed { (whole : List (List ℕ)) × (rest : List ℕ) × (put : List ℕ)
+        × AreLines 10 input.old.items whole rest
+        × Replayed sessions.old sessions.new whole result put
+        × Appends (W.contents to.old) (W.contents to.new) put
+        × OnOk result (input.new.items ≡ rest) }
     ensures stops { IfErr result IsStop }
     ensures out { OnOk result (out.new.items ≡ []) }
-    ensures same { (sessions.new.journal.contents ≡ sessions.old.journal.contents) × (sessions.new.now ≡ sessions.old.now) }
+    ensures legal { IsLegal sessions.old → IsLegal sessions.new }
 {
-    let used = answerable(input.as_slice(), at_end);
-    let (lines, _) = input.as_slice().split_at(used);
-    let answered = sessions.answer_lines(lines, out);
+    let answered = sessions.answer_lines(input.as_mut_slice(), out);
     write_all(to, out.as_slice())?;
-    answered?;
+    let used = answered?;
     out.clear();
-    input.drain(..used);
+    take_front(input, used);
     Ok(())
 }
 
-/// How many bytes the lines take that can be answered: the whole ones, or all at the end of input.
-fn answerable(text: &[u8], at_end: bool) -> usize
-    ensures within { result ≤ length text.now }
-    ensures lines { (lines : List (List ℕ)) (rest : List ℕ) → AreLines 10 (take result text.now) lines rest → (whole : List (List ℕ)) × (left : List ℕ) × AreLines 10 text.now whole left × ((if at_end then with_rest whole left else whole) ≡ with_rest lines rest) × (drop result text.now ≡ (if at_end then [] else left)) }
+/// Takes so many bytes away from the front.
+fn take_front<A: Allocator>(input: &mut Vec<u8, A>, count: usize)
+    requires { count ≤ vec_len input.old }
+    ensures { input.new.items ≡ drop count input.old.items }
 {
-    if at_end {
-        text.len()
-    } else {
-        whole_lines(text)
-    }
+    input.drain(..count);
 }
 
-/// How many bytes the whole lines of a text take.
-fn whole_lines(text: &[u8]) -> usize
-    ensures lines { (lines : List (List ℕ)) × AreLines 10 text.now lines (drop result text.now) }
-    ensures within { result ≤ length text.now }
+/// Answers a last line that nothing ends, where there is one: the end of input ends it.
+fn answer_rest<A: Allocator + Copy, W: Write>(
+    sessions: &mut Sessions<A>,
+    input: &mut Vec<u8, A>,
+    out: &mut Vec<u8, A>,
+    to: &mut W,
+) -> Result<(), ServerFault>
+    requires rest { ¬ Contains input.old.items 10 }
+    requires lines { sessions.old.lines + vec_len input.old + 1 < 2 ^ 64 }
+    requires out { out.old.items ≡ [] }
+    ensures replayed { (put : List ℕ)
+        × Replayed sessions.old sessions.new (with_rest [] input.old.items) result put
+        × Appends (W.contents to.old) (W.contents to.new) put }
+    ensures stops { IfErr result IsStop }
+    ensures legal { IsLegal sessions.old → IsLegal sessions.new }
 {
-    match memrchr(b'\n', text) {
-        Some(last) => last + 1,
-        None => 0,
+    if input.is_empty() {
+        return Ok(());
     }
+    input.push(b'\n')?;
+    answer_whole(sessions, input, out, to)
 }
 
 /// So many bytes to read into.

@@ -1,38 +1,44 @@
 //! Reading from a reader and writing to a writer, with calls that were interrupted tried again.
-ghost use Rattle.std.specs.Prelude.{◌≡◌, ◌<◌, ◌≤◌, IfErr, IfOk, MatchResult, ℕ, length, take};
+ghost use Rattle.std.specs.Prelude.{◌<◌, ◌≤◌, IfOk, MatchResult, ℕ, length, take};
 ghost use Rattle.std.specs.Io.KnownBytes.{Appends, Keeps, ReadConsumes};
-ghost use Rattle.hd_server.specs.declared.fault.ServerFault.TheVariants.{Read, Write};
 
-use crate::fault::ServerFault;
 use std::io::{ErrorKind, Read, Write};
 
-/// How often an interrupted call is tried in a row before it is a fault.
-const TRIES: usize = 16;
+/// How often in a row an interrupted call is tried again, before it is a fault.
+const TRIES_AGAIN: usize = 16;
+
+/// A read failed.
+#[derive(Clone, Copy, Debug, PartialEq, Eq)]
+pub(crate) struct ReadFailed;
+
+/// A write failed, or took no byte.
+#[derive(Clone, Copy, Debug, PartialEq, Eq)]
+pub(crate) struct WriteFailed;
 
 /// Reads once: how many bytes came, 0 at the end of input. A fault took no byte.
-pub(crate) fn read_some<R: Read>(from: &mut R, piece: &mut [u8]) -> Result<usize, ServerFault>
+pub(crate) fn read_some<R: Read>(from: &mut R, piece: &mut [u8]) -> Result<usize, ReadFailed>
     requires { 0 < length piece.old }
     ensures count { IfOk result (λ count. count ≤ length piece.new) }
-    ensures fault { IfErr result (λ fault. fault ≡ Read) }
     ensures read { ReadConsumes (R.remaining from.old) (R.remaining from.new) result piece.new }
 {
-    for _ in 0..TRIES {
+    for _ in 0..=TRIES_AGAIN {
         match from.read(piece) {
             Ok(count) => return Ok(count),
             Err(error) => {
                 if error.kind() != ErrorKind::Interrupted {
-                    return Err(ServerFault::Read);
+                    return Err(ReadFailed);
                 }
             }
         }
     }
-    Err(ServerFault::Read)
+    Err(ReadFailed)
 }
 
 /// Writes all of the bytes; at a fault, a beginning of them.
-pub(crate) fn write_all<W: Write>(to: &mut W, bytes: &[u8]) -> Result<(), ServerFault>
-    ensures wrote { MatchResult result (λ _. Appends (W.contents to.old) (W.contents to.new) bytes.now) (λ _. (n : ℕ) × Appends (W.contents to.old) (W.contents to.new) (take n bytes.now)) }
-    ensures fault { IfErr result (λ fault. fault ≡ Write) }
+pub(crate) fn write_all<W: Write>(to: &mut W, bytes: &[u8]) -> Result<(), WriteFailed>
+    ensures { MatchResult result
+        (λ _. Appends (W.contents to.old) (W.contents to.new) bytes.now)
+        (λ _. (n : ℕ) × Appends (W.contents to.old) (W.contents to.new) (take n bytes.now)) }
 {
     let mut done = 0;
     while done < bytes.len() {
@@ -43,21 +49,22 @@ pub(crate) fn write_all<W: Write>(to: &mut W, bytes: &[u8]) -> Result<(), Server
 }
 
 /// Writes once: how many bytes were taken. A write that takes none is a fault.
-fn write_some<W: Write>(to: &mut W, bytes: &[u8]) -> Result<usize, ServerFault>
-    ensures fault { IfErr result (λ fault. fault ≡ Write) }
+fn write_some<W: Write>(to: &mut W, bytes: &[u8]) -> Result<usize, WriteFailed>
     ensures some { IfOk result (λ n. (0 < n) × (n ≤ length bytes.now)) }
-    ensures wrote { MatchResult result (λ n. Appends (W.contents to.old) (W.contents to.new) (take n bytes.now)) (λ _. Keeps (W.contents to.old) (W.contents to.new)) }
+    ensures wrote { MatchResult result
+        (λ n. Appends (W.contents to.old) (W.contents to.new) (take n bytes.now))
+        (λ _. Keeps (W.contents to.old) (W.contents to.new)) }
 {
-    for _ in 0..TRIES {
+    for _ in 0..=TRIES_AGAIN {
         match to.write(bytes) {
-            Ok(0) => return Err(ServerFault::Write),
+            Ok(0) => return Err(WriteFailed),
             Ok(count) => return Ok(count),
             Err(error) => {
                 if error.kind() != ErrorKind::Interrupted {
-                    return Err(ServerFault::Write);
+                    return Err(WriteFailed);
                 }
             }
         }
     }
-    Err(ServerFault::Write)
+    Err(WriteFailed)
 }

@@ -1,8 +1,10 @@
-//! What no row says: long lines, long inputs, a library without terminals, and faults of the reader and the writer.
+//! What no row says: long lines, long inputs, a library without terminals, and faults of the reader and the
+//! writer.
 ghost use Rattle.std.specs.Prelude.{Some};
 
 use crate::{ServerFault, replay};
 use std::alloc::{AllocError, Global};
+use std::cell::Cell;
 use std::io::{self, ErrorKind, Read, Write};
 use std::test::Fail;
 
@@ -218,43 +220,41 @@ const GIVEN: usize = 7;
 /// How many bytes a writer of few bytes takes at a call.
 const TAKEN: usize = 5;
 
-/// How many calls are enough for all of the input, and for all that it is answered.
-const CALLS: usize = 100;
-
-/// Calls, one of which fails.
+/// Calls, some of which fail, in a row.
 #[derive(Drop)]
 struct Calls {
-    /// How many come before the one that fails; none once it has come.
-    before: Option<usize>,
+    /// How many come before those that fail.
+    before: usize,
+    /// How many fail then.
+    failing: usize,
     kind: ErrorKind,
 }
 
 impl Calls {
-    /// Fails at the call that comes after so many.
-    fn failing_after(before: usize, kind: ErrorKind) -> Calls {
+    /// So many fail, after so many that are well.
+    fn failing(before: usize, failing: usize, kind: ErrorKind) -> Calls {
         Calls {
-            before: Some(before),
+            before,
+            failing,
             kind,
         }
     }
 
     /// One call.
     fn call(&mut self) -> io::Result<()> {
-        match self.before {
-            Some(0) => {
-                self.before = None;
-                Err(io::Error::from(self.kind))
-            }
-            Some(before) => {
-                self.before = Some(before - 1);
-                Ok(())
-            }
-            None => Ok(()),
+        if self.before > 0 {
+            self.before -= 1;
+            return Ok(());
         }
+        if self.failing > 0 {
+            self.failing -= 1;
+            return Err(io::Error::from(self.kind));
+        }
+        Ok(())
     }
 }
 
-/// Gives few bytes of a text at each call, but at one that fails.
+/// Gives few bytes of a text at each call, but at those that fail.
 #[derive(Drop)]
 struct FewBytesReader<'a> {
     rest: &'a [u8],
@@ -271,7 +271,7 @@ impl Read for FewBytesReader<'_> {
     }
 }
 
-/// Takes few bytes at each call, but at one that fails.
+/// Takes few bytes at each call, but at those that fail.
 #[derive(Drop)]
 struct FewBytesWriter {
     taken: Vec<u8>,
@@ -293,31 +293,20 @@ impl Write for FewBytesWriter {
     }
 }
 
-/// What is written, and how it ends, where the read after so many fails.
-fn replayed_reading(
-    rt: &HostRuntime,
-    before: usize,
-    kind: ErrorKind,
-) -> (Vec<u8>, Result<(), ServerFault>) {
-    let mut from = FewBytesReader {
-        rest: INPUT,
-        calls: Calls::failing_after(before, kind),
-    };
+/// What is written, and how it ends, where these reads fail.
+fn replayed_reading(rt: &HostRuntime, calls: Calls) -> (Vec<u8>, Result<(), ServerFault>) {
+    let mut from = FewBytesReader { rest: INPUT, calls };
     let mut out = Vec::new(rt.alloc());
     let end = replay(rt, CATALOGUE, NOW, &mut from, &mut out);
     (out, end)
 }
 
-/// What is written, and how it ends, where the write after so many fails.
-fn replayed_writing(
-    rt: &HostRuntime,
-    before: usize,
-    kind: ErrorKind,
-) -> (Vec<u8>, Result<(), ServerFault>) {
+/// What is written, and how it ends, where these writes fail.
+fn replayed_writing(rt: &HostRuntime, calls: Calls) -> (Vec<u8>, Result<(), ServerFault>) {
     let mut from = INPUT;
     let mut to = FewBytesWriter {
         taken: Vec::new(rt.alloc()),
-        calls: Calls::failing_after(before, kind),
+        calls,
     };
     let end = replay(rt, CATALOGUE, NOW, &mut from, &mut to);
     (to.taken, end)
@@ -334,50 +323,127 @@ fn answered_among(bytes: usize) -> &'static [u8] {
     ANSWERED.get(..length).unwrap_or(ANSWERED)
 }
 
+/// How many reads come to the end of the input: those that give bytes, and one that gives none.
+fn reads() -> usize {
+    INPUT.len().div_ceil(GIVEN).saturating_add(1)
+}
+
+/// How many writes take all that is answered. The reply to the last line is written after the read that gives
+/// nothing.
+fn writes() -> usize {
+    let first = answered_among(INPUT.len());
+    let last = ANSWERED.get(first.len()..).unwrap_or(b"");
+    first
+        .len()
+        .div_ceil(TAKEN)
+        .saturating_add(last.len().div_ceil(TAKEN))
+}
+
 #[test]
 fn a_read_fails_at_each_call(rt: HostRuntime) {
-    for before in 0..CALLS {
-        let (out, end) = replayed_reading(&rt, before, ErrorKind::Other);
-        if end.is_ok() {
-            assert_eq!(rt; out.as_slice(), ANSWERED);
-            // All calls that gave bytes and the one that gave none were made to fail.
-            assert_eq!(rt; before, INPUT.len().div_ceil(GIVEN) + 1);
-            return;
-        }
+    for before in 0..reads() {
+        let calls = Calls::failing(before, 1, ErrorKind::Other);
+        let (out, end) = replayed_reading(&rt, calls);
         assert_eq!(rt; end, Err(ServerFault::Read));
-        assert_eq!(rt; out.as_slice(), answered_among(before * GIVEN));
+        assert_eq!(rt;
+            out.as_slice(),
+            answered_among(before.saturating_mul(GIVEN))
+        );
     }
-    panic!(rt; "no run was well");
+    let (out, end) = replayed_reading(&rt, Calls::failing(reads(), 1, ErrorKind::Other));
+    assert_eq!(rt; end, Ok(()));
+    assert_eq!(rt; out.as_slice(), ANSWERED);
 }
 
 #[test]
 fn a_write_fails_at_each_call(rt: HostRuntime) {
-    for before in 0..CALLS {
-        let (out, end) = replayed_writing(&rt, before, ErrorKind::Other);
-        if end.is_ok() {
-            assert_eq!(rt; out.as_slice(), ANSWERED);
-            // The reply to the last line is written after the read that gives nothing.
-            let first = answered_among(INPUT.len());
-            let last = ANSWERED.get(first.len()..).unwrap_or(b"");
-            let calls = first.len().div_ceil(TAKEN) + last.len().div_ceil(TAKEN);
-            assert_eq!(rt; before, calls);
-            return;
-        }
+    for before in 0..writes() {
+        let calls = Calls::failing(before, 1, ErrorKind::Other);
+        let (out, end) = replayed_writing(&rt, calls);
         assert_eq!(rt; end, Err(ServerFault::Write));
         assert!(rt; ANSWERED.starts_with(out.as_slice()));
-        assert!(rt; before <= out.len() && out.len() <= before * TAKEN);
+        assert!(rt; before <= out.len() && out.len() <= before.saturating_mul(TAKEN));
     }
-    panic!(rt; "no run was well");
+    let (out, end) = replayed_writing(&rt, Calls::failing(writes(), 1, ErrorKind::Other));
+    assert_eq!(rt; end, Ok(()));
+    assert_eq!(rt; out.as_slice(), ANSWERED);
 }
 
 #[test]
-fn an_interrupted_call_changes_nothing(rt: HostRuntime) {
-    for before in 0..CALLS {
-        let (out, end) = replayed_reading(&rt, before, ErrorKind::Interrupted);
-        assert_eq!(rt; end, Ok(()));
-        assert_eq!(rt; out.as_slice(), ANSWERED);
-        let (out, end) = replayed_writing(&rt, before, ErrorKind::Interrupted);
-        assert_eq!(rt; end, Ok(()));
-        assert_eq!(rt; out.as_slice(), ANSWERED);
+fn an_interrupted_call_is_tried_again_sixteen_times_in_a_row(rt: HostRuntime) {
+    for before in 0..reads() {
+        for (failing, wanted) in [(16, Ok(())), (17, Err(ServerFault::Read))] {
+            let calls = Calls::failing(before, failing, ErrorKind::Interrupted);
+            let (out, end) = replayed_reading(&rt, calls);
+            assert_eq!(rt; end, wanted);
+            assert!(rt; end.is_err() || out.as_slice() == ANSWERED);
+        }
     }
+    for before in 0..writes() {
+        for (failing, wanted) in [(16, Ok(())), (17, Err(ServerFault::Write))] {
+            let calls = Calls::failing(before, failing, ErrorKind::Interrupted);
+            let (out, end) = replayed_writing(&rt, calls);
+            assert_eq!(rt; end, wanted);
+            assert!(rt; end.is_err() || out.as_slice() == ANSWERED);
+        }
+    }
+}
+
+/// Gives one line of a text at each call, and looks at how many bytes have been written by then.
+#[derive(Drop)]
+struct WatchingReader<'a> {
+    rest: &'a [u8],
+    given: usize,
+    written: &'a Cell<usize>,
+    /// A reply to a line that was given hadn't been written, or one to another had.
+    missed: bool,
+}
+
+impl Read for WatchingReader<'_> {
+    fn read(&mut self, piece: &mut [u8]) -> io::Result<usize> {
+        if self.written.get() != answered_among(self.given).len() {
+            self.missed = true;
+        }
+        let line = self.rest.iter().position(|byte| *byte == b'\n');
+        let length = line.map_or(self.rest.len(), |end| end.saturating_add(1));
+        let count = length.min(piece.len());
+        let mut part = self.rest.get(..count).unwrap_or(b"");
+        self.rest = self.rest.get(count..).unwrap_or(b"");
+        self.given = self.given.saturating_add(count);
+        part.read(piece)
+    }
+}
+
+/// Counts the bytes that are written.
+#[derive(Drop)]
+struct CountingWriter<'a> {
+    written: &'a Cell<usize>,
+}
+
+impl Write for CountingWriter<'_> {
+    fn write(&mut self, bytes: &[u8]) -> io::Result<usize> {
+        self.written
+            .set(self.written.get().saturating_add(bytes.len()));
+        Ok(bytes.len())
+    }
+
+    fn flush(&mut self) -> io::Result<()> {
+        Ok(())
+    }
+}
+
+#[test]
+fn replies_are_written_before_the_next_read(rt: HostRuntime) {
+    let written = Cell::new(0);
+    let mut from = WatchingReader {
+        rest: INPUT,
+        given: 0,
+        written: &written,
+        missed: false,
+    };
+    let mut to = CountingWriter { written: &written };
+    let end = replay(&rt, CATALOGUE, NOW, &mut from, &mut to);
+    assert_eq!(rt; end, Ok(()));
+    assert!(rt; !from.missed);
+    assert_eq!(rt; written.get(), ANSWERED.len());
 }

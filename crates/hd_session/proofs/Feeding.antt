@@ -1,15 +1,18 @@
 -- Pieces that are fed one after the other.
-use Rattle.std.proofs.Common.{◌≡◌, ◌⊎◌, inl, inr, ℕ, Bool, true, false, true≢false, Option, None, Some, List, [], ◌∷◌, ◌++◌, if◌then◌else◌, refl, sym, ap, ap₂, ◌∙◌, subst, append_assoc, append-nil}
+use Rattle.std.proofs.Common.{◌≡◌, ◌⊎◌, inl, inr, ℕ, ◌+◌, ◌*◌, ◌≤◌, Bool, true, false, Option, None, Some, List, [], ◌∷◌, ◌++◌, length}
+use Rattle.std.proofs.Common.{if◌then◌else◌, arith, refl, sym, ap, ap₂, ◌∙◌, subst, append_assoc, append-nil, length-append}
 use Rattle.std.proofs.lemmas.Option.{none-some}
 use Rattle.hd_date.specs.Stamps.{Stamp}
 use Rattle.hd_rules.specs.Journal.{Turn}
 use Rattle.hd_catalogue.specs.Contents.{Contents}
-use Rattle.hd_stream.specs.Streams.{Begun, after, lines_in}
-use Rattle.hd_stream.proofs.Cutting.{after_append, lines_append, nothing_heard}
+use Rattle.hd_field.specs.Streams.{Begun, after, after_return, lines_in}
+use Rattle.hd_field.proofs.Cutting.{after_append, lines_append, nothing_heard}
+use Rattle.hd_exchange.specs.declared.fault.OfficeFault.{OfficeFault}
+use Rattle.hd_exchange.specs.declared.fault.OfficeFault.TheVariants as fault
 use Rattle.hd_session.specs.declared.ended.Ended.{Ended}
-use Rattle.hd_session.specs.declared.ended.Ended.TheVariants.{TooLong}
-use Rattle.hd_session.specs.Standing.{Stands}
-use Rattle.hd_session.specs.Sessions.{Answers, AreHeard, EndsAtLine, Feeds, Hearing, HearsAll, IsFed, IsFedAt, IsOfLine}
+use Rattle.hd_session.specs.declared.ended.Ended.TheVariants.{TooLong, Memory, Estranged}
+use Rattle.hd_session.specs.Standing.{Stands, LineAsks}
+use Rattle.hd_session.specs.Sessions.{Answers, AreHeard, EndsAtLine, Feeds, Hearing, HearsAll, IsCause, IsFed, IsFedAt, reason_of}
 use Rattle.hd_session.proofs.Hearing.{heard_append}
 
 -- a session ends where its line has grown too long
@@ -28,135 +31,225 @@ short_where_open false is = refl
 abbrev pub IsSettled : Hearing → Type 0
 IsSettled h = h.ended ≡ None → h.begun.too_long ≡ false
 
-module _ (k : Contents) (seat : ℕ) (now : Stamp) where
+-- the lines of two pieces
+pub lines_of_two : (b : Begun) (first second : List ℕ) → lines_in b (first ++ second) ≡ lines_in b first ++ lines_in (after b first) second
+lines_of_two b first second = lines_append b.fresh b.text b.too_long first second
+
+-- and what has come of the next line after them
+pub after_two : (b : Begun) (first second : List ℕ) → after b (first ++ second) ≡ after (after b first) second
+after_two b first second = after_append b.fresh b.text b.too_long first second
+
+-- the causes of ends
+module _ (k : Contents) (faults : OfficeFault → Type 0) where
+  -- at a line that more lines come before, with more room by what the replies to these take
+  pub cause_later : (room left : ℕ) (s : Stands) (more earlier all : ℕ) (line : List ℕ) (why : Ended) → all ≡ more + earlier
+      → room ≤ left + 2048 * more → IsCause k faults left s earlier line why → IsCause k faults room s all line why
+  cause_later room left s more earlier all line TooLong is fits never = never
+  cause_later room left s more earlier all line Memory is fits (inl given) = inl given
+  cause_later room left s more earlier all line Memory is fits (inr (some, full)) = inr (some, omega (arith, is, fits, full))
+  cause_later room left s more earlier all line Estranged is fits given = given
+
+  -- a fault of the office
+  pub cause_of : (room : ℕ) (s : Stands) (earlier : ℕ) (line : List ℕ) (f : OfficeFault) → faults f → LineAsks k s line
+      → IsCause k faults room s earlier line (reason_of f)
+  cause_of room s earlier line fault.Memory given asks = inl (given, asks)
+  cause_of room s earlier line fault.Estranged given asks = (given, asks)
+
+module _ (k : Contents) (seat : ℕ) (faults : OfficeFault → Type 0) (now : Stamp) where
   -- a piece that is heard whole, after another
   pub all_after_all : (first second : List ℕ) (made made' : List Turn) (h between h' : Hearing) (text text' : List ℕ)
-      → HearsAll k seat now h first made between text → HearsAll k seat now between second made' h' text' → HearsAll k seat now h (first ++ second) (made ++ made') h' (text ++ text')
+      → HearsAll k seat now h first made between text → HearsAll k seat now between second made' h' text'
+      → HearsAll k seat now h (first ++ second) (made ++ made') h' (text ++ text')
   all_after_all first second made made' h between h' text text' a b =
       let lines : lines_in h.begun (first ++ second) ≡ lines_in h.begun first ++ lines_in between.begun second =
-      lines_append h.begun.fresh h.begun.text h.begun.too_long first second ∙ ap (λ (x : Begun). lines_in h.begun first ++ lines_in x second) (sym a.begun) in
+      lines_of_two h.begun first second ∙ ap (λ (x : Begun). lines_in h.begun first ++ lines_in x second) (sym a.begun) in
       record {
         heard = subst (λ (ls : List (List ℕ)). AreHeard k seat now ls h.standing (made ++ made') h'.standing (text ++ text')) (sym lines)
-            (heard_append k seat now (lines_in h.begun first) (lines_in between.begun second) h.standing between.standing h'.standing made made' text text' a.heard b.heard);
-        begun = b.begun ∙ (ap (λ (x : Begun). after x second) a.begun ∙ sym (after_append h.begun.fresh h.begun.text h.begun.too_long first second));
+            (heard_append k seat now (lines_in h.begun first) (lines_in between.begun second) h.standing between.standing h'.standing
+            made made' text text' a.heard b.heard);
+        begun = b.begun ∙ (ap (λ (x : Begun). after x second) a.begun ∙ sym (after_two h.begun first second));
         ended = b.ended;
       }
 
   -- one that ends the session, after another
-  pub end_after_all : (first second : List ℕ) (made made' : List Turn) (h between h' : Hearing) (text text' : List ℕ)
-      → HearsAll k seat now h first made between text → EndsAtLine k seat now between second made' h' text' → EndsAtLine k seat now h (first ++ second) (made ++ made') h' (text ++ text')
-  end_after_all first second made made' h between h' text text' a b =
+  pub end_after_all : (room left : ℕ) (first second : List ℕ) (made made' : List Turn) (h between h' : Hearing) (text text' : List ℕ)
+      → room ≤ left + 2048 * length (lines_in h.begun first)
+      → HearsAll k seat now h first made between text → EndsAtLine k seat faults now left between second made' h' text'
+      → EndsAtLine k seat faults now room h (first ++ second) (made ++ made') h' (text ++ text')
+  end_after_all room left first second made made' h between h' text text' fits a b =
       let lines : lines_in h.begun (first ++ second) ≡ lines_in h.begun first ++ lines_in between.begun second =
-      lines_append h.begun.fresh h.begun.text h.begun.too_long first second ∙ ap (λ (x : Begun). lines_in h.begun first ++ lines_in x second) (sym a.begun) in
+      lines_of_two h.begun first second ∙ ap (λ (x : Begun). lines_in h.begun first ++ lines_in x second) (sym a.begun) in
       record {
         before = lines_in h.begun first ++ b.before;
         line = b.line;
         later = b.later;
-        split = lines ∙ (ap (λ (ls : List (List ℕ)). lines_in h.begun first ++ ls) b.split ∙ sym (append_assoc (lines_in h.begun first) b.before (b.line ∷ b.later)));
-        between = b.between;
-        heard = heard_append k seat now (lines_in h.begun first) b.before h.standing between.standing b.between made made' text text' a.heard b.heard;
+        split = lines ∙ (ap (λ (ls : List (List ℕ)). lines_in h.begun first ++ ls) b.split
+            ∙ sym (append_assoc (lines_in h.begun first) b.before (b.line ∷ b.later)));
+        heard = heard_append k seat now (lines_in h.begun first) b.before h.standing between.standing h'.standing made made' text text'
+            a.heard b.heard;
         why = b.why;
-        of_line = b.of_line;
+        cause = cause_later k faults room left h'.standing (length (lines_in h.begun first)) (length b.before)
+            (length (lines_in h.begun first ++ b.before)) b.line b.why (length-append (lines_in h.begun first) b.before) fits b.cause;
+        begun = b.begun;
         ended = b.ended;
       }
 
   -- what comes after the end of a session
   pub long_then_more : (first second : List ℕ) (made : List Turn) (h between : Hearing) (text : List ℕ)
-      → between.begun.too_long ≡ true → HearsAll k seat now h first made between text → HearsAll k seat now h (first ++ second) made between text
+      → between.begun.too_long ≡ true → HearsAll k seat now h first made between text
+      → HearsAll k seat now h (first ++ second) made between text
   long_then_more first second made h between text long a =
       let dead = nothing_heard between.begun second long in
       let lines : lines_in h.begun (first ++ second) ≡ lines_in h.begun first =
-      lines_append h.begun.fresh h.begun.text h.begun.too_long first second ∙ (ap (λ (x : Begun). lines_in h.begun first ++ lines_in x second) (sym a.begun) ∙ (ap (λ (ls : List (List ℕ)). lines_in h.begun first ++ ls) dead.0 ∙ append-nil (lines_in h.begun first))) in
+      lines_of_two h.begun first second ∙ (ap (λ (x : Begun). lines_in h.begun first ++ lines_in x second) (sym a.begun)
+      ∙ (ap (λ (ls : List (List ℕ)). lines_in h.begun first ++ ls) dead.0 ∙ append-nil (lines_in h.begun first))) in
       record {
         heard = subst (λ (ls : List (List ℕ)). AreHeard k seat now ls h.standing made between.standing text) (sym lines) a.heard;
-        begun = dead.1 ∙ (ap (λ (x : Begun). after x second) a.begun ∙ sym (after_append h.begun.fresh h.begun.text h.begun.too_long first second));
+        begun = dead.1 ∙ (ap (λ (x : Begun). after x second) a.begun ∙ sym (after_two h.begun first second));
         ended = a.ended;
       }
 
-  pub end_then_more : (first second : List ℕ) (made : List Turn) (h between : Hearing) (text : List ℕ)
-      → EndsAtLine k seat now h first made between text → EndsAtLine k seat now h (first ++ second) made between text
-  end_then_more first second made h between text a = record {
+  pub end_then_more : (room : ℕ) (first second : List ℕ) (made : List Turn) (h between : Hearing) (text : List ℕ)
+      → EndsAtLine k seat faults now room h first made between text
+      → EndsAtLine k seat faults now room h (first ++ second) made between text
+  end_then_more room first second made h between text a = record {
     before = a.before;
     line = a.line;
     later = a.later ++ lines_in (after h.begun first) second;
-    split = lines_append h.begun.fresh h.begun.text h.begun.too_long first second ∙ (ap (λ (ls : List (List ℕ)). ls ++ lines_in (after h.begun first) second) a.split ∙ append_assoc a.before (a.line ∷ a.later) (lines_in (after h.begun first) second));
-    between = a.between;
+    split = lines_of_two h.begun first second
+        ∙ (ap (λ (ls : List (List ℕ)). ls ++ lines_in (after h.begun first) second) a.split
+        ∙ append_assoc a.before (a.line ∷ a.later) (lines_in (after h.begun first) second));
     heard = a.heard;
     why = a.why;
-    of_line = a.of_line;
+    cause = a.cause;
+    begun = a.begun;
     ended = a.ended;
   }
 
   -- a piece after another, where the session had ended before the first, or between them, or not
-  pub one_after_other : (e e' : Option Ended) (first second : List ℕ) (made made' : List Turn) (h between h' : Hearing) (text text' : List ℕ) → h.ended ≡ e → between.ended ≡ e'
-      → IsFedAt e k seat now h first made between text → IsFedAt e' k seat now between second made' h' text' → IsFedAt e k seat now h (first ++ second) (made ++ made') h' (text ++ text')
-  one_after_other (Some why) (Some then_why) first second made made' h between h' text text' is next a b =
+  pub one_after_other : (e e' : Option Ended) (room left : ℕ) (first second : List ℕ) (made made' : List Turn) (h between h' : Hearing)
+      (text text' : List ℕ) → room ≤ left + 2048 * length (lines_in h.begun first) → h.ended ≡ e → between.ended ≡ e'
+      → IsFedAt k seat faults e now room h first made between text → IsFedAt k seat faults e' now left between second made' h' text'
+      → IsFedAt k seat faults e now room h (first ++ second) (made ++ made') h' (text ++ text')
+  one_after_other (Some why) (Some then_why) room left first second made made' h between h' text text' fits is next a b =
       (ap₂ (λ (x y : List Turn). x ++ y) a.0 b.0, b.1 ∙ a.1, ap₂ (λ (x y : List ℕ). x ++ y) a.2 b.2)
-  one_after_other (Some why) None first second made made' h between h' text text' is next a b =
+  one_after_other (Some why) None room left first second made made' h between h' text text' fits is next a b =
       absurd (none-some why (sym next ∙ (ap (λ (x : Hearing). x.ended) a.1 ∙ is)))
-  one_after_other None (Some why) first second made made' h between h' text text' is next (inl a) b =
-      inl (rw (b.0, b.1, b.2, append-nil made, append-nil text) (long_then_more first second made h between text (long_where_ended between.begun.too_long why (sym a.ended ∙ next)) a))
-  one_after_other None (Some why) first second made made' h between h' text text' is next (inr a) b =
-      inr (rw (b.0, b.1, b.2, append-nil made, append-nil text) (end_then_more first second made h between text a))
-  one_after_other None None first second made made' h between h' text text' is next (inl a) (inl b) = inl (all_after_all first second made made' h between h' text text' a b)
-  one_after_other None None first second made made' h between h' text text' is next (inl a) (inr b) = inr (end_after_all first second made made' h between h' text text' a b)
-  one_after_other None None first second made made' h between h' text text' is next (inr a) b = absurd (none-some a.why (sym next ∙ a.ended))
+  one_after_other None (Some why) room left first second made made' h between h' text text' fits is next (inl a) b =
+      inl (rw (b.0, b.1, b.2, append-nil made, append-nil text)
+      (long_then_more first second made h between text (long_where_ended between.begun.too_long why (sym a.ended ∙ next)) a))
+  one_after_other None (Some why) room left first second made made' h between h' text text' fits is next (inr a) b =
+      inr (rw (b.0, b.1, b.2, append-nil made, append-nil text) (end_then_more room first second made h between text a))
+  one_after_other None None room left first second made made' h between h' text text' fits is next (inl a) (inl b) =
+      inl (all_after_all first second made made' h between h' text text' a b)
+  one_after_other None None room left first second made made' h between h' text text' fits is next (inl a) (inr b) =
+      inr (end_after_all room left first second made made' h between h' text text' fits a b)
+  one_after_other None None room left first second made made' h between h' text text' fits is next (inr a) b =
+      absurd (none-some a.why (sym next ∙ a.ended))
 
-  pub fed_after_fed : (first second : List ℕ) (made made' : List Turn) (h between h' : Hearing) (text text' : List ℕ)
-      → IsFed k seat now h first made between text → IsFed k seat now between second made' h' text' → IsFed k seat now h (first ++ second) (made ++ made') h' (text ++ text')
-  fed_after_fed first second made made' h between h' text text' a b =
-      one_after_other h.ended between.ended first second made made' h between h' text text' refl refl a b
+  pub fed_after_fed : (room left : ℕ) (first second : List ℕ) (made made' : List Turn) (h between h' : Hearing) (text text' : List ℕ)
+      → room ≤ left + 2048 * length (lines_in h.begun first)
+      → IsFed k seat faults now room h first made between text → IsFed k seat faults now left between second made' h' text'
+      → IsFed k seat faults now room h (first ++ second) (made ++ made') h' (text ++ text')
+  fed_after_fed room left first second made made' h between h' text text' fits a b =
+      one_after_other h.ended between.ended room left first second made made' h between h' text text' fits refl refl a b
+
+  -- with less room
+  less_room_at : (e : Option Ended) (room less : ℕ) (piece : List ℕ) (made : List Turn) (h h' : Hearing) (text : List ℕ) → less ≤ room
+      → IsFedAt k seat faults e now room h piece made h' text → IsFedAt k seat faults e now less h piece made h' text
+  less_room_at (Some why) room less piece made h h' text fits a = a
+  less_room_at None room less piece made h h' text fits (inl a) = inl a
+  less_room_at None room less piece made h h' text fits (inr a) = inr (record {
+    before = a.before;
+    line = a.line;
+    later = a.later;
+    split = a.split;
+    heard = a.heard;
+    why = a.why;
+    cause = cause_later k faults less room h'.standing 0 (length a.before) (length a.before) a.line a.why (omega arith)
+        (omega (arith, fits)) a.cause;
+    begun = a.begun;
+    ended = a.ended;
+  })
+
+  pub less_room : (room less : ℕ) (piece : List ℕ) (made : List Turn) (h h' : Hearing) (text : List ℕ) → less ≤ room
+      → IsFed k seat faults now room h piece made h' text → IsFed k seat faults now less h piece made h' text
+  less_room room less piece made h h' text fits fed = less_room_at h.ended room less piece made h h' text fits fed
 
   -- a session that has ended hears nothing
-  pub fed_ended : (piece : List ℕ) (h : Hearing) (why : Ended) → h.ended ≡ Some why → IsFed k seat now h piece [] h []
-  fed_ended piece h why is = subst (λ (e : Option Ended). IsFedAt e k seat now h piece [] h []) (sym is) (refl, refl, refl)
+  pub fed_ended : (room : ℕ) (piece : List ℕ) (h : Hearing) (why : Ended) → h.ended ≡ Some why
+      → IsFed k seat faults now room h piece [] h []
+  fed_ended room piece h why is =
+      subst (λ (e : Option Ended). IsFedAt k seat faults e now room h piece [] h []) (sym is) (refl, refl, refl)
 
-  pub feeds_ended : (piece : List ℕ) (h : Hearing) (why : Ended) (turns : List Turn) (out : List ℕ) → h.ended ≡ Some why → Feeds k seat now h piece h turns turns out out
-  feeds_ended piece h why turns out is = record {
+  pub feeds_ended : (room : ℕ) (piece : List ℕ) (h : Hearing) (why : Ended) (turns : List Turn) (out : List ℕ) → h.ended ≡ Some why
+      → Feeds k seat faults now room h piece h turns turns out out
+  feeds_ended room piece h why turns out is = record {
     made = [];
     text = [];
-    fed = fed_ended piece h why is;
+    fed = fed_ended room piece h why is;
     turns_are = sym (append-nil turns);
     out_is = sym (append-nil out);
   }
 
   -- and one that hasn't, some of it
-  pub fed_open : (piece : List ℕ) (made : List Turn) (h h' : Hearing) (text : List ℕ) → h.ended ≡ None → HearsAll k seat now h piece made h' text ⊎ EndsAtLine k seat now h piece made h' text → IsFed k seat now h piece made h' text
-  fed_open piece made h h' text is hears = subst (λ (e : Option Ended). IsFedAt e k seat now h piece made h' text) (sym is) hears
+  pub fed_open : (room : ℕ) (piece : List ℕ) (made : List Turn) (h h' : Hearing) (text : List ℕ) → h.ended ≡ None
+      → HearsAll k seat now h piece made h' text ⊎ EndsAtLine k seat faults now room h piece made h' text
+      → IsFed k seat faults now room h piece made h' text
+  fed_open room piece made h h' text is hears =
+      subst (λ (e : Option Ended). IsFedAt k seat faults e now room h piece made h' text) (sym is) hears
 
   -- all lines of it are answered
-  pub feeds_all : (piece : List ℕ) (h h' : Hearing) (turns turns' : List Turn) (out out' : List ℕ) → h.ended ≡ None → h'.begun ≡ after h.begun piece → h'.ended ≡ end_of h'.begun.too_long
-      → Answers k seat now (lines_in h.begun piece) h.standing h'.standing turns turns' out out' → Feeds k seat now h piece h' turns turns' out out'
-  feeds_all piece h h' turns turns' out out' is begun ended answers = record {
+  pub feeds_all : (room : ℕ) (piece : List ℕ) (h h' : Hearing) (turns turns' : List Turn) (out out' : List ℕ) → h.ended ≡ None
+      → h'.begun ≡ after h.begun piece → h'.ended ≡ end_of h'.begun.too_long
+      → Answers k seat now (lines_in h.begun piece) h.standing h'.standing turns turns' out out'
+      → Feeds k seat faults now room h piece h' turns turns' out out'
+  feeds_all room piece h h' turns turns' out out' is begun ended answers = record {
     made = answers.made;
     text = answers.text;
-    fed = fed_open piece answers.made h h' answers.text is (inl (record { heard = answers.heard; begun = begun; ended = ended }));
+    fed = fed_open room piece answers.made h h' answers.text is (inl (record { heard = answers.heard; begun = begun; ended = ended }));
     turns_are = answers.turns_are;
     out_is = answers.out_is;
   }
 
   -- or those before one that can't be
-  pub feeds_until : (piece : List ℕ) (h h' : Hearing) (turns turns' : List Turn) (out out' : List ℕ) (before later : List (List ℕ)) (line : List ℕ) (between : Stands) (why : Ended) → h.ended ≡ None → lines_in h.begun piece ≡ before ++ line ∷ later
-      → IsOfLine why → h'.ended ≡ Some why → Answers k seat now before h.standing between turns turns' out out' → Feeds k seat now h piece h' turns turns' out out'
-  feeds_until piece h h' turns turns' out out' before later line between why is split of_line ended answers = record {
+  pub feeds_until : (room left : ℕ) (piece : List ℕ) (h h' : Hearing) (turns turns' : List Turn) (out out' : List ℕ)
+      (before later : List (List ℕ)) (line : List ℕ) (why : Ended) → h.ended ≡ None → lines_in h.begun piece ≡ before ++ line ∷ later
+      → room ≤ left + 2048 * length before → IsCause k faults left h'.standing 0 line why → h'.begun ≡ after_return → h'.ended ≡ Some why
+      → Answers k seat now before h.standing h'.standing turns turns' out out'
+      → Feeds k seat faults now room h piece h' turns turns' out out'
+  feeds_until room left piece h h' turns turns' out out' before later line why is split fits cause begun ended answers = record {
     made = answers.made;
     text = answers.text;
-    fed = fed_open piece answers.made h h' answers.text is (inr (record { before = before; line = line; later = later; split = split; between = between; heard = answers.heard; why = why; of_line = of_line; ended = ended }));
+    fed = fed_open room piece answers.made h h' answers.text is (inr (record {
+      before = before;
+      line = line;
+      later = later;
+      split = split;
+      heard = answers.heard;
+      why = why;
+      cause = cause_later k faults room left h'.standing (length before) 0 (length before) line why (omega arith) fits cause;
+      begun = begun;
+      ended = ended;
+    }));
     turns_are = answers.turns_are;
     out_is = answers.out_is;
   }
 
   -- nothing is fed
-  pub nothing_fed_at : (e : Option Ended) (h : Hearing) → h.ended ≡ e → IsSettled h → IsFedAt e k seat now h [] [] h []
-  nothing_fed_at (Some why) h is settled = (refl, refl, refl)
-  nothing_fed_at None h is settled = inl (record {
+  pub nothing_fed_at : (e : Option Ended) (room : ℕ) (h : Hearing) → h.ended ≡ e → IsSettled h
+      → IsFedAt k seat faults e now room h [] [] h []
+  nothing_fed_at (Some why) room h is settled = (refl, refl, refl)
+  nothing_fed_at None room h is settled = inl (record {
     heard = (refl, refl, refl);
     begun = refl;
     ended = is ∙ sym (ap end_of (settled is));
   })
 
   -- a session stays settled
-  pub settled_at : (e : Option Ended) (piece : List ℕ) (made : List Turn) (h h' : Hearing) (text : List ℕ) → h.ended ≡ e → IsFedAt e k seat now h piece made h' text → IsSettled h'
-  settled_at (Some why) piece made h h' text is a none = absurd (none-some why (sym none ∙ (ap (λ (x : Hearing). x.ended) a.1 ∙ is)))
-  settled_at None piece made h h' text is (inl a) none = short_where_open h'.begun.too_long (sym a.ended ∙ none)
-  settled_at None piece made h h' text is (inr a) none = absurd (none-some a.why (sym none ∙ a.ended))
+  pub settled_at : (e : Option Ended) (room : ℕ) (piece : List ℕ) (made : List Turn) (h h' : Hearing) (text : List ℕ) → h.ended ≡ e
+      → IsFedAt k seat faults e now room h piece made h' text → IsSettled h'
+  settled_at (Some why) room piece made h h' text is a none =
+      absurd (none-some why (sym none ∙ (ap (λ (x : Hearing). x.ended) a.1 ∙ is)))
+  settled_at None room piece made h h' text is (inl a) none = short_where_open h'.begun.too_long (sym a.ended ∙ none)
+  settled_at None room piece made h h' text is (inr a) none = absurd (none-some a.why (sym none ∙ a.ended))

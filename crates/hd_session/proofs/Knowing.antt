@@ -1,11 +1,9 @@
 -- Sessions that stand as terminals of the catalogue, or as none.
-use Rattle.std.proofs.Common.{◌≡◌, ◌∙◌, ◌<◌, ℕ, zero, suc, ap, sym, refl, arith, length, List, [], ◌∷◌, get_or, set}
-use Rattle.std.proofs.lemmas.Option.{none-some}
-use Rattle.std.specs.Option.{ForSome}
-use Rattle.hd_rules.specs.Facts.{Facts}
-use Rattle.hd_office.specs.Answers.{IsKnownPlace}
+use Rattle.std.proofs.Common.{◌≡◌, ◌<◌, ℕ, zero, suc, subst, refl, arith, length, List, [], ◌∷◌, get_or, set}
+use Rattle.hd_catalogue.specs.Contents.{Contents}
 use Rattle.hd_session.specs.Sessions.{Hearing, new_session}
-use Rattle.hd_session.specs.Scripts.{AreKnown}
+use Rattle.hd_session.specs.Scripts.{AreKnownTo, session_at}
+use Rattle.hd_session.specs.Standing.{IsKnownTo}
 
 -- what stands at a place that there is
 pub at_place : (sessions : List Hearing) (at : ℕ) (a b : Hearing) → at < length sessions → get_or sessions at a ≡ get_or sessions at b
@@ -13,15 +11,22 @@ at_place [] at a b within = absurd (omega (arith, within))
 at_place (s ∷ ss) zero a b within = refl
 at_place (s ∷ ss) (suc at) a b within = at_place ss at a b (omega (arith, within))
 
+-- what holds of each session holds of each after one of them has gone on
+pub each_goes_on : (P : Hearing → Type 0) (sessions : List Hearing) (at : ℕ) (session : Hearing)
+    → ((i : ℕ) → P (session_at sessions i)) → P session → (i : ℕ) → P (session_at (set sessions at session) i)
+each_goes_on P [] at session all holds i = all i
+each_goes_on P (s ∷ ss) zero session all holds zero = holds
+each_goes_on P (s ∷ ss) zero session all holds (suc i) = all (suc i)
+each_goes_on P (s ∷ ss) (suc at) session all holds zero = all zero
+each_goes_on P (s ∷ ss) (suc at) session all holds (suc i) = each_goes_on P ss at session (λ j. all (suc j)) holds i
+
 -- one of them
-pub one_of_known : (k : Facts) (sessions : List Hearing) (at : ℕ) (session : Hearing) → AreKnown k sessions → at < length sessions → ForSome (get_or sessions at session).standing.place (IsKnownPlace k)
-one_of_known k sessions at session all within x some =
-    all at x (ap (λ (s : Hearing). s.standing.place) (sym (at_place sessions at session new_session within)) ∙ some)
+pub one_of_known : (k : Contents) (sessions : List Hearing) (at : ℕ) (session : Hearing) → AreKnownTo k sessions → at < length sessions
+    → IsKnownTo k (get_or sessions at session).standing
+one_of_known k sessions at session all within =
+    subst (λ (s : Hearing). IsKnownTo k s.standing) (at_place sessions at new_session session within) (all at)
 
 -- after one of them has gone on
-pub one_goes_on : (k : Facts) (sessions : List Hearing) (at : ℕ) (session : Hearing) → AreKnown k sessions → ForSome session.standing.place (IsKnownPlace k) → AreKnown k (set sessions at session)
-one_goes_on k [] at session all known i x some = absurd (none-some x some)
-one_goes_on k (s ∷ ss) zero session all known zero x some = known x some
-one_goes_on k (s ∷ ss) zero session all known (suc i) x some = all (suc i) x some
-one_goes_on k (s ∷ ss) (suc at) session all known zero x some = all zero x some
-one_goes_on k (s ∷ ss) (suc at) session all known (suc i) x some = one_goes_on k ss at session (λ j. all (suc j)) known i x some
+pub one_goes_on : (k : Contents) (sessions : List Hearing) (at : ℕ) (session : Hearing) → AreKnownTo k sessions
+    → IsKnownTo k session.standing → AreKnownTo k (set sessions at session)
+one_goes_on k sessions at session all known = each_goes_on (λ (s : Hearing). IsKnownTo k s.standing) sessions at session all known

@@ -1,77 +1,169 @@
 -- Pieces of several streams.
-use Rattle.std.proofs.Common.{◌≡◌, ◌==◌, ◌<◌, ℕ, suc, Bool, true, false, cond, List, [], ◌∷◌, ◌++◌, length, get_or, set, refl, sym, ap, ◌∙◌, subst, append_assoc, append-nil, eqb-true, length-set}
+use Rattle.std.proofs.Common.{◌≡◌, ◌==◌, ◌<◌, ℕ, zero, true, false, cond, List, [], ◌∷◌, ◌++◌, Some, length}
+use Rattle.std.proofs.Common.{get_or, set, map, filter, refl, sym, ap, ◌∙◌, subst, arith, append_assoc, append-nil, eqb-true, length-set}
 use Rattle.std.proofs.lemmas.Bool.{eqb-false}
 use Rattle.std.proofs.lemmas.List.{get_or-set_other, get_or-set_same}
 use Rattle.std.proofs.lemmas.List.Concat.{flat_map-append}
 use Rattle.std.proofs.lemmas.List.Elements.{filter-append}
+use Rattle.std.specs.List.{All}
 use Rattle.hd_date.specs.Stamps.{Stamp}
 use Rattle.hd_rules.specs.Journal.{Turn}
 use Rattle.hd_catalogue.specs.Contents.{Contents}
-use Rattle.hd_session.specs.Sessions.{Feeds, Hearing, IsFed, new_session}
-use Rattle.hd_session.specs.Scripts.{AreFed, Event, Piece, Plays, events_of, session_at, stream_of, text_of, turns_of, written}
-use Rattle.hd_session.proofs.Feeding.{IsSettled, fed_after_fed, nothing_fed_at, settled_at}
+use Rattle.hd_exchange.specs.declared.fault.OfficeFault.{OfficeFault}
+use Rattle.hd_exchange.specs.declared.fault.OfficeFault.TheVariants as fault
+use Rattle.hd_session.specs.declared.ended.Ended.TheVariants.{Estranged}
+use Rattle.hd_session.specs.Sessions.{AreFedTo, Feeds, Hearing, IsFed, Piece, new_session, stream}
+use Rattle.hd_session.specs.Scripts.{AreFed, Event, Plays, Step, events_of, pieces_of, session_at, text_of, turns_of, written}
+use Rattle.hd_session.proofs.Causes.{fed_other}
+use Rattle.hd_session.proofs.Feeding.{IsSettled, fed_after_fed, less_room, nothing_fed_at, settled_at}
+use Rattle.hd_session.proofs.Knowing.{each_goes_on}
+use Rattle.hd_session.proofs.Strangers.{all_behind, all_more}
 
-module _ (k : Contents) (seat : ℕ) (now : Stamp) where
-  -- some pieces, and then some more
-  pub fed_append : (pieces more : List Piece) (ss between ss' : List Hearing) (events then : List Event)
-      → AreFed k seat now pieces ss events between → AreFed k seat now more between then ss' → AreFed k seat now (pieces ++ more) ss (events ++ then) ss'
+-- all are at one present
+abbrev pub AreAt : Stamp → List Piece → Type 0
+AreAt now pieces = All (λ piece. piece.now ≡ now) pieces
+
+-- the pieces of a session in a script at one present
+pub pieces_at : (now : Stamp) (steps : List Step) (i : ℕ) → All (λ step. step.piece.now ≡ now) steps → AreAt now (pieces_of i steps)
+pieces_at now [] i all = λ n d within. absurd (omega (arith, within))
+pieces_at now (step ∷ steps) i all =
+    let rest : AreAt now (pieces_of i steps) = pieces_at now steps i (all_behind (λ (s : Step). s.piece.now ≡ now) step steps all) in
+    let first : step.piece.now ≡ now = all zero step (omega arith) in
+    elim (step.session == i) as (λ t. AreAt now (map (λ s. s.piece)
+    (cond t (step ∷ filter (λ s. s.session == i) steps) (filter (λ s. s.session == i) steps)))) [
+      | true ↦ all_more (λ (p : Piece). p.now ≡ now) step.piece (pieces_of i steps) first rest
+      | false ↦ rest
+    ]
+
+module _ (k : Contents) (seat : ℕ) (faults : OfficeFault → Type 0) where
+  -- some steps, and then some more
+  pub fed_append : (steps more : List Step) (ss between ss' : List Hearing) (events then : List Event)
+      → AreFed k seat faults steps ss events between → AreFed k seat faults more between then ss'
+      → AreFed k seat faults (steps ++ more) ss (events ++ then) ss'
   fed_append [] more ss between ss' events then (none, same) rest =
-      subst (λ (es : List Event). AreFed k seat now more ss (es ++ then) ss') (sym none) (subst (λ (s : List Hearing). AreFed k seat now more s then ss') same rest)
-  fed_append (piece ∷ pieces) more ss between ss' [] then none rest = absurd none
-  fed_append (piece ∷ pieces) more ss between ss' (event ∷ events) then first rest = record {
+      subst (λ (es : List Event). AreFed k seat faults more ss (es ++ then) ss') (sym none)
+      (subst (λ (s : List Hearing). AreFed k seat faults more s then ss') same rest)
+  fed_append (step ∷ steps) more ss between ss' [] then none rest = absurd none
+  fed_append (step ∷ steps) more ss between ss' (event ∷ events) then first rest = record {
     next = first.next;
     same = first.same;
     fed = first.fed;
     ended = first.ended;
-    rest = fed_append pieces more (set ss piece.session first.next) between ss' events then first.rest rest;
+    rest = fed_append steps more (set ss step.session first.next) between ss' events then first.rest rest;
   }
 
-  -- what a session hears of the pieces is its own stream
-  pub hears_stream : (pieces : List Piece) (ss ss' : List Hearing) (events : List Event) (i : ℕ) → i < length ss → AreFed k seat now pieces ss events ss' → IsSettled (session_at ss i)
-      → IsFed k seat now (session_at ss i) (stream_of i pieces) (turns_of (events_of i events)) (session_at ss' i) (written i events)
-  hears_stream [] ss ss' events i within (none, same) settled =
-      rw (none, same) (nothing_fed_at k seat now (session_at ss i).ended (session_at ss i) refl settled)
-  hears_stream (piece ∷ pieces) ss ss' [] i within none settled = absurd none
-  hears_stream (piece ∷ pieces) ss ss' (event ∷ events) i within first settled =
+  -- what a session hears of a script are its own pieces
+  pub hears_pieces : (steps : List Step) (ss ss' : List Hearing) (events : List Event) (i : ℕ) → i < length ss
+      → AreFed k seat faults steps ss events ss'
+      → AreFedTo k seat faults 0 (pieces_of i steps) (session_at ss i) (turns_of (events_of i events)) (session_at ss' i) (written i events)
+  hears_pieces [] ss ss' events i within (none, same) = rw (none, same) (refl, refl, refl)
+  hears_pieces (step ∷ steps) ss ss' [] i within none = absurd none
+  hears_pieces (step ∷ steps) ss ss' (event ∷ events) i within first =
       let next = first.next in
-      let then = set ss piece.session next in
-      let longer : i < length then = rw (length-set ss piece.session next) within in
-      elim (piece.session == i) as (λ t. (piece.session == i) ≡ t → IsFed k seat now (session_at ss i) (stream_of i (piece ∷ pieces)) (turns_of (events_of i (event ∷ events))) (session_at ss' i) (written i (event ∷ events))) [
+      let then = set ss step.session next in
+      let longer : i < length then = rw (length-set ss step.session next) within in
+      let rest = hears_pieces steps then ss' events i longer first.rest in
+      elim (step.session == i) as (λ t. (step.session == i) ≡ t
+      → AreFedTo k seat faults 0 (pieces_of i (step ∷ steps)) (session_at ss i) (turns_of (events_of i (event ∷ events)))
+      (session_at ss' i) (written i (event ∷ events))) [
         | true ↦ λ is.
-            let here : piece.session ≡ i = eqb-true _ _ is in
+            let here : step.session ≡ i = eqb-true _ _ is in
             let own : (event.session == i) ≡ true = ap (λ (n : ℕ). n == i) first.same ∙ is in
-            let there : session_at then i ≡ next = subst (λ (n : ℕ). session_at (set ss n next) i ≡ next) (sym here) (get_or-set_same ss i next new_session within) in
-            let heard : IsFed k seat now (session_at ss i) piece.bytes event.made next event.text = subst (λ (n : ℕ). IsFed k seat now (session_at ss n) piece.bytes event.made next event.text) here first.fed in
-            let goes_on : IsSettled (session_at then i) = rw there (settled_at k seat now (session_at ss i).ended piece.bytes event.made (session_at ss i) next event.text refl heard) in
-            let rest = hears_stream pieces then ss' events i longer first.rest goes_on in
-            rw (is, own) (fed_after_fed k seat now piece.bytes (stream_of i pieces) event.made (turns_of (events_of i events)) (session_at ss i) next (session_at ss' i) event.text (written i events) heard (rw there at rest))
+            let there : session_at then i ≡ next =
+            subst (λ (n : ℕ). session_at (set ss n next) i ≡ next) (sym here) (get_or-set_same ss i next new_session within) in
+            let heard : IsFed k seat faults step.piece.now 0 (session_at ss i) step.piece.bytes event.made next event.text =
+            subst (λ (n : ℕ). IsFed k seat faults step.piece.now 0
+            (session_at ss n) step.piece.bytes event.made next event.text) here first.fed in
+            rw (is, own) (record {
+              first_made = event.made;
+              then_made = turns_of (events_of i events);
+              between = next;
+              first_text = event.text;
+              then_text = written i events;
+              first = heard;
+              rest = rw there at rest;
+              all_made = refl;
+              all_text = refl;
+            })
         | false ↦ λ is.
             let own : (event.session == i) ≡ false = ap (λ (n : ℕ). n == i) first.same ∙ is in
-            let there : session_at then i ≡ session_at ss i = get_or-set_other ss piece.session i next new_session (λ same. eqb-false piece.session i is (sym same)) in
-            let goes_on : IsSettled (session_at then i) = rw there settled in
-            let rest = hears_stream pieces then ss' events i longer first.rest goes_on in
+            let there : session_at then i ≡ session_at ss i =
+            get_or-set_other ss step.session i next new_session (λ same. eqb-false step.session i is (sym same)) in
             rw (is, own) (rw there at rest)
       ] refl
+
+  -- pieces at one present are one
+  pub one_present : (now : Stamp) (room : ℕ) (pieces : List Piece) (h : Hearing) (made : List Turn) (h' : Hearing) (text : List ℕ)
+      → AreAt now pieces → IsSettled h → AreFedTo k seat faults room pieces h made h' text
+      → IsFed k seat faults now room h (stream pieces) made h' text
+  one_present now room [] h made h' text all settled (none, same, nothing) =
+      rw (none, same, nothing) (nothing_fed_at k seat faults now h.ended room h refl settled)
+  one_present now room (piece ∷ pieces) h made h' text all settled more =
+      let here : piece.now ≡ now = all zero piece (omega arith) in
+      let first : IsFed k seat faults now room h piece.bytes more.first_made more.between more.first_text =
+      subst (λ (n : Stamp). IsFed k seat faults n room h piece.bytes more.first_made more.between more.first_text) here more.first in
+      let goes_on : IsSettled more.between =
+      settled_at k seat faults now h.ended room piece.bytes more.first_made h more.between more.first_text refl first in
+      let rest = one_present now room pieces more.between more.then_made h' more.then_text
+      (all_behind (λ (p : Piece). p.now ≡ now) piece pieces all) goes_on more.rest in
+      rw (more.all_made, more.all_text) (fed_after_fed k seat faults now room room piece.bytes
+      (stream pieces) more.first_made more.then_made
+      h more.between h' more.first_text more.then_text (omega arith) first rest)
+
+  -- those of a new session
+  pub new_at_one_present : (now : Stamp) (room : ℕ) (pieces : List Piece) (made : List Turn) (h' : Hearing) (text : List ℕ)
+      → AreAt now pieces → AreFedTo k seat faults room pieces new_session made h' text
+      → IsFed k seat faults now room new_session (stream pieces) made h' text
+  new_at_one_present now room pieces made h' text all fed =
+      one_present now room pieces new_session made h' text all (λ still. refl) fed
+
+  -- a session that was new hears its stream
+  pub new_hears_stream : (now : Stamp) (steps : List Step) (ss ss' : List Hearing) (events : List Event) (i : ℕ) → i < length ss
+      → All (λ step. step.piece.now ≡ now) steps → AreFed k seat faults steps ss events ss' → session_at ss i ≡ new_session
+      → IsFed k seat faults now 0 new_session (stream (pieces_of i steps)) (turns_of (events_of i events)) (session_at ss' i)
+      (written i events)
+  new_hears_stream now steps ss ss' events i within all fed new =
+      new_at_one_present now 0 (pieces_of i steps) _ _ _ (pieces_at now steps i all)
+      (subst (λ (h : Hearing). AreFedTo k seat faults 0 (pieces_of i steps) h (turns_of (events_of i events)) (session_at ss' i)
+      (written i events))
+      new (hears_pieces steps ss ss' events i within fed))
+
+  -- no session ends as estranged where the office never is
+  pub none_estranged : (steps : List Step) (ss ss' : List Hearing) (events : List Event) → (faults fault.Estranged → ⊥)
+      → AreFed k seat faults steps ss events ss' → ((i : ℕ) → (session_at ss i).ended ≡ Some Estranged → ⊥)
+      → All (λ event. event.ended ≡ Some Estranged → ⊥) events × ((i : ℕ) → (session_at ss' i).ended ≡ Some Estranged → ⊥)
+  none_estranged [] ss ss' events never (none, same) before = rw (none, same) (λ i d within. absurd (omega (arith, within)), before)
+  none_estranged (step ∷ steps) ss ss' [] never none before = absurd none
+  none_estranged (step ∷ steps) ss ss' (event ∷ events) never first before =
+      let now_not : first.next.ended ≡ Some Estranged → ⊥ =
+      fed_other k seat faults never step.piece.now 0 step.piece.bytes event.made
+      (session_at ss step.session) first.next event.text first.fed
+      (before step.session) in
+      let rest = none_estranged steps (set ss step.session first.next) ss' events never first.rest
+      (each_goes_on (λ (h : Hearing). h.ended ≡ Some Estranged → ⊥) ss step.session first.next before now_not) in
+      (all_more (λ (e : Event). e.ended ≡ Some Estranged → ⊥) event events (λ same. now_not (sym first.ended ∙ same)) rest.0, rest.1)
 
 -- what is written to a session in some events, and in some more
 pub written_append : (i : ℕ) (events then : List Event) → written i (events ++ then) ≡ written i events ++ written i then
 written_append i events then =
-    ap text_of (filter-append (λ (event : Event). event.session == i) events then) ∙ flat_map-append (λ (event : Event). event.text) (events_of i events) (events_of i then)
+    ap text_of (filter-append (λ (event : Event). event.session == i) events then)
+    ∙ flat_map-append (λ (event : Event). event.text) (events_of i events) (events_of i then)
 
 -- their turns
 pub turns_append : (events then : List Event) → turns_of (events ++ then) ≡ turns_of events ++ turns_of then
 turns_append events then = flat_map-append (λ (event : Event). event.made) events then
 
-module _ (k : Contents) (seat : ℕ) (now : Stamp) where
+module _ (k : Contents) (seat : ℕ) (faults : OfficeFault → Type 0) where
   -- as many sessions are left
-  pub fed_length : (pieces : List Piece) (ss ss' : List Hearing) (events : List Event) → AreFed k seat now pieces ss events ss' → length ss' ≡ length ss
+  pub fed_length : (steps : List Step) (ss ss' : List Hearing) (events : List Event) → AreFed k seat faults steps ss events ss'
+      → length ss' ≡ length ss
   fed_length [] ss ss' events (none, same) = ap (λ (s : List Hearing). length s) same
-  fed_length (piece ∷ pieces) ss ss' [] none = absurd none
-  fed_length (piece ∷ pieces) ss ss' (event ∷ events) first =
-      fed_length pieces (set ss piece.session first.next) ss' events first.rest ∙ length-set ss piece.session first.next
+  fed_length (step ∷ steps) ss ss' [] none = absurd none
+  fed_length (step ∷ steps) ss ss' (event ∷ events) first =
+      fed_length steps (set ss step.session first.next) ss' events first.rest ∙ length-set ss step.session first.next
 
   -- nothing is played
-  pub plays_none : (ss : List Hearing) (turns : List Turn) (outs : List (List ℕ)) → Plays k seat now [] ss ss turns turns outs outs
+  pub plays_none : (ss : List Hearing) (turns : List Turn) (outs : List (List ℕ)) → Plays k seat faults [] ss ss turns turns outs outs
   plays_none ss turns outs = record {
     events = [];
     fed = (refl, refl);
@@ -79,41 +171,55 @@ module _ (k : Contents) (seat : ℕ) (now : Stamp) where
     outs_are = λ i within. sym (append-nil _);
   }
 
-  -- some pieces are played, and then some more
-  pub plays_append : (pieces more : List Piece) (ss between ss' : List Hearing) (a b c : List Turn) (o p q : List (List ℕ))
-      → Plays k seat now pieces ss between a b o p → Plays k seat now more between ss' b c p q → Plays k seat now (pieces ++ more) ss ss' a c o q
-  plays_append pieces more ss between ss' a b c o p q first rest = record {
+  -- some steps are played, and then some more
+  pub plays_append : (steps more : List Step) (ss between ss' : List Hearing) (a b c : List Turn) (o p q : List (List ℕ))
+      → Plays k seat faults steps ss between a b o p → Plays k seat faults more between ss' b c p q
+      → Plays k seat faults (steps ++ more) ss ss' a c o q
+  plays_append steps more ss between ss' a b c o p q first rest = record {
     events = first.events ++ rest.events;
-    fed = fed_append k seat now pieces more ss between ss' first.events rest.events first.fed rest.fed;
-    turns_are = rest.turns_are ∙ (ap (λ (t : List Turn). t ++ turns_of rest.events) first.turns_are ∙ (append_assoc a (turns_of first.events) (turns_of rest.events) ∙ ap (λ (t : List Turn). a ++ t) (sym (turns_append first.events rest.events))));
+    fed = fed_append k seat faults steps more ss between ss' first.events rest.events first.fed rest.fed;
+    turns_are = rest.turns_are ∙ (ap (λ (t : List Turn). t ++ turns_of rest.events) first.turns_are
+        ∙ (append_assoc a (turns_of first.events) (turns_of rest.events)
+        ∙ ap (λ (t : List Turn). a ++ t) (sym (turns_append first.events rest.events))));
     outs_are = λ i within.
-        rest.outs_are i (rw (fed_length pieces ss between first.events first.fed) within)
+        rest.outs_are i (rw (fed_length steps ss between first.events first.fed) within)
         ∙ (ap (λ (t : List ℕ). t ++ written i rest.events) (first.outs_are i within)
-        ∙ (append_assoc (get_or o i []) (written i first.events) (written i rest.events) ∙ ap (λ (t : List ℕ). get_or o i [] ++ t) (sym (written_append i first.events rest.events))));
+        ∙ (append_assoc (get_or o i []) (written i first.events) (written i rest.events)
+        ∙ ap (λ (t : List ℕ). get_or o i [] ++ t) (sym (written_append i first.events rest.events))));
   }
 
-  -- one piece is played
-  pub plays_one : (piece : Piece) (ss : List Hearing) (next : Hearing) (turns turns' : List Turn) (outs : List (List ℕ)) (out : List ℕ) → piece.session < length ss → length outs ≡ length ss
-      → Feeds k seat now (session_at ss piece.session) piece.bytes next turns turns' (get_or outs piece.session []) out
-      → Plays k seat now (piece ∷ []) ss (set ss piece.session next) turns turns' outs (set outs piece.session out)
-  plays_one piece ss next turns turns' outs out within as_many feeds = record {
-    events = record { session = piece.session; made = feeds.made; text = feeds.text; ended = next.ended } ∷ [];
-    fed = record { next = next; same = refl; fed = feeds.fed; ended = refl; rest = (refl, refl) };
-    turns_are = feeds.turns_are ∙ ap (λ (t : List Turn). turns ++ t) (sym (append-nil feeds.made));
-    outs_are = λ i inside.
-        elim (piece.session == i) as (λ t. (piece.session == i) ≡ t → get_or (set outs piece.session out) i [] ≡ get_or outs i [] ++ text_of (cond t (record { session = piece.session; made = feeds.made; text = feeds.text; ended = next.ended } ∷ []) [])) [
-          | true ↦ λ is.
-              let here : piece.session ≡ i = eqb-true _ _ is in
-              let there : get_or (set outs piece.session out) i [] ≡ out = subst (λ (n : ℕ). get_or (set outs piece.session out) n [] ≡ out) here (get_or-set_same outs piece.session out [] (rw as_many within)) in
-              there ∙ (feeds.out_is ∙ (ap (λ (n : ℕ). get_or outs n [] ++ feeds.text) here ∙ ap (λ (t : List ℕ). get_or outs i [] ++ t) (sym (append-nil feeds.text))))
-          | false ↦ λ is. get_or-set_other outs piece.session i out [] (λ same. eqb-false piece.session i is (sym same)) ∙ sym (append-nil (get_or outs i []))
-        ] refl;
-  }
-
--- a session that was new hears its stream
-pub new_hears_stream : (k : Contents) (seat : ℕ) (now : Stamp) (pieces : List Piece) (ss ss' : List Hearing) (events : List Event) (i : ℕ) → i < length ss → AreFed k seat now pieces ss events ss' → session_at ss i ≡ new_session
-    → IsFed k seat now new_session (stream_of i pieces) (turns_of (events_of i events)) (session_at ss' i) (written i events)
-new_hears_stream k seat now pieces ss ss' events i within fed new =
-    let settled : IsSettled (session_at ss i) = λ still. ap (λ (h : Hearing). h.begun.too_long) new in
-    subst (λ (h : Hearing). IsFed k seat now h (stream_of i pieces) (turns_of (events_of i events)) (session_at ss' i) (written i events)) new
-    (hears_stream k seat now pieces ss ss' events i within fed settled)
+  -- one step is played
+  pub plays_one : (step : Step) (ss : List Hearing) (room : ℕ) (next : Hearing) (turns turns' : List Turn) (outs : List (List ℕ))
+      (out : List ℕ) → step.session < length ss → length outs ≡ length ss
+      → Feeds k seat faults step.piece.now room (session_at ss step.session) step.piece.bytes next turns turns'
+      (get_or outs step.session []) out
+      → Plays k seat faults (step ∷ []) ss (set ss step.session next) turns turns' outs (set outs step.session out)
+  plays_one step ss room next turns turns' outs out within as_many feeds =
+      let event : Event = record { session = step.session; made = feeds.made; text = feeds.text; ended = next.ended } in
+      record {
+        events = event ∷ [];
+        fed = record {
+          next = next;
+          same = refl;
+          fed = less_room k seat faults step.piece.now room 0 step.piece.bytes feeds.made (session_at ss step.session) next feeds.text
+              (omega arith)
+              feeds.fed;
+          ended = refl;
+          rest = (refl, refl);
+        };
+        turns_are = feeds.turns_are ∙ ap (λ (t : List Turn). turns ++ t) (sym (append-nil feeds.made));
+        outs_are = λ i inside.
+            elim (step.session == i) as (λ t. (step.session == i) ≡ t
+            → get_or (set outs step.session out) i [] ≡ get_or outs i [] ++ text_of (cond t (event ∷ []) [])) [
+              | true ↦ λ is.
+                  let here : step.session ≡ i = eqb-true _ _ is in
+                  let there : get_or (set outs step.session out) i [] ≡ out =
+                  subst (λ (n : ℕ). get_or (set outs step.session out) n [] ≡ out) here
+                  (get_or-set_same outs step.session out [] (rw as_many within)) in
+                  there ∙ (feeds.out_is ∙ (ap (λ (n : ℕ). get_or outs n [] ++ feeds.text) here
+                  ∙ ap (λ (t : List ℕ). get_or outs i [] ++ t) (sym (append-nil feeds.text))))
+              | false ↦ λ is.
+                  get_or-set_other outs step.session i out [] (λ same. eqb-false step.session i is (sym same))
+                  ∙ sym (append-nil (get_or outs i []))
+            ] refl;
+      }

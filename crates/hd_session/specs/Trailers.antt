@@ -1,8 +1,8 @@
 -- How a reply is closed, and what is sent in place of one.
 use Rattle.std.specs.Prelude.{ℕ, Bool, true, false, List, [], ◌∷◌, ◌++◌, Option, None, codes}
 use Rattle.hd_guard.specs.Trailer.{sealed}
-use Rattle.hd_office.specs.declared.said.Said.{Said}
-use Rattle.hd_office.specs.declared.said.Said.TheVariants.{Reply, LastReply, SendAgain}
+use Rattle.hd_exchange.specs.declared.said.Said.{Said}
+use Rattle.hd_exchange.specs.declared.said.Said.TheVariants.{Reply, LastReply, SendAgain}
 
 -- a text with the trailer that the reply to a checked line has, and a carriage return (13)
 abbrev pub closed : Bool → Option ℕ → List ℕ → List ℕ

@@ -1,12 +1,14 @@
 //! Closing a reply: its trailer, and its carriage return.
-ghost use Rattle.std.specs.Prelude.{◌≡◌, ◌<◌, ◌≤◌, ◌+◌, ◌∷◌, [], ◌++◌, drop, take, true, vec_capacity, vec_len};
+ghost use Rattle.std.specs.Prelude.{◌≡◌, ◌<◌, ◌≤◌, ◌+◌, ◌∷◌, [], ◌++◌, drop, take, true};
+ghost use Rattle.std.specs.Prelude.{vec_capacity, vec_len};
 ghost use Rattle.hd_session.specs.Trailers.{closed, send_again};
 
 use hd_guard::{Seq, seal};
 use hd_message::{Reply, write};
 use std::alloc::Allocator;
 
-/// Closes the reply that begins at `from`: by a trailer where its line was checked, and a carriage return. There is room for them.
+/// Closes the reply that begins at `from`: by a trailer where its line was checked, and a carriage return.
+/// There is room for them.
 pub(crate) fn close<A: Allocator>(
     out: &mut Vec<u8, A>,
     from: usize,

@@ -1,25 +1,24 @@
 //! Why a session ends.
 ghost use Rattle.std.specs.Prelude.{◌≡◌};
-ghost use Rattle.hd_session.specs.Sessions.{IsOfLine, reason_of};
+ghost use Rattle.hd_session.specs.Sessions.{reason_of};
 
-use hd_office::OfficeFault;
+use hd_exchange::OfficeFault;
 
 /// Why a session ended. It answers nothing from then on.
 #[derive(Clone, Copy, PartialEq, Eq, Debug)]
 pub enum Ended {
     /// A line came to its 1,025th byte without a carriage return.
     TooLong,
-    /// There was no memory for a line, its turn or its reply.
+    /// There was no memory for a line's turn or its reply.
     Memory,
     /// The office's turns aren't those that the session saw.
     Estranged,
 }
 
 impl Ended {
-    /// Why a session ends whose office met this fault.
+    /// Why a session ends whose office gives this fault.
     pub(crate) fn of(fault: OfficeFault) -> Ended
-        ensures line { IsOfLine result }
-        ensures why { result ≡ reason_of fault }
+        ensures { result ≡ reason_of fault }
     {
         match fault {
             OfficeFault::Memory => Ended::Memory,

@@ -1,19 +1,72 @@
 //! The laws of sessions.
-ghost use Rattle.std.specs.Prelude.{◌≡◌, ◌<◌, ◌++◌, ℕ, List, length};
+ghost use Rattle.std.specs.Prelude.{◌≡◌, ◌<◌, ◌≤◌, ◌+◌, ◌*◌, ◌++◌, ℕ, All, List, Some, length};
 ghost use Rattle.hd_date.specs.Stamps.{Stamp};
 ghost use Rattle.hd_rules.specs.Journal.{Turn};
 ghost use Rattle.hd_catalogue.specs.Contents.{Contents};
-ghost use Rattle.hd_session.specs.Scripts.{AreFed, Event, Piece, events_of, session_at, stream_of, turns_of, written};
-ghost use Rattle.hd_session.specs.Sessions.{Hearing, IsFed, new_session};
+ghost use Rattle.hd_field.specs.Streams.{lines_in};
+ghost use Rattle.hd_session.specs.Scripts.{AreFed, Event, Step};
+ghost use Rattle.hd_session.specs.Scripts.{events_of, pieces_of, session_at, turns_of, written};
+ghost use Rattle.hd_session.specs.Sessions.{AreFedTo, Hearing, IsFed, Piece, new_session, stream};
+ghost use Rattle.hd_session.specs.declared.ended.Ended.TheVariants.{Estranged};
+ghost use Rattle.hd_exchange.specs.declared.fault.OfficeFault.TheVariants as fault;
 
-/// A session that is fed a piece of its stream and then another is one that is fed both at once: however a stream is cut, the same
-/// turns are made and the same text is answered.
-pub fn pieces_are_one()
-    ensures { (k : Contents) (seat : ℕ) (now : Stamp) (first then : List ℕ) (made made' : List Turn) (h between h' : Hearing) (text text' : List ℕ) → IsFed k seat now h first made between text → IsFed k seat now between then made' h' text' → IsFed k seat now h (first ++ then) (made ++ made') h' (text ++ text') }
+use hd_exchange::Office;
+use std::alloc::Allocator;
+
+/// A session that is fed a piece of its stream and then another at the same present is one that is fed both
+/// at once: however a stream is cut, the same turns are made and the same text is answered. The second piece
+/// may come with less room, by what the replies to the first have taken.
+pub fn pieces_are_one<A: Allocator, O: Office<A>>()
+    ensures { (k : Contents) (seat : ℕ) (now : Stamp) (room left : ℕ)
+        (first then : List ℕ) (made made' : List Turn) (h between h' : Hearing) (text text' : List ℕ)
+        → room ≤ left + 2048 * length (lines_in h.begun first)
+        → IsFed k seat O.faults now room h first made between text
+        → IsFed k seat O.faults now left between then made' h' text'
+        → IsFed k seat O.faults now room h (first ++ then) (made ++ made') h' (text ++ text') }
 {}
 
-/// Of a script, each session that was new at its start has heard its whole stream, as if it had come alone and in one piece: by the
-/// turns that are its own, and with all that is written to it.
-pub fn sessions_hear_their_streams()
-    ensures { (k : Contents) (seat : ℕ) (now : Stamp) (pieces : List Piece) (ss ss' : List Hearing) (events : List Event) (i : ℕ) → i < length ss → AreFed k seat now pieces ss events ss' → session_at ss i ≡ new_session → IsFed k seat now new_session (stream_of i pieces) (turns_of (events_of i events)) (session_at ss' i) (written i events) }
+/// A new session that is fed pieces of its stream at one present is one that is fed its whole stream at once.
+pub fn pieces_at_one_present<A: Allocator, O: Office<A>>()
+    ensures { (k : Contents) (seat : ℕ) (now : Stamp) (room : ℕ) (pieces : List Piece) (made : List Turn)
+        (h' : Hearing) (text : List ℕ)
+        → All (λ piece. piece.now ≡ now) pieces
+        → AreFedTo k seat O.faults room pieces new_session made h' text
+        → IsFed k seat O.faults now room new_session (stream pieces) made h' text }
+{}
+
+/// Of a script, each session has heard its own pieces in their order, as if they had come alone: by the turns
+/// that are its own, and with all that is written to it. One that was new at the start of a script at one
+/// present has heard its whole stream, as if it had come in one piece.
+pub fn sessions_hear_their_streams<A: Allocator, O: Office<A>>()
+    ensures pieces { (k : Contents) (seat : ℕ) (steps : List Step) (ss ss' : List Hearing)
+        (events : List Event) (i : ℕ)
+        → i < length ss
+        → AreFed k seat O.faults steps ss events ss'
+        → AreFedTo k seat O.faults 0 (pieces_of i steps) (session_at ss i) (turns_of (events_of i events))
+        (session_at ss' i) (written i events) }
+    ensures whole { (k : Contents) (seat : ℕ) (now : Stamp) (steps : List Step)
+        (ss ss' : List Hearing) (events : List Event) (i : ℕ)
+        → i < length ss
+        → All (λ step. step.piece.now ≡ now) steps
+        → AreFed k seat O.faults steps ss events ss'
+        → session_at ss i ≡ new_session
+        → IsFed k seat O.faults now 0 new_session (stream (pieces_of i steps)) (turns_of (events_of i events))
+        (session_at ss' i) (written i events) }
+{}
+
+/// Where an office never answers that it is estranged, as a journal alone never does, no session ends so.
+pub fn no_session_is_estranged<A: Allocator, O: Office<A>>()
+    ensures fed { (k : Contents) (seat : ℕ) (now : Stamp) (room : ℕ) (piece : List ℕ)
+        (made : List Turn) (h h' : Hearing) (text : List ℕ)
+        → ¬ O.faults fault.Estranged
+        → IsFed k seat O.faults now room h piece made h' text
+        → ¬ h.ended ≡ Some Estranged
+        → ¬ h'.ended ≡ Some Estranged }
+    ensures script { (k : Contents) (seat : ℕ) (steps : List Step) (ss ss' : List Hearing)
+        (events : List Event)
+        → ¬ O.faults fault.Estranged
+        → AreFed k seat O.faults steps ss events ss'
+        → ((i : ℕ) → ¬ (session_at ss i).ended ≡ Some Estranged)
+        → All (λ event. ¬ event.ended ≡ Some Estranged) events
+        × ((i : ℕ) → ¬ (session_at ss' i).ended ≡ Some Estranged) }
 {}

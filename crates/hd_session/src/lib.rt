@@ -9,6 +9,8 @@ mod session;
 mod standing;
 
 pub use crate::ended::Ended;
-pub use crate::laws::{pieces_are_one, sessions_hear_their_streams};
+pub use crate::laws::{
+    no_session_is_estranged, pieces_are_one, pieces_at_one_present, sessions_hear_their_streams,
+};
 pub use crate::session::Session;
-pub use hd_office::{Office, OfficeFault, Place};
+pub use hd_exchange::{Ask, Login, Office, OfficeFault, Turn};

@@ -1,16 +1,17 @@
 //! Where a session stands, and what a line is answered.
-ghost use Rattle.std.specs.Prelude.{◌≡◌, ◌≤◌, ◌+◌, ◌++◌, ℕ, List, IfOk, OnOk, OnErr, take, drop, length, vec_capacity, vec_len, option_map};
-ghost use Rattle.std.specs.Option.{ForSome};
+ghost use Rattle.std.specs.Prelude.{◌≡◌, ◌≤◌, ◌+◌, ◌++◌, ◌∷◌, [], ℕ, List, IfErr, IfOk, OnOk, OnErr};
+ghost use Rattle.std.specs.Prelude.{take, drop, length, vec_capacity, vec_len, option_map};
 ghost use Rattle.hd_rules.specs.Journal.{Turn};
-ghost use Rattle.hd_catalogue.specs.Contents.{facts_of};
-ghost use Rattle.hd_office.specs.Answers.{IsKnownPlace};
-ghost use Rattle.hd_session.specs.Standing.{IsAnswered, IsHeard, digit_after, gaps_after, line_with, nowhere};
-ghost use Rattle.hd_session.specs.Trailers.{last_after, send_again, written};
+ghost use Rattle.hd_exchange.specs.Answers.{AsksTheOffice};
+ghost use Rattle.hd_session.specs.Sessions.{Answers, IsSomeLine};
+ghost use Rattle.hd_session.specs.Standing.{IsAnswered, IsKnownTo, LineAsks};
+ghost use Rattle.hd_session.specs.Standing.{digit_after, gaps_after, line_with, nowhere};
+ghost use Rattle.hd_session.specs.Trailers.{last_after, written};
 
 use crate::closing::{close, put_send_again};
 use hd_date::Stamp18;
+use hd_exchange::{Login, Office, OfficeFault, Said, respond};
 use hd_guard::{Guarded, Seq, trailer};
-use hd_office::{Office, OfficeFault, Place, Said, respond};
 use std::alloc::{AllocError, Allocator};
 use std::marker::Model;
 
@@ -20,7 +21,7 @@ pub(crate) const LONGEST_REPLY: usize = 2_048;
 /// Where a session stands.
 #[derive(Drop)]
 pub(crate) struct Standing<A: Allocator> {
-    place: Option<Place>,
+    place: Option<Login>,
     /// The last reply that isn't a 96; empty before any.
     last: Vec<u8, A>,
     /// The last sequence digit.
@@ -39,7 +40,8 @@ impl<A: Allocator> Model for Standing<A> {
     ghost invariant = { λ s. (vec_len s.last ≤ 2048) × (2048 ≤ vec_capacity s.last) };
 }
 
-/// A line that came whole: what stands before its trailer, whether it has one, and the sequence digit that it carries.
+/// A line that came whole: what stands before its trailer, whether it has one, and the sequence digit that it
+/// carries.
 #[derive(Clone, Copy)]
 struct Whole<'a> {
     line: &'a [u8],
@@ -69,9 +71,11 @@ impl<A: Allocator + Copy> Standing<A> {
         self.gaps
     }
 
-    /// Answers a line: appends its reply, for which there is room, and makes its turn.
+    /// Answers a line that isn't empty: appends its reply, for which there is room, and makes its turn.
     ///
-    /// At a fault there is no turn.
+    /// # Errors
+    /// The fault of the office, where the line asks something of it: there is no turn then, no reply, and the
+    /// session stands where it stood.
     pub(crate) fn hear<O: Office<A>>(
         &mut self,
         now: &Stamp18,
@@ -79,20 +83,25 @@ impl<A: Allocator + Copy> Standing<A> {
         office: &mut O,
         out: &mut Vec<u8, A>,
     ) -> Result<(), OfficeFault>
-        requires place { ForSome self.old.place (IsKnownPlace (facts_of (O.contents office.old))) }
+        requires place { IsKnownTo (O.keeps office.old).contents self.old }
+        requires some { IsSomeLine line.now }
         requires line { length line.now ≤ 1024 }
         requires room { vec_len out.old + 2048 ≤ vec_capacity out.old }
-        ensures heard { OnOk result ((made : List Turn) × (text : List ℕ) × (O.turns office.new ≡ O.turns office.old ++ made) × (out.new.items ≡ out.old.items ++ text) × IsHeard (O.contents office.old) (O.seat office.old) now.now self.old line.now made self.new text) }
-        ensures err { OnErr result (O.turns office.new ≡ O.turns office.old) }
+        ensures heard { OnOk result (Answers (O.keeps office.old).contents (O.keeps office.old).seat now.now
+            (line.now ∷ []) self.old self.new
+            (O.turns office.old) (O.turns office.new) out.old.items out.new.items) }
+        ensures err { OnErr result (
+            (self.new ≡ self.old)
+            × (O.turns office.new ≡ O.turns office.old)
+            × (out.new.items ≡ out.old.items)) }
+        ensures why { IfErr result O.faults }
+        ensures asks { OnErr result (LineAsks (O.keeps office.old).contents self.old line.now) }
         ensures short { vec_len out.new ≤ vec_len out.old + 2048 }
         ensures capacity { vec_capacity out.old ≤ vec_capacity out.new }
-        ensures place { ForSome self.new.place (IsKnownPlace (facts_of (O.contents office.old))) }
-        ensures contents { O.contents office.new ≡ O.contents office.old }
-        ensures same { (O.seat office.new ≡ O.seat office.old) × (O.borrows office.new ≡ O.borrows office.old) }
+        ensures place { IsKnownTo (O.keeps office.old).contents self.new }
+        ensures same { O.keeps office.new ≡ O.keeps office.old }
+        ensures holds { O.holds office.old → O.holds office.new }
     {
-        if line.is_empty() {
-            return Ok(());
-        }
         match trailer(line) {
             Guarded::Plain { body } => {
                 let whole = Whole {
@@ -129,16 +138,28 @@ impl<A: Allocator + Copy> Standing<A> {
         office: &mut O,
         out: &mut Vec<u8, A>,
     ) -> Result<(), OfficeFault>
-        requires place { ForSome self.old.place (IsKnownPlace (facts_of (O.contents office.old))) }
+        requires place { IsKnownTo (O.keeps office.old).contents self.old }
         requires body { length whole.now.body.now ≤ 1024 }
         requires room { vec_len out.old + 2048 ≤ vec_capacity out.old }
-        ensures answered { OnOk result ((made : List Turn) × (text : List ℕ) × (O.turns office.new ≡ O.turns office.old ++ made) × (out.new.items ≡ out.old.items ++ text) × IsAnswered (O.contents office.old) (O.seat office.old) now.now self.old whole.now.line.now whole.now.body.now whole.now.checked whole.now.digit made self.new text) }
-        ensures err { OnErr result (O.turns office.new ≡ O.turns office.old) }
+        ensures answered { OnOk result (
+            (made : List Turn)
+            × (text : List ℕ)
+            × (O.turns office.new ≡ O.turns office.old ++ made)
+            × (out.new.items ≡ out.old.items ++ text)
+            × IsAnswered (O.keeps office.old).contents (O.keeps office.old).seat now.now self.old
+            whole.now.line.now whole.now.body.now whole.now.checked whole.now.digit made self.new text) }
+        ensures err { OnErr result (
+            (self.new ≡ self.old)
+            × (O.turns office.new ≡ O.turns office.old)
+            × (out.new.items ≡ out.old.items)) }
+        ensures why { IfErr result O.faults }
+        ensures asks { OnErr result (
+            AsksTheOffice (O.keeps office.old).contents self.old.place whole.now.body.now) }
         ensures short { vec_len out.new ≤ vec_len out.old + 2048 }
         ensures capacity { vec_capacity out.old ≤ vec_capacity out.new }
-        ensures place { ForSome self.new.place (IsKnownPlace (facts_of (O.contents office.old))) }
-        ensures contents { O.contents office.new ≡ O.contents office.old }
-        ensures same { (O.seat office.new ≡ O.seat office.old) × (O.borrows office.new ≡ O.borrows office.old) }
+        ensures place { IsKnownTo (O.keeps office.old).contents self.new }
+        ensures same { O.keeps office.new ≡ O.keeps office.old }
+        ensures holds { O.holds office.old → O.holds office.new }
     {
         let from = out.len();
         let kept = line_with(whole.digit, whole.line);
@@ -150,7 +171,8 @@ impl<A: Allocator + Copy> Standing<A> {
         Ok(())
     }
 
-    /// Counts a line with a right check number: a gap where it carries another digit than the one after the last.
+    /// Counts a line with a right check number: a gap where it carries another digit than the one after the
+    /// last.
     fn count(&mut self, digit: Option<Seq>)
         ensures digit { self.new.digit ≡ digit_after self.old.digit digit }
         ensures gaps { self.new.gaps ≡ gaps_after self.old.digit self.old.gaps digit }
@@ -168,7 +190,8 @@ impl<A: Allocator + Copy> Standing<A> {
         self.digit = Some(next);
     }
 
-    /// Closes what is said, of which a reply's text stands from `from` on, and keeps it where it is a reply. There is room for it.
+    /// Closes what is said, of which a reply's text stands from `from` on, and keeps it where it is a reply.
+    /// There is room for it.
     fn finish(
         &mut self,
         said: Said,
@@ -180,9 +203,12 @@ impl<A: Allocator + Copy> Standing<A> {
         requires from { from ≤ vec_len out.old }
         requires reply { vec_len out.old ≤ from + 2038 }
         requires room { from + 2048 ≤ vec_capacity out.old }
-        ensures text { out.new.items ≡ take from out.old.items ++ written self.old.last checked digit said (drop from out.old.items) }
+        ensures text { out.new.items
+            ≡ take from out.old.items ++ written self.old.last checked digit said (drop from out.old.items) }
         ensures last { self.new.last ≡ last_after self.old.last checked digit said (drop from out.old.items) }
-        ensures rest { (self.new.place ≡ self.old.place) × (self.new.digit ≡ self.old.digit) × (self.new.gaps ≡ self.old.gaps) }
+        ensures rest { (self.new.place ≡ self.old.place)
+            × (self.new.digit ≡ self.old.digit)
+            × (self.new.gaps ≡ self.old.gaps) }
         ensures short { vec_len out.new ≤ from + 2048 }
         ensures capacity { vec_capacity out.old ≤ vec_capacity out.new }
     {
@@ -206,7 +232,9 @@ impl<A: Allocator + Copy> Standing<A> {
     fn keep(&mut self, reply: &[u8])
         requires { length reply.now ≤ 2048 }
         ensures last { self.new.last ≡ reply.now }
-        ensures rest { (self.new.place ≡ self.old.place) × (self.new.digit ≡ self.old.digit) × (self.new.gaps ≡ self.old.gaps) }
+        ensures rest { (self.new.place ≡ self.old.place)
+            × (self.new.digit ≡ self.old.digit)
+            × (self.new.gaps ≡ self.old.gaps) }
     {
         self.last.clear();
         self.last.extend_from_slice(reply).unwrap();

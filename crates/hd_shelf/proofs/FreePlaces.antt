@@ -1,5 +1,6 @@
 -- The list of the free places: its order, its last, and what putting and taking a copy does to it.
-use Rattle.std.proofs.Common.{◌≡◌, ◌≢◌, ℕ, zero, suc, ◌+◌, ◌-◌, ◌<◌, ◌≤◌, true, false, cond, List, [], ◌∷◌, ◌++◌, Option, None, Some, refl, sym, ap, subst, ◌∙◌, inl, inr, ◌⊎◌, arith, length, get_or, reverse}
+use Rattle.std.proofs.Common.{◌≡◌, ◌≢◌, ℕ, zero, suc, ◌+◌, ◌-◌, ◌<◌, ◌≤◌, true, false, cond, List, [], ◌∷◌, ◌++◌, Option, None, Some, refl}
+use Rattle.std.proofs.Common.{sym, ap, subst, ◌∙◌, inl, inr, ◌⊎◌, arith, length, get_or, reverse}
 use Rattle.std.specs.Prelude.{IsSome, is_none, nat_lt, slice_get}
 use Rattle.std.proofs.lemmas.Bool.{cases_lt}
 use Rattle.std.proofs.lemmas.Option.{none-some, slice_get-get_or}
@@ -52,7 +53,8 @@ fewer m (suc n) p is one l = elim (cases_place (get m (suc n))) [
   | inr some ↦ rw (unlisted m n some) (omega (arith, few m n))
 ]
 
-bounded-cons : (x n d : ℕ) (xs : List ℕ) → x ≤ n → ((i : ℕ) → i < length xs → get_or xs i d ≤ n) → (i : ℕ) → i < length (x ∷ xs) → get_or (x ∷ xs) i d ≤ n
+bounded-cons : (x n d : ℕ) (xs : List ℕ) → x ≤ n → ((i : ℕ) → i < length xs → get_or xs i d ≤ n) → (i : ℕ) → i < length (x ∷ xs) →
+    get_or (x ∷ xs) i d ≤ n
 bounded-cons x n d xs first others zero l = first
 bounded-cons x n d xs first others (suc i) l = others i (omega arith)
 
@@ -60,11 +62,13 @@ bounded-cons x n d xs first others (suc i) l = others i (omega arith)
 bounded : (m : FinMap nat_cmp ℕ) (n d i : ℕ) → i < length (free_places m n) → get_or (free_places m n) i d ≤ n
 bounded m zero d i = λ l. absurd (omega arith)
 bounded m (suc n) d i = elim (cases_place (get m (suc n))) [
-  | inl none ↦ rw (listed m n none) (bounded-cons (suc n) (suc n) d (free_places m n) (omega arith) (λ k l. omega (arith, bounded m n d k l)) i)
+  | inl none ↦ rw (listed m n none) (bounded-cons (suc n) (suc n) d (free_places m n) (omega arith)
+      (λ k l. omega (arith, bounded m n d k l)) i)
   | inr is ↦ rw (unlisted m n is) (λ l. omega (arith, bounded m n d i l))
 ]
 
-parted-cons : (p x : ℕ) (xs : List ℕ) → ((d i : ℕ) → i < length xs → get_or xs i d ≤ x) → IsPartitionedBy (nat_lt p) xs → IsPartitionedBy (nat_lt p) (x ∷ xs)
+parted-cons : (p x : ℕ) (xs : List ℕ) → ((d i : ℕ) → i < length xs → get_or xs i d ≤ x) → IsPartitionedBy (nat_lt p) xs →
+    IsPartitionedBy (nat_lt p) (x ∷ xs)
 parted-cons p x xs below parted zero zero d le l up = up
 parted-cons p x xs below parted zero (suc j) d le l up = grind (arith, nat_tests, below d j (omega arith))
 parted-cons p x xs below parted (suc i) zero d le l up = absurd (omega arith)
@@ -112,52 +116,64 @@ front-free m n none = at_front m (suc n) (suc n) (omega arith)
 above-cons : (p n : ℕ) (xs : List ℕ) → p ≤ n → prefix_len (nat_lt p) (suc n ∷ xs) ≡ 1 + prefix_len (nat_lt p) xs
 above-cons p n xs l = let high : nat_lt p (suc n) ≡ true = grind (arith, nat_tests) in rw high
 
-put_last : (m : FinMap nat_cmp ℕ) (c n : ℕ) → get m (suc n) ≡ None → free_places (insert m (suc n) c) (suc n) ≡ remove_at (free_places m (suc n)) (prefix_len (nat_lt (suc n)) (free_places m (suc n)))
+put_last : (m : FinMap nat_cmp ℕ) (c n : ℕ) → get m (suc n) ≡ None →
+    free_places (insert m (suc n) c) (suc n) ≡ remove_at (free_places m (suc n)) (prefix_len (nat_lt (suc n)) (free_places m (suc n)))
 put_last m c n none =
-    let same : free_places (insert m (suc n) c) n ≡ free_places m n = same_places (insert m (suc n) c) m n (λ p l. insert_other m (suc n) c p (λ at. omega arith))
+    let same : free_places (insert m (suc n) c) n ≡ free_places m n =
+    same_places (insert m (suc n) c) m n (λ p l. insert_other m (suc n) c p (λ at. omega arith))
     in rw (front-free m n none, listed m n none) (unlisted (insert m (suc n) c) n (insert_here m (suc n) c) ∙ same)
 
 -- to put a copy at a free place is to strike that place out
-pub free_places-insert : (m : FinMap nat_cmp ℕ) (k c n : ℕ) → get m k ≡ None → 1 ≤ k → k ≤ n → free_places (insert m k c) n ≡ remove_at (free_places m n) (prefix_len (nat_lt k) (free_places m n))
+pub free_places-insert : (m : FinMap nat_cmp ℕ) (k c n : ℕ) → get m k ≡ None → 1 ≤ k → k ≤ n →
+    free_places (insert m k c) n ≡ remove_at (free_places m n) (prefix_len (nat_lt k) (free_places m n))
 free_places-insert m k c zero none one l = absurd (omega arith)
 free_places-insert m k c (suc n) none one l = elim (cases_lt n k) [
   | inl last ↦
       let at : k ≡ suc n = omega arith
       in let last_free : get m (suc n) ≡ None = ap (get m) (sym at) ∙ none
-      in subst (λ (p : ℕ). free_places (insert m p c) (suc n) ≡ remove_at (free_places m (suc n)) (prefix_len (nat_lt p) (free_places m (suc n)))) (sym at) (put_last m c n last_free)
+      in subst (λ (p : ℕ). free_places (insert m p c) (suc n) ≡ remove_at (free_places m (suc n))
+      (prefix_len (nat_lt p) (free_places m (suc n)))) (sym at) (put_last m c n last_free)
   | inr below ↦
       let same : get (insert m k c) (suc n) ≡ get m (suc n) = insert_other m k c (suc n) (λ at. omega arith)
       in let others = free_places-insert m k c n none one below
       in elim (cases_place (get m (suc n))) [
-        | inl free ↦ listed (insert m k c) n (same ∙ free) ∙ rw (listed m n free, above-cons k n (free_places m n) below, remove-cons) (ap (λ xs. suc n ∷ xs) others)
+        | inl free ↦ listed (insert m k c) n (same ∙ free)
+            ∙ rw (listed m n free, above-cons k n (free_places m n) below, remove-cons) (ap (λ xs. suc n ∷ xs) others)
         | inr is ↦ unlisted (insert m k c) n (rw same is) ∙ rw (unlisted m n is) others
       ]
 ]
 
-take_last : (m : FinMap nat_cmp ℕ) (n : ℕ) → IsSome (get m (suc n)) → free_places (remove m (suc n)) (suc n) ≡ insert_at (free_places m (suc n)) (prefix_len (nat_lt (suc n)) (free_places m (suc n))) (suc n)
+take_last : (m : FinMap nat_cmp ℕ) (n : ℕ) → IsSome (get m (suc n)) →
+    free_places (remove m (suc n)) (suc n) ≡ insert_at (free_places m (suc n)) (prefix_len (nat_lt (suc n)) (free_places m (suc n))) (suc n)
 take_last m n is =
-    let same : free_places (remove m (suc n)) n ≡ free_places m n = same_places (remove m (suc n)) m n (λ p l. remove_other m (suc n) p (λ at. omega arith))
-    in rw (at_front m (suc n) (suc n) (omega arith), unlisted m n is) (listed (remove m (suc n)) n (remove_here m (suc n)) ∙ ap (λ xs. suc n ∷ xs) same)
+    let same : free_places (remove m (suc n)) n ≡ free_places m n =
+    same_places (remove m (suc n)) m n (λ p l. remove_other m (suc n) p (λ at. omega arith))
+    in rw (at_front m (suc n) (suc n) (omega arith), unlisted m n is) (listed (remove m (suc n)) n (remove_here m (suc n))
+    ∙ ap (λ xs. suc n ∷ xs) same)
 
 -- to take a copy away is to note its place
-pub free_places-remove : (m : FinMap nat_cmp ℕ) (k n : ℕ) → IsSome (get m k) → 1 ≤ k → k ≤ n → free_places (remove m k) n ≡ insert_at (free_places m n) (prefix_len (nat_lt k) (free_places m n)) k
+pub free_places-remove : (m : FinMap nat_cmp ℕ) (k n : ℕ) → IsSome (get m k) → 1 ≤ k → k ≤ n →
+    free_places (remove m k) n ≡ insert_at (free_places m n) (prefix_len (nat_lt k) (free_places m n)) k
 free_places-remove m k zero is one l = absurd (omega arith)
 free_places-remove m k (suc n) is one l = elim (cases_lt n k) [
   | inl last ↦
       let at : k ≡ suc n = omega arith
       in let last_taken : IsSome (get m (suc n)) = subst (λ (p : ℕ). IsSome (get m p)) at is
-      in subst (λ (p : ℕ). free_places (remove m p) (suc n) ≡ insert_at (free_places m (suc n)) (prefix_len (nat_lt p) (free_places m (suc n))) p) (sym at) (take_last m n last_taken)
+      in subst (λ (p : ℕ). free_places (remove m p) (suc n) ≡ insert_at (free_places m (suc n))
+      (prefix_len (nat_lt p) (free_places m (suc n))) p) (sym at) (take_last m n last_taken)
   | inr below ↦
       let same : get (remove m k) (suc n) ≡ get m (suc n) = remove_other m k (suc n) (λ at. omega arith)
       in let others = free_places-remove m k n is one below
       in elim (cases_place (get m (suc n))) [
-        | inl free ↦ listed (remove m k) n (same ∙ free) ∙ rw (listed m n free, above-cons k n (free_places m n) below, insert-cons) (ap (λ xs. suc n ∷ xs) others)
+        | inl free ↦ listed (remove m k) n (same ∙ free)
+            ∙ rw (listed m n free, above-cons k n (free_places m n) below, insert-cons) (ap (λ xs. suc n ∷ xs) others)
         | inr some ↦ unlisted (remove m k) n (rw same some) ∙ rw (unlisted m n some) others
       ]
 ]
 
 -- a free place is in the list
-pub found : (m : FinMap nat_cmp ℕ) (k n : ℕ) → get m k ≡ None → 1 ≤ k → k ≤ n → prefix_len (nat_lt k) (free_places m n) < length (free_places m n)
+pub found : (m : FinMap nat_cmp ℕ) (k n : ℕ) → get m k ≡ None → 1 ≤ k → k ≤ n →
+    prefix_len (nat_lt k) (free_places m n) < length (free_places m n)
 found m k zero none one l = absurd (omega arith)
 found m k (suc n) none one l = elim (cases_lt n k) [
   | inl last ↦
@@ -191,7 +207,8 @@ last_none none (x ∷ xs) e =
     in absurd (none-some _ (sym e ∙ within))
 
 -- the last of the free places, or the next place above them where there is none, is the least free place
-pub last_is_least : (m : FinMap nat_cmp ℕ) (n next : ℕ) → get m next ≡ None → n < next → ((p : ℕ) → n < p → p < next → IsSome (get m p)) → LeastFree m (last_or next (free_places m n))
+pub last_is_least : (m : FinMap nat_cmp ℕ) (n next : ℕ) → get m next ≡ None → n < next → ((p : ℕ) → n < p → p < next → IsSome (get m p)) →
+    LeastFree m (last_or next (free_places m n))
 last_is_least m zero next none l taken = record {
   from_one = omega arith;
   free = none;
@@ -208,8 +225,10 @@ last_is_least m (suc n) next none l taken = elim (cases_place (get m (suc n))) [
 ]
 
 -- a new place goes behind the others where they rise
-pub free_places-more : (m : FinMap nat_cmp ℕ) (n : ℕ) → get m (n + 1) ≡ None → reverse (free_places m n) ++ (n + 1) ∷ [] ≡ reverse (free_places m (n + 1))
+pub free_places-more : (m : FinMap nat_cmp ℕ) (n : ℕ) → get m (n + 1) ≡ None →
+    reverse (free_places m n) ++ (n + 1) ∷ [] ≡ reverse (free_places m (n + 1))
 free_places-more m n none =
     let next : suc n ≡ n + 1 = omega arith
-    in let greatest : (n + 1) ∷ free_places m n ≡ free_places m (n + 1) = subst (λ (p : ℕ). get m p ≡ None → p ∷ free_places m n ≡ free_places m p) next (λ free. sym (listed m n free)) none
+    in let greatest : (n + 1) ∷ free_places m n ≡ free_places m (n + 1) =
+    subst (λ (p : ℕ). get m p ≡ None → p ∷ free_places m n ≡ free_places m p) next (λ free. sym (listed m n free)) none
     in sym (reverse_onto (free_places m n) (n + 1) []) ∙ ap reverse greatest

@@ -23,9 +23,11 @@ length-step (Some c) cs h = grind arith
 -- where all places are taken, there are as many copies
 length-copies_to : (m : FinMap nat_cmp ℕ) (n : ℕ) → ((p : ℕ) → 1 ≤ p → p < n + 1 → IsSome (get m p)) → length (copies_to m n) ≡ n
 length-copies_to m zero h = refl
-length-copies_to m (suc n) h = length-step (get m (suc n)) (copies_to m n) (h (suc n) (omega arith) (omega arith)) ∙ omega (arith, length-copies_to m n (λ p one l. h p one (omega arith)))
+length-copies_to m (suc n) h = length-step (get m (suc n)) (copies_to m n) (h (suc n) (omega arith) (omega arith))
+    ∙ omega (arith, length-copies_to m n (λ p one l. h p one (omega arith)))
 
-step_other : (o : Option ℕ) (cs : List ℕ) (c : ℕ) → o ≢ Some c → AllByRecursion (λ y. eqb c y ≡ false) cs → AllByRecursion (λ y. eqb c y ≡ false) (cons_option o cs)
+step_other : (o : Option ℕ) (cs : List ℕ) (c : ℕ) → o ≢ Some c → AllByRecursion (λ y. eqb c y ≡ false) cs →
+    AllByRecursion (λ y. eqb c y ≡ false) (cons_option o cs)
 step_other None cs c ne a = a
 step_other (Some x) cs c ne a = (grind (arith, nat_tests), a)
 
@@ -33,7 +35,8 @@ others : (m : FinMap nat_cmp ℕ) (n c : ℕ) → ((p : ℕ) → p ≤ n → get
 others m zero c h = tt
 others m (suc n) c h = step_other (get m (suc n)) (copies_to m n) c (h (suc n) (omega arith)) (others m n c (λ p l. h p (omega arith)))
 
-step_distinct : (o : Option ℕ) (cs : List ℕ) → ((c : ℕ) → o ≡ Some c → AllByRecursion (λ y. eqb c y ≡ false) cs) → IsDistinct eqb cs → IsDistinct eqb (cons_option o cs)
+step_distinct : (o : Option ℕ) (cs : List ℕ) → ((c : ℕ) → o ≡ Some c → AllByRecursion (λ y. eqb c y ≡ false) cs) → IsDistinct eqb cs →
+    IsDistinct eqb (cons_option o cs)
 unfolding IsDistinct
 step_distinct None cs h d = d
 step_distinct (Some x) cs h d = (h x refl, d)
@@ -42,9 +45,12 @@ step_distinct (Some x) cs h d = (h x refl, d)
 distinct : (m : FinMap nat_cmp ℕ) (n : ℕ) → IsShelf m → IsDistinct eqb (copies_to m n)
 unfolding IsDistinct
 distinct m zero s = tt
-distinct m (suc n) s = step_distinct (get m (suc n)) (copies_to m n) (λ c e. others m n c (λ p l f. let same : p ≡ suc n = s.apart p (suc n) c f e in omega arith)) (distinct m n s)
+distinct m (suc n) s =
+    step_distinct (get m (suc n)) (copies_to m n)
+    (λ c e. others m n c (λ p l f. let same : p ≡ suc n = s.apart p (suc n) c f e in omega arith)) (distinct m n s)
 
-step_known : (o : Option ℕ) (cs : List ℕ) (q : ℕ) → ((c : ℕ) → o ≡ Some c → c < MOST_COPIES) → (list_any (eqb q) cs ≡ true → q < MOST_COPIES) → list_any (eqb q) (cons_option o cs) ≡ true → q < MOST_COPIES
+step_known : (o : Option ℕ) (cs : List ℕ) (q : ℕ) → ((c : ℕ) → o ≡ Some c → c < MOST_COPIES) →
+    (list_any (eqb q) cs ≡ true → q < MOST_COPIES) → list_any (eqb q) (cons_option o cs) ≡ true → q < MOST_COPIES
 step_known None cs q h k e = k e
 step_known (Some x) cs q h k e = grind (arith, nat_tests, h x refl)
 
@@ -55,7 +61,8 @@ known m (suc n) s q e = step_known (get m (suc n)) (copies_to m n) q (λ c f. s.
 
 -- so there are no more such places than copies
 pub taken_places : (m : FinMap nat_cmp ℕ) (n : ℕ) → IsShelf m → ((p : ℕ) → 1 ≤ p → p < n + 1 → IsSome (get m p)) → n ≤ MOST_COPIES
-taken_places m n s h = rw (← length-copies_to m n h) (length-le_from_distinct_below (copies_to m n) MOST_COPIES (distinct m n s) (known m n s))
+taken_places m n s h =
+    rw (← length-copies_to m n h) (length-le_from_distinct_below (copies_to m n) MOST_COPIES (distinct m n s) (known m n s))
 
 pub taken_below : (m : FinMap nat_cmp ℕ) (n : ℕ) → IsShelf m → ((p : ℕ) → 1 ≤ p → p < n → IsSome (get m p)) → n ≤ MOST_COPIES + 1
 taken_below m zero s h = omega arith

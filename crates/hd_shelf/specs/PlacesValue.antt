@@ -11,4 +11,6 @@ pub record PlacesValue : Type 0 where
 
 -- a shelf is stored as the pair of its fields
 abbrev pub places_code : Coded PlacesValue
-places_code = code_by (map.FinMap nat_cmp ℕ × ℕ) (coded× (map.code coded_ℕ coded_ℕ) coded_ℕ) (λ t. (t.copies, t.room)) (λ p. record { copies = p.0; room = p.1 }) (λ _. refl)
+places_code =
+    code_by (map.FinMap nat_cmp ℕ × ℕ) (coded× (map.code coded_ℕ coded_ℕ) coded_ℕ) (λ t. (t.copies, t.room))
+    (λ p. record { copies = p.0; room = p.1 }) (λ _. refl)

@@ -1,5 +1,6 @@
 -- The places of a hold shelf, from 1, and the copies that stand there.
-use Rattle.std.specs.Prelude.{◌≡◌, ◌≢◌, ℕ, zero, suc, ◌<◌, ◌≤◌, cond, List, [], ◌∷◌, None, Some, IsSome, is_none}
+use Rattle.std.specs.Prelude.{◌≡◌, ◌≢◌, ℕ, zero, suc, ◌<◌, ◌≤◌, cond, List, [], ◌∷◌, None, Some, IsSome}
+use Rattle.std.specs.Prelude.{is_none}
 use Rattle.std.specs.Ordering.{nat_cmp}
 use Rattle.std.specs.FinMap as map
 use Rattle.hd_rules.specs.declared.limits.TheConstants.{MOST_COPIES}
@@ -28,7 +29,9 @@ pub record IsShelf (copies : map.FinMap nat_cmp ℕ) : Type 0 where
 -- the free places from this one down to 1
 abbrev pub free_places : map.FinMap nat_cmp ℕ → ℕ → List ℕ
 free_places copies zero = []
-free_places copies (suc below) = cond (is_none (map.get copies (suc below))) (suc below ∷ free_places copies below) (free_places copies below)
+free_places copies (suc below) =
+    cond (is_none (map.get copies (suc below))) (suc below ∷ free_places copies below)
+    (free_places copies below)
 
 -- a shelf whose free places are kept, in a list that has room for all places
 pub record IsKept (copies : map.FinMap nat_cmp ℕ) (room : ℕ) (free : List ℕ) (capacity : ℕ) : Type 0 where

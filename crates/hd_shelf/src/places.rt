@@ -13,8 +13,8 @@ use std::marker::Model;
 
 /// The copies on the hold shelf of a branch by place. Places count from 1.
 ///
-/// Only `ready` takes memory. `least_free` is one read: beside the copies stand the free places, of which the last is
-/// the least.
+/// Only `ready` takes memory. `least_free` is one read: beside the copies stand the free places, of which the
+/// last is the least.
 #[derive(Drop)]
 pub struct Places<A: Allocator = Global> {
     table: Table<CopyNo, A>,
@@ -65,8 +65,8 @@ impl<A: Allocator> Places<A> {
 
     /// Makes room for a copy at this place and at each lower one.
     ///
-    /// Answers `AllocError` where there is no memory for it, and then the shelf is unchanged. It never does so for a
-    /// place that has room.
+    /// Answers `AllocError` where there is no memory for it, and then the shelf is unchanged. It never does
+    /// so for a place that has room.
     pub fn ready(&mut self, place: u32) -> Result<(), AllocError>
         requires { 1 ≤ place }
         ensures copies { self.new.copies ≡ self.old.copies }

@@ -1,5 +1,6 @@
 -- How many copies of a title stand on open shelves.
-use Rattle.std.specs.Prelude.{◌≡◌, ℕ, ◌+◌, ◌<◌, length, Bool, ◌==◌, ◌&&◌, if◌then◌else◌, IsSome, unwrap_or, slice_index}
+use Rattle.std.specs.Prelude.{◌≡◌, ℕ, ◌+◌, ◌<◌, length, Bool, ◌==◌, ◌&&◌, if◌then◌else◌, IsSome, unwrap_or}
+use Rattle.std.specs.Prelude.{slice_index}
 use Rattle.std.specs.Map.{lookup}
 use Rattle.hd_stock.specs.declared.home.Home.{Home}
 use Rattle.hd_stock.specs.StockValue.{StockValue}
@@ -24,7 +25,8 @@ pub record HasEntry (stock : StockValue) (title branch : ℕ) : Type 0 where
 -- the one has one more copy of this title with this home than the other, and otherwise as many
 pub record HasOneMore (one other : StockValue) (title branch : ℕ) : Type 0 where
   pub titles : (t : ℕ) → of_title one t ≡ of_title other t + (if title == t then 1 else 0)
-  pub homes : (t b : ℕ) → of_home one t b ≡ of_home other t b + (if (title == t) && (branch == b) then 1 else 0)
+  pub homes : (t b : ℕ) → of_home one t b
+      ≡ of_home other t b + (if (title == t) && (branch == b) then 1 else 0)
 
 -- no count loses its place
 pub record KeepsEntries (old new : StockValue) : Type 0 where

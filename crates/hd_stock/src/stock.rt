@@ -12,8 +12,8 @@ use std::marker::Model;
 
 /// How many copies of a title stand on open shelves, by title, and by title and home branch.
 ///
-/// The table of homes hashes by a fixed seed: its keys are numbers of the library's own titles and branches. An entry stays once
-/// it is made, also at a count of 0, so that a copy that returns takes no memory.
+/// The table of homes hashes by a fixed seed: its keys are numbers of the library's own titles and branches.
+/// An entry stays once it is made, also at a count of 0, so that a copy that returns takes no memory.
 #[derive(Drop)]
 pub struct Stock<A: Allocator = Global> {
     titles: Vec<u32, A>,
@@ -29,7 +29,8 @@ impl<A: Allocator> Model for Stock<A> {
 }
 
 impl<A: Allocator + Copy> Stock<A> {
-    /// No copies, with a count for each title below this number. Answers `AllocError` where there is no memory for them.
+    /// No copies, with a count for each title below this number. Answers `AllocError` where there is no
+    /// memory for them.
     pub fn new(alloc: A, titles: usize) -> Result<Stock<A>, AllocError>
         ensures titles { IfOk result (λ made. length made.titles ≡ titles) }
         ensures no_copies { IfOk result (λ made. (title : ℕ) → of_title made title ≡ 0) }

@@ -1,12 +1,14 @@
 -- Lemmas on lists of slots as finite maps.
-use Rattle.std.proofs.Common.{◌≡◌, ℕ, ◌+◌, ◌<◌, ◌≤◌, false, cond, ◌==◌, zero, suc, List, [], ◌∷◌, ◌++◌, Option, None, Some, refl, ap, sym, ◌∙◌, inl, inr, arith, length, get_or, set, get_or-set_other}
+use Rattle.std.proofs.Common.{◌≡◌, ℕ, ◌+◌, ◌<◌, ◌≤◌, false, cond, ◌==◌, zero, suc, List, [], ◌∷◌, ◌++◌, Option, None, Some, refl, ap, sym}
+use Rattle.std.proofs.Common.{◌∙◌, inl, inr, arith, length, get_or, set, get_or-set_other}
 use Rattle.std.proofs.lemmas.Bool.Decides.{nat_tests, Decides-eqb}
 use Rattle.std.proofs.lemmas.Grind.{get_or-set_at}
 use Rattle.std.proofs.lemmas.Bool.{cases_Bool}
 use Rattle.std.proofs.lemmas.List.{get_or_past}
 use Rattle.std.specs.Ordering.{nat_cmp, eq_by_cmp}
 use Rattle.std.specs.Cmp.{nat_cmp_total}
-use Rattle.std.specs.FinMap.{FinMap, get, insert, remove, find, same_map, nat_cmp-IsAntisymmetric, get-empty, get-insert, get-remove, get-from_entries}
+use Rattle.std.specs.FinMap.{FinMap, get, insert, remove, find, same_map, nat_cmp-IsAntisymmetric, get-empty, get-insert, get-remove}
+use Rattle.std.specs.FinMap.{get-from_entries}
 use Rattle.hd_table.specs.Slots.{entries_from, map_of}
 
 -- the order of numbers ties equal ones
@@ -31,14 +33,16 @@ find-entries (Some x ∷ slots) n (suc q) =
 
 -- the map has what stands in the slot
 pub get-map_of : {X : Type 0} (slots : List (Option X)) (q : ℕ) → get (map_of slots) q ≡ get_or slots q None
-get-map_of slots q = get-from_entries nat_cmp_total (entries_from 0 slots) q ∙ ap (λ k. find nat_cmp k (entries_from 0 slots)) (omega arith) ∙ find-entries slots 0 q
+get-map_of slots q = get-from_entries nat_cmp_total (entries_from 0 slots) q ∙ ap (λ k. find nat_cmp k (entries_from 0 slots)) (omega arith)
+    ∙ find-entries slots 0 q
 
 -- two maps of numbers that answer alike are equal
 pub same_number_map : {X : Type 0} (m n : FinMap nat_cmp X) → ((q : ℕ) → get m q ≡ get n q) → m ≡ n
 same_number_map m n is = same_map nat_cmp_total nat_cmp-IsAntisymmetric m n is
 
 -- what a map of numbers answers after an insertion
-pub get-insert_number : {X : Type 0} (m : FinMap nat_cmp X) (k : ℕ) (v : X) (q : ℕ) → get (insert m k v) q ≡ cond (q == k) (Some v) (get m q)
+pub get-insert_number : {X : Type 0} (m : FinMap nat_cmp X) (k : ℕ) (v : X) (q : ℕ) →
+    get (insert m k v) q ≡ cond (q == k) (Some v) (get m q)
 get-insert_number m k v q = get-insert nat_cmp_total m k v q ∙ ap (λ b. cond b (Some v) (get m q)) (eq_by_nat_cmp q k)
 
 -- and after a removal
@@ -46,7 +50,8 @@ pub get-remove_number : {X : Type 0} (m : FinMap nat_cmp X) (k q : ℕ) → get 
 get-remove_number m k q = get-remove nat_cmp_total m k q ∙ ap (λ b. cond b None (get m q)) (eq_by_nat_cmp q k)
 
 -- one slot is written
-get_or-set : {X : Type 0} (slots : List (Option X)) (k q : ℕ) (o : Option X) → k < length slots → get_or (set slots k o) q None ≡ cond (q == k) o (get_or slots q None)
+get_or-set : {X : Type 0} (slots : List (Option X)) (k q : ℕ) (o : Option X) → k < length slots →
+    get_or (set slots k o) q None ≡ cond (q == k) o (get_or slots q None)
 get_or-set slots k q o l = elim (cases_Bool (q == k)) [
   | inl e ↦ rw e (get_or-set_at slots k q o None ((Decides-eqb q k).0 e) l)
   | inr e ↦ rw e (get_or-set_other slots k q o None (λ same. grind (arith, nat_tests)))
@@ -67,16 +72,23 @@ get_or-push (o ∷ slots) zero = refl
 get_or-push (o ∷ slots) (suc q) = get_or-push slots q
 
 -- to write a slot is to insert
-pub map_of-set : {X : Type 0} (slots : List (Option X)) (k : ℕ) (x : X) → k < length slots → map_of (set slots k (Some x)) ≡ insert (map_of slots) k x
-map_of-set slots k x l = same_number_map _ _ (λ q. get-map_of _ q ∙ get_or-set slots k q (Some x) l ∙ sym (get-insert_number _ k x q ∙ ap (cond (q == k) (Some x)) (get-map_of slots q)))
+pub map_of-set : {X : Type 0} (slots : List (Option X)) (k : ℕ) (x : X) → k < length slots →
+    map_of (set slots k (Some x)) ≡ insert (map_of slots) k x
+map_of-set slots k x l =
+    same_number_map _ _ (λ q. get-map_of _ q ∙ get_or-set slots k q (Some x) l
+    ∙ sym (get-insert_number _ k x q ∙ ap (cond (q == k) (Some x)) (get-map_of slots q)))
 
 -- to clear a slot is to remove
 pub map_of-clear : {X : Type 0} (slots : List (Option X)) (k : ℕ) → k < length slots → map_of (set slots k None) ≡ remove (map_of slots) k
-map_of-clear slots k l = same_number_map _ _ (λ q. get-map_of _ q ∙ get_or-set slots k q None l ∙ sym (get-remove_number _ k q ∙ ap (cond (q == k) None) (get-map_of slots q)))
+map_of-clear slots k l =
+    same_number_map _ _ (λ q. get-map_of _ q ∙ get_or-set slots k q None l
+    ∙ sym (get-remove_number _ k q ∙ ap (cond (q == k) None) (get-map_of slots q)))
 
 -- past the end nothing is there to remove
 pub map_of-past : {X : Type 0} (slots : List (Option X)) (k : ℕ) → length slots ≤ k → map_of slots ≡ remove (map_of slots) k
-map_of-past slots k l = same_number_map _ _ (λ q. get-map_of slots q ∙ past slots k q l ∙ sym (get-remove_number _ k q ∙ ap (cond (q == k) None) (get-map_of slots q)))
+map_of-past slots k l =
+    same_number_map _ _ (λ q. get-map_of slots q ∙ past slots k q l
+    ∙ sym (get-remove_number _ k q ∙ ap (cond (q == k) None) (get-map_of slots q)))
 
 -- an empty slot at the end leaves the map as it is
 pub map_of-push : {X : Type 0} (slots : List (Option X)) → map_of (slots ++ None ∷ []) ≡ map_of slots

@@ -1,5 +1,6 @@
 -- What sending and arriving keep, and how the copies bound for a branch follow one another.
-use Rattle.std.proofs.Common.{◌≡◌, ℕ, zero, suc, ◌+◌, ◌-◌, ◌<◌, ◌≤◌, Bool, true, cond, Option, None, Some, [], ◌∷◌, ap, refl, arith, inl, inr}
+use Rattle.std.proofs.Common.{◌≡◌, ℕ, zero, suc, ◌+◌, ◌-◌, ◌<◌, ◌≤◌, Bool, true, cond, Option, None, Some, [], ◌∷◌, ap, refl, arith, inl}
+use Rattle.std.proofs.Common.{inr}
 use Rattle.std.specs.Prelude.{eqb, nat_lt, ◌&&◌}
 use Rattle.std.specs.List.{filter, range_with_len, list_any}
 use Rattle.std.specs.List.Sorted.{IsStrictlyIncreasing}
@@ -32,7 +33,8 @@ below-insert : (m : FinMap nat_cmp Transit) (n k : ℕ) (t : Transit) → AreBel
 below-insert m n k t a small = λ copy other e. grind (arith, nat_tests, get-insert_number m k t copy, a copy other)
 
 -- a copy with room may be sent
-pub AreCopies-insert : (m : FinMap nat_cmp Transit) (n k : ℕ) (t : Transit) → AreCopies m n → k < n → k < MOST_COPIES → AreCopies (insert m k t) n
+pub AreCopies-insert : (m : FinMap nat_cmp Transit) (n k : ℕ) (t : Transit) → AreCopies m n → k < n → k < MOST_COPIES →
+    AreCopies (insert m k t) n
 AreCopies-insert m n k t a small known = record {
   below = below-insert m n k t a.below small;
   known = below-insert m MOST_COPIES k t a.known known;
@@ -48,12 +50,17 @@ AreCopies-remove m n k a = record {
   known = below-remove m MOST_COPIES k a.known;
 }
 
-filter_of-step : (p : ℕ → Bool) (first n m : ℕ) → n ≡ suc m → filter p (range_with_len first n) ≡ cond (p first) (first ∷ filter p (range_with_len (first + 1) m)) (filter p (range_with_len (first + 1) m))
+filter_of-step : (p : ℕ → Bool) (first n m : ℕ) → n ≡ suc m →
+    filter p (range_with_len first n) ≡ cond (p first) (first ∷ filter p (range_with_len (first + 1) m))
+    (filter p (range_with_len (first + 1) m))
 filter_of-step p first n m e = ap (λ k. filter p (range_with_len first k)) e
 
 -- the first copy is one of them or is not, and the others come after it
-pub bound_from-step : (m : FinMap nat_cmp Transit) (copies to first : ℕ) → first < copies → bound_from m copies to first ≡ cond (is_bound_for to (get m first)) (first ∷ bound_from m copies to (first + 1)) (bound_from m copies to (first + 1))
-bound_from-step m copies to first l = filter_of-step (λ copy. is_bound_for to (get m copy)) first (copies - first) (copies - (first + 1)) (omega arith)
+pub bound_from-step : (m : FinMap nat_cmp Transit) (copies to first : ℕ) → first < copies →
+    bound_from m copies to first ≡ cond (is_bound_for to (get m first)) (first ∷ bound_from m copies to (first + 1))
+    (bound_from m copies to (first + 1))
+bound_from-step m copies to first l =
+    filter_of-step (λ copy. is_bound_for to (get m copy)) first (copies - first) (copies - (first + 1)) (omega arith)
 
 -- past the last copy there is none
 pub bound_from-past : (m : FinMap nat_cmp Transit) (copies to first : ℕ) → copies ≤ first → bound_from m copies to first ≡ []
@@ -64,11 +71,14 @@ bound_from-past m copies to first l = ap (λ k. filter (λ copy. is_bound_for to
 
 -- numbers in a row rise
 rising : (first n : ℕ) → IsStrictlyIncreasing (range_with_len first n)
-rising first n = λ k l. omega (arith, length-range_with_len first n, get_or-range_with_len first n k 0, get_or-range_with_len first n (k + 1) 0)
+rising first n =
+    λ k l. omega (arith, length-range_with_len first n, get_or-range_with_len first n k 0, get_or-range_with_len first n (k + 1) 0)
 
 -- so those that are bound rise too
 pub bound_from-rising : (m : FinMap nat_cmp Transit) (copies to first : ℕ) → IsStrictlyIncreasing (bound_from m copies to first)
-bound_from-rising m copies to first = IsStrictlyIncreasing-filter (λ copy. is_bound_for to (get m copy)) (range_with_len first (copies - first)) (rising first (copies - first))
+bound_from-rising m copies to first =
+    IsStrictlyIncreasing-filter (λ copy. is_bound_for to (get m copy)) (range_with_len first (copies - first))
+    (rising first (copies - first))
 
 -- the numbers in a row are those from the first on and below the last
 in_row : (c first n : ℕ) → first ≤ c → list_any (eqb c) (range_with_len first n) ≡ nat_lt c (first + n)
@@ -87,10 +97,13 @@ bound_is_below m copies to c below is = some (get m c) refl is
     some (Some t) e b = below c t e
 
 -- a copy is among them exactly where it is bound for the branch
-pub bound_from-exact : (m : FinMap nat_cmp Transit) (copies to c : ℕ) → AreBelow m copies → list_any (eqb c) (bound_from m copies to 0) ≡ is_bound_for to (get m c)
+pub bound_from-exact : (m : FinMap nat_cmp Transit) (copies to c : ℕ) → AreBelow m copies →
+    list_any (eqb c) (bound_from m copies to 0) ≡ is_bound_for to (get m c)
 bound_from-exact m copies to c below =
     let bound : Bool = is_bound_for to (get m c)
-    in let kept : list_any (eqb c) (bound_from m copies to 0) ≡ (bound && list_any (eqb c) (range_with_len 0 (copies - 0))) = any-filter_same (eqb c) (λ copy. is_bound_for to (get m copy)) bound (λ k e. grind (arith, nat_tests)) (range_with_len 0 (copies - 0))
+    in let kept : list_any (eqb c) (bound_from m copies to 0) ≡ (bound && list_any (eqb c) (range_with_len 0 (copies - 0))) =
+    any-filter_same (eqb c) (λ copy. is_bound_for to (get m copy)) bound (λ k e. grind (arith, nat_tests))
+    (range_with_len 0 (copies - 0))
     in let row : list_any (eqb c) (range_with_len 0 (copies - 0)) ≡ nat_lt c (0 + (copies - 0)) = in_row c 0 (copies - 0) (omega arith)
     in elim (cases_Bool bound) [
       | inl is ↦ let small : c < copies = bound_is_below m copies to c below is in grind (arith, nat_tests, kept, row, is, small)

@@ -12,4 +12,5 @@ is_bound_for to (Some transit) = transit.to == to
 
 -- those of the copies from the first on, below a number, that are bound for the branch
 abbrev pub bound_from : map.FinMap nat_cmp Transit → ℕ → ℕ → ℕ → List ℕ
-bound_from transits copies to first = filter (λ copy. is_bound_for to (map.get transits copy)) (range_with_len first (copies - first))
+bound_from transits copies to first =
+    filter (λ copy. is_bound_for to (map.get transits copy)) (range_with_len first (copies - first))

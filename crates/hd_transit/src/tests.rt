@@ -30,8 +30,8 @@ fn copies_are_bound_for_where_they_were_sent(rt: HostRuntime) -> Result<(), Fail
     assert_eq!(rt; bound.next(), None);
     let arrived = transits.arrive(third).ok_or("not in transit")?;
     assert_eq!(rt; arrived.to, north);
-    assert_eq!(rt; transits.transit_of(third), None);
-    let on_the_way = transits.transit_of(last).ok_or("not in transit")?;
+    assert_eq!(rt; transits.arrive(third), None);
+    let on_the_way = transits.arrive(last).ok_or("not in transit")?;
     assert_eq!(rt; on_the_way.to, south);
     Ok(())
 }

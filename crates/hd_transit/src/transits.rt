@@ -58,24 +58,18 @@ impl<A: Allocator> Transits<A> {
     /// Ends the transit of a copy and hands it out, if there is one.
     pub fn arrive(&mut self, copy: CopyNo) -> Option<Transit>
         ensures arrived { result ≡ map.get self.old.transits copy }
+        ensures within { AreBelow self.old.transits self.old.copies }
         ensures transits { self.new.transits ≡ map.remove self.old.transits copy }
         ensures copies { self.new.copies ≡ self.old.copies }
     {
         self.table.take(copy.number() as usize)
     }
 
-    /// The transit of a copy, if it is on its way.
-    pub fn transit_of(&self, copy: CopyNo) -> Option<Transit>
-        ensures value { result ≡ map.get self.now.transits copy }
-        ensures within { AreBelow self.now.transits self.now.copies }
-    {
-        self.table.get(copy.number() as usize).copied()
-    }
-
     /// The copies on their way to a branch, each once, by rising number.
     pub fn bound_for(&self, to: BranchNo) -> Bound<'_, A>
         ensures value { result ≡ bound_from self.now.transits self.now.copies to 0 }
-        ensures exact { (copy : ℕ) → list_any (eqb copy) result ≡ is_bound_for to (map.get self.now.transits copy) }
+        ensures exact { (copy : ℕ) → list_any (eqb copy) result
+            ≡ is_bound_for to (map.get self.now.transits copy) }
         ensures rising { IsStrictlyIncreasing result }
     {
         Bound::new(&self.table, to)

@@ -8,14 +8,15 @@ const REPLAY_ABOUT: &str = "Answers messages from standard input as the server w
 
 const REPLAY: &str = "Answers messages from standard input as the server would
 
-Each line of the input is `<session> <message>`: the number of a session, 1 to 64, one blank, and a SIP2 message
-without its carriage return. Each reply is printed as `<session> <reply>`. A session whose message is longer than
-1,024 bytes ends, and is answered `<session> ENDED` from then on.
+Each line of the input is `<session> <message>`: the number of a session, 1 to 64, one blank, and a SIP2
+message without its carriage return. Each reply is printed as `<session> <reply>`. A session whose message
+is longer than 1,024 bytes ends, and is answered `<session> ENDED` from then on.
 
-A session logs in first, by a message 93 with a terminal's name (CN) and password (CO) of the catalogue; it may log in again as
-another. Then it may check out (11), check in (09), renew (29), add, delete and change holds (15), and ask for an item (17); status
-(99) and resend (97) need no login. A message with BIY| cancels what this terminal did by the opposite one: 09 a checkout, 11 a
-checkin, 15 with - an added hold and with + a deleted one, 29 a renewal, and 15 with * a change.";
+A session logs in first, by a message 93 with a terminal's name (CN) and password (CO) of the catalogue; it
+may log in again as another. Then it may check out (11), check in (09), renew (29), add, delete and change
+holds (15), and ask for an item (17); status (99) and resend (97) need no login. A message with BIY| cancels
+what this terminal did by the opposite one: 09 a checkout, 11 a checkin, 15 with - an added hold and with +
+a deleted one, 29 a renewal, and 15 with * a change.";
 
 const EXAMPLE: &str = "Example: a hold, and its cancellation
 
@@ -29,8 +30,8 @@ const EXAMPLE: &str = "Example: a hold, and its cancellation
   1 161N20260301    100000AOlib|AAp1|AJta|AFCANCELLED 1|
 
 Exit status: 0 well; 1 a fault, printed as one line (`catalogue line N: CAUSE`, `cannot read the catalogue`,
-`bad --now`, `input line N: no session`, `input too long`, `cannot read`, `cannot write`, `no memory`); 2 the command
-line was refused.";
+`bad --now`, `input line N: no session`, `input too long`, `cannot read`, `cannot write`, `no memory`); 2
+the command line was refused.";
 
 /// What `replay` is asked to do.
 #[derive(Clone, Copy)]

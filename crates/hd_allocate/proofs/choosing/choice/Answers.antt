@@ -4,10 +4,13 @@ use Rattle.hd_allocate.proofs.ChoosingLemmas.{wants, Found, found_first, first_i
 use Rattle.hd_allocate.proofs.choosing.choice.Goals as goal
 
 -- the hold that is found is the first that wants the copy
-first : (c : goal.After-earlier) → IsFirst c.args.copy.now.priority c.args.at (wants c.args.copy.now.copy c.args.copy.now.home c.args.day) c.args.queue.now (option_copied c.earlier.result)
+first : (c : goal.After-earlier) → IsFirst c.args.copy.now.priority c.args.at (wants c.args.copy.now.copy c.args.copy.now.home c.args.day)
+    c.args.queue.now (option_copied c.earlier.result)
 first c =
-    let f : Found c.args.copy.now c.args.at c.args.day c.args.queue.now c.any.result c.for_copy.result c.at_branch.result (option_copied c.front-any.result) (option_copied c.front-named.result) (option_copied c.front-home.result) (option_copied c.earlier-either.result) (option_copied c.earlier.result) = record {
-      any_is = c.any.ensures;
+    let f : Found c.args.copy.now c.args.at c.args.day c.args.queue.now c.any.result c.for_copy.result c.at_branch.result
+    (option_copied c.front-any.result) (option_copied c.front-named.result) (option_copied c.front-home.result)
+    (option_copied c.earlier-either.result) (option_copied c.earlier.result) = record {
+      any_is = c.any.ensures.waiting;
       named_is = c.for_copy.ensures;
       home_is = c.at_branch.ensures;
       x_is = c.front-any.ensures;
@@ -16,11 +19,16 @@ first c =
       v_is = c.earlier-either.ensures;
       w_is = c.earlier.ensures;
     } in
-    found_first c.args.copy.now c.args.at c.args.day c.args.queue.now c.any.result c.for_copy.result c.at_branch.result (option_copied c.front-any.result) (option_copied c.front-named.result) (option_copied c.front-home.result) (option_copied c.earlier-either.result) (option_copied c.earlier.result) c.holds_are_in_order.ensures.ordered c.holds_are_in_order.ensures.once f
+    found_first c.args.copy.now c.args.at c.args.day c.args.queue.now c.any.result c.for_copy.result c.at_branch.result
+    (option_copied c.front-any.result) (option_copied c.front-named.result) (option_copied c.front-home.result)
+    (option_copied c.earlier-either.result) (option_copied c.earlier.result) c.any.ensures.ordered c.any.ensures.once f
 
 pub returns-clause-chosen : goal.returns-clause-chosen
 returns-clause-chosen c = λ k d at.
-    first_is_choice k d c.args.queue.now c.args.copy.now c.args.at c.args.day (option_copied c.earlier.result) c.holds_are_in_order.ensures.ordered at (first c)
+    first_is_choice k d c.args.queue.now c.args.copy.now c.args.at c.args.day (option_copied c.earlier.result) c.any.ensures.ordered at
+    (first c)
 
 pub returns-clause-waits : goal.returns-clause-waits
-returns-clause-waits c = first_waits c.args.copy.now.priority c.args.copy.now.copy c.args.copy.now.home c.args.at c.args.day c.args.queue.now c.earlier.result (first c)
+returns-clause-waits c =
+    first_waits c.args.copy.now.priority c.args.copy.now.copy c.args.copy.now.home c.args.at c.args.day c.args.queue.now c.earlier.result
+    (first c)

@@ -3,7 +3,13 @@ use Rattle.hd_catalogue.proofs.LineLemmas.{lines-front, lines-whole, lines_of-so
 use Rattle.hd_catalogue.proofs.lines.first_line.Goals as goal
 
 pub returns-in-Some-clause-lines : goal.returns-in-Some-clause-lines
-returns-in-Some-clause-lines c = λ some. rw (c.without_return.ensures, c.split_at.ensures.front, c.split_at-in-Some.ensures.back, c.split_at.ensures.back) (lines-front c.args.text.now c.in-Some.end c.in-Some.ensures)
+returns-in-Some-clause-lines c =
+    λ some. rw (
+      c.without_return.ensures,
+      c.split_at.ensures.front,
+      c.split_at-in-Some.ensures.back,
+      c.split_at.ensures.back,
+    ) (lines-front c.args.text.now c.in-Some.end c.in-Some.ensures)
 
 pub returns-in-Some-clause-first : goal.returns-in-Some-clause-first
 returns-in-Some-clause-first c =

@@ -14,4 +14,6 @@ loop-preserved g c = rw c.in_ok-push.ensures.items record {
 }
 
 pub returns : goal.returns
-returns g c = shelves-home (facts_of c.args.catalogue.now) c.loop.shelves.items (omega (arith, c.loop.invariant.branches, c.branches-branches.ensures)) c.loop.invariant.empty
+returns g c =
+    shelves-home (facts_of c.args.catalogue.now) c.loop.shelves.items
+    (omega (arith, c.loop.invariant.branches, c.branches-branches.ensures.count)) c.loop.invariant.empty

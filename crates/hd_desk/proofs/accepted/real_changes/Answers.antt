@@ -13,8 +13,10 @@ loop-change-init c = picked-start c.args.changes.now c.new-real.result c.new-rea
 
 pub loop-change-preserved : goal.loop-change-preserved
 loop-change-preserved c = elim c.if-is_real.branch [
-  | then-is_real w ↦ picked-one c.args.changes.now c.loop-change.change-index c.loop-change.real _ c.change-item.result _ c.loop-change.invariant c.loop-change-test.true c.change-item.is c.is_real.ensures w.if-is_real.true (w.real-is ∙ w.push.ensures)
-  | else-is_real w ↦ picked-none c.args.changes.now c.loop-change.change-index c.loop-change.real _ c.change-item.result _ c.loop-change.invariant c.loop-change-test.true c.change-item.is c.is_real.ensures w.if-is_real.false w.real-is
+  | then-is_real w ↦ picked-one c.args.changes.now c.loop-change.change-index c.loop-change.real _ c.change-item.result _
+      c.loop-change.invariant c.loop-change-test.true c.change-item.is c.is_real.ensures w.if-is_real.true (w.real-is ∙ w.push.ensures)
+  | else-is_real w ↦ picked-none c.args.changes.now c.loop-change.change-index c.loop-change.real _ c.change-item.result _
+      c.loop-change.invariant c.loop-change-test.true c.change-item.is c.is_real.ensures w.if-is_real.false w.real-is
 ]
 
 pub returns : goal.returns

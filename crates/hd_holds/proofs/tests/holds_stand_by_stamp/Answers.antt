@@ -11,7 +11,8 @@ alone-none : (holds : ℕ → ℕ → Option Hold) (t p s : ℕ) → holds ≡ (
 alone-none holds t p s none = λ q g is same. let no : holds t q ≡ None = ap (λ (h : ℕ → ℕ → Option Hold). h t q) none in cc
 
 -- another patron's hold has another stamp, or the patron is the same
-alone-put : (old new : ℕ → ℕ → Option Hold) (t r p s : ℕ) (o : Option Hold) → new ≡ (λ u n. cond ((t == u) && (r == n)) o (old u n)) → ((h : Hold) → o ≡ Some h → h.stamp ≡ s → r ≡ p) → IsAlone old t p s → IsAlone new t p s
+alone-put : (old new : ℕ → ℕ → Option Hold) (t r p s : ℕ) (o : Option Hold) → new ≡ (λ u n. cond ((t == u) && (r == n)) o (old u n)) →
+    ((h : Hold) → o ≡ Some h → h.stamp ≡ s → r ≡ p) → IsAlone old t p s → IsAlone new t p s
 alone-put old new t r p s o put other alone = λ q g is same. by_test q (r == q) refl g (sym (at q) ∙ is) same
   where
     at : (q : ℕ) → new t q ≡ cond (r == q) o (old t q)
@@ -27,8 +28,12 @@ other-stamp x h s r p other is same = let at : x ≡ h = cc in absurd (other (ap
 pub put-requires-2-clause-fit : goal.put-requires-2-clause-fit
 put-requires-2-clause-fit g c =
     let early : c.hold.result.stamp ≡ 4 = ap (λ (h : Hold). h.stamp) c.hold.ensures in
-    let late : c.hold-2.result.stamp ≡ 7 = ap (λ (h : Hold). h.stamp) c.hold-2.ensures in
-    (ap (λ (h : Hold). h.patron) c.hold.ensures, alone-put _ _ _ _ _ c.hold.result.stamp (Some c.hold-2.result) c.put.ensures.held (λ h. other-stamp c.hold-2.result h _ _ _ (λ e. omega arith)) (alone-none _ _ _ _ (c.in_ok-ready.ensures.held ∙ c.in_ok-holds.ensures.none)))
+    let late : c.hold-2.result.stamp ≡ 7 = ap (λ (h : Hold). h.stamp) c.hold-2.ensures in (
+      ap (λ (h : Hold). h.patron) c.hold.ensures,
+      alone-put _ _ _ _ _ c.hold.result.stamp (Some c.hold-2.result) c.put.ensures.held
+          (λ h. other-stamp c.hold-2.result h _ _ _ (λ e. omega arith))
+          (alone-none _ _ _ _ (c.in_ok-ready.ensures.held ∙ c.in_ok-holds.ensures.none)),
+    )
 
 pub put-requires-4-clause-room : goal.put-requires-4-clause-room
 put-requires-4-clause-room g c = λ x e.
@@ -38,5 +43,10 @@ put-requires-4-clause-room g c = λ x e.
 pub put-requires-4-clause-fit : goal.put-requires-4-clause-fit
 put-requires-4-clause-fit g c =
     let early : c.hold.result.stamp ≡ 4 = ap (λ (h : Hold). h.stamp) c.hold.ensures in
-    let late : c.hold-2.result.stamp ≡ 7 = ap (λ (h : Hold). h.stamp) c.hold-2.ensures in
-    (ap (λ (h : Hold). h.patron) c.hold.ensures, alone-put _ _ _ _ _ c.hold.result.stamp None c.put-3.ensures.held (λ h _ _. refl) (alone-put _ _ _ _ _ _ (Some c.hold.result) c.put-2.ensures.held (λ h _ _. refl) (alone-put _ _ _ _ _ _ (Some c.hold-2.result) c.put.ensures.held (λ h. other-stamp c.hold-2.result h _ _ _ (λ e. omega arith)) (alone-none _ _ _ _ (c.in_ok-ready.ensures.held ∙ c.in_ok-holds.ensures.none)))))
+    let late : c.hold-2.result.stamp ≡ 7 = ap (λ (h : Hold). h.stamp) c.hold-2.ensures in (
+      ap (λ (h : Hold). h.patron) c.hold.ensures,
+      alone-put _ _ _ _ _ c.hold.result.stamp None c.put-3.ensures.held (λ h _ _. refl)
+          (alone-put _ _ _ _ _ _ (Some c.hold.result) c.put-2.ensures.held (λ h _ _. refl)
+          (alone-put _ _ _ _ _ _ (Some c.hold-2.result) c.put.ensures.held (λ h. other-stamp c.hold-2.result h _ _ _ (λ e. omega arith))
+          (alone-none _ _ _ _ (c.in_ok-ready.ensures.held ∙ c.in_ok-holds.ensures.none)))),
+    )

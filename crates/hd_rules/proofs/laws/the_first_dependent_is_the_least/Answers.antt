@@ -7,7 +7,9 @@ use Rattle.hd_rules.specs.Depends.{NoneDepends, IsLeastDependent, first_dependen
 use Rattle.hd_rules.proofs.Walk.{none_depends, least_depends}
 use Rattle.hd_rules.proofs.laws.the_first_dependent_is_the_least.Goals as goal
 
-by_result : (k : Facts) (older : List Survivor) (c : Survivor) (newer : List Survivor) → Rising 1 (older ++ c ∷ newer) → (o : Option ℕ) → first_dependent k (older ++ c ∷ newer) c newer ≡ o → MatchOption o (NoneDepends k (older ++ c ∷ newer) c) (IsLeastDependent k (older ++ c ∷ newer) c)
+by_result : (k : Facts) (older : List Survivor) (c : Survivor) (newer : List Survivor) → Rising 1 (older ++ c ∷ newer) → (o : Option ℕ)
+    → first_dependent k (older ++ c ∷ newer) c newer ≡ o
+    → MatchOption o (NoneDepends k (older ++ c ∷ newer) c) (IsLeastDependent k (older ++ c ∷ newer) c)
 by_result k older c newer rising None is = none_depends k 1 older c newer rising is
 by_result k older c newer rising (Some m) is = least_depends k 1 older c newer rising m is
 

@@ -24,5 +24,6 @@ returns-in_err-print_line g c =
       done.0 ++ c.in-Some.reply.text.now ∷ later.0,
       later.1,
       are_from 13 _ _ _ done.0 (c.in-Some.reply.text.now ∷ later.0) done.1 done.2 rest,
-      printed_part _ _ _ (flat_map (printed c.args.session) done.0 ++ some.0) _ c.from_residual.ensures.0 (line_within c.args.session done.0 later.0 _ some.0 some.1) (some.2 ∙ rw done.3 (append_assoc _ _ some.0)),
+      printed_part _ _ _ (flat_map (printed c.args.session) done.0 ++ some.0) _ c.from_residual.ensures.0
+          (line_within c.args.session done.0 later.0 _ some.0 some.1) (some.2 ∙ rw done.3 (append_assoc _ _ some.0)),
     )

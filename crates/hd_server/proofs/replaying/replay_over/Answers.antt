@@ -1,4 +1,7 @@
-use Rattle.std.proofs.Common.{inl}
+use Rattle.std.proofs.Common.{◌≡◌, ◌∙◌, ap, inl, inr}
+use Rattle.hd_catalogue.specs.Contents.{Contents}
+use Rattle.hd_journal.specs.Books.{Book}
+use Rattle.hd_server.specs.Replays.{opening}
 use Rattle.std.proofs.KnownBytes.{Keeps-refl}
 use Rattle.hd_server.proofs.Ended.{for_memory}
 use Rattle.hd_server.proofs.replaying.replay_over.Goals as goal
@@ -7,4 +10,16 @@ pub returns-in_err-catalogue : goal.returns-in_err-catalogue
 returns-in_err-catalogue g c = inl ((Keeps-refl _, Keeps-refl _), for_memory _ c.from_residual.ensures.0 c.from_residual.ensures.1)
 
 pub returns-in_err-sessions : goal.returns-in_err-sessions
-returns-in_err-sessions g c = inl ((Keeps-refl _, Keeps-refl _), for_memory _ c.from_residual-in_err-sessions.ensures.0 c.from_residual-in_err-sessions.ensures.1)
+returns-in_err-sessions g c =
+    inl ((Keeps-refl _, Keeps-refl _), for_memory _ c.from_residual-in_err-sessions.ensures.0 c.from_residual-in_err-sessions.ensures.1)
+
+pub returns : goal.returns
+returns g c =
+    let contents = ap (λ (b : Book). b.contents) c.new-journal.ensures.new ∙ (c.in_ok-desk.ensures.contents ∙ c.in_ok-catalogue.ensures.ok) in
+    let first : c.in_ok-sessions.sessions ≡ opening c.args.catalogue c.args.now =
+    c.in_ok-sessions.ensures.new ∙ ap (λ (k : Contents). opening k c.args.now) contents in
+    inr (record {
+      after = c.answer_input.new.sessions;
+      reads = rw first at c.answer_input.ensures.reads;
+      legal = c.answer_input.ensures.legal c.in_ok-sessions.ensures.legal;
+    })

@@ -1,14 +1,10 @@
-use Rattle.std.proofs.Common.{◌∙◌, ap, ap₂, ℕ, List, ◌++◌}
-use Rattle.hd_session.proofs.Hearing.{one_heard}
+use Rattle.std.proofs.Common.{◌∙◌, sym}
+use Rattle.hd_session.proofs.Hearing.{answers_empty, some_line}
 use Rattle.hd_session.proofs.session.answer_line.Goals as goal
 
-pub returns-in-Ok-clause-heard : goal.returns-in-Ok-clause-heard
-returns-in-Ok-clause-heard g c =
-    let told = c.in-Ok.ensures.heard in
-    record {
-      made = told.0;
-      text = told.1;
-      heard = one_heard _ _ _ _ _ told.0 _ told.1 told.4;
-      turns_are = told.2;
-      out_is = (rw c.unwrap.ensures at c.extend_from_slice.ensures.items) ∙ ap₂ (λ (a b : List ℕ). a ++ b) c.reserve.ensures.items (c.as_slice.ensures.value ∙ (told.3 ∙ ap (λ (t : List ℕ). t ++ told.1) c.clear.ensures.items));
-    }
+pub hear-requires-clause-some : goal.hear-requires-clause-some
+hear-requires-clause-some g c = some_line c.args.line.now (sym c.is_empty.ensures ∙ c.if-is_empty.false)
+
+pub returns-then-is_empty-clause-heard : goal.returns-then-is_empty-clause-heard
+returns-then-is_empty-clause-heard g c =
+    answers_empty _ _ _ _ c.args.line.now _ _ (sym c.is_empty.ensures ∙ c.if-is_empty.true)

@@ -11,20 +11,24 @@ use Rattle.hd_catalogue.proofs.catalogue.Catalogue.read.Goals as goal
 pub returns-in-Err-clause-refused : goal.returns-in-Err-clause-refused
 returns-in-Err-clause-refused g c =
     let first = c.first_line-first.result in
-    first_refused first.line.now (lines first.after.now) (lines_of c.args.bytes.now) c.in-Err.cause c.first_line-first.ensures.first c.in-Err.ensures
+    first_refused first.line.now (lines first.after.now) (lines_of c.args.bytes.now) c.in-Err.cause c.first_line-first.ensures.first
+    c.in-Err.ensures
 
 pub loop-rest-init : goal.loop-rest-init
 loop-rest-init g c =
     let first = c.first_line-first.result in
     record {
       counted = omega (arith, c.first_line-first.ensures.within);
-      follows = λ r f. begun_reading first.line.now (lines first.after.now) (lines_of c.args.bytes.now) _ r c.first_line-first.ensures.first c.in-Ok.ensures.0 c.in-Ok.ensures.1 f;
+      follows =
+          λ r f. begun_reading first.line.now (lines first.after.now) (lines_of c.args.bytes.now) _ r c.first_line-first.ensures.first
+          c.in-Ok.ensures.0 c.in-Ok.ensures.1 f;
     }
 
 pub returns-in-Err-read_line-clause-refused : goal.returns-in-Err-read_line-clause-refused
 returns-in-Err-read_line-clause-refused g c =
     let some : 0 < length c.loop-rest.rest.now = grind (arith, common_steps) in
-    let whole : lines c.loop-rest.rest.now ≡ c.first_line-next.result.line.now ∷ lines c.first_line-next.result.after.now = c.first_line-next.ensures.lines some in
+    let whole : lines c.loop-rest.rest.now ≡ c.first_line-next.result.line.now ∷ lines c.first_line-next.result.after.now =
+    c.first_line-next.ensures.lines some in
     let answer : Result Contents CatFault = Err (record { line = c.loop-rest.number + 1; cause = c.in-Err-read_line.cause }) in
     c.loop-rest.invariant.follows answer
     (subst (λ ls. Follows (c.loop-rest.number + 1) ls c.loop-rest.catalogue answer) (sym whole)
@@ -33,11 +37,16 @@ returns-in-Err-read_line-clause-refused g c =
 pub loop-rest-preserved : goal.loop-rest-preserved
 loop-rest-preserved g c =
     let some : 0 < length c.loop-rest.rest.now = grind (arith, common_steps) in
-    let whole : lines c.loop-rest.rest.now ≡ c.first_line-next.result.line.now ∷ lines c.first_line-next.result.after.now = c.first_line-next.ensures.lines some in
+    let whole : lines c.loop-rest.rest.now ≡ c.first_line-next.result.line.now ∷ lines c.first_line-next.result.after.now =
+    c.first_line-next.ensures.lines some in
     record {
       counted = omega (arith, c.first_line-next.ensures.shorter some, c.loop-rest.invariant.counted);
       follows = λ r f. c.loop-rest.invariant.follows r
-          (subst (λ ls. Follows (c.loop-rest.number + 1) ls c.loop-rest.catalogue r) (sym whole) (inl (c.in_default.ensures.0, subst (λ k. Follows (c.loop-rest.number + 1 + 1) (lines c.first_line-next.result.after.now) k r) c.in_default.ensures.1 f)));
+          (subst (λ ls. Follows (c.loop-rest.number + 1) ls c.loop-rest.catalogue r) (sym whole)
+          (inl (
+            c.in_default.ensures.0,
+            subst (λ k. Follows (c.loop-rest.number + 1 + 1) (lines c.first_line-next.result.after.now) k r) c.in_default.ensures.1 f,
+          )));
     }
 
 pub returns-clause-accepted : goal.returns-clause-accepted

@@ -9,5 +9,12 @@ invariant_of-self-2 g c =
     let new = name-short _ (sym c.is_name.ensures ∙ c.if-not-is_name.false) in
     rw (when_ok c.define.result _ c.define.ensures.ok (sym c.is_err.ensures.value ∙ c.if-is_err.false)) (
       sound-branch _ _ c.self.invariant.0 c.in_ok-check_name.ensures.room,
-      record { institution = names.institution; branches = short-push _ _ names.branches new; terminals = names.terminals; patrons = names.patrons; titles = names.titles; copies = names.copies },
+      record {
+        institution = names.institution;
+        branches = short-push _ _ names.branches new;
+        terminals = names.terminals;
+        patrons = names.patrons;
+        titles = names.titles;
+        copies = names.copies;
+      },
     )

@@ -15,5 +15,12 @@ invariant_of-self-2 g c =
     (when_some c.copy_facts-facts.result c.unwrap.result _ c.copy_facts-facts.ensures.home c.unwrap.ensures) in
     rw (when_ok c.define.result _ c.define.ensures.ok (sym c.is_err.ensures.value ∙ c.if-is_err.false)) (
       sound-copy _ _ _ c.self.invariant.0 c.in_ok-check_name.ensures.room title home,
-      record { institution = names.institution; branches = names.branches; terminals = names.terminals; patrons = names.patrons; titles = names.titles; copies = short-push _ _ names.copies new },
+      record {
+        institution = names.institution;
+        branches = names.branches;
+        terminals = names.terminals;
+        patrons = names.patrons;
+        titles = names.titles;
+        copies = short-push _ _ names.copies new;
+      },
     )

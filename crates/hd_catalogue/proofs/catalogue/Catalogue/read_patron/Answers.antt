@@ -9,5 +9,12 @@ invariant_of-self-2 g c =
     let new = name-short _ (sym c.is_name.ensures ∙ c.if-not-is_name.false) in
     rw (when_ok c.define.result _ c.define.ensures.ok (sym c.is_err.ensures.value ∙ c.if-is_err.false)) (
       sound-patron _ _ _ c.self.invariant.0 c.in_ok-check_name.ensures.room c.in-Some-patron_facts.ensures.limit,
-      record { institution = names.institution; branches = names.branches; terminals = names.terminals; patrons = short-push _ _ names.patrons new; titles = names.titles; copies = names.copies },
+      record {
+        institution = names.institution;
+        branches = names.branches;
+        terminals = names.terminals;
+        patrons = short-push _ _ names.patrons new;
+        titles = names.titles;
+        copies = names.copies;
+      },
     )

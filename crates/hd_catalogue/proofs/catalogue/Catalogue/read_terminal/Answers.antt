@@ -13,5 +13,12 @@ invariant_of-self-2 g c =
     let branch : c.new-facts.result.branch ≡ c.unwrap.result = ap (λ t. t.branch) c.new-facts.ensures in
     rw (when_ok c.define.result _ c.define.ensures.ok (sym c.is_err.ensures.value ∙ c.if-is_err.false)) (
       sound-terminal _ _ _ c.self.invariant.0 c.in_ok-check_name.ensures.room (rw branch known),
-      record { institution = names.institution; branches = names.branches; terminals = short-push _ _ names.terminals new; patrons = names.patrons; titles = names.titles; copies = names.copies },
+      record {
+        institution = names.institution;
+        branches = names.branches;
+        terminals = short-push _ _ names.terminals new;
+        patrons = names.patrons;
+        titles = names.titles;
+        copies = names.copies;
+      },
     )

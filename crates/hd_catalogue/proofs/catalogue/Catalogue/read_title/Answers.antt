@@ -8,6 +8,14 @@ invariant_of-self-2 g c =
     let names = c.self.invariant.1 in
     let new = name-short _ (sym c.is_name.ensures ∙ c.if-not-is_name.false) in
     rw (when_ok c.define.result _ c.define.ensures.ok (sym c.is_err.ensures.value ∙ c.if-is_err.false)) (
-      sound-title _ _ _ c.self.invariant.0 c.in_ok-check_name.ensures.room c.in-Some-title_facts.ensures.days c.in-Some-title_facts.ensures.renewals,
-      record { institution = names.institution; branches = names.branches; terminals = names.terminals; patrons = names.patrons; titles = short-push _ _ names.titles new; copies = names.copies },
+      sound-title _ _ _ c.self.invariant.0 c.in_ok-check_name.ensures.room c.in-Some-title_facts.ensures.days
+          c.in-Some-title_facts.ensures.renewals,
+      record {
+        institution = names.institution;
+        branches = names.branches;
+        terminals = names.terminals;
+        patrons = names.patrons;
+        titles = short-push _ _ names.titles new;
+        copies = names.copies;
+      },
     )

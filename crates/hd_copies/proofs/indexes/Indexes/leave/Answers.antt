@@ -16,7 +16,9 @@ take-requires-clause-some_of_title g c =
     let k = facts_of c.args.catalogue.now in
     let f = slice_get c.args.states.now in
     let old : IsIndexed k f _ = rw (← c.self.view_is) at c.requires.indexed in
-    let at : f c.args.copy ≡ Some (Shelf c.in-Shelf.field-0) = read_at k c.args.states.now c.number.result c.args.copy _ _ c.requires.states c.requires.copy c.number.ensures.value c.in-Shelf.is in
+    let at : f c.args.copy ≡ Some (Shelf c.in-Shelf.field-0) =
+    read_at k c.args.states.now c.number.result c.args.copy _ _ c.requires.states c.requires.copy c.number.ensures.value c.in-Shelf.is
+    in
     rw c.title_of.ensures.title (some_of_title k f f c.args.copy _ old c.in-Shelf.field-0 at c.requires.copy)
 
 pub take-requires-clause-some_of_home : goal.take-requires-clause-some_of_home
@@ -24,7 +26,9 @@ take-requires-clause-some_of_home g c =
     let k = facts_of c.args.catalogue.now in
     let f = slice_get c.args.states.now in
     let old : IsIndexed k f _ = rw (← c.self.view_is) at c.requires.indexed in
-    let at : f c.args.copy ≡ Some (Shelf c.in-Shelf.field-0) = read_at k c.args.states.now c.number.result c.args.copy _ _ c.requires.states c.requires.copy c.number.ensures.value c.in-Shelf.is in
+    let at : f c.args.copy ≡ Some (Shelf c.in-Shelf.field-0) =
+    read_at k c.args.states.now c.number.result c.args.copy _ _ c.requires.states c.requires.copy c.number.ensures.value c.in-Shelf.is
+    in
     rw (c.title_of.ensures.title, c.home.ensures.branch) (some_of_home k f f c.args.copy _ old c.in-Shelf.field-0 at c.requires.copy)
 
 pub returns-in-Shelf-clause-indexed : goal.returns-in-Shelf-clause-indexed
@@ -32,25 +36,35 @@ returns-in-Shelf-clause-indexed g c =
     let k = facts_of c.args.catalogue.now in
     let f = slice_get c.args.states.now in
     let old : IsIndexed k f _ = rw (← c.self.view_is) at c.requires.indexed in
-    let at : f c.args.copy ≡ Some (Shelf c.in-Shelf.field-0) = read_at k c.args.states.now c.number.result c.args.copy _ _ c.requires.states c.requires.copy c.number.ensures.value c.in-Shelf.is in
-    let less : HasOneMore c.self.inside.stock c.take.new.self (k.title_of c.args.copy) (k.home c.args.copy) = rw (← c.title_of.ensures.title, ← c.home.ensures.branch) c.take.ensures.one_less in
-    shelf-out k f (all_but c.args.copy f) c.args.copy _ old c.in-Shelf.field-0 c.take.new.self (goes f c.args.copy _ at) c.requires.copy less c.take.ensures.entries
+    let at : f c.args.copy ≡ Some (Shelf c.in-Shelf.field-0) =
+    read_at k c.args.states.now c.number.result c.args.copy _ _ c.requires.states c.requires.copy c.number.ensures.value c.in-Shelf.is
+    in
+    let less : HasOneMore c.self.inside.stock c.take.new.self (k.title_of c.args.copy) (k.home c.args.copy) =
+    rw (← c.title_of.ensures.title, ← c.home.ensures.branch) c.take.ensures.one_less in
+    shelf-out k f (all_but c.args.copy f) c.args.copy _ old c.in-Shelf.field-0 c.take.new.self (goes f c.args.copy _ at) c.requires.copy
+    less c.take.ensures.entries
 
 pub returns-in-OnLoan-clause-indexed : goal.returns-in-OnLoan-clause-indexed
 returns-in-OnLoan-clause-indexed g c =
     let k = facts_of c.args.catalogue.now in
     let f = slice_get c.args.states.now in
     let old : IsIndexed k f _ = rw (← c.self.view_is) at c.requires.indexed in
-    let at : f c.args.copy ≡ Some (OnLoan c.in-OnLoan.field-0) = read_at k c.args.states.now c.number.result c.args.copy _ _ c.requires.states c.requires.copy c.number.ensures.value c.in-OnLoan.is in
-    loan-out k f (all_but c.args.copy f) c.args.copy _ old c.in-OnLoan.field-0 c.end.new.self (goes f c.args.copy _ at) c.end.ensures.loans c.end.ensures.copies c.end.ensures.patrons
+    let at : f c.args.copy ≡ Some (OnLoan c.in-OnLoan.field-0) =
+    read_at k c.args.states.now c.number.result c.args.copy _ _ c.requires.states c.requires.copy c.number.ensures.value c.in-OnLoan.is
+    in
+    loan-out k f (all_but c.args.copy f) c.args.copy _ old c.in-OnLoan.field-0 c.end.new.self (goes f c.args.copy _ at) c.end.ensures.loans
+    c.end.ensures.copies c.end.ensures.patrons
 
 pub index_mut-requires : goal.index_mut-requires
 index_mut-requires g c =
     let k = facts_of c.args.catalogue.now in
     let f = slice_get c.args.states.now in
     let old : IsIndexed k f _ = rw (← c.self.view_is) at c.requires.indexed in
-    let at : f c.args.copy ≡ Some (OnHoldShelf c.in-OnHoldShelf.there) = read_at k c.args.states.now c.number.result c.args.copy _ _ c.requires.states c.requires.copy c.number.ensures.value c.in-OnHoldShelf.is in
-    let known : IsKnownState k (OnHoldShelf c.in-OnHoldShelf.there) = known_at k c.args.states.now c.args.copy _ c.requires.states c.requires.copy at in
+    let at : f c.args.copy ≡ Some (OnHoldShelf c.in-OnHoldShelf.there) =
+    read_at k c.args.states.now c.number.result c.args.copy _ _ c.requires.states c.requires.copy c.number.ensures.value
+    c.in-OnHoldShelf.is in
+    let known : IsKnownState k (OnHoldShelf c.in-OnHoldShelf.there) =
+    known_at k c.args.states.now c.args.copy _ c.requires.states c.requires.copy at in
     omega (arith, known.0, old.shelves.branches_in, c.self.inside.shelves.ok, c.number-in-OnHoldShelf.ensures.value)
 
 pub returns-in-OnHoldShelf-clause-indexed : goal.returns-in-OnHoldShelf-clause-indexed
@@ -60,10 +74,15 @@ returns-in-OnHoldShelf-clause-indexed g c =
     let w = c.in-OnHoldShelf.there in
     let shelves = c.self.inside.shelves.items in
     let old : IsIndexed k f _ = rw (← c.self.view_is) at c.requires.indexed in
-    let at : f c.args.copy ≡ Some (OnHoldShelf w) = read_at k c.args.states.now c.number.result c.args.copy _ _ c.requires.states c.requires.copy c.number.ensures.value c.in-OnHoldShelf.is in
+    let at : f c.args.copy ≡ Some (OnHoldShelf w) =
+    read_at k c.args.states.now c.number.result c.args.copy _ _ c.requires.states c.requires.copy c.number.ensures.value
+    c.in-OnHoldShelf.is in
     let known : IsKnownState k (OnHoldShelf w) = known_at k c.args.states.now c.args.copy _ c.requires.states c.requires.copy at in
-    let shelf : c.index_mut.result.now ≡ get_or shelves w.branch no_shelf = shelf_at shelves c.number-in-OnHoldShelf.result w.branch c.index_mut.result.now c.number-in-OnHoldShelf.ensures.value (omega (arith, known.0, old.shelves.branches_in)) c.index_mut.ensures.value in
-    rw c.number-in-OnHoldShelf.ensures.value (place-out k f (all_but c.args.copy f) c.args.copy _ old w c.take-in-OnHoldShelf.new.self (goes f c.args.copy _ at) known.0
+    let shelf : c.index_mut.result.now ≡ get_or shelves w.branch no_shelf =
+    shelf_at shelves c.number-in-OnHoldShelf.result w.branch c.index_mut.result.now c.number-in-OnHoldShelf.ensures.value
+    (omega (arith, known.0, old.shelves.branches_in)) c.index_mut.ensures.value in
+    rw c.number-in-OnHoldShelf.ensures.value (place-out k f (all_but c.args.copy f) c.args.copy _ old w c.take-in-OnHoldShelf.new.self
+    (goes f c.args.copy _ at) known.0
     (c.take-in-OnHoldShelf.ensures.copies ∙ ap (λ (s : PlacesValue). remove s.copies w.place) shelf))
 
 pub returns-in-OnHoldShelf-clause-rooms : goal.returns-in-OnHoldShelf-clause-rooms
@@ -73,15 +92,24 @@ returns-in-OnHoldShelf-clause-rooms g c =
     let w = c.in-OnHoldShelf.there in
     let shelves = c.self.inside.shelves.items in
     let old : IsIndexed k f _ = rw (← c.self.view_is) at c.requires.indexed in
-    let at : f c.args.copy ≡ Some (OnHoldShelf w) = read_at k c.args.states.now c.number.result c.args.copy _ _ c.requires.states c.requires.copy c.number.ensures.value c.in-OnHoldShelf.is in
+    let at : f c.args.copy ≡ Some (OnHoldShelf w) =
+    read_at k c.args.states.now c.number.result c.args.copy _ _ c.requires.states c.requires.copy c.number.ensures.value
+    c.in-OnHoldShelf.is in
     let known : IsKnownState k (OnHoldShelf w) = known_at k c.args.states.now c.args.copy _ c.requires.states c.requires.copy at in
-    let shelf : c.index_mut.result.now ≡ get_or shelves w.branch no_shelf = shelf_at shelves c.number-in-OnHoldShelf.result w.branch c.index_mut.result.now c.number-in-OnHoldShelf.ensures.value (omega (arith, known.0, old.shelves.branches_in)) c.index_mut.ensures.value in
-    rw (← c.self.view_is, c.number-in-OnHoldShelf.ensures.value) (rooms-same shelves w.branch c.take-in-OnHoldShelf.new.self (c.take-in-OnHoldShelf.ensures.room ∙ ap (λ (s : PlacesValue). s.room) shelf))
+    let shelf : c.index_mut.result.now ≡ get_or shelves w.branch no_shelf =
+    shelf_at shelves c.number-in-OnHoldShelf.result w.branch c.index_mut.result.now c.number-in-OnHoldShelf.ensures.value
+    (omega (arith, known.0, old.shelves.branches_in)) c.index_mut.ensures.value in
+    rw (← c.self.view_is, c.number-in-OnHoldShelf.ensures.value)
+    (rooms-same shelves w.branch c.take-in-OnHoldShelf.new.self (c.take-in-OnHoldShelf.ensures.room
+    ∙ ap (λ (s : PlacesValue). s.room) shelf))
 
 pub returns-in-InTransit-clause-indexed : goal.returns-in-InTransit-clause-indexed
 returns-in-InTransit-clause-indexed g c =
     let k = facts_of c.args.catalogue.now in
     let f = slice_get c.args.states.now in
     let old : IsIndexed k f _ = rw (← c.self.view_is) at c.requires.indexed in
-    let at : f c.args.copy ≡ Some (InTransit c.in-InTransit.field-0) = read_at k c.args.states.now c.number.result c.args.copy _ _ c.requires.states c.requires.copy c.number.ensures.value c.in-InTransit.is in
-    transit-out k f (all_but c.args.copy f) c.args.copy _ old c.in-InTransit.field-0 c.arrive.new.self (goes f c.args.copy _ at) c.arrive.ensures.transits c.arrive.ensures.copies
+    let at : f c.args.copy ≡ Some (InTransit c.in-InTransit.field-0) =
+    read_at k c.args.states.now c.number.result c.args.copy _ _ c.requires.states c.requires.copy c.number.ensures.value
+    c.in-InTransit.is in
+    transit-out k f (all_but c.args.copy f) c.args.copy _ old c.in-InTransit.field-0 c.arrive.new.self (goes f c.args.copy _ at)
+    c.arrive.ensures.transits c.arrive.ensures.copies

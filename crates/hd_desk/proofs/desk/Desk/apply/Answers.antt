@@ -1,55 +1,91 @@
-use Rattle.std.proofs.Common.{◌≡◌, sym, ◌∙◌, subst, List}
+use Rattle.std.proofs.Common.{◌≡◌, sym, ◌∙◌, subst, ◌+◌, List, arith}
 use Rattle.hd_rules.specs.declared.cells.Change.{Change}
 use Rattle.hd_desk.specs.Cells.{AreKnown}
-use Rattle.hd_desk.specs.Desks.{facts}
+use Rattle.hd_desk.specs.Desks.{desk_of, facts}
+use Rattle.hd_desk.proofs.Kept.{sound-later, sound-same}
 use Rattle.hd_desk.proofs.Planned.{followed, found-so, planned, may-make, left-sound, still-sound}
 use Rattle.hd_desk.proofs.desk.Desk.apply.Goals as goal
 
 pub returns-in-Err-clause-outcome : goal.returns-in-Err-clause-outcome
 returns-in-Err-clause-outcome g c =
-    sym (followed c.args.self.now c.args.number c.args.command.now c.new-inquiry.result c.follow.result c.follow.new.self.asked c.new-inquiry.ensures c.follow.ensures.ends).outcome ∙ c.in-Err.is
+    sym (followed c.args.self.now c.args.number c.args.command.now c.new-inquiry.result c.follow.result c.follow.new.self.asked
+    c.new-inquiry.ensures.start c.follow.ensures.ends).outcome ∙ c.in-Err.is
 
 pub returns-in-Err-clause-sound : goal.returns-in-Err-clause-sound
 returns-in-Err-clause-sound g c = still-sound _ _ _ c.requires.sound
 
+pub returns-in-Err-clause-later : goal.returns-in-Err-clause-later
+returns-in-Err-clause-later g c = λ n above.
+    sound-later (facts c.args.self.now) c.args.number n (desk_of c.args.self.now) (omega arith) c.requires.sound
+
 pub ready-requires : goal.ready-requires
 ready-requires g c =
     let p =
-    planned c.args.self.now c.args.number c.args.command.now c.new-inquiry.result c.follow.result c.follow.new.self.asked c.in-Ok.accepted (record { changes = c.accepted.inside.changes; reply = c.accepted.inside.reply })
-    c.new-inquiry.ensures c.follow.ensures.ends c.in-Ok.is c.accepted.view_is c.facts_are_in_range.ensures c.desk_is_fit.ensures.known c.requires.known c.requires.sound in
+    planned c.args.self.now c.args.number c.args.command.now c.new-inquiry.result c.follow.result c.follow.new.self.asked c.in-Ok.accepted
+    (record { changes = c.accepted.inside.changes; reply = c.accepted.inside.reply })
+    c.new-inquiry.ensures.start c.follow.ensures.ends c.in-Ok.is c.accepted.view_is c.new-inquiry.ensures.kept c.requires.known
+    c.requires.sound in
     record { known = subst (λ (xs : List Change). AreKnown (facts c.args.self.now) xs) (sym c.changes-2.ensures.changes) p.can.known }
 
 pub make-requires-clause-known : goal.make-requires-clause-known
 make-requires-clause-known g c =
     let p =
-    planned c.args.self.now c.args.number c.args.command.now c.new-inquiry.result c.follow.result c.follow.new.self.asked c.in-Ok.accepted (record { changes = c.accepted.inside.changes; reply = c.accepted.inside.reply })
-    c.new-inquiry.ensures c.follow.ensures.ends c.in-Ok.is c.accepted.view_is c.facts_are_in_range.ensures c.desk_is_fit.ensures.known c.requires.known c.requires.sound in
-    (may-make c.args.self.now c.ready.new.self c.args.number _ c.changes-3.result.now p.can c.ready.ensures.contents c.ready.ensures.desk c.changes-3.ensures.changes).known
+    planned c.args.self.now c.args.number c.args.command.now c.new-inquiry.result c.follow.result c.follow.new.self.asked c.in-Ok.accepted
+    (record { changes = c.accepted.inside.changes; reply = c.accepted.inside.reply })
+    c.new-inquiry.ensures.start c.follow.ensures.ends c.in-Ok.is c.accepted.view_is c.new-inquiry.ensures.kept c.requires.known
+    c.requires.sound in
+    (may-make c.args.self.now c.ready.new.self c.args.number _ c.changes-3.result.now p.can c.ready.ensures.contents c.ready.ensures.desk
+    c.changes-3.ensures.changes).known
 
 pub make-requires-clause-fit : goal.make-requires-clause-fit
 make-requires-clause-fit g c =
     let p =
-    planned c.args.self.now c.args.number c.args.command.now c.new-inquiry.result c.follow.result c.follow.new.self.asked c.in-Ok.accepted (record { changes = c.accepted.inside.changes; reply = c.accepted.inside.reply })
-    c.new-inquiry.ensures c.follow.ensures.ends c.in-Ok.is c.accepted.view_is c.facts_are_in_range.ensures c.desk_is_fit.ensures.known c.requires.known c.requires.sound in
-    (may-make c.args.self.now c.ready.new.self c.args.number _ c.changes-3.result.now p.can c.ready.ensures.contents c.ready.ensures.desk c.changes-3.ensures.changes).fit
+    planned c.args.self.now c.args.number c.args.command.now c.new-inquiry.result c.follow.result c.follow.new.self.asked c.in-Ok.accepted
+    (record { changes = c.accepted.inside.changes; reply = c.accepted.inside.reply })
+    c.new-inquiry.ensures.start c.follow.ensures.ends c.in-Ok.is c.accepted.view_is c.new-inquiry.ensures.kept c.requires.known
+    c.requires.sound in
+    (may-make c.args.self.now c.ready.new.self c.args.number _ c.changes-3.result.now p.can c.ready.ensures.contents c.ready.ensures.desk
+    c.changes-3.ensures.changes).fit
 
 pub returns-clause-outcome : goal.returns-clause-outcome
 returns-clause-outcome g c =
     let p =
-    planned c.args.self.now c.args.number c.args.command.now c.new-inquiry.result c.follow.result c.follow.new.self.asked c.in-Ok.accepted (record { changes = c.accepted.inside.changes; reply = c.accepted.inside.reply })
-    c.new-inquiry.ensures c.follow.ensures.ends c.in-Ok.is c.accepted.view_is c.facts_are_in_range.ensures c.desk_is_fit.ensures.known c.requires.known c.requires.sound in
+    planned c.args.self.now c.args.number c.args.command.now c.new-inquiry.result c.follow.result c.follow.new.self.asked c.in-Ok.accepted
+    (record { changes = c.accepted.inside.changes; reply = c.accepted.inside.reply })
+    c.new-inquiry.ensures.start c.follow.ensures.ends c.in-Ok.is c.accepted.view_is c.new-inquiry.ensures.kept c.requires.known
+    c.requires.sound in
     p.outcome
 
 pub returns-clause-findings : goal.returns-clause-findings
 returns-clause-findings g c =
     let p =
-    planned c.args.self.now c.args.number c.args.command.now c.new-inquiry.result c.follow.result c.follow.new.self.asked c.in-Ok.accepted (record { changes = c.accepted.inside.changes; reply = c.accepted.inside.reply })
-    c.new-inquiry.ensures c.follow.ensures.ends c.in-Ok.is c.accepted.view_is c.facts_are_in_range.ensures c.desk_is_fit.ensures.known c.requires.known c.requires.sound in
-    found-so c.args.self.now c.new-inquiry.result c.follow.new.self c.into_findings-findings.result _ c.new-inquiry.ensures c.follow.ensures.desk c.into_findings-findings.ensures.findings p.asks
+    planned c.args.self.now c.args.number c.args.command.now c.new-inquiry.result c.follow.result c.follow.new.self.asked c.in-Ok.accepted
+    (record { changes = c.accepted.inside.changes; reply = c.accepted.inside.reply })
+    c.new-inquiry.ensures.start c.follow.ensures.ends c.in-Ok.is c.accepted.view_is c.new-inquiry.ensures.kept c.requires.known
+    c.requires.sound in
+    found-so c.args.self.now c.new-inquiry.result c.follow.new.self c.into_findings-findings.result _ c.new-inquiry.ensures.start
+    c.follow.ensures.desk c.into_findings-findings.ensures.findings p.asks
 
 pub returns-clause-sound : goal.returns-clause-sound
 returns-clause-sound g c =
     let p =
-    planned c.args.self.now c.args.number c.args.command.now c.new-inquiry.result c.follow.result c.follow.new.self.asked c.in-Ok.accepted (record { changes = c.accepted.inside.changes; reply = c.accepted.inside.reply })
-    c.new-inquiry.ensures c.follow.ensures.ends c.in-Ok.is c.accepted.view_is c.facts_are_in_range.ensures c.desk_is_fit.ensures.known c.requires.known c.requires.sound in
-    left-sound c.args.self.now c.ready.new.self c.make.new.self c.args.number _ c.changes-3.result.now p.can c.ready.ensures.contents c.ready.ensures.desk c.changes-3.ensures.changes c.make.ensures.contents c.make.ensures.desk
+    planned c.args.self.now c.args.number c.args.command.now c.new-inquiry.result c.follow.result c.follow.new.self.asked c.in-Ok.accepted
+    (record { changes = c.accepted.inside.changes; reply = c.accepted.inside.reply })
+    c.new-inquiry.ensures.start c.follow.ensures.ends c.in-Ok.is c.accepted.view_is c.new-inquiry.ensures.kept c.requires.known
+    c.requires.sound in
+    left-sound c.args.self.now c.ready.new.self c.make.new.self c.args.number _ c.changes-3.result.now p.can c.ready.ensures.contents
+    c.ready.ensures.desk c.changes-3.ensures.changes c.make.ensures.contents c.make.ensures.desk
+
+pub returns-clause-later : goal.returns-clause-later
+returns-clause-later g c = λ n above.
+    sound-later (facts c.make.new.self) (c.args.number + 1) n (desk_of c.make.new.self) (omega arith) (returns-clause-sound g c)
+
+pub returns-then-is_err-clause-sound : goal.returns-then-is_err-clause-sound
+returns-then-is_err-clause-sound g c =
+    still-sound _ _ _ (sound-same c.args.self.now c.ready.new.self c.args.number c.ready.ensures.contents c.ready.ensures.desk
+    c.requires.sound)
+
+pub returns-then-is_err-clause-later : goal.returns-then-is_err-clause-later
+returns-then-is_err-clause-later g c = λ n above.
+    sound-later (facts c.ready.new.self) c.args.number n (desk_of c.ready.new.self) (omega arith)
+    (sound-same c.args.self.now c.ready.new.self c.args.number c.ready.ensures.contents c.ready.ensures.desk c.requires.sound)

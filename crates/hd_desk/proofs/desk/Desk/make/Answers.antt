@@ -22,7 +22,8 @@ put-requires-clause-fit g c = (making-next _ _ _ _ _ _ _ c.loop-change.invariant
 
 pub loop-change-preserved : goal.loop-change-preserved
 loop-change-preserved g c =
-    making-on _ _ _ _ _ _ _ _ _ c.loop-change.invariant c.loop-change-test.true c.change-item.is c.put.ensures.desk c.put.ensures.contents c.put.ensures.room c.add.ensures
+    making-on _ _ _ _ _ _ _ _ _ c.loop-change.invariant c.loop-change-test.true c.change-item.is c.put.ensures.desk c.put.ensures.contents
+    c.put.ensures.room c.add.ensures
 
 pub returns-clause-desk : goal.returns-clause-desk
 returns-clause-desk g c = (making-end _ _ _ _ _ _ c.loop-change.invariant (omega arith)).desk

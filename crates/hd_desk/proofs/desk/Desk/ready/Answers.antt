@@ -12,8 +12,10 @@ pub ready_cell-requires-clause-known : goal.ready_cell-requires-clause-known
 ready_cell-requires-clause-known g c = (readying-next _ _ _ _ _ c.loop-change.invariant c.loop-change-test.true c.change-item.is).known
 
 pub ready_cell-requires-clause-from_one : goal.ready_cell-requires-clause-from_one
-ready_cell-requires-clause-from_one g c = (readying-next _ _ _ _ _ c.loop-change.invariant c.loop-change-test.true c.change-item.is).from_one
+ready_cell-requires-clause-from_one g c =
+    (readying-next _ _ _ _ _ c.loop-change.invariant c.loop-change-test.true c.change-item.is).from_one
 
 pub loop-change-preserved : goal.loop-change-preserved
 loop-change-preserved g c =
-    readying-on _ _ _ _ _ _ c.loop-change.invariant c.loop-change-test.true c.change-item.is c.in_ok-ready_cell.ensures.desk c.in_ok-ready_cell.ensures.contents c.in_ok-ready_cell.ensures.room c.in_ok-ready_cell.ensures.ok
+    readying-on _ _ _ _ _ _ c.loop-change.invariant c.loop-change-test.true c.change-item.is c.in_ok-ready_cell.ensures.desk
+    c.in_ok-ready_cell.ensures.contents c.in_ok-ready_cell.ensures.room c.in_ok-ready_cell.ensures.ok

@@ -7,8 +7,10 @@ use Rattle.hd_holds.proofs.holds.Holds.count.Goals as goal
 
 pub overflow_cast-result : goal.overflow_cast-result
 overflow_cast-result g c =
-    let few : c.len.result ≤ (facts c.args.self.now).patrons = rw (c.len.ensures, c.queue.ensures.value) (few-holds c.args.self.now c.args.title c.queue.ensures.queue) in
-    let range : AreInRange (facts c.args.self.now) = rw (c.deref.ensures, ap (λ (v : HoldsValue). v.contents) c.self.view_is) at c.facts_are_in_range.ensures in
+    let few : c.len.result ≤ (facts c.args.self.now).patrons =
+    rw (c.len.ensures, c.queue.ensures.value) (few-holds c.args.self.now c.args.title c.queue.ensures.queue) in
+    let range : AreInRange (facts c.args.self.now) =
+    rw (c.deref.ensures, ap (λ (v : HoldsValue). v.contents) c.self.view_is) at c.facts_are_in_range.ensures in
     omega arith
 
 pub returns : goal.returns

@@ -9,11 +9,16 @@ pub loop-init : goal.loop-init
 loop-init g c = rw c.in_ok-queues.ensures.items (tt, refl)
 
 pub loop-preserved : goal.loop-preserved
-loop-preserved g c = rw c.in_ok-push.ensures.items (empty-more c.loop.queues.items c.new.result c.new.ensures c.loop.invariant.0, grind (arith, common_steps))
+loop-preserved g c =
+    rw c.in_ok-push.ensures.items (
+      empty-more c.loop.queues.items c.new.result c.new.ensures c.loop.invariant.0,
+      grind (arith, common_steps),
+    )
 
 pub invariant_of-result : goal.invariant_of-result
 invariant_of-result g c =
-    let titles : c.titles-titles.result ≡ (facts_of (arc_value c.args.catalogue)).titles = c.titles-titles.ensures ∙ ap (λ (k : Contents). (facts_of k).titles) c.deref.ensures in
+    let titles : c.titles-titles.result ≡ (facts_of (arc_value c.args.catalogue)).titles =
+    c.titles-titles.ensures.count ∙ ap (λ (k : Contents). (facts_of k).titles) c.deref.ensures in
     queues-empty (facts_of (arc_value c.args.catalogue)) c.loop.queues.items c.loop.invariant.0 (omega arith)
 
 pub returns-clause-none : goal.returns-clause-none

@@ -11,4 +11,6 @@ set-requires g c =
 pub invariant_of-self : goal.invariant_of-self
 invariant_of-self g c =
     let some : get c.self.inside.table.entries c.number-at.result ≡ Some c.in-Some.loan = sym (c.in-Some.ensures ∙ c.get.ensures)
-    in rw (c.set.ensures.entries, c.set.ensures.size) (AreCounts-replace c.self.inside.table.entries c.self.inside.table.size c.number-at.result c.self.inside.counts.items c.in-Some.loan _ c.self.invariant some refl)
+    in rw (c.set.ensures.entries, c.set.ensures.size)
+    (AreCounts-replace c.self.inside.table.entries c.self.inside.table.size c.number-at.result c.self.inside.counts.items c.in-Some.loan
+    _ c.self.invariant some refl)

@@ -11,7 +11,14 @@ invariant_of-self g c =
     in let same : c.args.self.now.holds ≡ holds = grind (arith, common_steps)
     in let there : hold_of holds hold.patron ≡ Some hold = rw (← same) c.requires
     in let below : count_before holds hold.stamp < length holds = count_before-below holds hold c.self.invariant.0 there
-    in let items : c.remove.new.self.items ≡ without holds hold.patron = grind (arith, common_steps, below, c.remove.ensures.succeeds hold, remove-count_before holds hold c.self.invariant.0 c.self.invariant.1 there)
+    in let items : c.remove.new.self.items ≡ without holds hold.patron =
+    grind (
+      arith,
+      common_steps,
+      below,
+      c.remove.ensures.succeeds hold,
+      remove-count_before holds hold c.self.invariant.0 c.self.invariant.1 there,
+    )
     in rw items (IsInOrder-filter _ _ c.self.invariant.0, HasPatronsOnce-filter _ _ c.self.invariant.1)
 
 pub returns-clause-holds : goal.returns-clause-holds
@@ -21,4 +28,10 @@ returns-clause-holds g c =
     in let same : c.args.self.now.holds ≡ holds = grind (arith, common_steps)
     in let there : hold_of holds hold.patron ≡ Some hold = rw (← same) c.requires
     in let below : count_before holds hold.stamp < length holds = count_before-below holds hold c.self.invariant.0 there
-    in grind (arith, common_steps, below, c.remove.ensures.succeeds hold, remove-count_before holds hold c.self.invariant.0 c.self.invariant.1 there)
+    in grind (
+      arith,
+      common_steps,
+      below,
+      c.remove.ensures.succeeds hold,
+      remove-count_before holds hold c.self.invariant.0 c.self.invariant.1 there,
+    )

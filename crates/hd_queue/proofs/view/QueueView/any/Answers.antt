@@ -2,5 +2,5 @@ use Rattle.std.proofs.Common.{◌∙◌}
 use Rattle.hd_queue.proofs.WaitingLemmas.{any-wanted}
 use Rattle.hd_queue.proofs.view.QueueView.any.Goals as goal
 
-pub returns : goal.returns
-returns c = rw (← c.self.view_is) (c.new.ensures ∙ rw c.self.invariant.2.for_any (any-wanted c.self.inside.holds))
+pub returns-clause-waiting : goal.returns-clause-waiting
+returns-clause-waiting c = rw (← c.self.view_is) (c.new.ensures ∙ rw c.self.invariant.2.for_any (any-wanted c.self.inside.holds))

@@ -1,9 +1,8 @@
 use Rattle.std.proofs.Common.{◌∙◌, sym}
-use Rattle.hd_catalogue.specs.Contents.{facts_of}
 use Rattle.hd_rows.proofs.terminals.Terminals.open.Goals as goal
 
 pub invariant_of-result : goal.invariant_of-result
 invariant_of-result c = record {
   as_many = c.in_ok-empty_outs.ensures ∙ sym c.in_ok-new_sessions.ensures.size;
-  known = c.in_ok-new_sessions.ensures.known (facts_of c.new-journal.result.contents);
+  known = c.in_ok-new_sessions.ensures.known c.new-journal.result.contents;
 }

@@ -1,49 +1,64 @@
-use Rattle.std.proofs.Common.{◌++◌, flat_map, refl}
-use Rattle.hd_server.specs.Printing.{end_text, printed}
-use Rattle.hd_server.proofs.Replayed.{line_replayed, part_for_memory, part_of_line}
-use Rattle.hd_server.proofs.Printed.{begins_more, end_begun, end_printed, open_printed}
+use Rattle.std.proofs.Common.{◌≡◌, ◌∙◌, ◌-◌, ◌+◌, ◌∷◌, [], List, ℕ, arith, ap, length, map, refl, subst, sym}
+use Rattle.std.proofs.lemmas.List.{length-map, map-set}
+use Rattle.hd_session.specs.Scripts.{session_at}
+use Rattle.hd_session.specs.Sessions.{Hearing}
+use Rattle.hd_server.specs.Inputs.{AreLines, line_of}
+use Rattle.hd_server.specs.Replays.{IsLegal, Progress, ReplayedOnto}
+use Rattle.hd_server.proofs.Playing.{at_place, emptied, line_put, said_at}
 use Rattle.hd_server.proofs.sessions.Sessions.feed.Goals as goal
 
-pub returns-in-Ok-clause-replayed : goal.returns-in-Ok-clause-replayed
-returns-in-Ok-clause-replayed g c line earlier is =
-    let prints = c.in_ok-print_replies.ensures in
+pub invariant_of-self : goal.invariant_of-self
+invariant_of-self g c =
+    let sessions : length c.self.inside.sessions.items ≡ 64 = sym c.self.inside.sessions.ok.0 ∙ c.self.invariant.0 in
+    let outs : length (map (λ out. out.items) c.play.new.outs.items) ≡ 64 =
+    length-map c.play.new.outs.items (λ out. out.items) ∙ (sym c.play.new.outs.ok.0 ∙ c.play.ensures.sizes.1) in (
+      c.play.ensures.sizes.0,
+      c.play.ensures.sizes.1,
+      rw (map-set, c.clear.ensures.items) (emptied (c.args.number - 1) _ _ _ _ _ _ _ _ c.self.invariant.2 refl sessions outs
+          c.play.ensures.plays),
+      c.play.ensures.known,
+      c.play.ensures.office,
+    )
+
+pub returns-clause-replayed : goal.returns-clause-replayed
+returns-clause-replayed g c text is =
+    let prints = c.print_answer-printed.ensures.printed in
+    let one = c.requires.from_one in
+    let few = c.requires.number in
+    let sessions : length c.self.inside.sessions.items ≡ 64 = sym c.self.inside.sessions.ok.0 ∙ c.self.invariant.0 in
+    let sessions_then : length c.play.new.sessions.items ≡ 64 = sym c.play.new.sessions.ok.0 ∙ c.play.ensures.sizes.0 in
+    let outs : length c.play.new.outs.items ≡ 64 = sym c.play.new.outs.ok.0 ∙ c.play.ensures.sizes.1 in
+    let before : Progress =
     record {
-      text = flat_map (printed c.args.number) prints.0 ++ end_text c.args.number _;
-      replays = line_replayed _ _ c.args.number c.args.message.now line _ _ _ _ _ _ prints.1 prints.0 is c.clear.ensures.items c.feed-fed.ensures.fed c.feed-fed.ensures.others (rw c.as_slice.ensures.value at prints.2);
-      put = open_printed c.args.number _ _ _ _ c.in-Ok.ensures.open prints.3;
-    }
-
-pub returns-in_ok-print_line-in-Err-clause-replayed : goal.returns-in_ok-print_line-in-Err-clause-replayed
-returns-in_ok-print_line-in-Err-clause-replayed g c line earlier is =
-    let prints = c.in_ok-print_replies.ensures in
+      contents = c.self.inside.journal.contents;
+      now = c.self.inside.now;
+      sessions = c.self.inside.sessions.items;
+      turns = c.self.inside.journal.turns;
+      lines = c.self.inside.lines;
+    } in
+    let after : Progress =
     record {
-      text = flat_map (printed c.args.number) prints.0 ++ end_text c.args.number _;
-      replays = line_replayed _ _ c.args.number c.args.message.now line _ _ _ _ _ _ prints.1 prints.0 is c.clear.ensures.items c.feed-fed.ensures.fed c.feed-fed.ensures.others (rw c.as_slice.ensures.value at prints.2);
-      put = end_printed c.args.number _ _ _ _ _ c.in-Err.why c.in-Err.ensures.ended prints.3 c.in_ok-print_line-in-Err.ensures;
-    }
+      contents = c.play.new.journal.contents;
+      now = c.self.inside.now;
+      sessions = c.play.new.sessions.items;
+      turns = c.play.new.journal.turns;
+      lines = c.self.inside.lines + 1;
+    } in
+    let end : c.ended-end.result ≡ (session_at c.play.new.sessions.items (c.args.number - 1)).ended =
+    c.ended-end.ensures ∙ ap (λ (h : Hearing). h.ended)
+    (c.index.ensures ∙ at_place c.play.new.sessions.items (c.args.number - 1) _ (omega (arith, one, few, sessions_then))) in
+    let said =
+    c.as_slice.ensures.value ∙ (ap (λ out. out.items) c.index-2.ensures
+    ∙ sym (said_at (λ out. out.items) c.play.new.outs.items (c.args.number - 1) _ (omega (arith, one, few, outs)))) in
+    subst (λ (p : Progress). ReplayedOnto {X = Unit {0}} p after (line_of (record { session = c.args.number; text = text }) ∷ [])
+    c.print_answer-printed.result c.args.out.now.items
+    c.print_answer-printed.new.out.items) c.self.view_is
+    (line_put c.args.number text c.args.piece.now prints.1 prints.0 before after (map (λ out. out.items) c.self.inside.outs.items)
+    (map (λ out. out.items) c.play.new.outs.items) one few is c.self.invariant.2 sessions c.play.ensures.plays
+    (subst (λ (t : List ℕ). AreLines 13 t prints.0 prints.1) said prints.2) c.print_answer-printed.result c.args.out.now.items
+    c.print_answer-printed.new.out.items (c.play.ensures.contents, refl) refl
+    (c.play.ensures.office (c.args.number - 1)) c.print_answer-printed.ensures.memory (rw end at c.print_answer-printed.ensures.well)
+    (rw end at prints.3))
 
-pub returns-then-eq-clause-replayed : goal.returns-then-eq-clause-replayed
-returns-then-eq-clause-replayed g c line earlier is =
-    let prints = c.in_ok-print_replies.ensures in
-    part_of_line _ _ line _ _ _ _ _ (flat_map (printed c.args.number) prints.0) _
-    (line_replayed _ _ c.args.number c.args.message.now line _ _ _ _ _ _ prints.1 prints.0 is c.clear.ensures.items c.feed-fed.ensures.fed c.feed-fed.ensures.others (rw c.as_slice.ensures.value at prints.2))
-    (_, refl) prints.3
-
-pub returns-in_err-print_replies-clause-replayed : goal.returns-in_err-print_replies-clause-replayed
-returns-in_err-print_replies-clause-replayed g c line earlier is =
-    let prints = c.in_err-print_replies.ensures in
-    let some = prints.3 in
-    part_for_memory _ _ _ _ _ _ _ _ _ _ c.from_residual.ensures.0 c.from_residual.ensures.1
-    (part_of_line _ _ line _ _ _ _ _ some.0 _
-    (line_replayed _ _ c.args.number c.args.message.now line _ _ _ _ _ _ prints.1 prints.0 is c.clear.ensures.items c.feed-fed.ensures.fed c.feed-fed.ensures.others (rw c.as_slice.ensures.value at prints.2))
-    (begins_more _ _ some.0 some.1) some.2)
-
-pub returns-in_err-print_line-in-Err-clause-replayed : goal.returns-in_err-print_line-in-Err-clause-replayed
-returns-in_err-print_line-in-Err-clause-replayed g c line earlier is =
-    let prints = c.in_ok-print_replies.ensures in
-    let some = c.in_err-print_line-in-Err.ensures in
-    let ended = end_begun c.args.number _ _ _ _ some.0 _ c.in-Err.why c.in-Err.ensures.ended prints.3 some.1 some.2 in
-    part_for_memory _ _ _ _ _ _ _ _ _ _ c.from_residual-in_err-print_line-in-Err.ensures.0 c.from_residual-in_err-print_line-in-Err.ensures.1
-    (part_of_line _ _ line _ _ _ _ _ (flat_map (printed c.args.number) prints.0 ++ some.0) _
-    (line_replayed _ _ c.args.number c.args.message.now line _ _ _ _ _ _ prints.1 prints.0 is c.clear.ensures.items c.feed-fed.ensures.fed c.feed-fed.ensures.others (rw c.as_slice.ensures.value at prints.2))
-    ended.0 ended.1)
+pub returns-clause-legal : goal.returns-clause-legal
+returns-clause-legal g c legal = c.play.ensures.legal (subst IsLegal (sym c.self.view_is) legal)

@@ -1,22 +1,23 @@
-use Rattle.std.proofs.Common.{◌≡◌, ◌≤◌, List, ℕ, ◌++◌, length, vec_capacity}
-use Rattle.std.specs.Option.{ForSome}
-use Rattle.hd_catalogue.specs.Contents.{facts_of}
-use Rattle.hd_office.specs.Answers.{IsKnownPlace}
-use Rattle.hd_stream.specs.Streams.{after, lines_in}
+use Rattle.std.proofs.Common.{◌≡◌, ◌≤◌, ◌+◌, ◌*◌, List, ℕ, ◌++◌, length, vec_capacity, vec_len}
+use Rattle.hd_field.specs.Streams.{after, lines_in}
 use Rattle.hd_session.specs.Sessions.{Answers}
+use Rattle.hd_session.specs.Standing.{IsKnownTo}
 use Rattle.hd_session.proofs.session.Session.hear.Given as goal
 
 -- the lines that are answered, and those that are left
 abbrev pub invariant-loop-used : goal.invariant-loop-used
 invariant-loop-used g l = record {
-  heard : (lines : List (List ℕ)) × (lines_in l.fn.self.begun l.piece ≡ lines ++ lines_in l.self-inside.stream l.rest) × Answers (g.O.Office.contents l.fn.office) (g.O.Office.seat l.fn.office) l.now lines l.fn.self.standing l.self-inside.standing (g.O.Office.turns l.fn.office) (g.O.Office.turns l.office) l.fn.out.items l.out.items;
+  heard : (lines : List (List ℕ)) × (lines_in l.fn.self.begun l.piece ≡ lines ++ lines_in l.self-inside.stream l.rest)
+      × Answers (g.O.Office.keeps l.fn.office).contents
+      (g.O.Office.keeps l.fn.office).seat l.now lines l.fn.self.standing l.self-inside.standing
+      (g.O.Office.turns l.fn.office) (g.O.Office.turns l.office) l.fn.out.items l.out.items
+      × (vec_len l.out ≤ vec_len l.fn.out + 2048 * length lines);
   begun : after l.fn.self.begun l.piece ≡ after l.self-inside.stream l.rest;
-  place : ForSome l.self-inside.standing.place (IsKnownPlace (facts_of (g.O.Office.contents l.fn.office)));
-  contents : g.O.Office.contents l.office ≡ g.O.Office.contents l.fn.office;
-  seat : g.O.Office.seat l.office ≡ g.O.Office.seat l.fn.office;
-  borrows : g.O.Office.borrows l.office ≡ g.O.Office.borrows l.fn.office;
+  capacity : vec_capacity l.fn.out ≤ vec_capacity l.out;
+  place : IsKnownTo (g.O.Office.keeps l.fn.office).contents l.self-inside.standing;
+  keeps : g.O.Office.keeps l.office ≡ g.O.Office.keeps l.fn.office;
+  holds : g.O.Office.holds l.fn.office → g.O.Office.holds l.office;
   ended : l.self-inside.ended ≡ l.fn.self.ended;
-  room : 2048 ≤ vec_capacity l.self-inside.reply;
 }
 
 abbrev pub decreases-loop-used : goal.decreases-loop-used

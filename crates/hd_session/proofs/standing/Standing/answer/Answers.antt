@@ -19,10 +19,12 @@ returns-clause-answered g c =
       record {
         says = c.in_ok-said.said;
         reply = said.1;
-        answer = answer_of _ _ _ _ _ _ _ _ _ _ _ _ _ (ap (λ (x : Stands). x.place) view) c.line_with-kept.ensures (sym (c.finish.ensures.rest.0 ∙ c.count.ensures.place)) said.4;
+        answer = answer_of _ _ _ _ _ _ _ _ _ _ _ _ _ (ap (λ (x : Stands). x.place) view) c.line_with-kept.ensures
+            (sym (c.finish.ensures.rest.0 ∙ c.count.ensures.place)) said.4;
         spelled = refl;
         last = c.finish.ensures.last ∙ kept_so _ said.1 _ s.last _ _ _ _ _ said.3 from last;
         digit_is = c.finish.ensures.rest.1 ∙ (c.count.ensures.digit ∙ ap (λ (x : Stands). digit_after x.digit c.args.whole.now.digit) view);
-        gaps_are = c.finish.ensures.rest.2 ∙ (c.count.ensures.gaps ∙ ap (λ (x : Stands). gaps_after x.digit x.gaps c.args.whole.now.digit) view);
+        gaps_are = c.finish.ensures.rest.2 ∙ (c.count.ensures.gaps
+            ∙ ap (λ (x : Stands). gaps_after x.digit x.gaps c.args.whole.now.digit) view);
       },
     )

@@ -1,4 +1,0 @@
-pub mod Dates
-pub mod Asks
-pub mod Messages
-pub mod Known

@@ -1,0 +1,8 @@
+use Rattle.std.proofs.Common.{◌≡◌, Some, rules}
+use Rattle.hd_catalogue.specs.Names.{name_at}
+use Rattle.hd_catalogue.proofs.catalogue.Catalogue.title_name.Goals as goal
+
+pub returns-clause-short : goal.returns-clause-short
+returns-clause-short g c =
+    let named : name_at c.self.inside.titles c.number-number.result ≡ Some c.unwrap.result.now = search rules in
+    c.self.invariant.1.titles c.number-number.result c.unwrap.result.now named

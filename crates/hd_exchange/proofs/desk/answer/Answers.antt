@@ -1,0 +1,27 @@
+use Rattle.std.proofs.Common.{◌∙◌, ap, sym, [], append-nil}
+use Rattle.hd_exchange.specs.Offices.{Keeps}
+use Rattle.hd_exchange.proofs.Answering.{answered, refused}
+use Rattle.hd_exchange.proofs.desk.answer.Goals as goal
+
+pub returns-in_ok-turn-in-Ok-clause-answer : goal.returns-in_ok-turn-in-Ok-clause-answer
+returns-in_ok-turn-in-Ok-clause-answer g c =
+    let turn = c.in_ok-turn-in-Ok in
+    let here = c.catalogue.ensures ∙ ap (λ (keeps : Keeps). keeps.contents) turn.ensures.same in
+    let ask = rw c.in-Ok.is at c.requires.message.ask in (
+      _,
+      _,
+      turn.ensures.turn,
+      c.write_reply.ensures.text,
+      answered _ _ c.args.message.now c.reply_to-reply.result here c.in-Ok.ask c.asked.result.now turn.turn.reply
+          c.asked.ensures c.in-Ok.is ask.of_kind c.reply_to-reply.ensures.reply,
+    )
+
+pub returns-in-Err-clause-answer : goal.returns-in-Err-clause-answer
+returns-in-Err-clause-answer g c = (
+  [],
+  _,
+  sym (append-nil _),
+  c.write_reply-in-Err.ensures.text,
+  refused _ _ c.args.message.now c.refusal_reply-reply.result c.catalogue-in-Err.ensures c.in-Err.refusal
+      c.in-Err.is c.refusal_reply-reply.ensures.reply,
+)

@@ -1,0 +1,93 @@
+-- What a message is answered, the turns that it makes, and as whom its session is then logged in.
+use Rattle.std.specs.Prelude.{◌≡◌, ℕ, List, [], ◌∷◌, Option, Some, None, Result, Ok, Err, is_some, IsOk}
+use Rattle.hd_date.specs.Stamps.{Prints, Stamp}
+use Rattle.hd_message.specs.Replies.{reply_text}
+use Rattle.hd_message.specs.declared.reply.Reply.{Reply}
+use Rattle.hd_message.specs.declared.reply.Reply.TheVariants as reply
+use Rattle.hd_message.specs.declared.reply.StatusReply.{StatusReply}
+use Rattle.hd_rules.specs.Journal.{Turn}
+use Rattle.hd_rules.specs.declared.replies.Refusal.{Refusal}
+use Rattle.hd_rules.specs.declared.replies.TurnReply.{TurnReply}
+use Rattle.hd_rules.specs.declared.replies.TurnReply.TheVariants.{Refused}
+use Rattle.hd_rules.specs.declared.turns.Asked.{Asked}
+use Rattle.hd_catalogue.specs.Contents.{Contents}
+use Rattle.hd_journal.specs.Asks.{replied, sent}
+use Rattle.hd_journal.specs.declared.ask.Ask.{Ask}
+use Rattle.hd_exchange.specs.Arrivals.{Arrival}
+use Rattle.hd_exchange.specs.Messages.{IsBodyOf}
+use Rattle.hd_exchange.specs.Replies.{IsReply}
+use Rattle.hd_exchange.specs.declared.login.Login.{Login as LoggedIn}
+use Rattle.hd_exchange.specs.declared.message.DeskMessage.{DeskMessage}
+use Rattle.hd_exchange.specs.declared.message.Message.{Message}
+use Rattle.hd_exchange.specs.declared.message.Message.TheVariants.{Login, Status, Resend, Unsupported, Desk}
+use Rattle.hd_exchange.specs.declared.said.Said.{Said}
+use Rattle.hd_exchange.specs.declared.said.Said.TheVariants as said
+
+-- what a message is told, and the turns that this makes: what is refused beforehand makes none, and all else
+-- one
+abbrev pub IsTold : Result Ask Refusal → TurnReply → List Turn → Type 0
+IsTold (Err refusal) told made = (told ≡ Refused refusal) × (made ≡ [])
+IsTold (Ok ask) told made = made ≡ replied (sent ask) told ∷ []
+
+-- what it asks, without the seat, the terminal and the line
+abbrev pub asked_in : Result Ask Refusal → Result Asked Refusal
+asked_in (Ok ask) = Ok ask.asked
+asked_in (Err refusal) = Err refusal
+
+-- A message that asks something of the desk is told something, and the text is that of the reply that says
+-- so.
+pub record IsDeskAnswer (k : Contents) (message : DeskMessage) (text : List ℕ) (made : List Turn)
+    : Type 0 where
+  pub told : TurnReply
+  pub turn : IsTold message.asks told made
+  pub reply : Reply
+  pub says : IsReply k message.kind message.repeated (asked_in message.asks) told reply
+  pub spelled : text ≡ reply_text reply
+
+-- the text of the reply to a login: whether it is taken
+abbrev pub login_text : Option LoggedIn → List ℕ
+login_text made = reply_text (reply.Login (record { taken = is_some made }))
+
+-- as whom the session is then logged in: as before where the login isn't taken
+abbrev pub login_after : Option LoggedIn → Option LoggedIn → Option LoggedIn
+login_after login None = login
+login_after login (Some made) = Some made
+
+-- The text is that of the reply to a status message.
+pub record SaysStatus (k : Contents) (now : Stamp) (text : List ℕ) : Type 0 where
+  pub status : StatusReply
+  pub date : Prints now status.date.now
+  pub institution : status.institution.now ≡ k.institution
+  pub spelled : text ≡ reply_text (reply.Status status)
+
+module _ (k : Contents) (now : Stamp) (login : Option LoggedIn) where
+  -- what is said to a message, by this text where it is a reply; the turns that this makes; and as whom the
+  -- session is then logged in: a login, a status message, and a request of the last reply make no turn, nor
+  -- does a message that isn't supported, which is to be sent again
+  abbrev pub IsAnswerTo : Message → Said → List ℕ → List Turn → Option LoggedIn → Type 0
+  IsAnswerTo (Login taken) says text made next =
+      (says ≡ said.Reply) × (text ≡ login_text taken) × (made ≡ []) × (next ≡ login_after login taken)
+  IsAnswerTo Status says text made next =
+      (says ≡ said.Reply) × SaysStatus k now text × (made ≡ []) × (next ≡ login)
+  IsAnswerTo Resend says text made next =
+      (says ≡ said.LastReply) × (text ≡ []) × (made ≡ []) × (next ≡ login)
+  IsAnswerTo Unsupported says text made next =
+      (says ≡ said.SendAgain) × (text ≡ []) × (made ≡ []) × (next ≡ login)
+  IsAnswerTo (Desk message) says text made next =
+      (says ≡ said.Reply) × IsDeskAnswer k message text made × (next ≡ login)
+
+-- The same of the body of a message that comes so, with its line where that carried a sequence digit.
+pub record IsAnswer (k : Contents) (seat : ℕ) (now : Stamp) (login : Option LoggedIn) (line : Option (List ℕ))
+    (body : List ℕ) (says : Said) (text : List ℕ) (made : List Turn) (next : Option LoggedIn) : Type 0 where
+  pub message : Message
+  pub reads : IsBodyOf k (record { seat = seat; present = now; login = login; line = line }) body message
+  pub answers : IsAnswerTo k now login message says text made next
+
+-- The message of the body asks something of the office, of a session that is logged in so, whenever it comes.
+-- A login, a status message, a resend, and what is refused beforehand ask nothing.
+pub record AsksTheOffice (k : Contents) (login : Option LoggedIn) (body : List ℕ) : Type 0 where
+  pub arrival : Arrival
+  pub from : arrival.login ≡ login
+  pub message : DeskMessage
+  pub reads : IsBodyOf k arrival body (Desk message)
+  pub asks : IsOk message.asks

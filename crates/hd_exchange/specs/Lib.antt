@@ -1,0 +1,17 @@
+-- In the order of a message's way. Its dates and its names, and what it asks by them:
+pub mod Dates
+pub mod Names
+pub mod Asks
+pub mod HoldAsks
+-- the office that is asked; what a message comes with; and the message that a body is:
+pub mod Offices
+pub mod Arrivals
+pub mod Messages
+-- the replies:
+pub mod LoanReplies
+pub mod CheckinReplies
+pub mod HoldReplies
+pub mod ItemReplies
+pub mod Replies
+-- and all together, what a body is answered: `IsAnswer`, which may be read first.
+pub mod Answers

@@ -1,0 +1,66 @@
+//! Answering a message that asks something of the desk.
+ghost use Rattle.std.specs.Prelude.{◌≡◌, ◌+◌, ◌≤◌, ◌++◌, ℕ, List, IfErr, IsOk, OnOk, OnErr};
+ghost use Rattle.std.specs.Prelude.{vec_len, vec_capacity};
+ghost use Rattle.hd_rules.specs.Journal.{Turn};
+ghost use Rattle.hd_catalogue.specs.Contents.{facts_of};
+ghost use Rattle.hd_exchange.specs.Answers.{IsDeskAnswer};
+ghost use Rattle.hd_exchange.specs.Messages.{IsAskable};
+ghost use Rattle.hd_exchange.specs.Offices.{MakesAtMostOne};
+
+use crate::fault::OfficeFault;
+use crate::message::DeskMessage;
+use crate::office::Office;
+use crate::refusals::refusal_reply;
+use crate::replies::reply_to;
+use crate::writing::write_reply;
+use std::alloc::Allocator;
+
+/// Makes the turn of a message that asks something, and appends its reply; or appends its refusal.
+///
+/// At a fault there is no turn, and nothing is appended: there is room for the reply.
+pub(crate) fn answer<A: Allocator + Copy, O: Office<A>>(
+    office: &mut O,
+    message: &DeskMessage<'_>,
+    out: &mut Vec<u8, A>,
+) -> Result<(), OfficeFault>
+    requires message { IsAskable (facts_of (O.keeps office.old).contents)
+        (O.keeps office.old).seat message.now }
+    requires room { vec_len out.old + 2038 ≤ vec_capacity out.old }
+    ensures answer { OnOk result (
+        (made : List Turn)
+        × (text : List ℕ)
+        × (O.turns office.new ≡ O.turns office.old ++ made)
+        × (out.new.items ≡ out.old.items ++ text)
+        × IsDeskAnswer (O.keeps office.old).contents message.now text made) }
+    ensures why { IfErr result O.faults }
+    ensures asks { OnErr result (IsOk message.now.asks) }
+    ensures err { OnErr result ((out.new.items ≡ out.old.items) × (O.turns office.new ≡ O.turns office.old)) }
+    ensures one { MakesAtMostOne (O.turns office.old) (O.turns office.new) }
+    ensures short { vec_len out.new ≤ vec_len out.old + 2038 }
+    ensures capacity { vec_capacity out.old ≤ vec_capacity out.new }
+    ensures same { O.keeps office.new ≡ O.keeps office.old }
+    ensures holds { O.holds office.old → O.holds office.new }
+{
+    match &message.asks {
+        Ok(ask) => {
+            let turn = office.turn(ask)?;
+            let reply = reply_to(
+                office.catalogue(),
+                &message.repeated,
+                ask.asked(),
+                &turn.reply,
+            );
+            write_reply(&reply, out);
+        }
+        Err(refusal) => {
+            let reply = refusal_reply(
+                office.catalogue(),
+                message.kind,
+                &message.repeated,
+                *refusal,
+            );
+            write_reply(&reply, out);
+        }
+    }
+    Ok(())
+}

@@ -1,0 +1,277 @@
+//! Hold messages (15).
+ghost use Rattle.std.specs.Prelude.{◌≡◌, ◌<◌, ◌+◌, IfOk, IfSome, length};
+ghost use Rattle.std.specs.Option.{ForSome, option_copied};
+ghost use Rattle.hd_message.specs.Lengths.{bytes_of};
+ghost use Rattle.hd_message.specs.declared.kind.DeskKind.TheVariants as kind;
+ghost use Rattle.hd_rules.specs.Facts.{Facts};
+ghost use Rattle.hd_rules.specs.Known.{IsKnown, IsKnownAction, IsKnownCancel, IsKnownKind};
+ghost use Rattle.hd_catalogue.specs.Contents.{facts_of};
+ghost use Rattle.hd_exchange.specs.Arrivals.{IsKnownLogin};
+ghost use Rattle.hd_exchange.specs.Asks.{kind_of, kind_of_action, kind_of_cancel};
+ghost use Rattle.hd_exchange.specs.HoldAsks.{added_kind, changed_kind, expiry_text, hold_action};
+ghost use Rattle.hd_exchange.specs.HoldAsks.{hold_addition};
+ghost use Rattle.hd_exchange.specs.HoldAsks.{hold_asks, hold_cancel, hold_change, hold_named, pickup_name};
+ghost use Rattle.hd_exchange.specs.HoldAsks.{wanted_copies};
+ghost use Rattle.hd_exchange.specs.Messages.{IsAskAt, IsAskedAs, IsMessageOf, asked_by, bytes_repeated};
+ghost use Rattle.hd_exchange.specs.Messages.{hold_states};
+ghost use Rattle.hd_exchange.specs.Names.{IsKnownNamed};
+
+use crate::dates::{Dates, dates_of};
+use crate::incoming::Incoming;
+use crate::message::DeskMessage;
+use crate::names::{branch_if_given, copy_if_given, title_of};
+use crate::repeated::Repeated;
+use hd_catalogue::Catalogue;
+use hd_journal::Ask;
+use hd_message::{DeskKind, HoldRequest, Mode, Wanted, Wishes};
+use hd_rules::{
+    Action, Asked, BranchNo, Cancel, Command, CopyNo, Day, HoldKind, PatronNo, Refusal, TitleNo,
+};
+use std::alloc::Allocator;
+
+/// What a hold message names, looked up.
+#[derive(Clone, Copy)]
+pub(crate) struct Named {
+    patron: PatronNo,
+    title: TitleNo,
+    copy: Option<CopyNo>,
+}
+
+/// What a hold message wishes, with its branch looked up and its date read.
+#[derive(Clone, Copy)]
+pub(crate) struct Wish {
+    wanted: Option<Wanted>,
+    pickup: Option<BranchNo>,
+    expiry: Option<Day>,
+}
+
+/// The message that a hold message is.
+pub(crate) fn hold<'a, A: Allocator + Copy>(
+    catalogue: &Catalogue<A>,
+    incoming: &Incoming<'a>,
+    request: &HoldRequest<'a>,
+) -> DeskMessage<'a>
+    requires login { ForSome incoming.now.login (IsKnownLogin (facts_of catalogue.now)) }
+    ensures message { IsMessageOf catalogue.now incoming.now (hold_states catalogue.now request.now) result }
+    ensures ask { IfOk result.asks (IsAskAt (facts_of catalogue.now) incoming.now.seat kind.Hold) }
+    ensures repeated { bytes_repeated result.repeated
+        ≡ length request.now.patron.now
+        + bytes_of (option_copied request.now.copy)
+        + bytes_of (option_copied request.now.title) }
+{
+    let dates = dates_of(
+        incoming.present(),
+        Some(request.date),
+        expiry_text(&request.wishes),
+        catalogue.offset(),
+    );
+    let date = dates.printed;
+    DeskMessage {
+        kind: DeskKind::Hold,
+        repeated: Repeated {
+            date,
+            patron: Some(request.patron),
+            copy: request.copy,
+            title: request.title,
+        },
+        asks: hold_ask(catalogue, incoming, request, &dates),
+    }
+}
+
+/// What a session asks by a hold message, or the first refusal.
+fn hold_ask<'a, A: Allocator + Copy>(
+    catalogue: &Catalogue<A>,
+    incoming: &Incoming<'a>,
+    request: &HoldRequest<'_>,
+    dates: &Dates,
+) -> Result<Ask<'a>, Refusal>
+    requires login { ForSome incoming.now.login (IsKnownLogin (facts_of catalogue.now)) }
+    ensures asked { IsAskedAs incoming.now
+        (asked_by incoming.now.login (hold_states catalogue.now request.now) dates.now) result }
+    ensures ask { IfOk result (IsAskAt (facts_of catalogue.now) incoming.now.seat kind.Hold) }
+{
+    let login = incoming.login().ok_or(Refusal::NotLoggedIn)?;
+    let asked = hold_asks(catalogue, login.branch, request, dates)?;
+    Ok(incoming.ask(&login, asked))
+}
+
+/// What a hold message asks, or the first refusal by its dates and its names; `own` is the branch of its
+/// terminal.
+fn hold_asks<A: Allocator + Copy>(
+    catalogue: &Catalogue<A>,
+    own: BranchNo,
+    request: &HoldRequest<'_>,
+    dates: &Dates,
+) -> Result<Asked, Refusal>
+    requires { own < (facts_of catalogue.now).branches }
+    ensures asked { result ≡ hold_asks catalogue.now own request.now dates.now }
+    ensures kind { IfOk result (λ asked. kind_of asked ≡ kind.Hold) }
+    ensures known { IfOk result (IsKnown (facts_of catalogue.now)) }
+{
+    let stamp = dates.transaction.ok_or(Refusal::BadDate)?;
+    let expiry = dates.other.ok_or(Refusal::BadDate)?;
+    let patron = catalogue
+        .patron(request.patron)
+        .ok_or(Refusal::UnknownPatron)?;
+    let copy = copy_if_given(catalogue, request.copy).ok_or(Refusal::UnknownItem)?;
+    let title = title_of(catalogue, request.title, &copy).ok_or(Refusal::UnknownTitle)?;
+    let named = Named {
+        patron,
+        title,
+        copy,
+    };
+    hold_named(catalogue, own, request, stamp.day(), expiry, &named)
+}
+
+/// What a hold message asks whose dates are read and whose patron, copy and title are known, or the refusal
+/// by its branch.
+fn hold_named<A: Allocator + Copy>(
+    catalogue: &Catalogue<A>,
+    own: BranchNo,
+    request: &HoldRequest<'_>,
+    day: Day,
+    expiry: Option<Day>,
+    named: &Named,
+) -> Result<Asked, Refusal>
+    requires own { own < (facts_of catalogue.now).branches }
+    requires named { IsKnownNamed (facts_of catalogue.now) named.now }
+    ensures asked { result ≡ hold_named catalogue.now own request.now day expiry named.now }
+    ensures kind { IfOk result (λ asked. kind_of asked ≡ kind.Hold) }
+    ensures known { IfOk result (IsKnown (facts_of catalogue.now)) }
+{
+    if request.cancels {
+        return Ok(Asked::Cancel(hold_cancel(request.mode, named)));
+    }
+    let name = pickup_name(&request.wishes);
+    let pickup = branch_if_given(catalogue, name).ok_or(Refusal::UnknownBranch)?;
+    let wish = Wish {
+        wanted: wanted_copies(&request.wishes),
+        pickup,
+        expiry,
+    };
+    Ok(Asked::Command(Command {
+        day,
+        action: hold_action(request.mode, named, &wish, own),
+    }))
+}
+
+/// The branch that wishes name for the pickup.
+fn pickup_name<'a>(wishes: &Option<Wishes<'a>>) -> Option<&'a [u8]>
+    ensures { option_copied result ≡ pickup_name wishes.now }
+{
+    match wishes {
+        Some(wishes) => wishes.pickup,
+        None => None,
+    }
+}
+
+/// The expiration date that they state.
+fn expiry_text<'a>(wishes: &Option<Wishes<'a>>) -> Option<&'a [u8]>
+    ensures { option_copied result ≡ expiry_text wishes.now }
+{
+    match wishes {
+        Some(wishes) => wishes.expiry,
+        None => None,
+    }
+}
+
+/// Which copies they want, where they say so.
+fn wanted_copies(wishes: &Option<Wishes<'_>>) -> Option<Wanted>
+    ensures { result ≡ wanted_copies wishes.now }
+{
+    match wishes {
+        Some(wishes) => wishes.wanted,
+        None => None,
+    }
+}
+
+/// What a hold message that doesn't cancel does; `own` is the branch of its terminal.
+fn hold_action(mode: Mode, named: &Named, wish: &Wish, own: BranchNo) -> Action
+    ensures action { result ≡ hold_action mode named.now wish.now own }
+    ensures kind { kind_of_action result ≡ kind.Hold }
+    ensures known { (k : Facts) → IsKnownNamed k named.now
+        → IfSome wish.now.pickup (λ branch. branch < k.branches)
+        → own < k.branches → IsKnownAction k result }
+{
+    match mode {
+        Mode::Add => addition(named, wish, own),
+        Mode::Delete => Action::Delete {
+            patron: named.patron,
+            title: named.title,
+        },
+        Mode::Change => change(named, wish),
+    }
+}
+
+/// The adding of a hold: it is picked up at the terminal's own branch where the message names none.
+fn addition(named: &Named, wish: &Wish, own: BranchNo) -> Action
+    ensures action { result ≡ hold_addition named.now wish.now own }
+    ensures kind { kind_of_action result ≡ kind.Hold }
+    ensures known { (k : Facts) → IsKnownNamed k named.now
+        → IfSome wish.now.pickup (λ branch. branch < k.branches)
+        → own < k.branches → IsKnownAction k result }
+{
+    Action::Add {
+        patron: named.patron,
+        title: named.title,
+        kind: added_kind(wish.wanted, named.copy),
+        pickup: wish.pickup.unwrap_or(own),
+        expiry: wish.expiry,
+    }
+}
+
+/// Which copies a new hold admits: where BY doesn't say so, the named copy or else any.
+fn added_kind(wanted: Option<Wanted>, copy: Option<CopyNo>) -> HoldKind
+    ensures kind { result ≡ added_kind wanted copy }
+    ensures known { (k : Facts) → IfSome copy (λ copy. copy < k.copies) → IsKnownKind k result }
+{
+    match (wanted, copy) {
+        (Some(Wanted::AtBranch), _) => HoldKind::AtBranch,
+        (Some(Wanted::AnyCopy), _) | (_, None) => HoldKind::Any,
+        (Some(Wanted::OneCopy) | None, Some(copy)) => HoldKind::One(copy),
+    }
+}
+
+/// The change of a hold: what the message doesn't say stays.
+fn change(named: &Named, wish: &Wish) -> Action
+    ensures action { result ≡ hold_change named.now wish.now }
+    ensures kind { kind_of_action result ≡ kind.Hold }
+    ensures known { (k : Facts) → IsKnownNamed k named.now
+        → IfSome wish.now.pickup (λ branch. branch < k.branches)
+        → IsKnownAction k result }
+{
+    Action::ChangeHold {
+        patron: named.patron,
+        title: named.title,
+        kind: changed_kind(wish.wanted, named.copy),
+        pickup: wish.pickup,
+        expiry: wish.expiry,
+    }
+}
+
+/// Which copies a changed hold admits, where BY says so.
+fn changed_kind(wanted: Option<Wanted>, copy: Option<CopyNo>) -> Option<HoldKind>
+    ensures kind { result ≡ changed_kind wanted copy }
+    ensures known { (k : Facts) → IfSome copy (λ copy. copy < k.copies) → IfSome result (IsKnownKind k) }
+{
+    match (wanted?, copy) {
+        (Wanted::AnyCopy, _) => Some(HoldKind::Any),
+        (Wanted::AtBranch, _) => Some(HoldKind::AtBranch),
+        (Wanted::OneCopy, Some(copy)) => Some(HoldKind::One(copy)),
+        (Wanted::OneCopy, None) => None,
+    }
+}
+
+/// What a cancellation takes back: for a delete the newest add, for an add the newest delete, for a change
+/// the newest change.
+fn hold_cancel(mode: Mode, named: &Named) -> Cancel
+    ensures cancel { result ≡ hold_cancel mode named.now }
+    ensures kind { kind_of_cancel result ≡ kind.Hold }
+    ensures known { (k : Facts) → IsKnownNamed k named.now → IsKnownCancel k result }
+{
+    match mode {
+        Mode::Delete => Cancel::Adding(named.patron, named.title),
+        Mode::Add => Cancel::Deletion(named.patron, named.title),
+        Mode::Change => Cancel::Changing(named.patron, named.title),
+    }
+}

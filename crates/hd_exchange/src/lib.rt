@@ -1,0 +1,47 @@
+//! One message of a terminal, from the body of its line to the text of its reply, over any office that takes
+//! its turn.
+//!
+//! `messages` reads it: it asks nothing of the desk, or `checkouts`, `checkins`, `holds`, `renewals` or
+//! `items` says what it asks, by its `dates` and its `names`. `desk` makes its turn at an `office`. `replies`
+//! says what came of it, where it was `accepted`, or took something back (`cancellations`), or was refused
+//! (`refusals`); and `writing` appends the text. The definitions stand in `specs/`, in the order that
+//! `specs/Lib.antt` tells.
+#![tactic(auto)]
+
+mod accepted;
+mod cancellations;
+mod checkin_replies;
+mod checkins;
+mod checkouts;
+mod dates;
+mod desk;
+mod fault;
+mod hold_replies;
+mod holds;
+mod incoming;
+mod item_replies;
+mod items;
+mod journals;
+mod loan_replies;
+mod login;
+mod logins;
+mod message;
+mod messages;
+mod names;
+mod office;
+mod refusals;
+mod renewals;
+mod repeated;
+mod replies;
+mod responding;
+mod said;
+mod status;
+mod unreadable;
+mod writing;
+
+pub use crate::fault::OfficeFault;
+pub use crate::login::Login;
+pub use crate::office::Office;
+pub use crate::responding::respond;
+pub use crate::said::Said;
+pub use hd_journal::{Ask, SeatNo, Turn};

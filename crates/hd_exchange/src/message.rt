@@ -1,0 +1,33 @@
+//! Messages, as they ask nothing of the desk or are one ask of it.
+
+use crate::login::Login;
+use crate::repeated::Repeated;
+use hd_journal::Ask;
+use hd_message::DeskKind;
+use hd_rules::Refusal;
+
+/// A message that asks something of the desk, with its dates read and its names looked up.
+#[derive(Clone, Copy)]
+pub(crate) struct DeskMessage<'a> {
+    /// What kind of message it is.
+    pub(crate) kind: DeskKind,
+    /// What its reply repeats of it.
+    pub(crate) repeated: Repeated<'a>,
+    /// What it asks, or the first refusal by the session, its dates and its names.
+    pub(crate) asks: Result<Ask<'a>, Refusal>,
+}
+
+/// A message: it asks nothing of the desk, or is one ask of it.
+#[derive(Clone, Copy)]
+pub(crate) enum Message<'a> {
+    /// 93, with the login that it makes; nothing where it isn't taken.
+    Login(Option<Login>),
+    /// 99.
+    Status,
+    /// 97.
+    Resend,
+    /// Another message, or a body shorter than a code.
+    Unsupported,
+    /// 11, 09, 15, 29 or 17.
+    Desk(DeskMessage<'a>),
+}

@@ -1,0 +1,55 @@
+//! Offices.
+ghost use Rattle.std.specs.Prelude.{◌≡◌, ◌++◌, ◌∷◌, [], List, IfErr, IfOk, OnErr};
+ghost use Rattle.hd_rules.specs.Journal.{Turn};
+ghost use Rattle.hd_rules.specs.Known.{IsKnownTurnReply};
+ghost use Rattle.hd_rules.specs.Replies.{IsReplyTo};
+ghost use Rattle.hd_catalogue.specs.Contents.{facts_of};
+ghost use Rattle.hd_journal.specs.Asks.{IsKnownMessage, replied, sent};
+ghost use Rattle.hd_exchange.specs.declared.fault.OfficeFault.{OfficeFault};
+ghost use Rattle.hd_exchange.specs.Offices.{Keeps};
+
+use crate::fault::OfficeFault;
+use hd_catalogue::Catalogue;
+use hd_journal::{Ask, SeatNo, Turn};
+use std::alloc::Allocator;
+
+/// What takes the turns of sessions: a journal alone, or a seat of a hall.
+pub trait Office<A: Allocator> {
+    /// What stays the same of it: what its catalogue says, the seat that its turns carry, and the borrows
+    /// that it holds.
+    ghost keeps: { Self → Keeps };
+
+    /// The turns that were made through it, in order.
+    ghost turns: { Self → List Turn };
+
+    /// The faults that it can give.
+    ghost faults: { OfficeFault → Type 0 };
+
+    /// What holds of it after each turn, whatever the turns.
+    ghost holds: { Self → Type 0 };
+
+    /// The catalogue by whose numbers it is asked.
+    fn catalogue(&self) -> &Catalogue<A>
+        ensures { result.now ≡ (keeps self.now).contents };
+
+    /// The seat that its turns carry.
+    fn seat(&self) -> SeatNo
+        ensures { result ≡ (keeps self.now).seat };
+
+    /// One turn: what a terminal asks at this seat. The terminal, and all that it asks, are of the office's
+    /// catalogue.
+    ///
+    /// Its reply is one to what was asked and names things of the catalogue. At a fault there is no turn.
+    fn turn(&mut self, ask: &Ask<'_>) -> Result<Turn, OfficeFault>
+        requires seat { ask.now.seat ≡ (keeps self.old).seat }
+        requires known { IsKnownMessage (facts_of (keeps self.old).contents) (sent ask.now).message }
+        ensures turn { IfOk result (λ made.
+            turns self.new ≡ turns self.old ++ replied (sent ask.now) made.reply ∷ []) }
+        ensures reply { IfOk result (λ made. IsReplyTo ask.now.asked made.reply) }
+        ensures names { IfOk result (λ made.
+            IsKnownTurnReply (facts_of (keeps self.old).contents) made.reply) }
+        ensures why { IfErr result faults }
+        ensures err { OnErr result (turns self.new ≡ turns self.old) }
+        ensures same { keeps self.new ≡ keeps self.old }
+        ensures holds { holds self.new };
+}

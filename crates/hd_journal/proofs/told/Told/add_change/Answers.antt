@@ -1,0 +1,40 @@
+use Rattle.std.proofs.Common.{◌≡◌, ◌∙◌, ◌<◌, ap, sym, subst, ℕ, length}
+use Rattle.hd_rules.specs.Journal.{Turn}
+use Rattle.hd_journal.specs.Telling.{Told, kept_by, with_turn}
+use Rattle.hd_journal.proofs.KeptLines.{turns_set, kept_set}
+use Rattle.hd_journal.proofs.told.Told.add_change.Goals as goal
+
+pub invariant_of-self : goal.invariant_of-self
+invariant_of-self g c =
+    let own : c.number-terminal.result ≡ c.args.turn.message.terminal =
+    c.number-terminal.ensures.value ∙ c.terminal.ensures ∙ ap (λ (x : Turn). x.message.terminal) c.turn.view_is in
+    let below : c.number-terminal.result < length c.self.inside.places.items =
+    subst (λ (n : ℕ). n < length c.self.inside.places.items) (sym own)
+    (subst (λ (x : Told). c.args.turn.message.terminal < length x.places) (sym c.self.view_is) c.requires.terminal) in
+    turns_set c.self.inside.turns.items c.push_ready.new.items.items c.args.turn c.self.inside.places.items c.number-terminal.result
+    (length c.as_slice-place.result.now)
+    (record {
+      goes_on = c.push_ready.ensures;
+      place = ap length c.as_slice-place.ensures.value;
+      own = own;
+      below = below;
+      are = c.self.invariant;
+    })
+
+pub returns-clause-kept : goal.returns-clause-kept
+returns-clause-kept g c =
+    let own : c.number-terminal.result ≡ c.args.turn.message.terminal =
+    c.number-terminal.ensures.value ∙ c.terminal.ensures ∙ ap (λ (x : Turn). x.message.terminal) c.turn.view_is in
+    let below : c.number-terminal.result < length c.self.inside.places.items =
+    subst (λ (n : ℕ). n < length c.self.inside.places.items) (sym own)
+    (subst (λ (x : Told). c.args.turn.message.terminal < length x.places) (sym c.self.view_is) c.requires.terminal) in
+    kept_set c.self.inside.turns.items c.push_ready.new.items.items c.args.turn c.self.inside.places.items c.number-terminal.result
+    (length c.as_slice-place.result.now)
+    (record {
+      goes_on = c.push_ready.ensures;
+      place = ap length c.as_slice-place.ensures.value;
+      own = own;
+      below = below;
+      are = c.self.invariant;
+    })
+    ∙ ap (λ (x : Told). with_turn c.args.turn (kept_by x)) c.self.view_is

@@ -1,6 +1,0 @@
-//! Names by number and numbers by name, found by hash.
-#![tactic(auto)]
-
-mod names;
-
-pub use crate::names::Names;

@@ -1,8 +1,0 @@
-use Rattle.hd_office.proofs.Replying.{reply_fits, reply_known}
-use Rattle.hd_office.proofs.journals.JournalOffice.turn.Goals as goal
-
-pub returns-in-Ok-clause-reply : goal.returns-in-Ok-clause-reply
-returns-in-Ok-clause-reply g c = reply_fits _ _ _ _ _ c.in-Ok.ensures.turn c.in-Ok.ensures.legal
-
-pub returns-in-Ok-clause-names : goal.returns-in-Ok-clause-names
-returns-in-Ok-clause-names g c = reply_known _ _ _ _ _ c.in-Ok.ensures.turn c.in-Ok.ensures.legal

@@ -1,2 +1,0 @@
-pub mod Offices
-pub mod Answers

@@ -1,9 +1,0 @@
-pub mod Plain
-pub mod Desks
-pub mod Endings
-pub mod Outcomes
-pub mod Answering
-pub mod Lines
-pub mod States
-pub mod Answers
-pub mod Decisions
