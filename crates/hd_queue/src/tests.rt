@@ -109,7 +109,7 @@ fn a_hold_at_a_branch_waits_there(rt: HostRuntime) -> Result<(), Fail> {
     );
     assert!(rt; view.at_branch(other).next().is_none());
     assert_eq!(rt;
-        view.hold_of(patron).copied(),
+        queue.hold_of(patron),
         Some(hold(patron, 4, HoldKind::AtBranch, None))
     );
     Ok(())
