@@ -1,5 +1,5 @@
 //! What one command asked and found.
-ghost use Rattle.std.specs.Prelude.{◌≡◌, ◌<◌, ◌≤◌, [], ◌∷◌, ◌++◌, length};
+ghost use Rattle.std.specs.Prelude.{◌≡◌, ◌<◌, ◌≤◌, [], ◌∷◌, ◌++◌, length, slice_set};
 
 use hd_rules::Finding;
 use smallvec::SmallVec;
@@ -41,6 +41,14 @@ impl Findings {
     {
         let Finding { question, noted } = finding;
         self.findings.push_reserved(Finding { question, noted });
+    }
+
+    /// Puts a question with its noted answer in the place of the one at the index `at`, counted from 0.
+    pub fn set(&mut self, at: usize, finding: Finding)
+        requires { at < length self.old }
+        ensures { self.new ≡ slice_set self.old at finding }
+    {
+        self.findings[at] = finding;
     }
 
     /// The questions with their noted answers, in order.
