@@ -1,5 +1,5 @@
 -- Commands that name things of the catalogue ask about such.
-use Rattle.std.proofs.Common.{◌≡◌, refl, subst, ℕ, ◌<◌, Bool, true, false, ◌==◌, if◌then◌else◌, List, [], ◌∷◌, ◌++◌, Option, Some, None}
+use Rattle.std.proofs.Common.{◌≡◌, refl, subst, ℕ, ◌<◌, Bool, true, false, ◌==◌, if◌then◌else◌, List, [], Option, Some, None}
 use Rattle.std.specs.Prelude.{nat_lt}
 use Rattle.hd_rules.specs.declared.holds.Hold.{Hold}
 use Rattle.hd_rules.specs.declared.holds.HoldKind.{HoldKind}
@@ -18,8 +18,9 @@ use Rattle.hd_rules.specs.Desk.{Desk}
 use Rattle.hd_rules.specs.Choose.{has_expired}
 use Rattle.hd_rules.specs.Ask.{Plan, Ask, Refuse, Accept, AnswerTo, answer, asks}
 use Rattle.hd_rules.specs.Settle.{tied_to, place_at, keep, allot, settle_tied, settle}
-use Rattle.hd_rules.specs.Step.{accept, due_day, last_day, lend, lent, lend_held, lend_from_shelf, cannot_renew, renew_loan, checkout_at}
-use Rattle.hd_rules.specs.Step.{off_line_at, checkin, add, release, delete_with, delete, changed, change_to, change, renew_at, plan_of, plan}
+use Rattle.hd_rules.specs.Step.{accept, due_day, last_day, lend, lend_held, lend_from_shelf, cannot_renew, renew_loan, checkout_at}
+use Rattle.hd_rules.specs.Step.{off_line_at, checkin, add, release, delete_with, delete, changed, change_to, change, renew_at, plan_of}
+use Rattle.hd_rules.specs.Step.{plan}
 use Rattle.hd_rules.specs.Known.{IsKnownQuestion, IsKnownAction, IsKnownCopy, IsKnownState, IsKnownHeld, IsKnownDesk}
 use Rattle.hd_rules.specs.Record.{findings}
 use Rattle.hd_clash.specs.Law.{EachQuestionIsKnown}

@@ -1,13 +1,11 @@
 -- Lists of records: parts of them, and that they name things of the catalogue.
-use Rattle.std.proofs.Common.{arith, ◌≡◌, refl, sym, subst, ℕ, ◌<◌, inl, inr, List, [], ◌∷◌, ◌++◌, length, Result, Ok, Err, ◌↔◌}
-use Rattle.hd_rules.specs.declared.copies.CopyState.{CopyState}
+use Rattle.std.proofs.Common.{arith, ◌≡◌, refl, sym, subst, inl, inr, List, [], ◌∷◌, ◌++◌, length, Result, Ok, Err}
 use Rattle.hd_rules.specs.declared.cells.Cell.{Cell}
 use Rattle.hd_rules.specs.declared.cells.Cell.TheVariants.{Copy as CopyCell, Hold as HoldCell}
 use Rattle.hd_rules.specs.declared.cells.Value.{Value}
 use Rattle.hd_rules.specs.declared.cells.Value.TheVariants.{Copy as CopyHas, Hold as HoldHas}
 use Rattle.hd_rules.specs.declared.cells.Change.{Change}
 use Rattle.hd_rules.specs.declared.questions.Question.{Question}
-use Rattle.hd_rules.specs.declared.questions.Finding.{Finding}
 use Rattle.hd_rules.specs.declared.commands.Survivor.{Survivor}
 use Rattle.hd_rules.specs.declared.replies.Refusal.{Refusal}
 use Rattle.hd_rules.specs.Facts.{Facts, AreInRange}
@@ -16,7 +14,7 @@ use Rattle.hd_rules.specs.Ask.{Done, asks}
 use Rattle.hd_rules.specs.Step.{plan}
 use Rattle.hd_rules.specs.Run.{IsAmong, outcome_of, changed_by, step, run_from}
 use Rattle.hd_rules.specs.Record.{Record, IsRecordAt, findings}
-use Rattle.hd_rules.specs.Known.{IsKnownCell, IsKnownAction, IsKnownState, IsKnownHeld, IsKnownValue, IsKnownDesk, IsKnownDone}
+use Rattle.hd_rules.specs.Known.{IsKnownCell, IsKnownAction, IsKnownState, IsKnownHeld, IsKnownValue, IsKnownDesk}
 use Rattle.hd_rules.proofs.Puts.{copy_cases, hold_cases}
 use Rattle.hd_rules.proofs.Familiar.{known_done}
 use Rattle.hd_clash.specs.Counting.{EachIsSmall}
