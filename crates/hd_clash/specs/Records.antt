@@ -16,7 +16,7 @@ AreRecords k d (s ∷ ss) (r ∷ rs) = IsRecordAt k d s r × AreRecords k (step 
 AreRecords k d [] (r ∷ rs) = ⊥
 AreRecords k d (s ∷ ss) [] = ⊥
 
--- cut at one place, they are those of the older survivors and, from the desk that these lead to, of the newer ones
+-- cut at one place, they are those of the older survivors and, from the desk that these lead to, of the newer
 abbrev pub RecordsSplit : Type 0
 RecordsSplit =
     (k : Facts) (d : Desk) (older newer : List Survivor) (rs ts : List Record) → length older ≡ length rs →
