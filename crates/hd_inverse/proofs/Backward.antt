@@ -10,6 +10,7 @@ use Rattle.hd_rules.specs.Run.{Elsewhere}
 use Rattle.hd_rules.specs.Sound.{IsFit, EachBackIsFit}
 use Rattle.hd_footprint.specs.Meter.{Counts, add}
 use Rattle.hd_footprint.specs.declared.count.Count.TheVariants.{Written}
+use Rattle.hd_catalogue.specs.Contents.{Contents, facts_of}
 use Rattle.hd_inverse.specs.Cells.{AreApart, AreKnown, HaveRoom, MayHave}
 use Rattle.hd_inverse.specs.Work.{written}
 
@@ -71,47 +72,47 @@ room_on room left n (x ∷ xs) y goes others have = (
 )
 
 -- How far the changes were taken back: what is left to be, and that it can be.
-pub record Undoing (k : Facts) (d : Desk) (m : Counts) (cs rest : List Change) (f : Facts) (now : Desk) (has_room : Room)
+pub record Undoing (k : Contents) (d : Desk) (m : Counts) (cs rest : List Change) (f : Contents) (now : Desk) (has_room : Room)
     (meter : Counts) : Type 0 where
   pub desk : undone rest now ≡ undone cs d
   pub same : f ≡ k
-  pub known : AreKnown k rest
+  pub known : AreKnown (facts_of k) rest
   pub apart : AreApart rest
   pub room : HaveRoom has_room (length rest) rest
-  pub fit : EachBackIsFit k rest now
+  pub fit : EachBackIsFit (facts_of k) rest now
   pub counted : written (length rest) meter ≡ written (length cs) m
 
-pub undoing_start : (k : Facts) (d : Desk) (m : Counts) (cs rest : List Change) (room : Room) → rest ≡ cs → AreKnown k cs →
-    AreApart cs → HaveRoom room (length cs) cs → EachBackIsFit k cs d → Undoing k d m cs rest k d room m
+pub undoing_start : (k : Contents) (d : Desk) (m : Counts) (cs rest : List Change) (room : Room) → rest ≡ cs → AreKnown (facts_of k) cs →
+    AreApart cs → HaveRoom room (length cs) cs → EachBackIsFit (facts_of k) cs d → Undoing k d m cs rest k d room m
 undoing_start k d m cs rest room is known apart have fit = record {
   desk = ap (λ (xs : List Change). undone xs d) is;
   same = refl;
-  known = subst (AreKnown k) (sym is) known;
+  known = subst (AreKnown (facts_of k)) (sym is) known;
   apart = subst AreApart (sym is) apart;
   room = subst (λ (xs : List Change). HaveRoom room (length xs) xs) (sym is) have;
-  fit = subst (λ (xs : List Change). EachBackIsFit k xs d) (sym is) fit;
+  fit = subst (λ (xs : List Change). EachBackIsFit (facts_of k) xs d) (sym is) fit;
   counted = ap (λ (xs : List Change). written (length xs) m) is;
 }
 
 -- the last change that is left can be taken back
-pub record Next (k : Facts) (now : Desk) (has_room : Room) (c : Change) (rest : List Change) : Type 0 where
-  pub known : MayHave k c.cell c.old
+pub record Next (k : Contents) (now : Desk) (has_room : Room) (c : Change) (rest : List Change) : Type 0 where
+  pub known : MayHave (facts_of k) c.cell c.old
   pub room : has_room c.cell c.old (length rest + 1)
-  pub fit : IsFit k (put now c.cell c.old)
+  pub fit : IsFit (facts_of k) (put now c.cell c.old)
 
-pub undoing_next : (k : Facts) (d : Desk) (m : Counts) (cs rest : List Change) (f : Facts) (now : Desk) (room : Room) (meter : Counts)
+pub undoing_next : (k : Contents) (d : Desk) (m : Counts) (cs rest : List Change) (f : Contents) (now : Desk) (room : Room) (meter : Counts)
     (left : List Change) (c : Change) → Undoing k d m cs rest f now room meter → rest ≡ left ++ c ∷ [] → Next f now room c left
 undoing_next k d m cs rest f now room meter left c undoing is = record {
-  known = subst (λ (x : Facts). MayHave x c.cell c.old) (sym undoing.same) (known_last k left c (subst (AreKnown k) is undoing.known)).1;
+  known = subst (λ (x : Contents). MayHave (facts_of x) c.cell c.old) (sym undoing.same) (known_last (facts_of k) left c (subst (AreKnown (facts_of k)) is undoing.known)).1;
   room = subst (room c.cell c.old) (length_push left c)
       (room_last room (length (left ++ c ∷ [])) left c
       (subst (λ (xs : List Change). HaveRoom room (length xs) xs) is undoing.room)).1;
-  fit = subst (λ (x : Facts). IsFit x (put now c.cell c.old)) (sym undoing.same)
-      (fit_last k left c now (subst (λ (xs : List Change). EachBackIsFit k xs now) is undoing.fit)).1;
+  fit = subst (λ (x : Contents). IsFit (facts_of x) (put now c.cell c.old)) (sym undoing.same)
+      (fit_last (facts_of k) left c now (subst (λ (xs : List Change). EachBackIsFit (facts_of k) xs now) is undoing.fit)).1;
 }
 
-pub undoing_on : (k : Facts) (d : Desk) (m : Counts) (cs rest : List Change) (f : Facts) (now : Desk) (room : Room) (meter : Counts)
-    (left : List Change) (c : Change) (g : Facts) (next : Desk) (room_left : Room) (raised : Counts) →
+pub undoing_on : (k : Contents) (d : Desk) (m : Counts) (cs rest : List Change) (f : Contents) (now : Desk) (room : Room) (meter : Counts)
+    (left : List Change) (c : Change) (g : Contents) (next : Desk) (room_left : Room) (raised : Counts) →
     Undoing k d m cs rest f now room meter → rest ≡ left ++ c ∷ [] → next ≡ put now c.cell c.old → g ≡ f →
     ((x : Cell) (v : Value) (n : ℕ) → same_cell c.cell x ≡ false → room x v (n + 1) → room_left x v n) → raised ≡ add meter Written →
     Undoing k d m cs left g next room_left raised
@@ -120,15 +121,15 @@ undoing_on k d m cs rest f now room meter left c g next room_left raised undoing
     let have : HaveRoom room (length left + 1) (left ++ c ∷ []) =
     subst (λ (n : ℕ). HaveRoom room n (left ++ c ∷ [])) (length_push left c)
     (subst (λ (xs : List Change). HaveRoom room (length xs) xs) is undoing.room) in
-    let fit : EachBackIsFit k left (put now c.cell c.old) × IsFit k (put now c.cell c.old) =
-    fit_last k left c now (subst (λ (xs : List Change). EachBackIsFit k xs now) is undoing.fit) in
+    let fit : EachBackIsFit (facts_of k) left (put now c.cell c.old) × IsFit (facts_of k) (put now c.cell c.old) =
+    fit_last (facts_of k) left c now (subst (λ (xs : List Change). EachBackIsFit (facts_of k) xs now) is undoing.fit) in
     record {
       desk = ap (undone left) desk ∙ sym (undone_last left c now) ∙ ap (λ (xs : List Change). undone xs now) (sym is) ∙ undoing.desk;
       same = same ∙ undoing.same;
-      known = (known_last k left c (subst (AreKnown k) is undoing.known)).0;
+      known = (known_last (facts_of k) left c (subst (AreKnown (facts_of k)) is undoing.known)).0;
       apart = apart.0;
       room = room_on room room_left (length left) left c.cell goes apart.1 (room_last room (length left + 1) left c have).0;
-      fit = subst (EachBackIsFit k left) (sym desk) fit.0;
+      fit = subst (EachBackIsFit (facts_of k) left) (sym desk) fit.0;
       counted = ap (written (length left)) counts
           ∙ one_more (length left) meter
           ∙ ap (λ (n : ℕ). written n meter) (sym (length_push left c))
@@ -136,7 +137,7 @@ undoing_on k d m cs rest f now room meter left c g next room_left raised undoing
           ∙ undoing.counted;
     }
 
-pub record Undone (k : Facts) (d : Desk) (m : Counts) (cs : List Change) (f : Facts) (now : Desk) (meter : Counts) : Type 0 where
+pub record Undone (k : Contents) (d : Desk) (m : Counts) (cs : List Change) (f : Contents) (now : Desk) (meter : Counts) : Type 0 where
   pub desk : now ≡ undone cs d
   pub same : f ≡ k
   pub counted : meter ≡ written (length cs) m
@@ -145,7 +146,7 @@ none : (xs : List Change) → length xs ≡ 0 → xs ≡ []
 none [] is = refl
 none (x ∷ xs) is = cc
 
-pub undoing_end : (k : Facts) (d : Desk) (m : Counts) (cs rest : List Change) (f : Facts) (now : Desk) (room : Room) (meter : Counts) →
+pub undoing_end : (k : Contents) (d : Desk) (m : Counts) (cs rest : List Change) (f : Contents) (now : Desk) (room : Room) (meter : Counts) →
     Undoing k d m cs rest f now room meter → length rest ≡ 0 → Undone k d m cs f now meter
 undoing_end k d m cs rest f now room meter undoing is = record {
   desk = ap (λ (xs : List Change). undone xs now) (sym (none rest is)) ∙ undoing.desk;

@@ -2,6 +2,7 @@
 ghost use Rattle.std.specs.Prelude.{◌≡◌, OnErr, OnOk, length};
 ghost use Rattle.hd_rules.specs.Desk.{undone};
 ghost use Rattle.hd_rules.specs.Sound.{EachBackIsFit};
+ghost use Rattle.hd_catalogue.specs.Contents.{facts_of};
 ghost use Rattle.hd_inverse.specs.Cells.{AreApart, AreKnown, HaveRoom};
 ghost use Rattle.hd_inverse.specs.Work.{written};
 
@@ -20,13 +21,13 @@ pub fn undo<C: Cells>(
     changes: &[Change],
     meter: &mut Meter,
 ) -> Result<(), AllocError>
-    requires known { AreKnown (C.facts cells.old) changes.now }
+    requires known { AreKnown (facts_of (C.contents cells.old)) changes.now }
     requires apart { AreApart changes.now }
-    requires fit { EachBackIsFit (C.facts cells.old) changes.now (C.desk cells.old) }
+    requires fit { EachBackIsFit (facts_of (C.contents cells.old)) changes.now (C.desk cells.old) }
     ensures ok { OnOk result (C.desk cells.new ≡ undone changes.now (C.desk cells.old)) }
     ensures err { OnErr result (C.desk cells.new ≡ C.desk cells.old) }
     ensures full { OnErr result (HaveRoom (C.has_room cells.old) (length changes.now) changes.now → ⊥) }
-    ensures facts { C.facts cells.new ≡ C.facts cells.old }
+    ensures contents { C.contents cells.new ≡ C.contents cells.old }
     ensures counted { OnOk result (meter.new ≡ written (length changes.now) meter.old) }
     ensures uncounted { OnErr result (meter.new ≡ meter.old) }
 {
@@ -37,12 +38,12 @@ pub fn undo<C: Cells>(
 
 /// Puts the old values back, where there is room for each.
 fn put_back<C: Cells>(cells: &mut C, changes: &[Change], meter: &mut Meter)
-    requires known { AreKnown (C.facts cells.old) changes.now }
+    requires known { AreKnown (facts_of (C.contents cells.old)) changes.now }
     requires apart { AreApart changes.now }
     requires room { HaveRoom (C.has_room cells.old) (length changes.now) changes.now }
-    requires fit { EachBackIsFit (C.facts cells.old) changes.now (C.desk cells.old) }
+    requires fit { EachBackIsFit (facts_of (C.contents cells.old)) changes.now (C.desk cells.old) }
     ensures desk { C.desk cells.new ≡ undone changes.now (C.desk cells.old) }
-    ensures facts { C.facts cells.new ≡ C.facts cells.old }
+    ensures contents { C.contents cells.new ≡ C.contents cells.old }
     ensures counted { meter.new ≡ written (length changes.now) meter.old }
 {
     for change in changes.iter().rev() {

@@ -17,14 +17,14 @@ put-requires-clause-fit g c = (undoing_next _ _ _ _ _ _ _ _ _ _ _ c.loop-change.
 
 pub loop-change-preserved : goal.loop-change-preserved
 loop-change-preserved g c =
-    undoing_on _ _ _ _ _ _ _ _ _ _ _ _ _ _ _ c.loop-change.invariant c.in-Some.ensures.steps c.put.ensures.desk c.put.ensures.facts
+    undoing_on _ _ _ _ _ _ _ _ _ _ _ _ _ _ _ c.loop-change.invariant c.in-Some.ensures.steps c.put.ensures.desk c.put.ensures.contents
     c.put.ensures.room c.add.ensures
 
 pub returns-clause-desk : goal.returns-clause-desk
 returns-clause-desk g c = (undoing_end _ _ _ _ _ _ _ _ _ c.loop-change.invariant c.in-None.ensures.steps.0).desk
 
-pub returns-clause-facts : goal.returns-clause-facts
-returns-clause-facts g c = (undoing_end _ _ _ _ _ _ _ _ _ c.loop-change.invariant c.in-None.ensures.steps.0).same
+pub returns-clause-contents : goal.returns-clause-contents
+returns-clause-contents g c = (undoing_end _ _ _ _ _ _ _ _ _ c.loop-change.invariant c.in-None.ensures.steps.0).same
 
 pub returns-clause-counted : goal.returns-clause-counted
 returns-clause-counted g c = (undoing_end _ _ _ _ _ _ _ _ _ c.loop-change.invariant c.in-None.ensures.steps.0).counted
