@@ -103,7 +103,8 @@ pub record Next (k : Contents) (now : Desk) (has_room : Room) (c : Change) (rest
 pub undoing_next : (k : Contents) (d : Desk) (m : Counts) (cs rest : List Change) (f : Contents) (now : Desk) (room : Room) (meter : Counts)
     (left : List Change) (c : Change) → Undoing k d m cs rest f now room meter → rest ≡ left ++ c ∷ [] → Next f now room c left
 undoing_next k d m cs rest f now room meter left c undoing is = record {
-  known = subst (λ (x : Contents). MayHave (facts_of x) c.cell c.old) (sym undoing.same) (known_last (facts_of k) left c (subst (AreKnown (facts_of k)) is undoing.known)).1;
+  known = subst (λ (x : Contents). MayHave (facts_of x) c.cell c.old) (sym undoing.same)
+      (known_last (facts_of k) left c (subst (AreKnown (facts_of k)) is undoing.known)).1;
   room = subst (room c.cell c.old) (length_push left c)
       (room_last room (length (left ++ c ∷ [])) left c
       (subst (λ (xs : List Change). HaveRoom room (length xs) xs) is undoing.room)).1;
@@ -146,7 +147,8 @@ none : (xs : List Change) → length xs ≡ 0 → xs ≡ []
 none [] is = refl
 none (x ∷ xs) is = cc
 
-pub undoing_end : (k : Contents) (d : Desk) (m : Counts) (cs rest : List Change) (f : Contents) (now : Desk) (room : Room) (meter : Counts) →
+pub undoing_end : (k : Contents) (d : Desk) (m : Counts) (cs rest : List Change) (f : Contents) (now : Desk) (room : Room)
+    (meter : Counts) →
     Undoing k d m cs rest f now room meter → length rest ≡ 0 → Undone k d m cs f now meter
 undoing_end k d m cs rest f now room meter undoing is = record {
   desk = ap (λ (xs : List Change). undone xs now) (sym (none rest is)) ∙ undoing.desk;

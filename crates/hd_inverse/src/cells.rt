@@ -54,5 +54,6 @@ pub trait Cells {
             → has_room self.old x v (n + 1) → has_room self.new x v n };
 
     /// Room for more writes is room for fewer.
-    ghost fewer: { (c : Self) (x : Cell) (v : Value) (m n : ℕ) → m ≤ n → has_room c x v n → has_room c x v m };
+    ghost fewer: { (c : Self) (x : Cell) (v : Value) (m n : ℕ) → m ≤ n → has_room c x v n
+        → has_room c x v m };
 }
