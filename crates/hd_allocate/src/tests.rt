@@ -1,10 +1,11 @@
 //! Choices as the desk's rules tell them, where memory is ample.
 ghost use Rattle.std.specs.Prelude.{◌≡◌, ◌≢◌, ◌<◌};
 
-use crate::{BranchNo, CopyFacts, CopyNo, Day, Hold, QueueView, choice};
+use crate::{BranchNo, CopyFacts, CopyNo, CopyState, Day, Hold, QueueView, choice, settle};
 use hd_date::{OffsetMinutes, read};
 use hd_queue::Queue;
-use hd_rules::{HoldKind, PatronNo};
+use hd_rules::{HoldKind, HoldPlace, PatronNo, Transit};
+use hd_shelf::Places;
 use std::alloc::{AllocError, Allocator};
 use std::test::Fail;
 
@@ -21,7 +22,7 @@ fn branch(number: u16) -> BranchNo
     BranchNo::new(number).unwrap()
 }
 
-/// A copy of a title without local priority.
+/// A copy of a title without local priority, at home.
 fn copy(number: u32, home: u16) -> CopyFacts
     requires number { number < 9 }
     requires home { home < 9 }
@@ -30,6 +31,7 @@ fn copy(number: u32, home: u16) -> CopyFacts
         copy: CopyNo::new(number).unwrap(),
         home: branch(home),
         priority: false,
+        state: CopyState::Shelf(branch(home)),
     }
 }
 
@@ -148,5 +150,43 @@ fn expired_holds(rt: HostRuntime) -> Result<(), Fail> {
         chosen(&view, &local, branch(0), yesterday),
     );
     assert_eq!(rt; stamps, (Some(6), Some(2)));
+    Ok(())
+}
+
+/// A copy without a hold goes home, one with a choice to its pickup, and a tied one keeps its place there.
+#[test]
+fn settled_copies(rt: HostRuntime) -> Result<(), Fail> {
+    let today = day(b"20260310    120000")?;
+    let (here, there) = (branch(0), branch(1));
+    let shelf = Places::new(rt.alloc());
+    let named = HoldKind::One(CopyNo::new(1).unwrap());
+    let queue = queue_of(rt.alloc(), hold(4, named, 0), hold(6, named, 0))?;
+    let view = queue.view();
+    let patron = PatronNo::new(4).unwrap();
+
+    let home = settle(&view, &shelf, &copy(2, 1), there, today);
+    assert_eq!(rt; home.state, CopyState::Shelf(there));
+    let sent = settle(&view, &shelf, &copy(1, 1), there, today).state;
+    let on_its_way = Transit {
+        from: there,
+        to: here,
+        patron: Some(patron),
+    };
+    assert_eq!(rt; sent, CopyState::InTransit(on_its_way));
+    let first = settle(&view, &shelf, &copy(1, 1), here, today);
+    let place = HoldPlace {
+        branch: here,
+        place: 1,
+        patron,
+    };
+    assert_eq!(rt; first.state, CopyState::OnHoldShelf(place));
+    assert_eq!(rt; first.gets.map(|gets| gets.new.stamp), Some(4));
+
+    let third = CopyState::OnHoldShelf(HoldPlace { place: 3, ..place });
+    let tied = CopyFacts {
+        state: third,
+        ..copy(1, 1)
+    };
+    assert_eq!(rt; settle(&view, &shelf, &tied, here, today).state, third);
     Ok(())
 }
