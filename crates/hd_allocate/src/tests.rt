@@ -153,6 +153,15 @@ fn expired_holds(rt: HostRuntime) -> Result<(), Fail> {
     Ok(())
 }
 
+/// Kept on the hold shelf of the first branch.
+fn kept(place: u32, patron: PatronNo) -> CopyState {
+    CopyState::OnHoldShelf(HoldPlace {
+        branch: branch(0),
+        place,
+        patron,
+    })
+}
+
 /// A copy without a hold goes home, one with a choice to its pickup, and a tied one keeps its place there.
 #[test]
 fn settled_copies(rt: HostRuntime) -> Result<(), Fail> {
@@ -166,27 +175,22 @@ fn settled_copies(rt: HostRuntime) -> Result<(), Fail> {
 
     let home = settle(&view, &shelf, &copy(2, 1), there, today);
     assert_eq!(rt; home.state, CopyState::Shelf(there));
-    let sent = settle(&view, &shelf, &copy(1, 1), there, today).state;
-    let on_its_way = Transit {
+    let sent = settle(&view, &shelf, &copy(1, 1), there, today);
+    let on_its_way = CopyState::InTransit(Transit {
         from: there,
         to: here,
         patron: Some(patron),
-    };
-    assert_eq!(rt; sent, CopyState::InTransit(on_its_way));
+    });
+    assert_eq!(rt; sent.state, on_its_way);
     let first = settle(&view, &shelf, &copy(1, 1), here, today);
-    let place = HoldPlace {
-        branch: here,
-        place: 1,
-        patron,
-    };
-    assert_eq!(rt; first.state, CopyState::OnHoldShelf(place));
+    assert_eq!(rt; first.state, kept(1, patron));
     assert_eq!(rt; first.gets.map(|gets| gets.new.stamp), Some(4));
 
-    let third = CopyState::OnHoldShelf(HoldPlace { place: 3, ..place });
     let tied = CopyFacts {
-        state: third,
+        state: kept(3, patron),
         ..copy(1, 1)
     };
-    assert_eq!(rt; settle(&view, &shelf, &tied, here, today).state, third);
+    let stays = settle(&view, &shelf, &tied, here, today);
+    assert_eq!(rt; stays.state, kept(3, patron));
     Ok(())
 }
