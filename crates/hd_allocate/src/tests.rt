@@ -162,35 +162,49 @@ fn kept(place: u32, patron: PatronNo) -> CopyState {
     })
 }
 
+/// Where a copy goes from an empty hold shelf, and whether a hold gets it.
+fn goes<A: Allocator + Copy>(
+    alloc: A,
+    queue: &QueueView<'_>,
+    copy: &CopyFacts,
+    at: BranchNo,
+    day: Day,
+) -> (CopyState, bool) {
+    let settled = settle(queue, &Places::new(alloc), copy, at, day);
+    (settled.state, settled.gets.is_some())
+}
+
 /// A copy without a hold goes home, one with a choice to its pickup, and a tied one keeps its place there.
 #[test]
 fn settled_copies(rt: HostRuntime) -> Result<(), Fail> {
     let today = day(b"20260310    120000")?;
     let (here, there) = (branch(0), branch(1));
-    let shelf = Places::new(rt.alloc());
-    let named = HoldKind::One(CopyNo::new(1).unwrap());
-    let queue = queue_of(rt.alloc(), hold(4, named, 0), hold(6, named, 0))?;
-    let view = queue.view();
     let patron = PatronNo::new(4).unwrap();
+    let named = HoldKind::One(CopyNo::new(1).unwrap());
+    let queue = queue_of(
+        rt.alloc(),
+        hold(4, named, 0),
+        hold(6, HoldKind::AtBranch, 0),
+    )?;
+    let view = queue.view();
 
-    let home = settle(&view, &shelf, &copy(2, 1), there, today);
-    assert_eq!(rt; home.state, CopyState::Shelf(there));
-    let sent = settle(&view, &shelf, &copy(1, 1), there, today);
+    let home = goes(rt.alloc(), &view, &copy(2, 1), there, today);
+    assert_eq!(rt; home, (CopyState::Shelf(there), false));
+    let sent = goes(rt.alloc(), &view, &copy(1, 1), there, today);
     let on_its_way = CopyState::InTransit(Transit {
         from: there,
         to: here,
         patron: Some(patron),
     });
-    assert_eq!(rt; sent.state, on_its_way);
-    let first = settle(&view, &shelf, &copy(1, 1), here, today);
-    assert_eq!(rt; first.state, kept(1, patron));
-    assert_eq!(rt; first.gets.map(|gets| gets.new.stamp), Some(4));
+    assert_eq!(rt; sent, (on_its_way, true));
+    let first = goes(rt.alloc(), &view, &copy(1, 1), here, today);
+    assert_eq!(rt; first, (kept(1, patron), true));
 
     let tied = CopyFacts {
         state: kept(3, patron),
         ..copy(1, 1)
     };
-    let stays = settle(&view, &shelf, &tied, here, today);
-    assert_eq!(rt; stays.state, kept(3, patron));
+    let stays = goes(rt.alloc(), &view, &tied, here, today);
+    assert_eq!(rt; stays, (kept(3, patron), false));
     Ok(())
 }
