@@ -1,8 +1,8 @@
-//! What is known of a copy for which a hold is chosen.
+//! What is known of a copy that is settled, or for which a hold is chosen.
 
-use hd_rules::{BranchNo, CopyNo};
+use hd_rules::{BranchNo, CopyNo, CopyState};
 
-/// A copy, and what the catalogue says of it.
+/// A copy, where it is, and what the catalogue says of it.
 #[derive(Clone, Copy, PartialEq, Eq, Debug)]
 pub struct CopyFacts {
     /// The copy.
@@ -11,4 +11,6 @@ pub struct CopyFacts {
     pub home: BranchNo,
     /// Whether its title has local priority.
     pub priority: bool,
+    /// Where it is: whether it has a place on a hold shelf, and the patron that it is tied to, if any.
+    pub state: CopyState,
 }

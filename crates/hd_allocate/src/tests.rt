@@ -1,10 +1,11 @@
 //! Choices as the desk's rules tell them, where memory is ample.
 ghost use Rattle.std.specs.Prelude.{◌≡◌, ◌≢◌, ◌<◌};
 
-use crate::{BranchNo, CopyFacts, CopyNo, Day, Hold, QueueView, choice};
+use crate::{BranchNo, CopyFacts, CopyNo, CopyState, Day, Hold, QueueView, choice, settle};
 use hd_date::{OffsetMinutes, read};
 use hd_queue::Queue;
-use hd_rules::{HoldKind, PatronNo};
+use hd_rules::{HoldKind, HoldPlace, PatronNo, Transit};
+use hd_shelf::Places;
 use std::alloc::{AllocError, Allocator};
 use std::test::Fail;
 
@@ -21,7 +22,7 @@ fn branch(number: u16) -> BranchNo
     BranchNo::new(number).unwrap()
 }
 
-/// A copy of a title without local priority.
+/// A copy of a title without local priority, at home.
 fn copy(number: u32, home: u16) -> CopyFacts
     requires number { number < 9 }
     requires home { home < 9 }
@@ -30,6 +31,7 @@ fn copy(number: u32, home: u16) -> CopyFacts
         copy: CopyNo::new(number).unwrap(),
         home: branch(home),
         priority: false,
+        state: CopyState::Shelf(branch(home)),
     }
 }
 
@@ -148,5 +150,61 @@ fn expired_holds(rt: HostRuntime) -> Result<(), Fail> {
         chosen(&view, &local, branch(0), yesterday),
     );
     assert_eq!(rt; stamps, (Some(6), Some(2)));
+    Ok(())
+}
+
+/// Kept on the hold shelf of the first branch.
+fn kept(place: u32, patron: PatronNo) -> CopyState {
+    CopyState::OnHoldShelf(HoldPlace {
+        branch: branch(0),
+        place,
+        patron,
+    })
+}
+
+/// Where a copy goes from an empty hold shelf, and whether a hold gets it.
+fn goes<A: Allocator + Copy>(
+    alloc: A,
+    queue: &QueueView<'_>,
+    copy: &CopyFacts,
+    at: BranchNo,
+    day: Day,
+) -> (CopyState, bool) {
+    let settled = settle(queue, &Places::new(alloc), copy, at, day);
+    (settled.state, settled.gets.is_some())
+}
+
+/// A copy without a hold goes home, one with a choice to its pickup, and a tied one keeps its place there.
+#[test]
+fn settled_copies(rt: HostRuntime) -> Result<(), Fail> {
+    let today = day(b"20260310    120000")?;
+    let (here, there) = (branch(0), branch(1));
+    let patron = PatronNo::new(4).unwrap();
+    let named = HoldKind::One(CopyNo::new(1).unwrap());
+    let queue = queue_of(
+        rt.alloc(),
+        hold(4, named, 0),
+        hold(6, HoldKind::AtBranch, 0),
+    )?;
+    let view = queue.view();
+
+    let home = goes(rt.alloc(), &view, &copy(2, 1), there, today);
+    assert_eq!(rt; home, (CopyState::Shelf(there), false));
+    let sent = goes(rt.alloc(), &view, &copy(1, 1), there, today);
+    let on_its_way = CopyState::InTransit(Transit {
+        from: there,
+        to: here,
+        patron: Some(patron),
+    });
+    assert_eq!(rt; sent, (on_its_way, true));
+    let first = goes(rt.alloc(), &view, &copy(1, 1), here, today);
+    assert_eq!(rt; first, (kept(1, patron), true));
+
+    let tied = CopyFacts {
+        state: kept(3, patron),
+        ..copy(1, 1)
+    };
+    let stays = goes(rt.alloc(), &view, &tied, here, today);
+    assert_eq!(rt; stays, (kept(3, patron), false));
     Ok(())
 }

@@ -144,11 +144,4 @@ impl<A: Allocator + Copy> Catalogue<A> {
         let number = copy.number() as usize;
         self.copies.facts(number).unwrap().home
     }
-
-    /// Shows that the facts keep to their limits, and that each number among them is one of the catalogue.
-    pub fn facts_are_in_range(&self)
-        ensures { AreInRange (facts_of self.now) }
-    {
-        let _ = &self.settings;
-    }
 }

@@ -63,7 +63,6 @@ impl<A: Allocator + Copy> Copies<A> {
             (λ made. standing made ≡ (λ c. Shelf ((facts_of (arc_value catalogue)).home c))) }
         ensures range { IfOk result (λ made. AreInRange (facts made)) }
     {
-        catalogue.facts_are_in_range();
         let states = at_home(alloc, &catalogue)?;
         let indexes = Indexes::new(alloc, &catalogue)?;
         Ok(Copies {
@@ -170,9 +169,9 @@ fn at_home<A: Allocator + Copy>(
     alloc: A,
     catalogue: &Catalogue<A>,
 ) -> Result<Vec<CopyState, A>, AllocError>
-    ensures { IfOk result (λ states. AreAtHome (facts_of catalogue.now) states.items) }
+    ensures home { IfOk result (λ states. AreAtHome (facts_of catalogue.now) states.items) }
+    ensures range { AreInRange (facts_of catalogue.now) }
 {
-    catalogue.facts_are_in_range();
     let copies = catalogue.copies();
     let mut states = Vec::with_capacity(alloc, copies)?;
     for number in 0..copies {

@@ -51,7 +51,6 @@ impl<A: Allocator + Copy> Indexes<A> {
         ensures { IfOk result (λ made. IsIndexed (facts_of catalogue.now)
             (each_at_home (facts_of catalogue.now)) made) }
     {
-        catalogue.facts_are_in_range();
         let copies = catalogue.copies() as u32;
         Ok(Indexes {
             loans: Loans::new(alloc, copies, catalogue.patrons() as u32)?,
@@ -94,7 +93,6 @@ impl<A: Allocator + Copy> Indexes<A> {
         ensures indexed { IsIndexed (facts_of catalogue.now) (slice_get states.now) self.new }
         ensures rooms { rooms_in self.new.shelves ≡ rooms_in self.old.shelves }
     {
-        catalogue.facts_are_in_range();
         match states[copy.number() as usize] {
             CopyState::Shelf(_) => self
                 .stock
@@ -150,7 +148,6 @@ fn full_stock<A: Allocator + Copy>(
     ensures { IfOk result (λ made. IsStock (facts_of catalogue.now) (each_at_home (facts_of catalogue.now))
         made) }
 {
-    catalogue.facts_are_in_range();
     let mut stock = Stock::new(alloc, catalogue.titles())?;
     for number in 0..catalogue.copies() {
         let copy = CopyNo::new(number as u32).unwrap();

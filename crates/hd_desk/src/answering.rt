@@ -62,6 +62,7 @@ impl<A: Allocator + Copy> Desk<A> {
             copy,
             home: self.home(copy),
             priority: self.has_priority(title),
+            state: self.copy(copy),
         };
         choice(&queue, &copy, branch, day).copied()
     }

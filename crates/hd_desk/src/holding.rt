@@ -13,7 +13,7 @@ ghost use Rattle.hd_desk.specs.Desks.{facts};
 
 use crate::accepted::{Accepted, copy_becomes, hold_becomes};
 use crate::inquiry::Inquiry;
-use hd_allocate::has_expired;
+use hd_allocate::{allot_copy, has_expired};
 use hd_rules::{
     BranchNo, Change, CopyNo, CopyState, Day, Hold, HoldKind, PatronNo, Refusal, Reply, TitleNo,
     Transit,
@@ -114,10 +114,10 @@ impl<'a, A: Allocator + Copy> Inquiry<'a, A> {
         match old {
             CopyState::OnHoldShelf(place) => {
                 let chosen = self.choice(copy, place.branch, day);
-                let settled = self.allot(copy, place.branch, Some(place.place), &chosen);
+                let settled = allot_copy(self, copy, place.branch, Some(place.place), &chosen);
                 Released {
                     copy: Some(copy_becomes(copy, old, &settled.state)),
-                    gets: settled.gets,
+                    gets: self.change_of(copy, &settled.gets),
                 }
             }
             CopyState::InTransit(transit) => {

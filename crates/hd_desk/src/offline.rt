@@ -10,7 +10,7 @@ ghost use Rattle.hd_desk.specs.Desks.{facts};
 
 use crate::accepted::{Accepted, copy_becomes, hold_becomes};
 use crate::inquiry::Inquiry;
-use crate::settling::{tied_to, with_copy};
+use hd_allocate::{tied_to, with_copy};
 use hd_rules::{
     Change, CopyNo, CopyState, Day, Hold, HoldKind, Loan, PatronNo, Refusal, Reply, TitleNo,
 };

@@ -8,6 +8,7 @@ ghost use Rattle.hd_desk.specs.Desks.{facts};
 
 use crate::accepted::{Accepted, copy_becomes};
 use crate::inquiry::Inquiry;
+use hd_allocate::settle_copy;
 use hd_rules::{BranchNo, CopyNo, Day, Refusal, Reply};
 use std::alloc::Allocator;
 
@@ -28,14 +29,14 @@ impl<'a, A: Allocator + Copy> Inquiry<'a, A> {
             ≡ ending_of self.old (checkin (facts self.old.desk) number copy branch day) }
     {
         let old = self.copy(copy);
-        let settled = self.settle(copy, branch, day, &old);
+        let settled = settle_copy(self, copy, branch, day, &old);
         let reply = Reply::Returned {
             title: self.desk.title_of(copy),
             home: self.desk.home(copy),
             now: settled.state,
         };
         let moved = copy_becomes(copy, &old, &settled.state);
-        match settled.gets {
+        match self.change_of(copy, &settled.gets) {
             Some(gets) => self.accept(number, &[moved, gets], reply),
             None => self.accept(number, &[moved], reply),
         }

@@ -6,7 +6,7 @@ use Rattle.std.proofs.lemmas.Grind.{common_steps}
 use Rattle.std.proofs.lemmas.Bool.{cases_Bool, eqb-true}
 use Rattle.std.proofs.lemmas.List.{get_or-set_same, get_or-set_other, get_or_read, length-set}
 use Rattle.hd_rules.specs.declared.holds.Hold.{Hold}
-use Rattle.hd_rules.specs.Facts.{Facts}
+use Rattle.hd_rules.specs.Facts.{Facts, AreInRange}
 use Rattle.hd_rules.specs.Desk.{Desk}
 use Rattle.hd_rules.specs.Known.{IsKnownHeld}
 use Rattle.hd_rules.specs.Sound.{AreNamed, StampsApart}
@@ -35,8 +35,8 @@ empty-queue (q ∷ qs) all (suc t) = empty-queue qs all.1 t
 queue-empty : (k : Facts) (hs : List Hold) → hs ≡ [] → IsQueue k hs
 queue-empty k hs e = rw e record { ordered = tt; once = tt; known = tt }
 
-pub queues-empty : (k : Facts) (qs : List QueueValue) → AreEmpty qs → length qs ≡ k.titles → AreQueues k qs
-queues-empty k qs all many = record { titles = many; queue = λ t. queue-empty k _ (empty-queue qs all t) }
+pub queues-empty : (k : Facts) (qs : List QueueValue) → AreInRange k → AreEmpty qs → length qs ≡ k.titles → AreQueues k qs
+queues-empty k qs range all many = record { range = range; titles = many; queue = λ t. queue-empty k _ (empty-queue qs all t) }
 
 pub held-empty : (v : HoldsValue) → AreEmpty v.queues → held v ≡ (λ t p. None)
 unfolding held
@@ -53,6 +53,7 @@ queue_of-set qs i q t l = elim (cases_Bool (i == t)) [
 pub queues-set : (k : Facts) (qs : List QueueValue) (i : ℕ) (q : QueueValue) → i < length qs → AreQueues k qs → IsQueue k q.holds →
     AreQueues k (set qs i q)
 queues-set k qs i q l all is = record {
+  range = all.range;
   titles = length-set qs i q ∙ all.titles;
   queue = λ t. rw (queue_of-set qs i q t l) (one (i == t) t);
 }

@@ -1,7 +1,7 @@
 -- The holds of the titles of a library.
 use Rattle.std.specs.Prelude.{◌≡◌, ℕ, ◌<◌, List, [], ◌∷◌, Option, None, Some, get_or, length}
 use Rattle.hd_rules.specs.declared.holds.Hold.{Hold}
-use Rattle.hd_rules.specs.Facts.{Facts}
+use Rattle.hd_rules.specs.Facts.{Facts, AreInRange}
 use Rattle.hd_rules.specs.Known.{IsKnownHold}
 use Rattle.hd_catalogue.specs.Contents.{facts_of}
 use Rattle.hd_queue.specs.Holds.{HasPatronsOnce, IsInOrder, hold_of, with_hold, without}
@@ -56,7 +56,8 @@ pub record IsQueue (k : Facts) (holds : List Hold) : Type 0 where
   pub once : HasPatronsOnce holds
   pub known : AreKnown k holds
 
--- a queue for each title
+-- a queue for each title of a catalogue, whose facts keep to their limits
 pub record AreQueues (k : Facts) (queues : List QueueValue) : Type 0 where
+  pub range : AreInRange k
   pub titles : length queues ≡ k.titles
   pub queue : (t : ℕ) → IsQueue k (queue_of queues t).holds

@@ -119,7 +119,6 @@ impl<A: Allocator + Copy> Holds<A> {
         ensures { result
             ≡ count_below (λ p. is_some (held self.now title p)) (facts self.now).patrons }
     {
-        self.catalogue.facts_are_in_range();
         self.queue(title).len() as u32
     }
 

@@ -61,7 +61,7 @@ impl<A: Allocator + Copy> Journal<A> {
         ensures new { result ≡ record { contents = contents desk; turns = []; work = meter } }
         ensures legal { IsLegalBook result.contents result.turns }
     {
-        desk.catalogue().facts_are_in_range();
+        prove!(0 < desk.catalogue().command_limit());
         Journal {
             alloc,
             running: Running::new(alloc, desk),

@@ -1,13 +1,14 @@
 //! The holds of a queue, lent, and going over those that wait.
 ghost use Rattle.std.specs.Prelude.{◌≡◌, filter};
 ghost use Rattle.std.specs.Iterator.{YieldsFirstRef, item_count};
-ghost use Rattle.hd_queue.specs.Holds.{HasPatronsOnce, IsInOrder};
+ghost use Rattle.std.specs.Option.{option_copied};
+ghost use Rattle.hd_queue.specs.Holds.{HasPatronsOnce, IsInOrder, hold_of};
 ghost use Rattle.hd_queue.specs.Waiting.{AreWaiting, waits_at, waits_for, waits_for_any};
 ghost use Rattle.hd_queue.specs.Wanted.{is_wanted};
 
 use crate::lent::HoldSlices;
 use crate::wanted::Wanted;
-use hd_rules::{BranchNo, CopyNo, Hold};
+use hd_rules::{BranchNo, CopyNo, Hold, PatronNo};
 use std::marker::Model;
 
 /// The holds of one title, lent, in order of stamp. Its calls take no memory.
@@ -52,6 +53,13 @@ impl<'a> QueueView<'a> {
             for_one,
             at_branch,
         }
+    }
+
+    /// The hold of a patron, or `None` where there is none.
+    pub fn hold_of(&self, patron: PatronNo) -> Option<&'a Hold>
+        ensures { option_copied result ≡ hold_of self.now patron }
+    {
+        self.holds.hold_of(patron)
     }
 
     /// The holds that wait for any copy, in order of stamp. In a queue the stamps rise, and no patron has two

@@ -14,7 +14,7 @@ stock-requires-clause-copies g c =
       count-le (λ n. (k.title_of n) == c.title_of.result) c.loop-number.number,
       c.loop-number-test.true,
       c.copies-number-end.ensures.count,
-      c.facts_are_in_range.ensures.copies,
+      c.titles.ensures.facts.copies,
     )
 
 pub stock-requires-clause-copies_of_home : goal.stock-requires-clause-copies_of_home
@@ -26,7 +26,7 @@ stock-requires-clause-copies_of_home g c =
       count-le (λ n. ((k.title_of n) == c.title_of.result) && ((k.home n) == c.home.result)) c.loop-number.number,
       c.loop-number-test.true,
       c.copies-number-end.ensures.count,
-      c.facts_are_in_range.ensures.copies,
+      c.titles.ensures.facts.copies,
     )
 
 pub loop-number-preserved : goal.loop-number-preserved

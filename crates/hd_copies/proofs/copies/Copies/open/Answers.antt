@@ -9,9 +9,9 @@ use Rattle.hd_copies.proofs.copies.Copies.open.Goals as goal
 pub invariant_of-result : goal.invariant_of-result
 invariant_of-result g c =
     let k = facts_of (arc_value c.args.catalogue) in
-    let home : AreAtHome k c.in_ok-states.states.items = rw c.deref-2.ensures at c.in_ok-states.ensures in
-    let range : AreInRange k = rw c.deref.ensures at c.facts_are_in_range.ensures in
-    let indexed : IsIndexed k (each_at_home k) c.in_ok-indexes.indexes = rw c.deref-3.ensures at c.in_ok-indexes.ensures in
+    let home : AreAtHome k c.in_ok-states.states.items = rw c.deref.ensures at c.in_ok-states.ensures.home in
+    let range : AreInRange k = rw c.deref.ensures at c.in_ok-states.ensures.range in
+    let indexed : IsIndexed k (each_at_home k) c.in_ok-indexes.indexes = rw c.deref-2.ensures at c.in_ok-indexes.ensures in
     record {
       fit = states-home k c.in_ok-states.states.items range home;
       indexed = rw (found-home k c.in_ok-states.states.items home) indexed;
@@ -21,5 +21,5 @@ pub returns-clause-at_home : goal.returns-clause-at_home
 unfolding standing
 returns-clause-at_home g c =
     let k = facts_of (arc_value c.args.catalogue) in
-    let home : AreAtHome k c.in_ok-states.states.items = rw c.deref-2.ensures at c.in_ok-states.ensures in
+    let home : AreAtHome k c.in_ok-states.states.items = rw c.deref.ensures at c.in_ok-states.ensures.home in
     standing-home (arc_value c.args.catalogue) c.in_ok-states.states.items home

@@ -19,7 +19,7 @@ put-requires-clause-copies g c =
     let but = all_but c.args.copy f in
     let old : IsIndexed k but _ = rw (← c.self.view_is) at c.requires.indexed in
     rw c.title_of.ensures.title (few_of_title k but but c.args.copy _ old (but_here f c.args.copy) c.requires.copy
-    c.facts_are_in_range.ensures.copies)
+    c.title_of.ensures.facts.copies)
 
 pub put-requires-clause-copies_of_home : goal.put-requires-clause-copies_of_home
 put-requires-clause-copies_of_home g c =
@@ -28,7 +28,7 @@ put-requires-clause-copies_of_home g c =
     let but = all_but c.args.copy f in
     let old : IsIndexed k but _ = rw (← c.self.view_is) at c.requires.indexed in
     rw (c.title_of.ensures.title, c.home.ensures.branch)
-    (few_of_home k but but c.args.copy _ old (but_here f c.args.copy) c.requires.copy c.facts_are_in_range.ensures.copies)
+    (few_of_home k but but c.args.copy _ old (but_here f c.args.copy) c.requires.copy c.title_of.ensures.facts.copies)
 
 pub returns-in-Shelf-clause-indexed : goal.returns-in-Shelf-clause-indexed
 returns-in-Shelf-clause-indexed g c =

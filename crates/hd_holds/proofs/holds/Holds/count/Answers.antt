@@ -1,6 +1,5 @@
-use Rattle.std.proofs.Common.{◌≤◌, arith, ap}
+use Rattle.std.proofs.Common.{◌≤◌, arith}
 use Rattle.hd_rules.specs.Facts.{AreInRange}
-use Rattle.hd_holds.specs.HoldsValue.{HoldsValue}
 use Rattle.hd_holds.specs.Held.{facts}
 use Rattle.hd_holds.proofs.Queues.{count-queue, few-holds}
 use Rattle.hd_holds.proofs.holds.Holds.count.Goals as goal
@@ -9,8 +8,7 @@ pub overflow_cast-result : goal.overflow_cast-result
 overflow_cast-result g c =
     let few : c.len.result ≤ (facts c.args.self.now).patrons =
     rw (c.len.ensures, c.queue.ensures.value) (few-holds c.args.self.now c.args.title c.queue.ensures.queue) in
-    let range : AreInRange (facts c.args.self.now) =
-    rw (c.deref.ensures, ap (λ (v : HoldsValue). v.contents) c.self.view_is) at c.facts_are_in_range.ensures in
+    let range : AreInRange (facts c.args.self.now) = c.queue.ensures.all.range in
     omega arith
 
 pub returns : goal.returns

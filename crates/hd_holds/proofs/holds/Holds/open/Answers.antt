@@ -1,5 +1,6 @@
 use Rattle.std.proofs.Common.{◌≡◌, ◌∙◌, ap, refl, arith}
 use Rattle.std.specs.Arc.{arc_value}
+use Rattle.hd_rules.specs.Facts.{AreInRange}
 use Rattle.std.proofs.lemmas.Grind.{common_steps}
 use Rattle.hd_catalogue.specs.Contents.{Contents, facts_of}
 use Rattle.hd_holds.proofs.Queues.{empty-more, held-empty, queues-empty}
@@ -19,7 +20,8 @@ pub invariant_of-result : goal.invariant_of-result
 invariant_of-result g c =
     let titles : c.titles-titles.result ≡ (facts_of (arc_value c.args.catalogue)).titles =
     c.titles-titles.ensures.count ∙ ap (λ (k : Contents). (facts_of k).titles) c.deref.ensures in
-    queues-empty (facts_of (arc_value c.args.catalogue)) c.loop.queues.items c.loop.invariant.0 (omega arith)
+    let range : AreInRange (facts_of (arc_value c.args.catalogue)) = rw c.deref.ensures at c.titles-titles.ensures.facts in
+    queues-empty (facts_of (arc_value c.args.catalogue)) c.loop.queues.items range c.loop.invariant.0 (omega arith)
 
 pub returns-clause-none : goal.returns-clause-none
 returns-clause-none g c = held-empty (record { contents = arc_value c.args.catalogue; queues = c.loop.queues.items }) c.loop.invariant.0
