@@ -1,4 +1,4 @@
-use Rattle.std.proofs.Common.{ap, refl, sym, [], append-nil}
+use Rattle.std.proofs.Common.{◌∙◌, ap, refl, sym, [], append-nil}
 use Rattle.hd_message.specs.Replies.{login_text}
 use Rattle.hd_exchange.specs.declared.message.Message.TheVariants as OfMessage
 use Rattle.hd_exchange.proofs.Answering.{answer_of}
