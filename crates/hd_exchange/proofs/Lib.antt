@@ -1,2 +1,5 @@
 pub mod Answering
 pub mod Replying
+pub mod OneReading
+pub mod OneReply
+pub mod OneAnswer

@@ -15,3 +15,5 @@ pub mod ItemReplies
 pub mod Replies
 -- and all together, what a body is answered: `IsAnswer`, which may be read first.
 pub mod Answers
+-- And what turns are asked, for the law that this is one.
+pub mod Turns

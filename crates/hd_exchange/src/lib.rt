@@ -22,6 +22,7 @@ mod incoming;
 mod item_replies;
 mod items;
 mod journals;
+mod laws;
 mod loan_replies;
 mod login;
 mod logins;
@@ -40,6 +41,7 @@ mod unreadable;
 mod writing;
 
 pub use crate::fault::OfficeFault;
+pub use crate::laws::each_body_has_one_answer;
 pub use crate::login::Login;
 pub use crate::office::Office;
 pub use crate::responding::respond;

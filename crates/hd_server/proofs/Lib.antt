@@ -7,3 +7,4 @@ pub mod Playing
 pub mod Replayed
 pub mod Reading
 pub mod Ended
+pub mod Determined

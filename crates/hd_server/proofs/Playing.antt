@@ -9,6 +9,7 @@ use Rattle.hd_catalogue.specs.Contents.{Contents}
 use Rattle.hd_exchange.specs.declared.fault.OfficeFault.{OfficeFault}
 use Rattle.hd_exchange.specs.declared.fault.OfficeFault.TheVariants as office
 use Rattle.std.proofs.Math.Seq.{take-append_seam}
+use Rattle.hd_session.specs.Endings.{EndsWell}
 use Rattle.hd_session.specs.Scripts.{AreFed, Event, IsFaultOf, Plays, Step, session_at, written}
 use Rattle.hd_session.specs.Sessions.{Hearing, new_session}
 use Rattle.hd_session.specs.declared.ended.Ended.{Ended}
@@ -19,7 +20,7 @@ use Rattle.std.specs.List.{All}
 use Rattle.hd_server.specs.declared.fault.ServerFault.{ServerFault}
 use Rattle.hd_server.specs.declared.fault.ServerFault.TheVariants as fault
 use Rattle.hd_server.specs.Inputs.{AreLines, HasSession, Message, line_of}
-use Rattle.hd_server.specs.Printing.{ArePrinted, EndsWell, IsPrinted, Prints, end_text, printed}
+use Rattle.hd_server.specs.Printing.{ArePrinted, IsPrinted, Prints, end_text, printed}
 use Rattle.hd_server.specs.Replays.{AreEmpty, AreWellToLast, IsWell, PartReplayed, Progress, ReplayedOnto, ReplayedUpTo, Replays, faults}
 use Rattle.hd_server.proofs.Lining.{all_one}
 

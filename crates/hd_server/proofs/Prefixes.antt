@@ -46,7 +46,7 @@ number_of_digits n digits few (inr (two, len, first, second)) =
     two_bytes (a ∷ b ∷ c ∷ d) len = absurd (omega (arith, len))
 
 -- no blank stands in it
-no_blank : (n : ℕ) → IsNumber n → Contains (decimal n) 32 → ⊥
+pub no_blank : (n : ℕ) → IsNumber n → Contains (decimal n) 32 → ⊥
 no_blank n is there =
     ⊎_elim
     (λ one. in_one n one (subst (λ (d : List ℕ). Contains d 32) (decimal_digit n one) there))

@@ -2,3 +2,4 @@ pub mod Inputs
 pub mod Printing
 pub mod Replays
 pub mod Ends
+pub mod Endings

@@ -1,5 +1,5 @@
 -- What is printed of a script's events.
-use Rattle.std.specs.Prelude.{◌≡◌, ◌⊎◌, ℕ, ◌+◌, List, [], ◌∷◌, ◌++◌, Option, None, Some, Result, Ok, Err}
+use Rattle.std.specs.Prelude.{◌≡◌, ℕ, ◌+◌, List, [], ◌∷◌, ◌++◌, Option, None, Some, Result, Ok, Err}
 use Rattle.std.specs.Prelude.{codes}
 use Rattle.std.specs.Prelude.{decimal, flat_map}
 use Rattle.hd_session.specs.Scripts.{Event}
@@ -15,10 +15,6 @@ printed number text = decimal number ++ 32 ∷ (text ++ 10 ∷ [])
 abbrev pub end_text : ℕ → Option Ended → List ℕ
 end_text number (Some TooLong) = printed number (codes "ENDED")
 end_text number end = []
-
--- a session goes on, or a line too long has ended it
-abbrev pub EndsWell : Option Ended → Type 0
-EndsWell end = (end ≡ None) ⊎ (end ≡ Some TooLong)
 
 -- Of an event each reply is printed, without its carriage return (13), and that its session has ended.
 -- Sessions are counted from 0, and numbered from 1.

@@ -7,6 +7,7 @@ use Rattle.hd_catalogue.specs.Contents.{Contents}
 use Rattle.hd_journal.specs.Books.{IsLegalBook}
 use Rattle.hd_exchange.specs.declared.fault.OfficeFault.{OfficeFault}
 use Rattle.hd_exchange.specs.declared.fault.OfficeFault.TheVariants as fault
+use Rattle.hd_session.specs.Endings.{EndsWell}
 use Rattle.hd_session.specs.Scripts.{AreFed, Event, Step, session_at, turns_of}
 use Rattle.hd_session.specs.Sessions.{Hearing, new_session}
 use Rattle.hd_session.specs.declared.ended.Ended.TheVariants as ended
@@ -14,7 +15,7 @@ use Rattle.hd_server.specs.declared.fault.ServerFault.{ServerFault}
 use Rattle.hd_server.specs.declared.fault.ServerFault.TheVariants.{Catalogue, BadNow, NoSession, InputTooLong}
 use Rattle.hd_server.specs.declared.fault.ServerFault.TheVariants.{Read, Write, Memory}
 use Rattle.hd_server.specs.Inputs.{HasSession, IsLineOf, Message, line_of}
-use Rattle.hd_server.specs.Printing.{ArePrinted, Begins, EndsWell}
+use Rattle.hd_server.specs.Printing.{ArePrinted, Begins}
 
 -- How far a replay has come: the library, the present, the sessions, the turns made, and the number of lines
 -- answered.

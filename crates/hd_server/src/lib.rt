@@ -2,6 +2,7 @@
 #![tactic(auto)]
 
 mod fault;
+mod laws;
 mod prefix;
 mod printing;
 mod replaying;
@@ -11,4 +12,5 @@ mod stream;
 mod tests;
 
 pub use crate::fault::ServerFault;
+pub use crate::laws::replays_are_determined;
 pub use crate::replaying::replay;

@@ -2,8 +2,9 @@
 ghost use Rattle.std.specs.Prelude.{◌≡◌, ◌≢◌, ◌+◌, ◌∷◌, [], ◌++◌, ℕ, IfErr, List, MatchResult, OnOk, Some};
 ghost use Rattle.std.specs.Prelude.{flat_map};
 ghost use Rattle.hd_server.specs.Inputs.{AreLines};
-ghost use Rattle.hd_server.specs.Printing.{EndsWell, Prints, end_text, printed};
+ghost use Rattle.hd_server.specs.Printing.{Prints, end_text, printed};
 ghost use Rattle.hd_server.specs.declared.fault.ServerFault.TheVariants as fault;
+ghost use Rattle.hd_session.specs.Endings.{EndsWell};
 ghost use Rattle.hd_session.specs.declared.ended.Ended.TheVariants as ended;
 
 use crate::fault::ServerFault;

@@ -5,3 +5,4 @@ pub mod Causes
 pub mod Playing
 pub mod Knowing
 pub mod Strangers
+pub mod Determined

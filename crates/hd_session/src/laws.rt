@@ -1,16 +1,17 @@
 //! The laws of sessions.
 ghost use Rattle.std.specs.Prelude.{◌≡◌, ◌<◌, ◌≤◌, ◌+◌, ◌*◌, ◌++◌, ℕ, All, List, Some, length};
 ghost use Rattle.hd_date.specs.Stamps.{Stamp};
-ghost use Rattle.hd_rules.specs.Journal.{Turn};
-ghost use Rattle.hd_catalogue.specs.Contents.{Contents};
+ghost use Rattle.hd_rules.specs.Journal.{IsLegal, Turn};
+ghost use Rattle.hd_catalogue.specs.Contents.{Contents, facts_of};
 ghost use Rattle.hd_field.specs.Streams.{lines_in};
+ghost use Rattle.hd_session.specs.Endings.{EndsWell};
 ghost use Rattle.hd_session.specs.Scripts.{AreFed, Event, Step};
 ghost use Rattle.hd_session.specs.Scripts.{events_of, pieces_of, session_at, turns_of, written};
 ghost use Rattle.hd_session.specs.Sessions.{AreFedTo, Hearing, IsFed, Piece, new_session, stream};
 ghost use Rattle.hd_session.specs.declared.ended.Ended.TheVariants.{Estranged};
 ghost use Rattle.hd_exchange.specs.declared.fault.OfficeFault.TheVariants as fault;
 
-use hd_exchange::Office;
+use hd_exchange::{Office, each_body_has_one_answer};
 use std::alloc::Allocator;
 
 /// A session that is fed a piece of its stream and then another at the same present is one that is fed both
@@ -70,3 +71,20 @@ pub fn no_session_is_estranged<A: Allocator, O: Office<A>>()
         → All (λ event. ¬ event.ended ≡ Some Estranged) events
         × ((i : ℕ) → ¬ (session_at ss' i).ended ≡ Some Estranged) }
 {}
+
+/// A script in which each session goes on, or is ended by a line too long, is determined by its pieces. Where
+/// it is played twice from sessions that are alike, each time at a legal journal that goes on from the same
+/// turns, the same events come of it (the turns, the replies and the ends), and the sessions are alike again.
+pub fn scripts_are_determined<A: Allocator, O: Office<A>>()
+    ensures { (k : Contents) (seat : ℕ) (turns : List Turn) (steps : List Step)
+        (ss ends ends' : List Hearing) (events events' : List Event)
+        → IsLegal (facts_of k) (turns ++ turns_of events)
+        → IsLegal (facts_of k) (turns ++ turns_of events')
+        → All (λ event. EndsWell event.ended) events
+        → All (λ event. EndsWell event.ended) events'
+        → AreFed k seat O.faults steps ss events ends
+        → AreFed k seat O.faults steps ss events' ends'
+        → (events ≡ events') × (ends ≡ ends') }
+{
+    each_body_has_one_answer();
+}
