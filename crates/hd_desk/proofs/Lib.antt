@@ -3,3 +3,4 @@ pub mod Following
 pub mod Writing
 pub mod Making
 pub mod Planned
+pub mod TakenBack

@@ -11,16 +11,14 @@ use Rattle.hd_rules.specs.declared.cells.Value.{Value}
 use Rattle.hd_rules.specs.declared.cells.Value.TheVariants.{Copy as CopyHas, Hold as HoldHas}
 use Rattle.hd_rules.specs.declared.cells.Change.{Change}
 use Rattle.hd_rules.specs.Facts.{Facts}
-use Rattle.hd_rules.specs.Desk.{Desk, put, value, same_cell}
+use Rattle.hd_rules.specs.Desk.{Desk, put, value}
 use Rattle.hd_rules.specs.Choose.{stands_at}
 use Rattle.hd_rules.specs.Known.{IsKnownCell, IsKnownValue, IsKnownDesk}
 use Rattle.hd_rules.specs.Run.{IsAmong, AreChanges, Fits}
 use Rattle.hd_rules.specs.Sound.{IsFit, EachOnIsFit}
 use Rattle.hd_rules.specs.Same.{same_value}
-use Rattle.hd_rules.proofs.Alike.{value_is}
 use Rattle.hd_rules.proofs.Same.{differs}
 use Rattle.hd_rules.proofs.Tests.{and_left, and_right, number_is}
-use Rattle.hd_rules.proofs.Undo.{put_elsewhere, put_same, same_cell_is, same_desk}
 use Rattle.hd_copies.specs.Standing.{IsWelcome}
 use Rattle.hd_holds.specs.Held.{IsWelcome as IsWelcomeHold}
 use Rattle.hd_inverse.specs.Cells.{AreApart, AreKnown, IsFromOne, MayHave}

@@ -12,7 +12,7 @@ ghost use Rattle.hd_rules.specs.Step.{plan};
 ghost use Rattle.hd_footprint.specs.Meter.{add};
 ghost use Rattle.hd_footprint.specs.declared.count.Count.TheVariants.{Step};
 ghost use Rattle.hd_desk.specs.Asking.{AreKnownQuestions, asked_of, ending_of, some_otherwise};
-ghost use Rattle.hd_inverse.specs.Cells.{AreApart, AreKnown};
+ghost use Rattle.hd_inverse.specs.Cells.{CanBeUndone};
 ghost use Rattle.hd_inverse.specs.Work.{written};
 ghost use Rattle.hd_desk.specs.Cells.{IsShort};
 ghost use Rattle.hd_desk.specs.Desks.{contents, desk_of, facts, outcome_at};
@@ -38,7 +38,7 @@ impl<A: Allocator + Copy> Desk<A> {
     /// Want of memory comes after every refusal, and only where `ready` would lack room for the changes.
     /// Neither changes anything but the meter. That counts one command step, and one cell written per change.
     ///
-    /// The changes are of distinct cells, and can be taken back ([`undo`](hd_inverse::undo)).
+    /// The changes can be taken back at once ([`undo`](hd_inverse::undo)), and then the desk is as before.
     pub fn apply(
         &mut self,
         number: u64,
@@ -53,8 +53,8 @@ impl<A: Allocator + Copy> Desk<A> {
             (asks (facts self.old) (desk_of self.old) (plan (facts self.old) number command.now))) }
         ensures after { IfOk result (λ done. desk_of self.new ≡ after done.changes (desk_of self.old)) }
         ensures full { IsShort self.old (outcome_at self.old number command.now) result }
-        ensures known { IfOk result (λ done. AreKnown (facts self.new) done.changes) }
-        ensures apart { IfOk result (λ done. AreApart done.changes) }
+        ensures back { IfOk result (λ done. CanBeUndone (facts self.new) (desk_of self.old)
+            (desk_of self.new) done.changes) }
         ensures unchanged { OnErr result (desk_of self.new ≡ desk_of self.old) }
         ensures contents { contents self.new ≡ contents self.old }
         ensures sound { Sound (facts self.new) (number + 1) (desk_of self.new) }

@@ -1,13 +1,15 @@
 -- Cells that can be written, and changes of them that can be made and taken back.
-use Rattle.std.specs.Prelude.{ℕ, ◌≤◌, List, [], ◌∷◌}
+use Rattle.std.specs.Prelude.{◌≡◌, ℕ, ◌≤◌, List, [], ◌∷◌}
 use Rattle.hd_rules.specs.declared.copies.CopyState.TheVariants.{Shelf, OnLoan, OnHoldShelf, InTransit}
 use Rattle.hd_rules.specs.declared.cells.Cell.{Cell}
 use Rattle.hd_rules.specs.declared.cells.Value.{Value}
 use Rattle.hd_rules.specs.declared.cells.Value.TheVariants.{Copy as CopyHas, Hold as HoldHas}
 use Rattle.hd_rules.specs.declared.cells.Change.{Change}
 use Rattle.hd_rules.specs.Facts.{Facts}
+use Rattle.hd_rules.specs.Desk.{Desk, undone}
 use Rattle.hd_rules.specs.Known.{IsKnownCell, IsKnownValue}
 use Rattle.hd_rules.specs.Run.{Elsewhere, Fits}
+use Rattle.hd_rules.specs.Sound.{EachBackIsFit}
 
 -- where it is a place on a hold shelf, one from 1
 abbrev pub IsFromOne : Value → Type 0
@@ -39,3 +41,10 @@ abbrev pub HaveRoom : (Cell → Value → ℕ → Type 0) → ℕ → List Chang
 HaveRoom has_room more [] = Unit {0}
 HaveRoom has_room more (c ∷ cs) =
     has_room c.cell c.old more × has_room c.cell c.new more × HaveRoom has_room more cs
+
+-- the changes led from the first desk to the second, and can be taken back there
+pub record CanBeUndone (k : Facts) (d e : Desk) (changes : List Change) : Type 0 where
+  pub known : AreKnown k changes
+  pub apart : AreApart changes
+  pub fit : EachBackIsFit k changes e
+  pub before : undone changes e ≡ d

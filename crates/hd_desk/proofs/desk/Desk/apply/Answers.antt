@@ -1,10 +1,11 @@
 use Rattle.std.proofs.Common.{sym, ◌∙◌, subst, ◌+◌, List, arith}
 use Rattle.hd_rules.specs.declared.cells.Change.{Change}
+use Rattle.hd_rules.specs.Desk.{after}
 use Rattle.hd_inverse.specs.Cells.{AreKnown}
 use Rattle.hd_desk.specs.Desks.{desk_of, facts}
 use Rattle.hd_desk.proofs.Kept.{sound-later, sound-same}
 use Rattle.hd_desk.proofs.Planned.{followed, found-so, planned, may-make, left-sound, still-sound, was-short}
-use Rattle.hd_catalogue.specs.Contents.{Contents, facts_of}
+use Rattle.hd_desk.proofs.TakenBack.{taken-back}
 use Rattle.hd_desk.proofs.desk.Desk.apply.Goals as goal
 
 pub returns-in-Err-clause-outcome : goal.returns-in-Err-clause-outcome
@@ -111,21 +112,14 @@ returns-then-is_err-clause-full g c =
     was-short c.args.self.now _ _ c.changes-2.result.now c.ready.result c.is_err.result p.outcome c.changes-2.ensures.changes
     c.is_err.ensures.value c.if-is_err.true c.ready.ensures.full
 
-pub returns-clause-known : goal.returns-clause-known
-returns-clause-known g c =
+pub returns-clause-back : goal.returns-clause-back
+returns-clause-back g c =
     let p =
     planned c.args.self.now c.args.number c.args.command.now c.new-inquiry.result c.follow.result c.follow.new.self.asked c.in-Ok.accepted
     (record { changes = c.accepted.inside.changes; reply = c.accepted.inside.reply })
     c.new-inquiry.ensures.start c.follow.ensures.ends c.in-Ok.is c.accepted.view_is c.new-inquiry.ensures.kept c.requires.known
     c.requires.sound in
-    subst (λ (x : Contents). AreKnown (facts_of x) c.accepted.inside.changes) (sym (c.make.ensures.contents ∙ c.ready.ensures.contents))
-    p.can.known
-
-pub returns-clause-apart : goal.returns-clause-apart
-returns-clause-apart g c =
-    let p =
-    planned c.args.self.now c.args.number c.args.command.now c.new-inquiry.result c.follow.result c.follow.new.self.asked c.in-Ok.accepted
+    taken-back c.args.self.now c.make.new.self c.args.number c.args.command.now
     (record { changes = c.accepted.inside.changes; reply = c.accepted.inside.reply })
-    c.new-inquiry.ensures.start c.follow.ensures.ends c.in-Ok.is c.accepted.view_is c.new-inquiry.ensures.kept c.requires.known
-    c.requires.sound in
-    p.can.apart
+    c.requires.sound p.outcome p.can.known (c.make.ensures.contents ∙ c.ready.ensures.contents)
+    (c.make.ensures.desk ∙ (λ i. after (c.changes-3.ensures.changes i) (c.ready.ensures.desk i)))
