@@ -1,9 +1,11 @@
 //! Small examples of clashes, over a library of two branches.
 
-use crate::clashes;
+use crate::{clashes, mend};
 use hd_catalogue::Catalogue;
+use hd_footprint::Findings;
 use hd_rules::{
-    BranchNo, Cell, Change, CopyState, Finding, HoldPlace, Noted, PatronNo, Question, Value,
+    BranchNo, Cell, Change, CopyState, Finding, HoldKind, HoldPlace, Noted, PatronNo, Question,
+    Value,
 };
 use std::alloc::Global;
 use std::test::Fail;
@@ -56,5 +58,33 @@ fn a_place_rests_on_lower_ones(rt: HostRuntime) -> Result<(), Fail> {
     let catalogue = library(rt.alloc())?;
     assert_eq!(rt; place_clashes(&catalogue, b"north", 2), Some(true));
     assert_eq!(rt; place_clashes(&catalogue, b"south", 1), Some(false));
+    Ok(())
+}
+
+/// How many copies on open shelves are noted in place of two, without a copy's way there from the hold shelf.
+fn shelf_without(catalogue: &Catalogue, alloc: Global) -> Option<Noted> {
+    let copy = catalogue.copy(b"a1")?;
+    let north = catalogue.branch(b"north")?;
+    let changes = [Change {
+        cell: Cell::Copy(copy),
+        old: kept(catalogue.patron(b"p1")?, north),
+        new: Value::Copy(CopyState::Shelf(north)),
+    }];
+    let mut findings = Findings::new(alloc);
+    findings.push(Finding {
+        question: Question::OnShelf(catalogue.title(b"ta")?, HoldKind::Any, north),
+        noted: Noted::OnShelf(2),
+    });
+    mend(catalogue, &changes, &mut findings);
+    findings.findings().first().map(|finding| finding.noted)
+}
+
+#[test]
+fn a_copy_less_is_noted(rt: HostRuntime) -> Result<(), Fail> {
+    let catalogue = library(rt.alloc())?;
+    assert_eq!(rt;
+        shelf_without(&catalogue, rt.alloc()),
+        Some(Noted::OnShelf(1))
+    );
     Ok(())
 }
