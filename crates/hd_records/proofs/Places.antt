@@ -8,7 +8,7 @@ use Rattle.hd_rules.specs.Facts.{Facts}
 use Rattle.hd_rules.specs.Record.{Record}
 use Rattle.hd_rules.specs.Run.{Rising, next_number}
 use Rattle.hd_clash.specs.Shift.{shift_records}
-use Rattle.hd_records.specs.Known.{IsKnownRecord, EachRecordIsKnown}
+use Rattle.hd_clash.specs.Records.{IsKnownRecord, EachRecordIsKnown}
 use Rattle.hd_records.specs.Survivors.{survivor_of, survivors_of, changes_at}
 
 pub drop_at : (rs : List Record) (i : ℕ) (r : Record) → i < length rs → r ≡ get_or rs i r → drop i rs ≡ r ∷ drop (i + 1) rs

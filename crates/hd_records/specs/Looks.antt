@@ -1,5 +1,5 @@
 -- The work of walks over records, as a meter counts it.
-use Rattle.std.specs.Prelude.{ℕ, zero, suc, if◌then◌else◌, Option, Some, None, List, [], ◌∷◌, length, drop}
+use Rattle.std.specs.Prelude.{◌≡◌, ℕ, zero, suc, ◌+◌, ◌*◌, ◌≤◌, if◌then◌else◌, Option, Some, None, List, [], ◌∷◌, length, drop}
 use Rattle.hd_rules.specs.declared.cells.Change.{Change}
 use Rattle.hd_rules.specs.Facts.{Facts}
 use Rattle.hd_rules.specs.Record.{Record}
@@ -25,3 +25,21 @@ walked k changes [] counts = counts
 walked k changes (r ∷ rs) counts =
     if some_clash k changes r.findings then clash_work k changes r.findings (add counts Look)
     else walked k changes rs (clash_work k changes r.findings (add counts Look))
+
+-- how many questions the records have, with their noted answers
+abbrev pub questions_of : List Record → ℕ
+questions_of [] = 0
+questions_of (r ∷ rs) = length r.findings + questions_of rs
+
+-- at most so many looks, at most four comparisons for each of so many questions, and no other work
+pub record IsWalk (most questions : ℕ) (old new : Counts) : Type 0 where
+  pub looks : new.looks ≤ old.looks + most
+  pub compared : new.compared ≤ old.compared + 4 * questions
+  pub steps : new.steps ≡ old.steps
+  pub written : new.written ≡ old.written
+
+-- so it is with looks alone, and with a walk for changes, of which there are at most four
+pub record WalksAreShort : Type 0 where
+  pub looks : (n : ℕ) (counts : Counts) → IsWalk n 0 counts (looked n counts)
+  pub walk : (k : Facts) (changes : List Change) (records : List Record) (counts : Counts) → length changes ≤ 4
+      → IsWalk (length records) (questions_of records) counts (walked k changes records counts)

@@ -4,12 +4,16 @@
 //! later one first depends on it, and what the later ones found without it. No command is run again.
 #![tactic(auto)]
 
+mod laws;
 mod record;
 mod records;
 mod survivors;
 mod targets;
+#[cfg(test)]
+mod tests;
 mod walking;
 
+pub use crate::laws::walks_are_short;
 pub use crate::record::{RecordRef, StoredRecord};
 pub use crate::records::Records;
 pub use crate::survivors::Survivors;

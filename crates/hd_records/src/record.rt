@@ -93,7 +93,8 @@ impl StoredRecord {
 
     /// The record, lent part by part.
     pub fn show(&self) -> RecordRef<'_>
-        ensures { shown result ≡ self.now }
+        ensures shown { shown result ≡ self.now }
+        ensures few { length result.changes.now ≤ 4 }
     {
         RecordRef {
             survivor: self.survivor,

@@ -1,14 +1,14 @@
 //! The records, by number.
 #![tactic(auto)]
 
-ghost use Rattle.std.specs.Prelude.{◌≡◌, ◌≤◌, ◌<◌, ◌+◌, ◌++◌, ◌∷◌, [], length, drop, take, option_map};
+ghost use Rattle.std.specs.Prelude.{◌≡◌, ◌≤◌, ◌<◌, ◌+◌, ◌++◌, ◌∷◌, [], length, drop, take, option_map, slice_index_or};
 ghost use Rattle.std.specs.Prelude.{IfSome, MatchOption, None, OnErr, OnOk};
 ghost use Rattle.hd_catalogue.specs.Contents.{facts_of};
 ghost use Rattle.hd_clash.specs.Clash.{first_clash};
 ghost use Rattle.hd_clash.specs.Shift.{shift_records};
 ghost use Rattle.hd_rules.specs.Run.{Rising, next_number};
 ghost use Rattle.hd_rules.specs.Target.{target};
-ghost use Rattle.hd_records.specs.Known.{EachRecordIsKnown};
+ghost use Rattle.hd_clash.specs.Records.{EachRecordIsKnown};
 ghost use Rattle.hd_records.specs.Looks.{looked, looks_to, walked};
 ghost use Rattle.hd_records.specs.Shown.{shown};
 ghost use Rattle.hd_records.specs.Survivors.{IsTargetAt, changes_at, record_of, survivors_of};
@@ -91,6 +91,16 @@ impl<A: Allocator + Copy> Records<A> {
         ensures { option_map shown result ≡ record_of number self.now.records }
     {
         walking::find(self.records.as_slice(), number)
+    }
+
+    /// The record at a place.
+    pub fn at(&self, place: usize) -> RecordRef<'_>
+        requires { place < length self.now.records }
+        ensures there { shown result ≡ slice_index_or self.now.records place (shown result) }
+        ensures changes { result.changes.now ≡ changes_at place self.now.records }
+        ensures few { length result.changes.now ≤ 4 }
+    {
+        self.records[place].show()
     }
 
     /// The survivors, by number.

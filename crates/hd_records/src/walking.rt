@@ -9,7 +9,7 @@ ghost use Rattle.hd_catalogue.specs.Contents.{facts_of};
 ghost use Rattle.hd_clash.specs.Clash.{first_clash};
 ghost use Rattle.hd_clash.specs.Law.{EachCellIsKnown};
 ghost use Rattle.hd_clash.specs.Shift.{shift_records};
-ghost use Rattle.hd_records.specs.Known.{EachRecordIsKnown};
+ghost use Rattle.hd_clash.specs.Records.{EachRecordIsKnown};
 ghost use Rattle.hd_records.specs.Looks.{looked, looks_to, walked};
 ghost use Rattle.hd_records.specs.Shown.{shown};
 ghost use Rattle.hd_records.specs.Survivors.{IsTargetAt, record_of, survivors_of};

@@ -25,7 +25,7 @@ returns-then-survivor-number c =
     IsPartitionPoint-from_clause (λ r. nat_lt r.number c.args.number) rs c.partition_point-at.result c.partition_point-at.ensures.partitioned
     parted (λ a r q k. search rules) in
     let look = c.in_ok-stored.ensures.lookup in
-    ap (λ (x : Record). Some x) c.show.ensures
+    ap (λ (x : Record). Some x) c.show.ensures.shown
     ∙ sym (found_there c.args.number rs c.partition_point-at.result c.in_ok-stored.stored.now (omega arith) look.1 point
     (ap (λ (x : Survivor). x.number) (sym c.survivor.ensures) ∙ c.if-survivor-number.true))
 

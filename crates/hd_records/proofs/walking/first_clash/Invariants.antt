@@ -1,7 +1,7 @@
 use Rattle.std.proofs.Common.{◌≡◌, drop}
 use Rattle.hd_catalogue.specs.Contents.{facts_of}
 use Rattle.hd_clash.specs.Clash.{first_clash}
-use Rattle.hd_records.specs.Known.{EachRecordIsKnown}
+use Rattle.hd_clash.specs.Records.{EachRecordIsKnown}
 use Rattle.hd_records.specs.Looks.{walked}
 use Rattle.hd_records.proofs.walking.first_clash.Given as goal
 

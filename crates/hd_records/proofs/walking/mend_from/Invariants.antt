@@ -1,7 +1,7 @@
 use Rattle.std.proofs.Common.{◌≡◌, ◌++◌, drop, take, length, vec_capacity}
 use Rattle.hd_catalogue.specs.Contents.{facts_of}
 use Rattle.hd_clash.specs.Shift.{shift_records}
-use Rattle.hd_records.specs.Known.{EachRecordIsKnown}
+use Rattle.hd_clash.specs.Records.{EachRecordIsKnown}
 use Rattle.hd_records.specs.Looks.{looked}
 use Rattle.hd_records.proofs.walking.mend_from.Given as goal
 

@@ -4,7 +4,7 @@ use Rattle.hd_rules.specs.Record.{Record}
 use Rattle.hd_catalogue.specs.Contents.{facts_of}
 use Rattle.hd_clash.specs.Clash.{first_clash}
 use Rattle.hd_clash.specs.Law.{EachCellIsKnown}
-use Rattle.hd_records.specs.Known.{EachRecordIsKnown}
+use Rattle.hd_clash.specs.Records.{EachRecordIsKnown}
 use Rattle.hd_records.specs.Looks.{walked}
 use Rattle.hd_records.specs.RecordsValue.{RecordsValue}
 use Rattle.hd_records.specs.Survivors.{changes_at}

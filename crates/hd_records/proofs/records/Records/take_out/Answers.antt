@@ -5,7 +5,7 @@ use Rattle.hd_rules.specs.Run.{Rising}
 use Rattle.hd_catalogue.specs.Contents.{facts_of}
 use Rattle.hd_clash.specs.Law.{EachCellIsKnown}
 use Rattle.hd_clash.specs.Shift.{shift_records}
-use Rattle.hd_records.specs.Known.{EachRecordIsKnown}
+use Rattle.hd_clash.specs.Records.{EachRecordIsKnown}
 use Rattle.hd_records.specs.RecordsValue.{RecordsValue}
 use Rattle.hd_records.specs.Survivors.{changes_at, survivors_of}
 use Rattle.hd_records.proofs.Places.{known_there, known_after, left_after, rising_mended, taken_out}
