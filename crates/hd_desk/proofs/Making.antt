@@ -1,6 +1,6 @@
 -- Making changes one after another.
 use Rattle.std.proofs.Common.{arith, ◌≡◌, refl, sym, ◌∙◌, ap, subst, ℕ, zero, suc, ◌+◌, ◌<◌, ◌≤◌, Bool, true, false, cond, not, List, []}
-use Rattle.std.proofs.Common.{◌∷◌, ◌++◌, length, drop, take, get_or}
+use Rattle.std.proofs.Common.{◌∷◌, ◌++◌, length, drop, take, get_or, Result, Ok, Err}
 use Rattle.std.proofs.lemmas.List.{drop_all, take_all, take_more}
 use Rattle.hd_rules.specs.declared.copies.CopyState.{CopyState}
 use Rattle.hd_rules.specs.declared.holds.Hold.{Hold}
@@ -9,13 +9,14 @@ use Rattle.hd_rules.specs.declared.cells.Cell.TheVariants.{Copy as CopyCell, Hol
 use Rattle.hd_rules.specs.declared.cells.Value.{Value}
 use Rattle.hd_rules.specs.declared.cells.Value.TheVariants.{Copy as CopyHas, Hold as HoldHas}
 use Rattle.hd_rules.specs.declared.cells.Change.{Change}
-use Rattle.std.specs.Prelude.{Option}
+use Rattle.std.specs.Prelude.{Option, OnErr}
 use Rattle.hd_rules.specs.Facts.{Facts}
-use Rattle.hd_rules.specs.Desk.{Desk, put, after}
-use Rattle.hd_rules.specs.Known.{IsKnownCell, IsKnownValue}
-use Rattle.hd_rules.specs.Run.{Fits}
+use Rattle.hd_rules.specs.Desk.{put, after, same_cell}
+use Rattle.hd_rules.specs.Known.{IsKnownCell}
+use Rattle.hd_rules.specs.Run.{Elsewhere}
 use Rattle.hd_rules.specs.Same.{real_changes, same_value}
 use Rattle.hd_rules.specs.Sound.{IsFit, EachOnIsFit}
+use Rattle.hd_rules.proofs.Undo.{same_cell_is, same_cell_refl}
 use Rattle.hd_catalogue.specs.Contents.{Contents, facts_of}
 use Rattle.hd_copies.specs.Standing.{standing, IsWelcome}
 use Rattle.hd_holds.specs.Held.{held, IsWelcome as IsWelcomeHold}
@@ -23,7 +24,10 @@ use Rattle.hd_footprint.specs.Meter.{Counts, add}
 use Rattle.hd_footprint.specs.declared.count.Count.TheVariants.{Written}
 use Rattle.hd_desk.specs.DeskValue.{DeskValue}
 use Rattle.hd_desk.specs.Desks.{contents, desk_of, facts}
-use Rattle.hd_desk.specs.Cells.{AreKnown, HasRoomFor, HaveRoom, IsFromOneValue, written}
+use Rattle.hd_inverse.specs.Cells.{AreApart, AreKnown, HaveRoom, MayHave}
+use Rattle.hd_inverse.specs.Work.{written}
+use Rattle.hd_desk.specs.Cells.{HasRoomFor}
+use Rattle.hd_desk.specs.Rooms.{fewer}
 use Rattle.hd_desk.proofs.Writing.{copy-welcome, hold-welcome, drop_at}
 
 -- what a desk's cells ask of a write
@@ -43,40 +47,60 @@ put-hold d cell v t p o is_cell is_value fit =
     (subst (λ (w : Value). IsFit (facts d) (put (desk_of d) (HoldCell t p) w)) is_value
     (subst (λ (x : Cell). IsFit (facts d) (put (desk_of d) x v)) is_cell fit))
 
--- room for more is room for fewer
-room-less : (d : DeskValue) (x : Cell) (v : Value) (m n : ℕ) → m ≤ n → HasRoomFor d x v n → HasRoomFor d x v m
-room-less d (CopyCell c) (CopyHas s) m n le room = room
-room-less d (CopyCell c) (HoldHas o) m n le room = tt
-room-less d (HoldCell t p) v m n le room = omega arith
+-- cells that are two, whichever comes first
+two_cells : (x y : Cell) → same_cell x y ≡ false → same_cell y x ≡ false
+two_cells x y two = by_test (same_cell y x) refl
+  where
+    by_test : (b : Bool) → same_cell y x ≡ b → b ≡ false
+    by_test false is = refl
+    by_test true is =
+        let one : y ≡ x = same_cell_is y x is in
+        let both : true ≡ false = sym (same_cell_refl x) ∙ ap (same_cell x) (sym one) ∙ two in cc
 
-room-on : (d e : DeskValue) (m n : ℕ) (cs : List Change) → ((x : Cell) (v : Value) → HasRoomFor d x v m → HasRoomFor e x v n) →
-    HaveRoom d m cs → HaveRoom e n cs
-room-on d e m n [] goes room = tt
-room-on d e m n (c ∷ cs) goes room = (goes c.cell c.new room.0, room-on d e m n cs goes room.1)
+-- room for more is room for fewer, and what is left of it after a write of another cell
+room-left : (d e : DeskValue) (n : ℕ) (y : Cell) (cs : List Change) →
+    ((x : Cell) (v : Value) (n : ℕ) → same_cell y x ≡ false → HasRoomFor d x v (n + 1) → HasRoomFor e x v n) → Elsewhere y cs →
+    HaveRoom (HasRoomFor d) (n + 1) cs → HaveRoom (HasRoomFor e) n cs
+room-left d e n y [] goes there room = tt
+room-left d e n y (c ∷ cs) goes there room = (
+  goes c.cell c.old n (two_cells c.cell y there.0) room.0,
+  goes c.cell c.new n (two_cells c.cell y there.0) room.1,
+  room-left d e n y cs goes there.1 room.2,
+)
 
-room-more : (d : DeskValue) (n : ℕ) (cs : List Change) (c : Change) → HaveRoom d n cs → HasRoomFor d c.cell c.new n →
-    HaveRoom d n (cs ++ c ∷ [])
-room-more d n [] c room one = (one, tt)
-room-more d n (x ∷ xs) c room one = (room.0, room-more d n xs c room.1 one)
+room-on : (d e : DeskValue) (n : ℕ) (cs : List Change) → ((x : Cell) (v : Value) (n : ℕ) → HasRoomFor d x v n → HasRoomFor e x v n) →
+    HaveRoom (HasRoomFor d) n cs → HaveRoom (HasRoomFor e) n cs
+room-on d e n [] goes room = tt
+room-on d e n (c ∷ cs) goes room = (goes c.cell c.old n room.0, goes c.cell c.new n room.1, room-on d e n cs goes room.2)
+
+room-more : (d : DeskValue) (n : ℕ) (cs : List Change) (c : Change) → HaveRoom (HasRoomFor d) n cs → HasRoomFor d c.cell c.old n →
+    HasRoomFor d c.cell c.new n → HaveRoom (HasRoomFor d) n (cs ++ c ∷ [])
+room-more d n [] c room old new = (old, new, tt)
+room-more d n (x ∷ xs) c room old new = (room.0, room.1, room-more d n xs c room.2 old new)
+
+room-from : (d : DeskValue) (n : ℕ) (cs : List Change) (i : ℕ) → HaveRoom (HasRoomFor d) n cs → HaveRoom (HasRoomFor d) n (drop i cs)
+room-from d n cs zero room = room
+room-from d n [] (suc i) room = tt
+room-from d n (c ∷ cs) (suc i) room = room-from d n cs i room.2
 
 -- How far the changes were made: what is still to come, and that it can be made.
 pub record Making (d : DeskValue) (m : Counts) (cs : List Change) (i : ℕ) (now : DeskValue) (meter : Counts) : Type 0 where
   pub rest : after (drop i cs) (desk_of now) ≡ after cs (desk_of d)
   pub same : contents now ≡ contents d
   pub known : AreKnown (facts d) (drop i cs)
-  pub room : HaveRoom now (length (drop i cs)) (drop i cs)
+  pub apart : AreApart (drop i cs)
+  pub room : HaveRoom (HasRoomFor now) (length (drop i cs)) (drop i cs)
   pub fit : EachOnIsFit (facts d) (drop i cs) (desk_of now)
   pub counted : written (length (drop i cs)) meter ≡ written (length cs) m
 
-pub making-start : (d : DeskValue) (m : Counts) (cs : List Change) → AreKnown (facts d) cs → HaveRoom d (length cs) cs →
-    EachOnIsFit (facts d) cs (desk_of d) → Making d m cs 0 d m
-making-start d m cs known room fit = record { rest = refl; same = refl; known = known; room = room; fit = fit; counted = refl }
+pub making-start : (d : DeskValue) (m : Counts) (cs : List Change) → AreKnown (facts d) cs → AreApart cs →
+    HaveRoom (HasRoomFor d) (length cs) cs → EachOnIsFit (facts d) cs (desk_of d) → Making d m cs 0 d m
+making-start d m cs known apart room fit =
+    record { rest = refl; same = refl; known = known; apart = apart; room = room; fit = fit; counted = refl }
 
 -- the next change can be made
 pub record Next (now : DeskValue) (c : Change) : Type 0 where
-  pub cell : IsKnownCell (facts now) c.cell
-  pub known : IsKnownValue (facts now) c.new
-  pub kind : Fits c.cell c.new
+  pub known : MayHave (facts now) c.cell c.new
   pub room : HasRoomFor now c.cell c.new 1
   pub fit : IsFit (facts now) (put (desk_of now) c.cell c.new)
 
@@ -85,37 +109,39 @@ pub making-next : (d : DeskValue) (m : Counts) (cs : List Change) (i : ℕ) (now
 making-next d m cs i now meter c making below is =
     let at : drop i cs ≡ c ∷ drop (i + 1) cs = drop_at cs i c below is in
     let known : AreKnown (facts d) (c ∷ drop (i + 1) cs) = subst (AreKnown (facts d)) at making.known in
-    let room : HaveRoom now (length (c ∷ drop (i + 1) cs)) (c ∷ drop (i + 1) cs) =
-    subst (λ (xs : List Change). HaveRoom now (length xs) xs) at making.room in
+    let room : HaveRoom (HasRoomFor now) (length (c ∷ drop (i + 1) cs)) (c ∷ drop (i + 1) cs) =
+    subst (λ (xs : List Change). HaveRoom (HasRoomFor now) (length xs) xs) at making.room in
     let fit : EachOnIsFit (facts d) (c ∷ drop (i + 1) cs) (desk_of now) =
     subst (λ (xs : List Change). EachOnIsFit (facts d) xs (desk_of now)) at making.fit in
     let k : facts d ≡ facts now = ap facts_of (sym making.same) in
     record {
-      cell = subst (λ (x : Facts). IsKnownCell x c.cell) k known.0;
-      known = subst (λ (x : Facts). IsKnownValue x c.new) k known.1;
-      kind = known.2;
-      room = room-less now c.cell c.new 1 (length (c ∷ drop (i + 1) cs)) (omega arith) room.0;
+      known = subst (λ (x : Facts). MayHave x c.cell c.new) k known.1;
+      room = fewer now c.cell c.new 1 (length (c ∷ drop (i + 1) cs)) (omega arith) room.1;
       fit = subst (λ (x : Facts). IsFit x (put (desk_of now) c.cell c.new)) k fit.0;
     }
 
 pub making-on : (d : DeskValue) (m : Counts) (cs : List Change) (i : ℕ) (now : DeskValue) (meter : Counts) (c : Change) (next : DeskValue)
     (raised : Counts) → Making d m cs i now meter → i < length cs → c ≡ get_or cs i c → desk_of next ≡ put (desk_of now) c.cell c.new →
-    contents next ≡ contents now → ((x : Cell) (v : Value) (n : ℕ) → HasRoomFor now x v (n + 1) → HasRoomFor next x v n) →
+    contents next ≡ contents now →
+    ((x : Cell) (v : Value) (n : ℕ) → same_cell c.cell x ≡ false → HasRoomFor now x v (n + 1) → HasRoomFor next x v n) →
     raised ≡ add meter Written → Making d m cs (i + 1) next raised
 making-on d m cs i now meter c next raised making below is desk same room_on counts =
     let rest : List Change = drop (i + 1) cs in
     let at : drop i cs ≡ c ∷ rest = drop_at cs i c below is in
     let known : AreKnown (facts d) (c ∷ rest) = subst (AreKnown (facts d)) at making.known in
-    let room : HaveRoom now (length (c ∷ rest)) (c ∷ rest) = subst (λ (xs : List Change). HaveRoom now (length xs) xs) at making.room in
+    let apart : AreApart (c ∷ rest) = subst AreApart at making.apart in
+    let room : HaveRoom (HasRoomFor now) (length (c ∷ rest)) (c ∷ rest) =
+    subst (λ (xs : List Change). HaveRoom (HasRoomFor now) (length xs) xs) at making.room in
     let fit : EachOnIsFit (facts d) (c ∷ rest) (desk_of now) =
     subst (λ (xs : List Change). EachOnIsFit (facts d) xs (desk_of now)) at making.fit in
     let more : length (c ∷ rest) ≡ length rest + 1 = omega arith in
     record {
       rest = ap (after rest) desk ∙ ap (λ (xs : List Change). after xs (desk_of now)) (sym at) ∙ making.rest;
       same = same ∙ making.same;
-      known = known.4;
-      room = room-on now next (length rest + 1) (length rest) rest (λ x v. room_on x v (length rest))
-          (subst (λ (n : ℕ). HaveRoom now n rest) more room.1);
+      known = known.2;
+      apart = apart.1;
+      room = room-left now next (length rest) c.cell rest room_on apart.0
+          (subst (λ (n : ℕ). HaveRoom (HasRoomFor now) n rest) more room.2);
       fit = subst (EachOnIsFit (facts d) rest) (sym desk) fit.1;
       counted = ap (written (length rest)) counts ∙ ap (λ (xs : List Change). written (length xs) meter) (sym at) ∙ making.counted;
     }
@@ -140,41 +166,64 @@ pub record Readying (d : DeskValue) (cs : List Change) (i : ℕ) (now : DeskValu
   pub desk : desk_of now ≡ desk_of d
   pub same : contents now ≡ contents d
   pub known : AreKnown (facts now) (drop i cs)
-  pub room : HaveRoom now (length cs) (take i cs)
+  pub room : HaveRoom (HasRoomFor now) (length cs) (take i cs)
+  pub kept : (x : Cell) (v : Value) (n : ℕ) → HasRoomFor d x v n → HasRoomFor now x v n
 
 pub readying-start : (d : DeskValue) (cs : List Change) → AreKnown (facts d) cs → Readying d cs 0 d
-readying-start d cs known = record { desk = refl; same = refl; known = known; room = tt }
+readying-start d cs known = record { desk = refl; same = refl; known = known; room = tt; kept = λ x v n room. room }
 
 pub record NextRoom (now : DeskValue) (c : Change) : Type 0 where
-  pub cell : IsKnownCell (facts now) c.cell
-  pub known : IsKnownValue (facts now) c.new
-  pub from_one : IsFromOneValue c.new
+  pub old : MayHave (facts now) c.cell c.old
+  pub new : MayHave (facts now) c.cell c.new
 
 pub readying-next : (d : DeskValue) (cs : List Change) (i : ℕ) (now : DeskValue) (c : Change) → Readying d cs i now → i < length cs →
     c ≡ get_or cs i c → NextRoom now c
 readying-next d cs i now c readying below is =
     let known : AreKnown (facts now) (c ∷ drop (i + 1) cs) = subst (AreKnown (facts now)) (drop_at cs i c below is) readying.known in
-    record { cell = known.0; known = known.1; from_one = known.3 }
+    record { old = known.0; new = known.1 }
 
-pub readying-on : (d : DeskValue) (cs : List Change) (i : ℕ) (now : DeskValue) (c : Change) (next : DeskValue) → Readying d cs i now →
-    i < length cs → c ≡ get_or cs i c → desk_of next ≡ desk_of now → contents next ≡ contents now →
-    ((x : Cell) (v : Value) (n : ℕ) → HasRoomFor now x v n → HasRoomFor next x v n) → HasRoomFor next c.cell c.new (length cs) →
-    Readying d cs (i + 1) next
-readying-on d cs i now c next readying below is desk same room_on one =
+-- a call that makes room
+pub record Roomier (now next : DeskValue) : Type 0 where
+  pub desk : desk_of next ≡ desk_of now
+  pub same : contents next ≡ contents now
+  pub kept : (x : Cell) (v : Value) (n : ℕ) → HasRoomFor now x v n → HasRoomFor next x v n
+
+pub still-known : (now next : DeskValue) (x : Cell) (v : Value) → Roomier now next → MayHave (facts now) x v → MayHave (facts next) x v
+still-known now next x v roomier known = subst (λ (k : Contents). MayHave (facts_of k) x v) (sym roomier.same) known
+
+pub readying-on : (d : DeskValue) (cs : List Change) (i : ℕ) (now : DeskValue) (c : Change) (half next : DeskValue) → Readying d cs i now →
+    i < length cs → c ≡ get_or cs i c → Roomier now half → Roomier half next → HasRoomFor half c.cell c.old (length cs) →
+    HasRoomFor next c.cell c.new (length cs) → Readying d cs (i + 1) next
+readying-on d cs i now c half next readying below is one two old new =
     let known : AreKnown (facts now) (c ∷ drop (i + 1) cs) = subst (AreKnown (facts now)) (drop_at cs i c below is) readying.known in
     let more : take (i + 1) cs ≡ take i cs ++ c ∷ [] = take_more cs i c below ∙ ap (λ (x : Change). take i cs ++ x ∷ []) (sym is) in
     record {
-      desk = desk ∙ readying.desk;
-      same = same ∙ readying.same;
-      known = subst (λ (x : Contents). AreKnown (facts_of x) (drop (i + 1) cs)) (sym same) known.4;
-      room = subst (HaveRoom next (length cs)) (sym more)
+      desk = two.desk ∙ one.desk ∙ readying.desk;
+      same = two.same ∙ one.same ∙ readying.same;
+      known = subst (λ (x : Contents). AreKnown (facts_of x) (drop (i + 1) cs)) (sym (two.same ∙ one.same)) known.2;
+      room = subst (HaveRoom (HasRoomFor next) (length cs)) (sym more)
           (room-more next (length cs) (take i cs) c
-          (room-on now next (length cs) (length cs) (take i cs) (λ x v. room_on x v (length cs)) readying.room) one);
+          (room-on now next (length cs) (take i cs) (λ x v n room. two.kept x v n (one.kept x v n room)) readying.room)
+          (two.kept c.cell c.old (length cs) old) new);
+      kept = λ x v n room. two.kept x v n (one.kept x v n (readying.kept x v n room));
     }
 
+pub on-err : {T E P : Type 0} → (r : Result T E) → P → OnErr r P
+on-err (Ok x) p = tt
+on-err (Err x) p = p
+
+-- a cell that lacked room
+pub lacking : (d : DeskValue) (cs : List Change) (i : ℕ) (now : DeskValue) (c : Change) → Readying d cs i now → i < length cs →
+    c ≡ get_or cs i c → (HasRoomFor now c.cell c.old (length cs) → HasRoomFor now c.cell c.new (length cs) → ⊥) →
+    HaveRoom (HasRoomFor d) (length cs) cs → ⊥
+lacking d cs i now c readying below is full room =
+    let here : HaveRoom (HasRoomFor d) (length cs) (c ∷ drop (i + 1) cs) =
+    subst (HaveRoom (HasRoomFor d) (length cs)) (drop_at cs i c below is) (room-from d (length cs) cs i room) in
+    full (readying.kept c.cell c.old (length cs) here.0) (readying.kept c.cell c.new (length cs) here.1)
+
 pub readying-end : (d : DeskValue) (cs : List Change) (i : ℕ) (now : DeskValue) → Readying d cs i now → length cs ≤ i →
-    HaveRoom now (length cs) cs
-readying-end d cs i now readying past = subst (HaveRoom now (length cs)) (take_all i cs past) readying.room
+    HaveRoom (HasRoomFor now) (length cs) cs
+readying-end d cs i now readying past = subst (HaveRoom (HasRoomFor now) (length cs)) (take_all i cs past) readying.room
 
 -- the real ones among changes, with one more
 first-same : (b : Bool) (x : Change) (xs ys : List Change) → xs ≡ ys → cond b (x ∷ xs) xs ≡ cond b (x ∷ ys) ys

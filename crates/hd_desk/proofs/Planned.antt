@@ -1,8 +1,11 @@
 -- A command at a desk, from its questions to its changes.
 use Rattle.std.proofs.lemmas.List.{drop_all}
 use Rattle.std.proofs.Common.{arith, drop, add-one, drop-cons, Bool, true, false, cond, not, ◌≡◌, refl, sym, ◌∙◌, ap, subst, ℕ, ◌+◌, ◌<◌}
-use Rattle.std.proofs.Common.{◌≤◌, Bor, Option, Some, None, is_some, IfSome, List, [], ◌∷◌, ◌++◌, Result, Ok, length, get_or, zero, suc}
+use Rattle.std.proofs.Common.{◌≤◌, Bor, Option, Some, None, is_some, IfSome, List, [], ◌∷◌, ◌++◌, Result, Ok, Err, length, get_or, zero}
+use Rattle.std.proofs.Common.{suc}
 use Rattle.std.specs.Option.{option_copied}
+use Rattle.std.specs.Prelude.{OnErr}
+use Rattle.std.specs.Result.{is_err}
 use Rattle.hd_rules.specs.declared.holds.Hold.{Hold}
 use Rattle.hd_rules.specs.declared.copies.CopyState.{CopyState}
 use Rattle.hd_rules.specs.declared.copies.CopyState.TheVariants.{Shelf}
@@ -16,13 +19,14 @@ use Rattle.hd_rules.specs.declared.commands.Command.{Command}
 use Rattle.hd_rules.specs.Facts.{Facts, AreInRange}
 use Rattle.hd_rules.specs.Desk.{Desk, after, opening}
 use Rattle.hd_rules.specs.Ask.{Plan, Done, outcome, asks}
-use Rattle.hd_rules.specs.Known.{IsKnownAction, IsKnownDesk, IsKnownDone, IsKnownHeld, IsKnownQuestion}
+use Rattle.hd_rules.specs.Known.{IsKnownAction, IsKnownDesk, IsKnownHeld, IsKnownQuestion}
 use Rattle.hd_rules.specs.Record.{findings, note}
 use Rattle.hd_rules.specs.Run.{AreChanges}
-use Rattle.hd_rules.specs.Sound.{Sound, EachOnIsFit}
+use Rattle.hd_rules.specs.Sound.{IsFit, Sound, EachOnIsFit}
 use Rattle.hd_rules.specs.Step.{plan}
 use Rattle.hd_rules.proofs.Familiar.{known_done}
 use Rattle.hd_rules.proofs.Onward.{on_through_fit, sound_after}
+use Rattle.hd_rules.proofs.Written.{each_written}
 use Rattle.hd_desk.proofs.Kept.{sound-later}
 use Rattle.hd_catalogue.specs.Contents.{Contents, facts_of}
 use Rattle.hd_queue.specs.Holds.{hold_of}
@@ -38,12 +42,14 @@ use Rattle.hd_rules.specs.declared.questions.Answer.{Answer}
 use Rattle.hd_rules.specs.Ask.{told}
 use Rattle.hd_rules.specs.Depends.{answered_otherwise}
 use Rattle.hd_rules.specs.Same.{same_answer}
-use Rattle.hd_desk.specs.Asking.{InquiryValue, ending, ending_of, asked_of, some_otherwise, AreKnownQuestions}
-use Rattle.hd_desk.specs.Cells.{AreKnown}
+use Rattle.hd_desk.specs.Asking.{InquiryValue, ending_of, asked_of, some_otherwise, AreKnownQuestions}
+use Rattle.hd_inverse.specs.Cells.{AreApart, AreKnown, HaveRoom}
+use Rattle.hd_desk.specs.declared.refused.Refused.TheVariants.{Memory}
+use Rattle.hd_desk.specs.Cells.{HasRoomFor, IsShort}
 use Rattle.hd_desk.specs.DeskValue.{DeskValue}
 use Rattle.hd_desk.specs.Desks.{IsKept, contents, desk_of, facts}
 use Rattle.hd_desk.proofs.Following.{ending_is, otherwise_is, findings_more, asked_more, asked_findings, known_more}
-use Rattle.hd_desk.proofs.Writing.{are-known}
+use Rattle.hd_desk.proofs.Writing.{are-known, are-apart}
 
 -- where a plan led, from the start
 pub record Followed (k : Facts) (d : Desk) (p : Plan) (r : Result Done Refusal) (asked : List Question) : Type 0 where
@@ -128,16 +134,21 @@ chosen-known k holds (Some b) o is waits known =
 -- an accepted command's changes can be made
 pub record CanBeMade (k : Facts) (d : Desk) (n : ℕ) (done : Done) : Type 0 where
   pub known : AreKnown k done.changes
+  pub apart : AreApart done.changes
   pub fit : EachOnIsFit k done.changes d
   pub sound : Sound k (n + 1) (after done.changes d)
 
 pub can-be-made : (k : Facts) (d : Desk) (n : ℕ) (command : Command) (done : Done) → AreInRange k → IsKnownDesk k d →
-    IsKnownAction k command.action → Sound k n d → outcome k d (plan k n command) ≡ Ok done → CanBeMade k d n done
-can-be-made k d n command done range desk action sound is =
+    IsFit k d → IsKnownAction k command.action → Sound k n d → outcome k d (plan k n command) ≡ Ok done → CanBeMade k d n done
+can-be-made k d n command done range desk is_fit action sound is =
     let fit : EachOnIsFit k done.changes d = on_through_fit k d n command done sound is in
     let after_it : AreChanges done.changes × Sound k (n + 1) (after done.changes d) = sound_after k d n command done sound is in
     record {
-      known = are-known k d done.changes after_it.0 (known_done k d n command done range desk action is).changes fit;
+      known = are-known k d d done.changes desk is_fit after_it.0 (record {
+        known = (known_done k d n command done range desk action is).changes;
+        old = λ c among. (each_written k d n command done is c among).1;
+      }) fit;
+      apart = are-apart done.changes after_it.0;
       fit = fit;
       sound = after_it.1;
     }
@@ -158,11 +169,16 @@ pub planned : (d : DeskValue) (n : ℕ) (command : Command) (q : InquiryValue) (
 planned d n command q r asked accepted done start ends is same kept action sound =
     let f : Followed (facts d) (desk_of d) (plan (facts d) n command) r asked = followed d n command q r asked start ends in
     let ok : outcome (facts d) (desk_of d) (plan (facts d) n command) ≡ Ok done = sym f.outcome ∙ is ∙ ap (λ (x : Done). Ok x) (sym same) in
-    record { outcome = ok; asks = f.asks; can = can-be-made (facts d) (desk_of d) n command done kept.range kept.known action sound ok }
+    record {
+      outcome = ok;
+      asks = f.asks;
+      can = can-be-made (facts d) (desk_of d) n command done kept.range kept.known kept.fit action sound ok;
+    }
 
 -- once there is room for them
 pub record MayMake (e : DeskValue) (cs : List Change) : Type 0 where
   pub known : AreKnown (facts e) cs
+  pub apart : AreApart cs
   pub fit : EachOnIsFit (facts e) cs (desk_of e)
 
 pub may-make : (d e : DeskValue) (n : ℕ) (done : Done) (cs : List Change) → CanBeMade (facts d) (desk_of d) n done →
@@ -170,6 +186,7 @@ pub may-make : (d e : DeskValue) (n : ℕ) (done : Done) (cs : List Change) → 
 may-make d e n done cs can same desk are = record {
   known = subst (λ (xs : List Change). AreKnown (facts e) xs) (sym are)
       (subst (λ x. AreKnown (facts_of x) done.changes) (sym same) can.known);
+  apart = subst AreApart (sym are) can.apart;
   fit = subst (λ (xs : List Change). EachOnIsFit (facts e) xs (desk_of e)) (sym are)
       (subst (λ (x : Desk). EachOnIsFit (facts e) done.changes x) (sym desk)
       (subst (λ x. EachOnIsFit (facts_of x) done.changes (desk_of d)) (sym same) can.fit));
@@ -266,3 +283,12 @@ item-so d h copy t state n same contents is title count = λ i. record {
   state = is i;
   holds = (count ∙ (λ j. count_below (λ p. is_some (held (same j) (title j) p)) (facts_of (contents j)).patrons)) i;
 }
+
+-- there was too little room
+pub was-short : {T E : Type 0} → (d : DeskValue) (o : Result Done Refusal) (done : Done) (cs : List Change) (r : Result T E) (b : Bool) →
+    o ≡ Ok done → cs ≡ done.changes → b ≡ is_err r → b ≡ true → OnErr r (HaveRoom (HasRoomFor d) (length cs) cs → ⊥) →
+    IsShort d o (Err Memory)
+was-short d o done cs (Ok x) b is are test on full = let t : true ≡ false = sym on ∙ test in cc
+was-short d o done cs (Err x) b is are test on full =
+    subst (λ (x : Result Done Refusal). IsShort d x (Err Memory)) (sym is)
+    (subst (λ (xs : List Change). HaveRoom (HasRoomFor d) (length xs) xs → ⊥) are full)

@@ -1,5 +1,5 @@
 -- Writing a cell of a fit desk.
-use Rattle.std.proofs.Common.{arith, ◌≡◌, ◌≢◌, refl, sym, ◌∙◌, ap, subst, ℕ, ◌+◌, ◌<◌, ◌≤◌, Bool, true, false, cond, ◌==◌, ◌&&◌, Option}
+use Rattle.std.proofs.Common.{◌≡◌, ◌≢◌, refl, sym, ◌∙◌, ap, subst, ℕ, ◌+◌, ◌<◌, Bool, true, false, cond, ◌==◌, ◌&&◌, Option}
 use Rattle.std.proofs.Common.{Some, None, List, [], ◌∷◌, length, drop, get_or, add-one, drop-cons, eq-eqb, inl, inr}
 use Rattle.hd_rules.specs.declared.holds.Hold.{Hold}
 use Rattle.hd_rules.specs.declared.copies.HoldPlace.{HoldPlace}
@@ -11,15 +11,19 @@ use Rattle.hd_rules.specs.declared.cells.Value.{Value}
 use Rattle.hd_rules.specs.declared.cells.Value.TheVariants.{Copy as CopyHas, Hold as HoldHas}
 use Rattle.hd_rules.specs.declared.cells.Change.{Change}
 use Rattle.hd_rules.specs.Facts.{Facts}
-use Rattle.hd_rules.specs.Desk.{Desk, put, after}
+use Rattle.hd_rules.specs.Desk.{Desk, put, value, same_cell}
 use Rattle.hd_rules.specs.Choose.{stands_at}
-use Rattle.hd_rules.specs.Known.{IsKnownCell, IsKnownValue, IsKnownDone}
+use Rattle.hd_rules.specs.Known.{IsKnownCell, IsKnownValue, IsKnownDesk}
 use Rattle.hd_rules.specs.Run.{IsAmong, AreChanges, Fits}
 use Rattle.hd_rules.specs.Sound.{IsFit, EachOnIsFit}
-use Rattle.hd_rules.proofs.Tests.{and_left, and_right, number_is, some_is}
-use Rattle.hd_copies.specs.Standing.{IsAlone, IsFromOne, IsWelcome}
+use Rattle.hd_rules.specs.Same.{same_value}
+use Rattle.hd_rules.proofs.Alike.{value_is}
+use Rattle.hd_rules.proofs.Same.{differs}
+use Rattle.hd_rules.proofs.Tests.{and_left, and_right, number_is}
+use Rattle.hd_rules.proofs.Undo.{put_elsewhere, put_same, same_cell_is, same_desk}
+use Rattle.hd_copies.specs.Standing.{IsWelcome}
 use Rattle.hd_holds.specs.Held.{IsWelcome as IsWelcomeHold}
-use Rattle.hd_desk.specs.Cells.{AreKnown, IsFromOneValue}
+use Rattle.hd_inverse.specs.Cells.{AreApart, AreKnown, IsFromOne, MayHave}
 
 -- what is put in a copy's cell is there
 here : (c : ℕ) (s v : CopyState) → cond (c == c) s v ≡ s
@@ -83,7 +87,7 @@ hold-welcome k d t p (Some h) fit =
         fit.stamps t q p g h (hold-there t p q (Some h) (d.hold t q) is ∙ has) (hold-here t p (Some h) (d.hold t p)) same
 
 -- a place that makes a fit desk counts from 1
-from-one : (k : Facts) (d : Desk) (cell : Cell) (v : Value) → Fits cell v → IsFit k (put d cell v) → IsFromOneValue v
+from-one : (k : Facts) (d : Desk) (cell : Cell) (v : Value) → Fits cell v → IsFit k (put d cell v) → IsFromOne v
 from-one k d (CopyCell c) (CopyHas (OnHoldShelf s)) kind fit = fit.places.from_one c s (here c (OnHoldShelf s) (d.copy c))
 from-one k d (CopyCell c) (CopyHas (Shelf b)) kind fit = tt
 from-one k d (CopyCell c) (CopyHas (OnLoan l)) kind fit = tt
@@ -92,18 +96,48 @@ from-one k d (CopyCell c) (HoldHas o) kind fit = absurd kind
 from-one k d (HoldCell t p) (CopyHas s) kind fit = absurd kind
 from-one k d (HoldCell t p) (HoldHas o) kind fit = tt
 
--- changes that name things of the catalogue and lead through fit desks can be made
-pub are-known : (k : Facts) (d : Desk) (cs : List Change) → AreChanges cs →
-    ((c : Change) → IsAmong c cs → IsKnownCell k c.cell × IsKnownValue k c.new) → EachOnIsFit k cs d → AreKnown k cs
-are-known k d [] are known fit = tt
-are-known k d (c ∷ cs) are known fit =
-    let first : IsKnownCell k c.cell × IsKnownValue k c.new = known c (inl refl) in (
-      first.0,
-      first.1,
-      are.1,
-      from-one k d c.cell c.new are.1 fit.0,
-      are-known k (put d c.cell c.new) cs are.3 (λ x among. known x (inr among)) fit.1,
+-- a cell of a fit desk may have what it has
+pub own-value : (k : Facts) (d : Desk) (x : Cell) → IsKnownDesk k d → IsFit k d → IsKnownCell k x → MayHave k x (value d x)
+own-value k d (CopyCell c) known fit in_c = record {
+  cell = in_c;
+  kind = tt;
+  known = known.copies c in_c;
+  from_one = placed (d.copy c) refl;
+}
+  where
+    placed : (s : CopyState) → d.copy c ≡ s → IsFromOne (CopyHas s)
+    placed (OnHoldShelf s) is = fit.places.from_one c s is
+    placed (Shelf b) is = tt
+    placed (OnLoan l) is = tt
+    placed (InTransit t) is = tt
+own-value k d (HoldCell t p) known fit in_x = record {
+  cell = in_x;
+  kind = tt;
+  known = known.holds t p in_x.0 in_x.1;
+  from_one = tt;
+}
+
+-- changes of a fit desk's cells that name things of the catalogue and lead through fit desks can be made, and taken back
+pub record Begin (k : Facts) (start : Desk) (cs : List Change) : Type 0 where
+  pub known : (c : Change) → IsAmong c cs → IsKnownCell k c.cell × IsKnownValue k c.new
+  pub old : (c : Change) → IsAmong c cs → value start c.cell ≡ c.old
+
+pub are-known : (k : Facts) (start d : Desk) (cs : List Change) → IsKnownDesk k start → IsFit k start → AreChanges cs →
+    Begin k start cs → EachOnIsFit k cs d → AreKnown k cs
+are-known k start d [] desk fit are begin on = tt
+are-known k start d (c ∷ cs) desk fit are begin on =
+    let first : IsKnownCell k c.cell × IsKnownValue k c.new = begin.known c (inl refl) in (
+      subst (MayHave k c.cell) (begin.old c (inl refl)) (own-value k start c.cell desk fit first.0),
+      record { cell = first.0; kind = are.1; known = first.1; from_one = from-one k d c.cell c.new are.1 on.0 },
+      are-known k start (put d c.cell c.new) cs desk fit are.3 (record {
+        known = λ x among. begin.known x (inr among);
+        old = λ x among. begin.old x (inr among);
+      }) on.1,
     )
+
+pub are-apart : (cs : List Change) → AreChanges cs → AreApart cs
+are-apart [] are = tt
+are-apart (c ∷ cs) are = (are.2, are-apart cs are.3)
 
 -- what stands at an index
 drop_from : (cs : List Change) (i : ℕ) (c : Change) → i < length cs → drop i cs ≡ get_or cs i c ∷ drop (i + 1) cs
@@ -111,3 +145,7 @@ drop_from cs i c below = rw (add-one, drop-cons cs i c below) refl
 
 pub drop_at : (cs : List Change) (i : ℕ) (c : Change) → i < length cs → c ≡ get_or cs i c → drop i cs ≡ c ∷ drop (i + 1) cs
 drop_at cs i c below is = drop_from cs i c below ∙ ap (λ (x : Change). x ∷ drop (i + 1) cs) (sym is)
+
+-- values that the test tells apart
+pub are-two : (v w : Value) (r : Bool) → r ≡ same_value v w → r ≡ false → v ≢ w
+are-two v w r test is = differs v w (sym test ∙ is)

@@ -4,3 +4,4 @@ pub mod Asking
 pub mod Cells
 pub mod DoneValue
 pub mod Telling
+pub mod Rooms

@@ -12,7 +12,9 @@ ghost use Rattle.hd_rules.specs.Step.{plan};
 ghost use Rattle.hd_footprint.specs.Meter.{add};
 ghost use Rattle.hd_footprint.specs.declared.count.Count.TheVariants.{Step};
 ghost use Rattle.hd_desk.specs.Asking.{AreKnownQuestions, asked_of, ending_of, some_otherwise};
-ghost use Rattle.hd_desk.specs.Cells.{written};
+ghost use Rattle.hd_inverse.specs.Cells.{AreApart, AreKnown};
+ghost use Rattle.hd_inverse.specs.Work.{written};
+ghost use Rattle.hd_desk.specs.Cells.{IsShort};
 ghost use Rattle.hd_desk.specs.Desks.{contents, desk_of, facts, outcome_at};
 ghost use Rattle.hd_desk.specs.Telling.{IsTold};
 
@@ -25,6 +27,7 @@ use crate::inquiry::Inquiry;
 use crate::lending::Lending;
 use crate::refused::Refused;
 use hd_footprint::{Count, Meter};
+use hd_inverse::Cells;
 use hd_rules::{Action, Command, Finding, Hold, Refusal};
 use std::alloc::Allocator;
 
@@ -32,8 +35,10 @@ impl<A: Allocator + Copy> Desk<A> {
     /// Does a command. Its number is above every stamp of the desk, and what it names is of the desk's
     /// catalogue.
     ///
-    /// Want of memory comes after every refusal, and neither changes anything but the meter. That counts one
-    /// command step, and one cell written per change.
+    /// Want of memory comes after every refusal, and only where `ready` would lack room for the changes.
+    /// Neither changes anything but the meter. That counts one command step, and one cell written per change.
+    ///
+    /// The changes are of distinct cells, and can be taken back ([`undo`](hd_inverse::undo)).
     pub fn apply(
         &mut self,
         number: u64,
@@ -47,6 +52,9 @@ impl<A: Allocator + Copy> Desk<A> {
             ≡ findings (facts self.old) (desk_of self.old)
             (asks (facts self.old) (desk_of self.old) (plan (facts self.old) number command.now))) }
         ensures after { IfOk result (λ done. desk_of self.new ≡ after done.changes (desk_of self.old)) }
+        ensures full { IsShort self.old (outcome_at self.old number command.now) result }
+        ensures known { IfOk result (λ done. AreKnown (facts self.new) done.changes) }
+        ensures apart { IfOk result (λ done. AreApart done.changes) }
         ensures unchanged { OnErr result (desk_of self.new ≡ desk_of self.old) }
         ensures contents { contents self.new ≡ contents self.old }
         ensures sound { Sound (facts self.new) (number + 1) (desk_of self.new) }

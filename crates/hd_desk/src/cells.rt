@@ -1,80 +1,88 @@
-//! Writing the cells of a desk.
+//! The cells of a desk, read and written.
 #![tactic(auto, unfolding(crate::specs::Desks::desk_of))]
 
-ghost use Rattle.std.specs.Prelude.{◌≡◌, ◌<◌, ◌≤◌, ◌+◌, ℕ, OnOk, OnErr, length};
+ghost use Rattle.std.specs.Prelude.{◌≡◌, ◌<◌, ◌≤◌, ◌+◌, ℕ, false, OnOk, OnErr, length};
 ghost use Rattle.hd_rules.specs.declared.cells.Cell.{Cell};
 ghost use Rattle.hd_rules.specs.declared.cells.Value.{Value};
-ghost use Rattle.hd_rules.specs.Desk.{after, put};
-ghost use Rattle.hd_rules.specs.Known.{IsKnownCell, IsKnownValue};
-ghost use Rattle.hd_rules.specs.Run.{Fits};
+ghost use Rattle.hd_rules.specs.Desk.{after, put, same_cell, value as value_in};
+ghost use Rattle.hd_rules.specs.Known.{IsKnownCell};
+ghost use Rattle.hd_rules.specs.Same.{same_value};
 ghost use Rattle.hd_rules.specs.Sound.{EachOnIsFit, IsFit};
 ghost use Rattle.hd_footprint.specs.Meter.{Counts};
+ghost use Rattle.hd_inverse.specs.Cells.{AreApart, AreKnown, HaveRoom, MayHave};
+ghost use Rattle.hd_inverse.specs.Work.{written};
 ghost use Rattle.hd_desk.specs.Desks.{contents, desk_of, facts};
-ghost use Rattle.hd_desk.specs.Cells.{AreKnown, HasRoomFor, HaveRoom, IsFromOneValue, written};
+ghost use Rattle.hd_desk.specs.Cells.{HasRoomFor, IsReadyFor};
+ghost use Rattle.hd_desk.specs.Rooms.{fewer};
 
 use crate::desk::Desk;
 use hd_footprint::{Count, Meter};
+use hd_inverse::Cells;
 use hd_rules::{Cell, Change, Value};
 use std::alloc::{AllocError, Allocator};
 
-impl<A: Allocator + Copy> Desk<A> {
-    /// Makes room for all of the changes. Want of memory changes nothing but the room.
-    pub(crate) fn ready(&mut self, changes: &[Change]) -> Result<(), AllocError>
-        requires known { AreKnown (facts self.old) changes.now }
-        ensures desk { desk_of self.new ≡ desk_of self.old }
-        ensures contents { contents self.new ≡ contents self.old }
-        ensures ok { OnOk result (HaveRoom self.new (length changes.now) changes.now) }
-    {
+impl<A: Allocator + Copy> Cells for Desk<A> {
+    ghost desk = { desk_of };
+
+    ghost contents = { contents };
+
+    ghost has_room = { HasRoomFor };
+
+    fn get(&self, cell: Cell) -> Value {
+        match cell {
+            Cell::Copy(copy) => Value::Copy(self.copy(copy)),
+            Cell::Hold(title, patron) => Value::Hold(self.hold(title, patron)),
+        }
+    }
+
+    fn ready(&mut self, changes: &[Change]) -> Result<(), AllocError> {
         for change in changes {
+            self.ready_cell(&change.cell, &change.old, changes.len())?;
             self.ready_cell(&change.cell, &change.new, changes.len())?;
         }
         Ok(())
     }
 
-    /// Makes room for that many writes like this one.
+    fn put(&mut self, cell: Cell, value: Value) {
+        if !is_same(&self.get(cell), &value) {
+            self.write(&cell, &value);
+        }
+    }
+
+    ghost fewer = { fewer };
+}
+
+impl<A: Allocator + Copy> Desk<A> {
+    /// Makes room for that many writes like this one. The end of a hold needs none, nor does the cell's own
+    /// value.
     fn ready_cell(&mut self, cell: &Cell, value: &Value, more: usize) -> Result<(), AllocError>
-        requires cell { IsKnownCell (facts self.old) cell.now }
-        requires known { IsKnownValue (facts self.old) value.now }
-        requires from_one { IsFromOneValue value.now }
+        requires { MayHave (facts self.old) cell.now value.now }
         ensures desk { desk_of self.new ≡ desk_of self.old }
         ensures contents { contents self.new ≡ contents self.old }
         ensures ok { OnOk result (HasRoomFor self.new cell.now value.now more) }
+        ensures full { OnErr result (HasRoomFor self.old cell.now value.now more → ⊥) }
         ensures room { (x : Cell) (v : Value) (n : ℕ) → HasRoomFor self.old x v n
             → HasRoomFor self.new x v n }
     {
+        if is_same(&self.get(*cell), value) {
+            return Ok(());
+        }
         match (cell, value) {
             (Cell::Copy(_), Value::Copy(state)) => self.copies.ready(state),
-            (Cell::Copy(_), Value::Hold(_)) => Ok(()),
-            (Cell::Hold(title, _), _) => self.holds.ready(*title, more),
+            (Cell::Hold(title, _), Value::Hold(Some(_))) => self.holds.ready(*title, more),
+            _ => Ok(()),
         }
     }
 
-    /// Makes the changes, one after another. It takes no memory.
-    pub(crate) fn make(&mut self, changes: &[Change], meter: &mut Meter)
-        requires known { AreKnown (facts self.old) changes.now }
-        requires room { HaveRoom self.old (length changes.now) changes.now }
-        requires fit { EachOnIsFit (facts self.old) changes.now (desk_of self.old) }
-        ensures desk { desk_of self.new ≡ after changes.now (desk_of self.old) }
-        ensures contents { contents self.new ≡ contents self.old }
-        ensures meter { meter.new ≡ written (length changes.now) meter.old }
-    {
-        for change in changes {
-            self.put(&change.cell, &change.new);
-            meter.add(Count::Written);
-        }
-    }
-
-    /// The cell gets this value. It takes no memory.
-    fn put(&mut self, cell: &Cell, value: &Value)
-        requires cell { IsKnownCell (facts self.old) cell.now }
-        requires known { IsKnownValue (facts self.old) value.now }
-        requires kind { Fits cell.now value.now }
-        requires room { HasRoomFor self.old cell.now value.now 1 }
+    /// The cell gets this value, which it may have already. It takes no memory.
+    fn write(&mut self, cell: &Cell, value: &Value)
+        requires known { MayHave (facts self.old) cell.now value.now }
+        requires room { IsReadyFor self.old cell.now value.now 1 }
         requires fit { IsFit (facts self.old) (put (desk_of self.old) cell.now value.now) }
         ensures desk { desk_of self.new ≡ put (desk_of self.old) cell.now value.now }
         ensures contents { contents self.new ≡ contents self.old }
-        ensures room { (x : Cell) (v : Value) (n : ℕ) → HasRoomFor self.old x v (n + 1)
-            → HasRoomFor self.new x v n }
+        ensures room { (x : Cell) (v : Value) (n : ℕ) → IsReadyFor self.old x v (n + 1)
+            → IsReadyFor self.new x v n }
     {
         match (cell, value) {
             (Cell::Copy(copy), Value::Copy(state)) => self.copies.put(*copy, state),
@@ -84,4 +92,27 @@ impl<A: Allocator + Copy> Desk<A> {
             _ => unreachable!(),
         }
     }
+
+    /// Makes the changes, one after another. It takes no memory.
+    pub(crate) fn make(&mut self, changes: &[Change], meter: &mut Meter)
+        requires known { AreKnown (facts self.old) changes.now }
+        requires apart { AreApart changes.now }
+        requires room { HaveRoom (HasRoomFor self.old) (length changes.now) changes.now }
+        requires fit { EachOnIsFit (facts self.old) changes.now (desk_of self.old) }
+        ensures desk { desk_of self.new ≡ after changes.now (desk_of self.old) }
+        ensures contents { contents self.new ≡ contents self.old }
+        ensures meter { meter.new ≡ written (length changes.now) meter.old }
+    {
+        for change in changes {
+            self.put(change.cell, change.new);
+            meter.add(Count::Written);
+        }
+    }
+}
+
+/// Whether the values are equal.
+fn is_same(one: &Value, other: &Value) -> bool
+    ensures { result ≡ same_value one.now other.now }
+{
+    one == other
 }

@@ -1,9 +1,10 @@
-use Rattle.std.proofs.Common.{◌≡◌, sym, ◌∙◌, subst, ◌+◌, List, arith}
+use Rattle.std.proofs.Common.{sym, ◌∙◌, subst, ◌+◌, List, arith}
 use Rattle.hd_rules.specs.declared.cells.Change.{Change}
-use Rattle.hd_desk.specs.Cells.{AreKnown}
+use Rattle.hd_inverse.specs.Cells.{AreKnown}
 use Rattle.hd_desk.specs.Desks.{desk_of, facts}
 use Rattle.hd_desk.proofs.Kept.{sound-later, sound-same}
-use Rattle.hd_desk.proofs.Planned.{followed, found-so, planned, may-make, left-sound, still-sound}
+use Rattle.hd_desk.proofs.Planned.{followed, found-so, planned, may-make, left-sound, still-sound, was-short}
+use Rattle.hd_catalogue.specs.Contents.{Contents, facts_of}
 use Rattle.hd_desk.proofs.desk.Desk.apply.Goals as goal
 
 pub returns-in-Err-clause-outcome : goal.returns-in-Err-clause-outcome
@@ -25,7 +26,7 @@ ready-requires g c =
     (record { changes = c.accepted.inside.changes; reply = c.accepted.inside.reply })
     c.new-inquiry.ensures.start c.follow.ensures.ends c.in-Ok.is c.accepted.view_is c.new-inquiry.ensures.kept c.requires.known
     c.requires.sound in
-    record { known = subst (λ (xs : List Change). AreKnown (facts c.args.self.now) xs) (sym c.changes-2.ensures.changes) p.can.known }
+    subst (λ (xs : List Change). AreKnown (facts c.args.self.now) xs) (sym c.changes-2.ensures.changes) p.can.known
 
 pub make-requires-clause-known : goal.make-requires-clause-known
 make-requires-clause-known g c =
@@ -36,6 +37,16 @@ make-requires-clause-known g c =
     c.requires.sound in
     (may-make c.args.self.now c.ready.new.self c.args.number _ c.changes-3.result.now p.can c.ready.ensures.contents c.ready.ensures.desk
     c.changes-3.ensures.changes).known
+
+pub make-requires-clause-apart : goal.make-requires-clause-apart
+make-requires-clause-apart g c =
+    let p =
+    planned c.args.self.now c.args.number c.args.command.now c.new-inquiry.result c.follow.result c.follow.new.self.asked c.in-Ok.accepted
+    (record { changes = c.accepted.inside.changes; reply = c.accepted.inside.reply })
+    c.new-inquiry.ensures.start c.follow.ensures.ends c.in-Ok.is c.accepted.view_is c.new-inquiry.ensures.kept c.requires.known
+    c.requires.sound in
+    (may-make c.args.self.now c.ready.new.self c.args.number _ c.changes-3.result.now p.can c.ready.ensures.contents c.ready.ensures.desk
+    c.changes-3.ensures.changes).apart
 
 pub make-requires-clause-fit : goal.make-requires-clause-fit
 make-requires-clause-fit g c =
@@ -89,3 +100,32 @@ pub returns-then-is_err-clause-later : goal.returns-then-is_err-clause-later
 returns-then-is_err-clause-later g c = λ n above.
     sound-later (facts c.ready.new.self) c.args.number n (desk_of c.ready.new.self) (omega arith)
     (sound-same c.args.self.now c.ready.new.self c.args.number c.ready.ensures.contents c.ready.ensures.desk c.requires.sound)
+
+pub returns-then-is_err-clause-full : goal.returns-then-is_err-clause-full
+returns-then-is_err-clause-full g c =
+    let p =
+    planned c.args.self.now c.args.number c.args.command.now c.new-inquiry.result c.follow.result c.follow.new.self.asked c.in-Ok.accepted
+    (record { changes = c.accepted.inside.changes; reply = c.accepted.inside.reply })
+    c.new-inquiry.ensures.start c.follow.ensures.ends c.in-Ok.is c.accepted.view_is c.new-inquiry.ensures.kept c.requires.known
+    c.requires.sound in
+    was-short c.args.self.now _ _ c.changes-2.result.now c.ready.result c.is_err.result p.outcome c.changes-2.ensures.changes
+    c.is_err.ensures.value c.if-is_err.true c.ready.ensures.full
+
+pub returns-clause-known : goal.returns-clause-known
+returns-clause-known g c =
+    let p =
+    planned c.args.self.now c.args.number c.args.command.now c.new-inquiry.result c.follow.result c.follow.new.self.asked c.in-Ok.accepted
+    (record { changes = c.accepted.inside.changes; reply = c.accepted.inside.reply })
+    c.new-inquiry.ensures.start c.follow.ensures.ends c.in-Ok.is c.accepted.view_is c.new-inquiry.ensures.kept c.requires.known
+    c.requires.sound in
+    subst (λ (x : Contents). AreKnown (facts_of x) c.accepted.inside.changes) (sym (c.make.ensures.contents ∙ c.ready.ensures.contents))
+    p.can.known
+
+pub returns-clause-apart : goal.returns-clause-apart
+returns-clause-apart g c =
+    let p =
+    planned c.args.self.now c.args.number c.args.command.now c.new-inquiry.result c.follow.result c.follow.new.self.asked c.in-Ok.accepted
+    (record { changes = c.accepted.inside.changes; reply = c.accepted.inside.reply })
+    c.new-inquiry.ensures.start c.follow.ensures.ends c.in-Ok.is c.accepted.view_is c.new-inquiry.ensures.kept c.requires.known
+    c.requires.sound in
+    p.can.apart

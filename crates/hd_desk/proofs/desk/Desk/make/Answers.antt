@@ -3,16 +3,10 @@ use Rattle.hd_desk.proofs.Making.{making-start, making-next, making-on, making-e
 use Rattle.hd_desk.proofs.desk.Desk.make.Goals as goal
 
 pub loop-change-init : goal.loop-change-init
-loop-change-init g c = making-start _ _ _ c.requires.known c.requires.room c.requires.fit
-
-pub put-requires-clause-cell : goal.put-requires-clause-cell
-put-requires-clause-cell g c = (making-next _ _ _ _ _ _ _ c.loop-change.invariant c.loop-change-test.true c.change-item.is).cell
+loop-change-init g c = making-start _ _ _ c.requires.known c.requires.apart c.requires.room c.requires.fit
 
 pub put-requires-clause-known : goal.put-requires-clause-known
 put-requires-clause-known g c = (making-next _ _ _ _ _ _ _ c.loop-change.invariant c.loop-change-test.true c.change-item.is).known
-
-pub put-requires-clause-kind : goal.put-requires-clause-kind
-put-requires-clause-kind g c = (making-next _ _ _ _ _ _ _ c.loop-change.invariant c.loop-change-test.true c.change-item.is).kind
 
 pub put-requires-clause-room : goal.put-requires-clause-room
 put-requires-clause-room g c = (making-next _ _ _ _ _ _ _ c.loop-change.invariant c.loop-change-test.true c.change-item.is).room

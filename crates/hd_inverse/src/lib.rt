@@ -1,0 +1,10 @@
+//! Taking changes of cells back.
+#![tactic(auto)]
+
+mod cells;
+mod undoing;
+
+pub use crate::cells::Cells;
+pub use crate::undoing::undo;
+pub use hd_footprint::{Count, Meter};
+pub use hd_rules::{Cell, Change, Value};
