@@ -29,6 +29,19 @@ impl Done {
         self.reply
     }
 
+    /// The reply, the changes in order, and the questions in order with their noted answers. Nothing is
+    /// copied.
+    pub fn into_parts(self) -> (Reply, Footprint, Findings)
+        ensures { result ≡ (self.reply, self.changes, self.findings) }
+    {
+        let Done {
+            reply,
+            changes,
+            findings,
+        } = self;
+        (reply, changes, findings)
+    }
+
     /// The changed cells in order, each with the value before and after.
     pub fn changes(&self) -> &[Change]
         ensures { result.now ≡ self.now.changes }

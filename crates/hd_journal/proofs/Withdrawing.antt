@@ -1,62 +1,106 @@
--- What a cancellation leaves.
-use Rattle.std.proofs.Common.{arith, ◌≡◌, sym, ◌∙◌, ap, subst, ℕ, ◌+◌, ◌<◌, ◌≤◌, List, [], ◌∷◌, ◌++◌, length, take, drop, get_or, Option}
-use Rattle.std.proofs.Common.{Some, None}
-use Rattle.std.proofs.lemmas.List.{get_or_default}
+-- What a cancellation leaves, and its work.
+use Rattle.std.proofs.Common.{arith, ◌≡◌, sym, ◌∙◌, ap, subst, ℕ, ◌+◌, ◌*◌, ◌≤◌, List, [], ◌∷◌, ◌++◌, length, Option, Some, None}
 use Rattle.hd_rules.specs.declared.commands.Cancel.{Cancel}
 use Rattle.hd_rules.specs.declared.commands.Survivor.{Survivor}
 use Rattle.hd_rules.specs.declared.replies.Refusal.TheVariants as refusal
 use Rattle.hd_rules.specs.declared.replies.TurnReply.TheVariants.{Refused, Cancelled}
 use Rattle.hd_rules.specs.Facts.{Facts}
 use Rattle.hd_rules.specs.Desk.{Desk}
-use Rattle.hd_rules.specs.Run.{run, Rising, next_number}
-use Rattle.hd_rules.specs.Depends.{first_dependent, first_otherwise}
+use Rattle.hd_rules.specs.Record.{Record}
+use Rattle.hd_rules.specs.Run.{outcome_of, run, Rising, next_number}
+use Rattle.hd_rules.specs.Depends.{first_dependent}
 use Rattle.hd_rules.specs.Target.{Split, target}
 use Rattle.hd_rules.specs.Turns.{Kept, answered_cancel, answered_target}
 use Rattle.hd_rules.proofs.Splits.{rising_at}
-use Rattle.hd_rules.proofs.Walk.{walk_is}
 use Rattle.hd_catalogue.specs.Contents.{Contents, facts_of}
+use Rattle.hd_footprint.specs.Meter.{Counts}
+use Rattle.hd_inverse.specs.Work.{written}
+use Rattle.hd_clash.specs.Clash.{first_clash}
+use Rattle.hd_clash.specs.Records.{EachRecordIsKnown}
+use Rattle.hd_records.specs.Looks.{looked, questions_of}
+use Rattle.hd_records.specs.Survivors.{survivor_of, survivors_of, changes_at}
+use Rattle.hd_journal.specs.Laws.{Laws}
 use Rattle.hd_journal.specs.Running.{Running, IsRunning, MayRun, Withdrawn, state_at}
-use Rattle.hd_journal.specs.Deciding.{IsTargetAt, found}
-use Rattle.hd_journal.proofs.Runs.{split_at, take_at, may_run_without}
+use Rattle.hd_journal.specs.Working.{IsCancellation, IsDecidedSo, IsDecision, cells_of}
+use Rattle.hd_journal.proofs.Runs.{may_run_without}
+use Rattle.hd_journal.proofs.Stored.{Parts, first_is, newer_at, older_at}
+use Rattle.hd_journal.proofs.Working.{Compares, cells_are, compares, in_words, takes_back}
 
--- the walk finds the first dependent
-pub found_is : (k : Facts) (ss : List Survivor) (i : ℕ) (c : Survivor) → i < length ss → c ≡ get_or ss i c → Rising 1 ss
-    → first_dependent k ss c (drop (i + 1) ss) ≡ found k ss i
-found_is k ss i c below is rising =
-    let split : ss ≡ take i ss ++ c ∷ drop (i + 1) ss = split_at ss i c below is in
-    ap (λ (xs : List Survivor). first_dependent k xs c (drop (i + 1) ss)) split
-    ∙ walk_is k 1 (take i ss) c (drop (i + 1) ss) (subst (Rising 1) split rising)
-    ∙ ap (λ (xs : List Survivor). first_otherwise k (run k xs) (run k (take i ss)) (drop (i + 1) ss)) (sym (take_at ss i c below is))
+-- the target, by the record at its place
+pub record Aims (r : Running) (terminal : ℕ) (what : Cancel) (rs : List Record) (i : ℕ) (aim : Record) : Type 0 where
+  pub same : r.survivors ≡ survivors_of rs
+  pub is_target : target terminal what (survivors_of rs) ≡ Some (record {
+    older = survivors_of (older_at rs i);
+    survivor = survivor_of aim;
+    newer = survivors_of (newer_at rs i);
+  })
 
-abbrev split_of : List Survivor → ℕ → Survivor → Split
-split_of ss i c = record { older = take i ss; survivor = c; newer = drop (i + 1) ss }
+abbrev split_of : List Record → ℕ → Record → Split
+split_of rs i aim =
+    record { older = survivors_of (older_at rs i); survivor = survivor_of aim; newer = survivors_of (newer_at rs i) }
 
-decided : (r : Running) (terminal : ℕ) (what : Cancel) (i : ℕ) (o : Option ℕ) (kept : ℕ → Option Kept) → i < length r.survivors
-    → Rising 1 r.survivors → (at : IsTargetAt terminal what r.survivors i) → found (facts_of r.contents) r.survivors i ≡ o
+decided : (laws : Laws) (r : Running) (terminal : ℕ) (what : Cancel) (rs : List Record) (i : ℕ) (aim : Record) (o : Option ℕ)
+    (kept : ℕ → Option Kept) → Aims r terminal what rs i aim → Parts (facts_of r.contents) rs i aim → Rising 1 (survivors_of rs)
+    → EachRecordIsKnown (facts_of r.contents) rs
+    → first_clash (facts_of r.contents) (changes_at i rs) (newer_at rs i) ≡ o
     → answered_cancel (facts_of r.contents) (state_at r kept) (target terminal what r.survivors)
-    ≡ answered_target (facts_of r.contents) (state_at r kept) (split_of r.survivors i at.0) o
-decided r terminal what i o kept below rising at is =
+    ≡ answered_target (facts_of r.contents) (state_at r kept) (split_of rs i aim) o
+decided laws r terminal what rs i aim o kept aims parts rising known is =
     let k : Facts = facts_of r.contents in
-    ap (answered_cancel k (state_at r kept)) at.2
-    ∙ ap (answered_target k (state_at r kept) (split_of r.survivors i at.0)) (found_is k r.survivors i at.0 below at.1 rising ∙ is)
+    ap (answered_cancel k (state_at r kept)) (ap (target terminal what) aims.same ∙ aims.is_target)
+    ∙ ap (answered_target k (state_at r kept) (split_of rs i aim))
+    (ap (λ (ss : List Survivor). first_dependent k ss (survivor_of aim) (survivors_of (newer_at rs i))) aims.same
+    ∙ sym (first_is laws k rs i aim parts rising known) ∙ is)
 
-pub withdrawn_depends : (r : Running) (terminal : ℕ) (what : Cancel) (i n : ℕ) → i < length r.survivors → Rising 1 r.survivors
-    → IsTargetAt terminal what r.survivors i → found (facts_of r.contents) r.survivors i ≡ Some n
+pub withdrawn_depends : (laws : Laws) (r : Running) (terminal : ℕ) (what : Cancel) (rs : List Record) (i : ℕ) (aim : Record) (n : ℕ)
+    → Aims r terminal what rs i aim → Parts (facts_of r.contents) rs i aim → Rising 1 (survivors_of rs)
+    → EachRecordIsKnown (facts_of r.contents) rs → first_clash (facts_of r.contents) (changes_at i rs) (newer_at rs i) ≡ Some n
     → Withdrawn r terminal what (Refused (refusal.Depends n)) r
-withdrawn_depends r terminal what i n below rising at is kept = decided r terminal what i (Some n) kept below rising at is
+withdrawn_depends laws r terminal what rs i aim n aims parts rising known is kept =
+    decided laws r terminal what rs i aim (Some n) kept aims parts rising known is
 
-pub withdrawn_stands : (r : Running) (terminal : ℕ) (what : Cancel) (i : ℕ) (contents : Contents) (items : List Survivor) (gone : Survivor)
-    → i < length r.survivors → Rising 1 r.survivors → IsTargetAt terminal what r.survivors i
-    → found (facts_of r.contents) r.survivors i ≡ None → gone ≡ get_or r.survivors i gone → contents ≡ r.contents
-    → items ≡ take i r.survivors ++ drop (i + 1) r.survivors
-    → Withdrawn r terminal what (Cancelled gone.number) (record { contents = contents; survivors = items; last = r.last })
-withdrawn_stands r terminal what i contents items gone below rising at is there same rest kept =
-    let one : gone ≡ at.0 = there ∙ get_or_default r.survivors i gone at.0 below ∙ sym at.1 in
-    decided r terminal what i None kept below rising at is
+pub withdrawn_stands : (laws : Laws) (r : Running) (terminal : ℕ) (what : Cancel) (rs : List Record) (i : ℕ) (aim : Record)
+    (contents : Contents) (items : List Survivor)
+    → Aims r terminal what rs i aim → Parts (facts_of r.contents) rs i aim → Rising 1 (survivors_of rs)
+    → EachRecordIsKnown (facts_of r.contents) rs → first_clash (facts_of r.contents) (changes_at i rs) (newer_at rs i) ≡ None
+    → contents ≡ r.contents → items ≡ survivors_of (older_at rs i) ++ survivors_of (newer_at rs i)
+    → Withdrawn r terminal what (Cancelled aim.number) (record { contents = contents; survivors = items; last = r.last })
+withdrawn_stands laws r terminal what rs i aim contents items aims parts rising known is same rest kept =
+    decided laws r terminal what rs i aim None kept aims parts rising known is
     ∙ (λ j. record {
-      reply = Cancelled (sym one j).number;
+      reply = Cancelled aim.number;
       state = state_at (record { contents = sym same j; survivors = sym rest j; last = r.last }) kept;
     })
+
+-- the work, where a later one depends on the target, and where none does
+pub work_depends : (laws : Laws) (k : Facts) (survivors : List Survivor) (o : Option Split) (rs : List Record) (i : ℕ) (aim : Record) (n : ℕ)
+    (old mid new : Counts)
+    → survivors ≡ survivors_of rs → o ≡ Some (split_of rs i aim) → Parts k rs i aim → Rising 1 (survivors_of rs) → EachRecordIsKnown k rs
+    → first_clash k (changes_at i rs) (newer_at rs i) ≡ Some n → Compares k rs i old mid new → IsCancellation k survivors o old new
+work_depends laws k survivors o rs i aim n old mid new same found parts rising known is h =
+    let first : first_dependent k survivors (survivor_of aim) (survivors_of (newer_at rs i)) ≡ Some n =
+    ap (λ (ss : List Survivor). first_dependent k ss (survivor_of aim) (survivors_of (newer_at rs i))) same
+    ∙ sym (first_is laws k rs i aim parts rising known) ∙ is in
+    subst (λ (x : Option Split). IsCancellation k survivors x old new) (sym found)
+    (subst (λ (x : Option ℕ). IsDecidedSo k (split_of rs i aim) x old new) (sym first)
+    (in_words k rs i 0 aim 2 old new parts (compares laws k rs i old mid new h)))
+
+pub work_stands : (laws : Laws) (k : Facts) (survivors : List Survivor) (o : Option Split) (rs : List Record) (i : ℕ) (aim : Record)
+    (old mid compared back new : Counts)
+    → survivors ≡ survivors_of rs → o ≡ Some (split_of rs i aim) → Parts k rs i aim → Rising 1 (survivors_of rs) → EachRecordIsKnown k rs
+    → first_clash k (changes_at i rs) (newer_at rs i) ≡ None → Compares k rs i old mid compared
+    → back ≡ written (length aim.changes) compared → new ≡ looked (length (newer_at rs i)) back → IsCancellation k survivors o old new
+work_stands laws k survivors o rs i aim old mid compared back new same found parts rising known is h writes looks =
+    let first : first_dependent k survivors (survivor_of aim) (survivors_of (newer_at rs i)) ≡ None =
+    ap (λ (ss : List Survivor). first_dependent k ss (survivor_of aim) (survivors_of (newer_at rs i))) same
+    ∙ sym (first_is laws k rs i aim parts rising known) ∙ is in
+    let all : IsDecision (length aim.changes) (3 * length (newer_at rs i) + 1) (questions_of (newer_at rs i)) old new =
+    takes_back laws rs i (length aim.changes) (questions_of (newer_at rs i)) old compared back new (compares laws k rs i old mid compared h)
+    writes looks in
+    subst (λ (x : Option Split). IsCancellation k survivors x old new) (sym found)
+    (subst (λ (x : Option ℕ). IsDecidedSo k (split_of rs i aim) x old new) (sym first)
+    (in_words k rs i (cells_of (outcome_of k (run k (survivors_of (older_at rs i))) (survivor_of aim))) aim 3 old new parts
+    (subst (λ (n : ℕ). IsDecision n (3 * length (newer_at rs i) + 1) (questions_of (newer_at rs i)) old new) (cells_are k rs i aim parts) all)))
 
 -- no number of the others is above the last
 next_later : (n m : ℕ) (xs : List Survivor) → n ≤ m → next_number n xs ≤ next_number m xs
@@ -71,15 +115,12 @@ next_less n (x ∷ xs) c newer le rising =
     next_less (x.number + 1) xs c newer (omega arith) rising.1
 
 -- what is left is a run
-pub running_without : (r : Running) (d e : Desk) (i : ℕ) (c : Survivor) (contents : Contents) (items : List Survivor) → IsRunning r d
-    → i < length r.survivors → c ≡ get_or r.survivors i c → contents ≡ r.contents → items ≡ take i r.survivors ++ drop (i + 1) r.survivors
-    → e ≡ run (facts_of r.contents) (take i r.survivors ++ drop (i + 1) r.survivors)
+pub running_without : (r : Running) (d e : Desk) (older newer : List Survivor) (c : Survivor) (contents : Contents) (items : List Survivor)
+    → IsRunning r d → r.survivors ≡ older ++ c ∷ newer → contents ≡ r.contents → items ≡ older ++ newer
+    → e ≡ run (facts_of r.contents) (older ++ newer)
     → IsRunning (record { contents = contents; survivors = items; last = r.last }) e
-running_without r d e i c contents items is below there same rest goes =
+running_without r d e older newer c contents items is split same rest goes =
     let k : Facts = facts_of r.contents in
-    let older : List Survivor = take i r.survivors in
-    let newer : List Survivor = drop (i + 1) r.survivors in
-    let split : r.survivors ≡ older ++ c ∷ newer = split_at r.survivors i c below there in
     let may : MayRun k (older ++ newer) = may_run_without k older c newer (subst (MayRun k) split is.may_run) in
     let whole : Rising 1 (older ++ c ∷ newer) = subst (Rising 1) split is.may_run.rising in
     let low : next_number 1 (older ++ c ∷ newer) ≤ r.last + 1 =

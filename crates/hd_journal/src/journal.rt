@@ -2,6 +2,8 @@
 
 ghost use Rattle.std.specs.Prelude.{◌≡◌, ◌<◌, [], None, IfOk, OnErr, length, option_map};
 ghost use Rattle.hd_catalogue.specs.Contents.{facts_of};
+ghost use Rattle.hd_records.specs.Shown.{shown as shown_record};
+ghost use Rattle.hd_journal.specs.Stored.{IsRecordOf};
 ghost use Rattle.hd_rules.specs.Desk.{opening};
 ghost use Rattle.hd_rules.specs.Known.{IsKnownAction, IsKnownCancel};
 ghost use Rattle.hd_rules.specs.Run.{run};
@@ -17,7 +19,8 @@ use crate::running::Running;
 use crate::told::Told;
 use crate::turn::{Turn, TurnRef};
 use hd_desk::{Desk, Meter};
-use hd_rules::{Asked, Cancel, Command, CopyNo, Survivor, TerminalNo};
+use hd_records::{RecordRef, Survivors};
+use hd_rules::{Asked, Cancel, Command, CopyNo, TerminalNo};
 use std::alloc::{Allocator, Global};
 use std::marker::Model;
 
@@ -96,7 +99,7 @@ impl<A: Allocator + Copy> Journal<A> {
             let again = ask.with_reply(reply);
             return Ok(self.told.add_repeat(again));
         }
-        let reply = self.running.answer(self.alloc, &ask, &mut self.meter)?;
+        let reply = self.running.answer(&ask, &mut self.meter)?;
         let turn = ask.with_reply(reply);
         Ok(self.told.add(turn))
     }
@@ -184,9 +187,18 @@ impl<A: Allocator + Copy> Journal<A> {
         self.told.turn(at.checked_sub(1)?)
     }
 
+    /// What is kept of the surviving command of a number, or `None` where no survivor has it: what it asked
+    /// and noted, what it changed and replied, all in the run of the survivors before it.
+    pub fn record(&self, number: u64) -> Option<RecordRef<'_>>
+        ensures { IsRecordOf (facts self.now) (state self.now).survivors number
+            (option_map shown_record result) }
+    {
+        self.running.record(number)
+    }
+
     /// The commands that were accepted and not cancelled, by number.
-    pub fn survivors(&self) -> &[Survivor]
-        ensures { result.now ≡ (state self.now).survivors }
+    pub fn survivors(&self) -> Survivors<'_>
+        ensures { result ≡ (state self.now).survivors }
     {
         self.running.survivors()
     }

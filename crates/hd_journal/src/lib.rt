@@ -2,10 +2,10 @@
 #![tactic(auto)]
 
 mod ask;
-mod decision;
 mod entry;
 mod fault;
 mod journal;
+mod laws;
 mod line;
 mod numbers;
 mod room;
@@ -20,4 +20,5 @@ pub use crate::journal::Journal;
 pub use crate::numbers::SeatNo;
 pub use crate::turn::{Turn, TurnRef};
 pub use hd_desk::{Catalogue, Desk};
+pub use hd_records::{RecordRef, Survivors};
 pub use hd_rules::{Asked, Cancel, Command, Refusal, Reply, Survivor, TerminalNo, TurnReply};

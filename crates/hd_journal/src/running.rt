@@ -1,42 +1,54 @@
 //! The commands that survive, and the desk of their run.
 
-ghost use Rattle.std.specs.Prelude.{◌≡◌, ◌+◌, ◌<◌, ◌≤◌, ◌^◌, [], ℕ, None, Option, IfOk, OnErr};
+ghost use Rattle.std.specs.Prelude.{◌≡◌, ◌+◌, ◌<◌, ◌≤◌, ◌^◌, [], ℕ, None, Option, IfOk, OnErr, option_map};
 ghost use Rattle.hd_catalogue.specs.Contents.{facts_of};
 ghost use Rattle.hd_rules.specs.Desk.{opening};
 ghost use Rattle.hd_rules.specs.Known.{IsKnown, IsKnownAction};
 ghost use Rattle.hd_rules.specs.Run.{outcome_of, run};
+ghost use Rattle.hd_rules.specs.Target.{target};
 ghost use Rattle.hd_rules.specs.Turns.{Kept, item_view, next_survivor};
 ghost use Rattle.hd_desk.specs.Desks.{contents, desk_of, facts};
 ghost use Rattle.hd_journal.specs.Running.{IsCarriedOut, Submitted, Withdrawn, state_alone};
-ghost use Rattle.hd_journal.specs.Working.{IsWork, OnlyRise, command_work};
+ghost use Rattle.hd_records.specs.Shown.{shown};
+ghost use Rattle.hd_journal.specs.Stored.{IsRecordOf};
+ghost use Rattle.hd_journal.specs.Working.{IsCancellation, IsWork, OnlyRise, command_work};
 
 use crate::ask::OwnedAsk;
-use crate::decision::{Decision, decide, newest};
-use crate::room::push_ready;
-use hd_desk::{Desk, Done, Meter, Refused};
-use hd_rules::{Asked, Cancel, Command, CopyNo, Refusal, Reply, Survivor, TerminalNo, TurnReply};
+use crate::laws::laws;
+use hd_desk::{Desk, Meter, Refused};
+use hd_inverse::undo;
+use hd_records::{RecordRef, Records, StoredRecord, Survivors};
+use hd_rules::{Asked, Cancel, Command, CopyNo, Refusal, Survivor, TerminalNo, TurnReply};
 use std::alloc::{AllocError, Allocator};
 use std::marker::Model;
 
-/// The survivors, the desk of their run, and the last number given.
+/// The records of the survivors, the desk of their run, and the last number given.
 #[derive(Drop)]
 pub(crate) struct Running<A: Allocator> {
     desk: Desk<A>,
-    survivors: Vec<Survivor, A>,
+    records: Records<A>,
     last: u64,
 }
 
 impl<A: Allocator> Model for Running<A> {
+    ghost use Rattle.hd_catalogue.specs.Contents.{facts_of};
     ghost use Rattle.hd_desk.specs.Desks.{contents, desk_of};
+    ghost use Rattle.hd_records.specs.Survivors.{survivors_of};
     ghost use Rattle.hd_journal.specs.Running.{Running, IsRunning};
+    ghost use Rattle.hd_journal.specs.Stored.{AreStored};
 
     ghost Value = { Running };
 
-    ghost view = { λ r. record { contents = contents r.desk; survivors = r.survivors.items; last = r.last } };
+    ghost view = { λ r. record {
+      contents = contents r.desk;
+      survivors = survivors_of r.records.records;
+      last = r.last;
+    } };
 
     ghost invariant = { λ r. IsRunning
-        (record { contents = contents r.desk; survivors = r.survivors.items; last = r.last })
-        (desk_of r.desk) };
+        (record { contents = contents r.desk; survivors = survivors_of r.records.records; last = r.last })
+        (desk_of r.desk)
+        × AreStored (facts_of (contents r.desk)) r.records.records };
 }
 
 impl<A: Allocator + Copy> Running<A> {
@@ -47,7 +59,7 @@ impl<A: Allocator + Copy> Running<A> {
     {
         Running {
             desk,
-            survivors: Vec::new(alloc),
+            records: Records::new(alloc),
             last: 0,
         }
     }
@@ -61,10 +73,18 @@ impl<A: Allocator + Copy> Running<A> {
     }
 
     /// The survivors, by number.
-    pub(crate) fn survivors(&self) -> &[Survivor]
-        ensures { result.now ≡ self.now.survivors }
+    pub(crate) fn survivors(&self) -> Survivors<'_>
+        ensures { result ≡ self.now.survivors }
     {
-        self.survivors.as_slice()
+        self.records.survivors()
+    }
+
+    /// The record of the survivor of a number, or `None` where there is none.
+    pub(crate) fn record(&self, number: u64) -> Option<RecordRef<'_>>
+        ensures { IsRecordOf (facts_of self.now.contents) self.now.survivors number (option_map shown result) }
+    {
+        laws();
+        self.records.get(number)
     }
 
     /// The last number given.
@@ -77,7 +97,6 @@ impl<A: Allocator + Copy> Running<A> {
     /// Carries out what a terminal asks that is no repeat, and counts the work: its reply.
     pub(crate) fn answer(
         &mut self,
-        alloc: A,
         ask: &OwnedAsk<A>,
         meter: &mut Meter,
     ) -> Result<TurnReply, AllocError>
@@ -94,7 +113,7 @@ impl<A: Allocator + Copy> Running<A> {
     {
         match &ask.asked {
             Asked::Command(command) => self.submit(ask.terminal(), command, meter),
-            Asked::Cancel(what) => self.cancel(alloc, ask.terminal(), what, meter),
+            Asked::Cancel(what) => self.cancel(ask.terminal(), what, meter),
             Asked::Item(copy) => Ok(self.item(*copy)),
         }
     }
@@ -129,7 +148,7 @@ impl<A: Allocator + Copy> Running<A> {
         ensures last { self.new.last ≤ self.old.last + 1 }
         ensures err { OnErr result (self.new ≡ self.old) }
     {
-        self.survivors.reserve(1)?;
+        self.records.ready()?;
         let number = self.last + 1;
         match self.desk.apply(number, command, meter) {
             Ok(done) => {
@@ -138,51 +157,46 @@ impl<A: Allocator + Copy> Running<A> {
                     terminal,
                     command: *command,
                 };
-                push_ready(&mut self.survivors, survivor);
+                let (reply, changes, findings) = done.into_parts();
+                self.records
+                    .push(StoredRecord::new(survivor, reply, findings, changes));
                 self.last = number;
-                Ok(TurnReply::Done {
-                    number,
-                    reply: reply_of(done),
-                })
+                Ok(TurnReply::Done { number, reply })
             }
             Err(Refused::Rule(refusal)) => Ok(TurnReply::Refused(refusal)),
             Err(Refused::Memory) => Err(AllocError),
         }
     }
 
-    /// Takes back what the terminal's cancellation takes back, or tells why it can't.
+    /// Takes back what the terminal's cancellation takes back, or tells why it can't: from the records alone.
+    /// Only putting old values back can want memory, and that comes before any change.
     fn cancel(
         &mut self,
-        alloc: A,
         terminal: TerminalNo,
         what: &Cancel,
         meter: &mut Meter,
     ) -> Result<TurnReply, AllocError>
         ensures cancelled { IfOk result (λ reply. Withdrawn self.old terminal what.now reply self.new) }
-        ensures rise { OnlyRise meter.old meter.new }
+        ensures work { IfOk result (λ _. IsCancellation (facts_of self.old.contents) self.old.survivors
+            (target terminal what.now self.old.survivors) meter.old meter.new) }
+        ensures rise { OnErr result (OnlyRise meter.old meter.new) }
         ensures contents { self.new.contents ≡ self.old.contents }
         ensures last { self.new.last ≡ self.old.last }
         ensures err { OnErr result (self.new ≡ self.old) }
     {
-        let Some(at) = newest(self.survivors.as_slice(), terminal, what) else {
+        laws();
+        let Some(place) = self.records.newest(terminal, what, meter) else {
             return Ok(TurnReply::Refused(Refusal::NothingToCancel));
         };
-        match decide(alloc, &self.desk, self.survivors.as_slice(), at, meter)? {
-            Decision::Depends(number) => Ok(TurnReply::Refused(Refusal::Depends { number })),
-            Decision::Stands(without) => {
-                let target = self.survivors.remove(at);
-                self.desk = without;
-                Ok(TurnReply::Cancelled {
-                    number: target.number,
-                })
-            }
+        let catalogue = self.desk.catalogue();
+        catalogue.facts_are_in_range();
+        if let Some(number) = self.records.first_clash(catalogue, place, meter) {
+            return Ok(TurnReply::Refused(Refusal::Depends { number }));
         }
+        let target = self.records.at(place);
+        let number = target.survivor.number;
+        undo(&mut self.desk, target.changes, meter)?;
+        self.records.take_out(self.desk.catalogue(), place, meter);
+        Ok(TurnReply::Cancelled { number })
     }
-}
-
-/// What an accepted command says.
-fn reply_of(done: Done) -> Reply
-    ensures { result ≡ done.reply }
-{
-    done.reply()
 }

@@ -1,0 +1,251 @@
+-- Records before a target, at it and after it.
+use Rattle.std.proofs.Common.{arith, ◌≡◌, ◌≢◌, refl, sym, ◌∙◌, ap, subst, ℕ, zero, suc, ◌+◌, ◌<◌, ◌≤◌, ◌==◌, Bool, true, false, List, [], ◌∷◌}
+use Rattle.std.proofs.Common.{◌++◌, length, take, drop, get_or, add-one, drop-cons, map, Option, Some, None, Ok, inl, inr}
+use Rattle.std.proofs.lemmas.Bool.Decides.{nat_tests}
+use Rattle.std.proofs.lemmas.List.{take-append-drop, map-append, length-map}
+use Rattle.hd_rules.specs.declared.cells.Change.{Change}
+use Rattle.hd_rules.specs.declared.commands.Survivor.{Survivor}
+use Rattle.hd_rules.specs.declared.questions.Question.{Question}
+use Rattle.hd_rules.specs.Ask.{Done, asks}
+use Rattle.hd_rules.specs.Facts.{Facts, AreInRange}
+use Rattle.hd_rules.specs.Desk.{Desk, opening, undone}
+use Rattle.hd_rules.specs.Depends.{before, less, first_dependent, NoneDepends}
+use Rattle.hd_rules.specs.Known.{IsKnownDesk}
+use Rattle.hd_rules.specs.Laws.{IsAcceptedIn}
+use Rattle.hd_rules.specs.Record.{Record, IsRecord, IsRecordAt, findings}
+use Rattle.hd_rules.specs.Run.{IsAmong, outcome_of, step, run, Rising}
+use Rattle.hd_rules.specs.Sound.{EachBackIsFit}
+use Rattle.hd_rules.specs.Step.{plan}
+use Rattle.hd_rules.specs.Target.{Split}
+use Rattle.hd_clash.specs.Clash.{first_clash}
+use Rattle.hd_clash.specs.Records.{AreRecords, EachCommandIsKnown, EachRecordIsKnown, IsKnownRecord}
+use Rattle.hd_clash.specs.Shift.{shift_record, shift_records}
+use Rattle.hd_clash.specs.Walk.{Kept}
+use Rattle.hd_inverse.specs.Cells.{AreApart, AreKnown}
+use Rattle.hd_records.specs.Looks.{questions_of}
+use Rattle.hd_records.specs.Survivors.{survivor_of, survivors_of, changes_at, record_of}
+use Rattle.hd_journal.specs.Laws.{Laws}
+use Rattle.hd_journal.specs.Running.{AllKnownSurvivors}
+use Rattle.hd_journal.specs.Stored.{AreStored, EachCanBeUndone, IsRecordOf}
+use Rattle.hd_journal.specs.Working.{questions_from}
+
+-- the records that are older than a place, and those that are newer
+abbrev pub older_at : List Record → ℕ → List Record
+older_at rs i = take i rs
+
+abbrev pub newer_at : List Record → ℕ → List Record
+newer_at rs i = drop (i + 1) rs
+
+abbrev pub done_of_record : Record → Done
+done_of_record r = record { changes = r.changes; reply = r.reply }
+
+-- a place, and the record there
+pub record IsAt (rs : List Record) (i : ℕ) (r : Record) : Type 0 where
+  pub within : i < length rs
+  pub there : r ≡ get_or rs i r
+
+pub records_split : (rs : List Record) (i : ℕ) (r : Record) → IsAt rs i r → rs ≡ older_at rs i ++ r ∷ newer_at rs i
+records_split rs i r at =
+    sym (take-append-drop i rs)
+    ∙ ap (λ (xs : List Record). take i rs ++ xs)
+    (rw (add-one, drop-cons rs i r) (ap (λ (x : Record). x ∷ drop (suc i) rs) (sym at.there)))
+
+pub survivors_joined : (xs ys : List Record) → survivors_of (xs ++ ys) ≡ survivors_of xs ++ survivors_of ys
+survivors_joined xs ys = map-append survivor_of xs ys
+
+pub survivors_split : (rs : List Record) (i : ℕ) (r : Record) → IsAt rs i r
+    → survivors_of rs ≡ survivors_of (older_at rs i) ++ survivor_of r ∷ survivors_of (newer_at rs i)
+survivors_split rs i r at =
+    ap survivors_of (records_split rs i r at) ∙ survivors_joined (older_at rs i) (r ∷ newer_at rs i)
+
+pub changes_there : (rs : List Record) (i : ℕ) (r : Record) → i < length rs → r ≡ get_or rs i r → changes_at i rs ≡ r.changes
+changes_there [] i r below is = absurd (omega arith)
+changes_there (x ∷ xs) zero r below is = ap (λ (y : Record). y.changes) (sym is)
+changes_there (x ∷ xs) (suc i) r below is = changes_there xs i r (omega arith) is
+
+pub survivors_mended : (k : Facts) (changes : List Change) (rs : List Record) → survivors_of (shift_records k changes rs) ≡ survivors_of rs
+survivors_mended k changes [] = refl
+survivors_mended k changes (x ∷ xs) = ap (λ (ss : List Survivor). survivor_of x ∷ ss) (survivors_mended k changes xs)
+
+-- those that can be taken back
+undoable_first : (k : Facts) (xs ys : List Record) → EachCanBeUndone k (xs ++ ys) → EachCanBeUndone k xs
+undoable_first k [] ys all = tt
+undoable_first k (x ∷ xs) ys all = (all.0, all.1, undoable_first k xs ys all.2)
+
+undoable_rest : (k : Facts) (xs ys : List Record) → EachCanBeUndone k (xs ++ ys) → EachCanBeUndone k ys
+undoable_rest k [] ys all = all
+undoable_rest k (x ∷ xs) ys all = undoable_rest k xs ys all.2
+
+undoable_both : (k : Facts) (xs ys : List Record) → EachCanBeUndone k xs → EachCanBeUndone k ys → EachCanBeUndone k (xs ++ ys)
+undoable_both k [] ys first rest = rest
+undoable_both k (x ∷ xs) ys first rest = (first.0, first.1, undoable_both k xs ys first.2 rest)
+
+undoable_mended : (k : Facts) (changes : List Change) (rs : List Record) → EachCanBeUndone k rs → EachCanBeUndone k (shift_records k changes rs)
+undoable_mended k changes [] all = tt
+undoable_mended k changes (x ∷ xs) all = (all.0, all.1, undoable_mended k changes xs all.2)
+
+known_rest : (k : Facts) (xs ys : List Record) → EachRecordIsKnown k (xs ++ ys) → EachRecordIsKnown k ys
+known_rest k [] ys all = all
+known_rest k (x ∷ xs) ys all = known_rest k xs ys all.1
+
+commands_known : (k : Facts) (ss : List Survivor) → AllKnownSurvivors k ss → EachCommandIsKnown k ss
+commands_known k [] all = tt
+commands_known k (s ∷ ss) all = (all.0, commands_known k ss all.1)
+
+-- each record is of things of the catalogue
+pub stored_known : (laws : Laws) (k : Facts) (rs : List Record) → AreInRange k → AllKnownSurvivors k (survivors_of rs) → AreStored k rs
+    → EachRecordIsKnown k rs
+stored_known laws k rs range known stored =
+    let desk : IsKnownDesk k (opening k) = (laws.replies k [] range tt (λ turn among. absurd among)).desk in
+    laws.known k (opening k) (survivors_of rs) rs range desk (commands_known k (survivors_of rs) known) stored.are
+
+-- the records older than a place, the one there, and the newer ones
+pub record Parts (k : Facts) (rs : List Record) (i : ℕ) (r : Record) : Type 0 where
+  pub at : IsAt rs i r
+  pub older : AreRecords k (opening k) (survivors_of (older_at rs i)) (older_at rs i)
+  pub one : IsRecordAt k (run k (survivors_of (older_at rs i))) (survivor_of r) r
+  pub newer : AreRecords k (step k (run k (survivors_of (older_at rs i))) (survivor_of r)) (survivors_of (newer_at rs i)) (newer_at rs i)
+
+pub parts_at : (laws : Laws) (k : Facts) (rs : List Record) (i : ℕ) (r : Record) → IsAt rs i r → AreStored k rs → Parts k rs i r
+parts_at laws k rs i r at stored =
+    let whole : AreRecords k (opening k) (survivors_of (older_at rs i) ++ survivor_of r ∷ survivors_of (newer_at rs i))
+    (older_at rs i ++ r ∷ newer_at rs i) =
+    subst (λ (xs : List Record). AreRecords k (opening k) (survivors_of (older_at rs i) ++ survivor_of r ∷ survivors_of (newer_at rs i)) xs)
+    (records_split rs i r at)
+    (subst (λ (ss : List Survivor). AreRecords k (opening k) ss rs) (survivors_split rs i r at) stored.are) in
+    let both =
+    (laws.split k (opening k) (survivors_of (older_at rs i)) (survivor_of r ∷ survivors_of (newer_at rs i)) (older_at rs i)
+    (r ∷ newer_at rs i) (length-map (older_at rs i) survivor_of)).0 whole in
+    record { at = at; older = both.0; one = both.1.0; newer = both.1.1 }
+
+-- what a clash is told of
+pub kept_at : (laws : Laws) (k : Facts) (rs : List Record) (i : ℕ) (r : Record) → Parts k rs i r → Rising 1 (survivors_of rs)
+    → EachRecordIsKnown k rs
+    → Kept k (survivors_of (older_at rs i)) (survivor_of r) (survivors_of (newer_at rs i)) (done_of_record r) (newer_at rs i)
+kept_at laws k rs i r parts rising known = record {
+  rising = subst (Rising 1) (survivors_split rs i r parts.at) rising;
+  accepted = parts.one.done;
+  known = (known_rest k (older_at rs i) (r ∷ newer_at rs i) (subst (EachRecordIsKnown k) (records_split rs i r parts.at) known)).0.cells;
+  records = parts.newer;
+}
+
+-- the first clash is the first dependent
+pub first_is : (laws : Laws) (k : Facts) (rs : List Record) (i : ℕ) (r : Record) → Parts k rs i r → Rising 1 (survivors_of rs)
+    → EachRecordIsKnown k rs
+    → first_clash k (changes_at i rs) (newer_at rs i)
+    ≡ first_dependent k (survivors_of rs) (survivor_of r) (survivors_of (newer_at rs i))
+first_is laws k rs i r parts rising known =
+    ap (λ (cs : List Change). first_clash k cs (newer_at rs i)) (changes_there rs i r parts.at.within parts.at.there)
+    ∙ laws.clash k (survivors_of (older_at rs i)) (survivor_of r) (survivors_of (newer_at rs i)) (done_of_record r) (newer_at rs i)
+    (kept_at laws k rs i r parts rising known)
+    ∙ ap (λ (ss : List Survivor). first_dependent k ss (survivor_of r) (survivors_of (newer_at rs i))) (sym (survivors_split rs i r parts.at))
+
+among_middle : (xs : List Survivor) (s : Survivor) (ys : List Survivor) → IsAmong s (xs ++ s ∷ ys)
+among_middle [] s ys = inl refl
+among_middle (x ∷ xs) s ys = inr (among_middle xs s ys)
+
+-- the command at the place was accepted, and none depends on it
+pub record CanGo (k : Facts) (rs : List Record) (i : ℕ) (r : Record) : Type 0 where
+  pub accepted : IsAcceptedIn k (survivors_of rs) (survivor_of r) (done_of_record r)
+  pub none : NoneDepends k (survivors_of rs) (survivor_of r)
+  pub less_is : less r.number (survivors_of rs) ≡ survivors_of (older_at rs i) ++ survivors_of (newer_at rs i)
+
+pub can_go : (laws : Laws) (k : Facts) (rs : List Record) (i : ℕ) (r : Record) → Parts k rs i r → Rising 1 (survivors_of rs)
+    → EachRecordIsKnown k rs → first_clash k (changes_at i rs) (newer_at rs i) ≡ None → CanGo k rs i r
+can_go laws k rs i r parts rising known clash =
+    let older : List Survivor = survivors_of (older_at rs i) in
+    let newer : List Survivor = survivors_of (newer_at rs i) in
+    let s : Survivor = survivor_of r in
+    let split : survivors_of rs ≡ older ++ s ∷ newer = survivors_split rs i r parts.at in
+    let up : Rising 1 (older ++ s ∷ newer) = subst (Rising 1) split rising in
+    let numbers = laws.numbers older s newer up in
+    let first : first_dependent k (older ++ s ∷ newer) s newer ≡ None =
+    ap (λ (ss : List Survivor). first_dependent k ss s newer) (sym split) ∙ sym (first_is laws k rs i r parts rising known) ∙ clash in
+    let none : NoneDepends k (older ++ s ∷ newer) s = rw first at (laws.dependent k older s newer up) in
+    record {
+      accepted = record {
+        rising = rising;
+        among = subst (IsAmong s) (sym split) (among_middle older s newer);
+        accepted =
+            subst (λ (ss : List Survivor). outcome_of k (run k ss) s ≡ Ok (done_of_record r))
+            (sym (ap (before s.number) split ∙ numbers.0)) parts.one.done;
+      };
+      none = subst (λ (ss : List Survivor). NoneDepends k ss s) (sym split) none;
+      less_is = ap (less s.number) split ∙ numbers.1;
+    }
+
+-- its changes taken back
+pub undone_is : (laws : Laws) (k : Facts) (rs : List Record) (i : ℕ) (r : Record) → CanGo k rs i r
+    → undone r.changes (run k (survivors_of rs)) ≡ run k (survivors_of (older_at rs i) ++ survivors_of (newer_at rs i))
+undone_is laws k rs i r goes =
+    laws.undone k (survivors_of rs) (survivor_of r) (done_of_record r) goes.accepted goes.none ∙ ap (run k) goes.less_is
+
+pub each_back : (laws : Laws) (k : Facts) (rs : List Record) (i : ℕ) (r : Record) → CanGo k rs i r
+    → EachBackIsFit k r.changes (run k (survivors_of rs))
+each_back laws k rs i r goes = laws.fit k (survivors_of rs) (survivor_of r) (done_of_record r) goes.accepted goes.none
+
+pub undoable_at : (k : Facts) (rs : List Record) (i : ℕ) (r : Record) → IsAt rs i r → AreStored k rs → AreKnown k r.changes × AreApart r.changes
+undoable_at k rs i r at stored =
+    let here = undoable_rest k (older_at rs i) (r ∷ newer_at rs i)
+    (subst (EachCanBeUndone k) (records_split rs i r at) stored.undoable) in (here.0, here.1)
+
+-- the records that are left
+abbrev pub left_at : Facts → List Record → ℕ → List Record
+left_at k rs i = older_at rs i ++ shift_records k (changes_at i rs) (newer_at rs i)
+
+pub left_survivors : (k : Facts) (rs : List Record) (i : ℕ)
+    → survivors_of (left_at k rs i) ≡ survivors_of (older_at rs i) ++ survivors_of (newer_at rs i)
+left_survivors k rs i =
+    survivors_joined (older_at rs i) (shift_records k (changes_at i rs) (newer_at rs i))
+    ∙ ap (λ (ss : List Survivor). survivors_of (older_at rs i) ++ ss) (survivors_mended k (changes_at i rs) (newer_at rs i))
+
+pub left_stored : (laws : Laws) (k : Facts) (rs : List Record) (i : ℕ) (r : Record) → Parts k rs i r → Rising 1 (survivors_of rs)
+    → EachRecordIsKnown k rs → AreStored k rs → first_clash k (changes_at i rs) (newer_at rs i) ≡ None → AreStored k (left_at k rs i)
+left_stored laws k rs i r parts rising known stored clash =
+    let cs : List Change = changes_at i rs in
+    let same : cs ≡ r.changes = changes_there rs i r parts.at.within parts.at.there in
+    let mended : List Record = shift_records k cs (newer_at rs i) in
+    let later : AreRecords k (run k (survivors_of (older_at rs i))) (survivors_of (newer_at rs i)) mended =
+    subst (λ (xs : List Change). AreRecords k (run k (survivors_of (older_at rs i))) (survivors_of (newer_at rs i)) (shift_records k xs (newer_at rs i)))
+    (sym same)
+    (laws.mended k (survivors_of (older_at rs i)) (survivor_of r) (survivors_of (newer_at rs i)) (done_of_record r) (newer_at rs i)
+    (kept_at laws k rs i r parts rising known)
+    (ap (λ (xs : List Change). first_clash k xs (newer_at rs i)) (sym same) ∙ clash)) in
+    let undoable = subst (EachCanBeUndone k) (records_split rs i r parts.at) stored.undoable in
+    record {
+      are =
+          subst (λ (ss : List Survivor). AreRecords k (opening k) ss (left_at k rs i)) (sym (left_survivors k rs i))
+          ((laws.split k (opening k) (survivors_of (older_at rs i)) (survivors_of (newer_at rs i)) (older_at rs i) mended
+          (length-map (older_at rs i) survivor_of)).1 (parts.older, later));
+      undoable = undoable_both k (older_at rs i) mended (undoable_first k (older_at rs i) (r ∷ newer_at rs i) undoable)
+          (undoable_mended k cs (newer_at rs i) (undoable_rest k (older_at rs i) (r ∷ newer_at rs i) undoable).2);
+    }
+
+-- one record more
+pub stored_more : (laws : Laws) (k : Facts) (rs more : List Record) (r : Record) → AreStored k rs
+    → IsRecordAt k (run k (survivors_of rs)) (survivor_of r) r → AreKnown k r.changes → AreApart r.changes
+    → more ≡ rs ++ r ∷ [] → AreStored k more
+stored_more laws k rs more r stored one known apart is =
+    subst (AreStored k) (sym is) (record {
+      are =
+          subst (λ (ss : List Survivor). AreRecords k (opening k) ss (rs ++ r ∷ [])) (sym (survivors_joined rs (r ∷ [])))
+          ((laws.split k (opening k) (survivors_of rs) (survivor_of r ∷ []) rs (r ∷ []) (length-map rs survivor_of)).1
+          (stored.are, (one, tt)));
+      undoable = undoable_both k rs (r ∷ []) stored.undoable (known, apart, tt);
+    })
+
+-- how many questions the records have
+length_findings : (k : Facts) (d : Desk) (qs : List Question) → length (findings k d qs) ≡ length qs
+length_findings k d [] = refl
+length_findings k d (q ∷ qs) = ap suc (length_findings k d qs)
+
+pub questions_are : (k : Facts) (d : Desk) (ss : List Survivor) (rs : List Record) → AreRecords k d ss rs
+    → questions_of rs ≡ questions_from k d ss
+questions_are k d [] [] are = refl
+questions_are k d (s ∷ ss) (r ∷ rs) are =
+    let here : length r.findings ≡ length (asks k d (plan k s.number s.command)) =
+    ap length are.0.findings ∙ length_findings k d (asks k d (plan k s.number s.command)) in
+    let rest : questions_of rs ≡ questions_from k (step k d s) ss = questions_are k (step k d s) ss rs are.1 in
+    omega (arith, here, rest)
+questions_are k d [] (r ∷ rs) are = absurd are
+questions_are k d (s ∷ ss) [] are = absurd are

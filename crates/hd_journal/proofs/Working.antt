@@ -1,0 +1,153 @@
+-- The work of a cancellation.
+use Rattle.std.proofs.Common.{arith, ◌≡◌, refl, sym, ◌∙◌, ap, subst, ℕ, zero, suc, ◌+◌, ◌*◌, ◌<◌, ◌≤◌, Bool, true, false, cond, List, [], ◌∷◌, ◌++◌}
+use Rattle.std.proofs.Common.{length, length-drop, drop, Option, Some, None, Result, Ok, Err}
+use Rattle.std.proofs.lemmas.List.{length-map}
+use Rattle.hd_rules.specs.declared.cells.Change.{Change}
+use Rattle.hd_rules.specs.declared.commands.Survivor.{Survivor}
+use Rattle.hd_rules.specs.declared.questions.Finding.{Finding}
+use Rattle.hd_rules.specs.declared.replies.Refusal.{Refusal}
+use Rattle.hd_rules.specs.Ask.{Done}
+use Rattle.hd_rules.specs.Facts.{Facts}
+use Rattle.hd_rules.specs.Record.{Record}
+use Rattle.hd_rules.specs.Run.{outcome_of, run, step}
+use Rattle.hd_footprint.specs.Meter.{Counts, add, raised}
+use Rattle.hd_footprint.specs.declared.count.Count.{Count}
+use Rattle.hd_footprint.specs.declared.count.Count.TheVariants.{Look, Compared, Written}
+use Rattle.hd_inverse.specs.Work.{written}
+use Rattle.hd_clash.specs.Clash.{clashes, some_clash}
+use Rattle.hd_clash.specs.Work.{clash_work, with_comparisons}
+use Rattle.hd_records.specs.Looks.{IsWalk, looked, looks_to, questions_of, walked}
+use Rattle.hd_records.specs.Survivors.{survivor_of, survivors_of, changes_at}
+use Rattle.hd_journal.specs.Laws.{Laws}
+use Rattle.hd_journal.specs.Working.{IsDecision, OnlyRise, all_added, cells_of, questions_from}
+use Rattle.hd_journal.proofs.Raising.{rise_none, rise_on}
+use Rattle.hd_journal.proofs.Stored.{Parts, newer_at, older_at, questions_are}
+
+-- looks only rise
+pub rise_looked : (n : ℕ) (counts : Counts) → OnlyRise counts (looked n counts)
+rise_looked zero counts = rise_none counts counts refl
+rise_looked (suc n) counts = rise_on counts (add counts Look) (looked n (add counts Look)) (Look ∷ [], refl) (rise_looked n (add counts Look))
+
+rise_comparisons : (n : ℕ) (counts : Counts) → OnlyRise counts (with_comparisons n counts)
+rise_comparisons zero counts = rise_none counts counts refl
+rise_comparisons (suc n) counts =
+    rise_on counts (add counts Compared) (with_comparisons n (add counts Compared)) (Compared ∷ [], refl)
+    (rise_comparisons n (add counts Compared))
+
+rise_clash : (k : Facts) (changes : List Change) (fs : List Finding) (counts : Counts) → OnlyRise counts (clash_work k changes fs counts)
+rise_clash k changes [] counts = rise_none counts counts refl
+rise_clash k changes (f ∷ fs) counts =
+    by_test (clashes k changes f) (rise_clash k changes fs (with_comparisons (length changes) counts))
+  where
+    next : Counts
+    next = with_comparisons (length changes) counts
+
+    by_test : (b : Bool) → OnlyRise next (clash_work k changes fs next) → OnlyRise counts (cond b next (clash_work k changes fs next))
+    by_test true rest = rise_comparisons (length changes) counts
+    by_test false rest = rise_on counts next (clash_work k changes fs next) (rise_comparisons (length changes) counts) rest
+
+pub rise_walked : (k : Facts) (changes : List Change) (rs : List Record) (counts : Counts) → OnlyRise counts (walked k changes rs counts)
+rise_walked k changes [] counts = rise_none counts counts refl
+rise_walked k changes (r ∷ rs) counts =
+    by_test (some_clash k changes r.findings) (rise_walked k changes rs (clash_work k changes r.findings (add counts Look)))
+  where
+    next : Counts
+    next = clash_work k changes r.findings (add counts Look)
+
+    here : OnlyRise counts next
+    here = rise_on counts (add counts Look) next (Look ∷ [], refl) (rise_clash k changes r.findings (add counts Look))
+
+    by_test : (b : Bool) → OnlyRise next (walked k changes rs next) → OnlyRise counts (cond b next (walked k changes rs next))
+    by_test true rest = here
+    by_test false rest = rise_on counts next (walked k changes rs next) here rest
+
+-- without a target
+pub no_target : (laws : Laws) (rs : List Record) (old new : Counts) → new ≡ looked (looks_to None rs) old
+    → IsDecision 0 (length (survivors_of rs)) 0 old new
+no_target laws rs old new is =
+    let walk : IsWalk (length rs) 0 old (looked (length rs) old) = laws.walks.looks (length rs) old in
+    subst (λ (x : Counts). IsDecision 0 (length (survivors_of rs)) 0 old x) (sym is) (record {
+      steps = walk.steps;
+      written = walk.written;
+      looks = omega (arith, walk.looks, length-map rs survivor_of);
+      compared = walk.compared;
+    })
+
+-- found, and compared
+pub record Compares (k : Facts) (rs : List Record) (i : ℕ) (old mid new : Counts) : Type 0 where
+  pub within : i < length rs
+  pub few : length (changes_at i rs) ≤ 4
+  pub found : mid ≡ looked (looks_to (Some i) rs) old
+  pub compared : new ≡ walked k (changes_at i rs) (newer_at rs i) mid
+
+pub compares : (laws : Laws) (k : Facts) (rs : List Record) (i : ℕ) (old mid new : Counts) → Compares k rs i old mid new
+    → IsDecision 0 (2 * length (newer_at rs i) + 1) (questions_of (newer_at rs i)) old new
+compares laws k rs i old mid new h =
+    let all : ℕ = length (drop i rs) in
+    let one : all ≡ length (newer_at rs i) + 1 = omega (arith, length-drop i rs, length-drop (i + 1) rs, h.within) in
+    let find : IsWalk all 0 old (looked all old) = laws.walks.looks all old in
+    let walk : IsWalk (length (newer_at rs i)) (questions_of (newer_at rs i)) mid (walked k (changes_at i rs) (newer_at rs i) mid) =
+    laws.walks.walk k (changes_at i rs) (newer_at rs i) mid h.few in
+    let first : IsWalk all 0 old mid = subst (λ (x : Counts). IsWalk all 0 old x) (sym h.found) find in
+    let then : IsWalk (length (newer_at rs i)) (questions_of (newer_at rs i)) mid new =
+    subst (λ (x : Counts). IsWalk (length (newer_at rs i)) (questions_of (newer_at rs i)) mid x) (sym h.compared) walk in
+    record {
+      steps = then.steps ∙ first.steps;
+      written = then.written ∙ first.written;
+      looks = omega (arith, one, first.looks, then.looks);
+      compared = omega (arith, first.compared, then.compared);
+    }
+
+pub rise_compared : (k : Facts) (rs : List Record) (i : ℕ) (old mid new : Counts) → Compares k rs i old mid new → OnlyRise old new
+rise_compared k rs i old mid new h =
+    rise_on old mid new
+    (subst (λ (x : Counts). OnlyRise old x) (sym h.found) (rise_looked (looks_to (Some i) rs) old))
+    (subst (λ (x : Counts). OnlyRise mid x) (sym h.compared) (rise_walked k (changes_at i rs) (newer_at rs i) mid))
+
+-- writes count no other work, and as many from counts that are equal
+record Writes (n : ℕ) (old new : Counts) : Type 0 where
+  steps : new.steps ≡ old.steps
+  looks : new.looks ≡ old.looks
+  compared : new.compared ≡ old.compared
+
+writes_alone : (n : ℕ) (old : Counts) → Writes n old (written n old)
+writes_alone zero old = record { steps = refl; looks = refl; compared = refl }
+writes_alone (suc n) old =
+    let rest : Writes n (add old Written) (written n (add old Written)) = writes_alone n (add old Written) in
+    record { steps = rest.steps; looks = rest.looks; compared = rest.compared }
+
+writes_alike : (n : ℕ) (one other : Counts) → one.written ≡ other.written → (written n one).written ≡ (written n other).written
+writes_alike zero one other is = is
+writes_alike (suc n) one other is = writes_alike n (add one Written) (add other Written) (ap raised is)
+
+-- written back, and mended
+pub takes_back : (laws : Laws) (rs : List Record) (i n questions : ℕ) (old compared back new : Counts)
+    → IsDecision 0 (2 * length (newer_at rs i) + 1) questions old compared → back ≡ written n compared
+    → new ≡ looked (length (newer_at rs i)) back → IsDecision n (3 * length (newer_at rs i) + 1) questions old new
+takes_back laws rs i n questions old compared back new was writes looks =
+    let alone : Writes n compared back = subst (λ (x : Counts). Writes n compared x) (sym writes) (writes_alone n compared) in
+    let walk : IsWalk (length (newer_at rs i)) 0 back new =
+    subst (λ (x : Counts). IsWalk (length (newer_at rs i)) 0 back x) (sym looks) (laws.walks.looks (length (newer_at rs i)) back) in
+    record {
+      steps = walk.steps ∙ alone.steps ∙ was.steps;
+      written = walk.written ∙ ap (λ (x : Counts). x.written) writes ∙ writes_alike n compared old was.written;
+      looks = omega (arith, walk.looks, alone.looks, was.looks);
+      compared = omega (arith, walk.compared, alone.compared, was.compared);
+    }
+
+-- in the words of the rules
+pub in_words : (k : Facts) (rs : List Record) (i cells : ℕ) (r : Record) (m : ℕ) (old new : Counts) → Parts k rs i r
+    → IsDecision cells (m * length (newer_at rs i) + 1) (questions_of (newer_at rs i)) old new
+    → IsDecision cells (m * length (survivors_of (newer_at rs i)) + 1)
+    (questions_from k (step k (run k (survivors_of (older_at rs i))) (survivor_of r)) (survivors_of (newer_at rs i))) old new
+in_words k rs i cells r m old new parts is =
+    subst (λ (n : ℕ). IsDecision cells (m * n + 1)
+    (questions_from k (step k (run k (survivors_of (older_at rs i))) (survivor_of r)) (survivors_of (newer_at rs i))) old new)
+    (sym (length-map (newer_at rs i) survivor_of))
+    (subst (λ (n : ℕ). IsDecision cells (m * length (newer_at rs i) + 1) n old new)
+    (questions_are k (step k (run k (survivors_of (older_at rs i))) (survivor_of r)) (survivors_of (newer_at rs i)) (newer_at rs i) parts.newer)
+    is)
+
+pub cells_are : (k : Facts) (rs : List Record) (i : ℕ) (r : Record) → Parts k rs i r
+    → length r.changes ≡ cells_of (outcome_of k (run k (survivors_of (older_at rs i))) (survivor_of r))
+cells_are k rs i r parts = ap cells_of (sym parts.one.done)

@@ -1,0 +1,21 @@
+-- What is known of cancellations.
+use Rattle.hd_rules.specs.Laws.{NumbersSplitARun, TakingBackLeadsThroughFitDesks, TheFirstDependentIsTheLeast}
+use Rattle.hd_rules.specs.Laws.{TheTargetIsTheNewest, UndoingIsTheRunWithout}
+use Rattle.hd_rules.specs.MachineLaws.{KnownMessagesGetKnownReplies}
+use Rattle.hd_clash.specs.Records.{RecordsAreKnown, RecordsSplit}
+use Rattle.hd_clash.specs.Walk.{ShiftedRecordsAreThoseWithout, TheFirstClashIsTheFirstDependent}
+use Rattle.hd_records.specs.Looks.{WalksAreShort}
+
+-- laws of the rules, of clashes and of records, together
+pub record Laws : Type 0 where
+  pub target : TheTargetIsTheNewest
+  pub numbers : NumbersSplitARun
+  pub dependent : TheFirstDependentIsTheLeast
+  pub undone : UndoingIsTheRunWithout
+  pub fit : TakingBackLeadsThroughFitDesks
+  pub replies : KnownMessagesGetKnownReplies
+  pub split : RecordsSplit
+  pub known : RecordsAreKnown
+  pub clash : TheFirstClashIsTheFirstDependent
+  pub mended : ShiftedRecordsAreThoseWithout
+  pub walks : WalksAreShort

@@ -1,0 +1,30 @@
+//! What is known of cancellations.
+
+ghost use Rattle.hd_journal.specs.Laws.{Laws};
+
+use hd_clash::{
+    records_are_known, records_split, shifted_records_are_those_without,
+    the_first_clash_is_the_first_dependent,
+};
+use hd_records::walks_are_short;
+use hd_rules::{
+    known_messages_get_known_replies, numbers_split_a_run, taking_back_leads_through_fit_desks,
+    the_first_dependent_is_the_least, the_target_is_the_newest, undoing_is_the_run_without,
+};
+
+/// The laws that a cancellation rests on. It does nothing.
+pub(crate) fn laws()
+    ensures { Laws }
+{
+    the_target_is_the_newest();
+    numbers_split_a_run();
+    the_first_dependent_is_the_least();
+    undoing_is_the_run_without();
+    taking_back_leads_through_fit_desks();
+    known_messages_get_known_replies();
+    records_split();
+    records_are_known();
+    the_first_clash_is_the_first_dependent();
+    shifted_records_are_those_without();
+    walks_are_short();
+}

@@ -1,0 +1,4 @@
+pub mod RecordsValue
+pub mod Survivors
+pub mod Looks
+pub mod Shown

@@ -1,0 +1,45 @@
+-- The work of walks over records, as a meter counts it.
+use Rattle.std.specs.Prelude.{◌≡◌, ℕ, zero, suc, ◌+◌, ◌*◌, ◌≤◌, if◌then◌else◌, Option, Some, None, List, [], ◌∷◌, length, drop}
+use Rattle.hd_rules.specs.declared.cells.Change.{Change}
+use Rattle.hd_rules.specs.Facts.{Facts}
+use Rattle.hd_rules.specs.Record.{Record}
+use Rattle.hd_footprint.specs.Meter.{Counts, add}
+use Rattle.hd_footprint.specs.declared.count.Count.TheVariants.{Look}
+use Rattle.hd_clash.specs.Clash.{some_clash}
+use Rattle.hd_clash.specs.Work.{clash_work}
+
+-- the counts after so many looks
+abbrev pub looked : ℕ → Counts → Counts
+looked zero counts = counts
+looked (suc n) counts = looked n (add counts Look)
+
+-- how many are looked at from the newest on, as far as this place, or all of them
+abbrev pub looks_to : Option ℕ → List Record → ℕ
+looks_to None records = length records
+looks_to (Some place) records = length (drop place records)
+
+-- The counts after a walk as far as the first record that clashes: each is looked at, and what it found is
+-- compared with the changes.
+abbrev pub walked : Facts → List Change → List Record → Counts → Counts
+walked k changes [] counts = counts
+walked k changes (r ∷ rs) counts =
+    if some_clash k changes r.findings then clash_work k changes r.findings (add counts Look)
+    else walked k changes rs (clash_work k changes r.findings (add counts Look))
+
+-- how many questions the records have, with their noted answers
+abbrev pub questions_of : List Record → ℕ
+questions_of [] = 0
+questions_of (r ∷ rs) = length r.findings + questions_of rs
+
+-- at most so many looks, at most four comparisons for each of so many questions, and no other work
+pub record IsWalk (most questions : ℕ) (old new : Counts) : Type 0 where
+  pub looks : new.looks ≤ old.looks + most
+  pub compared : new.compared ≤ old.compared + 4 * questions
+  pub steps : new.steps ≡ old.steps
+  pub written : new.written ≡ old.written
+
+-- so it is with looks alone, and with a walk for changes, of which there are at most four
+pub record WalksAreShort : Type 0 where
+  pub looks : (n : ℕ) (counts : Counts) → IsWalk n 0 counts (looked n counts)
+  pub walk : (k : Facts) (changes : List Change) (records : List Record) (counts : Counts) → length changes ≤ 4
+      → IsWalk (length records) (questions_of records) counts (walked k changes records counts)

@@ -1,0 +1,8 @@
+-- What the stored records are to their users.
+use Rattle.std.specs.Prelude.{ℕ, List}
+use Rattle.hd_rules.specs.Record.{Record}
+
+-- the records by number, and how many more there is room for
+pub record RecordsValue : Type 0 where
+  pub records : List Record
+  pub room : ℕ

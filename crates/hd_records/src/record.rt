@@ -1,0 +1,130 @@
+//! The record of one command.
+#![tactic(auto)]
+
+ghost use Rattle.std.specs.Prelude.{◌≡◌, ◌≤◌, length};
+ghost use Rattle.hd_catalogue.specs.Contents.{facts_of};
+ghost use Rattle.hd_clash.specs.Law.{EachCellIsKnown};
+ghost use Rattle.hd_clash.specs.Shift.{shift_record};
+ghost use Rattle.hd_clash.specs.Counting.{EachIsSmall};
+ghost use Rattle.hd_records.specs.Survivors.{survivor_of};
+ghost use Rattle.hd_records.specs.Shown.{shown};
+
+use hd_catalogue::Catalogue;
+use hd_clash::mend;
+use hd_footprint::{Findings, Footprint};
+use hd_rules::{Change, Finding, Reply, Survivor};
+use std::alloc::Allocator;
+use std::marker::Model;
+
+/// What is kept of an accepted command: who sent it with which number, what it replied, the questions that it
+/// asked with their noted answers, and its changes (docs/desk-rules.md).
+#[derive(Drop)]
+pub struct StoredRecord {
+    survivor: Survivor,
+    reply: Reply,
+    findings: Findings,
+    changes: Footprint,
+}
+
+impl Model for StoredRecord {
+    ghost use Rattle.hd_rules.specs.Record.{Record};
+
+    ghost Value = { Record };
+
+    ghost view = { λ r. record {
+      number = r.survivor.number;
+      terminal = r.survivor.terminal;
+      command = r.survivor.command;
+      reply = r.reply;
+      findings = r.findings;
+      changes = r.changes;
+    } };
+}
+
+impl StoredRecord {
+    /// The record of a command that was accepted with this number. Nothing is copied but the command and its
+    /// reply.
+    pub fn new(
+        survivor: Survivor,
+        reply: Reply,
+        findings: Findings,
+        changes: Footprint,
+    ) -> StoredRecord
+        ensures { result
+            ≡ record {
+              number = survivor.number;
+              terminal = survivor.terminal;
+              command = survivor.command;
+              reply = reply;
+              findings = findings;
+              changes = changes;
+            } }
+    {
+        StoredRecord {
+            survivor,
+            reply,
+            findings,
+            changes,
+        }
+    }
+
+    /// The command, its number and its terminal.
+    pub fn survivor(&self) -> &Survivor
+        ensures { result.now ≡ survivor_of self.now }
+    {
+        &self.survivor
+    }
+
+    /// What it changed, in order.
+    pub fn changes(&self) -> &[Change]
+        ensures changes { result.now ≡ self.now.changes }
+        ensures few { length self.now.changes ≤ 4 }
+    {
+        self.changes.changes()
+    }
+
+    /// What it asked, in order, with the noted answers.
+    pub fn findings(&self) -> &[Finding]
+        ensures findings { result.now ≡ self.now.findings }
+        ensures few { length self.now.findings ≤ 4 }
+    {
+        self.findings.findings()
+    }
+
+    /// The record, lent part by part.
+    pub fn show(&self) -> RecordRef<'_>
+        ensures shown { shown result ≡ self.now }
+        ensures few { length result.changes.now ≤ 4 }
+    {
+        RecordRef {
+            survivor: self.survivor,
+            reply: self.reply,
+            findings: self.findings.findings(),
+            changes: self.changes.changes(),
+        }
+    }
+
+    /// The noted answers become those that are found without some changes, where none clashes with them. It
+    /// takes no memory.
+    pub(crate) fn mend<A: Allocator + Copy>(&mut self, catalogue: &Catalogue<A>, changes: &[Change])
+        requires few { length changes.now ≤ 4 }
+        requires known { EachCellIsKnown (facts_of catalogue.now) changes.now }
+        requires small { EachIsSmall self.old.findings }
+        ensures { self.new ≡ shift_record (facts_of catalogue.now) changes.now self.old }
+    {
+        mend(catalogue, changes, &mut self.findings);
+    }
+}
+
+/// What is kept of an accepted command.
+#[derive(Clone, Copy)]
+pub struct RecordRef<'a> {
+    /// The command, its number and its terminal.
+    pub survivor: Survivor,
+    /// What it replied.
+    pub reply: Reply,
+    /// What it asked, in order, with the noted answers.
+    pub findings: &'a [Finding],
+    /// What it changed, in order.
+    pub changes: &'a [Change],
+}

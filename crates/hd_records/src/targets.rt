@@ -1,0 +1,56 @@
+//! What a cancellation may take back.
+ghost use Rattle.std.specs.Prelude.{◌≡◌};
+ghost use Rattle.hd_rules.specs.Target.{is_of_kind as fits_kind, is_target as fits};
+
+use hd_rules::{Action, Cancel, Survivor, TerminalNo};
+
+/// Whether the survivor is one that such a cancellation by this terminal takes back.
+pub(crate) fn is_target(terminal: TerminalNo, what: &Cancel, survivor: &Survivor) -> bool
+    ensures { result ≡ fits terminal what.now survivor.now }
+{
+    survivor.terminal == terminal && is_of_kind(what, &survivor.command.action)
+}
+
+/// Whether the action is what such a cancellation takes back.
+fn is_of_kind(what: &Cancel, action: &Action) -> bool
+    ensures { result ≡ fits_kind what.now action.now }
+{
+    match what {
+        Cancel::Loan(copy) => match action {
+            Action::Checkout { copy: lent, .. } => copy == lent,
+            Action::OffLine { copy: lent, .. } => copy == lent,
+            _ => false,
+        },
+        Cancel::Return(copy) => match action {
+            Action::Checkin { copy: returned, .. } => copy == returned,
+            _ => false,
+        },
+        Cancel::Renewal(copy) => match action {
+            Action::Renew { copy: renewed, .. } => copy == renewed,
+            _ => false,
+        },
+        Cancel::Adding(patron, title) => match action {
+            Action::Add {
+                patron: p,
+                title: t,
+                ..
+            } => patron == p && title == t,
+            _ => false,
+        },
+        Cancel::Deletion(patron, title) => match action {
+            Action::Delete {
+                patron: p,
+                title: t,
+            } => patron == p && title == t,
+            _ => false,
+        },
+        Cancel::Changing(patron, title) => match action {
+            Action::ChangeHold {
+                patron: p,
+                title: t,
+                ..
+            } => patron == p && title == t,
+            _ => false,
+        },
+    }
+}
