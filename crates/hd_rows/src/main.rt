@@ -9,6 +9,7 @@
 #![tactic(auto)]
 
 mod answers;
+mod cancelling;
 mod count;
 mod cuts;
 mod damage;
@@ -16,7 +17,10 @@ mod damaging;
 mod exchanges;
 mod gaps;
 mod hearing;
+mod memory;
+mod metering;
 mod names;
+mod renumbering;
 mod replaying;
 mod row;
 mod script;
@@ -24,7 +28,10 @@ mod tally;
 mod terminals;
 mod ways;
 
+use crate::cancelling::cancel_rows;
 use crate::damaging::damage_rows;
+use crate::memory::cancel_with_little_memory;
+use crate::metering::meter_rows;
 use crate::names::ROWS;
 use crate::replaying::is_replayed;
 use crate::row::Row;
@@ -38,7 +45,10 @@ fn main(rt: HostRuntime) -> io::Result<()> {
     }
     replay_rows(&rt, rows.as_slice())?;
     hear_rows(&rt, rows.as_slice())?;
-    damage_rows(&rt, rows.as_slice())
+    damage_rows(&rt, rows.as_slice())?;
+    cancel_rows(&rt, rows.as_slice())?;
+    meter_rows(&rt, rows.as_slice())?;
+    cancel_with_little_memory(&rt)
 }
 
 /// Plays each row through `replay`.
