@@ -44,11 +44,13 @@ pub record IsAt (rs : List Record) (i : ℕ) (r : Record) : Type 0 where
   pub within : i < length rs
   pub there : r ≡ get_or rs i r
 
+drop_at : (rs : List Record) (i : ℕ) (r : Record) → i < length rs → r ≡ get_or rs i r → drop i rs ≡ r ∷ drop (i + 1) rs
+drop_at rs i r below is = rw (add-one, drop-cons rs i r) (ap (λ (x : Record). x ∷ drop (suc i) rs) (sym is))
+
 pub records_split : (rs : List Record) (i : ℕ) (r : Record) → IsAt rs i r → rs ≡ older_at rs i ++ r ∷ newer_at rs i
 records_split rs i r at =
     sym (take-append-drop i rs)
-    ∙ ap (λ (xs : List Record). take i rs ++ xs)
-    (rw (add-one, drop-cons rs i r) (ap (λ (x : Record). x ∷ drop (suc i) rs) (sym at.there)))
+    ∙ ap (λ (xs : List Record). take i rs ++ xs) (drop_at rs i r at.within at.there)
 
 pub survivors_joined : (xs ys : List Record) → survivors_of (xs ++ ys) ≡ survivors_of xs ++ survivors_of ys
 survivors_joined xs ys = map-append survivor_of xs ys
@@ -140,7 +142,7 @@ first_is laws k rs i r parts rising known =
     (kept_at laws k rs i r parts rising known)
     ∙ ap (λ (ss : List Survivor). first_dependent k ss (survivor_of r) (survivors_of (newer_at rs i))) (sym (survivors_split rs i r parts.at))
 
-among_middle : (xs : List Survivor) (s : Survivor) (ys : List Survivor) → IsAmong s (xs ++ s ∷ ys)
+pub among_middle : (xs : List Survivor) (s : Survivor) (ys : List Survivor) → IsAmong s (xs ++ s ∷ ys)
 among_middle [] s ys = inl refl
 among_middle (x ∷ xs) s ys = inr (among_middle xs s ys)
 

@@ -1,10 +1,11 @@
 -- What a cancellation leaves, and its work.
-use Rattle.std.proofs.Common.{arith, ◌≡◌, sym, ◌∙◌, ap, subst, ℕ, ◌+◌, ◌*◌, ◌≤◌, List, [], ◌∷◌, ◌++◌, length, Option, Some, None}
+use Rattle.std.proofs.Common.{arith, ◌≡◌, sym, ◌∙◌, ap, subst, ℕ, ◌+◌, ◌*◌, ◌<◌, ◌≤◌, List, [], ◌∷◌, ◌++◌, length, Option, Some, None}
 use Rattle.hd_rules.specs.declared.commands.Cancel.{Cancel}
 use Rattle.hd_rules.specs.declared.commands.Survivor.{Survivor}
 use Rattle.hd_rules.specs.declared.replies.Refusal.TheVariants as refusal
 use Rattle.hd_rules.specs.declared.replies.TurnReply.TheVariants.{Refused, Cancelled}
-use Rattle.hd_rules.specs.Facts.{Facts}
+use Rattle.hd_rules.specs.declared.cells.Change.{Change}
+use Rattle.hd_rules.specs.Facts.{Facts, AreInRange}
 use Rattle.hd_rules.specs.Desk.{Desk}
 use Rattle.hd_rules.specs.Record.{Record}
 use Rattle.hd_rules.specs.Run.{outcome_of, run, Rising, next_number}
@@ -18,13 +19,18 @@ use Rattle.hd_inverse.specs.Work.{written}
 use Rattle.hd_clash.specs.Clash.{first_clash}
 use Rattle.hd_clash.specs.Records.{EachRecordIsKnown}
 use Rattle.hd_records.specs.Looks.{looked, questions_of}
-use Rattle.hd_records.specs.Survivors.{survivor_of, survivors_of, changes_at}
+use Rattle.hd_records.specs.Survivors.{IsTargetAt, survivor_of, survivors_of, changes_at}
 use Rattle.hd_journal.specs.Laws.{Laws}
 use Rattle.hd_journal.specs.Running.{Running, IsRunning, MayRun, Withdrawn, state_at}
+use Rattle.hd_journal.specs.Stored.{AreStored}
 use Rattle.hd_journal.specs.Working.{IsCancellation, IsDecidedSo, IsDecision, cells_of}
 use Rattle.hd_journal.proofs.Runs.{may_run_without}
-use Rattle.hd_journal.proofs.Stored.{Parts, first_is, newer_at, older_at}
+use Rattle.hd_journal.proofs.Stored.{IsAt, Parts, changes_there, done_of_record, first_is, newer_at, older_at, parts_at, stored_known}
 use Rattle.hd_journal.proofs.Working.{Compares, cells_are, compares, in_words, takes_back}
+
+abbrev pub split_of : List Record → ℕ → Record → Split
+split_of rs i aim =
+    record { older = survivors_of (older_at rs i); survivor = survivor_of aim; newer = survivors_of (newer_at rs i) }
 
 -- the target, by the record at its place
 pub record Aims (r : Running) (terminal : ℕ) (what : Cancel) (rs : List Record) (i : ℕ) (aim : Record) : Type 0 where
@@ -35,9 +41,44 @@ pub record Aims (r : Running) (terminal : ℕ) (what : Cancel) (rs : List Record
     newer = survivors_of (newer_at rs i);
   })
 
-abbrev split_of : List Record → ℕ → Record → Split
-split_of rs i aim =
-    record { older = survivors_of (older_at rs i); survivor = survivor_of aim; newer = survivors_of (newer_at rs i) }
+-- a cancellation with a target, at the records of a running journal
+pub record Aiming (k : Facts) (terminal : ℕ) (what : Cancel) (rs : List Record) (i : ℕ) : Type 0 where
+  pub aim : Record
+  pub parts : Parts k rs i aim
+  pub rising : Rising 1 (survivors_of rs)
+  pub known : EachRecordIsKnown k rs
+  pub stored : AreStored k rs
+  pub few : length (changes_at i rs) ≤ 4
+  pub is_target : target terminal what (survivors_of rs) ≡ Some (split_of rs i aim)
+
+abbrev pub running_at : Contents → List Record → ℕ → Running
+running_at contents rs last = record { contents = contents; survivors = survivors_of rs; last = last }
+
+pub aiming : (laws : Laws) (contents : Contents) (d : Desk) (rs : List Record) (last terminal : ℕ) (what : Cancel) (i : ℕ) (lent : Contents)
+    → lent ≡ contents → AreInRange (facts_of lent)
+    → IsRunning (running_at contents rs last) d × AreStored (facts_of contents) rs
+    → i < length rs → IsTargetAt terminal what rs i → Aiming (facts_of contents) terminal what rs i
+aiming laws contents d rs last terminal what i lent same range is within found =
+    let k : Facts = facts_of contents in
+    let at : IsAt rs i found.aim = record { within = within; there = found.there } in
+    let parts : Parts k rs i found.aim = parts_at laws k rs i found.aim at is.1 in
+    record {
+      aim = found.aim;
+      parts = parts;
+      rising = is.0.may_run.rising;
+      known = stored_known laws k rs (subst (λ (x : Contents). AreInRange (facts_of x)) same range) is.0.may_run.known is.1;
+      stored = is.1;
+      few =
+          subst (λ (cs : List Change). length cs ≤ 4) (sym (changes_there rs i found.aim within found.there))
+          (laws.few k (run k (survivors_of (older_at rs i))) found.aim.number found.aim.command (done_of_record found.aim) parts.one.done);
+      is_target = found.is_target;
+    }
+
+-- what the first clash says, by the catalogue that was lent
+pub clash_there : (lent contents : Contents) (changes : List Change) (rs : List Record) (o : Option ℕ) → lent ≡ contents
+    → o ≡ first_clash (facts_of lent) changes rs → first_clash (facts_of contents) changes rs ≡ o
+clash_there lent contents changes rs o same is =
+    ap (λ (x : Contents). first_clash (facts_of x) changes rs) (sym same) ∙ sym is
 
 decided : (laws : Laws) (r : Running) (terminal : ℕ) (what : Cancel) (rs : List Record) (i : ℕ) (aim : Record) (o : Option ℕ)
     (kept : ℕ → Option Kept) → Aims r terminal what rs i aim → Parts (facts_of r.contents) rs i aim → Rising 1 (survivors_of rs)

@@ -1,5 +1,6 @@
 -- What is known of cancellations.
-use Rattle.hd_rules.specs.Laws.{NumbersSplitARun, TakingBackLeadsThroughFitDesks, TheFirstDependentIsTheLeast}
+use Rattle.hd_rules.specs.Laws.{AtMostFourChanges, NumbersSplitARun, TakingBackLeadsThroughFitDesks}
+use Rattle.hd_rules.specs.Laws.{TheFirstDependentIsTheLeast}
 use Rattle.hd_rules.specs.Laws.{TheTargetIsTheNewest, UndoingIsTheRunWithout}
 use Rattle.hd_rules.specs.MachineLaws.{KnownMessagesGetKnownReplies}
 use Rattle.hd_clash.specs.Records.{RecordsAreKnown, RecordsSplit}
@@ -10,6 +11,7 @@ use Rattle.hd_records.specs.Looks.{WalksAreShort}
 pub record Laws : Type 0 where
   pub target : TheTargetIsTheNewest
   pub numbers : NumbersSplitARun
+  pub few : AtMostFourChanges
   pub dependent : TheFirstDependentIsTheLeast
   pub undone : UndoingIsTheRunWithout
   pub fit : TakingBackLeadsThroughFitDesks

@@ -8,7 +8,7 @@ use hd_clash::{
 };
 use hd_records::walks_are_short;
 use hd_rules::{
-    known_messages_get_known_replies, numbers_split_a_run, taking_back_leads_through_fit_desks,
+    at_most_four_changes, known_messages_get_known_replies, numbers_split_a_run, taking_back_leads_through_fit_desks,
     the_first_dependent_is_the_least, the_target_is_the_newest, undoing_is_the_run_without,
 };
 
@@ -18,6 +18,7 @@ pub(crate) fn laws()
 {
     the_target_is_the_newest();
     numbers_split_a_run();
+    at_most_four_changes();
     the_first_dependent_is_the_least();
     undoing_is_the_run_without();
     taking_back_leads_through_fit_desks();

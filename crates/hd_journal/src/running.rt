@@ -15,7 +15,7 @@ ghost use Rattle.hd_journal.specs.Working.{IsCancellation, IsWork, OnlyRise, com
 
 use crate::ask::OwnedAsk;
 use crate::laws::laws;
-use hd_desk::{Desk, Meter, Refused};
+use hd_desk::{Desk, Done, Meter, Refused};
 use hd_inverse::undo;
 use hd_records::{RecordRef, Records, StoredRecord, Survivors};
 use hd_rules::{Asked, Cancel, Command, CopyNo, Refusal, Survivor, TerminalNo, TurnReply};
@@ -148,6 +148,7 @@ impl<A: Allocator + Copy> Running<A> {
         ensures last { self.new.last ≤ self.old.last + 1 }
         ensures err { OnErr result (self.new ≡ self.old) }
     {
+        laws();
         self.records.ready()?;
         let number = self.last + 1;
         match self.desk.apply(number, command, meter) {
@@ -157,9 +158,8 @@ impl<A: Allocator + Copy> Running<A> {
                     terminal,
                     command: *command,
                 };
-                let (reply, changes, findings) = done.into_parts();
-                self.records
-                    .push(StoredRecord::new(survivor, reply, findings, changes));
+                let reply = done.reply();
+                self.records.push(record_of(survivor, done));
                 self.last = number;
                 Ok(TurnReply::Done { number, reply })
             }
@@ -199,4 +199,20 @@ impl<A: Allocator + Copy> Running<A> {
         self.records.take_out(self.desk.catalogue(), place, meter);
         Ok(TurnReply::Cancelled { number })
     }
+}
+
+/// The record of an accepted command. Its findings and changes aren't copied.
+fn record_of(survivor: Survivor, done: Done) -> StoredRecord
+    ensures { result
+        ≡ record {
+          number = survivor.number;
+          terminal = survivor.terminal;
+          command = survivor.command;
+          reply = done.reply;
+          findings = done.findings;
+          changes = done.changes;
+        } }
+{
+    let (reply, changes, findings) = done.into_parts();
+    StoredRecord::new(survivor, reply, findings, changes)
 }
