@@ -32,6 +32,16 @@ copy_at-set shelves i s b p l = elim (cases_Bool (i == b)) [
   | inr e ↦ rw e (ap (λ (x : PlacesValue). get x.copies p) (get_or-set_other shelves i b s no_shelf (λ same. number_not i b e (sym same))))
 ]
 
+-- a test of numbers, from the other side
+turned : (m n : ℕ) → (m == n) ≡ (n == m)
+turned m n = elim (cases_Bool (m == n)) [
+  | inl is ↦ is ∙ sym (eq-eqb n m (sym (eqb-true m n is)))
+  | inr not_is ↦ elim (cases_Bool (n == m)) [
+    | inl is ↦ absurd (number_not m n not_is (sym (eqb-true n m is)))
+    | inr other ↦ not_is ∙ sym other
+  ]
+]
+
 -- a place is freed
 copy_at-out : (shelves : List PlacesValue) (branch place : ℕ) (s : PlacesValue) (b p : ℕ) → branch < length shelves →
     s.copies ≡ remove (get_or shelves branch no_shelf).copies place →
@@ -43,16 +53,7 @@ copy_at-out shelves branch place s b p l out = copy_at-set shelves branch s b p 
     by_branch true e =
         let same : branch ≡ b = eqb-true branch b e in
         ap (λ (m : FinMap nat_cmp ℕ). get m p) out ∙ get-remove_number (get_or shelves branch no_shelf).copies place p
-        ∙ (λ i. cond (turned i) None (copy_at shelves (same i) p))
-      where
-        turned : (p == place) ≡ (place == p)
-        turned = elim (cases_Bool (p == place)) [
-          | inl f ↦ f ∙ sym (eq-eqb place p (sym (eqb-true p place f)))
-          | inr f ↦ elim (cases_Bool (place == p)) [
-            | inl h ↦ absurd (number_not p place f (sym (eqb-true place p h)))
-            | inr h ↦ f ∙ sym h
-          ]
-        ]
+        ∙ (λ i. cond (turned p place i) None (copy_at shelves (same i) p))
     by_branch false e = refl
 
 -- a place is taken
@@ -66,16 +67,7 @@ copy_at-in shelves branch place c s b p l out = copy_at-set shelves branch s b p
     by_branch true e =
         let same : branch ≡ b = eqb-true branch b e in
         ap (λ (m : FinMap nat_cmp ℕ). get m p) out ∙ get-insert_number (get_or shelves branch no_shelf).copies place c p
-        ∙ (λ i. cond (turned i) (Some c) (copy_at shelves (same i) p))
-      where
-        turned : (p == place) ≡ (place == p)
-        turned = elim (cases_Bool (p == place)) [
-          | inl f ↦ f ∙ sym (eq-eqb place p (sym (eqb-true p place f)))
-          | inr f ↦ elim (cases_Bool (place == p)) [
-            | inl h ↦ absurd (number_not p place f (sym (eqb-true place p h)))
-            | inr h ↦ f ∙ sym h
-          ]
-        ]
+        ∙ (λ i. cond (turned p place i) (Some c) (copy_at shelves (same i) p))
     by_branch false e = refl
 
 -- no copy goes to or from a hold shelf

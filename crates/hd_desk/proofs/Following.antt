@@ -1,17 +1,14 @@
 -- What is asked on the way to a plan's end.
-use Rattle.std.proofs.Common.{◌≡◌, refl, sym, ◌∙◌, ap, ℕ, Bool, true, false, cond, List, [], ◌∷◌, ◌++◌, Result, Ok, Err, append_assoc}
+use Rattle.std.proofs.Common.{◌≡◌, refl, sym, ◌∙◌, ap, List, [], ◌∷◌, ◌++◌, Ok, Err, append_assoc}
 use Rattle.std.proofs.lemmas.List.{append-nil}
 use Rattle.hd_rules.specs.declared.questions.Question.{Question}
-use Rattle.hd_rules.specs.declared.replies.Refusal.{Refusal}
 use Rattle.hd_rules.specs.Facts.{Facts}
 use Rattle.hd_rules.specs.Desk.{Desk}
-use Rattle.hd_rules.specs.Ask.{Plan, Ask, Refuse, Accept, Done, answer, told, outcome, asks}
-use Rattle.hd_rules.specs.Depends.{answered_otherwise}
-use Rattle.hd_rules.specs.Same.{same_answer}
+use Rattle.hd_rules.specs.Ask.{Plan, Ask, Refuse, Accept, answer, outcome, asks}
 use Rattle.hd_rules.specs.Known.{IsKnownQuestion}
 use Rattle.hd_rules.specs.Record.{findings, note}
 use Rattle.hd_rules.specs.declared.questions.Finding.{Finding}
-use Rattle.hd_desk.specs.Asking.{ending, some_otherwise, asked_of, AreKnownQuestions}
+use Rattle.hd_desk.specs.Asking.{ending, asked_of, AreKnownQuestions}
 
 -- a plan's end is its outcome, and what was asked is what was asked before and its own questions
 pub ending_is : (k : Facts) (d : Desk) (p : Plan) (asked : List Question) → ending k d p asked ≡ (outcome k d p, asked ++ asks k d p)
@@ -20,13 +17,6 @@ ending_is k d (Ask q rest) asked =
     ∙ ap (λ (qs : List Question). (outcome k d (rest (answer k d q)), qs)) (append_assoc asked (q ∷ []) (asks k d (rest (answer k d q))))
 ending_is k d (Refuse r) asked = ap (λ (qs : List Question). (Err r, qs)) (sym (append-nil asked))
 ending_is k d (Accept done) asked = ap (λ (qs : List Question). (Ok done, qs)) (sym (append-nil asked))
-
--- a command is answered otherwise where one of its questions is
-pub otherwise_is : (k : Facts) (d e : Desk) (p : Plan) → answered_otherwise k d e p ≡ some_otherwise k d e (asks k d p)
-otherwise_is k d e (Ask q rest) =
-    ap (λ (b : Bool). cond (same_answer (told k d q) (told k e q)) b true) (otherwise_is k d e (rest (answer k d q)))
-otherwise_is k d e (Refuse r) = refl
-otherwise_is k d e (Accept done) = refl
 
 -- one more question
 pub findings_more : (k : Facts) (d : Desk) (qs : List Question) (q : Question) →
@@ -42,8 +32,3 @@ pub known_more : (k : Facts) (qs : List Question) (q : Question) → AreKnownQue
     AreKnownQuestions k (qs ++ q ∷ [])
 known_more k [] q all is = (is, tt)
 known_more k (x ∷ xs) q all is = (all.0, known_more k xs q all.1 is)
-
--- the questions are those that the findings were made of
-pub asked_findings : (k : Facts) (d : Desk) (qs : List Question) → asked_of (findings k d qs) ≡ qs
-asked_findings k d [] = refl
-asked_findings k d (q ∷ qs) = ap (λ (xs : List Question). q ∷ xs) (asked_findings k d qs)

@@ -1,8 +1,6 @@
 -- A command at a desk, from its questions to its changes.
-use Rattle.std.proofs.lemmas.List.{drop_all}
-use Rattle.std.proofs.Common.{arith, drop, add-one, drop-cons, Bool, true, false, cond, not, ◌≡◌, refl, sym, ◌∙◌, ap, subst, ℕ, ◌+◌, ◌<◌}
-use Rattle.std.proofs.Common.{◌≤◌, Bor, Option, Some, None, is_some, IfSome, List, [], ◌∷◌, ◌++◌, Result, Ok, Err, length, get_or, zero}
-use Rattle.std.proofs.Common.{suc}
+use Rattle.std.proofs.Common.{arith, Bool, true, false, ◌≡◌, sym, ◌∙◌, ap, subst, ℕ, ◌+◌}
+use Rattle.std.proofs.Common.{Bor, Option, Some, None, is_some, IfSome, List, [], ◌∷◌, ◌++◌, Result, Ok, Err, length}
 use Rattle.std.specs.Option.{option_copied}
 use Rattle.std.specs.Prelude.{OnErr}
 use Rattle.std.specs.Result.{is_err}
@@ -38,17 +36,13 @@ use Rattle.hd_holds.proofs.Lists.{known-held}
 use Rattle.hd_allocate.specs.Choosing.{AreOfPatrons as AreAllOfPatrons, IsAt, Waits}
 use Rattle.hd_allocate.specs.declared.facts.CopyFacts.{CopyFacts}
 use Rattle.hd_rules.specs.declared.cells.Change.{Change}
-use Rattle.hd_rules.specs.declared.questions.Answer.{Answer}
-use Rattle.hd_rules.specs.Ask.{told}
-use Rattle.hd_rules.specs.Depends.{answered_otherwise}
-use Rattle.hd_rules.specs.Same.{same_answer}
-use Rattle.hd_desk.specs.Asking.{InquiryValue, ending_of, asked_of, some_otherwise, AreKnownQuestions}
+use Rattle.hd_desk.specs.Asking.{InquiryValue, ending_of, asked_of, AreKnownQuestions}
 use Rattle.hd_inverse.specs.Cells.{AreApart, AreKnown, HaveRoom}
 use Rattle.hd_desk.specs.declared.refused.Refused.TheVariants.{Memory}
 use Rattle.hd_desk.specs.Cells.{HasRoomFor, IsShort}
 use Rattle.hd_desk.specs.DeskValue.{DeskValue}
 use Rattle.hd_desk.specs.Desks.{IsKept, contents, desk_of, facts}
-use Rattle.hd_desk.proofs.Following.{ending_is, otherwise_is, findings_more, asked_more, asked_findings, known_more}
+use Rattle.hd_desk.proofs.Following.{ending_is, findings_more, asked_more, known_more}
 use Rattle.hd_desk.proofs.Writing.{are-known, are-apart}
 
 -- where a plan led, from the start
@@ -86,13 +80,6 @@ keep-more k d fs q n new goes are known is noted =
           ∙ ap (findings k d) (sym asked),
       subst (AreKnownQuestions k) (sym asked) (known_more k (asked_of fs) q known is),
     )
-
--- the question of a finding
-pub known-at : (k : Facts) (fs : List Finding) (i : ℕ) (f : Finding) → AreKnownQuestions k (asked_of fs) → i < length fs →
-    f ≡ get_or fs i f → IsKnownQuestion k f.question
-known-at k [] i f all below is = absurd (omega arith)
-known-at k (x ∷ xs) zero f all below is = subst (λ (y : Finding). IsKnownQuestion k y.question) (sym is) all.0
-known-at k (x ∷ xs) (suc i) f all below is = known-at k xs i f all.1 (omega arith) is
 
 -- the opening desk
 pub desk-opening : (copies : CopiesValue) (holds : HoldsValue) (k : Facts) → standing copies ≡ (λ c. Shelf (k.home c)) →
@@ -200,78 +187,6 @@ left-sound d e f n done cs can same desk are same_there made =
     let there : desk_of f ≡ after done.changes (desk_of d) = made ∙ (λ i. after (are i) (desk i)) in
     subst (λ (x : Desk). Sound (facts f) (n + 1) x) (sym there)
     (subst (λ x. Sound (facts_of x) (n + 1) (after done.changes (desk_of d))) (sym (same_there ∙ same)) can.sound)
-
--- what stands at an index
-drop_from : (fs : List Finding) (i : ℕ) (f : Finding) → i < length fs → drop i fs ≡ get_or fs i f ∷ drop (i + 1) fs
-drop_from fs i f below = rw (add-one, drop-cons fs i f below) refl
-
-drop_at : (fs : List Finding) (i : ℕ) (f : Finding) → i < length fs → f ≡ get_or fs i f → drop i fs ≡ f ∷ drop (i + 1) fs
-drop_at fs i f below is = drop_from fs i f below ∙ ap (λ (x : Finding). x ∷ drop (i + 1) fs) (sym is)
-
--- the answers to one question at two desks
-pub record Compared (d e : DeskValue) (f : Finding) (a b : Answer) (r : Bool) : Type 0 where
-  pub catalogue : contents d ≡ contents e
-  pub here : a ≡ told (facts d) (desk_of d) f.question
-  pub there : b ≡ told (facts e) (desk_of e) f.question
-  pub test : r ≡ not (same_answer a b)
-
-compared-test : (d e : DeskValue) (f : Finding) (a b : Answer) (r : Bool) → Compared d e f a b r →
-    r ≡ not (same_answer (told (facts d) (desk_of d) f.question) (told (facts d) (desk_of e) f.question))
-compared-test d e f a b r c =
-    c.test ∙ (λ i. not (same_answer (c.here i) ((c.there ∙ ap (λ x. told (facts_of x) (desk_of e) f.question) (sym c.catalogue)) i)))
-
-not-true : (b : Bool) → true ≡ not b → b ≡ false
-not-true true is = cc
-not-true false is = refl
-
-not-false : (b : Bool) → false ≡ not b → b ≡ true
-not-false true is = refl
-not-false false is = cc
-
-first_of : (d e : DeskValue) (fs : List Finding) (i : ℕ) (f : Finding) → i < length fs → f ≡ get_or fs i f →
-    some_otherwise (facts d) (desk_of d) (desk_of e) (asked_of (drop i fs))
-    ≡ cond (same_answer (told (facts d) (desk_of d) f.question) (told (facts d) (desk_of e) f.question))
-    (some_otherwise (facts d) (desk_of d) (desk_of e) (asked_of (drop (i + 1) fs))) true
-first_of d e fs i f below is =
-    ap (λ (xs : List Finding). some_otherwise (facts d) (desk_of d) (desk_of e) (asked_of xs)) (drop_at fs i f below is)
-
-pub differs-here : (d e : DeskValue) (fs : List Finding) (i : ℕ) (f : Finding) (a b : Answer) (r : Bool) → i < length fs →
-    f ≡ get_or fs i f → Compared d e f a b r → r ≡ true → some_otherwise (facts d) (desk_of d) (desk_of e) (asked_of (drop i fs)) ≡ true
-differs-here d e fs i f a b r below is c on =
-    first_of d e fs i f below is
-    ∙ ap (λ (x : Bool). cond x (some_otherwise (facts d) (desk_of d) (desk_of e) (asked_of (drop (i + 1) fs))) true)
-    (not-true _ (sym on ∙ compared-test d e f a b r c))
-
-pub alike-here : (d e : DeskValue) (fs : List Finding) (i : ℕ) (f : Finding) (a b : Answer) (r : Bool) → i < length fs → f ≡ get_or fs i f →
-    Compared d e f a b r → r ≡ false → some_otherwise (facts d) (desk_of d) (desk_of e) (asked_of (drop i fs))
-    ≡ some_otherwise (facts d) (desk_of d) (desk_of e) (asked_of (drop (i + 1) fs))
-alike-here d e fs i f a b r below is c off =
-    first_of d e fs i f below is
-    ∙ ap (λ (x : Bool). cond x (some_otherwise (facts d) (desk_of d) (desk_of e) (asked_of (drop (i + 1) fs))) true)
-    (not-false _ (sym off ∙ compared-test d e f a b r c))
-
-pub none-differs : (d e : DeskValue) (fs : List Finding) (i : ℕ) → length fs ≤ i →
-    some_otherwise (facts d) (desk_of d) (desk_of e) (asked_of (drop i fs)) ≡ false
-none-differs d e fs i past = ap (λ (xs : List Finding). some_otherwise (facts d) (desk_of d) (desk_of e) (asked_of xs)) (drop_all i fs past)
-
--- the questions of a command
-pub otherwise-so : (d e : DeskValue) (n : ℕ) (command : Command) (fs : List Finding) (r : Bool) →
-    fs ≡ findings (facts d) (desk_of d) (asks (facts d) (desk_of d) (plan (facts d) n command)) →
-    r ≡ some_otherwise (facts d) (desk_of d) (desk_of e) (asked_of fs) →
-    r ≡ answered_otherwise (facts d) (desk_of d) (desk_of e) (plan (facts d) n command)
-otherwise-so d e n command fs r found is =
-    let p : Plan = plan (facts d) n command in
-    is ∙ ap (some_otherwise (facts d) (desk_of d) (desk_of e))
-    (ap asked_of found ∙ asked_findings (facts d) (desk_of d) (asks (facts d) (desk_of d) p))
-    ∙ sym (otherwise_is (facts d) (desk_of d) (desk_of e) p)
-
-pub known-findings : (d : DeskValue) (q new : InquiryValue) (fs gs : List Finding) → q ≡ record { desk = d; asked = [] } →
-    new.desk ≡ q.desk → gs ≡ findings (facts new.desk) (desk_of new.desk) new.asked → AreKnownQuestions (facts new.desk) new.asked →
-    fs ≡ gs → AreKnownQuestions (facts d) (asked_of fs)
-known-findings d q new fs gs start same found known are =
-    let here : new.desk ≡ d = same ∙ ap (λ (x : InquiryValue). x.desk) start in
-    let asked : asked_of fs ≡ new.asked = ap asked_of (are ∙ found) ∙ asked_findings (facts new.desk) (desk_of new.desk) new.asked in
-    subst (AreKnownQuestions (facts d)) (sym asked) (subst (λ (x : DeskValue). AreKnownQuestions (facts x) new.asked) here known)
 
 -- a copy's view
 pub item-so : (d : DeskValue) (h : HoldsValue) (copy t : ℕ) (state : CopyState) (n : ℕ) → h ≡ d.holds → h.contents ≡ d.copies.contents →

@@ -1,5 +1,5 @@
 -- How a plan is followed at a desk, question by question.
-use Rattle.std.specs.Prelude.{◌≡◌, ℕ, ◌<◌, Bool, true, false, if◌then◌else◌, Option, None, Some, Result, Ok}
+use Rattle.std.specs.Prelude.{◌≡◌, ℕ, Option, None, Some, Result, Ok}
 use Rattle.std.specs.Prelude.{Err, List, [], ◌∷◌, ◌++◌, map}
 use Rattle.hd_rules.specs.declared.questions.Question.{Question}
 use Rattle.hd_rules.specs.declared.holds.Hold.{Hold}
@@ -8,9 +8,8 @@ use Rattle.hd_rules.specs.declared.cells.Change.{Change}
 use Rattle.hd_rules.specs.declared.replies.Refusal.{Refusal}
 use Rattle.hd_rules.specs.Facts.{Facts}
 use Rattle.hd_rules.specs.Desk.{Desk}
-use Rattle.hd_rules.specs.Ask.{Plan, Ask, Refuse, Accept, Done, answer, told}
+use Rattle.hd_rules.specs.Ask.{Plan, Ask, Refuse, Accept, Done, answer}
 use Rattle.hd_rules.specs.Known.{IsKnownQuestion}
-use Rattle.hd_rules.specs.Same.{same_answer}
 use Rattle.hd_queue.specs.Holds.{HasPatronsOnce, IsInOrder, hold_of}
 use Rattle.hd_desk.specs.DeskValue.{DeskValue}
 use Rattle.hd_desk.specs.Desks.{facts, desk_of}
@@ -43,12 +42,6 @@ listed (Some change) = change ∷ []
 abbrev pub AreKnownQuestions : Facts → List Question → Type 0
 AreKnownQuestions k [] = Unit {0}
 AreKnownQuestions k (q ∷ qs) = IsKnownQuestion k q × AreKnownQuestions k qs
-
--- one of the questions has another answer at the second desk
-abbrev pub some_otherwise : Facts → Desk → Desk → List Question → Bool
-some_otherwise k d e [] = false
-some_otherwise k d e (q ∷ qs) =
-    if same_answer (told k d q) (told k e q) then some_otherwise k d e qs else true
 
 -- the holds of a title at a desk, in order of stamp, each patron's once
 pub record IsQueueOf (k : Facts) (d : Desk) (t : ℕ) (holds : List Hold) : Type 0 where

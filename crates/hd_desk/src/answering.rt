@@ -1,9 +1,8 @@
 //! The desk's answers.
 #![tactic(auto, unfolding(crate::specs::Desks::desk_of))]
 
-ghost use Rattle.std.specs.Prelude.{◌≡◌, ◌<◌, not};
+ghost use Rattle.std.specs.Prelude.{◌≡◌, ◌<◌};
 ghost use Rattle.hd_rules.specs.Ask.{told};
-ghost use Rattle.hd_rules.specs.Same.{same_answer};
 ghost use Rattle.hd_desk.specs.Asking.{IsQueueOf};
 ghost use Rattle.hd_rules.specs.Choose.{choice, loans, on_shelf, place, position};
 ghost use Rattle.hd_rules.specs.Known.{IsKnownHeld, IsKnownQuestion};
@@ -97,11 +96,4 @@ impl<A: Allocator + Copy> Desk<A> {
     {
         self.copies.on_shelf(title, kind, pickup)
     }
-}
-
-/// Whether two answers differ.
-pub(crate) fn are_different(one: &Answer, other: &Answer) -> bool
-    ensures { result ≡ not (same_answer one.now other.now) }
-{
-    one != other
 }

@@ -3,7 +3,6 @@
 
 ghost use Rattle.std.specs.Prelude.{◌≡◌, ◌<◌, ◌+◌, ℕ, IfOk, OnErr, [], length};
 ghost use Rattle.hd_rules.specs.Ask.{asks};
-ghost use Rattle.hd_rules.specs.Depends.{answered_otherwise};
 ghost use Rattle.hd_rules.specs.Desk.{after};
 ghost use Rattle.hd_rules.specs.Known.{IsKnownAction};
 ghost use Rattle.hd_rules.specs.Record.{findings};
@@ -11,7 +10,7 @@ ghost use Rattle.hd_rules.specs.Sound.{Sound};
 ghost use Rattle.hd_rules.specs.Step.{plan};
 ghost use Rattle.hd_footprint.specs.Meter.{add};
 ghost use Rattle.hd_footprint.specs.declared.count.Count.TheVariants.{Step};
-ghost use Rattle.hd_desk.specs.Asking.{AreKnownQuestions, asked_of, ending_of, some_otherwise};
+ghost use Rattle.hd_desk.specs.Asking.{ending_of};
 ghost use Rattle.hd_inverse.specs.Cells.{CanBeUndone};
 ghost use Rattle.hd_inverse.specs.Work.{written};
 ghost use Rattle.hd_desk.specs.Cells.{IsShort};
@@ -19,7 +18,6 @@ ghost use Rattle.hd_desk.specs.Desks.{contents, desk_of, facts, outcome_at};
 ghost use Rattle.hd_desk.specs.Telling.{IsTold};
 
 use crate::accepted::Accepted;
-use crate::answering::are_different;
 use crate::desk::Desk;
 use crate::done::Done;
 use crate::holding::Wishes;
@@ -28,7 +26,7 @@ use crate::lending::Lending;
 use crate::refused::Refused;
 use hd_footprint::{Count, Meter};
 use hd_inverse::Cells;
-use hd_rules::{Action, Command, Finding, Hold, Refusal};
+use hd_rules::{Action, Command, Hold, Refusal};
 use std::alloc::Allocator;
 
 impl<A: Allocator + Copy> Desk<A> {
@@ -80,37 +78,6 @@ impl<A: Allocator + Copy> Desk<A> {
             changes,
             findings,
         })
-    }
-
-    /// Whether some question of the command has another answer at the other desk of this catalogue. It takes
-    /// no memory.
-    pub fn is_answered_otherwise(&self, other: &Desk<A>, number: u64, command: &Command) -> bool
-        requires known { IsKnownAction (facts self.now) command.now.action }
-        requires catalogue { contents self.now ≡ contents other.now }
-        ensures { result ≡ answered_otherwise (facts self.now) (desk_of self.now) (desk_of other.now)
-            (plan (facts self.now) number command.now) }
-    {
-        let mut inquiry = Inquiry::new(self);
-        let _ = inquiry.follow(number, command);
-        let findings = inquiry.into_findings();
-        self.is_other(other, findings.findings())
-    }
-
-    /// Whether some question has another answer at the other desk.
-    fn is_other(&self, other: &Desk<A>, findings: &[Finding]) -> bool
-        requires known { AreKnownQuestions (facts self.now) (asked_of findings.now) }
-        requires catalogue { contents self.now ≡ contents other.now }
-        ensures { result ≡ some_otherwise (facts self.now) (desk_of self.now) (desk_of other.now)
-            (asked_of findings.now) }
-    {
-        for finding in findings {
-            let here = self.answer(&finding.question);
-            let there = other.answer(&finding.question);
-            if are_different(&here, &there) {
-                return true;
-            }
-        }
-        false
     }
 }
 

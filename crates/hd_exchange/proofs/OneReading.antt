@@ -1,5 +1,5 @@
 -- A body is read in one way.
-use Rattle.std.proofs.Common.{◌≡◌, ◌≢◌, ◌⊎◌, inl, inr, ℕ, Bool, true, false, List, [], ◌∷◌, Option, Some, None, Result, Ok, Err}
+use Rattle.std.proofs.Common.{◌≡◌, ◌⊎◌, inl, inr, ℕ, Bool, true, false, List, Option, Some, None, Result, Ok, Err}
 use Rattle.std.proofs.Common.{MatchBool, codes, if◌then◌else◌, take, drop, arith, refl, sym, ap, ◌∙◌, subst}
 use Rattle.std.proofs.lemmas.Option.{same_Some}
 use Rattle.std.specs.Option.{option_copied}
@@ -18,8 +18,8 @@ use Rattle.hd_message.specs.declared.unreadable.Unreadable.TheVariants as Unread
 use Rattle.hd_message.specs.declared.unreadable.UnreadableMessage.{UnreadableMessage}
 use Rattle.hd_catalogue.specs.Contents.{Contents}
 use Rattle.hd_exchange.specs.HoldAsks.{expiry_text, pickup_name, wanted_copies}
-use Rattle.hd_exchange.specs.Messages.{IsReadAs, Stated, checkin_states, checkout_states, hold_states, item_states, login_made, renew_states}
-use Rattle.hd_exchange.specs.Messages.{unreadable_states}
+use Rattle.hd_exchange.specs.Messages.{IsReadAs, Stated, checkin_states, checkout_states, hold_states, item_states}
+use Rattle.hd_exchange.specs.Messages.{login_made, renew_states, unreadable_states}
 use Rattle.hd_exchange.specs.declared.login.Login.{Login as LoggedIn}
 
 -- codes as numbers, and the width of a code's fixed part
@@ -91,9 +91,11 @@ one_wishes true part (Some a) (Some b) p q = (p.2 ∙ sym q.2, p.1 ∙ sym q.1, 
 one_wishes true part (Some a) None p q = absurd q
 one_wishes true part None b p q = absurd p
 one_wishes false part a b p q =
-    let same : a ≡ b = p ∙ sym q in
-    (ap (λ (o : Option Wishes). expiry_text o) same, ap (λ (o : Option Wishes). pickup_name o) same,
-    ap (λ (o : Option Wishes). wanted_copies o) same)
+    let same : a ≡ b = p ∙ sym q in (
+      ap (λ (o : Option Wishes). expiry_text o) same,
+      ap (λ (o : Option Wishes). pickup_name o) same,
+      ap (λ (o : Option Wishes). wanted_copies o) same,
+    )
 
 -- the code of a message that asks something of the desk
 desk_code : DeskKind → List ℕ
@@ -268,10 +270,10 @@ module _ (k : Contents) where
       rw (kind, date, patron, copy, title) refl
 
   module _ (readable : (body : List ℕ) (request : Request) (message : Unreadable) → IsRequest body request → IsUnreadable body message → ⊥)
-      where
-    -- two readings of one body come to the same
-    pub one_reading : (body : List ℕ) (a b : Result Request Unreadable) → IsReadAs body a → IsReadAs body b → gist_read a ≡ gist_read b
-    one_reading body (Ok a) (Ok b) p q = one_of_kind body a b (of_kind body a p) (of_kind body b q)
-    one_reading body (Ok a) (Err b) p q = absurd (readable body a b p q)
-    one_reading body (Err a) (Ok b) p q = absurd (readable body b a q p)
-    one_reading body (Err a) (Err b) p q = one_unread body a b p q
+    where
+      -- two readings of one body come to the same
+      pub one_reading : (body : List ℕ) (a b : Result Request Unreadable) → IsReadAs body a → IsReadAs body b → gist_read a ≡ gist_read b
+      one_reading body (Ok a) (Ok b) p q = one_of_kind body a b (of_kind body a p) (of_kind body b q)
+      one_reading body (Ok a) (Err b) p q = absurd (readable body a b p q)
+      one_reading body (Err a) (Ok b) p q = absurd (readable body b a q p)
+      one_reading body (Err a) (Err b) p q = one_unread body a b p q

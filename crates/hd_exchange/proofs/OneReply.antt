@@ -316,8 +316,8 @@ module _ (k : Contents) (r q : Repeated) (asked : Result Asked Refusal) (told : 
   one_renewal a (reply.Renew b) is so = (one_loan a b is so).1
   one_renewal a _ is so = absurd so
 
-  one_checkin : (a : CheckinReply) (b : Reply) → IsReply k kind.Checkin r asked told (reply.Checkin a) → IsReply k kind.Checkin q asked told b
-      → reply_text (reply.Checkin a) ≡ reply_text b
+  one_checkin : (a : CheckinReply) (b : Reply) → IsReply k kind.Checkin r asked told (reply.Checkin a)
+      → IsReply k kind.Checkin q asked told b → reply_text (reply.Checkin a) ≡ reply_text b
   one_checkin a (reply.Checkin b) is so =
       checkin_texts a b a.outcome b.outcome (is.date ∙ (date ∙ sym so.date)) (is.institution ∙ sym so.institution)
       (is.copy ∙ (value copy ∙ sym so.copy))

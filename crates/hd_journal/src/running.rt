@@ -189,7 +189,7 @@ impl<A: Allocator + Copy> Running<A> {
             return Ok(TurnReply::Refused(Refusal::NothingToCancel));
         };
         let catalogue = self.desk.catalogue();
-        catalogue.facts_are_in_range();
+        prove!(0 < catalogue.command_limit());
         if let Some(number) = self.records.first_clash(catalogue, place, meter) {
             return Ok(TurnReply::Refused(Refusal::Depends { number }));
         }

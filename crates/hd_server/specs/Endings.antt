@@ -8,8 +8,8 @@ pub record WritesWell (file present input text : List ℕ) : Type 0 where
   pub left : Option (List ℕ)
   pub held : List ℕ
   pub replay : IsReplayOf file present (record {
-      from = Some input;
-      from' = left;
-      to = Some held;
-      to' = Some (held ++ text);
-    }) (Ok tt)
+    from = Some input;
+    from' = left;
+    to = Some held;
+    to' = Some (held ++ text);
+  }) (Ok tt)

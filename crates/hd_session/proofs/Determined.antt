@@ -1,5 +1,5 @@
 -- What is written in a script is determined by its pieces.
-use Rattle.std.proofs.Common.{◌≡◌, ◌⊎◌, inl, inr, ℕ, zero, suc, Bool, true, false, Option, None, Some, List, [], ◌∷◌, ◌++◌, All, length, drop}
+use Rattle.std.proofs.Common.{◌≡◌, inl, inr, ℕ, zero, Bool, true, false, Option, None, Some, List, [], ◌∷◌, ◌++◌, All, length, drop}
 use Rattle.std.proofs.Common.{arith, refl, sym, ap, ap₂, ◌∙◌, subst, append_assoc, set}
 use Rattle.std.proofs.lemmas.Option.{none-some}
 use Rattle.hd_date.specs.Stamps.{Stamp}
@@ -18,7 +18,7 @@ use Rattle.hd_exchange.specs.declared.login.Login.{Login}
 use Rattle.hd_exchange.specs.declared.said.Said.{Said}
 use Rattle.hd_session.specs.Endings.{EndsWell}
 use Rattle.hd_session.specs.Scripts.{AreFed, Event, Step, session_at, turns_of}
-use Rattle.hd_session.specs.Sessions.{AreHeard, EndsAtLine, Hearing, HearsAll, IsCause, IsFedAt}
+use Rattle.hd_session.specs.Sessions.{AreHeard, Hearing, IsCause, IsFedAt}
 use Rattle.hd_session.specs.Standing.{IsAnswered, IsHeard, IsReadAndAnswered, Stands, line_with}
 use Rattle.hd_session.specs.Trailers.{last_after, written}
 use Rattle.hd_session.specs.declared.ended.Ended.{Ended}
@@ -50,7 +50,8 @@ first_of m [] = m
 first_of m (first ∷ rest) = first
 
 -- legal turns are told by their messages
-one_legal : (k : Facts) (s : State) (xs ys : List Turn) → IsLegalFrom k s xs → IsLegalFrom k s ys → messages_of xs ≡ messages_of ys → xs ≡ ys
+one_legal : (k : Facts) (s : State) (xs ys : List Turn) → IsLegalFrom k s xs → IsLegalFrom k s ys
+    → messages_of xs ≡ messages_of ys → xs ≡ ys
 unfolding first_of
 one_legal k s [] [] p q same = refl
 one_legal k s [] (y ∷ ys) p q same = absurd (omega (arith, ap (λ (l : List SeatMessage). length l) same))
@@ -121,7 +122,8 @@ module _ (asks : (k : Contents) (seat : ℕ) (now : Stamp) (login : Option Login
       λ same.
           let one =
           answer k seat now s.place (line_with digit line) body p.says q.says p.reply q.reply made next.place next'.place p.answer
-          (subst (λ (m : List Turn). IsAnswer k seat now s.place (line_with digit line) body q.says q.reply m next'.place) (sym same) q.answer)
+          (subst (λ (m : List Turn). IsAnswer k seat now s.place (line_with digit line) body q.says q.reply m next'.place) (sym same)
+          q.answer)
           in (
             same_stands next next' one.2
                 (p.last ∙ (ap₂ (λ (says : Said) (reply : List ℕ). last_after s.last checked digit says reply) one.0 one.1 ∙ sym q.last))
@@ -185,8 +187,8 @@ module _ (asks : (k : Contents) (seat : ℕ) (now : Stamp) (login : Option Login
 
   module _ (faults : OfficeFault → Type 0) where
     -- a piece that is fed to a session, which ends well
-    one_piece : (now : Stamp) (at : State) (end : Option Ended) (h : Hearing) (piece : List ℕ) (made made' : List Turn) (next next' : Hearing)
-        (text text' : List ℕ) (more more' : List Turn) → IsLegalFrom (facts_of k) at (made ++ more)
+    one_piece : (now : Stamp) (at : State) (end : Option Ended) (h : Hearing) (piece : List ℕ) (made made' : List Turn)
+        (next next' : Hearing) (text text' : List ℕ) (more more' : List Turn) → IsLegalFrom (facts_of k) at (made ++ more)
         → IsLegalFrom (facts_of k) at (made' ++ more') → EndsWell next.ended → EndsWell next'.ended
         → IsFedAt k seat faults end now 0 h piece made next text → IsFedAt k seat faults end now 0 h piece made' next' text'
         → (made ≡ made') × (next ≡ next') × (text ≡ text')

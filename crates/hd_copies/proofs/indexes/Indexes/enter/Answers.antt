@@ -10,7 +10,27 @@ use Rattle.hd_copies.specs.Indexing.{IsIndexed, all_but, copy_at, no_shelf}
 use Rattle.hd_copies.proofs.Moving.{but_here, comes, known_at, read_at}
 use Rattle.hd_copies.proofs.Indexed.{few_of_home, few_of_title, free_for, loan-in, nowhere_on, place-in, rooms-same, shelf-in, shelf_at}
 use Rattle.hd_copies.proofs.Indexed.{transit-in}
+use Rattle.hd_copies.proofs.indexes.Indexes.enter.Given.{Over}
+use Rattle.hd_copies.proofs.indexes.Indexes.enter.Goals.{After-index_mut}
 use Rattle.hd_copies.proofs.indexes.Indexes.enter.Goals as goal
+
+-- where a hold shelf is entered: the copy's place, what it names, and the shelf that is read
+stands : (g : Over) (c : After-index_mut g) → slice_get c.args.states.now c.args.copy ≡ Some (OnHoldShelf c.in-OnHoldShelf.there)
+stands g c =
+    read_at (facts_of c.args.catalogue.now) c.args.states.now c.number.result c.args.copy _ _ c.requires.states c.requires.copy
+    c.number.ensures.value c.in-OnHoldShelf.is
+
+is_known : (g : Over) (c : After-index_mut g) → IsKnownState (facts_of c.args.catalogue.now) (OnHoldShelf c.in-OnHoldShelf.there)
+is_known g c = known_at (facts_of c.args.catalogue.now) c.args.states.now c.args.copy _ c.requires.states c.requires.copy (stands g c)
+
+is_shelf : (g : Over) (c : After-index_mut g) →
+    c.index_mut.result.now ≡ get_or c.self.inside.shelves.items c.in-OnHoldShelf.there.branch no_shelf
+is_shelf g c =
+    let old : IsIndexed (facts_of c.args.catalogue.now) (all_but c.args.copy (slice_get c.args.states.now)) _ =
+    rw (← c.self.view_is) at c.requires.indexed in
+    shelf_at c.self.inside.shelves.items c.number-in-OnHoldShelf.result c.in-OnHoldShelf.there.branch c.index_mut.result.now
+    c.number-in-OnHoldShelf.ensures.value (let known = is_known g c in omega (arith, known.0, old.shelves.branches_in))
+    c.index_mut.ensures.value
 
 pub put-requires-clause-copies : goal.put-requires-clause-copies
 put-requires-clause-copies g c =
@@ -57,36 +77,22 @@ returns-in-OnLoan-clause-indexed g c =
 pub put-requires-in-OnHoldShelf-clause-free : goal.put-requires-in-OnHoldShelf-clause-free
 put-requires-in-OnHoldShelf-clause-free g c =
     let k = facts_of c.args.catalogue.now in
-    let f = slice_get c.args.states.now in
     let w = c.in-OnHoldShelf.there in
     let shelves = c.self.inside.shelves.items in
-    let old : IsIndexed k (all_but c.args.copy f) _ = rw (← c.self.view_is) at c.requires.indexed in
-    let at : f c.args.copy ≡ Some (OnHoldShelf w) =
-    read_at k c.args.states.now c.number.result c.args.copy _ _ c.requires.states c.requires.copy c.number.ensures.value
-    c.in-OnHoldShelf.is in
-    let known : IsKnownState k (OnHoldShelf w) = known_at k c.args.states.now c.args.copy _ c.requires.states c.requires.copy at in
-    let shelf : c.index_mut.result.now ≡ get_or shelves w.branch no_shelf =
-    shelf_at shelves c.number-in-OnHoldShelf.result w.branch c.index_mut.result.now c.number-in-OnHoldShelf.ensures.value
-    (omega (arith, known.0, old.shelves.branches_in)) c.index_mut.ensures.value in
-    ap (λ (s : PlacesValue). get s.copies w.place) shelf
-    ∙ free_for k c.args.states.now shelves c.args.copy w old.shelves c.requires.states c.requires.copy at
+    let there = (goal.at.put-requires-in-OnHoldShelf-clause-free g c).After-index_mut in
+    let old : IsIndexed k (all_but c.args.copy (slice_get c.args.states.now)) _ = rw (← c.self.view_is) at c.requires.indexed in
+    ap (λ (s : PlacesValue). get s.copies w.place) (is_shelf g there)
+    ∙ free_for k c.args.states.now shelves c.args.copy w old.shelves c.requires.states c.requires.copy (stands g there)
 
 pub put-requires-in-OnHoldShelf-clause-nowhere : goal.put-requires-in-OnHoldShelf-clause-nowhere
 put-requires-in-OnHoldShelf-clause-nowhere g c = λ place is.
     let k = facts_of c.args.catalogue.now in
     let f = slice_get c.args.states.now in
-    let w = c.in-OnHoldShelf.there in
     let shelves = c.self.inside.shelves.items in
+    let there = (goal.at.put-requires-in-OnHoldShelf-clause-nowhere g c).After-index_mut in
     let old : IsIndexed k (all_but c.args.copy f) _ = rw (← c.self.view_is) at c.requires.indexed in
-    let at : f c.args.copy ≡ Some (OnHoldShelf w) =
-    read_at k c.args.states.now c.number.result c.args.copy _ _ c.requires.states c.requires.copy c.number.ensures.value
-    c.in-OnHoldShelf.is in
-    let known : IsKnownState k (OnHoldShelf w) = known_at k c.args.states.now c.args.copy _ c.requires.states c.requires.copy at in
-    let shelf : c.index_mut.result.now ≡ get_or shelves w.branch no_shelf =
-    shelf_at shelves c.number-in-OnHoldShelf.result w.branch c.index_mut.result.now c.number-in-OnHoldShelf.ensures.value
-    (omega (arith, known.0, old.shelves.branches_in)) c.index_mut.ensures.value in
-    nowhere_on k (all_but c.args.copy f) shelves c.args.copy w.branch place old.shelves (but_here f c.args.copy)
-    (ap (λ (s : PlacesValue). get s.copies place) (sym shelf) ∙ is)
+    nowhere_on k (all_but c.args.copy f) shelves c.args.copy c.in-OnHoldShelf.there.branch place old.shelves (but_here f c.args.copy)
+    (ap (λ (s : PlacesValue). get s.copies place) (sym (is_shelf g there)) ∙ is)
 
 pub returns-in-OnHoldShelf-clause-indexed : goal.returns-in-OnHoldShelf-clause-indexed
 returns-in-OnHoldShelf-clause-indexed g c =
@@ -94,37 +100,22 @@ returns-in-OnHoldShelf-clause-indexed g c =
     let f = slice_get c.args.states.now in
     let w = c.in-OnHoldShelf.there in
     let shelves = c.self.inside.shelves.items in
+    let there = (goal.at.returns-in-OnHoldShelf-clause-indexed g c).After-index_mut in
     let old : IsIndexed k (all_but c.args.copy f) _ = rw (← c.self.view_is) at c.requires.indexed in
-    let at : f c.args.copy ≡ Some (OnHoldShelf w) =
-    read_at k c.args.states.now c.number.result c.args.copy _ _ c.requires.states c.requires.copy c.number.ensures.value
-    c.in-OnHoldShelf.is in
-    let known : IsKnownState k (OnHoldShelf w) = known_at k c.args.states.now c.args.copy _ c.requires.states c.requires.copy at in
-    let shelf : c.index_mut.result.now ≡ get_or shelves w.branch no_shelf =
-    shelf_at shelves c.number-in-OnHoldShelf.result w.branch c.index_mut.result.now c.number-in-OnHoldShelf.ensures.value
-    (omega (arith, known.0, old.shelves.branches_in)) c.index_mut.ensures.value in
+    let at : f c.args.copy ≡ Some (OnHoldShelf w) = stands g there in
+    let known : IsKnownState k (OnHoldShelf w) = is_known g there in
     let free : copy_at shelves w.branch w.place ≡ None =
     free_for k c.args.states.now shelves c.args.copy w old.shelves c.requires.states c.requires.copy at in
     rw c.number-in-OnHoldShelf.ensures.value (place-in k (all_but c.args.copy f) f c.args.copy _ old w c.put-in-OnHoldShelf.new.self
     (comes f c.args.copy _ at) known.0 free
-    (c.put-in-OnHoldShelf.ensures.copies ∙ ap (λ (s : PlacesValue). insert s.copies w.place c.args.copy) shelf))
+    (c.put-in-OnHoldShelf.ensures.copies ∙ ap (λ (s : PlacesValue). insert s.copies w.place c.args.copy) (is_shelf g there)))
 
 pub returns-in-OnHoldShelf-clause-rooms : goal.returns-in-OnHoldShelf-clause-rooms
 returns-in-OnHoldShelf-clause-rooms g c =
-    let k = facts_of c.args.catalogue.now in
-    let f = slice_get c.args.states.now in
-    let w = c.in-OnHoldShelf.there in
-    let shelves = c.self.inside.shelves.items in
-    let old : IsIndexed k (all_but c.args.copy f) _ = rw (← c.self.view_is) at c.requires.indexed in
-    let at : f c.args.copy ≡ Some (OnHoldShelf w) =
-    read_at k c.args.states.now c.number.result c.args.copy _ _ c.requires.states c.requires.copy c.number.ensures.value
-    c.in-OnHoldShelf.is in
-    let known : IsKnownState k (OnHoldShelf w) = known_at k c.args.states.now c.args.copy _ c.requires.states c.requires.copy at in
-    let shelf : c.index_mut.result.now ≡ get_or shelves w.branch no_shelf =
-    shelf_at shelves c.number-in-OnHoldShelf.result w.branch c.index_mut.result.now c.number-in-OnHoldShelf.ensures.value
-    (omega (arith, known.0, old.shelves.branches_in)) c.index_mut.ensures.value in
+    let there = (goal.at.returns-in-OnHoldShelf-clause-rooms g c).After-index_mut in
     rw (← c.self.view_is, c.number-in-OnHoldShelf.ensures.value)
-    (rooms-same shelves w.branch c.put-in-OnHoldShelf.new.self (c.put-in-OnHoldShelf.ensures.room
-    ∙ ap (λ (s : PlacesValue). s.room) shelf))
+    (rooms-same c.self.inside.shelves.items c.in-OnHoldShelf.there.branch c.put-in-OnHoldShelf.new.self
+    (c.put-in-OnHoldShelf.ensures.room ∙ ap (λ (s : PlacesValue). s.room) (is_shelf g there)))
 
 pub returns-in-InTransit-clause-indexed : goal.returns-in-InTransit-clause-indexed
 returns-in-InTransit-clause-indexed g c =

@@ -35,7 +35,7 @@ returns-in-Some-first_clash-clause-cancelled g c =
     let n = c.in-Some-first_clash.number in
     let a =
     aiming c.laws.ensures contents (desk_of c.self.inside.desk) rs c.self.inside.last c.args.terminal c.args.what.now c.in-Some.place
-    c.deref.result.now (c.deref.ensures ∙ c.catalogue-catalogue.ensures) c.facts_are_in_range.ensures c.self.invariant
+    c.deref.result.now (c.deref.ensures ∙ c.catalogue-catalogue.ensures) c.command_limit.ensures.facts c.self.invariant
     c.in-Some.ensures.within c.in-Some.ensures.found in
     let clash =
     clash_there c.deref-2.result.now contents (changes_at c.in-Some.place rs) (newer_at rs c.in-Some.place) (Some n)
@@ -52,7 +52,7 @@ returns-in-Some-first_clash-clause-work g c =
     let n = c.in-Some-first_clash.number in
     let a =
     aiming c.laws.ensures contents (desk_of c.self.inside.desk) rs c.self.inside.last c.args.terminal c.args.what.now c.in-Some.place
-    c.deref.result.now (c.deref.ensures ∙ c.catalogue-catalogue.ensures) c.facts_are_in_range.ensures c.self.invariant
+    c.deref.result.now (c.deref.ensures ∙ c.catalogue-catalogue.ensures) c.command_limit.ensures.facts c.self.invariant
     c.in-Some.ensures.within c.in-Some.ensures.found in
     let same = c.deref-2.ensures ∙ c.catalogue-catalogue.ensures in
     let clash =
@@ -80,7 +80,7 @@ undo-requires-clause-known g c =
     let rs = c.self.inside.records.records in
     let a =
     aiming c.laws.ensures contents (desk_of c.self.inside.desk) rs c.self.inside.last c.args.terminal c.args.what.now c.in-Some.place
-    c.deref.result.now (c.deref.ensures ∙ c.catalogue-catalogue.ensures) c.facts_are_in_range.ensures c.self.invariant
+    c.deref.result.now (c.deref.ensures ∙ c.catalogue-catalogue.ensures) c.command_limit.ensures.facts c.self.invariant
     c.in-Some.ensures.within c.in-Some.ensures.found in
     subst (AreKnown k)
     (sym (c.at-target.ensures.changes ∙ changes_there rs c.in-Some.place a.aim a.parts.at.within a.parts.at.there))
@@ -93,7 +93,7 @@ undo-requires-clause-apart g c =
     let rs = c.self.inside.records.records in
     let a =
     aiming c.laws.ensures contents (desk_of c.self.inside.desk) rs c.self.inside.last c.args.terminal c.args.what.now c.in-Some.place
-    c.deref.result.now (c.deref.ensures ∙ c.catalogue-catalogue.ensures) c.facts_are_in_range.ensures c.self.invariant
+    c.deref.result.now (c.deref.ensures ∙ c.catalogue-catalogue.ensures) c.command_limit.ensures.facts c.self.invariant
     c.in-Some.ensures.within c.in-Some.ensures.found in
     subst AreApart (sym (c.at-target.ensures.changes ∙ changes_there rs c.in-Some.place a.aim a.parts.at.within a.parts.at.there))
     (undoable_at k rs c.in-Some.place a.aim a.parts.at a.stored).1
@@ -105,7 +105,7 @@ undo-requires-clause-fit g c =
     let rs = c.self.inside.records.records in
     let a =
     aiming c.laws.ensures contents (desk_of c.self.inside.desk) rs c.self.inside.last c.args.terminal c.args.what.now c.in-Some.place
-    c.deref.result.now (c.deref.ensures ∙ c.catalogue-catalogue.ensures) c.facts_are_in_range.ensures c.self.invariant
+    c.deref.result.now (c.deref.ensures ∙ c.catalogue-catalogue.ensures) c.command_limit.ensures.facts c.self.invariant
     c.in-Some.ensures.within c.in-Some.ensures.found in
     let clash =
     clash_there c.deref-2.result.now contents (changes_at c.in-Some.place rs) (newer_at rs c.in-Some.place) None
@@ -122,7 +122,7 @@ returns-in_err-undo-clause-rise g c =
     let rs = c.self.inside.records.records in
     let a =
     aiming c.laws.ensures contents (desk_of c.self.inside.desk) rs c.self.inside.last c.args.terminal c.args.what.now c.in-Some.place
-    c.deref.result.now (c.deref.ensures ∙ c.catalogue-catalogue.ensures) c.facts_are_in_range.ensures c.self.invariant
+    c.deref.result.now (c.deref.ensures ∙ c.catalogue-catalogue.ensures) c.command_limit.ensures.facts c.self.invariant
     c.in-Some.ensures.within c.in-Some.ensures.found in
     let same = c.deref-2.ensures ∙ c.catalogue-catalogue.ensures in
     let work : Compares (facts_of contents) rs c.in-Some.place c.args.meter.now c.newest.new.meter c.first_clash.new.meter = record {
@@ -144,7 +144,7 @@ invariant_of-self-2 g c =
     let i = c.in-Some.place in
     let a =
     aiming c.laws.ensures contents (desk_of c.self.inside.desk) rs c.self.inside.last c.args.terminal c.args.what.now i
-    c.deref.result.now (c.deref.ensures ∙ c.catalogue-catalogue.ensures) c.facts_are_in_range.ensures c.self.invariant
+    c.deref.result.now (c.deref.ensures ∙ c.catalogue-catalogue.ensures) c.command_limit.ensures.facts c.self.invariant
     c.in-Some.ensures.within c.in-Some.ensures.found in
     let clash =
     clash_there c.deref-2.result.now contents (changes_at i rs) (newer_at rs i) None
@@ -176,7 +176,7 @@ returns-clause-cancelled g c =
     let i = c.in-Some.place in
     let a =
     aiming c.laws.ensures contents (desk_of c.self.inside.desk) rs c.self.inside.last c.args.terminal c.args.what.now i
-    c.deref.result.now (c.deref.ensures ∙ c.catalogue-catalogue.ensures) c.facts_are_in_range.ensures c.self.invariant
+    c.deref.result.now (c.deref.ensures ∙ c.catalogue-catalogue.ensures) c.command_limit.ensures.facts c.self.invariant
     c.in-Some.ensures.within c.in-Some.ensures.found in
     let clash =
     clash_there c.deref-2.result.now contents (changes_at i rs) (newer_at rs i) None
@@ -207,7 +207,7 @@ returns-clause-work g c =
     let i = c.in-Some.place in
     let a =
     aiming c.laws.ensures contents (desk_of c.self.inside.desk) rs c.self.inside.last c.args.terminal c.args.what.now i
-    c.deref.result.now (c.deref.ensures ∙ c.catalogue-catalogue.ensures) c.facts_are_in_range.ensures c.self.invariant
+    c.deref.result.now (c.deref.ensures ∙ c.catalogue-catalogue.ensures) c.command_limit.ensures.facts c.self.invariant
     c.in-Some.ensures.within c.in-Some.ensures.found in
     let same = c.deref-2.ensures ∙ c.catalogue-catalogue.ensures in
     let clash =
