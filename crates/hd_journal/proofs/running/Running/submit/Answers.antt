@@ -71,8 +71,8 @@ invariant_of-self-in-Ok g c =
       c.in-Ok.ensures.outcome c.in-Ok.ensures.after,
       subst (λ (x : Contents). AreStored (facts_of x) c.push.new.self.records) (sym c.in-Ok.ensures.contents)
       (stored_more c.laws.ensures k rs c.push.new.self.records kept c.self.invariant.1 one
-      (subst (λ (x : Contents). AreKnown (facts_of x) c.in-Ok.done.changes) c.in-Ok.ensures.contents c.in-Ok.ensures.known)
-      c.in-Ok.ensures.apart more),
+      (subst (λ (x : Contents). AreKnown (facts_of x) c.in-Ok.done.changes) c.in-Ok.ensures.contents c.in-Ok.ensures.back.known)
+      c.in-Ok.ensures.back.apart more),
     )
 
 pub returns-in-Ok-clause-submitted : goal.returns-in-Ok-clause-submitted
