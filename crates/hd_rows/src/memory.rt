@@ -32,16 +32,19 @@ pub(crate) fn cancel_with_little_memory(rt: &HostRuntime) -> io::Result<()> {
     let refusing = Refusing::after(rt.alloc(), u64::MAX);
     let catalogue = catalogue(rt.alloc())?;
     let Some(mut terminals) = Terminals::open_in(rt, &refusing, catalogue.as_bytes(), NOW)? else {
-        return println!(rt; "memory of a cancellation: FAILED");
+        return println!(rt; "a cancellation beside {TITLES} held copies: FAILED");
     };
     keep_copies(rt.alloc(), &mut terminals)?;
+    let is_asked = refusing.requests() > REQUESTS;
     for (line, end) in CANCELLATIONS {
         refusing.refuse_after(REQUESTS);
         terminals.send(rt.alloc(), 0, line, Cut::Whole)?;
         let requests = refusing.requests();
-        let is_well = requests <= REQUESTS && terminals.out(0).strip_suffix(end).is_some();
-        let verdict = verdict(is_well);
-        println!(rt; "memory of a cancellation, requests {requests}: {verdict}")?;
+        let is_cancelled = terminals.out(0).strip_suffix(end).is_some();
+        let verdict = verdict(is_asked && is_cancelled && requests <= REQUESTS);
+        println!(rt;
+            "a cancellation beside {TITLES} held copies, requests for memory {requests}: {verdict}"
+        )?;
     }
     Ok(())
 }
@@ -71,7 +74,9 @@ fn keep_copies<A: Allocator + Copy>(
     for title in 1..=TITLES {
         let hold = format!(in alloc; "15+20260301    100000BSnorth|BY2|AOlib|AAp1|AJt{title}|\r")?;
         terminals.send(alloc, 0, hold.as_bytes(), Cut::Whole)?;
-        let checkin = format!(in alloc; "09N20260301    10000020260301    100000APnorth|AOlib|ABc{title}|AC|\r")?;
+        let checkin = format!(in alloc;
+            "09N20260301    10000020260301    100000APnorth|AOlib|ABc{title}|AC|\r"
+        )?;
         terminals.send(alloc, 0, checkin.as_bytes(), Cut::Whole)?;
     }
     Ok(())

@@ -69,7 +69,7 @@ impl Work {
             && self.compared <= most.compared
     }
 
-    /// Prints it.
+    /// Prints the work of a cancellation, and whether it is well.
     fn print(self, rt: &HostRuntime, verdict: &str) -> io::Result<()> {
         let Work {
             steps,
@@ -77,7 +77,9 @@ impl Work {
             looks,
             compared,
         } = self;
-        println!(rt; "steps {steps}, cells {written}, records {looks}, answers {compared}: {verdict}")
+        println!(rt;
+            "a cancellation, steps {steps}, cells {written}, records {looks}, answers {compared}: {verdict}"
+        )
     }
 }
 
@@ -99,7 +101,7 @@ fn meter_row(rt: &HostRuntime, row: &Row) -> io::Result<()> {
         work.print(rt, verdict(is_well))?;
     }
     let all = verdict(most.next().is_none());
-    println!(rt; "meter of each cancellation of {METERED}: {all}")
+    println!(rt; "work of all cancellations of {METERED}: {all}")
 }
 
 /// The work of each cancellation of a row.
