@@ -64,8 +64,7 @@ kept_so laws k rs n (Some r) stored rising one =
     let here : IsRecordAt k (run k older) (survivor_of r) r =
     ((laws.split k (opening k) older (survivor_of r ∷ newer) one.older (r ∷ one.newer) (length-map one.older survivor_of)).0 whole).1.0 in
     let first : before r.number (survivors_of rs) ≡ older =
-    ap (before r.number) split ∙ (laws.numbers older (survivor_of r) newer (subst (Rising 1) split rising)).0 in
-    (
+    ap (before r.number) split ∙ (laws.numbers older (survivor_of r) newer (subst (Rising 1) split rising)).0 in (
       survivor_of r,
       subst (IsAmong (survivor_of r)) (sym split) (among_middle older (survivor_of r) newer),
       one.number,

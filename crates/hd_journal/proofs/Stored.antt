@@ -1,5 +1,6 @@
 -- Records before a target, at it and after it.
-use Rattle.std.proofs.Common.{arith, ◌≡◌, ◌≢◌, refl, sym, ◌∙◌, ap, subst, ℕ, zero, suc, ◌+◌, ◌<◌, ◌≤◌, ◌==◌, Bool, true, false, List, [], ◌∷◌}
+use Rattle.std.proofs.Common.{arith, ◌≡◌, ◌≢◌, refl, sym, ◌∙◌, ap, subst, ℕ, zero, suc, ◌+◌, ◌<◌, ◌≤◌, ◌==◌, Bool, true, false, List, []}
+use Rattle.std.proofs.Common.{◌∷◌}
 use Rattle.std.proofs.Common.{◌++◌, length, take, drop, get_or, add-one, drop-cons, map, Option, Some, None, Ok, inl, inr}
 use Rattle.std.proofs.lemmas.Bool.Decides.{nat_tests}
 use Rattle.std.proofs.lemmas.List.{take-append-drop, map-append, length-map}
@@ -82,7 +83,8 @@ undoable_both : (k : Facts) (xs ys : List Record) → EachCanBeUndone k xs → E
 undoable_both k [] ys first rest = rest
 undoable_both k (x ∷ xs) ys first rest = (first.0, first.1, undoable_both k xs ys first.2 rest)
 
-undoable_mended : (k : Facts) (changes : List Change) (rs : List Record) → EachCanBeUndone k rs → EachCanBeUndone k (shift_records k changes rs)
+undoable_mended : (k : Facts) (changes : List Change) (rs : List Record) → EachCanBeUndone k rs
+    → EachCanBeUndone k (shift_records k changes rs)
 undoable_mended k changes [] all = tt
 undoable_mended k changes (x ∷ xs) all = (all.0, all.1, undoable_mended k changes xs all.2)
 
@@ -140,7 +142,8 @@ first_is laws k rs i r parts rising known =
     ap (λ (cs : List Change). first_clash k cs (newer_at rs i)) (changes_there rs i r parts.at.within parts.at.there)
     ∙ laws.clash k (survivors_of (older_at rs i)) (survivor_of r) (survivors_of (newer_at rs i)) (done_of_record r) (newer_at rs i)
     (kept_at laws k rs i r parts rising known)
-    ∙ ap (λ (ss : List Survivor). first_dependent k ss (survivor_of r) (survivors_of (newer_at rs i))) (sym (survivors_split rs i r parts.at))
+    ∙ ap (λ (ss : List Survivor). first_dependent k ss (survivor_of r) (survivors_of (newer_at rs i)))
+    (sym (survivors_split rs i r parts.at))
 
 pub among_middle : (xs : List Survivor) (s : Survivor) (ys : List Survivor) → IsAmong s (xs ++ s ∷ ys)
 among_middle [] s ys = inl refl
@@ -186,7 +189,8 @@ pub each_back : (laws : Laws) (k : Facts) (rs : List Record) (i : ℕ) (r : Reco
     → EachBackIsFit k r.changes (run k (survivors_of rs))
 each_back laws k rs i r goes = laws.fit k (survivors_of rs) (survivor_of r) (done_of_record r) goes.accepted goes.none
 
-pub undoable_at : (k : Facts) (rs : List Record) (i : ℕ) (r : Record) → IsAt rs i r → AreStored k rs → AreKnown k r.changes × AreApart r.changes
+pub undoable_at : (k : Facts) (rs : List Record) (i : ℕ) (r : Record) → IsAt rs i r → AreStored k rs
+    → AreKnown k r.changes × AreApart r.changes
 undoable_at k rs i r at stored =
     let here = undoable_rest k (older_at rs i) (r ∷ newer_at rs i)
     (subst (EachCanBeUndone k) (records_split rs i r at) stored.undoable) in (here.0, here.1)
@@ -208,7 +212,8 @@ left_stored laws k rs i r parts rising known stored clash =
     let same : cs ≡ r.changes = changes_there rs i r parts.at.within parts.at.there in
     let mended : List Record = shift_records k cs (newer_at rs i) in
     let later : AreRecords k (run k (survivors_of (older_at rs i))) (survivors_of (newer_at rs i)) mended =
-    subst (λ (xs : List Change). AreRecords k (run k (survivors_of (older_at rs i))) (survivors_of (newer_at rs i)) (shift_records k xs (newer_at rs i)))
+    subst (λ (xs : List Change). AreRecords k (run k (survivors_of (older_at rs i))) (survivors_of (newer_at rs i))
+    (shift_records k xs (newer_at rs i)))
     (sym same)
     (laws.mended k (survivors_of (older_at rs i)) (survivor_of r) (survivors_of (newer_at rs i)) (done_of_record r) (newer_at rs i)
     (kept_at laws k rs i r parts rising known)

@@ -114,8 +114,8 @@ withdrawn_stands laws r terminal what rs i aim contents items aims parts rising 
     })
 
 -- the work, where a later one depends on the target, and where none does
-pub work_depends : (laws : Laws) (k : Facts) (survivors : List Survivor) (o : Option Split) (rs : List Record) (i : ℕ) (aim : Record) (n : ℕ)
-    (old mid new : Counts)
+pub work_depends : (laws : Laws) (k : Facts) (survivors : List Survivor) (o : Option Split) (rs : List Record) (i : ℕ) (aim : Record)
+    (n : ℕ) (old mid new : Counts)
     → survivors ≡ survivors_of rs → o ≡ Some (split_of rs i aim) → Parts k rs i aim → Rising 1 (survivors_of rs) → EachRecordIsKnown k rs
     → first_clash k (changes_at i rs) (newer_at rs i) ≡ Some n → Compares k rs i old mid new → IsCancellation k survivors o old new
 work_depends laws k survivors o rs i aim n old mid new same found parts rising known is h =
@@ -141,7 +141,8 @@ work_stands laws k survivors o rs i aim old mid compared back new same found par
     subst (λ (x : Option Split). IsCancellation k survivors x old new) (sym found)
     (subst (λ (x : Option ℕ). IsDecidedSo k (split_of rs i aim) x old new) (sym first)
     (in_words k rs i (cells_of (outcome_of k (run k (survivors_of (older_at rs i))) (survivor_of aim))) aim 3 old new parts
-    (subst (λ (n : ℕ). IsDecision n (3 * length (newer_at rs i) + 1) (questions_of (newer_at rs i)) old new) (cells_are k rs i aim parts) all)))
+    (subst (λ (n : ℕ). IsDecision n (3 * length (newer_at rs i) + 1) (questions_of (newer_at rs i)) old new)
+    (cells_are k rs i aim parts) all)))
 
 -- no number of the others is above the last
 next_later : (n m : ℕ) (xs : List Survivor) → n ≤ m → next_number n xs ≤ next_number m xs

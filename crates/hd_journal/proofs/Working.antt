@@ -1,5 +1,6 @@
 -- The work of a cancellation.
-use Rattle.std.proofs.Common.{arith, ◌≡◌, refl, sym, ◌∙◌, ap, subst, ℕ, zero, suc, ◌+◌, ◌*◌, ◌<◌, ◌≤◌, Bool, true, false, cond, List, [], ◌∷◌, ◌++◌}
+use Rattle.std.proofs.Common.{arith, ◌≡◌, refl, sym, ◌∙◌, ap, subst, ℕ, zero, suc, ◌+◌, ◌*◌, ◌<◌, ◌≤◌, Bool, true, false, cond, List, []}
+use Rattle.std.proofs.Common.{◌∷◌, ◌++◌}
 use Rattle.std.proofs.Common.{length, length-drop, drop, Option, Some, None, Result, Ok, Err}
 use Rattle.std.proofs.lemmas.List.{length-map}
 use Rattle.hd_rules.specs.declared.cells.Change.{Change}
@@ -26,7 +27,8 @@ use Rattle.hd_journal.proofs.Stored.{Parts, newer_at, older_at, questions_are}
 -- looks only rise
 pub rise_looked : (n : ℕ) (counts : Counts) → OnlyRise counts (looked n counts)
 rise_looked zero counts = rise_none counts counts refl
-rise_looked (suc n) counts = rise_on counts (add counts Look) (looked n (add counts Look)) (Look ∷ [], refl) (rise_looked n (add counts Look))
+rise_looked (suc n) counts = rise_on counts (add counts Look) (looked n (add counts Look)) (Look ∷ [], refl)
+    (rise_looked n (add counts Look))
 
 rise_comparisons : (n : ℕ) (counts : Counts) → OnlyRise counts (with_comparisons n counts)
 rise_comparisons zero counts = rise_none counts counts refl
@@ -145,7 +147,8 @@ in_words k rs i cells r m old new parts is =
     (questions_from k (step k (run k (survivors_of (older_at rs i))) (survivor_of r)) (survivors_of (newer_at rs i))) old new)
     (sym (length-map (newer_at rs i) survivor_of))
     (subst (λ (n : ℕ). IsDecision cells (m * length (newer_at rs i) + 1) n old new)
-    (questions_are k (step k (run k (survivors_of (older_at rs i))) (survivor_of r)) (survivors_of (newer_at rs i)) (newer_at rs i) parts.newer)
+    (questions_are k (step k (run k (survivors_of (older_at rs i))) (survivor_of r)) (survivors_of (newer_at rs i)) (newer_at rs i)
+    parts.newer)
     is)
 
 pub cells_are : (k : Facts) (rs : List Record) (i : ℕ) (r : Record) → Parts k rs i r

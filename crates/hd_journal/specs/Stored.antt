@@ -22,4 +22,5 @@ pub record AreStored (k : Facts) (records : List Record) : Type 0 where
 -- the record of the survivor of this number, or none where no survivor has it
 abbrev pub IsRecordOf : Facts → List Survivor → ℕ → Option Record → Type 0
 IsRecordOf k survivors n None = (s : Survivor) → IsAmong s survivors → s.number ≢ n
-IsRecordOf k survivors n (Some r) = (s : Survivor) × IsAmong s survivors × (s.number ≡ n) × IsRecord k survivors s r
+IsRecordOf k survivors n (Some r) =
+    (s : Survivor) × IsAmong s survivors × (s.number ≡ n) × IsRecord k survivors s r

@@ -1,5 +1,6 @@
 -- The work of a turn, as a meter counts it.
-use Rattle.std.specs.Prelude.{◌≡◌, ℕ, ◌+◌, ◌*◌, ◌≤◌, Option, Some, None, List, [], ◌∷◌, Result, Ok, Err, length}
+use Rattle.std.specs.Prelude.{◌≡◌, ℕ, ◌+◌, ◌*◌, ◌≤◌, Option, Some, None, List, [], ◌∷◌, Result, Ok, Err}
+use Rattle.std.specs.Prelude.{length}
 use Rattle.hd_rules.specs.declared.replies.Refusal.{Refusal}
 use Rattle.hd_rules.specs.declared.replies.TurnReply.{TurnReply}
 use Rattle.hd_rules.specs.declared.turns.Asked.{Asked}
@@ -33,8 +34,8 @@ abbrev pub command_work : Result Done Refusal → Counts → Counts
 command_work (Ok done) old = written (length done.changes) (add old Step)
 command_work (Err refusal) old = add old Step
 
--- no command is carried out; so many cells are written, at most so many records are looked at, and at most four
--- answers are compared for each of so many questions
+-- no command is carried out; so many cells are written, at most so many records are looked at, and at most
+-- four answers are compared for each of so many questions
 pub record IsDecision (cells records questions : ℕ) (old new : Counts) : Type 0 where
   pub steps : new.steps ≡ old.steps
   pub written : new.written ≡ (written cells old).written
@@ -56,8 +57,8 @@ questions_from k d (s ∷ ss) =
 abbrev pub later_questions : Facts → Split → ℕ
 later_questions k at = questions_from k (step k (run k at.older) at.survivor) at.newer
 
--- A cancellation with a target: each later record is looked at to find it, and once more to compare; where none
--- depends on it, its cells are written, and each later record is looked at to be mended.
+-- A cancellation with a target: each later record is looked at to find it, and once more to compare; where
+-- none depends on it, its cells are written, and each later record is looked at to be mended.
 abbrev pub IsDecidedSo : Facts → Split → Option ℕ → Counts → Counts → Type 0
 IsDecidedSo k at (Some n) old new = IsDecision 0 (2 * length at.newer + 1) (later_questions k at) old new
 IsDecidedSo k at None old new =

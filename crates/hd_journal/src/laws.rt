@@ -8,8 +8,9 @@ use hd_clash::{
 };
 use hd_records::walks_are_short;
 use hd_rules::{
-    at_most_four_changes, known_messages_get_known_replies, numbers_split_a_run, taking_back_leads_through_fit_desks,
-    the_first_dependent_is_the_least, the_target_is_the_newest, undoing_is_the_run_without,
+    at_most_four_changes, known_messages_get_known_replies, numbers_split_a_run,
+    taking_back_leads_through_fit_desks, the_first_dependent_is_the_least,
+    the_target_is_the_newest, undoing_is_the_run_without,
 };
 
 /// The laws that a cancellation rests on. It does nothing.

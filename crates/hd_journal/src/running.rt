@@ -81,7 +81,8 @@ impl<A: Allocator + Copy> Running<A> {
 
     /// The record of the survivor of a number, or `None` where there is none.
     pub(crate) fn record(&self, number: u64) -> Option<RecordRef<'_>>
-        ensures { IsRecordOf (facts_of self.now.contents) self.now.survivors number (option_map shown result) }
+        ensures { IsRecordOf (facts_of self.now.contents) self.now.survivors number
+            (option_map shown result) }
     {
         laws();
         self.records.get(number)

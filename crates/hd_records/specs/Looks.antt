@@ -1,5 +1,6 @@
 -- The work of walks over records, as a meter counts it.
-use Rattle.std.specs.Prelude.{◌≡◌, ℕ, zero, suc, ◌+◌, ◌*◌, ◌≤◌, if◌then◌else◌, Option, Some, None, List, [], ◌∷◌, length, drop}
+use Rattle.std.specs.Prelude.{◌≡◌, ℕ, zero, suc, ◌+◌, ◌*◌, ◌≤◌, if◌then◌else◌, Option, Some, None, List, []}
+use Rattle.std.specs.Prelude.{◌∷◌, length, drop}
 use Rattle.hd_rules.specs.declared.cells.Change.{Change}
 use Rattle.hd_rules.specs.Facts.{Facts}
 use Rattle.hd_rules.specs.Record.{Record}
@@ -41,5 +42,6 @@ pub record IsWalk (most questions : ℕ) (old new : Counts) : Type 0 where
 -- so it is with looks alone, and with a walk for changes, of which there are at most four
 pub record WalksAreShort : Type 0 where
   pub looks : (n : ℕ) (counts : Counts) → IsWalk n 0 counts (looked n counts)
-  pub walk : (k : Facts) (changes : List Change) (records : List Record) (counts : Counts) → length changes ≤ 4
+  pub walk : (k : Facts) (changes : List Change) (records : List Record) (counts : Counts)
+      → length changes ≤ 4
       → IsWalk (length records) (questions_of records) counts (walked k changes records counts)

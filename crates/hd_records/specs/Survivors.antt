@@ -1,5 +1,6 @@
 -- The survivors that records are of, and a place among the records.
-use Rattle.std.specs.Prelude.{◌≡◌, ℕ, zero, suc, ◌+◌, ◌==◌, Option, Some, List, [], ◌∷◌, map, find, take, drop, slice_index_or}
+use Rattle.std.specs.Prelude.{◌≡◌, ℕ, zero, suc, ◌+◌, ◌==◌, Option, Some, List, [], ◌∷◌, map, find, take}
+use Rattle.std.specs.Prelude.{drop, slice_index_or}
 use Rattle.hd_rules.specs.declared.cells.Change.{Change}
 use Rattle.hd_rules.specs.declared.commands.Cancel.{Cancel}
 use Rattle.hd_rules.specs.declared.commands.Survivor.{Survivor}

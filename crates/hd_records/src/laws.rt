@@ -4,8 +4,8 @@ ghost use Rattle.hd_records.specs.Looks.{WalksAreShort};
 
 use hd_clash::comparisons_are_few;
 
-/// A walk over records looks at each of them once at most, and compares at most four answers for each of their
-/// questions.
+/// A walk over records looks at each of them once at most, and compares at most four answers for each of
+/// their questions.
 pub fn walks_are_short()
     ensures { WalksAreShort }
 {

@@ -11,8 +11,8 @@ returns-in_err-stored c =
     let rs = c.args.records.now in
     let parted = IsPartitionedBy-ltb (λ r. r.number) rs c.args.number (numbers_rise 1 rs c.requires) in
     let point : IsPointOf c.args.number rs c.partition_point-at.result =
-    IsPartitionPoint-from_clause (λ r. nat_lt r.number c.args.number) rs c.partition_point-at.result c.partition_point-at.ensures.partitioned
-    parted (λ a r q k. search rules) in
+    IsPartitionPoint-from_clause (λ r. nat_lt r.number c.args.number) rs c.partition_point-at.result
+    c.partition_point-at.ensures.partitioned parted (λ a r q k. search rules) in
     let look = c.in_err-stored.ensures.lookup in
     ap (option_map shown) c.from_residual.ensures
     ∙ sym (past_all c.args.number rs c.partition_point-at.result c.partition_point-at.ensures.bound (omega arith) point)
@@ -22,8 +22,8 @@ returns-then-survivor-number c =
     let rs = c.args.records.now in
     let parted = IsPartitionedBy-ltb (λ r. r.number) rs c.args.number (numbers_rise 1 rs c.requires) in
     let point : IsPointOf c.args.number rs c.partition_point-at.result =
-    IsPartitionPoint-from_clause (λ r. nat_lt r.number c.args.number) rs c.partition_point-at.result c.partition_point-at.ensures.partitioned
-    parted (λ a r q k. search rules) in
+    IsPartitionPoint-from_clause (λ r. nat_lt r.number c.args.number) rs c.partition_point-at.result
+    c.partition_point-at.ensures.partitioned parted (λ a r q k. search rules) in
     let look = c.in_ok-stored.ensures.lookup in
     ap (λ (x : Record). Some x) c.show.ensures.shown
     ∙ sym (found_there c.args.number rs c.partition_point-at.result c.in_ok-stored.stored.now (omega arith) look.1 point
@@ -34,8 +34,8 @@ returns-else-survivor-number c =
     let rs = c.args.records.now in
     let parted = IsPartitionedBy-ltb (λ r. r.number) rs c.args.number (numbers_rise 1 rs c.requires) in
     let point : IsPointOf c.args.number rs c.partition_point-at.result =
-    IsPartitionPoint-from_clause (λ r. nat_lt r.number c.args.number) rs c.partition_point-at.result c.partition_point-at.ensures.partitioned
-    parted (λ a r q k. search rules) in
+    IsPartitionPoint-from_clause (λ r. nat_lt r.number c.args.number) rs c.partition_point-at.result
+    c.partition_point-at.ensures.partitioned parted (λ a r q k. search rules) in
     let look = c.in_ok-stored.ensures.lookup in
     sym (not_there c.args.number rs c.partition_point-at.result c.in_ok-stored.stored.now (omega arith) look.1 point c.requires
     (λ (same : c.in_ok-stored.stored.now.number ≡ c.args.number). c.if-survivor-number.false

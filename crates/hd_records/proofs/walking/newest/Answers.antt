@@ -46,7 +46,8 @@ loop-place-preserved c =
     let next : c.loop-place.place ≡ i + 1 = omega arith in
     record {
       none =
-          subst (λ (ss : _). NoTarget c.args.terminal c.args.what.now (survivors_of ss)) (sym (drop_at rs i r (omega arith) c.index-records-place.is)) (
+          subst (λ (ss : _). NoTarget c.args.terminal c.args.what.now (survivors_of ss))
+          (sym (drop_at rs i r (omega arith) c.index-records-place.is)) (
             ap (is_target c.args.terminal c.args.what.now) (sym c.survivor.ensures) ∙ sym c.is_target.ensures ∙ c.if-is_target.false,
             subst (λ (n : ℕ). NoTarget c.args.terminal c.args.what.now (survivors_of (drop n rs))) next c.loop-place.invariant.none,
           );
@@ -61,4 +62,5 @@ pub returns-clause-found : goal.returns-clause-found
 returns-clause-found c =
     let none : c.loop-place.place ≡ 0 = omega arith in
     (c.the_target_is_the_newest.ensures c.args.terminal c.args.what.now (survivors_of c.args.records.now)).1.1
-    (subst (λ (n : ℕ). NoTarget c.args.terminal c.args.what.now (survivors_of (drop n c.args.records.now))) none c.loop-place.invariant.none)
+    (subst (λ (n : ℕ). NoTarget c.args.terminal c.args.what.now (survivors_of (drop n c.args.records.now))) none
+    c.loop-place.invariant.none)

@@ -64,7 +64,8 @@ returns-in-Some-first_clash-clause-work g c =
       found = c.in-Some.ensures.work;
       compared =
           c.in-Some-first_clash.ensures.work
-          ∙ ap (λ (x : Contents). walked (facts_of x) (changes_at c.in-Some.place rs) (newer_at rs c.in-Some.place) c.newest.new.meter) same;
+          ∙ ap (λ (x : Contents). walked (facts_of x) (changes_at c.in-Some.place rs) (newer_at rs c.in-Some.place) c.newest.new.meter)
+          same;
     } in
     subst
     (λ (x : Running). IsCancellation (facts_of x.contents) x.survivors (target c.args.terminal c.args.what.now x.survivors)
@@ -131,7 +132,8 @@ returns-in_err-undo-clause-rise g c =
       found = c.in-Some.ensures.work;
       compared =
           c.in_default-first_clash.ensures.work
-          ∙ ap (λ (x : Contents). walked (facts_of x) (changes_at c.in-Some.place rs) (newer_at rs c.in-Some.place) c.newest.new.meter) same;
+          ∙ ap (λ (x : Contents). walked (facts_of x) (changes_at c.in-Some.place rs) (newer_at rs c.in-Some.place) c.newest.new.meter)
+          same;
     } in
     on_err _ _ (subst (λ (x : Counts). OnlyRise c.args.meter.now x) (sym c.in_err-undo.ensures.uncounted)
     (rise_compared (facts_of contents) rs c.in-Some.place c.args.meter.now c.newest.new.meter c.first_clash.new.meter work))
@@ -158,14 +160,13 @@ invariant_of-self-2 g c =
     c.in_ok-undo.ensures.ok
     ∙ (λ j. undone
     ((c.at-target.ensures.changes ∙ changes_there rs i a.aim a.parts.at.within a.parts.at.there) j) (c.self.invariant.0.desk j))
-    ∙ undone_is c.laws.ensures k rs i a.aim goes in
-    (
+    ∙ undone_is c.laws.ensures k rs i a.aim goes in (
       running_without (running_at contents rs c.self.inside.last) (desk_of c.self.inside.desk) (desk_of c.undo.new.cells)
-      (survivors_of (older_at rs i)) (survivors_of (newer_at rs i)) (survivor_of a.aim) c.undo.new.cells.copies.contents
-      (survivors_of c.take_out.new.self.records) c.self.invariant.0 (survivors_split rs i a.aim a.parts.at)
-      c.in_ok-undo.ensures.contents (ap survivors_of left ∙ left_survivors k rs i) desk,
+          (survivors_of (older_at rs i)) (survivors_of (newer_at rs i)) (survivor_of a.aim) c.undo.new.cells.copies.contents
+          (survivors_of c.take_out.new.self.records) c.self.invariant.0 (survivors_split rs i a.aim a.parts.at)
+          c.in_ok-undo.ensures.contents (ap survivors_of left ∙ left_survivors k rs i) desk,
       subst (λ (x : Contents). AreStored (facts_of x) c.take_out.new.self.records) (sym c.in_ok-undo.ensures.contents)
-      (subst (AreStored k) (sym left) (left_stored c.laws.ensures k rs i a.aim a.parts a.rising a.known a.stored clash)),
+          (subst (AreStored k) (sym left) (left_stored c.laws.ensures k rs i a.aim a.parts a.rising a.known a.stored clash)),
     )
 
 pub returns-clause-cancelled : goal.returns-clause-cancelled

@@ -63,16 +63,15 @@ invariant_of-self-in-Ok g c =
       findings =
           c.in-Ok.ensures.findings
           ∙ ap (λ (x : Desk). findings k x (asks k x (plan k (c.self.inside.last + 1) c.args.command.now))) desk;
-    } in
-    (
+    } in (
       running_more r (desk_of c.self.inside.desk) (desk_of c.apply.new.self) c.apply.new.self.copies.contents
-      (survivors_of c.push.new.self.records) new (done_of c.in-Ok.done)
-      c.self.invariant.0 known refl c.in-Ok.ensures.contents (ap survivors_of more ∙ survivors_joined rs (kept ∷ []))
-      c.in-Ok.ensures.outcome c.in-Ok.ensures.after,
+          (survivors_of c.push.new.self.records) new (done_of c.in-Ok.done)
+          c.self.invariant.0 known refl c.in-Ok.ensures.contents (ap survivors_of more ∙ survivors_joined rs (kept ∷ []))
+          c.in-Ok.ensures.outcome c.in-Ok.ensures.after,
       subst (λ (x : Contents). AreStored (facts_of x) c.push.new.self.records) (sym c.in-Ok.ensures.contents)
-      (stored_more c.laws.ensures k rs c.push.new.self.records kept c.self.invariant.1 one
-      (subst (λ (x : Contents). AreKnown (facts_of x) c.in-Ok.done.changes) c.in-Ok.ensures.contents c.in-Ok.ensures.back.known)
-      c.in-Ok.ensures.back.apart more),
+          (stored_more c.laws.ensures k rs c.push.new.self.records kept c.self.invariant.1 one
+          (subst (λ (x : Contents). AreKnown (facts_of x) c.in-Ok.done.changes) c.in-Ok.ensures.contents c.in-Ok.ensures.back.known)
+          c.in-Ok.ensures.back.apart more),
     )
 
 pub returns-in-Ok-clause-submitted : goal.returns-in-Ok-clause-submitted
