@@ -38,8 +38,8 @@ impl Terminals {
 }
 
 impl<A: Allocator + Copy> Terminals<A> {
-    /// The terminals before any line, over memory of this allocator, in the library of a catalogue's text. None
-    /// where there is no such library or present.
+    /// The terminals before any line, over memory of this allocator, in the library of a catalogue's text and
+    /// at this present. None where there is no such library or present.
     pub(crate) fn open_in(
         rt: &HostRuntime,
         alloc: A,
