@@ -9,8 +9,6 @@ mod record;
 mod records;
 mod survivors;
 mod targets;
-#[cfg(test)]
-mod tests;
 mod walking;
 
 pub use crate::laws::walks_are_short;
