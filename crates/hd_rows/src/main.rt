@@ -1,7 +1,5 @@
 //! Plays rows of messages and replies through `replay` and through sessions whose lines are cut into pieces,
-//! and lines with damage through sessions; says of each whether it was answered as it is to be. Of
-//! cancellations it says whether the journal then keeps the records of a run without their targets, how much
-//! work they are, and how often they ask for memory.
+//! and lines with damage through sessions; says of each whether it was answered as it is to be.
 //!
 //! A row is a script in `data/`: `catalogue FILE` and `now DATE` say what `replay` is given. `> LINE` is a
 //! line of its input; the lines that answer it stand under it: `< LINE` whole, `<~ SESSION PART` some reply
@@ -11,7 +9,6 @@
 #![tactic(auto)]
 
 mod answers;
-mod cancelling;
 mod count;
 mod cuts;
 mod damage;
@@ -19,10 +16,7 @@ mod damaging;
 mod exchanges;
 mod gaps;
 mod hearing;
-mod memory;
-mod metering;
 mod names;
-mod renumbering;
 mod replaying;
 mod row;
 mod script;
@@ -30,10 +24,7 @@ mod tally;
 mod terminals;
 mod ways;
 
-use crate::cancelling::cancel_rows;
 use crate::damaging::damage_rows;
-use crate::memory::cancel_with_little_memory;
-use crate::metering::meter_rows;
 use crate::names::ROWS;
 use crate::replaying::is_replayed;
 use crate::row::Row;
@@ -47,10 +38,7 @@ fn main(rt: HostRuntime) -> io::Result<()> {
     }
     replay_rows(&rt, rows.as_slice())?;
     hear_rows(&rt, rows.as_slice())?;
-    damage_rows(&rt, rows.as_slice())?;
-    cancel_rows(&rt, rows.as_slice())?;
-    meter_rows(&rt, rows.as_slice())?;
-    cancel_with_little_memory(&rt)
+    damage_rows(&rt, rows.as_slice())
 }
 
 /// Plays each row through `replay`.

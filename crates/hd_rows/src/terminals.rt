@@ -11,7 +11,7 @@ use hd_date::Stamp18;
 use hd_desk::{Desk, Meter};
 use hd_journal::Journal;
 use hd_session::{Session, script};
-use std::alloc::{AllocError, Allocator, Global};
+use std::alloc::{AllocError, Global};
 use std::sync::Arc;
 
 /// How many terminals there are.
@@ -19,12 +19,12 @@ pub(crate) const TERMINALS: usize = 9;
 
 /// Terminals, each in a session, over one journal. Sessions are counted from 0.
 #[derive(Drop)]
-pub(crate) struct Terminals<A: Allocator = Global> {
-    journal: Journal<A>,
+pub(crate) struct Terminals {
+    journal: Journal,
     now: Stamp18,
-    sessions: Vec<Session<A>, A>,
+    sessions: Vec<Session>,
     /// What each session was answered to the last line.
-    outs: Vec<Vec<u8, A>, A>,
+    outs: Vec<Vec<u8>>,
     ghost as_many: { vec_len outs ≡ vec_len sessions },
     ghost known: { AreKnownTo journal.contents sessions.items },
 }
@@ -33,27 +33,15 @@ impl Terminals {
     /// The terminals before any line, in the library and at the present of a row. None where that has no such
     /// library or present.
     pub(crate) fn open(rt: &HostRuntime, row: &Row) -> Result<Option<Terminals>, AllocError> {
-        Terminals::open_in(rt, rt.alloc(), row.catalogue(), row.now())
-    }
-}
-
-impl<A: Allocator + Copy> Terminals<A> {
-    /// The terminals before any line, over memory of this allocator, in the library of a catalogue's text and
-    /// at this present. None where there is no such library or present.
-    pub(crate) fn open_in(
-        rt: &HostRuntime,
-        alloc: A,
-        catalogue: &[u8],
-        now: &[u8],
-    ) -> Result<Option<Terminals<A>>, AllocError> {
-        let Ok(catalogue) = Catalogue::read(alloc, catalogue) else {
+        let alloc = rt.alloc();
+        let Ok(catalogue) = Catalogue::read(alloc, row.catalogue()) else {
             return Ok(None);
         };
         let catalogue = Arc::new(alloc, catalogue)?;
-        let Ok(now) = hd_date::read(now, catalogue.offset()) else {
+        let Ok(now) = hd_date::read(row.now(), catalogue.offset()) else {
             return Ok(None);
         };
-        let desk = Desk::open(alloc, rt.alloc(), catalogue)?;
+        let desk = Desk::open(alloc, alloc, catalogue)?;
         let journal = Journal::new(alloc, desk, Meter::new(rt));
         Ok(Some(Terminals {
             journal,
@@ -93,21 +81,6 @@ impl<A: Allocator + Copy> Terminals<A> {
         }
     }
 
-    /// The journal.
-    pub(crate) fn journal(&self) -> &Journal<A> {
-        &self.journal
-    }
-
-    /// How many commands survive.
-    pub(crate) fn survivors(&self) -> usize {
-        self.journal.survivors().count()
-    }
-
-    /// The last number that was given to a command.
-    pub(crate) fn last(&self) -> u64 {
-        self.journal.last()
-    }
-
     /// Whether a session has ended.
     pub(crate) fn has_ended(&self, session: usize) -> bool {
         self.sessions
@@ -125,7 +98,7 @@ impl<A: Allocator + Copy> Terminals<A> {
 }
 
 /// The sessions before any line.
-fn new_sessions<A: Allocator + Copy>(alloc: A) -> Result<Vec<Session<A>, A>, AllocError>
+fn new_sessions(alloc: Global) -> Result<Vec<Session>, AllocError>
     ensures size { IfOk result (λ sessions. vec_len sessions ≡ 9) }
     ensures known { (k : Contents) → IfOk result (λ sessions. AreKnownTo k sessions.items) }
 {
@@ -137,10 +110,7 @@ fn new_sessions<A: Allocator + Copy>(alloc: A) -> Result<Vec<Session<A>, A>, All
 }
 
 /// Adds a new session.
-fn put_new<A: Allocator + Copy>(
-    alloc: A,
-    sessions: &mut Vec<Session<A>, A>,
-) -> Result<(), AllocError>
+fn put_new(alloc: Global, sessions: &mut Vec<Session>) -> Result<(), AllocError>
     ensures one { OnOk result (vec_len sessions.new ≡ vec_len sessions.old + 1) }
     ensures new { OnOk result (sessions.new.items ≡ sessions.old.items ++ new_session ∷ []) }
 {
@@ -150,7 +120,7 @@ fn put_new<A: Allocator + Copy>(
 }
 
 /// For each session no answer.
-fn empty_outs<A: Allocator + Copy>(alloc: A) -> Result<Vec<Vec<u8, A>, A>, AllocError>
+fn empty_outs(alloc: Global) -> Result<Vec<Vec<u8>>, AllocError>
     ensures { IfOk result (λ outs. vec_len outs ≡ 9) }
 {
     let mut outs = Vec::new(alloc);

@@ -1,5 +1,5 @@
 use Rattle.std.proofs.Common.{◌∙◌, sym}
-use Rattle.hd_rows.proofs.terminals.Terminals.open_in.Goals as goal
+use Rattle.hd_rows.proofs.terminals.Terminals.open.Goals as goal
 
 pub invariant_of-result : goal.invariant_of-result
 invariant_of-result c = record {
