@@ -74,11 +74,6 @@ impl<A: Allocator + Copy> Desk<A> {
         self.copies.catalogue()
     }
 
-    /// What stands in lists of at most four changes or questions. It is never asked for memory.
-    pub fn inline(&self) -> Global {
-        self.inline
-    }
-
     /// Where the copy is. The desk is fit: each hold stands under its own patron, no two holds of a title
     /// have one stamp, and no two copies have one place.
     pub fn copy(&self, copy: CopyNo) -> CopyState
