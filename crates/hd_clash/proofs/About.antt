@@ -113,7 +113,7 @@ each_shifted_about k cs [] about = tt
 each_shifted_about k cs (r ∷ rs) about = (shifted_record_about k cs r about.0, each_shifted_about k cs rs about.1)
 
 -- a test that one of a list passes
-any_passes : (test : Key → Bool) (x : Key) (ys : List Key) → IsAmong x ys → test x ≡ true → list_any test ys ≡ true
+pub any_passes : (test : Key → Bool) (x : Key) (ys : List Key) → IsAmong x ys → test x ≡ true → list_any test ys ≡ true
 any_passes test x [] among is = absurd among
 any_passes test x (y ∷ ys) (inl e) is = ap (λ (z : Key). test z || list_any test ys) (sym e) ∙ ap (λ (b : Bool). b || list_any test ys) is
 any_passes test x (y ∷ ys) (inr among) is =

@@ -56,7 +56,8 @@ ShiftedRecordsAreAbout =
 
 abbrev pub EachShiftedIsAbout : Type 0
 EachShiftedIsAbout =
-    (k : Facts) (cs : List Change) (rs : List Record) → EachIsAbout k rs → EachIsAbout k (shift_records k cs rs)
+    (k : Facts) (cs : List Change) (rs : List Record) → EachIsAbout k rs →
+    EachIsAbout k (shift_records k cs rs)
 
 -- the changes touch something that the record's command asks about
 abbrev pub touches : Facts → List Change → Record → Bool
