@@ -35,7 +35,10 @@ impl CommandKeys {
     }
 
     /// What the questions of the action can be about.
-    fn of_action<A: Allocator + Copy>(catalogue: &Catalogue<A>, action: &Action) -> CommandKeys
+    pub(crate) fn of_action<A: Allocator + Copy>(
+        catalogue: &Catalogue<A>,
+        action: &Action,
+    ) -> CommandKeys
         requires { IsKnownAction (facts_of catalogue.now) action.now }
         ensures { result ≡ keys_of_action (facts_of catalogue.now) action.now }
     {
