@@ -32,6 +32,7 @@ use Rattle.hd_exchange.specs.declared.login.Login.{Login as LoggedIn}
 use Rattle.hd_exchange.specs.declared.message.DeskMessage.{DeskMessage}
 use Rattle.hd_exchange.specs.declared.message.Message.{Message}
 use Rattle.hd_exchange.specs.declared.message.Message.TheVariants as OfMessage
+use Rattle.hd_exchange.specs.declared.message.SessionMessage.TheVariants as own
 use Rattle.hd_exchange.specs.declared.said.Said.{Said}
 use Rattle.hd_exchange.specs.declared.said.Said.TheVariants as said
 use Rattle.hd_exchange.proofs.OneReading.{Gist, Asks, Repeats, Reported, Taken, Unknown, gist, gist_read, one_reading, unread}
@@ -140,23 +141,32 @@ module _ (print_one : (stamp : Stamp) (text other : List ℕ) → Prints stamp t
       -- what a message that comes to this is answered
       abbrev IsAnswered : Arrival → Gist → Said → List ℕ → List Turn → Option LoggedIn → Type 0
       IsAnswered arrival (Taken taken) says text made next =
-          (says ≡ said.Reply) × (text ≡ login_text taken) × (made ≡ []) × (next ≡ login_after login taken)
-      IsAnswered arrival Reported says text made next = (says ≡ said.Reply) × SaysStatus k now text × (made ≡ []) × (next ≡ login)
-      IsAnswered arrival Repeats says text made next = (says ≡ said.LastReply) × (text ≡ []) × (made ≡ []) × (next ≡ login)
-      IsAnswered arrival Unknown says text made next = (says ≡ said.SendAgain) × (text ≡ []) × (made ≡ []) × (next ≡ login)
+          ((says ≡ said.Reply) × (text ≡ login_text taken) × (next ≡ login_after login taken)) × (made ≡ [])
+      IsAnswered arrival Reported says text made next =
+          ((says ≡ said.Reply) × SaysStatus k now text × (next ≡ login)) × (made ≡ [])
+      IsAnswered arrival Repeats says text made next =
+          ((says ≡ said.LastReply) × (text ≡ []) × (next ≡ login)) × (made ≡ [])
+      IsAnswered arrival Unknown says text made next =
+          ((says ≡ said.SendAgain) × (text ≡ []) × (next ≡ login)) × (made ≡ [])
       IsAnswered arrival (Asks stated) says text made next =
           (says ≡ said.Reply)
           × ((message : DeskMessage) × IsMessageOf k arrival stated message × IsDeskAnswer k message text made)
           × (next ≡ login)
 
       module _ (arrival : Arrival) (says : Said) (text : List ℕ) (made : List Turn) (next : Option LoggedIn) where
+        -- a login that is taken so
+        taken_so : (taken named : Option LoggedIn) → taken ≡ named
+            → IsAnswerTo k now login (OfMessage.Session (own.Login taken)) says text made next
+            → IsAnswered arrival (Taken named) says text made next
+        taken_so taken named is a =
+            ((a.0.0, a.0.1 ∙ ap (λ (t : Option LoggedIn). login_text t) is, a.0.2 ∙ ap (λ (t : Option LoggedIn). login_after login t) is), a.1)
+
         of_request : (request : Request) (message : Message) → IsRequestAs k arrival request message
             → IsAnswerTo k now login message says text made next → IsAnswered arrival (gist k request) says text made next
-        of_request (Login r) (OfMessage.Login taken) is a =
-            (a.0, a.1 ∙ ap (λ (t : Option LoggedIn). login_text t) is, a.2, a.3 ∙ ap (λ (t : Option LoggedIn). login_after login t) is)
-        of_request Status OfMessage.Status is a = a
-        of_request Resend OfMessage.Resend is a = a
-        of_request Unsupported OfMessage.Unsupported is a = a
+        of_request (Login r) (OfMessage.Session (own.Login taken)) is a = taken_so taken _ is a
+        of_request Status (OfMessage.Session own.Status) is a = a
+        of_request Resend (OfMessage.Session own.Resend) is a = a
+        of_request Unsupported (OfMessage.Session own.Unsupported) is a = a
         of_request (Checkout r) (OfMessage.Desk message) is a = (a.0, (message, is, a.1), a.2)
         of_request (Checkin r) (OfMessage.Desk message) is a = (a.0, (message, is, a.1), a.2)
         of_request (Hold r) (OfMessage.Desk message) is a = (a.0, (message, is, a.1), a.2)
@@ -166,8 +176,7 @@ module _ (print_one : (stamp : Stamp) (text other : List ℕ) → Prints stamp t
 
         of_unread : (unreadable : Unreadable) (message : Message) → IsUnreadableAs k arrival unreadable message
             → IsAnswerTo k now login message says text made next → IsAnswered arrival (unread k unreadable) says text made next
-        of_unread Unread.Login (OfMessage.Login taken) is a =
-            (a.0, a.1 ∙ ap (λ (t : Option LoggedIn). login_text t) is, a.2, a.3 ∙ ap (λ (t : Option LoggedIn). login_after login t) is)
+        of_unread Unread.Login (OfMessage.Session (own.Login taken)) is a = taken_so taken _ is a
         of_unread (Unread.Desk m) (OfMessage.Desk message) is a = (a.0, (message, is, a.1), a.2)
         of_unread _ _ none a = absurd none
 
@@ -221,13 +230,13 @@ module _ (print_one : (stamp : Stamp) (text other : List ℕ) → Prints stamp t
           (next next' : Option LoggedIn) → IsAnswered arrival g says text made next → IsAnswered arrival g says' text' made' next'
           → AreOne made made' says says' text text' next next'
       one_answered arrival (Taken taken) says says' text text' made made' next next' p q =
-          (ap (λ (t : List Turn). messages_of t) (p.2 ∙ sym q.2), λ same. (p.0 ∙ sym q.0, p.1 ∙ sym q.1, p.3 ∙ sym q.3))
+          (ap (λ (t : List Turn). messages_of t) (p.1 ∙ sym q.1), λ same. (p.0.0 ∙ sym q.0.0, p.0.1 ∙ sym q.0.1, p.0.2 ∙ sym q.0.2))
       one_answered arrival Reported says says' text text' made made' next next' p q =
-          (ap (λ (t : List Turn). messages_of t) (p.2 ∙ sym q.2), λ same. (p.0 ∙ sym q.0, one_status text text' p.1 q.1, p.3 ∙ sym q.3))
+          (ap (λ (t : List Turn). messages_of t) (p.1 ∙ sym q.1), λ same. (p.0.0 ∙ sym q.0.0, one_status text text' p.0.1 q.0.1, p.0.2 ∙ sym q.0.2))
       one_answered arrival Repeats says says' text text' made made' next next' p q =
-          (ap (λ (t : List Turn). messages_of t) (p.2 ∙ sym q.2), λ same. (p.0 ∙ sym q.0, p.1 ∙ sym q.1, p.3 ∙ sym q.3))
+          (ap (λ (t : List Turn). messages_of t) (p.1 ∙ sym q.1), λ same. (p.0.0 ∙ sym q.0.0, p.0.1 ∙ sym q.0.1, p.0.2 ∙ sym q.0.2))
       one_answered arrival Unknown says says' text text' made made' next next' p q =
-          (ap (λ (t : List Turn). messages_of t) (p.2 ∙ sym q.2), λ same. (p.0 ∙ sym q.0, p.1 ∙ sym q.1, p.3 ∙ sym q.3))
+          (ap (λ (t : List Turn). messages_of t) (p.1 ∙ sym q.1), λ same. (p.0.0 ∙ sym q.0.0, p.0.1 ∙ sym q.0.1, p.0.2 ∙ sym q.0.2))
       one_answered arrival (Asks stated) says says' text text' made made' next next' p q =
           let one = one_desk arrival stated p.1.0 q.1.0 text text' made made' p.1.1 q.1.1 p.1.2 q.1.2 in
           (one.0, λ same. (p.0 ∙ sym q.0, one.1 same, p.2 ∙ sym q.2))

@@ -19,7 +19,9 @@ use Rattle.hd_exchange.specs.Replies.{IsReply}
 use Rattle.hd_exchange.specs.declared.login.Login.{Login as LoggedIn}
 use Rattle.hd_exchange.specs.declared.message.DeskMessage.{DeskMessage}
 use Rattle.hd_exchange.specs.declared.message.Message.{Message}
-use Rattle.hd_exchange.specs.declared.message.Message.TheVariants.{Login, Status, Resend, Unsupported, Desk}
+use Rattle.hd_exchange.specs.declared.message.Message.TheVariants.{Session, Desk}
+use Rattle.hd_exchange.specs.declared.message.SessionMessage.{SessionMessage}
+use Rattle.hd_exchange.specs.declared.message.SessionMessage.TheVariants.{Login, Status, Resend, Unsupported}
 use Rattle.hd_exchange.specs.declared.said.Said.{Said}
 use Rattle.hd_exchange.specs.declared.said.Said.TheVariants as said
 
@@ -61,18 +63,18 @@ pub record SaysStatus (k : Contents) (now : Stamp) (text : List ℕ) : Type 0 wh
   pub spelled : text ≡ reply_text (reply.Status status)
 
 module _ (k : Contents) (now : Stamp) (login : Option LoggedIn) where
-  -- what is said to a message, by this text where it is a reply; the turns that this makes; and as whom the
-  -- session is then logged in: a login, a status message, and a request of the last reply make no turn, nor
-  -- does a message that isn't supported, which is to be sent again
+  -- what is said to a message that asks nothing of the desk, by this text where it is a reply, and as whom
+  -- the session is then logged in; one that isn't supported is to be sent again
+  abbrev pub IsOwnAnswer : SessionMessage → Said → List ℕ → Option LoggedIn → Type 0
+  IsOwnAnswer (Login taken) says text next =
+      (says ≡ said.Reply) × (text ≡ login_text taken) × (next ≡ login_after login taken)
+  IsOwnAnswer Status says text next = (says ≡ said.Reply) × SaysStatus k now text × (next ≡ login)
+  IsOwnAnswer Resend says text next = (says ≡ said.LastReply) × (text ≡ []) × (next ≡ login)
+  IsOwnAnswer Unsupported says text next = (says ≡ said.SendAgain) × (text ≡ []) × (next ≡ login)
+
+  -- what is said to a message, and the turns that this makes: none where it asks nothing of the desk
   abbrev pub IsAnswerTo : Message → Said → List ℕ → List Turn → Option LoggedIn → Type 0
-  IsAnswerTo (Login taken) says text made next =
-      (says ≡ said.Reply) × (text ≡ login_text taken) × (made ≡ []) × (next ≡ login_after login taken)
-  IsAnswerTo Status says text made next =
-      (says ≡ said.Reply) × SaysStatus k now text × (made ≡ []) × (next ≡ login)
-  IsAnswerTo Resend says text made next =
-      (says ≡ said.LastReply) × (text ≡ []) × (made ≡ []) × (next ≡ login)
-  IsAnswerTo Unsupported says text made next =
-      (says ≡ said.SendAgain) × (text ≡ []) × (made ≡ []) × (next ≡ login)
+  IsAnswerTo (Session message) says text made next = IsOwnAnswer message says text next × (made ≡ [])
   IsAnswerTo (Desk message) says text made next =
       (says ≡ said.Reply) × IsDeskAnswer k message text made × (next ≡ login)
 

@@ -35,7 +35,10 @@ use Rattle.hd_exchange.specs.declared.login.Login.{Login as LoggedIn}
 use Rattle.hd_exchange.specs.declared.message.DeskMessage.{DeskMessage}
 use Rattle.hd_exchange.specs.declared.message.Message.{Message}
 use Rattle.hd_exchange.specs.declared.message.Message.TheVariants as OfMessage
+use Rattle.hd_exchange.specs.declared.message.SessionMessage.{SessionMessage}
+use Rattle.hd_exchange.specs.declared.message.SessionMessage.TheVariants as own
 use Rattle.hd_exchange.specs.declared.repeated.Repeated.{Repeated}
+use Rattle.hd_exchange.specs.declared.values.Values.{Values}
 
 -- What a message states that asks something of the desk: its kind, its transaction date, the other date that
 -- it may state, the values that its reply repeats, and what it asks at a terminal of a branch, by its dates.
@@ -116,6 +119,19 @@ unreadable_states m = record {
   asks = λ own dates. Err refusal.Unreadable;
 }
 
+-- The values that are read and repeated are those of a message that states this.
+pub record AreValuesOf (stated : Stated) (values : Values) : Type 0 where
+  pub kind : values.kind ≡ stated.kind
+  pub date : option_copied values.date ≡ stated.date
+  pub other : option_copied values.other ≡ stated.other
+  pub patron : option_copied values.patron ≡ stated.patron
+  pub copy : option_copied values.copy ≡ stated.copy
+  pub title : option_copied values.title ≡ stated.title
+
+-- how many bytes of a message its reply repeats, without the date
+abbrev pub bytes_stated : Stated → ℕ
+bytes_stated s = bytes_of s.patron + bytes_of s.copy + bytes_of s.title
+
 -- what a session asks by a message: one that isn't logged in is refused before everything
 abbrev pub asked_by : Option LoggedIn → Stated → Dates → Result Asked Refusal
 asked_by login stated dates = need login refusal.NotLoggedIn (λ at. stated.asks at.branch dates)
@@ -139,7 +155,7 @@ pub record IsMessageOf (k : Contents) (arrival : Arrival) (stated : Stated) (mes
   pub title : option_copied message.repeated.title ≡ stated.title
   pub asked : IsAskedAs arrival (asked_by arrival.login stated dates) message.asks
 
--- how many bytes of a message its reply repeats, without the date
+-- the same of what is repeated
 abbrev pub bytes_repeated : Repeated → ℕ
 bytes_repeated r =
     bytes_of (option_copied r.patron) + bytes_of (option_copied r.copy) + bytes_of (option_copied r.title)
@@ -160,10 +176,10 @@ login_made k r = option_map (login_of k) (login_terminal k r)
 
 -- the message that a request is
 abbrev pub IsRequestAs : Contents → Arrival → Request → Message → Type 0
-IsRequestAs k arrival (Login r) (OfMessage.Login made) = made ≡ login_made k r
-IsRequestAs k arrival Status OfMessage.Status = ⊤
-IsRequestAs k arrival Resend OfMessage.Resend = ⊤
-IsRequestAs k arrival Unsupported OfMessage.Unsupported = ⊤
+IsRequestAs k arrival (Login r) (OfMessage.Session (own.Login made)) = made ≡ login_made k r
+IsRequestAs k arrival Status (OfMessage.Session own.Status) = ⊤
+IsRequestAs k arrival Resend (OfMessage.Session own.Resend) = ⊤
+IsRequestAs k arrival Unsupported (OfMessage.Session own.Unsupported) = ⊤
 IsRequestAs k arrival (Checkout r) (OfMessage.Desk message) =
     IsMessageOf k arrival (checkout_states k r) message
 IsRequestAs k arrival (Checkin r) (OfMessage.Desk message) =
@@ -178,7 +194,7 @@ IsRequestAs _ _ _ _ = ⊥
 
 -- the message that can't be read: a login isn't taken
 abbrev pub IsUnreadableAs : Contents → Arrival → Unreadable → Message → Type 0
-IsUnreadableAs k arrival unreadable.Login (OfMessage.Login made) = made ≡ None
+IsUnreadableAs k arrival unreadable.Login (OfMessage.Session (own.Login made)) = made ≡ None
 IsUnreadableAs k arrival (unreadable.Desk m) (OfMessage.Desk message) =
     IsMessageOf k arrival (unreadable_states m) message
 IsUnreadableAs _ _ _ _ = ⊥
@@ -205,8 +221,12 @@ pub record IsAskable (k : Facts) (seat : ℕ) (message : DeskMessage) : Type 0 w
   pub ask : IfOk message.asks (IsAskAt k seat message.kind)
   pub short : bytes_repeated message.repeated ≤ 1024
 
+-- a login that is made is at a terminal of the catalogue
+abbrev pub IsKnownOwn : Facts → SessionMessage → Type 0
+IsKnownOwn k (own.Login made) = ForSome made (IsKnownLogin k)
+IsKnownOwn k _ = ⊤
+
 -- what a message names is the catalogue's
 abbrev pub IsKnownMessage : Facts → ℕ → Message → Type 0
-IsKnownMessage k seat (OfMessage.Login made) = ForSome made (IsKnownLogin k)
+IsKnownMessage k seat (OfMessage.Session message) = IsKnownOwn k message
 IsKnownMessage k seat (OfMessage.Desk message) = IsAskable k seat message
-IsKnownMessage k seat _ = ⊤

@@ -1,4 +1,8 @@
 //! Why an office makes no turn.
+ghost use Rattle.std.specs.Prelude.{◌≡◌};
+ghost use Rattle.hd_exchange.specs.declared.fault.OfficeFault.TheVariants.{Memory};
+
+use hd_journal::Fault;
 
 /// Why an office makes no turn. Nothing is changed then.
 #[derive(Clone, Copy, PartialEq, Eq, Debug)]
@@ -7,4 +11,15 @@ pub enum OfficeFault {
     Memory,
     /// The office's turns aren't those that the session saw: it has come to another journal.
     Estranged,
+}
+
+/// A journal alone wants nothing but memory.
+impl From<Fault> for OfficeFault {
+    ghost from_gives = { λ _ fault. fault ≡ Memory };
+
+    fn from(fault: Fault) -> OfficeFault {
+        match fault {
+            Fault::Memory => OfficeFault::Memory,
+        }
+    }
 }

@@ -1,28 +1,22 @@
 //! Hold messages (15).
-ghost use Rattle.std.specs.Prelude.{◌≡◌, ◌<◌, ◌+◌, IfOk, IfSome, length};
-ghost use Rattle.std.specs.Option.{ForSome, option_copied};
-ghost use Rattle.hd_message.specs.Lengths.{bytes_of};
+ghost use Rattle.std.specs.Prelude.{◌≡◌, ◌<◌, IfOk, IfSome};
+ghost use Rattle.std.specs.Option.{option_copied};
 ghost use Rattle.hd_message.specs.declared.kind.DeskKind.TheVariants as kind;
 ghost use Rattle.hd_rules.specs.Facts.{Facts};
 ghost use Rattle.hd_rules.specs.Known.{IsKnown, IsKnownAction, IsKnownCancel, IsKnownKind};
-ghost use Rattle.hd_catalogue.specs.Contents.{facts_of};
-ghost use Rattle.hd_exchange.specs.Arrivals.{IsKnownLogin};
+ghost use Rattle.hd_catalogue.specs.Contents.{Contents, facts_of};
 ghost use Rattle.hd_exchange.specs.Asks.{kind_of, kind_of_action, kind_of_cancel};
 ghost use Rattle.hd_exchange.specs.HoldAsks.{added_kind, changed_kind, expiry_text, hold_action};
-ghost use Rattle.hd_exchange.specs.HoldAsks.{hold_addition};
-ghost use Rattle.hd_exchange.specs.HoldAsks.{hold_asks, hold_cancel, hold_change, hold_named, pickup_name};
-ghost use Rattle.hd_exchange.specs.HoldAsks.{wanted_copies};
-ghost use Rattle.hd_exchange.specs.Messages.{IsAskAt, IsAskedAs, IsMessageOf, asked_by, bytes_repeated};
-ghost use Rattle.hd_exchange.specs.Messages.{hold_states};
+ghost use Rattle.hd_exchange.specs.HoldAsks.{hold_addition, hold_cancel, hold_change, hold_named};
+ghost use Rattle.hd_exchange.specs.HoldAsks.{pickup_name, wanted_copies};
+ghost use Rattle.hd_exchange.specs.Messages.{AreValuesOf, hold_states};
 ghost use Rattle.hd_exchange.specs.Names.{IsKnownNamed};
 
-use crate::dates::{Dates, dates_of};
-use crate::incoming::Incoming;
-use crate::message::DeskMessage;
+use crate::dates::Dates;
 use crate::names::{branch_if_given, copy_if_given, title_of};
-use crate::repeated::Repeated;
+use crate::requests::DeskRequest;
+use crate::values::Values;
 use hd_catalogue::Catalogue;
-use hd_journal::Ask;
 use hd_message::{DeskKind, HoldRequest, Mode, Wanted, Wishes};
 use hd_rules::{
     Action, Asked, BranchNo, Cancel, Command, CopyNo, Day, HoldKind, PatronNo, Refusal, TitleNo,
@@ -45,82 +39,41 @@ pub(crate) struct Wish {
     expiry: Option<Day>,
 }
 
-/// The message that a hold message is.
-pub(crate) fn hold<'a, A: Allocator + Copy>(
-    catalogue: &Catalogue<A>,
-    incoming: &Incoming<'a>,
-    request: &HoldRequest<'a>,
-) -> DeskMessage<'a>
-    requires login { ForSome incoming.now.login (IsKnownLogin (facts_of catalogue.now)) }
-    ensures message { IsMessageOf catalogue.now incoming.now (hold_states catalogue.now request.now) result }
-    ensures ask { IfOk result.asks (IsAskAt (facts_of catalogue.now) incoming.now.seat kind.Hold) }
-    ensures repeated { bytes_repeated result.repeated
-        ≡ length request.now.patron.now
-        + bytes_of (option_copied request.now.copy)
-        + bytes_of (option_copied request.now.title) }
+/// The values of a hold message.
+pub(crate) fn hold_values<'a>(request: &HoldRequest<'a>) -> Values<'a>
+    ensures { (k : Contents) → AreValuesOf (hold_states k request.now) result }
 {
-    let dates = dates_of(
-        incoming.present(),
-        Some(request.date),
-        expiry_text(&request.wishes),
-        catalogue.offset(),
-    );
-    let date = dates.printed;
-    DeskMessage {
+    Values {
         kind: DeskKind::Hold,
-        repeated: Repeated {
-            date,
-            patron: Some(request.patron),
-            copy: request.copy,
-            title: request.title,
-        },
-        asks: hold_ask(catalogue, incoming, request, &dates),
+        date: Some(request.date),
+        other: expiry_text(&request.wishes),
+        patron: Some(request.patron),
+        copy: request.copy,
+        title: request.title,
     }
 }
 
-/// What a session asks by a hold message, or the first refusal.
-fn hold_ask<'a, A: Allocator + Copy>(
-    catalogue: &Catalogue<A>,
-    incoming: &Incoming<'a>,
-    request: &HoldRequest<'_>,
-    dates: &Dates,
-) -> Result<Ask<'a>, Refusal>
-    requires login { ForSome incoming.now.login (IsKnownLogin (facts_of catalogue.now)) }
-    ensures asked { IsAskedAs incoming.now
-        (asked_by incoming.now.login (hold_states catalogue.now request.now) dates.now) result }
-    ensures ask { IfOk result (IsAskAt (facts_of catalogue.now) incoming.now.seat kind.Hold) }
-{
-    let login = incoming.login().ok_or(Refusal::NotLoggedIn)?;
-    let asked = hold_asks(catalogue, login.branch, request, dates)?;
-    Ok(incoming.ask(&login, asked))
-}
+impl<'a, A: Allocator + Copy> DeskRequest<A> for HoldRequest<'a> {
+    ghost states = { hold_states };
 
-/// What a hold message asks, or the first refusal by its dates and its names; `own` is the branch of its
-/// terminal.
-fn hold_asks<A: Allocator + Copy>(
-    catalogue: &Catalogue<A>,
-    own: BranchNo,
-    request: &HoldRequest<'_>,
-    dates: &Dates,
-) -> Result<Asked, Refusal>
-    requires { own < (facts_of catalogue.now).branches }
-    ensures asked { result ≡ hold_asks catalogue.now own request.now dates.now }
-    ensures kind { IfOk result (λ asked. kind_of asked ≡ kind.Hold) }
-    ensures known { IfOk result (IsKnown (facts_of catalogue.now)) }
-{
-    let stamp = dates.transaction.ok_or(Refusal::BadDate)?;
-    let expiry = dates.other.ok_or(Refusal::BadDate)?;
-    let patron = catalogue
-        .patron(request.patron)
-        .ok_or(Refusal::UnknownPatron)?;
-    let copy = copy_if_given(catalogue, request.copy).ok_or(Refusal::UnknownItem)?;
-    let title = title_of(catalogue, request.title, &copy).ok_or(Refusal::UnknownTitle)?;
-    let named = Named {
-        patron,
-        title,
-        copy,
-    };
-    hold_named(catalogue, own, request, stamp.day(), expiry, &named)
+    fn asks(
+        &self,
+        catalogue: &Catalogue<A>,
+        own: BranchNo,
+        dates: &Dates,
+    ) -> Result<Asked, Refusal> {
+        let stamp = dates.transaction.ok_or(Refusal::BadDate)?;
+        let expiry = dates.other.ok_or(Refusal::BadDate)?;
+        let patron = catalogue.patron(self.patron).ok_or(Refusal::UnknownPatron)?;
+        let copy = copy_if_given(catalogue, self.copy).ok_or(Refusal::UnknownItem)?;
+        let title = title_of(catalogue, self.title, &copy).ok_or(Refusal::UnknownTitle)?;
+        let named = Named {
+            patron,
+            title,
+            copy,
+        };
+        hold_named(catalogue, own, self, stamp.day(), expiry, &named)
+    }
 }
 
 /// What a hold message asks whose dates are read and whose patron, copy and title are known, or the refusal

@@ -27,10 +27,8 @@ impl<A: Allocator + Copy> Office<A> for Journal<A> {
         SeatNo::new(0)
     }
 
+    #[tactic(auto, using(crate::proofs::Replying::turns_grow))]
     fn turn(&mut self, ask: &Ask<'_>) -> Result<Turn, OfficeFault> {
-        match self.take_copy(ask) {
-            Ok(turn) => Ok(turn),
-            Err(_) => Err(OfficeFault::Memory),
-        }
+        Ok(self.take_copy(ask)?)
     }
 }

@@ -9,6 +9,7 @@
 #![tactic(auto)]
 
 mod accepted;
+mod alone;
 mod cancellations;
 mod checkin_replies;
 mod checkins;
@@ -34,10 +35,12 @@ mod refusals;
 mod renewals;
 mod repeated;
 mod replies;
+mod requests;
 mod responding;
 mod said;
 mod status;
 mod unreadable;
+mod values;
 mod writing;
 
 pub use crate::fault::OfficeFault;

@@ -17,17 +17,24 @@ pub(crate) struct DeskMessage<'a> {
     pub(crate) asks: Result<Ask<'a>, Refusal>,
 }
 
-/// A message: it asks nothing of the desk, or is one ask of it.
+/// A message that asks nothing of the desk: its session answers it alone.
 #[derive(Clone, Copy)]
-pub(crate) enum Message<'a> {
+pub(crate) enum SessionMessage {
     /// 93, with the login that it makes; nothing where it isn't taken.
     Login(Option<Login>),
     /// 99.
     Status,
     /// 97.
     Resend,
-    /// Another message, or a body shorter than a code.
+    /// A message that isn't supported, or a body shorter than a code.
     Unsupported,
+}
+
+/// A message: it asks nothing of the desk, or is one ask of it.
+#[derive(Clone, Copy)]
+pub(crate) enum Message<'a> {
+    /// 93, 99, 97, or one that isn't supported.
+    Session(SessionMessage),
     /// 11, 09, 15, 29 or 17.
     Desk(DeskMessage<'a>),
 }

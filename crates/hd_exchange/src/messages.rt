@@ -6,15 +6,16 @@ ghost use Rattle.hd_catalogue.specs.Contents.{facts_of};
 ghost use Rattle.hd_exchange.specs.Arrivals.{IsKnownLogin};
 ghost use Rattle.hd_exchange.specs.Messages.{IsBodyOf, IsKnownMessage, IsRequestAs};
 
-use crate::checkins::checkin;
-use crate::checkouts::checkout;
-use crate::holds::hold;
+use crate::checkins::checkin_values;
+use crate::checkouts::checkout_values;
+use crate::holds::hold_values;
 use crate::incoming::Incoming;
-use crate::items::question;
+use crate::items::item_values;
 use crate::logins::login_made;
-use crate::message::Message;
-use crate::renewals::renewal;
-use crate::unreadable::unreadable;
+use crate::message::{Message, SessionMessage};
+use crate::renewals::renew_values;
+use crate::requests::desk_message;
+use crate::unreadable::unreadable_values;
 use hd_catalogue::Catalogue;
 use hd_message::{Request, Unreadable, read, repeated_values_fit_their_body};
 use std::alloc::Allocator;
@@ -33,8 +34,11 @@ pub(crate) fn message_of<'a, A: Allocator + Copy>(
     repeated_values_fit_their_body();
     match read(body) {
         Ok(request) => message_read(catalogue, incoming, &request),
-        Err(Unreadable::Login) => Message::Login(None),
-        Err(Unreadable::Desk(message)) => Message::Desk(unreadable(catalogue, incoming, &message)),
+        Err(Unreadable::Login) => Message::Session(SessionMessage::Login(None)),
+        Err(Unreadable::Desk(message)) => {
+            let values = unreadable_values(&message);
+            Message::Desk(desk_message(catalogue, incoming, &message, &values))
+        }
     }
 }
 
@@ -50,14 +54,31 @@ fn message_read<'a, A: Allocator + Copy>(
     ensures known { IsKnownMessage (facts_of catalogue.now) incoming.now.seat result }
 {
     match request {
-        Request::Login(request) => Message::Login(login_made(catalogue, request)),
-        Request::Status => Message::Status,
-        Request::Checkout(request) => Message::Desk(checkout(catalogue, incoming, request)),
-        Request::Checkin(request) => Message::Desk(checkin(catalogue, incoming, request)),
-        Request::Hold(request) => Message::Desk(hold(catalogue, incoming, request)),
-        Request::Renew(request) => Message::Desk(renewal(catalogue, incoming, request)),
-        Request::Item(request) => Message::Desk(question(catalogue, incoming, request)),
-        Request::Resend => Message::Resend,
-        Request::Unsupported => Message::Unsupported,
+        Request::Login(request) => {
+            Message::Session(SessionMessage::Login(login_made(catalogue, request)))
+        }
+        Request::Status => Message::Session(SessionMessage::Status),
+        Request::Checkout(request) => {
+            let values = checkout_values(request);
+            Message::Desk(desk_message(catalogue, incoming, request, &values))
+        }
+        Request::Checkin(request) => {
+            let values = checkin_values(request);
+            Message::Desk(desk_message(catalogue, incoming, request, &values))
+        }
+        Request::Hold(request) => {
+            let values = hold_values(request);
+            Message::Desk(desk_message(catalogue, incoming, request, &values))
+        }
+        Request::Renew(request) => {
+            let values = renew_values(request);
+            Message::Desk(desk_message(catalogue, incoming, request, &values))
+        }
+        Request::Item(request) => {
+            let values = item_values(request);
+            Message::Desk(desk_message(catalogue, incoming, request, &values))
+        }
+        Request::Resend => Message::Session(SessionMessage::Resend),
+        Request::Unsupported => Message::Session(SessionMessage::Unsupported),
     }
 }

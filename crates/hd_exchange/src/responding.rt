@@ -8,19 +8,16 @@ ghost use Rattle.hd_exchange.specs.Answers.{AsksTheOffice, IsAnswer};
 ghost use Rattle.hd_exchange.specs.Arrivals.{IsKnownLogin};
 ghost use Rattle.hd_exchange.specs.Offices.{MakesAtMostOne};
 
+use crate::alone::answer_alone;
 use crate::desk::answer;
 use crate::fault::OfficeFault;
 use crate::incoming::Incoming;
 use crate::login::Login;
-use crate::logins::login_after;
 use crate::message::Message;
 use crate::messages::message_of;
 use crate::office::Office;
 use crate::said::Said;
-use crate::status::write_status;
-use crate::writing::write_reply;
 use hd_date::Stamp18;
-use hd_message::{LoginReply, Reply};
 use std::alloc::Allocator;
 
 /// Answers the body of a message from a session that is logged in so: appends the text of its reply, where it
@@ -69,18 +66,9 @@ pub fn respond<A: Allocator + Copy, O: Office<A>>(
 {
     let incoming = Incoming::new(office.seat(), now, *login, line);
     match message_of(office.catalogue(), &incoming, body) {
-        Message::Login(made) => {
-            let taken = made.is_some();
-            write_reply(&Reply::Login(LoginReply { taken }), out);
-            *login = login_after(*login, made);
-            Ok(Said::Reply)
+        Message::Session(message) => {
+            Ok(answer_alone(office.catalogue(), now, &message, login, out))
         }
-        Message::Status => {
-            write_status(office.catalogue(), now, out);
-            Ok(Said::Reply)
-        }
-        Message::Resend => Ok(Said::LastReply),
-        Message::Unsupported => Ok(Said::SendAgain),
         Message::Desk(message) => {
             answer(office, &message, out)?;
             Ok(Said::Reply)
