@@ -14,12 +14,8 @@ mod messages;
 mod part;
 mod reading;
 mod reply;
-#[cfg(test)]
-mod reply_tests;
 mod request;
 mod table;
-#[cfg(test)]
-mod tests;
 mod unreadable;
 mod values;
 mod writing;

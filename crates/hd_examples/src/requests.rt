@@ -1,5 +1,5 @@
 //! Examples of requests. The dates of the messages are 1 March 2026, ten o'clock.
-use crate::{
+use hd_message::{
     CheckoutRequest, DeskKind, HoldRequest, ItemRequest, Mode, Request, Unreadable,
     UnreadableMessage, Wanted, read,
 };

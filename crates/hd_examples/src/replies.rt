@@ -1,9 +1,9 @@
 //! Examples of replies. The dates of the messages are 1 March 2026, ten o'clock.
-use crate::{
+use hd_date::{Day, OffsetMinutes};
+use hd_message::{
     CheckinOutcome, CheckinReply, Circulation, HoldOutcome, HoldReply, ItemOutcome, ItemReply,
     LoanOutcome, LoanReply, LoginReply, Reply, StatusReply, Whereabouts, write,
 };
-use hd_date::{Day, OffsetMinutes};
 use hd_rules::Refusal;
 use std::alloc::{AllocError, Global};
 use std::test::Fail;
