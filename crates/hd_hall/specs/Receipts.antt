@@ -1,7 +1,9 @@
 -- Receipts, and where their turns stand.
 use Rattle.std.specs.Prelude.{◌≡◌, ℕ, ◌+◌, ◌-◌, ◌<◌, List, [], ◌∷◌, Option, Some, None, slice_get}
 use Rattle.hd_rules.specs.Journal.{Turn}
+use Rattle.hd_journal.specs.Asks.{SeatMessage, replied}
 use Rattle.hd_journal.specs.Shown.{shown}
+use Rattle.hd_journal.specs.declared.turn.Turn.{Turn as Made}
 use Rattle.hd_hall.specs.declared.receipt.Receipt.{Receipt}
 
 -- A turn, with its number. Turns are counted from 1.
@@ -12,6 +14,10 @@ pub record Receipted : Type 0 where
 -- a receipt that is given, with the bytes that its line lends
 abbrev pub told : Receipt → Receipted
 told receipt = record { number = receipt.number; turn = shown receipt.turn }
+
+-- the receipt of the turn that was made of what was asked
+abbrev pub received : SeatMessage → Made → Receipted
+received ask made = record { number = made.at; turn = replied ask made.reply }
 
 -- the turns with their numbers, from n + 1
 abbrev pub numbered : ℕ → List Turn → List Receipted

@@ -1,8 +1,8 @@
 //! Receipts, as a seat keeps them.
 
 ghost use Rattle.std.specs.Prelude.{◌≡◌, ◌↔◌, IsTrue};
-ghost use Rattle.hd_journal.specs.Asks.{replied};
 ghost use Rattle.hd_journal.specs.Shown.{shown};
+ghost use Rattle.hd_hall.specs.Receipts.{received};
 
 use hd_journal::{Entry, OwnedAsk, Turn, TurnRef};
 use std::alloc::Allocator;
@@ -25,8 +25,8 @@ impl<A: Allocator> Model for Kept<A> {
 
 impl<A: Allocator> Kept<A> {
     /// The receipt of the turn that was made of this.
-    pub(crate) fn new(ask: OwnedAsk<A>, made: Turn) -> Kept<A>
-        ensures { result ≡ record { number = made.at; turn = replied ask made.reply } }
+    pub(crate) fn new(ask: OwnedAsk<A>, made: &Turn) -> Kept<A>
+        ensures { result ≡ received ask made.now }
     {
         Kept {
             number: made.at,

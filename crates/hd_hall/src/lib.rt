@@ -2,6 +2,7 @@
 #![tactic(auto)]
 
 mod fault;
+mod hall;
 mod house;
 mod journals;
 mod keeper;
@@ -11,8 +12,10 @@ mod receipt;
 mod seat;
 
 pub use crate::fault::HallFault;
+pub use crate::hall::Hall;
 pub use crate::house::House;
 pub use crate::keeper::Keeper;
 pub use crate::kept::Kept;
 pub use crate::receipt::Receipt;
 pub use crate::seat::Seat;
+pub use hd_journal::{Ask, TurnRef};

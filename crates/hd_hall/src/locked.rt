@@ -1,12 +1,12 @@
 //! What lies under the lock.
 
-ghost use Rattle.std.specs.Prelude.{◌≡◌, ◌≢◌, ◌+◌, ◌<◌, ◌↔◌, [], IsTrue, IfOk, IfErr, IfSome, IsSomeAnd};
-ghost use Rattle.std.specs.Prelude.{OnOk, OnErr, length};
+ghost use Rattle.std.specs.Prelude.{◌≡◌, ◌≢◌, ◌+◌, ◌<◌, ◌↔◌, [], IsTrue, IfOk, IfErr, IfSome, OnOk};
+ghost use Rattle.std.specs.Prelude.{OnErr, false, length, option_copied};
 ghost use Rattle.hd_catalogue.specs.Contents.{facts_of};
 ghost use Rattle.hd_journal.specs.Asks.{IsKnownMessage};
 ghost use Rattle.hd_journal.specs.Books.{IsLegalBook};
 ghost use Rattle.hd_hall.specs.Keepers.{IsAdded};
-ghost use Rattle.hd_hall.specs.Receipts.{Stands};
+ghost use Rattle.hd_hall.specs.Receipts.{HoldsLast, LacksLast, Stands, last_receipt};
 
 use crate::fault::HallFault;
 use crate::house::House;
@@ -66,13 +66,13 @@ impl<H: House, A: Allocator + Copy, K: Keeper<A>> Locked<H, A, K> {
         Some((SeatNo::new(self.opened), share))
     }
 
-    /// Makes the turn of what is asked, counted in the share, where the journal holds the last receipt.
+    /// Makes the turn of what is asked, counted in the share, where the journal holds the last of these receipts.
     ///
     /// # Errors
     /// `Memory`, and `Estranged` where it lacks that receipt's turn. Journal and share are unchanged.
     pub(crate) fn submit(
         &mut self,
-        last: Option<&Kept<A>>,
+        receipts: &[Kept<A>],
         share: &mut Share<H>,
         own: K::Own,
     ) -> Result<Turn, HallFault>
@@ -81,19 +81,17 @@ impl<H: House, A: Allocator + Copy, K: Keeper<A>> Locked<H, A, K> {
         ensures legal { IsLegalBook H.contents (K.turns self.new.keeper) }
         ensures turn { IfOk result (λ made.
             IsAdded (K.turns self.old.keeper) (K.turns self.new.keeper) (K.asks own) made) }
-        ensures holds { OnOk result (IfSome last.entry (λ r. Stands (K.turns self.old.keeper) r.now)) }
+        ensures holds { OnOk result (HoldsLast (K.turns self.old.keeper) receipts.now) }
         ensures share { OnOk result (share.new.amount ≡ share.old.amount + 1) }
         ensures parts { share.new.parts ≡ share.old.parts }
         ensures lacks { IfErr result (λ e. e ≢ HallFault.Memory →
             (e ≡ HallFault.Estranged (length (K.turns self.old.keeper)))
-            × IsSomeAnd last.entry (λ r. Stands (K.turns self.old.keeper) r.now → ⊥)) }
+            × LacksLast (K.turns self.old.keeper) receipts.now) }
         ensures err { OnErr result
             ((K.turns self.new.keeper ≡ K.turns self.old.keeper) × (share.new ≡ share.old)) }
     {
         let Locked { keeper, book, .. } = self;
-        if let Some(receipt) = last
-            && !stands(keeper, receipt)
-        {
+        if !holds_last(keeper, receipts) {
             return Err(HallFault::Estranged {
                 front: keeper.front(),
             });
@@ -102,6 +100,25 @@ impl<H: House, A: Allocator + Copy, K: Keeper<A>> Locked<H, A, K> {
         book.add(share, 1);
         Ok(turn)
     }
+}
+
+/// Whether the turn of the last receipt, if there is one, stands in the journal.
+fn holds_last<A: Allocator + Copy, K: Keeper<A>>(keeper: &K, receipts: &[Kept<A>]) -> bool
+    ensures yes { IsTrue result → HoldsLast (K.turns keeper.now) receipts.now }
+    ensures no { result ≡ false → LacksLast (K.turns keeper.now) receipts.now }
+{
+    match last_of(receipts) {
+        Some(last) => stands(keeper, last),
+        None => true,
+    }
+}
+
+/// The last of these receipts.
+#[tactic(auto, using(crate::proofs::Seating::last_is))]
+fn last_of<A: Allocator>(receipts: &[Kept<A>]) -> Option<&Kept<A>>
+    ensures { option_copied result ≡ last_receipt receipts.now }
+{
+    receipts.last()
 }
 
 /// Whether the receipt's turn stands in the journal, at its number.

@@ -1,7 +1,6 @@
 //! Seats.
 
-ghost use Rattle.std.specs.Prelude.{◌≡◌, ◌+◌, ◌<◌, ◌≤◌, length, option_copied};
-ghost use Rattle.hd_hall.specs.Receipts.{last_receipt};
+ghost use Rattle.std.specs.Prelude.{◌≡◌, ◌+◌, ◌<◌, ◌≤◌, length};
 ghost use Rattle.hd_hall.specs.Seats.{lent, held, IsWhole};
 
 use crate::house::House;
@@ -81,12 +80,4 @@ impl<H: House, A: Allocator> Seat<H, A> {
         let count = self.receipts.len() as u64;
         all.give(&mut self.share, 1, count);
     }
-}
-
-/// The last of these receipts.
-#[tactic(auto, using(crate::proofs::Seating::last_is))]
-pub(crate) fn last_of<A: Allocator>(receipts: &[Kept<A>]) -> Option<&Kept<A>>
-    ensures { option_copied result ≡ last_receipt receipts.now }
-{
-    receipts.last()
 }
