@@ -1,6 +1,7 @@
 //! One journal behind one lock, for many threads: seats, their receipts, and a ledger that counts them.
 #![tactic(auto)]
 
+mod counter;
 mod fault;
 mod hall;
 mod house;
@@ -11,6 +12,7 @@ mod locked;
 mod receipt;
 mod seat;
 
+pub use crate::counter::Counter;
 pub use crate::fault::HallFault;
 pub use crate::hall::Hall;
 pub use crate::house::House;
