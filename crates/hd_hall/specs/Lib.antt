@@ -4,3 +4,4 @@ pub mod Receipts
 pub mod Seats
 pub mod Submitting
 pub mod Closings
+pub mod NotClosing

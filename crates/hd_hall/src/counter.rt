@@ -38,8 +38,7 @@ impl<'a, H: House, R: Wait, A: Allocator, K: Keeper<A>> Counter<'a, H, R, A, K> 
 }
 
 impl<'a, H: House, R: Wait, A: Allocator + Copy, K: Keeper<A> + Drop> Office<A>
-    for Counter<'a, H, R, A, K>
-{
+    for Counter<'a, H, R, A, K> {
     ghost use Rattle.std.specs.Prelude.{map, [], ◌∷◌};
 
     ghost keeps = { λ c. record {

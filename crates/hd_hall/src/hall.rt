@@ -1,13 +1,15 @@
 //! Halls.
 
-ghost use Rattle.std.specs.Prelude.{◌≡◌, ◌+◌, ◌<◌, [], ℕ, Err, IfOk, IfSome, OnOk, OnErr};
+ghost use Rattle.std.specs.Prelude.{◌≡◌, ◌+◌, ◌<◌, [], ℕ, Err, IfOk, IfErr, IfSome, OnOk, OnErr};
 ghost use Rattle.std.specs.Arc.{arc_value};
 ghost use Rattle.hd_catalogue.specs.Contents.{facts_of};
 ghost use Rattle.hd_journal.specs.Asks.{IsKnownMessage, replied, sent};
+ghost use Rattle.hd_hall.specs.Closings.{AreTurnsOf};
 ghost use Rattle.hd_hall.specs.Receipts.{received, told};
-ghost use Rattle.hd_hall.specs.Seats.{with_receipt};
+ghost use Rattle.hd_hall.specs.Seats.{EachSeat, IsWhole, with_receipt};
 ghost use Rattle.hd_hall.specs.Submitting.{IsNextOf, IsStrangeTo};
 
+use crate::closing::differing;
 use crate::fault::HallFault;
 use crate::house::House;
 use crate::keeper::Keeper;
@@ -34,7 +36,32 @@ pub struct Hall<H: House, A: Allocator = Global, K: Keeper<A> = Journal<A>> {
     ghost ours: { arc_value catalogue ≡ H.contents },
 }
 
+/// Why a hall did not close. The seats come back as they were.
+#[derive(Drop)]
+pub enum NotClosed<H: House, A: Allocator = Global, K: Keeper<A> = Journal<A>> {
+    /// More seats were opened than were handed in.
+    SeatMissing {
+        /// The hall.
+        hall: Hall<H, A, K>,
+        /// The seats that were handed in.
+        seats: Vec<Seat<H, A>, A>,
+        /// How many seats were opened.
+        opened: u32,
+    },
+    /// No seat has a receipt for the journal's turn of this number.
+    ReceiptDiffers {
+        /// The journal.
+        keeper: K,
+        /// The seats that were handed in.
+        seats: Vec<Seat<H, A>, A>,
+        /// The number of the turn, from 1.
+        number: usize,
+    },
+}
+
 impl<H: House, A: Allocator + Copy, K: Keeper<A> + Drop> Hall<H, A, K> {
+    ghost use Rattle.hd_hall.specs.NotClosing.{Misses};
+
     /// A hall round a journal without turns, with a new ledger, whose parts are one for each seat and one more.
     ///
     /// # Errors
@@ -110,6 +137,62 @@ impl<H: House, A: Allocator + Copy, K: Keeper<A> + Drop> Hall<H, A, K> {
         let made = self.take(rt, receipts, share, own)?;
         receipts.push_reserved(Kept::new(copy, &made));
         Ok(Receipt::new(ask, &made))
+    }
+
+    /// The journal, whose turns are the receipts of these seats, each once. It takes no memory.
+    ///
+    /// Each receipt is compared with the journal's turn of its number. Where the seats stand in the order of
+    /// their numbers, this is all that is compared; else each turn's receipt is looked for.
+    ///
+    /// # Errors
+    /// `SeatMissing` where fewer seats are handed in than were opened, and `ReceiptDiffers` where some turn has
+    /// no receipt. The seats come back as they were.
+    pub fn close(self, mut seats: Vec<Seat<H, A>, A>) -> Result<K, NotClosed<H, A, K>>
+        requires parts { H.parts ≡ 4294967296 }
+        requires seats { EachSeat seats.items (λ s. s.parts ≡ 1) }
+        ensures turns { IfOk result (λ keeper. AreTurnsOf H.contents (K.turns keeper) seats.items) }
+        ensures contents { IfOk result (λ keeper. K.contents keeper ≡ H.contents) }
+        ensures in_order { OnOk result (EachSeat seats.items IsWhole) }
+        ensures missing { IfErr result (λ why. Misses H.contents why seats.items) }
+    {
+        let Hall {
+            alloc,
+            catalogue,
+            shared,
+        } = self;
+        let Locked {
+            keeper,
+            mut book,
+            mut rest,
+            opened,
+            of,
+        } = shared.into_inner();
+        if seats.len() < opened as usize {
+            let locked = Locked {
+                keeper,
+                book,
+                rest,
+                opened,
+                of,
+            };
+            return Err(NotClosed::SeatMissing {
+                hall: Hall {
+                    alloc,
+                    catalogue,
+                    shared: Mutex::new(locked),
+                },
+                seats,
+                opened,
+            });
+        }
+        match differing(&keeper, &mut book, &mut rest, seats.as_mut_slice()) {
+            None => Ok(keeper),
+            Some(number) => Err(NotClosed::ReceiptDiffers {
+                keeper,
+                seats,
+                number,
+            }),
+        }
     }
 
     /// The lock's section of a turn, counted in the share, where the journal holds the last of these receipts.

@@ -48,10 +48,10 @@ impl<A: Allocator> Kept<A> {
         self.turn.show()
     }
 
-    /// Whether it is this turn's: the same seat, terminal, question, line and reply.
-    pub(crate) fn is_of(&self, turn: &TurnRef<'_>) -> bool
-        ensures { IsTrue result ↔ (shown turn.now ≡ self.now.turn) }
+    /// Whether it is of this turn, with this number: the same seat, terminal, question, line and reply.
+    pub(crate) fn is_of(&self, number: usize, turn: &TurnRef<'_>) -> bool
+        ensures { IsTrue result ↔ (self.now ≡ record { number = number; turn = shown turn.now }) }
     {
-        self.turn.is_of(turn)
+        self.number == number && self.turn.is_of(turn)
     }
 }

@@ -1,6 +1,7 @@
 //! One journal behind one lock, for many threads: seats, their receipts, and a ledger that counts them.
 #![tactic(auto)]
 
+mod closing;
 mod counter;
 mod fault;
 mod hall;
@@ -14,7 +15,7 @@ mod seat;
 
 pub use crate::counter::Counter;
 pub use crate::fault::HallFault;
-pub use crate::hall::Hall;
+pub use crate::hall::{Hall, NotClosed};
 pub use crate::house::House;
 pub use crate::keeper::Keeper;
 pub use crate::kept::Kept;

@@ -126,7 +126,7 @@ pub(crate) fn stands<A: Allocator + Copy, K: Keeper<A>>(keeper: &K, receipt: &Ke
     ensures { IsTrue result ↔ Stands (K.turns keeper.now) receipt.now }
 {
     match keeper.turn_at(receipt.number()) {
-        Some(turn) => receipt.is_of(&turn),
+        Some(turn) => receipt.is_of(receipt.number(), &turn),
         None => false,
     }
 }

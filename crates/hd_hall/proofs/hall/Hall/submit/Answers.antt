@@ -1,4 +1,4 @@
-use Rattle.std.proofs.Common.{◌≡◌, List, ◌∙◌, ap, subst, sym}
+use Rattle.std.proofs.Common.{List, ◌∙◌, ap, subst, sym}
 use Rattle.hd_journal.specs.Asks.{SeatMessage}
 use Rattle.hd_hall.specs.Receipts.{Receipted, received}
 use Rattle.hd_hall.specs.Seats.{SeatView}
