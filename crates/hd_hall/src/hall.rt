@@ -7,7 +7,7 @@ ghost use Rattle.hd_journal.specs.Asks.{IsKnownMessage, replied, sent};
 ghost use Rattle.hd_hall.specs.Closings.{AreTurnsOf};
 ghost use Rattle.hd_hall.specs.Receipts.{received, told};
 ghost use Rattle.hd_hall.specs.Seats.{EachSeat, IsWhole, with_receipt};
-ghost use Rattle.hd_hall.specs.Submitting.{IsNextOf, IsStrangeTo};
+ghost use Rattle.hd_hall.specs.Submitting.{AreNext, IsNextOf, IsStrangeTo};
 
 use crate::closing::differing;
 use crate::fault::HallFault;
@@ -71,6 +71,7 @@ impl<H: House, A: Allocator + Copy, K: Keeper<A> + Drop> Hall<H, A, K> {
         requires contents { K.contents keeper ≡ H.contents }
         requires name { blank.name ≡ H.name }
         requires parts { (blank.parts ≡ H.parts) × (H.parts ≡ 4294967296) }
+        ensures { IfErr result (λ why. why ≡ HallFault.Memory) }
     {
         let catalogue = Arc::try_clone(keeper.catalogue())?;
         Ok(Hall {
@@ -122,6 +123,7 @@ impl<H: House, A: Allocator + Copy, K: Keeper<A> + Drop> Hall<H, A, K> {
             (told receipt).turn ≡ replied (sent ask.now) receipt.turn.reply) }
         ensures next { IfOk result (λ receipt. IsNextOf H.contents seat.old.receipts (told receipt)) }
         ensures kept { IfOk result (λ receipt. seat.new ≡ with_receipt seat.old (told receipt)) }
+        ensures all { AreNext H.contents seat.new.receipts }
         ensures estranged { (front : ℕ) → result ≡ Err (HallFault.Estranged front)
             → IsStrangeTo H.contents seat.old.receipts front }
         ensures err { OnErr result (seat.new ≡ seat.old) }
