@@ -1,8 +1,8 @@
 //! Small examples of clashes, over a library of two branches.
 
-use crate::{ChangedKeys, CommandKeys, Key, clashes, mend};
+use crate::{ChangedKeys, CommandKeys, Key, clashes, has_clash, key_of, mend};
 use hd_catalogue::Catalogue;
-use hd_footprint::Findings;
+use hd_footprint::{Count, Findings, Meter};
 use hd_rules::{
     Action, BranchNo, Cell, Change, CopyState, Finding, HoldKind, HoldPlace, Noted, PatronNo,
     Question, Value,
@@ -137,5 +137,31 @@ fn each_touched_once(catalogue: &Catalogue) -> Option<bool> {
 fn a_key_is_touched_once(rt: HostRuntime) -> Result<(), Fail> {
     let catalogue = library(rt.alloc())?;
     assert_eq!(rt; each_touched_once(&catalogue), Some(true));
+    Ok(())
+}
+
+/// Whether the second place of the northern hold shelf, found free, clashes with a copy's way to the first.
+fn second_place_clashes(catalogue: &Catalogue, meter: &mut Meter) -> Option<bool> {
+    let north = catalogue.branch(b"north")?;
+    let changes = [Change {
+        cell: Cell::Copy(catalogue.copy(b"a1")?),
+        old: Value::Copy(CopyState::Shelf(north)),
+        new: kept(catalogue.patron(b"p1")?, north),
+    }];
+    let question = Question::Place(north);
+    let finding = Finding {
+        question,
+        noted: Noted::Place(2),
+    };
+    let is_keyed = key_of(catalogue, &question) == Key::Branch(north);
+    Some(is_keyed && has_clash(catalogue, &changes, &[finding], meter))
+}
+
+#[test]
+fn a_comparison_is_counted(rt: HostRuntime) -> Result<(), Fail> {
+    let catalogue = library(rt.alloc())?;
+    let mut meter = Meter::new(&rt);
+    assert_eq!(rt; second_place_clashes(&catalogue, &mut meter), Some(true));
+    assert_eq!(rt; meter.count(Count::Compared), 1);
     Ok(())
 }
