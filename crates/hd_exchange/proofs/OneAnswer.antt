@@ -19,7 +19,7 @@ use Rattle.hd_rules.specs.declared.replies.TurnReply.{TurnReply}
 use Rattle.hd_rules.specs.declared.replies.TurnReply.TheVariants.{Refused}
 use Rattle.hd_rules.specs.declared.turns.Asked.{Asked}
 use Rattle.hd_catalogue.specs.Contents.{Contents}
-use Rattle.hd_journal.specs.Asks.{SeatMessage, replied, sent}
+use Rattle.hd_journal.specs.Asks.{SeatMessage, replied}
 use Rattle.hd_journal.specs.declared.ask.Ask.{Ask}
 use Rattle.hd_exchange.specs.Answers.{IsAnswer, IsAnswerTo, IsDeskAnswer, IsTold, SaysStatus, asked_in, login_after, login_text}
 use Rattle.hd_exchange.specs.Arrivals.{Arrival, ask_of}
