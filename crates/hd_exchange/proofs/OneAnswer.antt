@@ -19,7 +19,7 @@ use Rattle.hd_rules.specs.declared.replies.TurnReply.{TurnReply}
 use Rattle.hd_rules.specs.declared.replies.TurnReply.TheVariants.{Refused}
 use Rattle.hd_rules.specs.declared.turns.Asked.{Asked}
 use Rattle.hd_catalogue.specs.Contents.{Contents}
-use Rattle.hd_journal.specs.Asks.{SeatMessage, replied, sent}
+use Rattle.hd_journal.specs.Asks.{SeatMessage, replied}
 use Rattle.hd_journal.specs.declared.ask.Ask.{Ask}
 use Rattle.hd_exchange.specs.Answers.{IsAnswer, IsAnswerTo, IsDeskAnswer, IsTold, SaysStatus, asked_in, login_after, login_text}
 use Rattle.hd_exchange.specs.Arrivals.{Arrival, ask_of}
@@ -141,13 +141,10 @@ module _ (print_one : (stamp : Stamp) (text other : List ℕ) → Prints stamp t
       -- what a message that comes to this is answered
       abbrev IsAnswered : Arrival → Gist → Said → List ℕ → List Turn → Option LoggedIn → Type 0
       IsAnswered arrival (Taken taken) says text made next =
-          ((says ≡ said.Reply) × (text ≡ login_text taken) × (next ≡ login_after login taken)) × (made ≡ [])
-      IsAnswered arrival Reported says text made next =
-          ((says ≡ said.Reply) × SaysStatus k now text × (next ≡ login)) × (made ≡ [])
-      IsAnswered arrival Repeats says text made next =
-          ((says ≡ said.LastReply) × (text ≡ []) × (next ≡ login)) × (made ≡ [])
-      IsAnswered arrival Unknown says text made next =
-          ((says ≡ said.SendAgain) × (text ≡ []) × (next ≡ login)) × (made ≡ [])
+          (says ≡ said.Reply) × (text ≡ login_text taken) × (made ≡ []) × (next ≡ login_after login taken)
+      IsAnswered arrival Reported says text made next = (says ≡ said.Reply) × SaysStatus k now text × (made ≡ []) × (next ≡ login)
+      IsAnswered arrival Repeats says text made next = (says ≡ said.LastReply) × (text ≡ []) × (made ≡ []) × (next ≡ login)
+      IsAnswered arrival Unknown says text made next = (says ≡ said.SendAgain) × (text ≡ []) × (made ≡ []) × (next ≡ login)
       IsAnswered arrival (Asks stated) says text made next =
           (says ≡ said.Reply)
           × ((message : DeskMessage) × IsMessageOf k arrival stated message × IsDeskAnswer k message text made)
@@ -159,7 +156,7 @@ module _ (print_one : (stamp : Stamp) (text other : List ℕ) → Prints stamp t
             → IsAnswerTo k now login (OfMessage.Session (own.Login taken)) says text made next
             → IsAnswered arrival (Taken named) says text made next
         taken_so taken named is a =
-            ((a.0.0, a.0.1 ∙ ap (λ (t : Option LoggedIn). login_text t) is, a.0.2 ∙ ap (λ (t : Option LoggedIn). login_after login t) is), a.1)
+            (a.0, a.1 ∙ ap (λ (t : Option LoggedIn). login_text t) is, a.2, a.3 ∙ ap (λ (t : Option LoggedIn). login_after login t) is)
 
         of_request : (request : Request) (message : Message) → IsRequestAs k arrival request message
             → IsAnswerTo k now login message says text made next → IsAnswered arrival (gist k request) says text made next
@@ -230,13 +227,13 @@ module _ (print_one : (stamp : Stamp) (text other : List ℕ) → Prints stamp t
           (next next' : Option LoggedIn) → IsAnswered arrival g says text made next → IsAnswered arrival g says' text' made' next'
           → AreOne made made' says says' text text' next next'
       one_answered arrival (Taken taken) says says' text text' made made' next next' p q =
-          (ap (λ (t : List Turn). messages_of t) (p.1 ∙ sym q.1), λ same. (p.0.0 ∙ sym q.0.0, p.0.1 ∙ sym q.0.1, p.0.2 ∙ sym q.0.2))
+          (ap (λ (t : List Turn). messages_of t) (p.2 ∙ sym q.2), λ same. (p.0 ∙ sym q.0, p.1 ∙ sym q.1, p.3 ∙ sym q.3))
       one_answered arrival Reported says says' text text' made made' next next' p q =
-          (ap (λ (t : List Turn). messages_of t) (p.1 ∙ sym q.1), λ same. (p.0.0 ∙ sym q.0.0, one_status text text' p.0.1 q.0.1, p.0.2 ∙ sym q.0.2))
+          (ap (λ (t : List Turn). messages_of t) (p.2 ∙ sym q.2), λ same. (p.0 ∙ sym q.0, one_status text text' p.1 q.1, p.3 ∙ sym q.3))
       one_answered arrival Repeats says says' text text' made made' next next' p q =
-          (ap (λ (t : List Turn). messages_of t) (p.1 ∙ sym q.1), λ same. (p.0.0 ∙ sym q.0.0, p.0.1 ∙ sym q.0.1, p.0.2 ∙ sym q.0.2))
+          (ap (λ (t : List Turn). messages_of t) (p.2 ∙ sym q.2), λ same. (p.0 ∙ sym q.0, p.1 ∙ sym q.1, p.3 ∙ sym q.3))
       one_answered arrival Unknown says says' text text' made made' next next' p q =
-          (ap (λ (t : List Turn). messages_of t) (p.1 ∙ sym q.1), λ same. (p.0.0 ∙ sym q.0.0, p.0.1 ∙ sym q.0.1, p.0.2 ∙ sym q.0.2))
+          (ap (λ (t : List Turn). messages_of t) (p.2 ∙ sym q.2), λ same. (p.0 ∙ sym q.0, p.1 ∙ sym q.1, p.3 ∙ sym q.3))
       one_answered arrival (Asks stated) says says' text text' made made' next next' p q =
           let one = one_desk arrival stated p.1.0 q.1.0 text text' made made' p.1.1 q.1.1 p.1.2 q.1.2 in
           (one.0, λ same. (p.0 ∙ sym q.0, one.1 same, p.2 ∙ sym q.2))

@@ -62,19 +62,32 @@ pub record SaysStatus (k : Contents) (now : Stamp) (text : List ℕ) : Type 0 wh
   pub institution : status.institution.now ≡ k.institution
   pub spelled : text ≡ reply_text (reply.Status status)
 
-module _ (k : Contents) (now : Stamp) (login : Option LoggedIn) where
-  -- what is said to a message that asks nothing of the desk, by this text where it is a reply, and as whom
-  -- the session is then logged in; one that isn't supported is to be sent again
-  abbrev pub IsOwnAnswer : SessionMessage → Said → List ℕ → Option LoggedIn → Type 0
-  IsOwnAnswer (Login taken) says text next =
-      (says ≡ said.Reply) × (text ≡ login_text taken) × (next ≡ login_after login taken)
-  IsOwnAnswer Status says text next = (says ≡ said.Reply) × SaysStatus k now text × (next ≡ login)
-  IsOwnAnswer Resend says text next = (says ≡ said.LastReply) × (text ≡ []) × (next ≡ login)
-  IsOwnAnswer Unsupported says text next = (says ≡ said.SendAgain) × (text ≡ []) × (next ≡ login)
+-- what is said to a message that asks nothing of the desk: one that isn't supported is to be sent again
+abbrev pub said_alone : SessionMessage → Said
+said_alone (Login taken) = said.Reply
+said_alone Status = said.Reply
+said_alone Resend = said.LastReply
+said_alone Unsupported = said.SendAgain
 
+-- and as whom its session is then logged in
+abbrev pub login_alone : Option LoggedIn → SessionMessage → Option LoggedIn
+login_alone login (Login taken) = login_after login taken
+login_alone login _ = login
+
+-- and the text of its reply, where it has one
+abbrev pub IsTextAlone : Contents → Stamp → SessionMessage → List ℕ → Type 0
+IsTextAlone k now (Login taken) text = text ≡ login_text taken
+IsTextAlone k now Status text = SaysStatus k now text
+IsTextAlone k now _ text = text ≡ []
+
+module _ (k : Contents) (now : Stamp) (login : Option LoggedIn) where
   -- what is said to a message, and the turns that this makes: none where it asks nothing of the desk
   abbrev pub IsAnswerTo : Message → Said → List ℕ → List Turn → Option LoggedIn → Type 0
-  IsAnswerTo (Session message) says text made next = IsOwnAnswer message says text next × (made ≡ [])
+  IsAnswerTo (Session message) says text made next =
+      (says ≡ said_alone message)
+      × IsTextAlone k now message text
+      × (made ≡ [])
+      × (next ≡ login_alone login message)
   IsAnswerTo (Desk message) says text made next =
       (says ≡ said.Reply) × IsDeskAnswer k message text made × (next ≡ login)
 

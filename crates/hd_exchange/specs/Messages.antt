@@ -1,6 +1,6 @@
 -- What a body is read as: a message asks nothing of the desk (a login, a status message, a resend, or one
 -- that isn't supported), or is one ask of it.
-use Rattle.std.specs.Prelude.{◌≡◌, ℕ, ◌+◌, ◌<◌, ◌≤◌, ⊤, List, Option, None, Some, Result, Ok, Err, IfOk}
+use Rattle.std.specs.Prelude.{◌≡◌, ℕ, ◌+◌, ◌≤◌, ⊤, List, Option, None, Some, Result, Ok, Err, IfOk}
 use Rattle.std.specs.Prelude.{if◌then◌else◌}
 use Rattle.std.specs.Option.{ForSome, option_copied, option_map}
 use Rattle.hd_message.specs.Lengths.{bytes_of}

@@ -2,7 +2,7 @@
 ghost use Rattle.std.specs.Prelude.{◌≡◌, ◌+◌, ◌≤◌, ◌++◌, ℕ, List, vec_len, vec_capacity};
 ghost use Rattle.std.specs.Option.{ForSome};
 ghost use Rattle.hd_catalogue.specs.Contents.{facts_of};
-ghost use Rattle.hd_exchange.specs.Answers.{IsOwnAnswer};
+ghost use Rattle.hd_exchange.specs.Answers.{IsTextAlone, login_alone, said_alone};
 ghost use Rattle.hd_exchange.specs.Arrivals.{IsKnownLogin};
 ghost use Rattle.hd_exchange.specs.Messages.{IsKnownOwn};
 
@@ -29,9 +29,11 @@ pub(crate) fn answer_alone<A: Allocator + Copy>(
     requires message { IsKnownOwn (facts_of catalogue.now) message.now }
     requires login { ForSome login.old (IsKnownLogin (facts_of catalogue.now)) }
     requires room { vec_len out.old + 2038 ≤ vec_capacity out.old }
-    ensures answer { (text : List ℕ)
+    ensures said { result ≡ said_alone message.now }
+    ensures text { (text : List ℕ)
         × (out.new.items ≡ out.old.items ++ text)
-        × IsOwnAnswer catalogue.now now.now login.old message.now result text login.new }
+        × IsTextAlone catalogue.now now.now message.now text }
+    ensures next { login.new ≡ login_alone login.old message.now }
     ensures login { ForSome login.new (IsKnownLogin (facts_of catalogue.now)) }
     ensures short { vec_len out.new ≤ vec_len out.old + 2038 }
     ensures capacity { vec_capacity out.old ≤ vec_capacity out.new }

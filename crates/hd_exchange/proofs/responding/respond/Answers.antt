@@ -5,11 +5,12 @@ use Rattle.hd_exchange.proofs.responding.respond.Goals as goal
 
 pub returns-in-Session-clause-answer : goal.returns-in-Session-clause-answer
 returns-in-Session-clause-answer g c =
-    let answer = rw c.catalogue-in-Session.ensures at c.answer_alone.ensures.answer in (
+    let said = c.answer_alone.ensures in
+    let text = rw c.catalogue-in-Session.ensures at said.text in (
       [],
-      answer.0,
+      text.0,
       sym (append-nil _),
-      answer.1,
+      text.1,
       answer_of _ _ _ _ _ _ _ _ _ (OfMessage.Session c.in-Session.message) _ _ _ _ c.catalogue.ensures c.seat.ensures
-          c.new-incoming.ensures c.in-Session.ensures.message (answer.2, refl),
+          c.new-incoming.ensures c.in-Session.ensures.message (said.said, text.2, refl, said.next),
     )
