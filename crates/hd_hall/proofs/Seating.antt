@@ -1,12 +1,12 @@
 -- A seat with one more receipt, and its last receipt.
-use Rattle.std.proofs.Common.{◌≡◌, ℕ, zero, suc, ◌+◌, ◌-◌, ◌<◌, ◌≤◌, List, [], ◌∷◌, ◌++◌, length, Some, None, IfSome, IsSomeAnd, option_copied, slice_get, refl, arith, length-append, sym, subst, take, ◌∙◌, ◌⊎◌, inl, inr, Bor}
-use Rattle.std.specs.declared.option.Option.{Option}
+use Rattle.std.proofs.Common.{◌≡◌, ℕ, zero, suc, ◌+◌, ◌-◌, ◌<◌, ◌≤◌, List, [], ◌∷◌, ◌++◌, length, Some, slice_get, refl, arith}
+use Rattle.std.proofs.Common.{length-append, sym, subst, take, ◌∙◌, ◌⊎◌, inl, inr}
 use Rattle.std.proofs.Math.Seq.{take-append_seam}
 use Rattle.std.proofs.lemmas.List.{take-append-le}
 use Rattle.std.proofs.lemmas.Option.{slice_get_within}
 use Rattle.hd_rules.specs.Journal.{Turn}
 use Rattle.hd_catalogue.specs.Contents.{Contents}
-use Rattle.hd_hall.specs.Receipts.{Receipted, IsLast, Stands, HoldsLast, LacksLast, last_receipt}
+use Rattle.hd_hall.specs.Receipts.{Receipted, IsLast, Stands, last_receipt}
 use Rattle.hd_hall.specs.Seats.{SeatView, IsSeat, AreOf, RiseAbove}
 use Rattle.hd_hall.specs.Submitting.{AreNext, IsNextOf}
 
@@ -24,7 +24,8 @@ pub some_last : (x : Receipted) (rs : List Receipted) → (p : Receipted) × IsL
 some_last x [] = (x, refl)
 some_last x (y ∷ ys) = some_last y ys
 
-pub rise-snoc : (n : ℕ) (rs : List Receipted) (r : Receipted) → RiseAbove n rs → n < r.number → ((p : Receipted) → IsLast rs p → p.number < r.number) → RiseAbove n (rs ++ r ∷ [])
+pub rise-snoc : (n : ℕ) (rs : List Receipted) (r : Receipted) → RiseAbove n rs → n < r.number
+    → ((p : Receipted) → IsLast rs p → p.number < r.number) → RiseAbove n (rs ++ r ∷ [])
 rise-snoc n [] r up above last = (above, tt)
 rise-snoc n (x ∷ []) r up above last = (up.0, (last x refl, tt))
 rise-snoc n (x ∷ y ∷ ys) r up above last =
@@ -44,14 +45,6 @@ last_read (x ∷ y ∷ ys) (suc k) is = last_read (y ∷ ys) k (omega arith)
 pub last_is : (rs : List Receipted) → slice_get rs (length rs - 1) ≡ last_receipt rs
 last_is [] = refl
 last_is (x ∷ xs) = last_read (x ∷ xs) (length (x ∷ xs) - 1) (omega arith)
-
-pub holds_last : (turns : List Turn) (rs : List Receipted) (o : Option (Bor Receipted)) → option_copied o ≡ last_receipt rs → IfSome o (λ p. Stands turns p.now) → HoldsLast turns rs
-holds_last turns rs None is h p last = cc
-holds_last turns rs (Some b) is h p last = let e : b.now ≡ p = cc in rw (← e) h
-
-pub lacks_last : (turns : List Turn) (rs : List Receipted) (o : Option (Bor Receipted)) → option_copied o ≡ last_receipt rs → IsSomeAnd o (λ p. Stands turns p.now → ⊥) → LacksLast turns rs
-lacks_last turns rs None is h = absurd h
-lacks_last turns rs (Some b) is h = (b.now, sym is, h)
 
 -- a receipt whose turn stands in the list has a number within it
 pub stands_within : (turns : List Turn) (p : Receipted) → Stands turns p → p.number ≤ length turns

@@ -62,7 +62,8 @@ pub enum NotClosed<H: House, A: Allocator = Global, K: Keeper<A> = Journal<A>> {
 impl<H: House, A: Allocator + Copy, K: Keeper<A> + Drop> Hall<H, A, K> {
     ghost use Rattle.hd_hall.specs.NotClosing.{Misses};
 
-    /// A hall round a journal without turns, with a new ledger, whose parts are one for each seat and one more.
+    /// A hall round a journal without turns, with a new ledger, whose parts are one for each seat and one
+    /// more.
     ///
     /// # Errors
     /// `Memory`. The journal is dropped then.
@@ -100,12 +101,12 @@ impl<H: House, A: Allocator + Copy, K: Keeper<A> + Drop> Hall<H, A, K> {
         })
     }
 
-    /// One turn: what a terminal of this seat asks. The seat was opened by this hall; the terminal, and all that
-    /// it asks, are of the hall's catalogue.
+    /// One turn: what a terminal of this seat asks. The seat was opened by this hall; the terminal, and all
+    /// that it asks, are of the hall's catalogue.
     ///
-    /// The receipt is of the turn, which is the last of the hall's journal, and lends the asker's own line. The
-    /// seat keeps it, with a copy of the line. The room for it, that copy and the journal's are made before the
-    /// lock is taken.
+    /// The receipt is of the turn, which is the last of the hall's journal, and lends the asker's own line.
+    /// The seat keeps it, with a copy of the line. The room for it, that copy and the journal's are made before
+    /// the lock is taken.
     ///
     /// # Errors
     /// `Memory`, and `Estranged` where the journal lacks the seat's last turn. The journal and the seat are
@@ -147,8 +148,8 @@ impl<H: House, A: Allocator + Copy, K: Keeper<A> + Drop> Hall<H, A, K> {
     /// their numbers, this is all that is compared; else each turn's receipt is looked for.
     ///
     /// # Errors
-    /// `SeatMissing` where fewer seats are handed in than were opened, and `ReceiptDiffers` where some turn has
-    /// no receipt. The seats come back as they were.
+    /// `SeatMissing` where fewer seats are handed in than were opened, and `ReceiptDiffers` where some turn
+    /// has no receipt. The seats come back as they were.
     pub fn close(self, mut seats: Vec<Seat<H, A>, A>) -> Result<K, NotClosed<H, A, K>>
         requires parts { H.parts ≡ 4294967296 }
         requires seats { EachSeat seats.items (λ s. s.parts ≡ 1) }
@@ -197,7 +198,8 @@ impl<H: House, A: Allocator + Copy, K: Keeper<A> + Drop> Hall<H, A, K> {
         }
     }
 
-    /// The lock's section of a turn, counted in the share, where the journal holds the last of these receipts.
+    /// The lock's section of a turn, counted in the share, where the journal holds the last of these
+    /// receipts.
     fn take<R: Wait>(
         &self,
         rt: &R,
