@@ -9,14 +9,14 @@ const TRIES_AGAIN: usize = 16;
 
 /// A read failed.
 #[derive(Clone, Copy, Debug, PartialEq, Eq)]
-pub(crate) struct ReadFailed;
+pub struct ReadFailed;
 
 /// A write failed, or took no byte.
 #[derive(Clone, Copy, Debug, PartialEq, Eq)]
-pub(crate) struct WriteFailed;
+pub struct WriteFailed;
 
 /// Reads once: how many bytes came, 0 at the end of input. A fault took no byte.
-pub(crate) fn read_some<R: Read>(from: &mut R, piece: &mut [u8]) -> Result<usize, ReadFailed>
+pub fn read_some<R: Read>(from: &mut R, piece: &mut [u8]) -> Result<usize, ReadFailed>
     requires { 0 < length piece.old }
     ensures count { IfOk result (λ count. count ≤ length piece.new) }
     ensures read { ReadConsumes (R.remaining from.old) (R.remaining from.new) result piece.new }
@@ -35,7 +35,7 @@ pub(crate) fn read_some<R: Read>(from: &mut R, piece: &mut [u8]) -> Result<usize
 }
 
 /// Writes all of the bytes; at a fault, a beginning of them.
-pub(crate) fn write_all<W: Write>(to: &mut W, bytes: &[u8]) -> Result<(), WriteFailed>
+pub fn write_all<W: Write>(to: &mut W, bytes: &[u8]) -> Result<(), WriteFailed>
     ensures { MatchResult result
         (λ _. Appends (W.contents to.old) (W.contents to.new) bytes.now)
         (λ _. (n : ℕ) × Appends (W.contents to.old) (W.contents to.new) (take n bytes.now)) }
