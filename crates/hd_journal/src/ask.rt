@@ -2,10 +2,12 @@
 
 ghost use Rattle.std.specs.Prelude.{◌≡◌, None, IfOk, IsOk, option_map};
 ghost use Rattle.hd_journal.specs.Asks.{asking, kept_line, replied, sent};
+ghost use Rattle.hd_journal.specs.Shown.{shown};
 
 use crate::entry::Entry;
 use crate::line::{Line, copied, lent};
 use crate::numbers::SeatNo;
+use crate::turn::TurnRef;
 use hd_rules::{Asked, TerminalNo, TurnReply};
 use std::alloc::{AllocError, Allocator};
 use std::marker::Model;
@@ -80,6 +82,19 @@ impl<'a> Ask<'a> {
             asked: self.asked,
             line,
         })
+    }
+
+    /// The turn of this, with its reply. It lends the asker's own line.
+    pub fn with_reply(&self, reply: TurnReply) -> TurnRef<'a>
+        ensures { shown result ≡ replied (sent self.now) reply }
+    {
+        TurnRef {
+            seat: self.seat,
+            terminal: self.terminal,
+            asked: self.asked,
+            line: self.line,
+            reply,
+        }
     }
 }
 

@@ -1,0 +1,6 @@
+pub mod Seating
+pub mod Submitting
+pub mod Lending
+pub mod Covering
+pub mod Once
+pub mod Walking

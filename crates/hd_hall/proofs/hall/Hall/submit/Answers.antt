@@ -1,0 +1,25 @@
+use Rattle.std.proofs.Common.{List, ◌∙◌, ap, subst, sym}
+use Rattle.hd_journal.specs.Asks.{SeatMessage}
+use Rattle.hd_hall.specs.Receipts.{Receipted, received}
+use Rattle.hd_hall.specs.Seats.{SeatView}
+use Rattle.hd_hall.specs.Submitting.{IsNextOf}
+use Rattle.hd_hall.proofs.Seating.{seat-snoc}
+use Rattle.hd_hall.proofs.hall.Hall.submit.Goals as goal
+
+pub invariant_of-seat-2 : goal.invariant_of-seat-2
+invariant_of-seat-2 g c =
+    let made = c.in_ok-made.made in
+    let given = received (g.K.Keeper.asks c.in_ok-own.own) made in
+    let before = c.deref.ensures.value ∙ c.in_ok-reserve.ensures.items in
+    let next = subst (λ (rs : List Receipted). IsNextOf g.H.House.contents rs given) before c.in_ok-made.ensures.next in
+    let number = ap (λ (s : SeatView). s.number) c.seat.view_is in
+    let own = ap (λ (m : SeatMessage). m.seat) c.in_ok-copy.ensures.same ∙ (c.requires.seat ∙ sym number) in
+    rw (
+      c.push_reserved.ensures.items,
+      c.in_ok-reserve.ensures.items,
+      c.new.ensures,
+      c.in_ok-made.ensures.parts,
+      c.in_ok-made.ensures.share,
+    )
+    (seat-snoc _ next.before (received c.in_ok-copy.copy made) (rw (← c.seat.view_is) at c.requires.part) c.seat.invariant
+    next.holds own next.number)

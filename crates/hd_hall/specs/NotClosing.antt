@@ -1,0 +1,20 @@
+-- What a hall that didn't close gives back.
+use Rattle.std.specs.Prelude.{◌≡◌, ◌<◌, List, length}
+use Rattle.hd_catalogue.specs.Contents.{Contents}
+use Rattle.hd_hall.specs.Closings.{LacksReceipt}
+use Rattle.hd_hall.specs.Seats.{SeatView, EachSeat, IsWhole}
+use Rattle.std.specs.declared.alloc.Allocator.{Ghosts as AllocatorGhosts}
+use Rattle.hd_hall.specs.declared.house.House.{Ghosts}
+use Rattle.hd_hall.specs.declared.keeper.Keeper.{Ghosts as KeeperGhosts}
+use Rattle.hd_hall.specs.declared.hall.NotClosed.{NotClosed}
+use Rattle.hd_hall.specs.declared.hall.NotClosed.TheVariants.{SeatMissing, ReceiptDiffers}
+
+-- The seats come back as they were. More were opened than these; or a legal journal of the catalogue, with as
+-- many turns as the seats' shares say, each share being the number of its seat's receipts, has a turn of that
+-- number of which no seat has a receipt.
+abbrev pub Misses : {H A K Own : Type 0} {house : Ghosts H} {memory : AllocatorGhosts A}
+    {keeping : KeeperGhosts K A Own} → Contents → NotClosed H A K Own house memory keeping → List SeatView → Type 0
+Misses k (SeatMissing hall back opened) seats = (back.items ≡ seats) × (length seats < opened)
+Misses {keeping = keeping} k (ReceiptDiffers keeper back number) seats =
+    (back.items ≡ seats) × (keeping.contents keeper ≡ k) × LacksReceipt k (keeping.turns keeper) seats number
+    × EachSeat seats IsWhole

@@ -1,0 +1,21 @@
+-- What a seat is told: its receipts, or that the journal isn't the one that it came from.
+use Rattle.std.specs.Prelude.{◌≡◌, ℕ, ◌+◌, List, [], ◌∷◌, ◌++◌, length}
+use Rattle.hd_rules.specs.Journal.{Turn}
+use Rattle.hd_catalogue.specs.Contents.{Contents}
+use Rattle.hd_journal.specs.Books.{IsLegalBook}
+use Rattle.hd_hall.specs.Receipts.{Receipted, HoldsLast, LacksLast}
+
+-- The receipt is of the last turn of a legal journal of the catalogue, in which the seat's last turn before it,
+-- if there was one, stands at its own number, which is lower.
+pub record IsNextOf (k : Contents) (receipts : List Receipted) (r : Receipted) : Type 0 where
+  pub before : List Turn
+  pub legal : IsLegalBook k (before ++ r.turn ∷ [])
+  pub number : r.number ≡ length before + 1
+  pub holds : HoldsLast before receipts
+
+-- A legal journal of the catalogue, with so many turns, lacks the seat's last turn.
+pub record IsStrangeTo (k : Contents) (receipts : List Receipted) (front : ℕ) : Type 0 where
+  pub turns : List Turn
+  pub legal : IsLegalBook k turns
+  pub counted : length turns ≡ front
+  pub lacks : LacksLast turns receipts

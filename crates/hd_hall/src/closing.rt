@@ -1,0 +1,173 @@
+//! Closing: the receipts of all seats against the turns of the journal.
+
+ghost use Rattle.std.specs.Prelude.{◌≡◌, ◌+◌, ◌-◌, ◌<◌, ◌≤◌, ◌↔◌, ℕ, Some, IsTrue, IfSome, IfNone, OnSome};
+ghost use Rattle.std.specs.Prelude.{false, length, map, slice_get};
+ghost use Rattle.std.specs.List.{All, Contains};
+ghost use Rattle.hd_rules.specs.Journal.{Turn};
+ghost use Rattle.hd_journal.specs.Books.{turn_numbered};
+ghost use Rattle.hd_journal.specs.Shown.{shown};
+ghost use Rattle.hd_hall.specs.Closings.{AreThere, AreTurnsOf, IsLacking, LacksReceipt};
+ghost use Rattle.hd_hall.specs.Receipts.{Stands};
+ghost use Rattle.hd_hall.specs.Seats.{EachSeat, IsWhole, all_receipts, held, lent, shares};
+
+use crate::house::House;
+use crate::keeper::Keeper;
+use crate::kept::Kept;
+use crate::locked::stands;
+use crate::seat::Seat;
+use hd_journal::TurnRef;
+use std::alloc::Allocator;
+use std::sync::ledger::{Book, Share};
+
+/// The number of a turn of which no seat has the receipt. With `None` the turns are the receipts.
+pub(crate) fn differing<H: House, A: Allocator + Copy, K: Keeper<A>>(
+    keeper: &K,
+    book: &mut Book<H>,
+    rest: &mut Share<H>,
+    seats: &mut [Seat<H, A>],
+) -> Option<usize>
+    requires seats { EachSeat seats.old (λ s. s.parts ≡ 1) }
+    requires counted { book.old.total ≡ length (K.turns keeper.now) }
+    requires empty { (rest.old.amount ≡ 0) × (0 < rest.old.parts) }
+    requires all { H.parts ≤ rest.old.parts + length seats.old }
+    ensures none { IfNone result (AreTurnsOf (K.contents keeper.now) (K.turns keeper.now) seats.old) }
+    ensures some { IfSome result (LacksReceipt (K.contents keeper.now) (K.turns keeper.now) seats.old) }
+    ensures same { OnSome result (seats.new ≡ seats.old) }
+    ensures whole { EachSeat seats.old IsWhole }
+{
+    gather(rest, seats);
+    let none = rest.empty();
+    rest.merge(none);
+    book.audit(rest);
+    let front = keeper.front();
+    if are_there(keeper, seats) {
+        return None;
+    }
+    match first_without_receipt(keeper, seats, front) {
+        None => None,
+        Some(number) => {
+            give_back(rest, seats);
+            Some(number)
+        }
+    }
+}
+
+/// Gathers the parts of all seats.
+fn gather<H: House, A: Allocator>(all: &mut Share<H>, seats: &mut [Seat<H, A>])
+    requires { EachSeat seats.old (λ s. s.parts ≡ 1) }
+    ensures parts { all.new.parts ≡ all.old.parts + length seats.old }
+    ensures amount { all.new.amount ≡ all.old.amount + shares seats.old }
+    ensures lent { seats.new ≡ map lent seats.old }
+    ensures whole { EachSeat seats.old IsWhole }
+{
+    for seat in seats.iter_mut() {
+        seat.lend(all);
+    }
+}
+
+/// Gives each seat its part again.
+fn give_back<H: House, A: Allocator>(all: &mut Share<H>, seats: &mut [Seat<H, A>])
+    requires lent { EachSeat seats.old (λ s. s.parts ≡ 0) }
+    requires parts { length seats.old < all.old.parts }
+    requires amount { length (all_receipts seats.old) ≤ all.old.amount }
+    ensures { seats.new ≡ map held seats.old }
+{
+    for seat in seats.iter_mut() {
+        seat.take_back(all);
+    }
+}
+
+/// Whether the seats stand in the order of their numbers, and each receipt is of the journal's turn of its
+/// number.
+fn are_there<H: House, A: Allocator + Copy, K: Keeper<A>>(keeper: &K, seats: &[Seat<H, A>]) -> bool
+    ensures { IsTrue result → AreThere (K.turns keeper.now) 0 seats.now }
+{
+    let mut last = 0;
+    for seat in seats {
+        let number = seat.number().number();
+        if number <= last || !all_stand(keeper, seat.receipts()) {
+            return false;
+        }
+        last = number;
+    }
+    true
+}
+
+/// Whether each receipt is of the journal's turn of its number.
+fn all_stand<A: Allocator + Copy, K: Keeper<A>>(keeper: &K, receipts: &[Kept<A>]) -> bool
+    ensures { IsTrue result → All (Stands (K.turns keeper.now)) receipts.now }
+{
+    for receipt in receipts {
+        if !stands(keeper, receipt) {
+            return false;
+        }
+    }
+    true
+}
+
+/// The first turn of which no seat has the receipt, of `front` turns.
+fn first_without_receipt<H: House, A: Allocator + Copy, K: Keeper<A>>(
+    keeper: &K,
+    seats: &[Seat<H, A>],
+    front: usize,
+) -> Option<usize>
+    requires { front ≡ length (K.turns keeper.now) }
+    ensures none { IfNone result ((k : ℕ) (t : Turn) → slice_get (K.turns keeper.now) k ≡ Some t
+        → Contains (all_receipts seats.now) (record { number = k + 1; turn = t })) }
+    ensures some { IfSome result (IsLacking (K.turns keeper.now) seats.now) }
+{
+    for at in 0..front {
+        let number = at + 1;
+        if !is_received(keeper, seats, number) {
+            return Some(number);
+        }
+    }
+    None
+}
+
+/// Whether some seat has the receipt of the turn of this number, where there is such a turn.
+fn is_received<H: House, A: Allocator + Copy, K: Keeper<A>>(
+    keeper: &K,
+    seats: &[Seat<H, A>],
+    number: usize,
+) -> bool
+    ensures yes { IsTrue result → (t : Turn) → turn_numbered (K.turns keeper.now) number ≡ Some t
+        → Contains (all_receipts seats.now) (record { number = number; turn = t }) }
+    ensures no { result ≡ false → (t : Turn) × (turn_numbered (K.turns keeper.now) number ≡ Some t)
+        × (Contains (all_receipts seats.now) (record { number = number; turn = t }) → ⊥) }
+{
+    match keeper.turn_at(number) {
+        None => true,
+        Some(turn) => has_receipt(seats, number, &turn),
+    }
+}
+
+/// Whether some seat has this turn's receipt.
+fn has_receipt<H: House, A: Allocator>(
+    seats: &[Seat<H, A>],
+    number: usize,
+    turn: &TurnRef<'_>,
+) -> bool
+    ensures { IsTrue result
+        ↔ Contains (all_receipts seats.now) (record { number = number; turn = shown turn.now }) }
+{
+    for seat in seats {
+        if holds(seat.receipts(), number, turn) {
+            return true;
+        }
+    }
+    false
+}
+
+/// Whether one of these is the turn's receipt.
+fn holds<A: Allocator>(receipts: &[Kept<A>], number: usize, turn: &TurnRef<'_>) -> bool
+    ensures { IsTrue result
+        ↔ Contains receipts.now (record { number = number; turn = shown turn.now }) }
+{
+    for receipt in receipts {
+        if receipt.is_of(number, turn) {
+            return true;
+        }
+    }
+    false
+}

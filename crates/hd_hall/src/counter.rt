@@ -1,0 +1,74 @@
+//! A seat of a hall is an office.
+
+ghost use Rattle.std.specs.Prelude.{◌≡◌};
+
+use crate::fault::HallFault;
+use crate::hall::Hall;
+use crate::house::House;
+use crate::keeper::Keeper;
+use crate::seat::Seat;
+use hd_catalogue::Catalogue;
+use hd_exchange::{Office, OfficeFault};
+use hd_journal::{Ask, Journal, SeatNo, Turn};
+use std::alloc::{Allocator, Global};
+use std::sync::Wait;
+
+/// A seat of a hall, as an office: its turns are the seat's receipts.
+#[derive(Drop)]
+pub struct Counter<'a, H: House, R: Wait, A: Allocator = Global, K: Keeper<A> = Journal<A>> {
+    rt: &'a R,
+    hall: &'a Hall<H, A, K>,
+    seat: &'a mut Seat<H, A>,
+    ghost held: { seat.now.parts ≡ 1 },
+}
+
+impl<'a, H: House, R: Wait, A: Allocator, K: Keeper<A>> Counter<'a, H, R, A, K> {
+    /// The counter of a seat, which was opened by this hall.
+    pub fn new(
+        rt: &'a R,
+        hall: &'a Hall<H, A, K>,
+        seat: &'a mut Seat<H, A>,
+    ) -> Counter<'a, H, R, A, K>
+        requires { seat.old.parts ≡ 1 }
+        ensures same_reference { result.seat.ghost_name ≡ seat.entry.ghost_name }
+        ensures seat { result.seat.now ≡ seat.old }
+    {
+        Counter { rt, hall, seat }
+    }
+}
+
+impl<'a, H: House, R: Wait, A: Allocator + Copy, K: Keeper<A> + Drop> Office<A>
+    for Counter<'a, H, R, A, K> {
+    ghost use Rattle.std.specs.Prelude.{map, [], ◌∷◌};
+
+    ghost keeps = { λ c. record {
+      contents = H.contents;
+      seat = c.seat.now.number;
+      borrows = c.seat.ghost_name ∷ [];
+    } };
+
+    ghost turns = { λ c. map (λ r. r.turn) c.seat.now.receipts };
+
+    ghost faults = { λ fault. Unit {0} };
+
+    ghost holds = { λ c. Unit {0} };
+
+    fn catalogue(&self) -> &Catalogue<A> {
+        self.hall.catalogue()
+    }
+
+    fn seat(&self) -> SeatNo {
+        self.seat.number()
+    }
+
+    fn turn(&mut self, ask: &Ask<'_>) -> Result<Turn, OfficeFault> {
+        match self.hall.submit(self.rt, self.seat, ask) {
+            Ok(receipt) => Ok(Turn {
+                at: receipt.number,
+                reply: receipt.turn.reply,
+            }),
+            Err(HallFault::Memory) => Err(OfficeFault::Memory),
+            Err(HallFault::Estranged { .. }) => Err(OfficeFault::Estranged),
+        }
+    }
+}

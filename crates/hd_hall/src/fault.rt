@@ -1,0 +1,32 @@
+//! Why a hall makes no turn.
+
+ghost use Rattle.std.specs.Prelude.{◌≡◌};
+ghost use Rattle.hd_hall.specs.declared.fault.HallFault.TheVariants.{Memory};
+
+use hd_journal::Fault;
+use std::alloc::AllocError;
+
+/// Why a hall makes no turn. Nothing is changed then.
+#[derive(Clone, Copy, PartialEq, Eq, Debug)]
+pub enum HallFault {
+    /// There was no memory for it.
+    Memory,
+    /// The hall's journal, of `front` turns, lacks the seat's last turn.
+    Estranged { front: usize },
+}
+
+impl From<AllocError> for HallFault {
+    ghost from_gives = { λ _ fault. fault ≡ Memory };
+
+    fn from(_: AllocError) -> HallFault {
+        HallFault::Memory
+    }
+}
+
+impl From<Fault> for HallFault {
+    ghost from_gives = { λ _ fault. fault ≡ Memory };
+
+    fn from(_: Fault) -> HallFault {
+        HallFault::Memory
+    }
+}

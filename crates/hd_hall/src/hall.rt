@@ -1,0 +1,218 @@
+//! Halls.
+
+ghost use Rattle.std.specs.Prelude.{◌≡◌, ◌+◌, ◌<◌, [], ℕ, Err, IfOk, IfErr, IfSome, OnOk, OnErr};
+ghost use Rattle.std.specs.Arc.{arc_value};
+ghost use Rattle.hd_catalogue.specs.Contents.{facts_of};
+ghost use Rattle.hd_journal.specs.Asks.{IsKnownMessage, replied, sent};
+ghost use Rattle.hd_hall.specs.Closings.{AreTurnsOf};
+ghost use Rattle.hd_hall.specs.Receipts.{received, told};
+ghost use Rattle.hd_hall.specs.Seats.{EachSeat, IsWhole, with_receipt};
+ghost use Rattle.hd_hall.specs.Submitting.{IsNextOf, IsStrangeTo};
+
+use crate::closing::differing;
+use crate::fault::HallFault;
+use crate::house::House;
+use crate::keeper::Keeper;
+use crate::kept::Kept;
+use crate::locked::Locked;
+use crate::receipt::Receipt;
+use crate::seat::Seat;
+use hd_catalogue::Catalogue;
+use hd_journal::{Ask, Journal, Turn};
+use std::alloc::{Allocator, Global};
+use std::sync::ledger::{Blank, Share};
+use std::sync::{Arc, Mutex, Wait};
+
+/// One journal behind one lock, for many threads, each at a seat of its own. The catalogue stands outside the
+/// lock.
+///
+/// Under the lock are the journal's keeper, the book of the ledger, the parts that no seat has and the number
+/// of seats opened. The journal is always legal.
+#[derive(Drop)]
+pub struct Hall<H: House, A: Allocator = Global, K: Keeper<A> = Journal<A>> {
+    pub(crate) alloc: A,
+    pub(crate) catalogue: Arc<Catalogue<A>, A>,
+    pub(crate) shared: Mutex<Locked<H, A, K>>,
+    ghost ours: { arc_value catalogue ≡ H.contents },
+}
+
+/// Why a hall did not close. The seats come back as they were.
+#[derive(Drop)]
+pub enum NotClosed<H: House, A: Allocator = Global, K: Keeper<A> = Journal<A>> {
+    /// More seats were opened than were handed in.
+    SeatMissing {
+        /// The hall.
+        hall: Hall<H, A, K>,
+        /// The seats that were handed in.
+        seats: Vec<Seat<H, A>, A>,
+        /// How many seats were opened.
+        opened: u32,
+    },
+    /// No seat has a receipt for the journal's turn of this number.
+    ReceiptDiffers {
+        /// The journal.
+        keeper: K,
+        /// The seats that were handed in.
+        seats: Vec<Seat<H, A>, A>,
+        /// The number of the turn, from 1.
+        number: usize,
+    },
+}
+
+impl<H: House, A: Allocator + Copy, K: Keeper<A> + Drop> Hall<H, A, K> {
+    ghost use Rattle.hd_hall.specs.NotClosing.{Misses};
+
+    /// A hall round a journal without turns, with a new ledger, whose parts are one for each seat and one more.
+    ///
+    /// # Errors
+    /// `Memory`. The journal is dropped then.
+    pub fn new(alloc: A, keeper: K, blank: Blank) -> Result<Hall<H, A, K>, HallFault>
+        requires turns { K.turns keeper ≡ [] }
+        requires contents { K.contents keeper ≡ H.contents }
+        requires name { blank.name ≡ H.name }
+        requires parts { (blank.parts ≡ H.parts) × (H.parts ≡ 4294967296) }
+    {
+        let catalogue = Arc::try_clone(keeper.catalogue())?;
+        Ok(Hall {
+            alloc,
+            catalogue,
+            shared: Mutex::new(Locked::new(keeper, blank)),
+        })
+    }
+
+    /// The catalogue.
+    pub fn catalogue(&self) -> &Catalogue<A>
+        ensures { result.now ≡ H.contents }
+    {
+        &self.catalogue
+    }
+
+    /// A new seat, or `None` where all have been opened.
+    pub fn seat<R: Wait>(&self, rt: &R) -> Option<Seat<H, A>>
+        ensures { IfSome result (λ s. (s.receipts ≡ []) × (s.parts ≡ 1) × (0 < s.number)) }
+    {
+        let (number, share) = self.shared.lock(rt).seat()?;
+        Some(Seat {
+            number,
+            receipts: Vec::new(self.alloc),
+            share,
+        })
+    }
+
+    /// One turn: what a terminal of this seat asks. The seat was opened by this hall; the terminal, and all that
+    /// it asks, are of the hall's catalogue.
+    ///
+    /// The receipt is of the turn, which is the last of the hall's journal, and lends the asker's own line. The
+    /// seat keeps it, with a copy of the line. The room for it, that copy and the journal's are made before the
+    /// lock is taken.
+    ///
+    /// # Errors
+    /// `Memory`, and `Estranged` where the journal lacks the seat's last turn. The journal and the seat are
+    /// unchanged.
+    pub fn submit<'l, R: Wait>(
+        &self,
+        rt: &R,
+        seat: &mut Seat<H, A>,
+        ask: &Ask<'l>,
+    ) -> Result<Receipt<'l>, HallFault>
+        requires part { seat.old.parts ≡ 1 }
+        requires seat { ask.now.seat ≡ seat.old.number }
+        requires known { IsKnownMessage (facts_of H.contents) (sent ask.now).message }
+        ensures turn { IfOk result (λ receipt.
+            (told receipt).turn ≡ replied (sent ask.now) receipt.turn.reply) }
+        ensures next { IfOk result (λ receipt. IsNextOf H.contents seat.old.receipts (told receipt)) }
+        ensures kept { IfOk result (λ receipt. seat.new ≡ with_receipt seat.old (told receipt)) }
+        ensures estranged { (front : ℕ) → result ≡ Err (HallFault.Estranged front)
+            → IsStrangeTo H.contents seat.old.receipts front }
+        ensures err { OnErr result (seat.new ≡ seat.old) }
+    {
+        let Seat {
+            receipts,
+            share,
+            ..
+        } = seat;
+        receipts.reserve(1)?;
+        let copy = ask.to_owned(self.alloc)?;
+        let own = K::own(self.alloc, ask)?;
+        let made = self.take(rt, receipts, share, own)?;
+        receipts.push_reserved(Kept::new(copy, &made));
+        Ok(Receipt::new(ask, &made))
+    }
+
+    /// The journal, whose turns are the receipts of these seats, each once. It takes no memory.
+    ///
+    /// Each receipt is compared with the journal's turn of its number. Where the seats stand in the order of
+    /// their numbers, this is all that is compared; else each turn's receipt is looked for.
+    ///
+    /// # Errors
+    /// `SeatMissing` where fewer seats are handed in than were opened, and `ReceiptDiffers` where some turn has
+    /// no receipt. The seats come back as they were.
+    pub fn close(self, mut seats: Vec<Seat<H, A>, A>) -> Result<K, NotClosed<H, A, K>>
+        requires parts { H.parts ≡ 4294967296 }
+        requires seats { EachSeat seats.items (λ s. s.parts ≡ 1) }
+        ensures turns { IfOk result (λ keeper. AreTurnsOf H.contents (K.turns keeper) seats.items) }
+        ensures contents { IfOk result (λ keeper. K.contents keeper ≡ H.contents) }
+        ensures in_order { OnOk result (EachSeat seats.items IsWhole) }
+        ensures missing { IfErr result (λ why. Misses H.contents why seats.items) }
+    {
+        let Hall {
+            alloc,
+            catalogue,
+            shared,
+        } = self;
+        let Locked {
+            keeper,
+            mut book,
+            mut rest,
+            opened,
+            of,
+        } = shared.into_inner();
+        if seats.len() < opened as usize {
+            let locked = Locked {
+                keeper,
+                book,
+                rest,
+                opened,
+                of,
+            };
+            return Err(NotClosed::SeatMissing {
+                hall: Hall {
+                    alloc,
+                    catalogue,
+                    shared: Mutex::new(locked),
+                },
+                seats,
+                opened,
+            });
+        }
+        match differing(&keeper, &mut book, &mut rest, seats.as_mut_slice()) {
+            None => Ok(keeper),
+            Some(number) => Err(NotClosed::ReceiptDiffers {
+                keeper,
+                seats,
+                number,
+            }),
+        }
+    }
+
+    /// The lock's section of a turn, counted in the share, where the journal holds the last of these receipts.
+    fn take<R: Wait>(
+        &self,
+        rt: &R,
+        receipts: &[Kept<A>],
+        share: &mut Share<H>,
+        own: K::Own,
+    ) -> Result<Turn, HallFault>
+        requires part { 0 < share.old.parts }
+        requires known { IsKnownMessage (facts_of H.contents) (K.asks own).message }
+        ensures next { IfOk result (λ made.
+            IsNextOf H.contents receipts.now (received (K.asks own) made)) }
+        ensures share { OnOk result (share.new.amount ≡ share.old.amount + 1) }
+        ensures parts { share.new.parts ≡ share.old.parts }
+        ensures estranged { (front : ℕ) → result ≡ Err (HallFault.Estranged front)
+            → IsStrangeTo H.contents receipts.now front }
+        ensures err { OnErr result (share.new ≡ share.old) }
+    {
+        self.shared.lock(rt).submit(receipts, share, own)
+    }
+}

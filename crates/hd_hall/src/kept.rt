@@ -1,0 +1,57 @@
+//! Receipts, as a seat keeps them.
+
+ghost use Rattle.std.specs.Prelude.{◌≡◌, ◌↔◌, IsTrue};
+ghost use Rattle.hd_journal.specs.Shown.{shown};
+ghost use Rattle.hd_hall.specs.Receipts.{received};
+
+use hd_journal::{Entry, OwnedAsk, Turn, TurnRef};
+use std::alloc::Allocator;
+use std::marker::Model;
+
+/// A receipt, with a copy of its line.
+#[derive(Drop)]
+pub struct Kept<A: Allocator> {
+    number: usize,
+    turn: Entry<A>,
+}
+
+impl<A: Allocator> Model for Kept<A> {
+    ghost use Rattle.hd_hall.specs.Receipts.{Receipted};
+
+    ghost Value = { Receipted };
+
+    ghost view = { λ kept. record { number = kept.number; turn = kept.turn } };
+}
+
+impl<A: Allocator> Kept<A> {
+    /// The receipt of the turn that was made of this.
+    pub(crate) fn new(ask: OwnedAsk<A>, made: &Turn) -> Kept<A>
+        ensures { result ≡ received ask made.now }
+    {
+        Kept {
+            number: made.at,
+            turn: ask.with_reply(made.reply),
+        }
+    }
+
+    /// The turn's number in the journal, from 1.
+    pub fn number(&self) -> usize
+        ensures { result ≡ self.now.number }
+    {
+        self.number
+    }
+
+    /// The turn, with its line lent.
+    pub fn turn(&self) -> TurnRef<'_>
+        ensures { shown result ≡ self.now.turn }
+    {
+        self.turn.show()
+    }
+
+    /// Whether it is of this turn, with this number: the same seat, terminal, question, line and reply.
+    pub(crate) fn is_of(&self, number: usize, turn: &TurnRef<'_>) -> bool
+        ensures { IsTrue result ↔ (self.now ≡ record { number = number; turn = shown turn.now }) }
+    {
+        self.number == number && self.turn.is_of(turn)
+    }
+}

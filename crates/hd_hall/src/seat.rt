@@ -1,0 +1,83 @@
+//! Seats.
+
+ghost use Rattle.std.specs.Prelude.{◌≡◌, ◌+◌, ◌<◌, ◌≤◌, length};
+ghost use Rattle.hd_hall.specs.Seats.{lent, held, IsWhole};
+
+use crate::house::House;
+use crate::kept::Kept;
+use hd_journal::SeatNo;
+use std::alloc::{Allocator, Global};
+use std::marker::Model;
+use std::sync::ledger::Share;
+
+/// A place in a hall, with the receipts of the turns that were made from it, and one part of the hall's ledger.
+///
+/// Its receipts are its own, in the order of the journal, and its share of what the ledger counts is their
+/// number.
+#[derive(Drop)]
+pub struct Seat<H: House, A: Allocator = Global> {
+    pub(crate) number: SeatNo,
+    pub(crate) receipts: Vec<Kept<A>, A>,
+    pub(crate) share: Share<H>,
+}
+
+impl<H: House, A: Allocator> Model for Seat<H, A> {
+    ghost use Rattle.hd_hall.specs.Seats.{SeatView, IsSeat};
+
+    ghost Value = { SeatView };
+
+    ghost view = { λ s. record {
+      number = s.number;
+      receipts = s.receipts.items;
+      parts = s.share.parts;
+      share = s.share.amount;
+    } };
+
+    ghost invariant = { λ s. IsSeat (record {
+      number = s.number;
+      receipts = s.receipts.items;
+      parts = s.share.parts;
+      share = s.share.amount;
+    }) };
+}
+
+impl<H: House, A: Allocator> Seat<H, A> {
+    /// Its number, from 1.
+    pub fn number(&self) -> SeatNo
+        ensures { result ≡ self.now.number }
+    {
+        self.number
+    }
+
+    /// The receipts of the turns that were made from it, in order.
+    pub fn receipts(&self) -> &[Kept<A>]
+        ensures { result.now ≡ self.now.receipts }
+    {
+        self.receipts.as_slice()
+    }
+
+    /// Gives its part of the ledger to `all`, with its share.
+    pub(crate) fn lend(&mut self, all: &mut Share<H>)
+        requires { self.old.parts ≡ 1 }
+        ensures whole { IsWhole self.old }
+        ensures lent { self.new ≡ lent self.old }
+        ensures parts { all.new.parts ≡ all.old.parts + 1 }
+        ensures amount { all.new.amount ≡ all.old.amount + self.old.share }
+    {
+        let count = self.receipts.len() as u64;
+        self.share.give(all, 1, count);
+    }
+
+    /// Takes its part back.
+    pub(crate) fn take_back(&mut self, all: &mut Share<H>)
+        requires lent { self.old.parts ≡ 0 }
+        requires parts { 1 < all.old.parts }
+        requires amount { length self.old.receipts ≤ all.old.amount }
+        ensures held { self.new ≡ held self.old }
+        ensures parts { all.new.parts + 1 ≡ all.old.parts }
+        ensures amount { all.new.amount + length self.old.receipts ≡ all.old.amount }
+    {
+        let count = self.receipts.len() as u64;
+        all.give(&mut self.share, 1, count);
+    }
+}
