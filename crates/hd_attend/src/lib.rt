@@ -6,7 +6,7 @@ mod fault;
 mod gate;
 mod gated;
 
-pub use crate::attending::attend_office;
+pub use crate::attending::{attend, attend_office};
 pub use crate::fault::AttendFault;
 pub use crate::gate::Gate;
 pub use crate::gated::Gated;

@@ -8,7 +8,8 @@ use Rattle.std.proofs.lemmas.List.{length-take-le, take-take, take_all}
 use Rattle.std.specs.Io.KnownBytes.{Appends, Consumes, IsAtEnd, Keeps}
 use Rattle.hd_server.specs.declared.fault.ServerFault.{ServerFault}
 use Rattle.hd_server.specs.declared.fault.ServerFault.TheVariants.{BadNow, Catalogue, InputTooLong, Memory, NoSession, Read, Write}
-use Rattle.hd_server.specs.Ends.{IsTime, Reads, Streams}
+use Rattle.hd_connection.specs.Streams.{Streams}
+use Rattle.hd_server.specs.Ends.{IsTime, Reads}
 use Rattle.hd_server.specs.Inputs.{AreLines, with_rest}
 use Rattle.hd_server.specs.Replays.{AllReplayed, IsOfLine, IsStop, Progress, Replayed}
 use Rattle.hd_server.proofs.Lining.{are_append, are_none, lines_exist, not_in_nothing}

@@ -1,5 +1,5 @@
 use Rattle.std.proofs.Common.{Ok, Err, refl}
-use Rattle.hd_attend.proofs.Feeding.{attends_passed, attends_piece, on_after}
+use Rattle.hd_attend.proofs.Attended.{attends_passed, attends_piece, on_after}
 use Rattle.hd_attend.specs.declared.fault.AttendFault.TheVariants.{Write, Ended}
 use Rattle.hd_attend.proofs.attending.answer_piece.Goals as goal
 

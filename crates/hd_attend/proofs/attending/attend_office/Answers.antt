@@ -1,6 +1,6 @@
 use Rattle.std.proofs.Common.{◌∙◌, refl, sym, subst}
 use Rattle.hd_date.specs.Stamps.{Stamp}
-use Rattle.hd_attend.proofs.Feeding.{attends_more, attends_none, attends_passed, goes_on}
+use Rattle.hd_attend.proofs.Attended.{attends_more, attends_none, attends_passed, goes_on}
 use Rattle.hd_attend.specs.declared.fault.AttendFault.TheVariants.{Read}
 use Rattle.hd_attend.proofs.attending.attend_office.Goals as goal
 
