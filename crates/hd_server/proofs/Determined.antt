@@ -12,7 +12,8 @@ use Rattle.hd_session.specs.Endings.{EndsWell}
 use Rattle.hd_session.specs.Scripts.{AreFed, Event, Step, turns_of}
 use Rattle.hd_session.specs.Sessions.{Hearing}
 use Rattle.hd_server.specs.Endings.{WritesWell}
-use Rattle.hd_server.specs.Ends.{HasLines, Replay, Streams}
+use Rattle.hd_connection.specs.Streams.{Streams}
+use Rattle.hd_server.specs.Ends.{HasLines, Replay}
 use Rattle.hd_server.specs.Inputs.{HasSession, Message, line_of, with_rest}
 use Rattle.hd_server.specs.Printing.{ArePrinted, IsPrinted, end_text, printed}
 use Rattle.hd_server.specs.Replays.{AllReplayed, Progress, faults, opening, step_of}

@@ -6,7 +6,8 @@ use Rattle.hd_catalogue.specs.Contents.{Contents}
 use Rattle.hd_catalogue.specs.Files.{IsAccepted, lines_of}
 use Rattle.hd_server.specs.declared.fault.ServerFault.{ServerFault}
 use Rattle.hd_server.specs.declared.fault.ServerFault.TheVariants.{BadNow, Catalogue, InputTooLong, Memory, NoSession, Read, Write}
-use Rattle.hd_server.specs.Ends.{IsReplayOf, IsUntouched, Replay, Streams}
+use Rattle.hd_connection.specs.Streams.{Streams}
+use Rattle.hd_server.specs.Ends.{IsReplayOf, IsUntouched, Replay}
 
 -- an end by a fault
 abbrev pub by : ServerFault → Result (Unit {0}) ServerFault

@@ -1,4 +1,3 @@
-pub mod Told
 pub mod Lining
 pub mod Printed
 pub mod Prefixes

@@ -1,19 +1,19 @@
 -- What was read of an input, and what was replayed of it.
 use Rattle.std.proofs.Common.{⊎_elim, ◌≡◌, ◌∙◌, ◌≤◌, ◌<◌, ◌+◌, ◌-◌, min, ℕ, true, false, List, [], ◌∷◌, ◌++◌, Option, Result, Ok, Err}
 use Rattle.std.proofs.Common.{IsErr, IsErrAnd, IfErr, length, length-append, take, drop, arith, refl, sym, ap, subst, append-nil}
-use Rattle.std.proofs.KnownBytes.{Appends-nil, Consumes-kept, Consumes-nil, Consumes-trans}
+use Rattle.std.proofs.KnownBytes.{Appends-nil, Appends-trans, Consumes-kept, Consumes-nil, Consumes-trans}
 use Rattle.std.proofs.Math.Seq.{drop-append_seam, take-add, take-append_seam}
 use Rattle.std.proofs.lemmas.Bool.{cases_lt, false≢true}
 use Rattle.std.proofs.lemmas.List.{length-take-le, take-take, take_all}
 use Rattle.std.specs.Io.KnownBytes.{Appends, Consumes, IsAtEnd, Keeps}
 use Rattle.hd_server.specs.declared.fault.ServerFault.{ServerFault}
 use Rattle.hd_server.specs.declared.fault.ServerFault.TheVariants.{BadNow, Catalogue, InputTooLong, Memory, NoSession, Read, Write}
-use Rattle.hd_server.specs.Ends.{IsTime, Reads, Streams}
+use Rattle.hd_connection.specs.Streams.{Streams}
+use Rattle.hd_server.specs.Ends.{IsTime, Reads}
 use Rattle.hd_server.specs.Inputs.{AreLines, with_rest}
 use Rattle.hd_server.specs.Replays.{AllReplayed, IsOfLine, IsStop, Progress, Replayed}
 use Rattle.hd_server.proofs.Lining.{are_append, are_none, lines_exist, not_in_nothing}
 use Rattle.hd_server.proofs.Replayed.{all_after, none_replayed, part_of_none, replayed_after}
-use Rattle.hd_server.proofs.Told.{appends-appends}
 
 -- a buffer after a read into the whole of it
 pub filled : (n : ℕ) (new old : List ℕ) → n ≡ length new → take n (new ++ drop (length new) old) ≡ new
@@ -78,7 +78,7 @@ module _ (before now after : Progress) (from from' from'' to to' to'' : Option (
     time = time;
     put = far.text ++ put;
     replayed = replayed_after before now after far.lines whole end far.text put far.replayed replayed;
-    wrote = appends-appends to to' to'' far.text put far.wrote wrote;
+    wrote = Appends-trans to to' to'' far.text put far.wrote wrote;
   }
 
   -- the end of input is come to
@@ -99,7 +99,7 @@ module _ (before now after : Progress) (from from' from'' to to' to'' : Option (
     time = in_time end stops;
     put = far.text ++ put;
     replayed = replayed_after before now after far.lines (with_rest [] left) end far.text put far.replayed replayed;
-    wrote = appends-appends to to' to'' far.text put far.wrote wrote;
+    wrote = Appends-trans to to' to'' far.text put far.wrote wrote;
   }
     where
       short : length far.got ≤ 16777216
@@ -183,7 +183,7 @@ read_further before now after from from' from'' to to' to'' left room counter fa
           (subst (λ (n : ℕ). AreLines 10 (left ++ take n piece) whole rest) same are));
       text = far.text ++ put;
       replayed = all_after before now after far.lines whole far.text put far.replayed replayed;
-      wrote = appends-appends to to' to'' far.text put far.wrote wrote;
+      wrote = Appends-trans to to' to'' far.text put far.wrote wrote;
       short = omega (arith, same, is, long, both, short);
       counted = omega (arith, long, both, counted, some);
     }

@@ -11,6 +11,7 @@ use Rattle.hd_rules.specs.Journal.{Turn}
 use Rattle.hd_catalogue.specs.Contents.{Contents}
 use Rattle.hd_session.specs.Scripts.{AreFed, Event, Step, turns_of}
 use Rattle.hd_session.specs.Sessions.{Hearing}
+use Rattle.hd_connection.specs.Streams.{IsCutShort}
 use Rattle.hd_server.specs.declared.fault.ServerFault.{ServerFault}
 use Rattle.hd_server.specs.declared.fault.ServerFault.TheVariants.{Catalogue, BadNow, NoSession, InputTooLong, Read, Write, Memory}
 use Rattle.hd_server.specs.Inputs.{HasSession, IsLineOf, Message, line_of}
@@ -282,10 +283,16 @@ part_of_up_to Write before after lines put n part = part_of_part before after li
 part_of_up_to (Catalogue bad) before after lines put n none = absurd none
 part_of_up_to BadNow before after lines put n none = absurd none
 
-pub part_of_some : {X : Type 0} (end : Result X ServerFault) (before after : Progress) (lines : List (List ℕ)) (put : List ℕ) (n : ℕ)
+cut_of : {X : Type 0} (end : Result X ServerFault) (before after : Progress) (lines : List (List ℕ)) (put : List ℕ) (n : ℕ)
     → Replayed before after lines end put → PartReplayed before after lines (take n put)
-part_of_some (Ok done) before after lines put n all = part_of_all before after lines put n all
-part_of_some (Err fault) before after lines put n replayed = part_of_up_to fault before after lines put n replayed
+cut_of (Ok done) before after lines put n all = part_of_all before after lines put n all
+cut_of (Err fault) before after lines put n replayed = part_of_up_to fault before after lines put n replayed
+
+-- what is put out is cut short
+pub part_of_some : {X : Type 0} (end : Result X ServerFault) (before after : Progress) (lines : List (List ℕ)) (put part : List ℕ)
+    → IsCutShort put part → Replayed before after lines end put → PartReplayed before after lines part
+part_of_some end before after lines put part cut replayed =
+    subst (λ (t : List ℕ). PartReplayed before after lines t) (sym cut.2) (cut_of end before after lines put cut.0 replayed)
 
 -- none of some lines is replayed
 pub part_of_none : (p : Progress) (lines : List (List ℕ)) → PartReplayed p p lines []

@@ -7,18 +7,12 @@ use Rattle.hd_date.specs.Stamps.{Stamp, IsStamp}
 use Rattle.hd_date.specs.declared.fault.DateFault.{DateFault}
 use Rattle.hd_catalogue.specs.Contents.{Contents}
 use Rattle.hd_catalogue.specs.Files.{IsAccepted, IsFirstBad, lines_of}
+use Rattle.hd_connection.specs.Streams.{Streams}
 use Rattle.hd_server.specs.declared.fault.ServerFault.{ServerFault}
 use Rattle.hd_server.specs.declared.fault.ServerFault.TheVariants.{Catalogue, BadNow, InputTooLong, Read}
 use Rattle.hd_server.specs.declared.fault.ServerFault.TheVariants.{Memory}
 use Rattle.hd_server.specs.Inputs.{AreLines, with_rest}
 use Rattle.hd_server.specs.Replays.{IsLegal, Progress, Replayed, opening}
-
--- The bytes of the input and of the output, before and after, as far as the reader and the writer tell them.
-pub record Streams : Type 0 where
-  pub from : Option (List ℕ)
-  pub from' : Option (List ℕ)
-  pub to : Option (List ℕ)
-  pub to' : Option (List ℕ)
 
 -- Of the bytes that were read these are the lines: the whole ones among the first 16,777,216 bytes, and at
 -- the end of input also a last one that nothing ends.

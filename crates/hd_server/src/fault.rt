@@ -2,8 +2,8 @@
 ghost use Rattle.std.specs.Prelude.{◌≡◌};
 ghost use Rattle.hd_server.specs.declared.fault.ServerFault.TheVariants.{Memory, Read, Write};
 
-use crate::stream::{ReadFailed, WriteFailed};
 use hd_catalogue::CatFault;
+use hd_connection::{ReadFailed, WriteFailed};
 use std::alloc::{AllocError, AllocFailed};
 use thiserror::Error;
 

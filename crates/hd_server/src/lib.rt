@@ -7,7 +7,6 @@ mod prefix;
 mod printing;
 mod replaying;
 mod sessions;
-mod stream;
 #[cfg(test)]
 mod tests;
 

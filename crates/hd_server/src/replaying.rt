@@ -10,8 +10,8 @@ ghost use Rattle.hd_server.specs.Replays.{IsLegal, IsStop, Replayed};
 
 use crate::fault::ServerFault;
 use crate::sessions::Sessions;
-use crate::stream::{read_some, write_all};
 use hd_catalogue::Catalogue;
+use hd_connection::{read_some, write_all};
 use hd_date::Stamp18;
 use hd_desk::{Desk, Meter};
 use hd_journal::Journal;

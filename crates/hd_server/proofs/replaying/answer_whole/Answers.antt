@@ -12,11 +12,11 @@ returns-in_err-write_all-clause-replayed g c =
     let out = c.as_slice.ensures.value ∙ (told.3.2 ∙ ap (λ (o : List ℕ). o ++ told.3.0) c.requires.out) in (
       told.0,
       told.1,
-      take wrote.0 told.3.0,
+      wrote.0,
       subst (λ (t : List ℕ). AreLines 10 t told.0 told.1) c.as_mut_slice.ensures.value told.2,
       passed_on _ Write _ _ _ _ c.from_residual.ensures.0 c.from_residual.ensures.1
-          (part_of_some c.answer_lines-answered.result _ _ told.0 told.3.0 wrote.0 told.3.1),
-      rw out at wrote.1,
+          (part_of_some c.answer_lines-answered.result _ _ told.0 told.3.0 wrote.0 (rw out at wrote.1) told.3.1),
+      wrote.2,
       no_ok _ _ c.from_residual.ensures.0,
     )
 

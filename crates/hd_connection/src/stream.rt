@@ -1,6 +1,7 @@
 //! Reading from a reader and writing to a writer, with calls that were interrupted tried again.
-ghost use Rattle.std.specs.Prelude.{◌<◌, ◌≤◌, IfOk, MatchResult, ℕ, length, take};
+ghost use Rattle.std.specs.Prelude.{◌<◌, ◌≤◌, IfOk, List, MatchResult, ℕ, length, take};
 ghost use Rattle.std.specs.Io.KnownBytes.{Appends, Keeps, ReadConsumes};
+ghost use Rattle.hd_connection.specs.Streams.{IsCutShort};
 
 use std::io::{ErrorKind, Read, Write};
 
@@ -9,14 +10,17 @@ const TRIES_AGAIN: usize = 16;
 
 /// A read failed.
 #[derive(Clone, Copy, Debug, PartialEq, Eq)]
-pub(crate) struct ReadFailed;
+pub struct ReadFailed;
 
 /// A write failed, or took no byte.
 #[derive(Clone, Copy, Debug, PartialEq, Eq)]
-pub(crate) struct WriteFailed;
+pub struct WriteFailed;
 
-/// Reads once: how many bytes came, 0 at the end of input. A fault took no byte.
-pub(crate) fn read_some<R: Read>(from: &mut R, piece: &mut [u8]) -> Result<usize, ReadFailed>
+/// Reads once: how many bytes came, 0 at the end of input.
+///
+/// # Errors
+/// Where the read fails. It takes no byte then.
+pub fn read_some<R: Read>(from: &mut R, piece: &mut [u8]) -> Result<usize, ReadFailed>
     requires { 0 < length piece.old }
     ensures count { IfOk result (λ count. count ≤ length piece.new) }
     ensures read { ReadConsumes (R.remaining from.old) (R.remaining from.new) result piece.new }
@@ -34,11 +38,15 @@ pub(crate) fn read_some<R: Read>(from: &mut R, piece: &mut [u8]) -> Result<usize
     Err(ReadFailed)
 }
 
-/// Writes all of the bytes; at a fault, a beginning of them.
-pub(crate) fn write_all<W: Write>(to: &mut W, bytes: &[u8]) -> Result<(), WriteFailed>
+/// Writes all of the bytes.
+///
+/// # Errors
+/// Where a write fails, or takes no byte. A beginning of the bytes is written then, and not all.
+pub fn write_all<W: Write>(to: &mut W, bytes: &[u8]) -> Result<(), WriteFailed>
     ensures { MatchResult result
         (λ _. Appends (W.contents to.old) (W.contents to.new) bytes.now)
-        (λ _. (n : ℕ) × Appends (W.contents to.old) (W.contents to.new) (take n bytes.now)) }
+        (λ _. (part : List ℕ) × IsCutShort bytes.now part
+        × Appends (W.contents to.old) (W.contents to.new) part) }
 {
     let mut done = 0;
     while done < bytes.len() {

@@ -1,0 +1,196 @@
+-- A session that is fed what is read, and whose replies are written.
+use Rattle.std.proofs.Common.{◌≡◌, ℕ, ◌+◌, ◌≤◌, ◌<◌, List, [], ◌∷◌, ◌++◌, Option, None, Some, Ok, Err, OnOk}
+use Rattle.std.proofs.Common.{IsErr, IsErrAnd, length, length-append, arith, refl, sym, ap, ap₂, ◌∙◌, subst, append_assoc, append-nil}
+use Rattle.std.proofs.KnownBytes.{Appends-nil, Appends-trans, Consumes-kept, Consumes-nil, Consumes-trans}
+use Rattle.std.proofs.Math.Seq.{drop-append_seam, take-add, take-append_seam}
+use Rattle.std.proofs.lemmas.Bool.{false≢true}
+use Rattle.std.proofs.lemmas.Grind.{flat_map-append}
+use Rattle.std.proofs.lemmas.List.Elements.{All-append, All-cons, All-nil, All-weaker}
+use Rattle.std.specs.Io.KnownBytes.{Appends, Consumes, IsAtEnd, Keeps}
+use Rattle.hd_date.specs.Stamps.{Stamp}
+use Rattle.hd_rules.specs.Journal.{Turn}
+use Rattle.hd_catalogue.specs.Contents.{Contents}
+use Rattle.hd_connection.specs.Streams.{IsCutShort, Streams}
+use Rattle.hd_exchange.specs.declared.fault.OfficeFault.{OfficeFault}
+use Rattle.hd_session.specs.Sessions.{Feeds, Hearing, Piece, stream}
+use Rattle.hd_session.specs.declared.ended.Ended.{Ended}
+use Rattle.hd_attend.specs.Attending.{Attends, End, IsRead, IsWritten, Leaves}
+use Rattle.hd_attend.specs.declared.fault.AttendFault.{AttendFault}
+use Rattle.hd_attend.specs.declared.fault.AttendFault.TheVariants as fault
+use Rattle.hd_attend.proofs.Feeding.{fed_once, fed_then, piece_at, went_on}
+
+-- what is read and written
+abbrev pub streams : Option (List ℕ) → Option (List ℕ) → Option (List ℕ) → Option (List ℕ) → Streams
+streams from from' to to' = record { from = from; from' = from'; to = to; to' = to' }
+
+-- nothing is left of a piece that is fed
+nothing_left : (end : End) → OnOk end (IsAtEnd (Some []))
+nothing_left (Ok done) = refl
+nothing_left (Err fault) = tt
+
+-- what one clock may tell, another may
+told : (Now Tells : Stamp → Type 0) → ((now : Stamp) → Now now → Tells now) → (piece : Piece) → IsRead Now piece → IsRead Tells piece
+told Now Tells tells piece read = record { some = read.some; short = read.short; present = tells piece.now read.present }
+
+-- a beginning of what stands behind a text
+cut_behind : (text more part : List ℕ) → IsCutShort more part → IsCutShort (text ++ more) (text ++ part)
+cut_behind text more part cut = (
+  length text + cut.0,
+  (let less = cut.1 in let whole = length-append text more in omega (arith, less, whole)),
+  ap (λ (p : List ℕ). text ++ p) cut.2 ∙ sym (take-add (length text) cut.0 (text ++ more) ∙ rw (take-append_seam, drop-append_seam) refl),
+)
+
+-- what is written behind replies that are written
+written_behind : (end : AttendFault) (replies more put part : List ℕ) → put ≡ replies → IsWritten (Err end) more part
+    → IsWritten (Err end) (replies ++ more) (put ++ part)
+written_behind fault.Read replies more put part all is = ap₂ (λ (a b : List ℕ). a ++ b) all is
+written_behind fault.Write replies more put part all is =
+    subst (λ (p : List ℕ). IsCutShort (replies ++ more) (p ++ part)) (sym all) (cut_behind replies more part is)
+written_behind (fault.Ended why) replies more put part all is = ap₂ (λ (a b : List ℕ). a ++ b) all is
+
+-- how a session is left that went on until then
+leaves_behind : (end : AttendFault) (first between last : Option Ended) → between ≡ first → Leaves (Err end) between last
+    → Leaves (Err end) first last
+leaves_behind fault.Read first between last same is = is ∙ same
+leaves_behind fault.Write first between last same is = tt
+leaves_behind (fault.Ended why) first between last same is = is
+
+module _ (k : Contents) (seat : ℕ) (faults : OfficeFault → Type 0) where
+  module _ (now : Stamp) (room : ℕ) (bytes : List ℕ) (h h' : Hearing) (turns turns' : List Turn) (out out' : List ℕ)
+      (fed : Feeds k seat faults now room h bytes h' turns turns' out out') where
+    -- a session that goes on after a piece went on before it
+    pub on_after : h'.ended ≡ None → h'.ended ≡ h.ended
+    on_after on = went_on k seat faults now room h.ended h bytes fed.made h' fed.text refl fed.fed on
+
+    -- one piece is fed, and of its replies that is written which the end says
+    pub attends_piece : (to to' : Option (List ℕ)) (end : End) (sent put : List ℕ) → 0 < length bytes → length bytes ≤ 512
+        → out ≡ [] → sent ≡ out' → IsWritten end sent put → Appends to to' put → Leaves end h.ended h'.ended
+        → Attends k seat faults (λ present. present ≡ now) (streams (Some bytes) (Some []) to to') h h' turns turns' end
+    attends_piece to to' end sent put some short empty is written wrote leaves =
+        let all : fed.text ≡ sent = sym (is ∙ (fed.out_is ∙ ap (λ (o : List ℕ). o ++ fed.text) empty)) in
+        let is_read : IsRead (λ present. present ≡ now) (piece_at now bytes) = record { some = some; short = short; present = refl } in
+        record {
+          pieces = piece_at now bytes ∷ [];
+          are_read = All-cons (IsRead (λ present. present ≡ now)) (piece_at now bytes) [] is_read (All-nil _);
+          read = sym (append-nil (bytes ++ []) ∙ append-nil bytes);
+          all = nothing_left end;
+          made = fed.made;
+          replies = fed.text;
+          fed = fed_once k seat faults now room h bytes fed.made h' fed.text fed.fed;
+          turns_are = fed.turns_are;
+          put = put;
+          written = subst (λ (t : List ℕ). IsWritten end t put) (sym all) written;
+          wrote = wrote;
+          leaves = leaves;
+        }
+
+  module _ (Tells : Stamp → Type 0) where
+    -- nothing is read yet
+    pub attends_none : (from to : Option (List ℕ)) (h : Hearing) (turns : List Turn)
+        → Attends k seat faults Tells (streams from from to to) h h turns turns (Err fault.Read)
+    attends_none from to h turns = record {
+      pieces = [];
+      are_read = All-nil _;
+      read = Consumes-nil from;
+      all = tt;
+      made = [];
+      replies = [];
+      fed = (refl, refl, refl);
+      turns_are = sym (append-nil turns);
+      put = [];
+      written = refl;
+      wrote = Appends-nil to;
+      leaves = refl;
+    }
+
+    module _ (from from' from'' to to' : Option (List ℕ)) (h h' : Hearing) (turns turns' : List Turn)
+        (far : Attends k seat faults Tells (streams from from' to to') h h' turns turns' (Err fault.Read)) where
+      -- a read fails
+      pub attends_failed : Keeps from' from''
+          → Attends k seat faults Tells (streams from from'' to to') h h' turns turns' (Err fault.Read)
+      attends_failed kept = record {
+        pieces = far.pieces;
+        are_read = far.are_read;
+        read = Consumes-kept from from' from'' (stream far.pieces) far.read kept;
+        all = tt;
+        made = far.made;
+        replies = far.replies;
+        fed = far.fed;
+        turns_are = far.turns_are;
+        put = far.put;
+        written = far.written;
+        wrote = far.wrote;
+        leaves = far.leaves;
+      }
+
+      -- nothing more comes
+      pub attends_all : Consumes from' from'' [] → IsAtEnd from''
+          → Attends k seat faults Tells (streams from from'' to to') h h' turns turns' (Ok tt)
+      attends_all none end = record {
+        pieces = far.pieces;
+        are_read = far.are_read;
+        read = subst (λ (bytes : List ℕ). Consumes from from'' bytes) (append-nil (stream far.pieces))
+            (Consumes-trans from from' from'' (stream far.pieces) [] far.read none);
+        all = end;
+        made = far.made;
+        replies = far.replies;
+        fed = far.fed;
+        turns_are = far.turns_are;
+        put = far.put;
+        written = far.written;
+        wrote = far.wrote;
+        leaves = far.leaves;
+      }
+
+      -- a piece more is read and fed
+      pub attends_more : (bytes : List ℕ) (Now : Stamp → Type 0) (to'' : Option (List ℕ)) (last : Hearing) (then' : List Turn)
+          (end : AttendFault) → Consumes from' from'' bytes → ((now : Stamp) → Now now → Tells now)
+          → Attends k seat faults Now (streams (Some bytes) (Some []) to' to'') h' last turns' then' (Err end)
+          → Attends k seat faults Tells (streams from from'' to to'') h last turns then' (Err end)
+      attends_more bytes Now to'' last then' end read tells next =
+          let whole : bytes ≡ stream next.pieces = next.read ∙ append-nil (stream next.pieces) in
+          let two : stream (far.pieces ++ next.pieces) ≡ stream far.pieces ++ stream next.pieces =
+          flat_map-append (λ (piece : Piece). piece.bytes) far.pieces next.pieces in
+          record {
+            pieces = far.pieces ++ next.pieces;
+            are_read = All-append (IsRead Tells) far.pieces next.pieces far.are_read
+                (All-weaker (IsRead Now) (IsRead Tells) (told Now Tells tells) next.pieces next.are_read);
+            read = subst (λ (all : List ℕ). Consumes from from'' all)
+                (ap (λ (b : List ℕ). stream far.pieces ++ b) whole ∙ sym two)
+                (Consumes-trans from from' from'' (stream far.pieces) bytes far.read read);
+            all = tt;
+            made = far.made ++ next.made;
+            replies = far.replies ++ next.replies;
+            fed = fed_then k seat faults far.pieces next.pieces h h' last far.made next.made far.replies next.replies far.fed next.fed;
+            turns_are = next.turns_are ∙ (ap (λ (ts : List Turn). ts ++ next.made) far.turns_are ∙ append_assoc turns far.made next.made);
+            put = far.put ++ next.put;
+            written = written_behind end far.replies next.replies far.put next.put far.written next.written;
+            wrote = Appends-trans to to' to'' far.put next.put far.wrote next.wrote;
+            leaves = leaves_behind end h.ended h'.ended last.ended far.leaves next.leaves;
+          }
+
+  -- a fault is passed on
+  pub attends_passed : (Tells : Stamp → Type 0) (bytes : Streams) (h h' : Hearing) (turns turns' : List Turn) (end : End)
+      (fault : AttendFault) → IsErr end → IsErrAnd end (λ what. what ≡ fault) → Attends k seat faults Tells bytes h h' turns turns' (Err fault)
+      → Attends k seat faults Tells bytes h h' turns turns' end
+  attends_passed Tells bytes h h' turns turns' (Ok done) fault err is attends = absurd (false≢true err)
+  attends_passed Tells bytes h h' turns turns' (Err what) fault err is attends =
+      subst (λ (f : AttendFault). Attends k seat faults Tells bytes h h' turns turns' (Err f)) (sym is) attends
+
+  -- a piece is answered, and the session goes on: as where a read fails then
+  pub goes_on : (Tells : Stamp → Type 0) (bytes : Streams) (h h' : Hearing) (turns turns' : List Turn)
+      → Attends k seat faults Tells bytes h h' turns turns' (Ok tt) → Attends k seat faults Tells bytes h h' turns turns' (Err fault.Read)
+  goes_on Tells bytes h h' turns turns' done = record {
+    pieces = done.pieces;
+    are_read = done.are_read;
+    read = done.read;
+    all = tt;
+    made = done.made;
+    replies = done.replies;
+    fed = done.fed;
+    turns_are = done.turns_are;
+    put = done.put;
+    written = done.written;
+    wrote = done.wrote;
+    leaves = done.leaves;
+  }
