@@ -9,14 +9,18 @@
 #![tactic(auto)]
 
 mod answers;
+mod cancelling;
 mod count;
 mod cuts;
 mod damage;
 mod damaging;
+mod drawing;
 mod exchanges;
 mod gaps;
 mod hearing;
+mod metering;
 mod names;
+mod renumbering;
 mod replaying;
 mod row;
 mod script;
@@ -24,7 +28,9 @@ mod tally;
 mod terminals;
 mod ways;
 
+use crate::cancelling::cancel_rows;
 use crate::damaging::damage_rows;
+use crate::metering::meter_rows;
 use crate::names::ROWS;
 use crate::replaying::is_replayed;
 use crate::row::Row;
@@ -38,7 +44,9 @@ fn main(rt: HostRuntime) -> io::Result<()> {
     }
     replay_rows(&rt, rows.as_slice())?;
     hear_rows(&rt, rows.as_slice())?;
-    damage_rows(&rt, rows.as_slice())
+    damage_rows(&rt, rows.as_slice())?;
+    cancel_rows(&rt, rows.as_slice())?;
+    meter_rows(&rt, rows.as_slice())
 }
 
 /// Plays each row through `replay`.

@@ -81,6 +81,21 @@ impl Terminals {
         }
     }
 
+    /// The journal.
+    pub(crate) fn journal(&self) -> &Journal {
+        &self.journal
+    }
+
+    /// How many commands survive.
+    pub(crate) fn survivors(&self) -> usize {
+        self.journal.survivors().count()
+    }
+
+    /// The last number that was given to a command.
+    pub(crate) fn last(&self) -> u64 {
+        self.journal.last()
+    }
+
     /// Whether a session has ended.
     pub(crate) fn has_ended(&self, session: usize) -> bool {
         self.sessions
