@@ -18,6 +18,8 @@ mod drawing;
 mod exchanges;
 mod gaps;
 mod hearing;
+mod lone;
+mod memory;
 mod metering;
 mod names;
 mod renumbering;
@@ -30,6 +32,7 @@ mod ways;
 
 use crate::cancelling::cancel_rows;
 use crate::damaging::damage_rows;
+use crate::memory::cancel_with_little_memory;
 use crate::metering::meter_rows;
 use crate::names::ROWS;
 use crate::replaying::is_replayed;
@@ -46,7 +49,8 @@ fn main(rt: HostRuntime) -> io::Result<()> {
     hear_rows(&rt, rows.as_slice())?;
     damage_rows(&rt, rows.as_slice())?;
     cancel_rows(&rt, rows.as_slice())?;
-    meter_rows(&rt, rows.as_slice())
+    meter_rows(&rt, rows.as_slice())?;
+    cancel_with_little_memory(&rt)
 }
 
 /// Plays each row through `replay`.

@@ -1,0 +1,61 @@
+//! A terminal alone at a journal.
+ghost use Rattle.hd_session.specs.Standing.{IsKnownTo};
+
+use hd_catalogue::Catalogue;
+use hd_date::Stamp18;
+use hd_desk::{Desk, Meter};
+use hd_journal::Journal;
+use hd_session::Session;
+use std::alloc::{AllocError, Allocator};
+use std::sync::Arc;
+
+/// A terminal in a session, alone at a journal, over memory of an allocator.
+#[derive(Drop)]
+pub(crate) struct Lone<A: Allocator> {
+    journal: Journal<A>,
+    now: Stamp18,
+    session: Session<A>,
+    /// What it was answered to the last line.
+    out: Vec<u8, A>,
+    ghost known: { IsKnownTo journal.contents session.standing },
+}
+
+impl<A: Allocator + Copy> Lone<A> {
+    /// The terminal before any line, in the library of a catalogue's text and at this present. None where there
+    /// is no such library or present.
+    pub(crate) fn open(
+        rt: &HostRuntime,
+        alloc: A,
+        catalogue: &[u8],
+        now: &[u8],
+    ) -> Result<Option<Lone<A>>, AllocError> {
+        let Ok(catalogue) = Catalogue::read(alloc, catalogue) else {
+            return Ok(None);
+        };
+        let catalogue = Arc::new(alloc, catalogue)?;
+        let Ok(now) = hd_date::read(now, catalogue.offset()) else {
+            return Ok(None);
+        };
+        let desk = Desk::open(alloc, rt.alloc(), catalogue)?;
+        let journal = Journal::new(alloc, desk, Meter::new(rt));
+        Ok(Some(Lone {
+            journal,
+            now,
+            session: Session::new(alloc)?,
+            out: Vec::new(alloc),
+        }))
+    }
+
+    /// Sends a line and its carriage return. What the line before was answered is forgotten.
+    pub(crate) fn send(&mut self, line: &[u8]) {
+        self.out.clear();
+        let _ = self
+            .session
+            .feed(line, &self.now, &mut self.journal, &mut self.out);
+    }
+
+    /// What it was answered to the last line.
+    pub(crate) fn out(&self) -> &[u8] {
+        self.out.as_slice()
+    }
+}
