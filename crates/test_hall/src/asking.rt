@@ -18,7 +18,9 @@ pub(crate) fn hold(catalogue: &Catalogue, terminal: &[u8], patron: &[u8]) -> Opt
     let patron = catalogue.patron(patron)?;
     let title = catalogue.title(b"ta")?;
     let pickup = catalogue.branch(b"north")?;
-    let day = hd_date::read(b"20260301    100000", OffsetMinutes::new(60)?).ok()?.day();
+    let day = hd_date::read(b"20260301    100000", OffsetMinutes::new(60)?)
+        .ok()?
+        .day();
     Some(Wish {
         terminal,
         asked: Asked::Command(Command {

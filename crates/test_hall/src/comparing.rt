@@ -25,8 +25,7 @@ pub(crate) fn is_as_fresh(rt: &HostRuntime, journal: &Journal) -> bool {
 fn fresh(rt: &HostRuntime, journal: &Journal) -> Option<Desk>
     ensures { IfSome result (λ desk. contents desk ≡ journal.now.contents) }
 {
-    let catalogue = Arc::try_clone(journal.desk().catalogue()).ok()?;
-    let mut desk = Desk::open(rt.alloc(), rt.alloc(), catalogue).ok()?;
+    let mut desk = opened(rt, journal)?;
     let mut meter = Meter::new(rt);
     let mut last = 0;
     for survivor in journal.survivors() {
@@ -37,6 +36,20 @@ fn fresh(rt: &HostRuntime, journal: &Journal) -> Option<Desk>
         hold_again(&mut desk, &mut meter, survivor)?;
     }
     Some(desk)
+}
+
+/// A fresh desk of the journal's library.
+fn opened(rt: &HostRuntime, journal: &Journal) -> Option<Desk>
+    ensures contents { IfSome result (λ desk. contents desk ≡ journal.now.contents) }
+    ensures sound { IfSome result (λ desk. (n : ℕ) → Sound (facts desk) n (desk_of desk)) }
+{
+    let Ok(catalogue) = Arc::try_clone(journal.desk().catalogue()) else {
+        return None;
+    };
+    match Desk::open(rt.alloc(), rt.alloc(), catalogue) {
+        Ok(desk) => Some(desk),
+        Err(_) => None,
+    }
 }
 
 /// Does the survivor's command, where it is a hold of any copy that is accepted.

@@ -22,11 +22,13 @@ pub(crate) fn two_seats<H: House, R: Wait>(rt: &R, alloc: Global, hall: Hall<H>)
     let told = is_number_1(&first) && is_held_already(&second);
     let mut seats = alone(alloc, one)?;
     let hall = match hall.close(seats) {
-        Err(NotClosed::SeatMissing {
-            hall,
-            seats: back,
-            opened: 2,
-        }) => {
+        Err(
+            NotClosed::SeatMissing {
+                hall,
+                seats: back,
+                opened: 2,
+            },
+        ) => {
             seats = back;
             hall
         }
@@ -34,19 +36,30 @@ pub(crate) fn two_seats<H: House, R: Wait>(rt: &R, alloc: Global, hall: Hall<H>)
     };
     seats.push(two).ok()?;
     let journal = hall.close(seats).ok()?;
-    when(told && journal.front() == 2 && journal.survivors().count() == 1, journal)
+    when(
+        told && journal.front() == 2 && journal.survivors().count() == 1,
+        journal,
+    )
 }
 
 /// The second seat alone doesn't close the hall; both do.
-pub(crate) fn seat_missing<H: House, R: Wait>(rt: &R, alloc: Global, hall: Hall<H>) -> Option<Journal>
+pub(crate) fn seat_missing<H: House, R: Wait>(
+    rt: &R,
+    alloc: Global,
+    hall: Hall<H>,
+) -> Option<Journal>
     requires { H.parts ≡ 4294967296 }
 {
     let (one, two) = two_with_a_turn(rt, &hall)?;
     let mut seats = alone(alloc, two)?;
     let hall = match hall.close(seats) {
-        Err(NotClosed::SeatMissing {
-            hall, seats: back, ..
-        }) => {
+        Err(
+            NotClosed::SeatMissing {
+                hall,
+                seats: back,
+                ..
+            },
+        ) => {
             seats = back;
             hall
         }
@@ -59,7 +72,11 @@ pub(crate) fn seat_missing<H: House, R: Wait>(rt: &R, alloc: Global, hall: Hall<
 }
 
 /// The second seat is handed in first.
-pub(crate) fn out_of_order<H: House, R: Wait>(rt: &R, alloc: Global, hall: Hall<H>) -> Option<Journal>
+pub(crate) fn out_of_order<H: House, R: Wait>(
+    rt: &R,
+    alloc: Global,
+    hall: Hall<H>,
+) -> Option<Journal>
     requires { H.parts ≡ 4294967296 }
 {
     let (one, two) = two_with_a_turn(rt, &hall)?;
