@@ -2,7 +2,8 @@
 use Rattle.std.proofs.Common.{◌≡◌, ℕ, zero, suc, ◌+◌, List, [], ◌∷◌, length, Some, slice_get, refl, arith, sym, ap}
 use Rattle.std.specs.List.{Contains, remove}
 use Rattle.std.specs.List.Sorted.{IsPermutation}
-use Rattle.std.proofs.lemmas.List.Sorted.{IsPermutation-refl, IsPermutation-sym, IsPermutation-cons, IsPermutation-trans, IsPermutation-remove, Contains-permutation, length_permutation}
+use Rattle.std.proofs.lemmas.List.Sorted.{IsPermutation-refl, IsPermutation-sym, IsPermutation-cons, IsPermutation-trans}
+use Rattle.std.proofs.lemmas.List.Sorted.{IsPermutation-remove, Contains-permutation, length_permutation}
 use Rattle.hd_rules.specs.Journal.{Turn}
 use Rattle.hd_hall.specs.Receipts.{Receipted, numbered}
 
@@ -18,7 +19,8 @@ behind x y rs other (suc k, h, is) = (k, omega arith, is)
 abbrev pub Covers : ℕ → List Turn → List Receipted → Type 0
 Covers n ts rs = (k m : ℕ) (t : Turn) → slice_get ts k ≡ Some t → m ≡ n + k + 1 → Contains rs (receipt_of m t)
 
-pub covers_permutes : (n : ℕ) (ts : List Turn) (rs : List Receipted) → length rs ≡ length ts → Covers n ts rs → IsPermutation (numbered n ts) rs
+pub covers_permutes : (n : ℕ) (ts : List Turn) (rs : List Receipted) → length rs ≡ length ts → Covers n ts rs
+    → IsPermutation (numbered n ts) rs
 covers_permutes n [] [] len covers = IsPermutation-refl []
 covers_permutes n [] (r ∷ rs) len covers = absurd (omega arith)
 covers_permutes n (t ∷ ts) rs len covers =
@@ -28,5 +30,7 @@ covers_permutes n (t ∷ ts) rs len covers =
     let out = IsPermutation-remove rs i x at.1 (sym at.2) in
     let fewer = length_permutation rs (x ∷ remove rs i) out in
     let rest = covers_permutes (n + 1) ts (remove rs i) (omega arith)
-    (λ k m u is eq. behind x (receipt_of m u) (remove rs i) (λ same. absurd (omega arith)) (Contains-permutation rs (x ∷ remove rs i) (receipt_of m u) out (covers (suc k) m u is (omega arith)))) in
-    IsPermutation-trans (numbered n (t ∷ ts)) (x ∷ remove rs i) rs (IsPermutation-cons x (numbered (n + 1) ts) (remove rs i) rest) (IsPermutation-sym rs (x ∷ remove rs i) out)
+    (λ k m u is eq. behind x (receipt_of m u) (remove rs i) (λ same. absurd (omega arith))
+    (Contains-permutation rs (x ∷ remove rs i) (receipt_of m u) out (covers (suc k) m u is (omega arith)))) in
+    IsPermutation-trans (numbered n (t ∷ ts)) (x ∷ remove rs i) rs (IsPermutation-cons x (numbered (n + 1) ts) (remove rs i) rest)
+    (IsPermutation-sym rs (x ∷ remove rs i) out)

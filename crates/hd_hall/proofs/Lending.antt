@@ -1,5 +1,6 @@
 -- Seats that lend their parts one after another.
-use Rattle.std.proofs.Common.{◌≡◌, ℕ, zero, suc, ◌+◌, ◌<◌, ◌≤◌, List, [], ◌∷◌, ◌++◌, length, map, set, get_or, Some, slice_get, refl, arith, length-append, sym, ◌∙◌, ap, subst, take, drop, inl, inr}
+use Rattle.std.proofs.Common.{◌≡◌, ℕ, zero, suc, ◌+◌, ◌<◌, ◌≤◌, List, [], ◌∷◌, ◌++◌, length, map, set, get_or, Some, slice_get, refl}
+use Rattle.std.proofs.Common.{arith, length-append, sym, ◌∙◌, ap, subst, take, drop, inl, inr}
 use Rattle.std.proofs.lemmas.List.{take-append-le}
 use Rattle.std.proofs.lemmas.Option.{slice_get-get_or}
 use Rattle.std.proofs.lemmas.List.Elements.{Contains-append_left, Contains-append_right, Contains-append_cases}
@@ -41,13 +42,15 @@ get_map_first f zero xs d = refl
 get_map_first f (suc k) [] d = refl
 get_map_first f (suc k) (x ∷ xs) d = get_map_first f k xs d
 
-pub set_map_first : (f : SeatView → SeatView) (k : ℕ) (xs : List SeatView) (d : SeatView) → k < length xs → set (map_first f k xs) k (f (get_or xs k d)) ≡ map_first f (suc k) xs
+pub set_map_first : (f : SeatView → SeatView) (k : ℕ) (xs : List SeatView) (d : SeatView) → k < length xs
+    → set (map_first f k xs) k (f (get_or xs k d)) ≡ map_first f (suc k) xs
 set_map_first f zero [] d h = absurd (omega arith)
 set_map_first f zero (x ∷ xs) d h = refl
 set_map_first f (suc k) [] d h = absurd (omega arith)
 set_map_first f (suc k) (x ∷ xs) d h = ap (λ (ys : List SeatView). f x ∷ ys) (set_map_first f k xs d (omega arith))
 
-pub shares_first-more : (k : ℕ) (xs : List SeatView) (d : SeatView) → k < length xs → shares_first (suc k) xs ≡ shares_first k xs + (get_or xs k d).share
+pub shares_first-more : (k : ℕ) (xs : List SeatView) (d : SeatView) → k < length xs
+    → shares_first (suc k) xs ≡ shares_first k xs + (get_or xs k d).share
 shares_first-more zero [] d h = absurd (omega arith)
 shares_first-more zero (x ∷ xs) d h = omega arith
 shares_first-more (suc k) [] d h = absurd (omega arith)
@@ -59,7 +62,8 @@ shares_first-all zero (x ∷ xs) is = absurd (omega arith)
 shares_first-all (suc k) [] is = refl
 shares_first-all (suc k) (x ∷ xs) is = let e = shares_first-all k xs (omega arith) in omega arith
 
-pub receipts_after-more : (k : ℕ) (xs : List SeatView) (d : SeatView) → k < length xs → receipts_after k xs ≡ length (get_or xs k d).receipts + receipts_after (suc k) xs
+pub receipts_after-more : (k : ℕ) (xs : List SeatView) (d : SeatView) → k < length xs
+    → receipts_after k xs ≡ length (get_or xs k d).receipts + receipts_after (suc k) xs
 receipts_after-more zero [] d h = absurd (omega arith)
 receipts_after-more zero (x ∷ xs) d h = length-append x.receipts (all_receipts xs)
 receipts_after-more (suc k) [] d h = absurd (omega arith)
@@ -91,20 +95,23 @@ held_again (x ∷ xs) whole one =
     cc
 
 -- what holds of the seat read at i holds of the seat that stands there
-pub read_there : (P : SeatView → Type 0) (xs : List SeatView) (i : ℕ) (d s : SeatView) → i < length xs → P (get_or xs i d) → slice_get xs i ≡ Some s → P s
+pub read_there : (P : SeatView → Type 0) (xs : List SeatView) (i : ℕ) (d s : SeatView) → i < length xs → P (get_or xs i d)
+    → slice_get xs i ≡ Some s → P s
 read_there P xs i d s below here is =
     let at : Some (get_or xs i d) ≡ Some s = sym (slice_get-get_or xs i d below) ∙ is in
     let same : get_or xs i d ≡ s = cc in
     subst P same here
 
 -- a receipt of the seat at i is among all
-pub in_one : (xs : List SeatView) (i : ℕ) (d : SeatView) (x : Receipted) → i < length xs → Contains (get_or xs i d).receipts x → Contains (all_receipts xs) x
+pub in_one : (xs : List SeatView) (i : ℕ) (d : SeatView) (x : Receipted) → i < length xs → Contains (get_or xs i d).receipts x
+    → Contains (all_receipts xs) x
 in_one [] i d x h at = absurd (omega arith)
 in_one (y ∷ ys) zero d x h at = Contains-append_left y.receipts (all_receipts ys) x at
 in_one (y ∷ ys) (suc i) d x h at = Contains-append_right y.receipts (all_receipts ys) x (in_one ys i d x (omega arith) at)
 
 -- a receipt that none of the first i has, nor the next, none of the first i + 1 has
-pub in_none : (xs : List SeatView) (i : ℕ) (d : SeatView) (x : Receipted) → i < length xs → (Contains (all_receipts (take i xs)) x → ⊥) → (Contains (get_or xs i d).receipts x → ⊥) → Contains (all_receipts (take (suc i) xs)) x → ⊥
+pub in_none : (xs : List SeatView) (i : ℕ) (d : SeatView) (x : Receipted) → i < length xs → (Contains (all_receipts (take i xs)) x → ⊥)
+    → (Contains (get_or xs i d).receipts x → ⊥) → Contains (all_receipts (take (suc i) xs)) x → ⊥
 in_none [] i d x h before here at = absurd (omega arith)
 in_none (y ∷ ys) zero d x h before here at = elim (Contains-append_cases y.receipts [] x at) [ inl p ↦ here p | inr q ↦ before q ]
 in_none (y ∷ ys) (suc i) d x h before here at =

@@ -1,10 +1,14 @@
 -- A seat with one more receipt, and its last receipt.
-use Rattle.std.proofs.Common.{◌≡◌, ℕ, zero, suc, ◌+◌, ◌-◌, ◌<◌, ◌≤◌, List, [], ◌∷◌, ◌++◌, length, Some, None, IfSome, IsSomeAnd, option_copied, slice_get, refl, arith, length-append, sym, Bor}
-use Rattle.std.specs.declared.option.Option.{Option}
+use Rattle.std.proofs.Common.{◌≡◌, ℕ, zero, suc, ◌+◌, ◌-◌, ◌<◌, ◌≤◌, List, [], ◌∷◌, ◌++◌, length, Some, slice_get, refl, arith}
+use Rattle.std.proofs.Common.{length-append, sym, subst, take, ◌∙◌, ◌⊎◌, inl, inr}
+use Rattle.std.proofs.Math.Seq.{take-append_seam}
+use Rattle.std.proofs.lemmas.List.{take-append-le}
 use Rattle.std.proofs.lemmas.Option.{slice_get_within}
 use Rattle.hd_rules.specs.Journal.{Turn}
-use Rattle.hd_hall.specs.Receipts.{Receipted, IsLast, Stands, HoldsLast, LacksLast, last_receipt}
+use Rattle.hd_catalogue.specs.Contents.{Contents}
+use Rattle.hd_hall.specs.Receipts.{Receipted, IsLast, Stands, last_receipt}
 use Rattle.hd_hall.specs.Seats.{SeatView, IsSeat, AreOf, RiseAbove}
+use Rattle.hd_hall.specs.Submitting.{AreNext, IsNextOf}
 
 pub own-snoc : (seat : ℕ) (rs : List Receipted) (r : Receipted) → AreOf seat rs → r.turn.seat ≡ seat → AreOf seat (rs ++ r ∷ [])
 own-snoc seat [] r own is = (is, tt)
@@ -20,7 +24,8 @@ pub some_last : (x : Receipted) (rs : List Receipted) → (p : Receipted) × IsL
 some_last x [] = (x, refl)
 some_last x (y ∷ ys) = some_last y ys
 
-pub rise-snoc : (n : ℕ) (rs : List Receipted) (r : Receipted) → RiseAbove n rs → n < r.number → ((p : Receipted) → IsLast rs p → p.number < r.number) → RiseAbove n (rs ++ r ∷ [])
+pub rise-snoc : (n : ℕ) (rs : List Receipted) (r : Receipted) → RiseAbove n rs → n < r.number
+    → ((p : Receipted) → IsLast rs p → p.number < r.number) → RiseAbove n (rs ++ r ∷ [])
 rise-snoc n [] r up above last = (above, tt)
 rise-snoc n (x ∷ []) r up above last = (up.0, (last x refl, tt))
 rise-snoc n (x ∷ y ∷ ys) r up above last =
@@ -41,24 +46,55 @@ pub last_is : (rs : List Receipted) → slice_get rs (length rs - 1) ≡ last_re
 last_is [] = refl
 last_is (x ∷ xs) = last_read (x ∷ xs) (length (x ∷ xs) - 1) (omega arith)
 
-pub holds_last : (turns : List Turn) (rs : List Receipted) (o : Option (Bor Receipted)) → option_copied o ≡ last_receipt rs → IfSome o (λ p. Stands turns p.now) → HoldsLast turns rs
-holds_last turns rs None is h p last = cc
-holds_last turns rs (Some b) is h p last = let e : b.now ≡ p = cc in rw (← e) h
-
-pub lacks_last : (turns : List Turn) (rs : List Receipted) (o : Option (Bor Receipted)) → option_copied o ≡ last_receipt rs → IsSomeAnd o (λ p. Stands turns p.now → ⊥) → LacksLast turns rs
-lacks_last turns rs None is h = absurd h
-lacks_last turns rs (Some b) is h = (b.now, sym is, h)
-
 -- a receipt whose turn stands in the list has a number within it
 pub stands_within : (turns : List Turn) (p : Receipted) → Stands turns p → p.number ≤ length turns
 stands_within turns p h = let first = h.0 in let k = slice_get_within turns (p.number - 1) p.turn h.1 in omega arith
 
+below_or_at : (n m : ℕ) → n < m + 1 → (n < m) ⊎ (n ≡ m)
+below_or_at zero zero h = inr refl
+below_or_at zero (suc m) h = inl (omega arith)
+below_or_at (suc n) zero h = absurd (omega arith)
+below_or_at (suc n) (suc m) h = elim (below_or_at n m (omega arith)) [ inl below ↦ inl (omega arith) | inr at ↦ inr (omega arith) ]
+
+-- what is read of a list with one more
+read_before : (rs : List Receipted) (r : Receipted) (n : ℕ) → n < length rs → slice_get (rs ++ r ∷ []) n ≡ slice_get rs n
+read_before [] r n h = absurd (omega arith)
+read_before (x ∷ xs) r zero h = refl
+read_before (x ∷ xs) r (suc n) h = read_before xs r n (omega arith)
+
+read_added : (rs : List Receipted) (r : Receipted) → slice_get (rs ++ r ∷ []) (length rs) ≡ Some r
+read_added [] r = refl
+read_added (x ∷ xs) r = read_added xs r
+
+-- receipts of which each is next of those before it, and one more
+pub next-snoc : (k : Contents) (rs : List Receipted) (r : Receipted) → AreNext k rs → IsNextOf k rs r
+    → AreNext k (rs ++ r ∷ [])
+next-snoc k rs r all next n x is =
+    let within = slice_get_within (rs ++ r ∷ []) n x is in
+    elim (below_or_at n (length rs) (omega (arith, length-append rs (r ∷ [])))) [
+      | inl below ↦
+          subst (λ (b : List Receipted). IsNextOf k b x) (sym (take-append-le n rs (r ∷ []) (omega arith)))
+          (all n x (sym (read_before rs r n below) ∙ is))
+      | inr at ↦
+          let here : Some r ≡ Some x = sym (read_added rs r) ∙ subst (λ m. slice_get (rs ++ r ∷ []) m ≡ Some x) at is in
+          let same : r ≡ x = cc in
+          subst (λ m. IsNextOf k (take m (rs ++ r ∷ [])) x) (sym at)
+          (subst (λ (b : List Receipted). IsNextOf k b x) (sym (take-append_seam rs (r ∷ [])))
+          (subst (λ (y : Receipted). IsNextOf k rs y) same next))
+    ]
+
 -- a seat that gains a receipt beyond a list in which its last one stands
-pub seat-snoc : (s : SeatView) (turns : List Turn) (r : Receipted) → s.parts ≡ 1 → IsSeat s → HoldsLast turns s.receipts → r.turn.seat ≡ s.number → r.number ≡ length turns + 1
-    → IsSeat (record { number = s.number; receipts = s.receipts ++ r ∷ []; parts = s.parts; share = s.share + 1 })
-seat-snoc s turns r whole ok holds own number = record {
-  own = own-snoc s.number s.receipts r ok.own own;
-  in_order = rise-snoc 0 s.receipts r ok.in_order (omega arith) (λ p last. let k = stands_within turns p (holds p last) in omega arith);
-  counted = λ one. let k = ok.counted one in omega (arith, length-append s.receipts (r ∷ []));
-  lent = λ none. absurd (omega arith);
-}
+pub seat-snoc : (k : Contents) (s : SeatView) (r : Receipted) → s.parts ≡ 1 → IsSeat k s → IsNextOf k s.receipts r
+    → r.turn.seat ≡ s.number
+    → IsSeat k (record { number = s.number; receipts = s.receipts ++ r ∷ []; parts = s.parts; share = s.share + 1 })
+seat-snoc k s r whole ok next own =
+    let number = next.number in
+    record {
+      own = own-snoc s.number s.receipts r ok.own own;
+      in_order =
+          rise-snoc 0 s.receipts r ok.in_order (omega arith)
+          (λ p last. let below = stands_within next.before p (next.holds p last) in omega arith);
+      counted = λ one. let count = ok.counted one in omega (arith, length-append s.receipts (r ∷ []));
+      lent = λ none. absurd (omega arith);
+      told = next-snoc k s.receipts r ok.told next;
+    }

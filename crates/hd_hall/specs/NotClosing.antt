@@ -13,7 +13,8 @@ use Rattle.hd_hall.specs.declared.hall.NotClosed.TheVariants.{SeatMissing, Recei
 -- many turns as the seats' shares say, each share being the number of its seat's receipts, has a turn of that
 -- number of which no seat has a receipt.
 abbrev pub Misses : {H A K Own : Type 0} {house : Ghosts H} {memory : AllocatorGhosts A}
-    {keeping : KeeperGhosts K A Own} → Contents → NotClosed H A K Own house memory keeping → List SeatView → Type 0
+    {keeping : KeeperGhosts K A Own} → Contents → NotClosed H A K Own house memory keeping
+    → List SeatView → Type 0
 Misses k (SeatMissing hall back opened) seats = (back.items ≡ seats) × (length seats < opened)
 Misses {keeping = keeping} k (ReceiptDiffers keeper back number) seats =
     (back.items ≡ seats) × (keeping.contents keeper ≡ k) × LacksReceipt k (keeping.turns keeper) seats number

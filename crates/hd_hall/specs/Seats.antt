@@ -1,7 +1,9 @@
 -- Seats.
 use Rattle.std.specs.Prelude.{◌≡◌, ℕ, ◌+◌, ◌<◌, List, [], ◌∷◌, ◌++◌, length, Some, slice_get}
 use Rattle.std.specs.List.{flat_map}
+use Rattle.hd_catalogue.specs.Contents.{Contents}
 use Rattle.hd_hall.specs.Receipts.{Receipted}
+use Rattle.hd_hall.specs.Submitting.{AreNext}
 
 -- A seat: its number, its receipts in order, its parts of the ledger (1, unless it lends them) and its share
 -- of what the ledger counts.
@@ -21,12 +23,14 @@ abbrev pub RiseAbove : ℕ → List Receipted → Type 0
 RiseAbove n [] = Unit {0}
 RiseAbove n (r ∷ rs) = (n < r.number) × RiseAbove r.number rs
 
--- A seat's receipts are its own and in order. With its part it has one share for each, without it none.
-pub record IsSeat (s : SeatView) : Type 0 where
+-- A seat's receipts are its own and in order, each told as the next of those before it. With its part it has
+-- one share for each, without it none.
+pub record IsSeat (k : Contents) (s : SeatView) : Type 0 where
   pub own : AreOf s.number s.receipts
   pub in_order : RiseAbove 0 s.receipts
   pub counted : s.parts ≡ 1 → s.share ≡ length s.receipts
   pub lent : s.parts ≡ 0 → s.share ≡ 0
+  pub told : AreNext k s.receipts
 
 -- the same of a seat that has its part
 pub record IsWhole (s : SeatView) : Type 0 where

@@ -1,17 +1,22 @@
 -- What a seat is told: its receipts, or that the journal isn't the one that it came from.
-use Rattle.std.specs.Prelude.{◌≡◌, ℕ, ◌+◌, List, [], ◌∷◌, ◌++◌, length}
+use Rattle.std.specs.Prelude.{◌≡◌, ℕ, ◌+◌, List, [], ◌∷◌, ◌++◌, Some, length, slice_get, take}
 use Rattle.hd_rules.specs.Journal.{Turn}
 use Rattle.hd_catalogue.specs.Contents.{Contents}
 use Rattle.hd_journal.specs.Books.{IsLegalBook}
 use Rattle.hd_hall.specs.Receipts.{Receipted, HoldsLast, LacksLast}
 
--- The receipt is of the last turn of a legal journal of the catalogue, in which the seat's last turn before it,
--- if there was one, stands at its own number, which is lower.
+-- The receipt is of the last turn of a legal journal of the catalogue, in which the seat's last turn before
+-- it, if there was one, stands at its own number, which is lower.
 pub record IsNextOf (k : Contents) (receipts : List Receipted) (r : Receipted) : Type 0 where
   pub before : List Turn
   pub legal : IsLegalBook k (before ++ r.turn ∷ [])
   pub number : r.number ≡ length before + 1
   pub holds : HoldsLast before receipts
+
+-- each receipt is the next of those before it
+abbrev pub AreNext : Contents → List Receipted → Type 0
+AreNext k receipts =
+    (n : ℕ) (r : Receipted) → slice_get receipts n ≡ Some r → IsNextOf k (take n receipts) r
 
 -- A legal journal of the catalogue, with so many turns, lacks the seat's last turn.
 pub record IsStrangeTo (k : Contents) (receipts : List Receipted) (front : ℕ) : Type 0 where

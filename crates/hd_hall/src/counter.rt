@@ -40,6 +40,7 @@ impl<'a, H: House, R: Wait, A: Allocator, K: Keeper<A>> Counter<'a, H, R, A, K> 
 impl<'a, H: House, R: Wait, A: Allocator + Copy, K: Keeper<A> + Drop> Office<A>
     for Counter<'a, H, R, A, K> {
     ghost use Rattle.std.specs.Prelude.{map, [], ◌∷◌};
+    ghost use Rattle.hd_hall.specs.Submitting.{AreNext};
 
     ghost keeps = { λ c. record {
       contents = H.contents;
@@ -51,7 +52,8 @@ impl<'a, H: House, R: Wait, A: Allocator + Copy, K: Keeper<A> + Drop> Office<A>
 
     ghost faults = { λ fault. Unit {0} };
 
-    ghost holds = { λ c. Unit {0} };
+    /// Each of the seat's receipts was the last turn of a legal journal, which held the receipt before it.
+    ghost holds = { λ c. AreNext H.contents c.seat.now.receipts };
 
     fn catalogue(&self) -> &Catalogue<A> {
         self.hall.catalogue()

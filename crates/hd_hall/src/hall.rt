@@ -7,7 +7,7 @@ ghost use Rattle.hd_journal.specs.Asks.{IsKnownMessage, replied, sent};
 ghost use Rattle.hd_hall.specs.Closings.{AreTurnsOf};
 ghost use Rattle.hd_hall.specs.Receipts.{received, told};
 ghost use Rattle.hd_hall.specs.Seats.{EachSeat, IsWhole, with_receipt};
-ghost use Rattle.hd_hall.specs.Submitting.{IsNextOf, IsStrangeTo};
+ghost use Rattle.hd_hall.specs.Submitting.{AreNext, IsNextOf, IsStrangeTo};
 
 use crate::closing::differing;
 use crate::fault::HallFault;
@@ -62,7 +62,8 @@ pub enum NotClosed<H: House, A: Allocator = Global, K: Keeper<A> = Journal<A>> {
 impl<H: House, A: Allocator + Copy, K: Keeper<A> + Drop> Hall<H, A, K> {
     ghost use Rattle.hd_hall.specs.NotClosing.{Misses};
 
-    /// A hall round a journal without turns, with a new ledger, whose parts are one for each seat and one more.
+    /// A hall round a journal without turns, with a new ledger, whose parts are one for each seat and one
+    /// more.
     ///
     /// # Errors
     /// `Memory`. The journal is dropped then.
@@ -71,6 +72,7 @@ impl<H: House, A: Allocator + Copy, K: Keeper<A> + Drop> Hall<H, A, K> {
         requires contents { K.contents keeper ≡ H.contents }
         requires name { blank.name ≡ H.name }
         requires parts { (blank.parts ≡ H.parts) × (H.parts ≡ 4294967296) }
+        ensures { IfErr result (λ why. why ≡ HallFault.Memory) }
     {
         let catalogue = Arc::try_clone(keeper.catalogue())?;
         Ok(Hall {
@@ -99,12 +101,12 @@ impl<H: House, A: Allocator + Copy, K: Keeper<A> + Drop> Hall<H, A, K> {
         })
     }
 
-    /// One turn: what a terminal of this seat asks. The seat was opened by this hall; the terminal, and all that
-    /// it asks, are of the hall's catalogue.
+    /// One turn: what a terminal of this seat asks. The seat was opened by this hall; the terminal, and all
+    /// that it asks, are of the hall's catalogue.
     ///
-    /// The receipt is of the turn, which is the last of the hall's journal, and lends the asker's own line. The
-    /// seat keeps it, with a copy of the line. The room for it, that copy and the journal's are made before the
-    /// lock is taken.
+    /// The receipt is of the turn, which is the last of the hall's journal, and lends the asker's own line.
+    /// The seat keeps it, with a copy of the line. The room for it, that copy and the journal's are made before
+    /// the lock is taken.
     ///
     /// # Errors
     /// `Memory`, and `Estranged` where the journal lacks the seat's last turn. The journal and the seat are
@@ -122,6 +124,7 @@ impl<H: House, A: Allocator + Copy, K: Keeper<A> + Drop> Hall<H, A, K> {
             (told receipt).turn ≡ replied (sent ask.now) receipt.turn.reply) }
         ensures next { IfOk result (λ receipt. IsNextOf H.contents seat.old.receipts (told receipt)) }
         ensures kept { IfOk result (λ receipt. seat.new ≡ with_receipt seat.old (told receipt)) }
+        ensures all { AreNext H.contents seat.new.receipts }
         ensures estranged { (front : ℕ) → result ≡ Err (HallFault.Estranged front)
             → IsStrangeTo H.contents seat.old.receipts front }
         ensures err { OnErr result (seat.new ≡ seat.old) }
@@ -145,8 +148,8 @@ impl<H: House, A: Allocator + Copy, K: Keeper<A> + Drop> Hall<H, A, K> {
     /// their numbers, this is all that is compared; else each turn's receipt is looked for.
     ///
     /// # Errors
-    /// `SeatMissing` where fewer seats are handed in than were opened, and `ReceiptDiffers` where some turn has
-    /// no receipt. The seats come back as they were.
+    /// `SeatMissing` where fewer seats are handed in than were opened, and `ReceiptDiffers` where some turn
+    /// has no receipt. The seats come back as they were.
     pub fn close(self, mut seats: Vec<Seat<H, A>, A>) -> Result<K, NotClosed<H, A, K>>
         requires parts { H.parts ≡ 4294967296 }
         requires seats { EachSeat seats.items (λ s. s.parts ≡ 1) }
@@ -195,7 +198,8 @@ impl<H: House, A: Allocator + Copy, K: Keeper<A> + Drop> Hall<H, A, K> {
         }
     }
 
-    /// The lock's section of a turn, counted in the share, where the journal holds the last of these receipts.
+    /// The lock's section of a turn, counted in the share, where the journal holds the last of these
+    /// receipts.
     fn take<R: Wait>(
         &self,
         rt: &R,

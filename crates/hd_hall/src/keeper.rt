@@ -14,8 +14,8 @@ use hd_journal::{Ask, Fault, Turn, TurnRef};
 use std::alloc::{AllocError, Allocator};
 use std::sync::Arc;
 
-/// What takes the turns of a legal journal, under a hall's lock: the journal alone, or whatever does more with
-/// each turn before it is answered.
+/// What takes the turns of a legal journal, under a hall's lock: the journal alone, or whatever does more
+/// with each turn before it is answered.
 pub trait Keeper<A: Allocator> {
     /// What it keeps of an ask. It is made before the lock is taken.
     type Own: Drop;

@@ -52,6 +52,6 @@ impl<A: Allocator> Kept<A> {
     pub(crate) fn is_of(&self, number: usize, turn: &TurnRef<'_>) -> bool
         ensures { IsTrue result ↔ (self.now ≡ record { number = number; turn = shown turn.now }) }
     {
-        self.number == number && self.turn.is_of(turn)
+        number == self.number && self.turn.is_of(turn)
     }
 }

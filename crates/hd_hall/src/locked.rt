@@ -66,7 +66,8 @@ impl<H: House, A: Allocator + Copy, K: Keeper<A>> Locked<H, A, K> {
         Some((SeatNo::new(self.opened), share))
     }
 
-    /// Makes the turn of what is asked, counted in the share, where the journal holds the last of these receipts.
+    /// Makes the turn of what is asked, counted in the share, where the journal holds the last of these
+    /// receipts.
     ///
     /// # Errors
     /// `Memory`, and `Estranged` where it lacks that receipt's turn. Journal and share are unchanged.

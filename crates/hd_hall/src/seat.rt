@@ -1,7 +1,7 @@
 //! Seats.
 
 ghost use Rattle.std.specs.Prelude.{◌≡◌, ◌+◌, ◌<◌, ◌≤◌, length};
-ghost use Rattle.hd_hall.specs.Seats.{lent, held, IsWhole};
+ghost use Rattle.hd_hall.specs.Seats.{lent, held, IsSeat, IsWhole};
 
 use crate::house::House;
 use crate::kept::Kept;
@@ -10,7 +10,8 @@ use std::alloc::{Allocator, Global};
 use std::marker::Model;
 use std::sync::ledger::Share;
 
-/// A place in a hall, with the receipts of the turns that were made from it, and one part of the hall's ledger.
+/// A place in a hall, with the receipts of the turns that were made from it, and one part of the hall's
+/// ledger.
 ///
 /// Its receipts are its own, in the order of the journal, and its share of what the ledger counts is their
 /// number.
@@ -33,7 +34,7 @@ impl<H: House, A: Allocator> Model for Seat<H, A> {
       share = s.share.amount;
     } };
 
-    ghost invariant = { λ s. IsSeat (record {
+    ghost invariant = { λ s. IsSeat H.contents (record {
       number = s.number;
       receipts = s.receipts.items;
       parts = s.share.parts;
@@ -51,7 +52,8 @@ impl<H: House, A: Allocator> Seat<H, A> {
 
     /// The receipts of the turns that were made from it, in order.
     pub fn receipts(&self) -> &[Kept<A>]
-        ensures { result.now ≡ self.now.receipts }
+        ensures receipts { result.now ≡ self.now.receipts }
+        ensures seat { IsSeat H.contents self.now }
     {
         self.receipts.as_slice()
     }

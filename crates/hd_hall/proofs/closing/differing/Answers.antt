@@ -1,4 +1,4 @@
-use Rattle.std.proofs.Common.{◌≡◌, ℕ, ◌+◌, length, arith, sym, ◌∙◌, ap, subst, List, map}
+use Rattle.std.proofs.Common.{◌≡◌, ◌+◌, length, arith, sym, ◌∙◌, ap, subst, List, map}
 use Rattle.std.specs.List.{Contains}
 use Rattle.hd_hall.specs.Closings.{AreThere}
 use Rattle.hd_hall.specs.Seats.{SeatView, held, shares, all_receipts}
@@ -11,12 +11,15 @@ pub returns-then-are_there-clause-none : goal.returns-then-are_there-clause-none
 returns-then-are_there-clause-none g c =
     let parts = ap (λ (s : _). s.parts) c.empty-none.ensures.same in
     let amount = ap (λ (s : _). s.amount) c.empty-none.ensures.same in
-    let all : c.merge.new.self.parts ≡ g.H.Ledger.parts = omega (arith, c.gather.ensures.parts, c.empty-none.ensures.parts, c.merge.ensures.parts, c.merge.ensures.apart, c.requires.all) in
+    let all : c.merge.new.self.parts ≡ g.H.Ledger.parts =
+    omega (arith, c.gather.ensures.parts, c.empty-none.ensures.parts, c.merge.ensures.parts, c.merge.ensures.apart, c.requires.all) in
     let total = c.audit.ensures.whole all in
-    let counts : length (g.K.Keeper.turns c.args.keeper.now) ≡ shares c.args.seats.now = omega (arith, c.gather.ensures.amount, c.empty-none.ensures.amount, c.merge.ensures.amount, c.requires.empty.0, c.requires.counted) in
+    let counts : length (g.K.Keeper.turns c.args.keeper.now) ≡ shares c.args.seats.now =
+    omega (arith, c.gather.ensures.amount, c.empty-none.ensures.amount, c.merge.ensures.amount, c.requires.empty.0, c.requires.counted) in
     let there = c.are_there.ensures c.if-are_there.true in
     let here : AreThere (g.K.Keeper.turns c.args.keeper.now) 0 c.args.seats.now =
-    lent_there (g.K.Keeper.turns c.args.keeper.now) 0 c.args.seats.now (subst (λ (ss : List SeatView). AreThere (g.K.Keeper.turns c.args.keeper.now) 0 ss) c.gather.ensures.lent there) in
+    lent_there (g.K.Keeper.turns c.args.keeper.now) 0 c.args.seats.now
+    (subst (λ (ss : List SeatView). AreThere (g.K.Keeper.turns c.args.keeper.now) 0 ss) c.gather.ensures.lent there) in
     record {
       legal = c.front-front.ensures.legal;
       once = there_permutes (g.K.Keeper.turns c.args.keeper.now) c.args.seats.now here c.gather.ensures.whole counts;
@@ -27,13 +30,19 @@ pub returns-in-None-clause-none : goal.returns-in-None-clause-none
 returns-in-None-clause-none g c =
     let parts = ap (λ (s : _). s.parts) c.empty-none.ensures.same in
     let amount = ap (λ (s : _). s.amount) c.empty-none.ensures.same in
-    let all : c.merge.new.self.parts ≡ g.H.Ledger.parts = omega (arith, c.gather.ensures.parts, c.empty-none.ensures.parts, c.merge.ensures.parts, c.merge.ensures.apart, c.requires.all) in
+    let all : c.merge.new.self.parts ≡ g.H.Ledger.parts =
+    omega (arith, c.gather.ensures.parts, c.empty-none.ensures.parts, c.merge.ensures.parts, c.merge.ensures.apart, c.requires.all) in
     let total = c.audit.ensures.whole all in
-    let counts : length (g.K.Keeper.turns c.args.keeper.now) ≡ shares c.args.seats.now = omega (arith, c.gather.ensures.amount, c.empty-none.ensures.amount, c.merge.ensures.amount, c.requires.empty.0, c.requires.counted) in
+    let counts : length (g.K.Keeper.turns c.args.keeper.now) ≡ shares c.args.seats.now =
+    omega (arith, c.gather.ensures.amount, c.empty-none.ensures.amount, c.merge.ensures.amount, c.requires.empty.0, c.requires.counted) in
     let has = rw (c.gather.ensures.lent, lent_receipts) at c.in-None.ensures.none in
     record {
       legal = c.front-front.ensures.legal;
-      once = covers_permutes 0 (g.K.Keeper.turns c.args.keeper.now) (all_receipts c.args.seats.now) (whole_counts c.args.seats.now c.gather.ensures.whole ∙ sym counts) (λ k m t is eq. let e : k + 1 ≡ m = omega arith in let P : ℕ → Type 0 = λ n. Contains (all_receipts c.args.seats.now) (receipt_of n t) in subst P e (has k t is));
+      once = covers_permutes 0 (g.K.Keeper.turns c.args.keeper.now) (all_receipts c.args.seats.now)
+          (whole_counts c.args.seats.now c.gather.ensures.whole ∙ sym counts)
+          (λ k m t is eq.
+          let e : k + 1 ≡ m = omega arith in
+          subst (λ n. Contains (all_receipts c.args.seats.now) (receipt_of n t)) e (has k t is));
       counted = counts;
     }
 
@@ -51,9 +60,11 @@ pub returns-in-Some-clause-some : goal.returns-in-Some-clause-some
 returns-in-Some-clause-some g c =
     let parts = ap (λ (s : _). s.parts) c.empty-none.ensures.same in
     let amount = ap (λ (s : _). s.amount) c.empty-none.ensures.same in
-    let all : c.merge.new.self.parts ≡ g.H.Ledger.parts = omega (arith, c.gather.ensures.parts, c.empty-none.ensures.parts, c.merge.ensures.parts, c.merge.ensures.apart, c.requires.all) in
+    let all : c.merge.new.self.parts ≡ g.H.Ledger.parts =
+    omega (arith, c.gather.ensures.parts, c.empty-none.ensures.parts, c.merge.ensures.parts, c.merge.ensures.apart, c.requires.all) in
     let total = c.audit.ensures.whole all in
-    let counts : length (g.K.Keeper.turns c.args.keeper.now) ≡ shares c.args.seats.now = omega (arith, c.gather.ensures.amount, c.empty-none.ensures.amount, c.merge.ensures.amount, c.requires.empty.0, c.requires.counted) in
+    let counts : length (g.K.Keeper.turns c.args.keeper.now) ≡ shares c.args.seats.now =
+    omega (arith, c.gather.ensures.amount, c.empty-none.ensures.amount, c.merge.ensures.amount, c.requires.empty.0, c.requires.counted) in
     record {
       legal = c.front-front.ensures.legal;
       counted = counts;
@@ -61,4 +72,7 @@ returns-in-Some-clause-some g c =
     }
 
 pub returns-in-Some-clause-same : goal.returns-in-Some-clause-same
-returns-in-Some-clause-same g c = c.give_back.ensures ∙ (ap (λ (s : List SeatView). map held s) c.gather.ensures.lent ∙ held_again c.args.seats.now c.gather.ensures.whole c.requires.seats)
+returns-in-Some-clause-same g c =
+    c.give_back.ensures
+    ∙ (ap (λ (s : List SeatView). map held s) c.gather.ensures.lent
+    ∙ held_again c.args.seats.now c.gather.ensures.whole c.requires.seats)

@@ -16,7 +16,8 @@ pub loop-at-preserved : goal.loop-at-preserved
 loop-at-preserved g c =
     let turns = (g.K.Keeper.turns c.args.keeper.now) in
     let at = c.loop-at.at in
-    below_more (λ (k : ℕ). (t : Turn) → slice_get turns k ≡ Some t → Contains (all_receipts c.args.seats.now) (record { number = k + 1; turn = t })) at c.loop-at.invariant
+    below_more (λ (k : ℕ). (t : Turn) → slice_get turns k ≡ Some t → Contains (all_receipts c.args.seats.now)
+    (record { number = k + 1; turn = t })) at c.loop-at.invariant
     (λ t is. c.is_received.ensures.yes c.if-not-is_received.false t (number_of turns at t is))
 
 pub returns-clause-none : goal.returns-clause-none
