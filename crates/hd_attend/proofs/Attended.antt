@@ -171,7 +171,8 @@ module _ (k : Contents) (seat : ℕ) (faults : OfficeFault → Type 0) where
 
   -- a fault is passed on
   pub attends_passed : (Tells : Stamp → Type 0) (bytes : Streams) (h h' : Hearing) (turns turns' : List Turn) (end : End)
-      (fault : AttendFault) → IsErr end → IsErrAnd end (λ what. what ≡ fault) → Attends k seat faults Tells bytes h h' turns turns' (Err fault)
+      (fault : AttendFault) → IsErr end → IsErrAnd end (λ what. what ≡ fault)
+      → Attends k seat faults Tells bytes h h' turns turns' (Err fault)
       → Attends k seat faults Tells bytes h h' turns turns' end
   attends_passed Tells bytes h h' turns turns' (Ok done) fault err is attends = absurd (false≢true err)
   attends_passed Tells bytes h h' turns turns' (Err what) fault err is attends =

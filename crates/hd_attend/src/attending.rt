@@ -1,5 +1,6 @@
 //! Attending to a connection.
 ghost use Rattle.std.specs.Prelude.{◌≡◌, ◌<◌, ◌≤◌, [], Some, length, map};
+ghost use Rattle.hd_hall.specs.Submitting.{AreNext};
 ghost use Rattle.hd_session.specs.Standing.{IsKnownTo};
 ghost use Rattle.hd_attend.specs.Attending.{Attends};
 
@@ -136,6 +137,7 @@ pub fn attend<
         (map (λ receipt. receipt.turn) seat.new.receipts) result }
     ensures place { IsKnownTo H.contents state.new.standing }
     ensures same { (seat.new.parts ≡ 1) × (seat.new.number ≡ seat.old.number) }
+    ensures holds { AreNext H.contents seat.old.receipts → AreNext H.contents seat.new.receipts }
 {
     let mut counter = Counter::new(rt, hall, seat);
     attend_gated(rt, alloc, from, to, &mut counter, state, session, now, gate)
