@@ -1,4 +1,3 @@
-pub mod Places
-pub mod Found
+pub mod Slots
 pub mod Counted
 pub mod Short

@@ -1,42 +1,24 @@
-use Rattle.std.proofs.Common.{arith, ◌≡◌, ◌≤◌, ◌∙◌, ap, sym, nat_lt, rules, length, option_map, Some}
-use Rattle.hd_rules.specs.Record.{Record}
-use Rattle.hd_rules.specs.declared.commands.Survivor.{Survivor}
-use Rattle.hd_records.specs.Shown.{shown}
-use Rattle.std.proofs.lemmas.List.Sorted.{IsPartitionPoint-from_clause, IsPartitionedBy-ltb}
-use Rattle.hd_records.proofs.Found.{IsPointOf, numbers_rise, found_there, not_there, past_all}
+use Rattle.std.proofs.Common.{arith, ◌≡◌, ◌∙◌, ap, sym, subst, ℕ, get_or}
+use Rattle.std.specs.Option.{option_copied}
+use Rattle.hd_records.proofs.Slots.{record_of_none, record_past, record_there}
 use Rattle.hd_records.proofs.walking.find.Goals as goal
 
-pub returns-in_err-stored : goal.returns-in_err-stored
-returns-in_err-stored c =
-    let rs = c.args.records.now in
-    let parted = IsPartitionedBy-ltb (λ r. r.number) rs c.args.number (numbers_rise 1 rs c.requires) in
-    let point : IsPointOf c.args.number rs c.partition_point-at.result =
-    IsPartitionPoint-from_clause (λ r. nat_lt r.number c.args.number) rs c.partition_point-at.result
-    c.partition_point-at.ensures.partitioned parted (λ a r q k. search rules) in
-    let look = c.in_err-stored.ensures.lookup in
-    ap (option_map shown) c.from_residual.ensures
-    ∙ sym (past_all c.args.number rs c.partition_point-at.result c.partition_point-at.ensures.bound (omega arith) point)
+pub returns-in_err-place : goal.returns-in_err-place
+returns-in_err-place c =
+    ap option_copied c.from_residual.ensures ∙ sym (record_of_none c.args.number c.args.slots.now c.requires c.in_err-place.ensures)
 
-pub returns-then-survivor-number : goal.returns-then-survivor-number
-returns-then-survivor-number c =
-    let rs = c.args.records.now in
-    let parted = IsPartitionedBy-ltb (λ r. r.number) rs c.args.number (numbers_rise 1 rs c.requires) in
-    let point : IsPointOf c.args.number rs c.partition_point-at.result =
-    IsPartitionPoint-from_clause (λ r. nat_lt r.number c.args.number) rs c.partition_point-at.result
-    c.partition_point-at.ensures.partitioned parted (λ a r q k. search rules) in
-    let look = c.in_ok-stored.ensures.lookup in
-    ap (λ (x : Record). Some x) c.show.ensures.shown
-    ∙ sym (found_there c.args.number rs c.partition_point-at.result c.in_ok-stored.stored.now (omega arith) look.1 point
-    (ap (λ (x : Survivor). x.number) (sym c.survivor.ensures) ∙ c.if-survivor-number.true))
+pub returns-in_err-get : goal.returns-in_err-get
+returns-in_err-get c =
+    let place = c.in_ok-place.ensures in
+    let over = c.in_err-get.ensures.lookup.3 in
+    ap option_copied c.from_residual-in_err-get.ensures
+    ∙ sym (record_past c.args.number c.args.slots.now c.requires place.0 (omega (arith, place.1, over)))
 
-pub returns-else-survivor-number : goal.returns-else-survivor-number
-returns-else-survivor-number c =
-    let rs = c.args.records.now in
-    let parted = IsPartitionedBy-ltb (λ r. r.number) rs c.args.number (numbers_rise 1 rs c.requires) in
-    let point : IsPointOf c.args.number rs c.partition_point-at.result =
-    IsPartitionPoint-from_clause (λ r. nat_lt r.number c.args.number) rs c.partition_point-at.result
-    c.partition_point-at.ensures.partitioned parted (λ a r q k. search rules) in
-    let look = c.in_ok-stored.ensures.lookup in
-    sym (not_there c.args.number rs c.partition_point-at.result c.in_ok-stored.stored.now (omega arith) look.1 point c.requires
-    (λ (same : c.in_ok-stored.stored.now.number ≡ c.args.number). c.if-survivor-number.false
-    (ap (λ (x : Survivor). x.number) c.survivor.ensures ∙ same)))
+pub returns : goal.returns
+returns c =
+    let place = c.in_ok-place.ensures in
+    let there = c.in_ok-get.ensures.lookup in
+    let at = c.in_ok-get.field-0.now in
+    c.as_ref.ensures.value
+    ∙ sym (record_there c.args.number c.args.slots.now at c.requires place.0 (omega (arith, place.1, there.3.0))
+    (subst (λ (m : ℕ). at ≡ get_or c.args.slots.now m at) place.1 there.1))
