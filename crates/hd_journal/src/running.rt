@@ -22,12 +22,11 @@ use hd_rules::{Asked, Cancel, Command, CopyNo, Refusal, Survivor, TerminalNo, Tu
 use std::alloc::{AllocError, Allocator};
 use std::marker::Model;
 
-/// The records of the survivors, the desk of their run, and the last number given.
+/// The records of the survivors with the last number given, and the desk of their run.
 #[derive(Drop)]
 pub(crate) struct Running<A: Allocator> {
     desk: Desk<A>,
     records: Records<A>,
-    last: u64,
 }
 
 impl<A: Allocator> Model for Running<A> {
@@ -42,11 +41,11 @@ impl<A: Allocator> Model for Running<A> {
     ghost view = { λ r. record {
       contents = contents r.desk;
       survivors = survivors_of r.records.records;
-      last = r.last;
+      last = r.records.last;
     } };
 
     ghost invariant = { λ r. IsRunning
-        (record { contents = contents r.desk; survivors = survivors_of r.records.records; last = r.last })
+        (record { contents = contents r.desk; survivors = survivors_of r.records.records; last = r.records.last })
         (desk_of r.desk)
         × AreStored (facts_of (contents r.desk)) r.records.records };
 }
@@ -60,7 +59,6 @@ impl<A: Allocator + Copy> Running<A> {
         Running {
             desk,
             records: Records::new(alloc),
-            last: 0,
         }
     }
 
@@ -92,7 +90,7 @@ impl<A: Allocator + Copy> Running<A> {
     pub(crate) fn last(&self) -> u64
         ensures { result ≡ self.now.last }
     {
-        self.last
+        self.records.last()
     }
 
     /// Carries out what a terminal asks that is no repeat, and counts the work: its reply.
@@ -151,7 +149,7 @@ impl<A: Allocator + Copy> Running<A> {
     {
         laws();
         self.records.ready()?;
-        let number = self.last + 1;
+        let number = self.records.last() + 1;
         match self.desk.apply(number, command, meter) {
             Ok(done) => {
                 let survivor = Survivor {
@@ -161,7 +159,6 @@ impl<A: Allocator + Copy> Running<A> {
                 };
                 let reply = done.reply();
                 self.records.push(record_of(survivor, done));
-                self.last = number;
                 Ok(TurnReply::Done { number, reply })
             }
             Err(Refused::Rule(refusal)) => Ok(TurnReply::Refused(refusal)),
@@ -186,18 +183,19 @@ impl<A: Allocator + Copy> Running<A> {
         ensures err { OnErr result (self.new ≡ self.old) }
     {
         laws();
-        let Some(place) = self.records.newest(terminal, what, meter) else {
+        let Some(number) = self.records.newest(terminal, what, meter) else {
             return Ok(TurnReply::Refused(Refusal::NothingToCancel));
         };
         let catalogue = self.desk.catalogue();
         prove!(0 < catalogue.command_limit());
-        if let Some(number) = self.records.first_clash(catalogue, place, meter) {
-            return Ok(TurnReply::Refused(Refusal::Depends { number }));
+        if let Some(dependent) = self.records.first_clash(catalogue, number, meter) {
+            return Ok(TurnReply::Refused(Refusal::Depends { number: dependent }));
         }
-        let target = self.records.at(place);
-        let number = target.survivor.number;
+        let Some(target) = self.records.get(number) else {
+            unreachable!()
+        };
         undo(&mut self.desk, target.changes, meter)?;
-        self.records.take_out(self.desk.catalogue(), place, meter);
+        self.records.take_out(self.desk.catalogue(), number, meter);
         Ok(TurnReply::Cancelled { number })
     }
 }

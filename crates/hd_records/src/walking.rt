@@ -30,7 +30,10 @@ pub(crate) fn find(slots: &[Option<StoredRecord>], number: u64) -> Option<&Store
 }
 
 /// Takes the record of a number out of its slot.
-pub(crate) fn take<A: Allocator>(slots: &mut Vec<Option<StoredRecord>, A>, number: u64) -> StoredRecord
+pub(crate) fn take<A: Allocator>(
+    slots: &mut Vec<Option<StoredRecord>, A>,
+    number: u64,
+) -> StoredRecord
     requires numbered { AreNumbered 0 slots.old.items }
     requires there { IsSome (record_of number (taken slots.old.items)) }
     ensures taken { record_of number (taken slots.old.items) ≡ Some result }

@@ -49,7 +49,7 @@ returns-then-is_target-clause-work c =
     let later : taken (drop c.loop-place.place slots) ≡ newer c.survivor-then-is_target.result.now.number (taken slots) =
     ap (λ (n : ℕ). taken (drop n slots)) next ∙ sym at.newer ∙ ap (λ (n : ℕ). newer n (taken slots)) (sym number) in
     let one : suc (length (newer c.survivor-then-is_target.result.now.number (taken slots)))
-        ≡ length (newer c.survivor-then-is_target.result.now.number (taken slots)) + 1 = omega arith in
+    ≡ length (newer c.survivor-then-is_target.result.now.number (taken slots)) + 1 = omega arith in
     c.add.ensures
     ∙ ap (λ (x : Counts). add x Look)
     (c.loop-place.invariant.work ∙ ap (λ (rs : List Record). looked (length rs) c.args.meter.now) later)
