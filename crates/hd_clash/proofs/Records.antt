@@ -20,7 +20,7 @@ use Rattle.hd_rules.proofs.Familiar.{known_done}
 use Rattle.hd_clash.specs.Counting.{EachIsSmall}
 use Rattle.hd_clash.specs.Law.{EachQuestionIsKnown}
 use Rattle.hd_clash.specs.Records.{AreRecords, EachCommandIsKnown, IsKnownRecord, EachRecordIsKnown}
-use Rattle.hd_clash.proofs.Asking.{known_asks}
+use Rattle.hd_clash.proofs.Known.{known_asks}
 use Rattle.hd_clash.proofs.Untouched.{counts_small, done_known}
 
 pub split : (k : Facts) (d : Desk) (older newer : List Survivor) (rs ts : List Record) → length older ≡ length rs

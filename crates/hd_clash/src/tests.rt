@@ -1,11 +1,11 @@
 //! Small examples of clashes, over a library of two branches.
 
-use crate::{clashes, mend};
+use crate::{ChangedKeys, CommandKeys, Key, clashes, mend};
 use hd_catalogue::Catalogue;
 use hd_footprint::Findings;
 use hd_rules::{
-    BranchNo, Cell, Change, CopyState, Finding, HoldKind, HoldPlace, Noted, PatronNo, Question,
-    Value,
+    Action, BranchNo, Cell, Change, CopyState, Finding, HoldKind, HoldPlace, Noted, PatronNo,
+    Question, Value,
 };
 use std::alloc::Global;
 use std::test::Fail;
@@ -85,6 +85,58 @@ fn a_copy_less_is_noted(rt: HostRuntime) -> Result<(), Fail> {
     assert_eq!(rt;
         shelf_without(&catalogue, rt.alloc()),
         Some(Noted::OnShelf(1))
+    );
+    Ok(())
+}
+
+/// What a return of the copy at the southern branch asks about.
+fn return_keys(catalogue: &Catalogue) -> Option<CommandKeys> {
+    let action = Action::Checkin {
+        copy: catalogue.copy(b"a1")?,
+        branch: catalogue.branch(b"south")?,
+    };
+    Some(CommandKeys::of_action(catalogue, &action))
+}
+
+#[test]
+fn a_return_asks_about_its_title_and_branch(rt: HostRuntime) -> Result<(), Fail> {
+    let catalogue = library(rt.alloc())?;
+    let keys = return_keys(&catalogue).ok_or("unknown")?;
+    assert_eq!(rt; Some(keys.title), catalogue.title(b"ta"));
+    assert_eq!(rt; keys.branch, catalogue.branch(b"south"));
+    assert_eq!(rt; keys.patron, None);
+    Ok(())
+}
+
+/// What is touched, where a copy goes from the first place of the hold shelf to the open shelf, and back.
+fn twice_touched(catalogue: &Catalogue) -> Option<ChangedKeys> {
+    let north = catalogue.branch(b"north")?;
+    let there = Change {
+        cell: Cell::Copy(catalogue.copy(b"a1")?),
+        old: kept(catalogue.patron(b"p1")?, north),
+        new: Value::Copy(CopyState::Shelf(north)),
+    };
+    let back = Change {
+        cell: there.cell,
+        old: there.new,
+        new: there.old,
+    };
+    Some(ChangedKeys::of(catalogue, &[there, back]))
+}
+
+#[test]
+fn a_key_is_touched_once(rt: HostRuntime) -> Result<(), Fail> {
+    let catalogue = library(rt.alloc())?;
+    let touched = twice_touched(&catalogue).ok_or("unknown")?;
+    let keys = touched.keys();
+    assert_eq!(rt; keys.len(), 2);
+    assert_eq!(rt;
+        keys.first().copied(),
+        catalogue.title(b"ta").map(Key::Title)
+    );
+    assert_eq!(rt;
+        keys.last().copied(),
+        catalogue.branch(b"north").map(Key::Branch)
     );
     Ok(())
 }
