@@ -1,0 +1,7 @@
+//! Rising lists of places by number, and their union.
+#![tactic(auto)]
+
+mod lists;
+mod row;
+
+pub use crate::lists::Lists;
