@@ -18,7 +18,8 @@ no_fall (n ∷ ns) up zero (suc j) le l = omega (arith, later_above n ns j up.0 
 no_fall (n ∷ ns) up (suc i) zero le l = absurd (omega arith)
 no_fall (n ∷ ns) up (suc i) (suc j) le l = no_fall ns up.1 i j (omega arith) (omega arith)
 
-all_filter : (P : ℕ → Type 0) (p : ℕ → Bool) (ns : List ℕ) → AllByRecursion P ns → AllByRecursion P (filter p ns)
+-- what all numbers are, those that pass a test are
+pub all_filter : (P : ℕ → Type 0) (p : ℕ → Bool) (ns : List ℕ) → AllByRecursion P ns → AllByRecursion P (filter p ns)
 all_filter P p [] h = tt
 all_filter P p (n ∷ ns) h = elim (cases_Bool (p n)) [
   | inl e ↦ rw e (h.0, all_filter P p ns h.1)
