@@ -8,4 +8,4 @@ use Rattle.hd_records.proofs.records.Records.survivors.Goals as goal
 pub returns-clause-rising : goal.returns-clause-rising
 returns-clause-rising g c =
     subst (λ (x : RecordsValue). Rising 1 (survivors_of x.records)) c.self.view_is
-    (slots_rise 0 1 c.self.inside.slots.items (omega arith) c.self.invariant)
+    (slots_rise 0 1 c.self.inside.slots.items (omega arith) c.self.invariant.0)
