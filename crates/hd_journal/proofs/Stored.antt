@@ -22,9 +22,10 @@ use Rattle.hd_clash.specs.Shift.{shift_records}
 use Rattle.hd_clash.specs.Walk.{Kept}
 use Rattle.hd_inverse.specs.Cells.{AreApart, AreKnown}
 use Rattle.hd_records.specs.Looks.{questions_of}
+use Rattle.hd_records.specs.RecordsValue.{AreListed, AreOf, RecordsValue}
 use Rattle.hd_records.specs.Survivors.{survivor_of, survivors_of, changes_in, changes_of, newer, older, record_of}
 use Rattle.hd_journal.specs.Laws.{Laws}
-use Rattle.hd_journal.specs.Running.{AllKnownSurvivors}
+use Rattle.hd_journal.specs.Running.{AllKnownSurvivors, MayRun}
 use Rattle.hd_journal.specs.Stored.{AreStored, EachCanBeUndone}
 use Rattle.hd_journal.specs.Working.{questions_from}
 
@@ -73,7 +74,7 @@ known_rest : (k : Facts) (xs ys : List Record) → EachRecordIsKnown k (xs ++ ys
 known_rest k [] ys all = all
 known_rest k (x ∷ xs) ys all = known_rest k xs ys all.1
 
-commands_known : (k : Facts) (ss : List Survivor) → AllKnownSurvivors k ss → EachCommandIsKnown k ss
+pub commands_known : (k : Facts) (ss : List Survivor) → AllKnownSurvivors k ss → EachCommandIsKnown k ss
 commands_known k [] all = tt
 commands_known k (s ∷ ss) all = (all.0, commands_known k ss all.1)
 
@@ -237,3 +238,13 @@ questions_are k d (s ∷ ss) (r ∷ rs) are =
     omega (arith, here, rest)
 questions_are k d [] (r ∷ rs) are = absurd are
 questions_are k d (s ∷ ss) [] are = absurd are
+
+-- the records that are stored and listed
+pub stored_of : (laws : Laws) (k : Facts) (value : RecordsValue) → AreInRange k → MayRun k (survivors_of value.records)
+    → AreStored k value.records → AreListed k value → AreOf k value
+stored_of laws k value range may stored listed = record {
+  commands = commands_known k (survivors_of value.records) may.known;
+  known = stored_known laws k value.records range may.known stored;
+  about = laws.about k (survivors_of value.records) value.records may.rising stored.are;
+  listed = listed;
+}

@@ -147,3 +147,8 @@ none_there r is = subst (λ (o : Option Record). IsNothing o) is tt
     IsNothing : Option Record → Type 0
     IsNothing None = Unit {0}
     IsNothing (Some x) = ⊥
+
+-- no number, no target
+pub none_aimed : (o : Option Split) → None ≡ option_map (λ (at : Split). at.survivor.number) o → o ≡ None
+none_aimed None is = refl
+none_aimed (Some at) is = absurd (no_number at.survivor.number (sym is))

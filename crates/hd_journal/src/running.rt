@@ -3,7 +3,7 @@
 ghost use Rattle.std.specs.Prelude.{◌≡◌, ◌+◌, ◌<◌, ◌≤◌, ◌^◌, [], ℕ, None, Option, IfOk, OnErr, option_map};
 ghost use Rattle.hd_catalogue.specs.Contents.{facts_of};
 ghost use Rattle.hd_rules.specs.Desk.{opening};
-ghost use Rattle.hd_rules.specs.Known.{IsKnown, IsKnownAction};
+ghost use Rattle.hd_rules.specs.Known.{IsKnown, IsKnownAction, IsKnownCancel};
 ghost use Rattle.hd_rules.specs.Run.{outcome_of, run};
 ghost use Rattle.hd_rules.specs.Target.{target};
 ghost use Rattle.hd_rules.specs.Turns.{Kept, item_view, next_survivor};
@@ -32,6 +32,7 @@ pub(crate) struct Running<A: Allocator> {
 impl<A: Allocator> Model for Running<A> {
     ghost use Rattle.hd_catalogue.specs.Contents.{facts_of};
     ghost use Rattle.hd_desk.specs.Desks.{contents, desk_of};
+    ghost use Rattle.hd_records.specs.RecordsValue.{AreListed};
     ghost use Rattle.hd_records.specs.Survivors.{survivors_of};
     ghost use Rattle.hd_journal.specs.Running.{Running, IsRunning};
     ghost use Rattle.hd_journal.specs.Stored.{AreStored};
@@ -47,7 +48,8 @@ impl<A: Allocator> Model for Running<A> {
     ghost invariant = { λ r. IsRunning
         (record { contents = contents r.desk; survivors = survivors_of r.records.records; last = r.records.last })
         (desk_of r.desk)
-        × AreStored (facts_of (contents r.desk)) r.records.records };
+        × AreStored (facts_of (contents r.desk)) r.records.records
+        × AreListed (facts_of (contents r.desk)) r.records };
 }
 
 impl<A: Allocator + Copy> Running<A> {
@@ -148,7 +150,7 @@ impl<A: Allocator + Copy> Running<A> {
         ensures err { OnErr result (self.new ≡ self.old) }
     {
         laws();
-        self.records.ready()?;
+        self.records.ready(self.desk.catalogue(), command)?;
         let number = self.records.last() + 1;
         match self.desk.apply(number, command, meter) {
             Ok(done) => {
@@ -158,7 +160,8 @@ impl<A: Allocator + Copy> Running<A> {
                     command: *command,
                 };
                 let reply = done.reply();
-                self.records.push(record_of(survivor, done));
+                let record = record_of(survivor, done);
+                self.records.push(self.desk.catalogue(), record);
                 Ok(TurnReply::Done { number, reply })
             }
             Err(Refused::Rule(refusal)) => Ok(TurnReply::Refused(refusal)),
@@ -174,6 +177,7 @@ impl<A: Allocator + Copy> Running<A> {
         what: &Cancel,
         meter: &mut Meter,
     ) -> Result<TurnReply, AllocError>
+        requires { IsKnownCancel (facts_of self.old.contents) what.now }
         ensures cancelled { IfOk result (λ reply. Withdrawn self.old terminal what.now reply self.new) }
         ensures work { IfOk result (λ _. IsCancellation (facts_of self.old.contents) self.old.survivors
             (target terminal what.now self.old.survivors) meter.old meter.new) }
@@ -183,11 +187,11 @@ impl<A: Allocator + Copy> Running<A> {
         ensures err { OnErr result (self.new ≡ self.old) }
     {
         laws();
-        let Some(number) = self.records.newest(terminal, what, meter) else {
-            return Ok(TurnReply::Refused(Refusal::NothingToCancel));
-        };
         let catalogue = self.desk.catalogue();
         prove!(0 < catalogue.command_limit());
+        let Some(number) = self.records.newest(catalogue, terminal, what, meter) else {
+            return Ok(TurnReply::Refused(Refusal::NothingToCancel));
+        };
         if let Some(dependent) = self.records.first_clash(catalogue, number, meter) {
             return Ok(TurnReply::Refused(Refusal::Depends { number: dependent }));
         }

@@ -10,9 +10,11 @@ use Rattle.hd_rules.specs.Run.{outcome_of, run}
 use Rattle.hd_rules.specs.Sound.{Sound}
 use Rattle.hd_rules.specs.Step.{plan}
 use Rattle.hd_catalogue.specs.Contents.{Contents, facts_of}
+use Rattle.hd_clash.specs.CommandKeys.{keys_of_command}
 use Rattle.hd_inverse.specs.Cells.{AreKnown}
 use Rattle.hd_desk.specs.Desks.{desk_of}
 use Rattle.hd_desk.specs.DoneValue.{done_of}
+use Rattle.hd_records.specs.RecordsValue.{AreListed, HasRoomFor}
 use Rattle.hd_records.specs.Survivors.{survivor_of, survivors_of}
 use Rattle.hd_journal.specs.Running.{IsRunning, Running, Submitted}
 use Rattle.hd_journal.specs.Stored.{AreStored}
@@ -22,6 +24,32 @@ use Rattle.hd_journal.proofs.Stored.{stored_more, survivors_joined}
 use Rattle.hd_journal.proofs.Submitting.{running_more, submitted_done}
 use Rattle.hd_journal.proofs.Withdrawing.{running_at}
 use Rattle.hd_journal.proofs.running.Running.submit.Goals as goal
+
+pub ready-requires : goal.ready-requires
+ready-requires g c =
+    subst (λ (x : Contents). IsKnownAction (facts_of x) c.args.command.now.action) (sym (c.deref.ensures ∙ c.catalogue.ensures))
+    (subst (λ (x : Running). IsKnownAction (facts_of x.contents) c.args.command.now.action) (sym c.self.view_is) c.requires.known)
+
+pub push-requires-clause-known : goal.push-requires-clause-known
+push-requires-clause-known g c =
+    let lent = c.deref-in-Ok.ensures ∙ c.catalogue-in-Ok.ensures ∙ c.in-Ok.ensures.contents in
+    subst (λ (x : Record). IsKnownAction (facts_of c.deref-in-Ok.result.now) x.command.action) (sym c.record_of-record.ensures)
+    (subst (λ (x : Contents). IsKnownAction (facts_of x) c.args.command.now.action) (sym lent)
+    (subst (λ (x : Running). IsKnownAction (facts_of x.contents) c.args.command.now.action) (sym c.self.view_is) c.requires.known))
+
+pub push-requires-clause-room : goal.push-requires-clause-room
+push-requires-clause-room g c =
+    let lent = c.deref-in-Ok.ensures ∙ c.catalogue-in-Ok.ensures ∙ c.in-Ok.ensures.contents in
+    let same = c.deref.ensures ∙ c.catalogue.ensures ∙ sym lent in
+    subst (λ (x : Record). HasRoomFor (keys_of_command (facts_of c.deref-in-Ok.result.now) x.command) c.ready.new.self)
+    (sym c.record_of-record.ensures)
+    (subst (λ (x : Contents). HasRoomFor (keys_of_command (facts_of x) c.args.command.now) c.ready.new.self) same c.in_ok-ready.ensures.ok)
+
+pub push-requires-clause-listed : goal.push-requires-clause-listed
+push-requires-clause-listed g c =
+    let lent = c.deref-in-Ok.ensures ∙ c.catalogue-in-Ok.ensures ∙ c.in-Ok.ensures.contents in
+    subst (λ (x : Contents). AreListed (facts_of x) c.ready.new.self) (sym lent)
+    (c.in_ok-ready.ensures.listed (facts_of c.self.inside.desk.copies.contents) c.self.invariant.2)
 
 pub apply-requires-clause-sound : goal.apply-requires-clause-sound
 apply-requires-clause-sound g c =
@@ -33,7 +61,7 @@ apply-requires-clause-sound g c =
 
 pub push-requires-clause-number : goal.push-requires-clause-number
 push-requires-clause-number g c =
-    ap (λ (x : Record). x.number) c.record_of.ensures ∙ ap (λ (n : ℕ). n + 1) c.last-number.ensures
+    ap (λ (x : Record). x.number) c.record_of-record.ensures ∙ ap (λ (n : ℕ). n + 1) c.last-number.ensures
 
 pub invariant_of-self-in-Ok : goal.invariant_of-self-in-Ok
 invariant_of-self-in-Ok g c =
@@ -57,7 +85,7 @@ invariant_of-self-in-Ok g c =
     let known : IsKnownAction k c.args.command.now.action =
     subst (λ (x : Running). IsKnownAction (facts_of x.contents) c.args.command.now.action) (sym c.self.view_is) c.requires.known in
     let more : c.push.new.self.records ≡ rs ++ kept ∷ [] =
-    c.push.ensures.records ∙ (λ j. c.in_ok-ready.ensures.records j ++ c.record_of.ensures j ∷ []) in
+    c.push.ensures.records ∙ (λ j. c.in_ok-ready.ensures.records j ++ c.record_of-record.ensures j ∷ []) in
     let last : n + 1 ≡ c.push.new.self.last = sym (c.push.ensures.last ∙ ap (λ (m : ℕ). m + 1) (sym c.last-number.ensures)) in
     let desk : desk_of c.self.inside.desk ≡ run k (survivors_of rs) = c.self.invariant.0.desk in
     let one : IsRecordAt k (run k (survivors_of rs)) (survivor_of kept) kept = record {
@@ -85,6 +113,8 @@ invariant_of-self-in-Ok g c =
           (stored_more c.laws.ensures k rs c.push.new.self.records kept c.self.invariant.1 one
           (subst (λ (x : Contents). AreKnown (facts_of x) c.in-Ok.done.changes) c.in-Ok.ensures.contents c.in-Ok.ensures.back.known)
           c.in-Ok.ensures.back.apart more),
+      subst (λ (x : Contents). AreListed (facts_of x) c.push.new.self) (c.deref-in-Ok.ensures ∙ c.catalogue-in-Ok.ensures)
+          c.push.ensures.listed,
     )
 
 pub returns-in-Ok-clause-submitted : goal.returns-in-Ok-clause-submitted
@@ -103,7 +133,7 @@ returns-in-Ok-clause-submitted g c =
       changes = c.in-Ok.done.changes;
     } in
     let more : c.push.new.self.records ≡ rs ++ kept ∷ [] =
-    c.push.ensures.records ∙ (λ j. c.in_ok-ready.ensures.records j ++ c.record_of.ensures j ∷ []) in
+    c.push.ensures.records ∙ (λ j. c.in_ok-ready.ensures.records j ++ c.record_of-record.ensures j ∷ []) in
     let last : n + 1 ≡ c.push.new.self.last = sym (c.push.ensures.last ∙ ap (λ (m : ℕ). m + 1) (sym c.last-number.ensures)) in
     let next : ℕ → Running = λ m. record {
       contents = c.apply.new.self.copies.contents;
