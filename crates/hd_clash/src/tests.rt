@@ -1,8 +1,8 @@
 //! Small examples of clashes, over a library of two branches.
 
-use crate::{ChangedKeys, CommandKeys, Key, clashes, mend};
+use crate::{ChangedKeys, CommandKeys, Key, clashes, has_clash, key_of, mend};
 use hd_catalogue::Catalogue;
-use hd_footprint::Findings;
+use hd_footprint::{Count, Findings, Meter};
 use hd_rules::{
     Action, BranchNo, Cell, Change, CopyState, Finding, HoldKind, HoldPlace, Noted, PatronNo,
     Question, Value,
@@ -89,22 +89,22 @@ fn a_copy_less_is_noted(rt: HostRuntime) -> Result<(), Fail> {
     Ok(())
 }
 
-/// What a return of the copy at the southern branch asks about.
-fn return_keys(catalogue: &Catalogue) -> Option<CommandKeys> {
+/// Whether a return of the copy at the southern branch asks about the copy's title, that branch, and no more.
+fn return_asks_about_both(catalogue: &Catalogue) -> Option<bool> {
+    let title = catalogue.title(b"ta")?;
+    let branch = catalogue.branch(b"south")?;
     let action = Action::Checkin {
         copy: catalogue.copy(b"a1")?,
-        branch: catalogue.branch(b"south")?,
+        branch,
     };
-    Some(CommandKeys::of_action(catalogue, &action))
+    let keys = CommandKeys::of_action(catalogue, &action);
+    Some(keys.title == title && keys.branch == Some(branch) && keys.patron.is_none())
 }
 
 #[test]
 fn a_return_asks_about_its_title_and_branch(rt: HostRuntime) -> Result<(), Fail> {
     let catalogue = library(rt.alloc())?;
-    let keys = return_keys(&catalogue).ok_or("unknown")?;
-    assert_eq!(rt; Some(keys.title), catalogue.title(b"ta"));
-    assert_eq!(rt; keys.branch, catalogue.branch(b"south"));
-    assert_eq!(rt; keys.patron, None);
+    assert_eq!(rt; return_asks_about_both(&catalogue), Some(true));
     Ok(())
 }
 
@@ -124,19 +124,44 @@ fn twice_touched(catalogue: &Catalogue) -> Option<ChangedKeys> {
     Some(ChangedKeys::of(catalogue, &[there, back]))
 }
 
+/// Whether that is the title and the branch, each once.
+fn each_touched_once(catalogue: &Catalogue) -> Option<bool> {
+    let title = Key::Title(catalogue.title(b"ta")?);
+    let branch = Key::Branch(catalogue.branch(b"north")?);
+    let touched = twice_touched(catalogue)?;
+    let keys = touched.keys();
+    Some(keys.len() == 2 && keys.contains(&title) && keys.contains(&branch))
+}
+
 #[test]
 fn a_key_is_touched_once(rt: HostRuntime) -> Result<(), Fail> {
     let catalogue = library(rt.alloc())?;
-    let touched = twice_touched(&catalogue).ok_or("unknown")?;
-    let keys = touched.keys();
-    assert_eq!(rt; keys.len(), 2);
-    assert_eq!(rt;
-        keys.first().copied(),
-        catalogue.title(b"ta").map(Key::Title)
-    );
-    assert_eq!(rt;
-        keys.last().copied(),
-        catalogue.branch(b"north").map(Key::Branch)
-    );
+    assert_eq!(rt; each_touched_once(&catalogue), Some(true));
+    Ok(())
+}
+
+/// Whether the second place of the northern hold shelf, found free, clashes with a copy's way to the first.
+fn second_place_clashes(catalogue: &Catalogue, meter: &mut Meter) -> Option<bool> {
+    let north = catalogue.branch(b"north")?;
+    let changes = [Change {
+        cell: Cell::Copy(catalogue.copy(b"a1")?),
+        old: Value::Copy(CopyState::Shelf(north)),
+        new: kept(catalogue.patron(b"p1")?, north),
+    }];
+    let question = Question::Place(north);
+    let finding = Finding {
+        question,
+        noted: Noted::Place(2),
+    };
+    let is_keyed = key_of(catalogue, &question) == Key::Branch(north);
+    Some(is_keyed && has_clash(catalogue, &changes, &[finding], meter))
+}
+
+#[test]
+fn a_comparison_is_counted(rt: HostRuntime) -> Result<(), Fail> {
+    let catalogue = library(rt.alloc())?;
+    let mut meter = Meter::new(&rt);
+    assert_eq!(rt; second_place_clashes(&catalogue, &mut meter), Some(true));
+    assert_eq!(rt; meter.count(Count::Compared), 1);
     Ok(())
 }
