@@ -1,6 +1,7 @@
 -- The union of rising lists.
-use Rattle.std.specs.Prelude.{◌≡◌, ℕ, ◌==◌, nat_lt, if◌then◌else◌, Bool, Option, None, Some, List, [], ◌∷◌, map, min}
-use Rattle.std.specs.List.{filter, list_any}
+use Rattle.std.specs.Prelude.{◌≡◌, ℕ, ◌≤◌, ◌==◌, nat_lt, if◌then◌else◌, Bool, Option, None, Some, List, []}
+use Rattle.std.specs.Prelude.{◌∷◌, map, min}
+use Rattle.std.specs.List.{AllByRecursion, filter, list_any}
 use Rattle.hd_index.specs.Rising.{IsRising}
 
 -- a number put at its place in a rising list, where it isn't there yet
@@ -31,6 +32,11 @@ UnionsAreFilters = (ns : List ℕ) (tests : List (ℕ → Bool)) → IsRising ns
 pub record UnionsHaveEachOnce : Type 0 where
   pub rising : (lists : List (List ℕ)) → IsRising (union lists)
   pub numbers : (lists : List (List ℕ)) (n : ℕ) → has n (union lists) ≡ list_any (has n) lists
+
+-- lists of a union: at most twelve, and each rises
+pub record AreLists (count : ℕ) (lists : List (List ℕ)) : Type 0 where
+  pub few : count ≤ 12
+  pub rising : AllByRecursion IsRising lists
 
 -- the lesser of a number, if there is one, and the first of a list, if it has one
 abbrev pub lesser : Option ℕ → List ℕ → Option ℕ

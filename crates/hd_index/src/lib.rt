@@ -4,6 +4,8 @@
 mod laws;
 mod lists;
 mod row;
+#[cfg(test)]
+mod tests;
 mod union;
 
 pub use crate::laws::{unions_are_filters, unions_have_each_once};
