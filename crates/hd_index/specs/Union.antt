@@ -2,7 +2,7 @@
 use Rattle.std.specs.Prelude.{◌≡◌, ℕ, ◌≤◌, ◌==◌, nat_lt, if◌then◌else◌, Bool, Option, None, Some, List, []}
 use Rattle.std.specs.Prelude.{◌∷◌, map, min}
 use Rattle.std.specs.List.{AllByRecursion, filter, list_any}
-use Rattle.hd_index.specs.Rising.{IsRising}
+use Rattle.hd_index.specs.Rising.{IsRising, above}
 
 -- a number put at its place in a rising list, where it isn't there yet
 abbrev pub joined : ℕ → List ℕ → List ℕ
@@ -27,6 +27,12 @@ has n ns = list_any (λ m. m == n) ns
 abbrev pub UnionsAreFilters : Type 0
 UnionsAreFilters = (ns : List ℕ) (tests : List (ℕ → Bool)) → IsRising ns
     → union (map (λ test. filter test ns) tests) ≡ filter (λ n. list_any (λ test. test n) tests) ns
+
+-- So it is with what is above a number in each part.
+abbrev pub UnionsAboveAreFilters : Type 0
+UnionsAboveAreFilters = (n : ℕ) (ns : List ℕ) (tests : List (ℕ → Bool)) → IsRising ns
+    → union (map (λ test. above n (filter test ns)) tests)
+    ≡ filter (λ m. list_any (λ test. test m) tests) (above n ns)
 
 -- A union rises, and has the numbers that one of the lists has.
 pub record UnionsHaveEachOnce : Type 0 where

@@ -8,6 +8,6 @@ mod row;
 mod tests;
 mod union;
 
-pub use crate::laws::{unions_are_filters, unions_have_each_once};
+pub use crate::laws::{unions_above_are_filters, unions_are_filters, unions_have_each_once};
 pub use crate::lists::Lists;
 pub use crate::union::Union;
