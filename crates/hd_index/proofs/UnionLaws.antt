@@ -1,11 +1,11 @@
 -- What a union is, whatever the lists.
-use Rattle.std.proofs.Common.{◌≡◌, ℕ, ◌<◌, ◌==◌, nat_lt, ◌||◌, Bool, true, false, inl, inr, List, [], ◌∷◌, refl, ap, ◌∙◌, arith}
+use Rattle.std.proofs.Common.{◌≡◌, ℕ, ◌<◌, ◌==◌, nat_lt, ◌||◌, Bool, true, false, inl, inr, List, [], ◌∷◌, map, refl, ap, ◌∙◌, arith}
 use Rattle.std.proofs.lemmas.Bool.{cases_Bool}
 use Rattle.std.proofs.lemmas.Bool.Decides.{nat_tests}
 use Rattle.std.specs.List.{filter, list_any}
-use Rattle.hd_index.specs.Rising.{IsRising}
-use Rattle.hd_index.specs.Union.{UnionsAreFilters, has, joined, union, union_with}
-use Rattle.hd_index.proofs.RisingLemmas.{all_filter}
+use Rattle.hd_index.specs.Rising.{IsRising, above}
+use Rattle.hd_index.specs.Union.{UnionsAboveAreFilters, UnionsAreFilters, has, joined, union, union_with}
+use Rattle.hd_index.proofs.RisingLemmas.{all_filter, rising_filter}
 use Rattle.hd_index.proofs.UnionLemmas.{front, joined_above, union_front, weaker}
 
 two_filters : (p q : ℕ → Bool) (ns : List ℕ) → IsRising ns →
@@ -24,6 +24,31 @@ pub are_filters : UnionsAreFilters
 are_filters ns [] up = filter_none ns
 are_filters ns (test ∷ tests) up =
     ap (union_with (filter test ns)) (are_filters ns tests up) ∙ two_filters test (λ n. list_any (λ t. t n) tests) ns up
+
+swapped_tests : (p q : ℕ → Bool) (ns : List ℕ) → filter p (filter q ns) ≡ filter q (filter p ns)
+swapped_tests p q [] = refl
+swapped_tests p q (n ∷ ns) = elim (cases_Bool (p n)) [
+  | inl e ↦ elim (cases_Bool (q n)) [
+    | inl f ↦ rw (e, f, e) (ap (λ ms. n ∷ ms) (swapped_tests p q ns))
+    | inr f ↦ rw (e, f) (swapped_tests p q ns)
+  ]
+  | inr e ↦ elim (cases_Bool (q n)) [
+    | inl f ↦ rw (e, f, e) (swapped_tests p q ns)
+    | inr f ↦ rw (e, f) (swapped_tests p q ns)
+  ]
+]
+
+parts_above : (n : ℕ) (ns : List ℕ) (tests : List (ℕ → Bool)) →
+    map (λ test. above n (filter test ns)) tests ≡ map (λ test. filter test (above n ns)) tests
+parts_above n ns [] = refl
+parts_above n ns (test ∷ tests) =
+    ap (λ part. part ∷ map (λ t. above n (filter t ns)) tests) (swapped_tests (λ m. nat_lt n m) test ns)
+    ∙ ap (λ parts. filter test (above n ns) ∷ parts) (parts_above n ns tests)
+
+-- the same above a number
+pub are_filters_above : UnionsAboveAreFilters
+are_filters_above n ns tests up =
+    ap union (parts_above n ns tests) ∙ are_filters (above n ns) tests (rising_filter (λ m. nat_lt n m) ns up)
 
 joined_rising : (n : ℕ) (ms : List ℕ) → IsRising ms → IsRising (joined n ms)
 joined_rising n [] up = (tt, tt)

@@ -1,7 +1,8 @@
 -- The union of rising lists.
-use Rattle.std.specs.Prelude.{◌≡◌, ℕ, ◌==◌, nat_lt, if◌then◌else◌, Bool, Option, None, Some, List, [], ◌∷◌, map, min}
-use Rattle.std.specs.List.{filter, list_any}
-use Rattle.hd_index.specs.Rising.{IsRising}
+use Rattle.std.specs.Prelude.{◌≡◌, ℕ, ◌≤◌, ◌==◌, nat_lt, if◌then◌else◌, Bool, Option, None, Some, List, []}
+use Rattle.std.specs.Prelude.{◌∷◌, map, min}
+use Rattle.std.specs.List.{AllByRecursion, filter, list_any}
+use Rattle.hd_index.specs.Rising.{IsRising, above}
 
 -- a number put at its place in a rising list, where it isn't there yet
 abbrev pub joined : ℕ → List ℕ → List ℕ
@@ -27,10 +28,21 @@ abbrev pub UnionsAreFilters : Type 0
 UnionsAreFilters = (ns : List ℕ) (tests : List (ℕ → Bool)) → IsRising ns
     → union (map (λ test. filter test ns) tests) ≡ filter (λ n. list_any (λ test. test n) tests) ns
 
+-- So it is with what is above a number in each part.
+abbrev pub UnionsAboveAreFilters : Type 0
+UnionsAboveAreFilters = (n : ℕ) (ns : List ℕ) (tests : List (ℕ → Bool)) → IsRising ns
+    → union (map (λ test. above n (filter test ns)) tests)
+    ≡ filter (λ m. list_any (λ test. test m) tests) (above n ns)
+
 -- A union rises, and has the numbers that one of the lists has.
 pub record UnionsHaveEachOnce : Type 0 where
   pub rising : (lists : List (List ℕ)) → IsRising (union lists)
   pub numbers : (lists : List (List ℕ)) (n : ℕ) → has n (union lists) ≡ list_any (has n) lists
+
+-- lists of a union: at most twelve, and each rises
+pub record AreLists (count : ℕ) (lists : List (List ℕ)) : Type 0 where
+  pub few : count ≤ 12
+  pub rising : AllByRecursion IsRising lists
 
 -- the lesser of a number, if there is one, and the first of a list, if it has one
 abbrev pub lesser : Option ℕ → List ℕ → Option ℕ

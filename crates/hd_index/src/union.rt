@@ -16,15 +16,14 @@ pub struct Union<'a> {
 }
 
 impl<'a> Model for Union<'a> {
-    ghost use Rattle.std.specs.Prelude.{◌≤◌, List, ℕ, map, take};
-    ghost use Rattle.std.specs.List.{AllByRecursion};
-    ghost use Rattle.hd_index.specs.Rising.{IsRising};
+    ghost use Rattle.std.specs.Prelude.{List, ℕ, map, take};
+    ghost use Rattle.hd_index.specs.Union.{AreLists};
 
     ghost Value = { List (List ℕ) };
 
     ghost view = { λ u. map (λ list. list.now) (take u.count u.lists) };
 
-    ghost invariant = { λ u. (u.count ≤ 12) × AllByRecursion IsRising (map (λ list. list.now) (take u.count u.lists)) };
+    ghost invariant = { λ u. AreLists u.count (map (λ list. list.now) (take u.count u.lists)) };
 }
 
 impl<'a> Union<'a> {

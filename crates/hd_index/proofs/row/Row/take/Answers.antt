@@ -13,7 +13,7 @@ invariant_of-self g c =
     let found = searched c.deref.result.now c.args.place (Ok c.in-Ok.at) c.in-Ok.ensures.position (no_fall c.deref.result.now up) in
     let gone : without c.args.place ns ≡ remove ns c.in-Ok.at =
     rw (← c.deref.ensures.value) (without_at c.args.place c.deref.result.now c.in-Ok.at up found.0 found.1) in
-    subst IsRising (gone ∙ sym c.remove.ensures.items) (rising_filter (λ m. not (m == c.args.place)) ns c.self.invariant)
+    rw (c.remove.ensures.items, ← gone) (rising_filter (λ m. not (m == c.args.place)) ns c.self.invariant)
 
 pub returns-in-Ok-clause-places : goal.returns-in-Ok-clause-places
 returns-in-Ok-clause-places g c =
@@ -22,7 +22,7 @@ returns-in-Ok-clause-places g c =
     let found = searched c.deref.result.now c.args.place (Ok c.in-Ok.at) c.in-Ok.ensures.position (no_fall c.deref.result.now up) in
     let gone : without c.args.place ns ≡ remove ns c.in-Ok.at =
     rw (← c.deref.ensures.value) (without_at c.args.place c.deref.result.now c.in-Ok.at up found.0 found.1) in
-    c.remove.ensures.items ∙ sym gone ∙ ap (λ (r : RowValue). without c.args.place r.places) c.self.view_is
+    rw (c.remove.ensures.items, ← gone) (ap (λ (r : RowValue). without c.args.place r.places) c.self.view_is)
 
 pub returns-in_default-clause-places : goal.returns-in_default-clause-places
 returns-in_default-clause-places g c =
