@@ -3,6 +3,7 @@ pub mod KeptLines
 pub mod Raising
 pub mod Submitting
 pub mod Stored
+pub mod Targets
 pub mod Recorded
 pub mod Working
 pub mod Withdrawing

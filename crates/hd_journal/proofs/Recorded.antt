@@ -1,5 +1,5 @@
 -- The record of a number.
-use Rattle.std.proofs.Common.{◌≡◌, ◌≢◌, refl, sym, ◌∙◌, ap, subst, ℕ, ◌==◌, Bool, true, false, cond, List, [], ◌∷◌, ◌++◌, length}
+use Rattle.std.proofs.Common.{◌≡◌, ◌≢◌, refl, sym, ◌∙◌, ap, subst, ℕ, ◌==◌, Bool, true, false, cond, List, [], ◌∷◌, ◌++◌}
 use Rattle.std.proofs.Common.{Option, Some, None, inl, inr, arith}
 use Rattle.std.proofs.lemmas.Bool.Decides.{nat_tests}
 use Rattle.std.proofs.lemmas.List.{map-append, length-map}
@@ -7,7 +7,7 @@ use Rattle.hd_rules.specs.declared.commands.Survivor.{Survivor}
 use Rattle.hd_rules.specs.Depends.{before}
 use Rattle.hd_rules.specs.Desk.{opening}
 use Rattle.hd_rules.specs.Facts.{Facts}
-use Rattle.hd_rules.specs.Record.{Record, IsRecord, IsRecordAt}
+use Rattle.hd_rules.specs.Record.{Record, IsRecordAt}
 use Rattle.hd_rules.specs.Run.{IsAmong, Rising, run}
 use Rattle.hd_clash.specs.Records.{AreRecords}
 use Rattle.hd_records.specs.Survivors.{record_of, survivor_of, survivors_of}

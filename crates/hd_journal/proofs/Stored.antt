@@ -1,9 +1,8 @@
 -- Records before a target, at it and after it.
-use Rattle.std.proofs.Common.{arith, ◌≡◌, ◌≢◌, refl, sym, ◌∙◌, ap, subst, ℕ, zero, suc, ◌+◌, ◌<◌, ◌≤◌, ◌==◌, Bool, true, false, List, []}
+use Rattle.std.proofs.Common.{arith, ◌≡◌, refl, sym, ◌∙◌, ap, subst, ℕ, suc, List, []}
 use Rattle.std.proofs.Common.{◌∷◌}
-use Rattle.std.proofs.Common.{◌++◌, length, take, drop, get_or, add-one, drop-cons, map, Option, Some, None, Ok, inl, inr}
-use Rattle.std.proofs.lemmas.Bool.Decides.{nat_tests}
-use Rattle.std.proofs.lemmas.List.{take-append-drop, map-append, length-map}
+use Rattle.std.proofs.Common.{◌++◌, length, Some, None, Ok, inl, inr}
+use Rattle.std.proofs.lemmas.List.{map-append, length-map}
 use Rattle.hd_rules.specs.declared.cells.Change.{Change}
 use Rattle.hd_rules.specs.declared.commands.Survivor.{Survivor}
 use Rattle.hd_rules.specs.declared.questions.Question.{Question}
@@ -13,58 +12,41 @@ use Rattle.hd_rules.specs.Desk.{Desk, opening, undone}
 use Rattle.hd_rules.specs.Depends.{before, less, first_dependent, NoneDepends}
 use Rattle.hd_rules.specs.Known.{IsKnownDesk}
 use Rattle.hd_rules.specs.Laws.{IsAcceptedIn}
-use Rattle.hd_rules.specs.Record.{Record, IsRecord, IsRecordAt, findings}
+use Rattle.hd_rules.specs.Record.{Record, IsRecordAt, findings}
 use Rattle.hd_rules.specs.Run.{IsAmong, outcome_of, step, run, Rising}
 use Rattle.hd_rules.specs.Sound.{EachBackIsFit}
 use Rattle.hd_rules.specs.Step.{plan}
-use Rattle.hd_rules.specs.Target.{Split}
 use Rattle.hd_clash.specs.Clash.{first_clash}
-use Rattle.hd_clash.specs.Records.{AreRecords, EachCommandIsKnown, EachRecordIsKnown, IsKnownRecord}
-use Rattle.hd_clash.specs.Shift.{shift_record, shift_records}
+use Rattle.hd_clash.specs.Records.{AreRecords, EachCommandIsKnown, EachRecordIsKnown}
+use Rattle.hd_clash.specs.Shift.{shift_records}
 use Rattle.hd_clash.specs.Walk.{Kept}
 use Rattle.hd_inverse.specs.Cells.{AreApart, AreKnown}
 use Rattle.hd_records.specs.Looks.{questions_of}
-use Rattle.hd_records.specs.Survivors.{survivor_of, survivors_of, changes_at, record_of}
+use Rattle.hd_records.specs.RecordsValue.{AreListed, AreOf, RecordsValue}
+use Rattle.hd_records.specs.Survivors.{survivor_of, survivors_of, changes_in, changes_of, newer, older, record_of}
 use Rattle.hd_journal.specs.Laws.{Laws}
-use Rattle.hd_journal.specs.Running.{AllKnownSurvivors}
-use Rattle.hd_journal.specs.Stored.{AreStored, EachCanBeUndone, IsRecordOf}
+use Rattle.hd_journal.specs.Running.{AllKnownSurvivors, MayRun}
+use Rattle.hd_journal.specs.Stored.{AreStored, EachCanBeUndone}
 use Rattle.hd_journal.specs.Working.{questions_from}
-
--- the records that are older than a place, and those that are newer
-abbrev pub older_at : List Record → ℕ → List Record
-older_at rs i = take i rs
-
-abbrev pub newer_at : List Record → ℕ → List Record
-newer_at rs i = drop (i + 1) rs
 
 abbrev pub done_of_record : Record → Done
 done_of_record r = record { changes = r.changes; reply = r.reply }
 
--- a place, and the record there
-pub record IsAt (rs : List Record) (i : ℕ) (r : Record) : Type 0 where
-  pub within : i < length rs
-  pub there : r ≡ get_or rs i r
-
-drop_at : (rs : List Record) (i : ℕ) (r : Record) → i < length rs → r ≡ get_or rs i r → drop i rs ≡ r ∷ drop (i + 1) rs
-drop_at rs i r below is = rw (add-one, drop-cons rs i r) (ap (λ (x : Record). x ∷ drop (suc i) rs) (sym is))
-
-pub records_split : (rs : List Record) (i : ℕ) (r : Record) → IsAt rs i r → rs ≡ older_at rs i ++ r ∷ newer_at rs i
-records_split rs i r at =
-    sym (take-append-drop i rs)
-    ∙ ap (λ (xs : List Record). take i rs ++ xs) (drop_at rs i r at.within at.there)
+-- a number, and the record of it
+pub record IsAt (rs : List Record) (n : ℕ) (r : Record) : Type 0 where
+  pub there : record_of n rs ≡ Some r
+  pub split : rs ≡ older n rs ++ r ∷ newer n rs
 
 pub survivors_joined : (xs ys : List Record) → survivors_of (xs ++ ys) ≡ survivors_of xs ++ survivors_of ys
 survivors_joined xs ys = map-append survivor_of xs ys
 
-pub survivors_split : (rs : List Record) (i : ℕ) (r : Record) → IsAt rs i r
-    → survivors_of rs ≡ survivors_of (older_at rs i) ++ survivor_of r ∷ survivors_of (newer_at rs i)
-survivors_split rs i r at =
-    ap survivors_of (records_split rs i r at) ∙ survivors_joined (older_at rs i) (r ∷ newer_at rs i)
+pub survivors_split : (rs : List Record) (n : ℕ) (r : Record) → IsAt rs n r
+    → survivors_of rs ≡ survivors_of (older n rs) ++ survivor_of r ∷ survivors_of (newer n rs)
+survivors_split rs n r at =
+    ap survivors_of at.split ∙ survivors_joined (older n rs) (r ∷ newer n rs)
 
-pub changes_there : (rs : List Record) (i : ℕ) (r : Record) → i < length rs → r ≡ get_or rs i r → changes_at i rs ≡ r.changes
-changes_there [] i r below is = absurd (omega arith)
-changes_there (x ∷ xs) zero r below is = ap (λ (y : Record). y.changes) (sym is)
-changes_there (x ∷ xs) (suc i) r below is = changes_there xs i r (omega arith) is
+pub changes_there : (rs : List Record) (n : ℕ) (r : Record) → IsAt rs n r → changes_of n rs ≡ r.changes
+changes_there rs n r at = ap changes_in at.there
 
 pub survivors_mended : (k : Facts) (changes : List Change) (rs : List Record) → survivors_of (shift_records k changes rs) ≡ survivors_of rs
 survivors_mended k changes [] = refl
@@ -92,7 +74,7 @@ known_rest : (k : Facts) (xs ys : List Record) → EachRecordIsKnown k (xs ++ ys
 known_rest k [] ys all = all
 known_rest k (x ∷ xs) ys all = known_rest k xs ys all.1
 
-commands_known : (k : Facts) (ss : List Survivor) → AllKnownSurvivors k ss → EachCommandIsKnown k ss
+pub commands_known : (k : Facts) (ss : List Survivor) → AllKnownSurvivors k ss → EachCommandIsKnown k ss
 commands_known k [] all = tt
 commands_known k (s ∷ ss) all = (all.0, commands_known k ss all.1)
 
@@ -104,68 +86,68 @@ stored_known laws k rs range known stored =
     laws.known k (opening k) (survivors_of rs) rs range desk (commands_known k (survivors_of rs) known) stored.are
 
 -- the records older than a place, the one there, and the newer ones
-pub record Parts (k : Facts) (rs : List Record) (i : ℕ) (r : Record) : Type 0 where
-  pub at : IsAt rs i r
-  pub older : AreRecords k (opening k) (survivors_of (older_at rs i)) (older_at rs i)
-  pub one : IsRecordAt k (run k (survivors_of (older_at rs i))) (survivor_of r) r
-  pub newer : AreRecords k (step k (run k (survivors_of (older_at rs i))) (survivor_of r)) (survivors_of (newer_at rs i)) (newer_at rs i)
+pub record Parts (k : Facts) (rs : List Record) (n : ℕ) (r : Record) : Type 0 where
+  pub at : IsAt rs n r
+  pub before : AreRecords k (opening k) (survivors_of (older n rs)) (older n rs)
+  pub one : IsRecordAt k (run k (survivors_of (older n rs))) (survivor_of r) r
+  pub after : AreRecords k (step k (run k (survivors_of (older n rs))) (survivor_of r)) (survivors_of (newer n rs)) (newer n rs)
 
-pub parts_at : (laws : Laws) (k : Facts) (rs : List Record) (i : ℕ) (r : Record) → IsAt rs i r → AreStored k rs → Parts k rs i r
-parts_at laws k rs i r at stored =
-    let whole : AreRecords k (opening k) (survivors_of (older_at rs i) ++ survivor_of r ∷ survivors_of (newer_at rs i))
-    (older_at rs i ++ r ∷ newer_at rs i) =
-    subst (λ (xs : List Record). AreRecords k (opening k) (survivors_of (older_at rs i) ++ survivor_of r ∷ survivors_of (newer_at rs i)) xs)
-    (records_split rs i r at)
-    (subst (λ (ss : List Survivor). AreRecords k (opening k) ss rs) (survivors_split rs i r at) stored.are) in
+pub parts_at : (laws : Laws) (k : Facts) (rs : List Record) (n : ℕ) (r : Record) → IsAt rs n r → AreStored k rs → Parts k rs n r
+parts_at laws k rs n r at stored =
+    let whole : AreRecords k (opening k) (survivors_of (older n rs) ++ survivor_of r ∷ survivors_of (newer n rs))
+    (older n rs ++ r ∷ newer n rs) =
+    subst (λ (xs : List Record). AreRecords k (opening k) (survivors_of (older n rs) ++ survivor_of r ∷ survivors_of (newer n rs)) xs)
+    at.split
+    (subst (λ (ss : List Survivor). AreRecords k (opening k) ss rs) (survivors_split rs n r at) stored.are) in
     let both =
-    (laws.split k (opening k) (survivors_of (older_at rs i)) (survivor_of r ∷ survivors_of (newer_at rs i)) (older_at rs i)
-    (r ∷ newer_at rs i) (length-map (older_at rs i) survivor_of)).0 whole in
-    record { at = at; older = both.0; one = both.1.0; newer = both.1.1 }
+    (laws.split k (opening k) (survivors_of (older n rs)) (survivor_of r ∷ survivors_of (newer n rs)) (older n rs)
+    (r ∷ newer n rs) (length-map (older n rs) survivor_of)).0 whole in
+    record { at = at; before = both.0; one = both.1.0; after = both.1.1 }
 
 -- what a clash is told of
-pub kept_at : (laws : Laws) (k : Facts) (rs : List Record) (i : ℕ) (r : Record) → Parts k rs i r → Rising 1 (survivors_of rs)
+pub kept_at : (laws : Laws) (k : Facts) (rs : List Record) (n : ℕ) (r : Record) → Parts k rs n r → Rising 1 (survivors_of rs)
     → EachRecordIsKnown k rs
-    → Kept k (survivors_of (older_at rs i)) (survivor_of r) (survivors_of (newer_at rs i)) (done_of_record r) (newer_at rs i)
-kept_at laws k rs i r parts rising known = record {
-  rising = subst (Rising 1) (survivors_split rs i r parts.at) rising;
+    → Kept k (survivors_of (older n rs)) (survivor_of r) (survivors_of (newer n rs)) (done_of_record r) (newer n rs)
+kept_at laws k rs n r parts rising known = record {
+  rising = subst (Rising 1) (survivors_split rs n r parts.at) rising;
   accepted = parts.one.done;
-  known = (known_rest k (older_at rs i) (r ∷ newer_at rs i) (subst (EachRecordIsKnown k) (records_split rs i r parts.at) known)).0.cells;
-  records = parts.newer;
+  known = (known_rest k (older n rs) (r ∷ newer n rs) (subst (EachRecordIsKnown k) parts.at.split known)).0.cells;
+  records = parts.after;
 }
 
 -- the first clash is the first dependent
-pub first_is : (laws : Laws) (k : Facts) (rs : List Record) (i : ℕ) (r : Record) → Parts k rs i r → Rising 1 (survivors_of rs)
+pub first_is : (laws : Laws) (k : Facts) (rs : List Record) (n : ℕ) (r : Record) → Parts k rs n r → Rising 1 (survivors_of rs)
     → EachRecordIsKnown k rs
-    → first_clash k (changes_at i rs) (newer_at rs i)
-    ≡ first_dependent k (survivors_of rs) (survivor_of r) (survivors_of (newer_at rs i))
-first_is laws k rs i r parts rising known =
-    ap (λ (cs : List Change). first_clash k cs (newer_at rs i)) (changes_there rs i r parts.at.within parts.at.there)
-    ∙ laws.clash k (survivors_of (older_at rs i)) (survivor_of r) (survivors_of (newer_at rs i)) (done_of_record r) (newer_at rs i)
-    (kept_at laws k rs i r parts rising known)
-    ∙ ap (λ (ss : List Survivor). first_dependent k ss (survivor_of r) (survivors_of (newer_at rs i)))
-    (sym (survivors_split rs i r parts.at))
+    → first_clash k (changes_of n rs) (newer n rs)
+    ≡ first_dependent k (survivors_of rs) (survivor_of r) (survivors_of (newer n rs))
+first_is laws k rs n r parts rising known =
+    ap (λ (cs : List Change). first_clash k cs (newer n rs)) (changes_there rs n r parts.at)
+    ∙ laws.clash k (survivors_of (older n rs)) (survivor_of r) (survivors_of (newer n rs)) (done_of_record r) (newer n rs)
+    (kept_at laws k rs n r parts rising known)
+    ∙ ap (λ (ss : List Survivor). first_dependent k ss (survivor_of r) (survivors_of (newer n rs)))
+    (sym (survivors_split rs n r parts.at))
 
 pub among_middle : (xs : List Survivor) (s : Survivor) (ys : List Survivor) → IsAmong s (xs ++ s ∷ ys)
 among_middle [] s ys = inl refl
 among_middle (x ∷ xs) s ys = inr (among_middle xs s ys)
 
 -- the command at the place was accepted, and none depends on it
-pub record CanGo (k : Facts) (rs : List Record) (i : ℕ) (r : Record) : Type 0 where
+pub record CanGo (k : Facts) (rs : List Record) (n : ℕ) (r : Record) : Type 0 where
   pub accepted : IsAcceptedIn k (survivors_of rs) (survivor_of r) (done_of_record r)
   pub none : NoneDepends k (survivors_of rs) (survivor_of r)
-  pub less_is : less r.number (survivors_of rs) ≡ survivors_of (older_at rs i) ++ survivors_of (newer_at rs i)
+  pub less_is : less r.number (survivors_of rs) ≡ survivors_of (older n rs) ++ survivors_of (newer n rs)
 
-pub can_go : (laws : Laws) (k : Facts) (rs : List Record) (i : ℕ) (r : Record) → Parts k rs i r → Rising 1 (survivors_of rs)
-    → EachRecordIsKnown k rs → first_clash k (changes_at i rs) (newer_at rs i) ≡ None → CanGo k rs i r
-can_go laws k rs i r parts rising known clash =
-    let older : List Survivor = survivors_of (older_at rs i) in
-    let newer : List Survivor = survivors_of (newer_at rs i) in
+pub can_go : (laws : Laws) (k : Facts) (rs : List Record) (n : ℕ) (r : Record) → Parts k rs n r → Rising 1 (survivors_of rs)
+    → EachRecordIsKnown k rs → first_clash k (changes_of n rs) (newer n rs) ≡ None → CanGo k rs n r
+can_go laws k rs n r parts rising known clash =
+    let older : List Survivor = survivors_of (older n rs) in
+    let newer : List Survivor = survivors_of (newer n rs) in
     let s : Survivor = survivor_of r in
-    let split : survivors_of rs ≡ older ++ s ∷ newer = survivors_split rs i r parts.at in
+    let split : survivors_of rs ≡ older ++ s ∷ newer = survivors_split rs n r parts.at in
     let up : Rising 1 (older ++ s ∷ newer) = subst (Rising 1) split rising in
     let numbers = laws.numbers older s newer up in
     let first : first_dependent k (older ++ s ∷ newer) s newer ≡ None =
-    ap (λ (ss : List Survivor). first_dependent k ss s newer) (sym split) ∙ sym (first_is laws k rs i r parts rising known) ∙ clash in
+    ap (λ (ss : List Survivor). first_dependent k ss s newer) (sym split) ∙ sym (first_is laws k rs n r parts rising known) ∙ clash in
     let none : NoneDepends k (older ++ s ∷ newer) s = rw first at (laws.dependent k older s newer up) in
     record {
       accepted = record {
@@ -180,52 +162,52 @@ can_go laws k rs i r parts rising known clash =
     }
 
 -- its changes taken back
-pub undone_is : (laws : Laws) (k : Facts) (rs : List Record) (i : ℕ) (r : Record) → CanGo k rs i r
-    → undone r.changes (run k (survivors_of rs)) ≡ run k (survivors_of (older_at rs i) ++ survivors_of (newer_at rs i))
-undone_is laws k rs i r goes =
+pub undone_is : (laws : Laws) (k : Facts) (rs : List Record) (n : ℕ) (r : Record) → CanGo k rs n r
+    → undone r.changes (run k (survivors_of rs)) ≡ run k (survivors_of (older n rs) ++ survivors_of (newer n rs))
+undone_is laws k rs n r goes =
     laws.undone k (survivors_of rs) (survivor_of r) (done_of_record r) goes.accepted goes.none ∙ ap (run k) goes.less_is
 
-pub each_back : (laws : Laws) (k : Facts) (rs : List Record) (i : ℕ) (r : Record) → CanGo k rs i r
+pub each_back : (laws : Laws) (k : Facts) (rs : List Record) (n : ℕ) (r : Record) → CanGo k rs n r
     → EachBackIsFit k r.changes (run k (survivors_of rs))
-each_back laws k rs i r goes = laws.fit k (survivors_of rs) (survivor_of r) (done_of_record r) goes.accepted goes.none
+each_back laws k rs n r goes = laws.fit k (survivors_of rs) (survivor_of r) (done_of_record r) goes.accepted goes.none
 
-pub undoable_at : (k : Facts) (rs : List Record) (i : ℕ) (r : Record) → IsAt rs i r → AreStored k rs
+pub undoable_at : (k : Facts) (rs : List Record) (n : ℕ) (r : Record) → IsAt rs n r → AreStored k rs
     → AreKnown k r.changes × AreApart r.changes
-undoable_at k rs i r at stored =
-    let here = undoable_rest k (older_at rs i) (r ∷ newer_at rs i)
-    (subst (EachCanBeUndone k) (records_split rs i r at) stored.undoable) in (here.0, here.1)
+undoable_at k rs n r at stored =
+    let here = undoable_rest k (older n rs) (r ∷ newer n rs)
+    (subst (EachCanBeUndone k) at.split stored.undoable) in (here.0, here.1)
 
 -- the records that are left
 abbrev pub left_at : Facts → List Record → ℕ → List Record
-left_at k rs i = older_at rs i ++ shift_records k (changes_at i rs) (newer_at rs i)
+left_at k rs n = older n rs ++ shift_records k (changes_of n rs) (newer n rs)
 
-pub left_survivors : (k : Facts) (rs : List Record) (i : ℕ)
-    → survivors_of (left_at k rs i) ≡ survivors_of (older_at rs i) ++ survivors_of (newer_at rs i)
-left_survivors k rs i =
-    survivors_joined (older_at rs i) (shift_records k (changes_at i rs) (newer_at rs i))
-    ∙ ap (λ (ss : List Survivor). survivors_of (older_at rs i) ++ ss) (survivors_mended k (changes_at i rs) (newer_at rs i))
+pub left_survivors : (k : Facts) (rs : List Record) (n : ℕ)
+    → survivors_of (left_at k rs n) ≡ survivors_of (older n rs) ++ survivors_of (newer n rs)
+left_survivors k rs n =
+    survivors_joined (older n rs) (shift_records k (changes_of n rs) (newer n rs))
+    ∙ ap (λ (ss : List Survivor). survivors_of (older n rs) ++ ss) (survivors_mended k (changes_of n rs) (newer n rs))
 
-pub left_stored : (laws : Laws) (k : Facts) (rs : List Record) (i : ℕ) (r : Record) → Parts k rs i r → Rising 1 (survivors_of rs)
-    → EachRecordIsKnown k rs → AreStored k rs → first_clash k (changes_at i rs) (newer_at rs i) ≡ None → AreStored k (left_at k rs i)
-left_stored laws k rs i r parts rising known stored clash =
-    let cs : List Change = changes_at i rs in
-    let same : cs ≡ r.changes = changes_there rs i r parts.at.within parts.at.there in
-    let mended : List Record = shift_records k cs (newer_at rs i) in
-    let later : AreRecords k (run k (survivors_of (older_at rs i))) (survivors_of (newer_at rs i)) mended =
-    subst (λ (xs : List Change). AreRecords k (run k (survivors_of (older_at rs i))) (survivors_of (newer_at rs i))
-    (shift_records k xs (newer_at rs i)))
+pub left_stored : (laws : Laws) (k : Facts) (rs : List Record) (n : ℕ) (r : Record) → Parts k rs n r → Rising 1 (survivors_of rs)
+    → EachRecordIsKnown k rs → AreStored k rs → first_clash k (changes_of n rs) (newer n rs) ≡ None → AreStored k (left_at k rs n)
+left_stored laws k rs n r parts rising known stored clash =
+    let cs : List Change = changes_of n rs in
+    let same : cs ≡ r.changes = changes_there rs n r parts.at in
+    let mended : List Record = shift_records k cs (newer n rs) in
+    let later : AreRecords k (run k (survivors_of (older n rs))) (survivors_of (newer n rs)) mended =
+    subst (λ (xs : List Change). AreRecords k (run k (survivors_of (older n rs))) (survivors_of (newer n rs))
+    (shift_records k xs (newer n rs)))
     (sym same)
-    (laws.mended k (survivors_of (older_at rs i)) (survivor_of r) (survivors_of (newer_at rs i)) (done_of_record r) (newer_at rs i)
-    (kept_at laws k rs i r parts rising known)
-    (ap (λ (xs : List Change). first_clash k xs (newer_at rs i)) (sym same) ∙ clash)) in
-    let undoable = subst (EachCanBeUndone k) (records_split rs i r parts.at) stored.undoable in
+    (laws.mended k (survivors_of (older n rs)) (survivor_of r) (survivors_of (newer n rs)) (done_of_record r) (newer n rs)
+    (kept_at laws k rs n r parts rising known)
+    (ap (λ (xs : List Change). first_clash k xs (newer n rs)) (sym same) ∙ clash)) in
+    let undoable = subst (EachCanBeUndone k) parts.at.split stored.undoable in
     record {
       are =
-          subst (λ (ss : List Survivor). AreRecords k (opening k) ss (left_at k rs i)) (sym (left_survivors k rs i))
-          ((laws.split k (opening k) (survivors_of (older_at rs i)) (survivors_of (newer_at rs i)) (older_at rs i) mended
-          (length-map (older_at rs i) survivor_of)).1 (parts.older, later));
-      undoable = undoable_both k (older_at rs i) mended (undoable_first k (older_at rs i) (r ∷ newer_at rs i) undoable)
-          (undoable_mended k cs (newer_at rs i) (undoable_rest k (older_at rs i) (r ∷ newer_at rs i) undoable).2);
+          subst (λ (ss : List Survivor). AreRecords k (opening k) ss (left_at k rs n)) (sym (left_survivors k rs n))
+          ((laws.split k (opening k) (survivors_of (older n rs)) (survivors_of (newer n rs)) (older n rs) mended
+          (length-map (older n rs) survivor_of)).1 (parts.before, later));
+      undoable = undoable_both k (older n rs) mended (undoable_first k (older n rs) (r ∷ newer n rs) undoable)
+          (undoable_mended k cs (newer n rs) (undoable_rest k (older n rs) (r ∷ newer n rs) undoable).2);
     }
 
 -- one record more
@@ -256,3 +238,13 @@ questions_are k d (s ∷ ss) (r ∷ rs) are =
     omega (arith, here, rest)
 questions_are k d [] (r ∷ rs) are = absurd are
 questions_are k d (s ∷ ss) [] are = absurd are
+
+-- the records that are stored and listed
+pub stored_of : (laws : Laws) (k : Facts) (value : RecordsValue) → AreInRange k → MayRun k (survivors_of value.records)
+    → AreStored k value.records → AreListed k value → AreOf k value
+stored_of laws k value range may stored listed = record {
+  commands = commands_known k (survivors_of value.records) may.known;
+  known = stored_known laws k value.records range may.known stored;
+  about = laws.about k (survivors_of value.records) value.records may.rising stored.are;
+  listed = listed;
+}

@@ -1,5 +1,5 @@
 -- What a cancellation leaves, and its work.
-use Rattle.std.proofs.Common.{arith, ◌≡◌, sym, ◌∙◌, ap, subst, ℕ, ◌+◌, ◌*◌, ◌<◌, ◌≤◌, List, [], ◌∷◌, ◌++◌, length, Option, Some, None}
+use Rattle.std.proofs.Common.{arith, ◌≡◌, sym, ◌∙◌, ap, subst, ℕ, ◌+◌, ◌*◌, ◌≤◌, List, [], ◌∷◌, ◌++◌, length, filter, Bool, Option, Some, None}
 use Rattle.hd_rules.specs.declared.commands.Cancel.{Cancel}
 use Rattle.hd_rules.specs.declared.commands.Survivor.{Survivor}
 use Rattle.hd_rules.specs.declared.replies.Refusal.TheVariants as refusal
@@ -16,62 +16,74 @@ use Rattle.hd_rules.proofs.Splits.{rising_at}
 use Rattle.hd_catalogue.specs.Contents.{Contents, facts_of}
 use Rattle.hd_footprint.specs.Meter.{Counts}
 use Rattle.hd_inverse.specs.Work.{written}
+use Rattle.hd_clash.specs.About.{touches}
 use Rattle.hd_clash.specs.Clash.{first_clash}
 use Rattle.hd_clash.specs.Records.{EachRecordIsKnown}
 use Rattle.hd_records.specs.Looks.{looked, questions_of}
-use Rattle.hd_records.specs.Survivors.{IsTargetAt, survivor_of, survivors_of, changes_at}
+use Rattle.hd_records.specs.RecordsValue.{AreListed, AreOf, RecordsValue}
+use Rattle.hd_records.specs.Survivors.{survivor_of, survivors_of, changes_of, newer, older, target_of}
 use Rattle.hd_journal.specs.Laws.{Laws}
 use Rattle.hd_journal.specs.Running.{Running, IsRunning, MayRun, Withdrawn, state_at}
 use Rattle.hd_journal.specs.Stored.{AreStored}
 use Rattle.hd_journal.specs.Working.{IsCancellation, IsDecidedSo, IsDecision, cells_of}
 use Rattle.hd_journal.proofs.Runs.{may_run_without}
-use Rattle.hd_journal.proofs.Stored.{IsAt, Parts, changes_there, done_of_record, first_is, newer_at, older_at, parts_at, stored_known}
+use Rattle.hd_journal.proofs.Stored.{Parts, changes_there, done_of_record, first_is, parts_at, stored_of}
+use Rattle.hd_journal.proofs.Targets.{Aimed, aimed}
 use Rattle.hd_journal.proofs.Working.{Compares, cells_are, compares, in_words, takes_back}
 
 abbrev pub split_of : List Record → ℕ → Record → Split
 split_of rs i aim =
-    record { older = survivors_of (older_at rs i); survivor = survivor_of aim; newer = survivors_of (newer_at rs i) }
+    record { older = survivors_of (older i rs); survivor = survivor_of aim; newer = survivors_of (newer i rs) }
 
 -- the target, by the record at its place
 pub record Aims (r : Running) (terminal : ℕ) (what : Cancel) (rs : List Record) (i : ℕ) (aim : Record) : Type 0 where
   pub same : r.survivors ≡ survivors_of rs
   pub is_target : target terminal what (survivors_of rs) ≡ Some (record {
-    older = survivors_of (older_at rs i);
+    older = survivors_of (older i rs);
     survivor = survivor_of aim;
-    newer = survivors_of (newer_at rs i);
+    newer = survivors_of (newer i rs);
   })
 
 -- a cancellation with a target, at the records of a running journal
-pub record Aiming (k : Facts) (terminal : ℕ) (what : Cancel) (rs : List Record) (i : ℕ) : Type 0 where
+pub record Aiming (k : Facts) (terminal : ℕ) (what : Cancel) (value : RecordsValue) (i : ℕ) : Type 0 where
   pub aim : Record
-  pub parts : Parts k rs i aim
-  pub rising : Rising 1 (survivors_of rs)
-  pub known : EachRecordIsKnown k rs
-  pub stored : AreStored k rs
-  pub few : length (changes_at i rs) ≤ 4
-  pub is_target : target terminal what (survivors_of rs) ≡ Some (split_of rs i aim)
+  pub number : aim.number ≡ i
+  pub parts : Parts k value.records i aim
+  pub rising : Rising 1 (survivors_of value.records)
+  pub of : AreOf k value
+  pub stored : AreStored k value.records
+  pub few : length (changes_of i value.records) ≤ 4
+  pub is_target : target terminal what (survivors_of value.records) ≡ Some (split_of value.records i aim)
 
 abbrev pub running_at : Contents → List Record → ℕ → Running
 running_at contents rs last = record { contents = contents; survivors = survivors_of rs; last = last }
 
-pub aiming : (laws : Laws) (contents : Contents) (d : Desk) (rs : List Record) (last terminal : ℕ) (what : Cancel) (i : ℕ) (lent : Contents)
-    → lent ≡ contents → AreInRange (facts_of lent)
-    → IsRunning (running_at contents rs last) d × AreStored (facts_of contents) rs
-    → i < length rs → IsTargetAt terminal what rs i → Aiming (facts_of contents) terminal what rs i
-aiming laws contents d rs last terminal what i lent same range is within found =
+-- what a running journal keeps of its records
+abbrev pub Keeps : Contents → Desk → RecordsValue → Type 0
+Keeps contents d value =
+    IsRunning (running_at contents value.records value.last) d
+    × AreStored (facts_of contents) value.records
+    × AreListed (facts_of contents) value
+
+pub aiming : (laws : Laws) (contents : Contents) (d : Desk) (value : RecordsValue) (terminal : ℕ) (what : Cancel) (i : ℕ) (lent : Contents)
+    → lent ≡ contents → AreInRange (facts_of lent) → Keeps contents d value
+    → Some i ≡ target_of terminal what value.records → Aiming (facts_of contents) terminal what value i
+aiming laws contents d value terminal what i lent same range is found =
     let k : Facts = facts_of contents in
-    let at : IsAt rs i found.aim = record { within = within; there = found.there } in
-    let parts : Parts k rs i found.aim = parts_at laws k rs i found.aim at is.1 in
+    let rs : List Record = value.records in
+    let target : Aimed terminal what rs i = aimed laws terminal what rs i is.0.may_run.rising found in
+    let parts : Parts k rs i target.aim = parts_at laws k rs i target.aim target.at is.1 in
     record {
-      aim = found.aim;
+      aim = target.aim;
+      number = target.number;
       parts = parts;
       rising = is.0.may_run.rising;
-      known = stored_known laws k rs (subst (λ (x : Contents). AreInRange (facts_of x)) same range) is.0.may_run.known is.1;
+      of = stored_of laws k value (subst (λ (x : Contents). AreInRange (facts_of x)) same range) is.0.may_run is.1 is.2;
       stored = is.1;
       few =
-          subst (λ (cs : List Change). length cs ≤ 4) (sym (changes_there rs i found.aim within found.there))
-          (laws.few k (run k (survivors_of (older_at rs i))) found.aim.number found.aim.command (done_of_record found.aim) parts.one.done);
-      is_target = found.is_target;
+          subst (λ (cs : List Change). length cs ≤ 4) (sym (changes_there rs i target.aim target.at))
+          (laws.few k (run k (survivors_of (older i rs))) target.aim.number target.aim.command (done_of_record target.aim) parts.one.done);
+      is_target = target.is_target;
     }
 
 -- what the first clash says, by the catalogue that was lent
@@ -83,19 +95,19 @@ clash_there lent contents changes rs o same is =
 decided : (laws : Laws) (r : Running) (terminal : ℕ) (what : Cancel) (rs : List Record) (i : ℕ) (aim : Record) (o : Option ℕ)
     (kept : ℕ → Option Kept) → Aims r terminal what rs i aim → Parts (facts_of r.contents) rs i aim → Rising 1 (survivors_of rs)
     → EachRecordIsKnown (facts_of r.contents) rs
-    → first_clash (facts_of r.contents) (changes_at i rs) (newer_at rs i) ≡ o
+    → first_clash (facts_of r.contents) (changes_of i rs) (newer i rs) ≡ o
     → answered_cancel (facts_of r.contents) (state_at r kept) (target terminal what r.survivors)
     ≡ answered_target (facts_of r.contents) (state_at r kept) (split_of rs i aim) o
 decided laws r terminal what rs i aim o kept aims parts rising known is =
     let k : Facts = facts_of r.contents in
     ap (answered_cancel k (state_at r kept)) (ap (target terminal what) aims.same ∙ aims.is_target)
     ∙ ap (answered_target k (state_at r kept) (split_of rs i aim))
-    (ap (λ (ss : List Survivor). first_dependent k ss (survivor_of aim) (survivors_of (newer_at rs i))) aims.same
+    (ap (λ (ss : List Survivor). first_dependent k ss (survivor_of aim) (survivors_of (newer i rs))) aims.same
     ∙ sym (first_is laws k rs i aim parts rising known) ∙ is)
 
 pub withdrawn_depends : (laws : Laws) (r : Running) (terminal : ℕ) (what : Cancel) (rs : List Record) (i : ℕ) (aim : Record) (n : ℕ)
     → Aims r terminal what rs i aim → Parts (facts_of r.contents) rs i aim → Rising 1 (survivors_of rs)
-    → EachRecordIsKnown (facts_of r.contents) rs → first_clash (facts_of r.contents) (changes_at i rs) (newer_at rs i) ≡ Some n
+    → EachRecordIsKnown (facts_of r.contents) rs → first_clash (facts_of r.contents) (changes_of i rs) (newer i rs) ≡ Some n
     → Withdrawn r terminal what (Refused (refusal.Depends n)) r
 withdrawn_depends laws r terminal what rs i aim n aims parts rising known is kept =
     decided laws r terminal what rs i aim (Some n) kept aims parts rising known is
@@ -103,8 +115,8 @@ withdrawn_depends laws r terminal what rs i aim n aims parts rising known is kep
 pub withdrawn_stands : (laws : Laws) (r : Running) (terminal : ℕ) (what : Cancel) (rs : List Record) (i : ℕ) (aim : Record)
     (contents : Contents) (items : List Survivor)
     → Aims r terminal what rs i aim → Parts (facts_of r.contents) rs i aim → Rising 1 (survivors_of rs)
-    → EachRecordIsKnown (facts_of r.contents) rs → first_clash (facts_of r.contents) (changes_at i rs) (newer_at rs i) ≡ None
-    → contents ≡ r.contents → items ≡ survivors_of (older_at rs i) ++ survivors_of (newer_at rs i)
+    → EachRecordIsKnown (facts_of r.contents) rs → first_clash (facts_of r.contents) (changes_of i rs) (newer i rs) ≡ None
+    → contents ≡ r.contents → items ≡ survivors_of (older i rs) ++ survivors_of (newer i rs)
     → Withdrawn r terminal what (Cancelled aim.number) (record { contents = contents; survivors = items; last = r.last })
 withdrawn_stands laws r terminal what rs i aim contents items aims parts rising known is same rest kept =
     decided laws r terminal what rs i aim None kept aims parts rising known is
@@ -115,33 +127,34 @@ withdrawn_stands laws r terminal what rs i aim contents items aims parts rising 
 
 -- the work, where a later one depends on the target, and where none does
 pub work_depends : (laws : Laws) (k : Facts) (survivors : List Survivor) (o : Option Split) (rs : List Record) (i : ℕ) (aim : Record)
-    (n : ℕ) (old mid new : Counts)
+    (n : ℕ) (P : Record → Bool) (old mid new : Counts)
     → survivors ≡ survivors_of rs → o ≡ Some (split_of rs i aim) → Parts k rs i aim → Rising 1 (survivors_of rs) → EachRecordIsKnown k rs
-    → first_clash k (changes_at i rs) (newer_at rs i) ≡ Some n → Compares k rs i old mid new → IsCancellation k survivors o old new
-work_depends laws k survivors o rs i aim n old mid new same found parts rising known is h =
-    let first : first_dependent k survivors (survivor_of aim) (survivors_of (newer_at rs i)) ≡ Some n =
-    ap (λ (ss : List Survivor). first_dependent k ss (survivor_of aim) (survivors_of (newer_at rs i))) same
+    → first_clash k (changes_of i rs) (newer i rs) ≡ Some n → Compares k P rs i old mid new → IsCancellation k survivors o old new
+work_depends laws k survivors o rs i aim n P old mid new same found parts rising known is h =
+    let first : first_dependent k survivors (survivor_of aim) (survivors_of (newer i rs)) ≡ Some n =
+    ap (λ (ss : List Survivor). first_dependent k ss (survivor_of aim) (survivors_of (newer i rs))) same
     ∙ sym (first_is laws k rs i aim parts rising known) ∙ is in
     subst (λ (x : Option Split). IsCancellation k survivors x old new) (sym found)
     (subst (λ (x : Option ℕ). IsDecidedSo k (split_of rs i aim) x old new) (sym first)
-    (in_words k rs i 0 aim 2 old new parts (compares laws k rs i old mid new h)))
+    (in_words k rs i 0 aim 2 old new parts (compares laws k P rs i old mid new h)))
 
 pub work_stands : (laws : Laws) (k : Facts) (survivors : List Survivor) (o : Option Split) (rs : List Record) (i : ℕ) (aim : Record)
-    (old mid compared back new : Counts)
+    (P : Record → Bool) (old mid compared back new : Counts)
     → survivors ≡ survivors_of rs → o ≡ Some (split_of rs i aim) → Parts k rs i aim → Rising 1 (survivors_of rs) → EachRecordIsKnown k rs
-    → first_clash k (changes_at i rs) (newer_at rs i) ≡ None → Compares k rs i old mid compared
-    → back ≡ written (length aim.changes) compared → new ≡ looked (length (newer_at rs i)) back → IsCancellation k survivors o old new
-work_stands laws k survivors o rs i aim old mid compared back new same found parts rising known is h writes looks =
-    let first : first_dependent k survivors (survivor_of aim) (survivors_of (newer_at rs i)) ≡ None =
-    ap (λ (ss : List Survivor). first_dependent k ss (survivor_of aim) (survivors_of (newer_at rs i))) same
+    → first_clash k (changes_of i rs) (newer i rs) ≡ None → Compares k P rs i old mid compared
+    → back ≡ written (length aim.changes) compared
+    → new ≡ looked (length (filter (touches k (changes_of i rs)) (newer i rs))) back → IsCancellation k survivors o old new
+work_stands laws k survivors o rs i aim P old mid compared back new same found parts rising known is h writes looks =
+    let first : first_dependent k survivors (survivor_of aim) (survivors_of (newer i rs)) ≡ None =
+    ap (λ (ss : List Survivor). first_dependent k ss (survivor_of aim) (survivors_of (newer i rs))) same
     ∙ sym (first_is laws k rs i aim parts rising known) ∙ is in
-    let all : IsDecision (length aim.changes) (3 * length (newer_at rs i) + 1) (questions_of (newer_at rs i)) old new =
-    takes_back laws rs i (length aim.changes) (questions_of (newer_at rs i)) old compared back new (compares laws k rs i old mid compared h)
+    let all : IsDecision (length aim.changes) (3 * length (newer i rs) + 1) (questions_of (newer i rs)) old new =
+    takes_back laws (touches k (changes_of i rs)) rs i (length aim.changes) (questions_of (newer i rs)) old compared back new (compares laws k P rs i old mid compared h)
     writes looks in
     subst (λ (x : Option Split). IsCancellation k survivors x old new) (sym found)
     (subst (λ (x : Option ℕ). IsDecidedSo k (split_of rs i aim) x old new) (sym first)
-    (in_words k rs i (cells_of (outcome_of k (run k (survivors_of (older_at rs i))) (survivor_of aim))) aim 3 old new parts
-    (subst (λ (n : ℕ). IsDecision n (3 * length (newer_at rs i) + 1) (questions_of (newer_at rs i)) old new)
+    (in_words k rs i (cells_of (outcome_of k (run k (survivors_of (older i rs))) (survivor_of aim))) aim 3 old new parts
+    (subst (λ (n : ℕ). IsDecision n (3 * length (newer i rs) + 1) (questions_of (newer i rs)) old new)
     (cells_are k rs i aim parts) all)))
 
 -- no number of the others is above the last

@@ -1,28 +1,25 @@
 -- The work of a cancellation.
-use Rattle.std.proofs.Common.{arith, ◌≡◌, refl, sym, ◌∙◌, ap, subst, ℕ, zero, suc, ◌+◌, ◌*◌, ◌<◌, ◌≤◌, Bool, true, false, cond, List, []}
-use Rattle.std.proofs.Common.{◌∷◌, ◌++◌}
-use Rattle.std.proofs.Common.{length, length-drop, drop, Option, Some, None, Result, Ok, Err}
+use Rattle.std.proofs.Common.{arith, ◌≡◌, refl, sym, ◌∙◌, ap, subst, ℕ, zero, suc, ◌+◌, ◌*◌, ◌≤◌, Bool, true, false, cond, List, []}
+use Rattle.std.proofs.Common.{◌∷◌}
+use Rattle.std.proofs.Common.{filter, nat_lt, length, Some, None}
 use Rattle.std.proofs.lemmas.List.{length-map}
 use Rattle.hd_rules.specs.declared.cells.Change.{Change}
-use Rattle.hd_rules.specs.declared.commands.Survivor.{Survivor}
 use Rattle.hd_rules.specs.declared.questions.Finding.{Finding}
-use Rattle.hd_rules.specs.declared.replies.Refusal.{Refusal}
-use Rattle.hd_rules.specs.Ask.{Done}
 use Rattle.hd_rules.specs.Facts.{Facts}
 use Rattle.hd_rules.specs.Record.{Record}
 use Rattle.hd_rules.specs.Run.{outcome_of, run, step}
 use Rattle.hd_footprint.specs.Meter.{Counts, add, raised}
-use Rattle.hd_footprint.specs.declared.count.Count.{Count}
 use Rattle.hd_footprint.specs.declared.count.Count.TheVariants.{Look, Compared, Written}
 use Rattle.hd_inverse.specs.Work.{written}
+use Rattle.hd_clash.specs.About.{touches}
 use Rattle.hd_clash.specs.Clash.{clashes, some_clash}
 use Rattle.hd_clash.specs.Work.{clash_work, with_comparisons}
 use Rattle.hd_records.specs.Looks.{IsWalk, looked, looks_to, questions_of, walked}
-use Rattle.hd_records.specs.Survivors.{survivor_of, survivors_of, changes_at}
+use Rattle.hd_records.specs.Survivors.{survivor_of, survivors_of, changes_of, newer, older}
 use Rattle.hd_journal.specs.Laws.{Laws}
-use Rattle.hd_journal.specs.Working.{IsDecision, OnlyRise, all_added, cells_of, questions_from}
+use Rattle.hd_journal.specs.Working.{IsDecision, OnlyRise, cells_of, questions_from}
 use Rattle.hd_journal.proofs.Raising.{rise_none, rise_on}
-use Rattle.hd_journal.proofs.Stored.{Parts, newer_at, older_at, questions_are}
+use Rattle.hd_journal.proofs.Stored.{Parts, questions_are}
 
 -- looks only rise
 pub rise_looked : (n : ℕ) (counts : Counts) → OnlyRise counts (looked n counts)
@@ -63,48 +60,86 @@ rise_walked k changes (r ∷ rs) counts =
     by_test true rest = here
     by_test false rest = rise_on counts next (walked k changes rs next) here rest
 
--- without a target
-pub no_target : (laws : Laws) (rs : List Record) (old new : Counts) → new ≡ looked (looks_to None rs) old
+-- part of some records
+fewer : (P : Record → Bool) (rs : List Record) → length (filter P rs) ≤ length rs
+fewer P [] = omega arith
+fewer P (x ∷ xs) = by_test (P x) (fewer P xs)
+  where
+    by_test : (b : Bool) → length (filter P xs) ≤ length xs → length (cond b (x ∷ filter P xs) (filter P xs)) ≤ suc (length xs)
+    by_test true rest = omega (arith, rest)
+    by_test false rest = omega (arith, rest)
+
+fewer_of : (P Q : Record → Bool) (rs : List Record) → length (filter Q (filter P rs)) ≤ length (filter Q rs)
+fewer_of P Q [] = omega arith
+fewer_of P Q (x ∷ xs) = by_tests (P x) (Q x) refl (fewer_of P Q xs)
+  where
+    by_tests : (b c : Bool) → Q x ≡ c → length (filter Q (filter P xs)) ≤ length (filter Q xs)
+        → length (filter Q (cond b (x ∷ filter P xs) (filter P xs))) ≤ length (cond c (x ∷ filter Q xs) (filter Q xs))
+    by_tests true true is rest =
+        subst (λ (d : Bool). length (cond d (x ∷ filter Q (filter P xs)) (filter Q (filter P xs))) ≤ suc (length (filter Q xs))) (sym is)
+        (omega (arith, rest))
+    by_tests true false is rest =
+        subst (λ (d : Bool). length (cond d (x ∷ filter Q (filter P xs)) (filter Q (filter P xs))) ≤ length (filter Q xs)) (sym is) rest
+    by_tests false true is rest = omega (arith, rest)
+    by_tests false false is rest = rest
+
+fewer_questions : (P : Record → Bool) (rs : List Record) → questions_of (filter P rs) ≤ questions_of rs
+fewer_questions P [] = omega arith
+fewer_questions P (x ∷ xs) = by_test (P x) (fewer_questions P xs)
+  where
+    by_test : (b : Bool) → questions_of (filter P xs) ≤ questions_of xs
+        → questions_of (cond b (x ∷ filter P xs) (filter P xs)) ≤ length x.findings + questions_of xs
+    by_test true rest = omega (arith, rest)
+    by_test false rest = omega (arith, rest)
+
+-- without a target, each record of its title is looked at
+pub no_target : (laws : Laws) (P : Record → Bool) (rs : List Record) (old new : Counts) → new ≡ looked (looks_to None (filter P rs)) old
     → IsDecision 0 (length (survivors_of rs)) 0 old new
-no_target laws rs old new is =
-    let walk : IsWalk (length rs) 0 old (looked (length rs) old) = laws.walks.looks (length rs) old in
+no_target laws P rs old new is =
+    let n : ℕ = length (filter P rs) in
+    let walk : IsWalk n 0 old (looked n old) = laws.walks.looks n old in
+    let most : n ≤ length rs = fewer P rs in
     subst (λ (x : Counts). IsDecision 0 (length (survivors_of rs)) 0 old x) (sym is) (record {
       steps = walk.steps;
       written = walk.written;
-      looks = omega (arith, walk.looks, length-map rs survivor_of);
+      looks = omega (arith, walk.looks, most, length-map rs survivor_of);
       compared = walk.compared;
     })
 
--- found, and compared
-pub record Compares (k : Facts) (rs : List Record) (i : ℕ) (old mid new : Counts) : Type 0 where
-  pub within : i < length rs
-  pub few : length (changes_at i rs) ≤ 4
-  pub found : mid ≡ looked (looks_to (Some i) rs) old
-  pub compared : new ≡ walked k (changes_at i rs) (newer_at rs i) mid
+-- found among some of the records, and compared with those of the later ones that the changes touch
+pub record Compares (k : Facts) (P : Record → Bool) (rs : List Record) (i : ℕ) (old mid new : Counts) : Type 0 where
+  pub few : length (changes_of i rs) ≤ 4
+  pub found : mid ≡ looked (looks_to (Some i) (filter P rs)) old
+  pub compared : new ≡ walked k (changes_of i rs) (filter (touches k (changes_of i rs)) (newer i rs)) mid
 
-pub compares : (laws : Laws) (k : Facts) (rs : List Record) (i : ℕ) (old mid new : Counts) → Compares k rs i old mid new
-    → IsDecision 0 (2 * length (newer_at rs i) + 1) (questions_of (newer_at rs i)) old new
-compares laws k rs i old mid new h =
-    let all : ℕ = length (drop i rs) in
-    let one : all ≡ length (newer_at rs i) + 1 = omega (arith, length-drop i rs, length-drop (i + 1) rs, h.within) in
+pub compares : (laws : Laws) (k : Facts) (P : Record → Bool) (rs : List Record) (i : ℕ) (old mid new : Counts)
+    → Compares k P rs i old mid new → IsDecision 0 (2 * length (newer i rs) + 1) (questions_of (newer i rs)) old new
+compares laws k P rs i old mid new h =
+    let cs : List Change = changes_of i rs in
+    let ts : List Record = filter (touches k cs) (newer i rs) in
+    let all : ℕ = length (newer i (filter P rs)) + 1 in
     let find : IsWalk all 0 old (looked all old) = laws.walks.looks all old in
-    let walk : IsWalk (length (newer_at rs i)) (questions_of (newer_at rs i)) mid (walked k (changes_at i rs) (newer_at rs i) mid) =
-    laws.walks.walk k (changes_at i rs) (newer_at rs i) mid h.few in
+    let walk : IsWalk (length ts) (questions_of ts) mid (walked k cs ts mid) = laws.walks.walk k cs ts mid h.few in
     let first : IsWalk all 0 old mid = subst (λ (x : Counts). IsWalk all 0 old x) (sym h.found) find in
-    let then : IsWalk (length (newer_at rs i)) (questions_of (newer_at rs i)) mid new =
-    subst (λ (x : Counts). IsWalk (length (newer_at rs i)) (questions_of (newer_at rs i)) mid x) (sym h.compared) walk in
+    let then : IsWalk (length ts) (questions_of ts) mid new =
+    subst (λ (x : Counts). IsWalk (length ts) (questions_of ts) mid x) (sym h.compared) walk in
+    let most : length (newer i (filter P rs)) ≤ length (newer i rs) = fewer_of P (λ r. nat_lt i r.number) rs in
+    let later : length ts ≤ length (newer i rs) = fewer (touches k cs) (newer i rs) in
+    let asked : questions_of ts ≤ questions_of (newer i rs) = fewer_questions (touches k cs) (newer i rs) in
     record {
       steps = then.steps ∙ first.steps;
       written = then.written ∙ first.written;
-      looks = omega (arith, one, first.looks, then.looks);
-      compared = omega (arith, first.compared, then.compared);
+      looks = omega (arith, first.looks, then.looks, most, later);
+      compared = omega (arith, first.compared, then.compared, asked);
     }
 
-pub rise_compared : (k : Facts) (rs : List Record) (i : ℕ) (old mid new : Counts) → Compares k rs i old mid new → OnlyRise old new
-rise_compared k rs i old mid new h =
+pub rise_compared : (k : Facts) (P : Record → Bool) (rs : List Record) (i : ℕ) (old mid new : Counts) → Compares k P rs i old mid new
+    → OnlyRise old new
+rise_compared k P rs i old mid new h =
     rise_on old mid new
-    (subst (λ (x : Counts). OnlyRise old x) (sym h.found) (rise_looked (looks_to (Some i) rs) old))
-    (subst (λ (x : Counts). OnlyRise mid x) (sym h.compared) (rise_walked k (changes_at i rs) (newer_at rs i) mid))
+    (subst (λ (x : Counts). OnlyRise old x) (sym h.found) (rise_looked (looks_to (Some i) (filter P rs)) old))
+    (subst (λ (x : Counts). OnlyRise mid x) (sym h.compared)
+    (rise_walked k (changes_of i rs) (filter (touches k (changes_of i rs)) (newer i rs)) mid))
 
 -- writes count no other work, and as many from counts that are equal
 record Writes (n : ℕ) (old new : Counts) : Type 0 where
@@ -123,34 +158,35 @@ writes_alike zero one other is = is
 writes_alike (suc n) one other is = writes_alike n (add one Written) (add other Written) (ap raised is)
 
 -- written back, and mended
-pub takes_back : (laws : Laws) (rs : List Record) (i n questions : ℕ) (old compared back new : Counts)
-    → IsDecision 0 (2 * length (newer_at rs i) + 1) questions old compared → back ≡ written n compared
-    → new ≡ looked (length (newer_at rs i)) back → IsDecision n (3 * length (newer_at rs i) + 1) questions old new
-takes_back laws rs i n questions old compared back new was writes looks =
+pub takes_back : (laws : Laws) (P : Record → Bool) (rs : List Record) (i n questions : ℕ) (old compared back new : Counts)
+    → IsDecision 0 (2 * length (newer i rs) + 1) questions old compared → back ≡ written n compared
+    → new ≡ looked (length (filter P (newer i rs))) back → IsDecision n (3 * length (newer i rs) + 1) questions old new
+takes_back laws P rs i n questions old compared back new was writes looks =
+    let met : ℕ = length (filter P (newer i rs)) in
+    let most : met ≤ length (newer i rs) = fewer P (newer i rs) in
     let alone : Writes n compared back = subst (λ (x : Counts). Writes n compared x) (sym writes) (writes_alone n compared) in
-    let walk : IsWalk (length (newer_at rs i)) 0 back new =
-    subst (λ (x : Counts). IsWalk (length (newer_at rs i)) 0 back x) (sym looks) (laws.walks.looks (length (newer_at rs i)) back) in
+    let walk : IsWalk met 0 back new = subst (λ (x : Counts). IsWalk met 0 back x) (sym looks) (laws.walks.looks met back) in
     record {
       steps = walk.steps ∙ alone.steps ∙ was.steps;
       written = walk.written ∙ ap (λ (x : Counts). x.written) writes ∙ writes_alike n compared old was.written;
-      looks = omega (arith, walk.looks, alone.looks, was.looks);
+      looks = omega (arith, walk.looks, alone.looks, was.looks, most);
       compared = omega (arith, walk.compared, alone.compared, was.compared);
     }
 
 -- in the words of the rules
 pub in_words : (k : Facts) (rs : List Record) (i cells : ℕ) (r : Record) (m : ℕ) (old new : Counts) → Parts k rs i r
-    → IsDecision cells (m * length (newer_at rs i) + 1) (questions_of (newer_at rs i)) old new
-    → IsDecision cells (m * length (survivors_of (newer_at rs i)) + 1)
-    (questions_from k (step k (run k (survivors_of (older_at rs i))) (survivor_of r)) (survivors_of (newer_at rs i))) old new
+    → IsDecision cells (m * length (newer i rs) + 1) (questions_of (newer i rs)) old new
+    → IsDecision cells (m * length (survivors_of (newer i rs)) + 1)
+    (questions_from k (step k (run k (survivors_of (older i rs))) (survivor_of r)) (survivors_of (newer i rs))) old new
 in_words k rs i cells r m old new parts is =
     subst (λ (n : ℕ). IsDecision cells (m * n + 1)
-    (questions_from k (step k (run k (survivors_of (older_at rs i))) (survivor_of r)) (survivors_of (newer_at rs i))) old new)
-    (sym (length-map (newer_at rs i) survivor_of))
-    (subst (λ (n : ℕ). IsDecision cells (m * length (newer_at rs i) + 1) n old new)
-    (questions_are k (step k (run k (survivors_of (older_at rs i))) (survivor_of r)) (survivors_of (newer_at rs i)) (newer_at rs i)
-    parts.newer)
+    (questions_from k (step k (run k (survivors_of (older i rs))) (survivor_of r)) (survivors_of (newer i rs))) old new)
+    (sym (length-map (newer i rs) survivor_of))
+    (subst (λ (n : ℕ). IsDecision cells (m * length (newer i rs) + 1) n old new)
+    (questions_are k (step k (run k (survivors_of (older i rs))) (survivor_of r)) (survivors_of (newer i rs)) (newer i rs)
+    parts.after)
     is)
 
 pub cells_are : (k : Facts) (rs : List Record) (i : ℕ) (r : Record) → Parts k rs i r
-    → length r.changes ≡ cells_of (outcome_of k (run k (survivors_of (older_at rs i))) (survivor_of r))
+    → length r.changes ≡ cells_of (outcome_of k (run k (survivors_of (older i rs))) (survivor_of r))
 cells_are k rs i r parts = ap cells_of (sym parts.one.done)

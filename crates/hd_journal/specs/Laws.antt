@@ -3,6 +3,7 @@ use Rattle.hd_rules.specs.Laws.{AtMostFourChanges, NumbersSplitARun, TakingBackL
 use Rattle.hd_rules.specs.Laws.{TheFirstDependentIsTheLeast}
 use Rattle.hd_rules.specs.Laws.{TheTargetIsTheNewest, UndoingIsTheRunWithout}
 use Rattle.hd_rules.specs.MachineLaws.{KnownMessagesGetKnownReplies}
+use Rattle.hd_clash.specs.About.{AllRecordsAreAboutTheirCommands}
 use Rattle.hd_clash.specs.Records.{RecordsAreKnown, RecordsSplit}
 use Rattle.hd_clash.specs.Walk.{ShiftedRecordsAreThoseWithout, TheFirstClashIsTheFirstDependent}
 use Rattle.hd_records.specs.Looks.{WalksAreShort}
@@ -18,6 +19,7 @@ pub record Laws : Type 0 where
   pub replies : KnownMessagesGetKnownReplies
   pub split : RecordsSplit
   pub known : RecordsAreKnown
+  pub about : AllRecordsAreAboutTheirCommands
   pub clash : TheFirstClashIsTheFirstDependent
   pub mended : ShiftedRecordsAreThoseWithout
   pub walks : WalksAreShort

@@ -3,8 +3,8 @@
 ghost use Rattle.hd_journal.specs.Laws.{Laws};
 
 use hd_clash::{
-    records_are_known, records_split, shifted_records_are_those_without,
-    the_first_clash_is_the_first_dependent,
+    records_are_about_their_commands, records_are_known, records_split,
+    shifted_records_are_those_without, the_first_clash_is_the_first_dependent,
 };
 use hd_records::walks_are_short;
 use hd_rules::{
@@ -26,6 +26,7 @@ pub(crate) fn laws()
     known_messages_get_known_replies();
     records_split();
     records_are_known();
+    records_are_about_their_commands();
     the_first_clash_is_the_first_dependent();
     shifted_records_are_those_without();
     walks_are_short();

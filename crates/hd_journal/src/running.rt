@@ -3,7 +3,7 @@
 ghost use Rattle.std.specs.Prelude.{◌≡◌, ◌+◌, ◌<◌, ◌≤◌, ◌^◌, [], ℕ, None, Option, IfOk, OnErr, option_map};
 ghost use Rattle.hd_catalogue.specs.Contents.{facts_of};
 ghost use Rattle.hd_rules.specs.Desk.{opening};
-ghost use Rattle.hd_rules.specs.Known.{IsKnown, IsKnownAction};
+ghost use Rattle.hd_rules.specs.Known.{IsKnown, IsKnownAction, IsKnownCancel};
 ghost use Rattle.hd_rules.specs.Run.{outcome_of, run};
 ghost use Rattle.hd_rules.specs.Target.{target};
 ghost use Rattle.hd_rules.specs.Turns.{Kept, item_view, next_survivor};
@@ -22,17 +22,17 @@ use hd_rules::{Asked, Cancel, Command, CopyNo, Refusal, Survivor, TerminalNo, Tu
 use std::alloc::{AllocError, Allocator};
 use std::marker::Model;
 
-/// The records of the survivors, the desk of their run, and the last number given.
+/// The records of the survivors with the last number given, and the desk of their run.
 #[derive(Drop)]
 pub(crate) struct Running<A: Allocator> {
     desk: Desk<A>,
     records: Records<A>,
-    last: u64,
 }
 
 impl<A: Allocator> Model for Running<A> {
     ghost use Rattle.hd_catalogue.specs.Contents.{facts_of};
     ghost use Rattle.hd_desk.specs.Desks.{contents, desk_of};
+    ghost use Rattle.hd_records.specs.RecordsValue.{AreListed};
     ghost use Rattle.hd_records.specs.Survivors.{survivors_of};
     ghost use Rattle.hd_journal.specs.Running.{Running, IsRunning};
     ghost use Rattle.hd_journal.specs.Stored.{AreStored};
@@ -42,13 +42,14 @@ impl<A: Allocator> Model for Running<A> {
     ghost view = { λ r. record {
       contents = contents r.desk;
       survivors = survivors_of r.records.records;
-      last = r.last;
+      last = r.records.last;
     } };
 
     ghost invariant = { λ r. IsRunning
-        (record { contents = contents r.desk; survivors = survivors_of r.records.records; last = r.last })
+        (record { contents = contents r.desk; survivors = survivors_of r.records.records; last = r.records.last })
         (desk_of r.desk)
-        × AreStored (facts_of (contents r.desk)) r.records.records };
+        × AreStored (facts_of (contents r.desk)) r.records.records
+        × AreListed (facts_of (contents r.desk)) r.records };
 }
 
 impl<A: Allocator + Copy> Running<A> {
@@ -60,7 +61,6 @@ impl<A: Allocator + Copy> Running<A> {
         Running {
             desk,
             records: Records::new(alloc),
-            last: 0,
         }
     }
 
@@ -92,7 +92,7 @@ impl<A: Allocator + Copy> Running<A> {
     pub(crate) fn last(&self) -> u64
         ensures { result ≡ self.now.last }
     {
-        self.last
+        self.records.last()
     }
 
     /// Carries out what a terminal asks that is no repeat, and counts the work: its reply.
@@ -150,8 +150,8 @@ impl<A: Allocator + Copy> Running<A> {
         ensures err { OnErr result (self.new ≡ self.old) }
     {
         laws();
-        self.records.ready()?;
-        let number = self.last + 1;
+        self.records.ready(self.desk.catalogue(), command)?;
+        let number = self.records.last() + 1;
         match self.desk.apply(number, command, meter) {
             Ok(done) => {
                 let survivor = Survivor {
@@ -160,8 +160,8 @@ impl<A: Allocator + Copy> Running<A> {
                     command: *command,
                 };
                 let reply = done.reply();
-                self.records.push(record_of(survivor, done));
-                self.last = number;
+                let record = record_of(survivor, done);
+                self.records.push(self.desk.catalogue(), record);
                 Ok(TurnReply::Done { number, reply })
             }
             Err(Refused::Rule(refusal)) => Ok(TurnReply::Refused(refusal)),
@@ -177,6 +177,7 @@ impl<A: Allocator + Copy> Running<A> {
         what: &Cancel,
         meter: &mut Meter,
     ) -> Result<TurnReply, AllocError>
+        requires { IsKnownCancel (facts_of self.old.contents) what.now }
         ensures cancelled { IfOk result (λ reply. Withdrawn self.old terminal what.now reply self.new) }
         ensures work { IfOk result (λ _. IsCancellation (facts_of self.old.contents) self.old.survivors
             (target terminal what.now self.old.survivors) meter.old meter.new) }
@@ -186,18 +187,19 @@ impl<A: Allocator + Copy> Running<A> {
         ensures err { OnErr result (self.new ≡ self.old) }
     {
         laws();
-        let Some(place) = self.records.newest(terminal, what, meter) else {
-            return Ok(TurnReply::Refused(Refusal::NothingToCancel));
-        };
         let catalogue = self.desk.catalogue();
         prove!(0 < catalogue.command_limit());
-        if let Some(number) = self.records.first_clash(catalogue, place, meter) {
-            return Ok(TurnReply::Refused(Refusal::Depends { number }));
+        let Some(number) = self.records.newest(catalogue, terminal, what, meter) else {
+            return Ok(TurnReply::Refused(Refusal::NothingToCancel));
+        };
+        if let Some(dependent) = self.records.first_clash(catalogue, number, meter) {
+            return Ok(TurnReply::Refused(Refusal::Depends { number: dependent }));
         }
-        let target = self.records.at(place);
-        let number = target.survivor.number;
+        let Some(target) = self.records.get(number) else {
+            unreachable!()
+        };
         undo(&mut self.desk, target.changes, meter)?;
-        self.records.take_out(self.desk.catalogue(), place, meter);
+        self.records.take_out(self.desk.catalogue(), number, meter);
         Ok(TurnReply::Cancelled { number })
     }
 }

@@ -1,4 +1,10 @@
-pub mod Places
-pub mod Found
+pub mod Slots
+pub mod Filters
+pub mod Standing
+pub mod Shifting
+pub mod Titles
+pub mod Touched
+pub mod Listed
+pub mod Leaving
 pub mod Counted
 pub mod Short

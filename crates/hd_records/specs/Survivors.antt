@@ -1,6 +1,5 @@
--- The survivors that records are of, and a place among the records.
-use Rattle.std.specs.Prelude.{◌≡◌, ℕ, zero, suc, ◌+◌, ◌==◌, Option, Some, List, [], ◌∷◌, map, find, take}
-use Rattle.std.specs.Prelude.{drop, slice_index_or}
+-- The survivors that records are of, and the records before a number, of it and after it.
+use Rattle.std.specs.Prelude.{ℕ, ◌==◌, nat_lt, Option, Some, None, List, [], map, filter, find, option_map}
 use Rattle.hd_rules.specs.declared.cells.Change.{Change}
 use Rattle.hd_rules.specs.declared.commands.Cancel.{Cancel}
 use Rattle.hd_rules.specs.declared.commands.Survivor.{Survivor}
@@ -19,19 +18,24 @@ survivors_of records = map survivor_of records
 abbrev pub record_of : ℕ → List Record → Option Record
 record_of n records = find (λ r. r.number == n) records
 
--- the changes of the record at a place; past the last one, none
-abbrev pub changes_at : ℕ → List Record → List Change
-changes_at place [] = []
-changes_at zero (r ∷ rs) = r.changes
-changes_at (suc place) (r ∷ rs) = changes_at place rs
+-- those with a smaller number
+abbrev pub older : ℕ → List Record → List Record
+older n records = filter (λ r. nat_lt r.number n) records
 
--- the record at this place is that of the target
-pub record IsTargetAt (terminal : ℕ) (what : Cancel) (records : List Record) (place : ℕ) : Type 0 where
-  pub aim : Record
-  pub there : aim ≡ slice_index_or records place aim
-  pub is_target : target terminal what (survivors_of records)
-      ≡ Some (record {
-        older = survivors_of (take place records);
-        survivor = survivor_of aim;
-        newer = survivors_of (drop (place + 1) records);
-      })
+-- those with a greater number
+abbrev pub newer : ℕ → List Record → List Record
+newer n records = filter (λ r. nat_lt n r.number) records
+
+-- the changes of a record, or none
+abbrev pub changes_in : Option Record → List Change
+changes_in None = []
+changes_in (Some r) = r.changes
+
+-- the changes of the record of this number
+abbrev pub changes_of : ℕ → List Record → List Change
+changes_of n records = changes_in (record_of n records)
+
+-- the number of the newest record that such a cancellation by the terminal takes back
+abbrev pub target_of : ℕ → Cancel → List Record → Option ℕ
+target_of terminal what records =
+    option_map (λ at. at.survivor.number) (target terminal what (survivors_of records))

@@ -1,107 +1,132 @@
 //! The records, by number.
 #![tactic(auto)]
 
-ghost use Rattle.std.specs.Prelude.{◌≡◌, ◌≤◌, ◌<◌, ◌+◌, ◌++◌, ◌∷◌, [], length, drop, take, option_map};
-ghost use Rattle.std.specs.Prelude.{slice_index_or};
-ghost use Rattle.std.specs.Prelude.{IfSome, MatchOption, None, OnErr, OnOk};
+ghost use Rattle.std.specs.Prelude.{◌≡◌, ◌<◌, ◌+◌, ◌++◌, ◌∷◌, [], ◌≤◌, ◌^◌, filter, option_map};
+ghost use Rattle.std.specs.Prelude.{IfSome, IsSome, OnErr, OnOk, length};
 ghost use Rattle.hd_catalogue.specs.Contents.{facts_of};
 ghost use Rattle.hd_clash.specs.Clash.{first_clash};
 ghost use Rattle.hd_clash.specs.Shift.{shift_records};
-ghost use Rattle.hd_rules.specs.Run.{Rising, next_number};
-ghost use Rattle.hd_rules.specs.Target.{target};
-ghost use Rattle.hd_clash.specs.Records.{EachRecordIsKnown};
+ghost use Rattle.hd_rules.specs.Facts.{Facts};
+ghost use Rattle.hd_rules.specs.Run.{Rising};
+ghost use Rattle.hd_rules.specs.Known.{IsKnownAction, IsKnownCancel};
+ghost use Rattle.hd_clash.specs.About.{touches};
+ghost use Rattle.hd_clash.specs.CommandKeys.{keys_of_command};
+ghost use Rattle.hd_clash.specs.declared.key.Key.TheVariants as key;
+ghost use Rattle.hd_records.specs.Index.{records_about};
+ghost use Rattle.hd_records.specs.RecordsValue.{AreListed, AreOf, HasRoomFor};
+ghost use Rattle.hd_records.specs.Titles.{title_of_cancel};
 ghost use Rattle.hd_records.specs.Looks.{looked, looks_to, walked};
 ghost use Rattle.hd_records.specs.Shown.{shown};
-ghost use Rattle.hd_records.specs.Survivors.{IsTargetAt, changes_at, record_of, survivors_of};
+ghost use Rattle.hd_records.specs.Survivors.{changes_of, newer, older, record_of, survivors_of};
+ghost use Rattle.hd_records.specs.Survivors.{target_of};
 
+use crate::index::Index;
 use crate::record::{RecordRef, StoredRecord};
 use crate::survivors::Survivors;
+use crate::targets::title_of;
 use crate::walking;
 use hd_catalogue::Catalogue;
+use hd_clash::{ChangedKeys, CommandKeys, only_touched_records_shift, the_first_clash_is_touched};
 use hd_footprint::Meter;
-use hd_rules::{Cancel, TerminalNo};
+use hd_index::unions_have_each_once;
+use hd_rules::{Cancel, Command, TerminalNo};
 use std::alloc::{AllocError, Allocator, Global};
 use std::marker::Model;
 
 /// The records of the commands that survive, by number.
 ///
-/// Only `ready` takes memory. A record has a place among them, from 0 on: the number of older ones.
+/// Numbers are given from 1 on, one after another, and each has a slot; that of a record that was taken out
+/// stays empty. The records are listed by what their commands ask about, so that a cancellation looks only at
+/// those that have a title, a patron or a branch in common with what it takes back. Only `ready` takes memory.
 #[derive(Drop)]
 pub struct Records<A: Allocator = Global> {
-    records: Vec<StoredRecord, A>,
+    slots: Vec<Option<StoredRecord>, A>,
+    index: Index<A>,
 }
 
+/// A listed number has 32 bits.
+const MOST_RECORDS: usize = 4_294_967_295;
+
 impl<A: Allocator> Model for Records<A> {
-    ghost use Rattle.std.specs.Prelude.{◌-◌, vec_capacity, vec_len};
-    ghost use Rattle.hd_rules.specs.Run.{Rising};
-    ghost use Rattle.hd_records.specs.Survivors.{survivors_of};
+    ghost use Rattle.std.specs.Prelude.{◌-◌, ◌<◌, ◌^◌, vec_capacity, vec_len};
     ghost use Rattle.hd_records.specs.RecordsValue.{RecordsValue};
+    ghost use Rattle.hd_records.specs.Slots.{AreNumbered, taken};
 
     ghost Value = { RecordsValue };
 
     ghost view = { λ r. record {
-      records = r.records.items;
-      room = vec_capacity r.records - vec_len r.records;
+      records = taken r.slots.items;
+      last = vec_len r.slots;
+      room = vec_capacity r.slots - vec_len r.slots;
+      index = r.index;
     } };
 
-    ghost invariant = { λ r. Rising 1 (survivors_of r.records.items) };
+    ghost invariant = { λ r. AreNumbered 0 r.slots.items × (vec_len r.slots < 2 ^ 32) };
 }
 
 impl<A: Allocator + Copy> Records<A> {
-    /// No records. It takes no memory.
+    /// No records, and no number given. It takes no memory.
     pub fn new(alloc: A) -> Records<A>
-        ensures { result.records ≡ [] }
+        ensures records { result.records ≡ [] }
+        ensures last { result.last ≡ 0 }
+        ensures listed { (k : Facts) → AreListed k result }
     {
         Records {
-            records: Vec::new(alloc),
+            slots: Vec::new(alloc),
+            index: Index::new(alloc),
         }
     }
 
-    /// Makes room for one more record. Want of memory changes nothing, and comes only where there was none.
-    pub fn ready(&mut self) -> Result<(), AllocError>
+    /// Makes room for the record of one more command, before it is carried out. Want of memory changes no
+    /// record, and comes only where there was no room.
+    pub fn ready(&mut self, catalogue: &Catalogue<A>, command: &Command) -> Result<(), AllocError>
+        requires { IsKnownAction (facts_of catalogue.now) command.now.action }
         ensures records { self.new.records ≡ self.old.records }
-        ensures ok { OnOk result (0 < self.new.room) }
-        ensures full { OnErr result (self.old.room ≡ 0) }
-        ensures room { self.old.room ≤ self.new.room }
+        ensures last { self.new.last ≡ self.old.last }
+        ensures ok { let keys = keys_of_command (facts_of catalogue.now) command.now in
+            OnOk result (HasRoomFor keys self.new) }
+        ensures full { let keys = keys_of_command (facts_of catalogue.now) command.now in
+            OnErr result (HasRoomFor keys self.old → ⊥) }
+        ensures listed { (k : Facts) → AreListed k self.old → AreListed k self.new }
     {
-        self.records.reserve(1)
-    }
-
-    /// Puts one more record behind the others. Its number is above theirs, and there is room for it. It takes
-    /// no memory.
-    pub fn push(&mut self, new: StoredRecord)
-        requires room { 0 < self.old.room }
-        requires number { next_number 1 (survivors_of self.old.records) ≤ new.number }
-        ensures records { self.new.records ≡ self.old.records ++ new ∷ [] }
-        ensures room { self.old.room ≤ self.new.room + 1 }
-    {
-        if self.records.push(new).is_err() {
-            unreachable!()
+        if self.slots.len() >= MOST_RECORDS {
+            return Err(AllocError);
         }
+        self.slots.reserve(1)?;
+        self.index.ready(CommandKeys::of(catalogue, command))
     }
 
-    /// How many there are.
-    pub fn len(&self) -> usize
-        ensures { result ≡ length self.now.records }
+    /// Puts one more record behind the others. Its number is the next one, and there is room for it. It takes
+    /// no memory.
+    pub fn push(&mut self, catalogue: &Catalogue<A>, new: StoredRecord)
+        requires known { IsKnownAction (facts_of catalogue.now) new.command.action }
+        requires room { HasRoomFor (keys_of_command (facts_of catalogue.now) new.command) self.old }
+        requires number { new.number ≡ self.old.last + 1 }
+        requires listed { AreListed (facts_of catalogue.now) self.old }
+        ensures records { self.new.records ≡ self.old.records ++ new ∷ [] }
+        ensures last { self.new.last ≡ self.old.last + 1 }
+        ensures listed { AreListed (facts_of catalogue.now) self.new }
     {
-        self.records.len()
+        let survivor = new.survivor();
+        let keys = CommandKeys::of(catalogue, &survivor.command);
+        self.index.push(keys, survivor.number as u32);
+        self.slots.push_reserved(Some(new));
     }
 
-    /// The record of a number, or `None` where there is none. It is found by halving.
+    /// The last number given, or 0 where none was.
+    pub fn last(&self) -> u64
+        ensures { result ≡ self.now.last }
+    {
+        self.slots.len() as u64
+    }
+
+    /// The record of a number, or `None` where there is none. It stands in the number's slot.
     pub fn get(&self, number: u64) -> Option<RecordRef<'_>>
-        ensures { option_map shown result ≡ record_of number self.now.records }
+        ensures record { option_map shown result ≡ record_of number self.now.records }
+        ensures few { IfSome result (λ r. length r.changes.now ≤ 4) }
     {
-        walking::find(self.records.as_slice(), number)
-    }
-
-    /// The record at a place.
-    pub fn at(&self, place: usize) -> RecordRef<'_>
-        requires { place < length self.now.records }
-        ensures there { shown result ≡ slice_index_or self.now.records place (shown result) }
-        ensures changes { result.changes.now ≡ changes_at place self.now.records }
-        ensures few { length result.changes.now ≤ 4 }
-    {
-        self.records[place].show()
+        let stored = walking::find(self.slots.as_slice(), number)?;
+        Some(stored.show())
     }
 
     /// The survivors, by number.
@@ -109,55 +134,83 @@ impl<A: Allocator + Copy> Records<A> {
         ensures survivors { result ≡ survivors_of self.now.records }
         ensures rising { Rising 1 (survivors_of self.now.records) }
     {
-        Survivors::new(self.records.as_slice())
+        Survivors::new(self.slots.as_slice())
     }
 
-    /// The place of the newest survivor that such a cancellation by the terminal takes back, or `None` where
-    /// there is none. Each record is looked at, from the newest on, as far as that one.
-    pub fn newest(&self, terminal: TerminalNo, what: &Cancel, meter: &mut Meter) -> Option<usize>
-        ensures within { IfSome result (λ place. place < length self.now.records) }
-        ensures found { MatchOption result
-            (target terminal what.now (survivors_of self.now.records) ≡ None)
-            (IsTargetAt terminal what.now self.now.records) }
-        ensures work { meter.new ≡ looked (looks_to result self.now.records) meter.old }
+    /// The number of the newest survivor that such a cancellation by the terminal takes back, or `None` where
+    /// there is none. Of the records of its title each is looked at, from the newest on, as far as that one.
+    pub fn newest(
+        &self,
+        catalogue: &Catalogue<A>,
+        terminal: TerminalNo,
+        what: &Cancel,
+        meter: &mut Meter,
+    ) -> Option<u64>
+        requires known { IsKnownCancel (facts_of catalogue.now) what.now }
+        requires listed { AreListed (facts_of catalogue.now) self.now }
+        ensures target { result ≡ target_of terminal what.now self.now.records }
+        ensures work { let k = facts_of catalogue.now in
+            meter.new ≡ looked (looks_to result
+            (records_about k (key.Title (title_of_cancel k what.now)) self.now.records)) meter.old }
     {
-        walking::newest(self.records.as_slice(), terminal, what, meter)
+        let numbers = self.index.of_title(title_of(catalogue, what));
+        walking::newest(self.slots.as_slice(), numbers, terminal, what, meter)
     }
 
-    /// The number of the first record later than the place that clashes with the changes of the record there,
-    /// or `None` where none does. Each later record is looked at, as far as that one.
+    /// The number of the first later record that clashes with the changes of the record of this number, or
+    /// `None` where none does. Of the later records that the changes touch each is looked at, as far as that
+    /// one, once.
     pub fn first_clash(
         &self,
         catalogue: &Catalogue<A>,
-        place: usize,
+        number: u64,
         meter: &mut Meter,
     ) -> Option<u64>
-        requires within { place < length self.now.records }
-        requires known { EachRecordIsKnown (facts_of catalogue.now) self.now.records }
+        requires there { IsSome (record_of number self.now.records) }
+        requires of { AreOf (facts_of catalogue.now) self.now }
         ensures clash { result
-            ≡ first_clash (facts_of catalogue.now) (changes_at place self.now.records)
-            (drop (place + 1) self.now.records) }
-        ensures work { meter.new
-            ≡ walked (facts_of catalogue.now) (changes_at place self.now.records)
-            (drop (place + 1) self.now.records) meter.old }
+            ≡ first_clash (facts_of catalogue.now) (changes_of number self.now.records)
+            (newer number self.now.records) }
+        ensures work { let k = facts_of catalogue.now in
+            let changes = changes_of number self.now.records in
+            meter.new ≡ walked k changes (filter (touches k changes) (newer number self.now.records))
+            meter.old }
     {
-        let changes = self.records[place].changes();
-        walking::first_clash(catalogue, changes, &self.records[place + 1..], meter)
+        let Some(target) = walking::find(self.slots.as_slice(), number) else {
+            unreachable!()
+        };
+        unions_have_each_once();
+        the_first_clash_is_touched();
+        let keys = ChangedKeys::of(catalogue, target.changes());
+        let touched = self.index.touched(keys.keys(), number as u32);
+        let slots = self.slots.as_slice();
+        walking::first_clash(catalogue, target.changes(), slots, touched, meter)
     }
 
-    /// Takes the record at the place out, and mends the later ones: what they noted becomes what is found
-    /// without its changes. Each later record is looked at. It takes no memory.
-    pub fn take_out(&mut self, catalogue: &Catalogue<A>, place: usize, meter: &mut Meter)
-        requires within { place < length self.old.records }
-        requires known { EachRecordIsKnown (facts_of catalogue.now) self.old.records }
+    /// Takes the record of this number out, and mends the later ones: what they noted becomes what is found
+    /// without its changes. Of the later records those that its changes touch are looked at, each once. It
+    /// takes no memory, and moves no other record.
+    pub fn take_out(&mut self, catalogue: &Catalogue<A>, number: u64, meter: &mut Meter)
+        requires there { IsSome (record_of number self.old.records) }
+        requires of { AreOf (facts_of catalogue.now) self.old }
         ensures records { self.new.records
-            ≡ take place self.old.records
-            ++ shift_records (facts_of catalogue.now) (changes_at place self.old.records)
-            (drop (place + 1) self.old.records) }
-        ensures room { self.old.room < self.new.room }
-        ensures work { meter.new ≡ looked (length (drop (place + 1) self.old.records)) meter.old }
+            ≡ older number self.old.records
+            ++ shift_records (facts_of catalogue.now) (changes_of number self.old.records)
+            (newer number self.old.records) }
+        ensures last { self.new.last ≡ self.old.last }
+        ensures listed { AreListed (facts_of catalogue.now) self.new }
+        ensures work { let k = facts_of catalogue.now in
+            let changes = changes_of number self.old.records in
+            meter.new ≡ looked (length (filter (touches k changes) (newer number self.old.records)))
+            meter.old }
     {
-        let gone = self.records.remove(place);
-        walking::mend_from(catalogue, gone.changes(), &mut self.records, place, meter);
+        unions_have_each_once();
+        only_touched_records_shift();
+        let gone = walking::take(&mut self.slots, number);
+        let keys = ChangedKeys::of(catalogue, gone.changes());
+        let touched = self.index.touched(keys.keys(), number as u32);
+        walking::mend_each(catalogue, gone.changes(), &mut self.slots, touched, meter);
+        let listed = CommandKeys::of(catalogue, &gone.survivor().command);
+        self.index.take(listed, number as u32);
     }
 }

@@ -1,8 +1,27 @@
 //! What a cancellation may take back.
 ghost use Rattle.std.specs.Prelude.{◌≡◌};
+ghost use Rattle.hd_catalogue.specs.Contents.{facts_of};
+ghost use Rattle.hd_rules.specs.Known.{IsKnownCancel};
+ghost use Rattle.hd_records.specs.Titles.{title_of_cancel};
 ghost use Rattle.hd_rules.specs.Target.{is_of_kind as fits_kind, is_target as fits};
 
-use hd_rules::{Action, Cancel, Survivor, TerminalNo};
+use hd_catalogue::Catalogue;
+use hd_rules::{Action, Cancel, Survivor, TerminalNo, TitleNo};
+use std::alloc::Allocator;
+
+/// The title that a cancellation names, or that of its copy.
+pub(crate) fn title_of<A: Allocator + Copy>(catalogue: &Catalogue<A>, what: &Cancel) -> TitleNo
+    requires { IsKnownCancel (facts_of catalogue.now) what.now }
+    ensures { result ≡ title_of_cancel (facts_of catalogue.now) what.now }
+{
+    match what {
+        Cancel::Loan(copy) | Cancel::Return(copy) | Cancel::Renewal(copy) => {
+            catalogue.title_of(*copy)
+        }
+        Cancel::Adding(_, title) | Cancel::Deletion(_, title) | Cancel::Changing(_, title) =>
+            *title,
+    }
+}
 
 /// Whether the survivor is one that such a cancellation by this terminal takes back.
 pub(crate) fn is_target(terminal: TerminalNo, what: &Cancel, survivor: &Survivor) -> bool

@@ -1,107 +1,167 @@
-//! Walks over records.
+//! Walks over records by their numbers.
 #![tactic(auto)]
 
-ghost use Rattle.std.specs.Prelude.{◌≡◌, ◌≤◌, ◌<◌, ◌++◌, length, drop, take, vec_len, vec_capacity};
-ghost use Rattle.std.specs.Prelude.{IfSome, MatchOption, None, option_map};
-ghost use Rattle.hd_rules.specs.Run.{Rising};
-ghost use Rattle.hd_rules.specs.Target.{target};
+ghost use Rattle.std.specs.Prelude.{◌≡◌, ◌≤◌, ◌∷◌, [], length, vec_len, vec_capacity};
+ghost use Rattle.std.specs.Prelude.{◌-◌, None, Some, IsSome, slice_set};
+ghost use Rattle.std.specs.Option.{option_copied};
 ghost use Rattle.hd_catalogue.specs.Contents.{facts_of};
 ghost use Rattle.hd_clash.specs.Clash.{first_clash};
 ghost use Rattle.hd_clash.specs.Law.{EachCellIsKnown};
-ghost use Rattle.hd_clash.specs.Shift.{shift_records};
 ghost use Rattle.hd_clash.specs.Records.{EachRecordIsKnown};
+ghost use Rattle.hd_index.specs.Union.{union};
+ghost use Rattle.hd_rules.specs.Run.{Rising};
 ghost use Rattle.hd_records.specs.Looks.{looked, looks_to, walked};
-ghost use Rattle.hd_records.specs.Shown.{shown};
-ghost use Rattle.hd_records.specs.Survivors.{IsTargetAt, record_of, survivors_of};
+ghost use Rattle.hd_records.specs.Slots.{records_at, shift_at, shift_slot, slot_of, taken};
+ghost use Rattle.hd_records.specs.Survivors.{survivors_of, target_of};
 
-use crate::record::{RecordRef, StoredRecord};
+use crate::record::StoredRecord;
 use crate::targets::is_target;
 use hd_catalogue::Catalogue;
 use hd_clash::has_clash;
 use hd_footprint::{Count, Meter};
+use hd_index::{Union, unions_have_each_once};
 use hd_rules::{Cancel, Change, TerminalNo, the_target_is_the_newest};
 use std::alloc::Allocator;
 
-/// The record of a number, or `None` where there is none. It is found by halving.
-pub(crate) fn find(records: &[StoredRecord], number: u64) -> Option<RecordRef<'_>>
-    requires { Rising 1 (survivors_of records.now) }
-    ensures { option_map shown result ≡ record_of number records.now }
+/// The record of a number, or `None` where there is none. It stands in the number's slot.
+pub(crate) fn find(slots: &[Option<StoredRecord>], number: u64) -> Option<&StoredRecord>
+    ensures { option_copied result ≡ slot_of number slots.now }
 {
-    let at = records.partition_point(|stored| stored.survivor().number < number);
-    let stored = records.get(at)?;
-    if stored.survivor().number == number {
-        Some(stored.show())
-    } else {
-        None
+    let place = number.checked_sub(1)?;
+    slots.get(place as usize)?.as_ref()
+}
+
+/// Takes the record of a number out of its slot.
+pub(crate) fn take<A: Allocator>(
+    slots: &mut Vec<Option<StoredRecord>, A>,
+    number: u64,
+) -> StoredRecord
+    requires { IsSome (slot_of number slots.old.items) }
+    ensures taken { slot_of number slots.old.items ≡ Some result }
+    ensures slots { slots.new.items ≡ slice_set slots.old.items (number - 1) None }
+    ensures len { vec_len slots.new ≡ vec_len slots.old }
+    ensures room { vec_capacity slots.new ≡ vec_capacity slots.old }
+{
+    let place = number as usize - 1;
+    match slots[place].take() {
+        Some(gone) => gone,
+        None => unreachable!(),
     }
 }
 
-/// The place of the newest record of a command that such a cancellation by the terminal takes back.
+/// Of the records of these numbers the number of the newest whose command such a cancellation by the terminal
+/// takes back.
 pub(crate) fn newest(
-    records: &[StoredRecord],
+    slots: &[Option<StoredRecord>],
+    numbers: &[u32],
     terminal: TerminalNo,
     what: &Cancel,
     meter: &mut Meter,
-) -> Option<usize>
-    ensures within { IfSome result (λ place. place < length records.now) }
-    ensures found { MatchOption result
-        (target terminal what.now (survivors_of records.now) ≡ None)
-        (IsTargetAt terminal what.now records.now) }
-    ensures work { meter.new ≡ looked (looks_to result records.now) meter.old }
+) -> Option<u64>
+    requires { Rising 1 (survivors_of (records_at numbers.now slots.now)) }
+    ensures target { result ≡ target_of terminal what.now (records_at numbers.now slots.now) }
+    ensures work { meter.new ≡ looked (looks_to result (records_at numbers.now slots.now)) meter.old }
 {
     the_target_is_the_newest();
-    for place in (0..records.len()).rev() {
-        meter.add(Count::Look);
-        if is_target(terminal, what, records[place].survivor()) {
-            return Some(place);
+    for place in (0..numbers.len()).rev() {
+        if let Some(stored) = find(slots, u64::from(numbers[place])) {
+            meter.add(Count::Look);
+            if is_target(terminal, what, stored.survivor()) {
+                return Some(stored.survivor().number);
+            }
         }
     }
     None
 }
 
-/// The number of the first record with a finding that clashes with the changes.
+/// Of the records of these numbers that of the first with a finding that clashes with the changes.
 pub(crate) fn first_clash<A: Allocator + Copy>(
     catalogue: &Catalogue<A>,
     changes: &[Change],
-    records: &[StoredRecord],
+    slots: &[Option<StoredRecord>],
+    numbers: Union<'_>,
     meter: &mut Meter,
 ) -> Option<u64>
     requires few { length changes.now ≤ 4 }
     requires cells { EachCellIsKnown (facts_of catalogue.now) changes.now }
-    requires known { EachRecordIsKnown (facts_of catalogue.now) records.now }
-    ensures clash { result ≡ first_clash (facts_of catalogue.now) changes.now records.now }
-    ensures work { meter.new ≡ walked (facts_of catalogue.now) changes.now records.now meter.old }
+    requires known { EachRecordIsKnown (facts_of catalogue.now) (records_at (union numbers) slots.now) }
+    ensures clash { result
+        ≡ first_clash (facts_of catalogue.now) changes.now (records_at (union numbers.entry) slots.now) }
+    ensures work { meter.new
+        ≡ walked (facts_of catalogue.now) changes.now (records_at (union numbers.entry) slots.now) meter.old }
 {
-    for later in records {
-        meter.add(Count::Look);
-        if has_clash(catalogue, changes, later.findings(), meter) {
-            return Some(later.survivor().number);
+    for number in numbers {
+        if let Some(later) = find(slots, u64::from(number)) {
+            meter.add(Count::Look);
+            if has_clash(catalogue, changes, later.findings(), meter) {
+                return Some(later.survivor().number);
+            }
         }
     }
     None
 }
 
-/// Mends the records from a place on, each of them in place.
-pub(crate) fn mend_from<A: Allocator + Copy>(
+/// Mends the records of these numbers, each of them in place.
+pub(crate) fn mend_each<A: Allocator + Copy>(
     catalogue: &Catalogue<A>,
     changes: &[Change],
-    records: &mut Vec<StoredRecord, A>,
-    place: usize,
+    slots: &mut Vec<Option<StoredRecord>, A>,
+    numbers: Union<'_>,
     meter: &mut Meter,
 )
-    requires within { place ≤ vec_len records.old }
     requires few { length changes.now ≤ 4 }
     requires cells { EachCellIsKnown (facts_of catalogue.now) changes.now }
-    requires known { EachRecordIsKnown (facts_of catalogue.now) (drop place records.old.items) }
-    ensures records { records.new.items
-        ≡ take place records.old.items
-        ++ shift_records (facts_of catalogue.now) changes.now (drop place records.old.items) }
-    ensures len { vec_len records.new ≡ vec_len records.old }
-    ensures room { vec_capacity records.new ≡ vec_capacity records.old }
-    ensures work { meter.new ≡ looked (length (drop place records.old.items)) meter.old }
+    requires known { EachRecordIsKnown (facts_of catalogue.now)
+        (records_at (union numbers) slots.old.items) }
+    ensures slots { slots.new.items
+        ≡ shift_at (facts_of catalogue.now) changes.now (union numbers.entry) 0 slots.old.items }
+    ensures len { vec_len slots.new ≡ vec_len slots.old }
+    ensures room { vec_capacity slots.new ≡ vec_capacity slots.old }
+    ensures work { meter.new ≡ looked (length (union numbers.entry)) meter.old }
 {
-    for i in place..records.len() {
+    unions_have_each_once();
+    for number in numbers {
         meter.add(Count::Look);
-        records[i].mend(catalogue, changes);
+        mend_one(catalogue, changes, slots, number);
+    }
+}
+
+/// Mends the record of a number, if there is one.
+fn mend_one<A: Allocator + Copy>(
+    catalogue: &Catalogue<A>,
+    changes: &[Change],
+    slots: &mut Vec<Option<StoredRecord>, A>,
+    number: u32,
+)
+    requires few { length changes.now ≤ 4 }
+    requires cells { EachCellIsKnown (facts_of catalogue.now) changes.now }
+    requires known { EachRecordIsKnown (facts_of catalogue.now)
+        (records_at (number ∷ []) slots.old.items) }
+    ensures slots { slots.new.items
+        ≡ shift_at (facts_of catalogue.now) changes.now (number ∷ []) 0 slots.old.items }
+    ensures len { vec_len slots.new ≡ vec_len slots.old }
+    ensures room { vec_capacity slots.new ≡ vec_capacity slots.old }
+{
+    if 0 < number {
+        let place = number as usize - 1;
+        if place < slots.len() {
+            mend_slot(catalogue, changes, &mut slots[place]);
+        }
+    }
+}
+
+/// Mends the record of a slot, if it has one.
+fn mend_slot<A: Allocator + Copy>(
+    catalogue: &Catalogue<A>,
+    changes: &[Change],
+    slot: &mut Option<StoredRecord>,
+)
+    requires few { length changes.now ≤ 4 }
+    requires cells { EachCellIsKnown (facts_of catalogue.now) changes.now }
+    requires known { EachRecordIsKnown (facts_of catalogue.now) (taken (slot.old ∷ [])) }
+    ensures { slot.new ≡ shift_slot (facts_of catalogue.now) changes.now slot.old }
+{
+    if let Some(stored) = slot {
+        stored.mend(catalogue, changes);
     }
 }

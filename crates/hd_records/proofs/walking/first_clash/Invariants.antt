@@ -1,15 +1,17 @@
-use Rattle.std.proofs.Common.{◌≡◌, drop}
+use Rattle.std.proofs.Common.{◌≡◌}
 use Rattle.hd_catalogue.specs.Contents.{facts_of}
 use Rattle.hd_clash.specs.Clash.{first_clash}
 use Rattle.hd_clash.specs.Records.{EachRecordIsKnown}
+use Rattle.hd_index.specs.Union.{union}
 use Rattle.hd_records.specs.Looks.{walked}
+use Rattle.hd_records.specs.Slots.{records_at}
 use Rattle.hd_records.proofs.walking.first_clash.Given as goal
 
-abbrev pub invariant-loop-later : goal.invariant-loop-later
-invariant-loop-later g l = record {
-  known : EachRecordIsKnown (facts_of l.catalogue) (drop l.later-index l.records);
-  rest : first_clash (facts_of l.catalogue) l.changes (drop l.later-index l.records)
-      ≡ first_clash (facts_of l.catalogue) l.changes l.records;
-  work : walked (facts_of l.catalogue) l.changes (drop l.later-index l.records) l.meter
-      ≡ walked (facts_of l.catalogue) l.changes l.records l.fn.meter;
+abbrev pub invariant-loop-number : goal.invariant-loop-number
+invariant-loop-number g l = record {
+  known : EachRecordIsKnown (facts_of l.catalogue) (records_at (union l.number-iterator) l.slots);
+  rest : first_clash (facts_of l.catalogue) l.changes (records_at (union l.number-iterator) l.slots)
+      ≡ first_clash (facts_of l.catalogue) l.changes (records_at (union l.fn.numbers) l.slots);
+  work : walked (facts_of l.catalogue) l.changes (records_at (union l.number-iterator) l.slots) l.meter
+      ≡ walked (facts_of l.catalogue) l.changes (records_at (union l.fn.numbers) l.slots) l.fn.meter;
 }

@@ -1,11 +1,12 @@
 use Rattle.std.proofs.Common.{◌≡◌, drop, length}
 use Rattle.hd_rules.specs.Target.{NoTarget}
 use Rattle.hd_records.specs.Looks.{looked}
+use Rattle.hd_records.specs.Slots.{records_at}
 use Rattle.hd_records.specs.Survivors.{survivors_of}
 use Rattle.hd_records.proofs.walking.newest.Given as goal
 
 abbrev pub invariant-loop-place : goal.invariant-loop-place
 invariant-loop-place l = record {
-  none : NoTarget l.terminal l.what (survivors_of (drop l.place l.records));
-  work : l.meter ≡ looked (length (drop l.place l.records)) l.fn.meter;
+  none : NoTarget l.terminal l.what (survivors_of (records_at (drop l.place l.numbers) l.slots));
+  work : l.meter ≡ looked (length (records_at (drop l.place l.numbers) l.slots)) l.fn.meter;
 }

@@ -1,18 +1,58 @@
-use Rattle.std.proofs.Common.{◌≡◌, ◌≤◌, ◌++◌, ◌∷◌, [], ◌∙◌, ap, sym, subst, List, rules}
-use Rattle.std.proofs.lemmas.List.{map-append}
-use Rattle.hd_rules.specs.Record.{Record}
+use Rattle.std.proofs.Common.{arith, ◌≡◌, ◌++◌, ◌∷◌, [], ◌∙◌, ◌+◌, ◌<◌, ap, sym, subst, length, vec_len, List, Some, cond}
+use Rattle.hd_catalogue.specs.Contents.{facts_of}
+use Rattle.hd_clash.specs.CommandKeys.{has_key, keys_of_command}
+use Rattle.hd_index.specs.Rising.{AreBelow}
 use Rattle.hd_rules.specs.declared.commands.Survivor.{Survivor}
-use Rattle.hd_rules.specs.Run.{Rising, next_number}
-use Rattle.hd_records.specs.RecordsValue.{RecordsValue}
-use Rattle.hd_records.specs.Survivors.{survivor_of, survivors_of}
-use Rattle.hd_records.proofs.Places.{rising_more}
+use Rattle.hd_rules.specs.Record.{Record}
+use Rattle.hd_records.specs.Index.{asks_about, numbers_of, records_about}
+use Rattle.hd_records.specs.RecordsValue.{AreListed, RecordsValue}
+use Rattle.hd_records.specs.Slots.{AreNumbered, taken}
+use Rattle.hd_records.proofs.Listed.{all_below, one_more}
+use Rattle.hd_records.proofs.Slots.{numbered_more, taken_joined}
 use Rattle.hd_records.proofs.records.Records.push.Goals as goal
+
+pub push-requires-clause-above : goal.push-requires-clause-above
+push-requires-clause-above g c x =
+    let k = facts_of c.args.catalogue.now in
+    let slots = c.self.inside.slots.items in
+    let listed = subst (AreListed k) (sym c.self.view_is) c.requires.listed in
+    let number : c.args.new.number ≡ vec_len c.self.inside.slots + 1 =
+    subst (λ (v : RecordsValue). c.args.new.number ≡ v.last + 1) (sym c.self.view_is) c.requires.number in
+    let same : c.survivor-survivor.result.now.number ≡ c.args.new.number = ap (λ (s : Survivor). s.number) c.survivor-survivor.ensures in
+    let low : 0 + length slots < c.survivor-survivor.result.now.number = omega (arith, number, same) in
+    subst (AreBelow c.survivor-survivor.result.now.number) (sym (listed x))
+    (all_below (asks_about k x) c.survivor-survivor.result.now.number 0 slots low c.self.invariant.0)
 
 pub invariant_of-self : goal.invariant_of-self
 invariant_of-self g c =
-    let rs = c.self.inside.records.items in
-    let number : next_number 1 (survivors_of rs) ≤ c.args.new.number =
-    subst (λ (x : RecordsValue). next_number 1 (survivors_of x.records) ≤ c.args.new.number) (sym c.self.view_is) c.requires.number in
-    let items : c.push.new.self.items ≡ rs ++ c.args.new ∷ [] = search rules in
-    subst (Rising 1) (sym (ap survivors_of items ∙ map-append survivor_of rs (c.args.new ∷ [])))
-    (rising_more 1 (survivors_of rs) (survivor_of c.args.new) c.self.invariant number)
+    let slots = c.self.inside.slots.items in
+    let number : c.args.new.number ≡ vec_len c.self.inside.slots + 1 =
+    subst (λ (x : RecordsValue). c.args.new.number ≡ x.last + 1) (sym c.self.view_is) c.requires.number in
+    let last : vec_len c.self.inside.slots + 1 < 4294967296 =
+    subst (λ (x : RecordsValue). x.last + 1 < 4294967296) (sym c.self.view_is) c.requires.room.number in (
+      subst (AreNumbered 0) (sym c.push_reserved.ensures.items)
+          (numbered_more 0 c.args.new.number slots c.args.new (omega (arith, number)) (omega arith) c.self.invariant.0),
+      omega (arith, last, c.push_reserved.ensures.len),
+    )
+
+pub returns-clause-records : goal.returns-clause-records
+returns-clause-records g c =
+    let slots = c.self.inside.slots.items in
+    ap taken c.push_reserved.ensures.items ∙ taken_joined slots (Some c.args.new ∷ [])
+    ∙ ap (λ (x : RecordsValue). x.records ++ c.args.new ∷ []) c.self.view_is
+
+pub returns-clause-listed : goal.returns-clause-listed
+returns-clause-listed g c x =
+    let k = facts_of c.args.catalogue.now in
+    let slots = c.self.inside.slots.items in
+    let r : Record = c.args.new in
+    let listed = subst (AreListed k) (sym c.self.view_is) c.requires.listed in
+    let keys : c.of-keys.result ≡ keys_of_command k r.command =
+    c.of-keys.ensures ∙ ap (λ (s : Survivor). keys_of_command k s.command) c.survivor-survivor.ensures in
+    let number : c.survivor-survivor.result.now.number ≡ r.number = ap (λ (s : Survivor). s.number) c.survivor-survivor.ensures in
+    let records : taken c.push_reserved.new.self.items ≡ taken slots ++ r ∷ [] =
+    ap taken c.push_reserved.ensures.items ∙ taken_joined slots (Some r ∷ []) in
+    c.push.ensures x
+    ∙ (λ j. cond (has_key (keys j) x) (listed x j ++ number j ∷ []) (listed x j))
+    ∙ sym (one_more (asks_about k x) (taken slots) r)
+    ∙ ap (λ (rs : List Record). numbers_of (records_about k x rs)) (sym records)

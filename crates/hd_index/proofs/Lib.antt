@@ -1,0 +1,4 @@
+pub mod RisingLemmas
+pub mod UnionLemmas
+pub mod Passing
+pub mod UnionLaws

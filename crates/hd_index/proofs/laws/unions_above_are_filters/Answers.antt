@@ -1,0 +1,5 @@
+use Rattle.hd_index.proofs.UnionLaws.{are_filters_above}
+use Rattle.hd_index.proofs.laws.unions_above_are_filters.Goals as goal
+
+pub returns : goal.returns
+returns c = are_filters_above

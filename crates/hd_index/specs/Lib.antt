@@ -1,0 +1,4 @@
+pub mod Rising
+pub mod RowValue
+pub mod Rows
+pub mod Union

@@ -1,0 +1,93 @@
+//! Going over several rising lists at once.
+ghost use Rattle.std.specs.Prelude.{◌≡◌, ◌<◌, [], ◌∷◌, ◌++◌, None, length, map};
+ghost use Rattle.std.specs.Iterator.{YieldsFirst, item_count};
+ghost use Rattle.hd_index.specs.Rising.{IsRising};
+ghost use Rattle.hd_index.specs.Union.{least_first, past, union};
+
+use std::marker::Model;
+
+/// The numbers of at most twelve rising lists, rising, each once, however many of the lists have it.
+///
+/// The lists are lent, and no call takes memory.
+#[derive(Drop)]
+pub struct Union<'a> {
+    lists: [&'a [u32]; 12],
+    count: usize,
+}
+
+impl<'a> Model for Union<'a> {
+    ghost use Rattle.std.specs.Prelude.{List, ℕ, map, take};
+    ghost use Rattle.hd_index.specs.Union.{AreLists};
+
+    ghost Value = { List (List ℕ) };
+
+    ghost view = { λ u. map (λ list. list.now) (take u.count u.lists) };
+
+    ghost invariant = { λ u. AreLists u.count (map (λ list. list.now) (take u.count u.lists)) };
+}
+
+impl<'a> Union<'a> {
+    /// No lists.
+    pub fn new() -> Union<'a>
+        ensures { result ≡ [] }
+    {
+        Union {
+            lists: [&[]; 12],
+            count: 0,
+        }
+    }
+
+    /// Adds a list.
+    pub fn add(&mut self, list: &'a [u32])
+        requires few { length self.old < 12 }
+        requires rising { IsRising list.now }
+        ensures { self.new ≡ self.old ++ list.now ∷ [] }
+    {
+        self.lists[self.count] = list;
+        self.count += 1;
+    }
+}
+
+impl<'a> Iterator for Union<'a> {
+    type Item = u32;
+
+    ghost next_gives = { YieldsFirst (λ lists. union lists) };
+
+    ghost remaining = { item_count (λ lists. union lists) };
+
+    fn next(&mut self) -> Option<u32> {
+        let count = self.count;
+        let least = least_first(&self.lists[..count])?;
+        pass(&mut self.lists[..count], least);
+        Some(least)
+    }
+}
+
+/// The least number that a list begins with, or `None` where all are empty.
+fn least_first(lists: &[&[u32]]) -> Option<u32>
+    ensures { result ≡ least_first None (map (λ list. list.now) lists.now) }
+{
+    let mut least = None;
+    for list in lists {
+        if let Some(first) = list.first() {
+            least = match least {
+                Some(number) => Some((*first).min(number)),
+                None => Some(*first),
+            };
+        }
+    }
+    least
+}
+
+/// Moves each list that begins with the number past it.
+fn pass<'a>(lists: &mut [&'a [u32]], number: u32)
+    ensures { map (λ list. list.now) lists.new ≡ map (past number) (map (λ list. list.now) lists.old) }
+{
+    for list in lists.iter_mut() {
+        if let Some((first, rest)) = list.split_first() {
+            if *first == number {
+                *list = rest;
+            }
+        }
+    }
+}
