@@ -21,8 +21,8 @@ pub(crate) struct Lone<A: Allocator> {
 }
 
 impl<A: Allocator + Copy> Lone<A> {
-    /// The terminal before any line, in the library of a catalogue's text and at this present. None where there
-    /// is no such library or present.
+    /// The terminal before any line, in the library of a catalogue's text and at this present. None where
+    /// there is no such library or present.
     pub(crate) fn open(
         rt: &HostRuntime,
         alloc: A,

@@ -1,5 +1,7 @@
 //! Plays rows of messages and replies through `replay` and through sessions whose lines are cut into pieces,
-//! and lines with damage through sessions; says of each whether it was answered as it is to be.
+//! and lines with damage through sessions; says of each whether it was answered as it is to be. Of
+//! cancellations it says whether the journal then keeps the records of one that never saw their targets, how
+//! much work two of them are, and whether they make few requests for memory.
 //!
 //! A row is a script in `data/`: `catalogue FILE` and `now DATE` say what `replay` is given. `> LINE` is a
 //! line of its input; the lines that answer it stand under it: `< LINE` whole, `<~ SESSION PART` some reply

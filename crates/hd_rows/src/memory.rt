@@ -25,8 +25,8 @@ pub(crate) fn cancel_with_little_memory(rt: &HostRuntime) -> io::Result<()> {
     }
 }
 
-/// Keeps the copies and cancels commands, at a terminal whose memory this allocator gives: the newest command,
-/// which is the return of the last copy, and the oldest, the loan of the one more.
+/// Keeps the copies and cancels commands, at a terminal whose memory this allocator gives: the newest, which
+/// is the return of the last copy, and the oldest, the loan of the one more.
 fn keep_and_cancel<A: Allocator + Copy>(
     rt: &HostRuntime,
     refusing: &Refusing<Global>,

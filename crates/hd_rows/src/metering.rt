@@ -93,7 +93,7 @@ fn meter_row(rt: &HostRuntime, row: &Row) -> io::Result<()> {
             compared,
         } = *most;
         println!(rt;
-            "a cancellation, steps {steps}, cells {written}, records to {looks}, answers to {compared}: {verdict}"
+            "cancelled, {steps} steps, {written} cell, at most {looks} records, {compared} answers: {verdict}"
         )?;
     }
     let all = verdict(works.len() == WORK.len());
