@@ -1,5 +1,6 @@
 -- What a cancellation leaves, and its work.
-use Rattle.std.proofs.Common.{arith, ◌≡◌, sym, ◌∙◌, ap, subst, ℕ, ◌+◌, ◌*◌, ◌≤◌, List, [], ◌∷◌, ◌++◌, length, filter, Bool, Option, Some, None}
+use Rattle.std.proofs.Common.{arith, ◌≡◌, sym, ◌∙◌, ap, subst, ℕ, ◌+◌, ◌*◌, ◌≤◌}
+use Rattle.std.proofs.Common.{List, [], ◌∷◌, ◌++◌, length, filter, Bool, Option, Some, None}
 use Rattle.hd_rules.specs.declared.commands.Cancel.{Cancel}
 use Rattle.hd_rules.specs.declared.commands.Survivor.{Survivor}
 use Rattle.hd_rules.specs.declared.replies.Refusal.TheVariants as refusal
@@ -149,7 +150,8 @@ work_stands laws k survivors o rs i aim P old mid compared back new same found p
     ap (λ (ss : List Survivor). first_dependent k ss (survivor_of aim) (survivors_of (newer i rs))) same
     ∙ sym (first_is laws k rs i aim parts rising known) ∙ is in
     let all : IsDecision (length aim.changes) (3 * length (newer i rs) + 1) (questions_of (newer i rs)) old new =
-    takes_back laws (touches k (changes_of i rs)) rs i (length aim.changes) (questions_of (newer i rs)) old compared back new (compares laws k P rs i old mid compared h)
+    takes_back laws (touches k (changes_of i rs)) rs i (length aim.changes) (questions_of (newer i rs)) old compared back new
+    (compares laws k P rs i old mid compared h)
     writes looks in
     subst (λ (x : Option Split). IsCancellation k survivors x old new) (sym found)
     (subst (λ (x : Option ℕ). IsDecidedSo k (split_of rs i aim) x old new) (sym first)

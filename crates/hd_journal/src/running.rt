@@ -46,7 +46,11 @@ impl<A: Allocator> Model for Running<A> {
     } };
 
     ghost invariant = { λ r. IsRunning
-        (record { contents = contents r.desk; survivors = survivors_of r.records.records; last = r.records.last })
+        (record {
+          contents = contents r.desk;
+          survivors = survivors_of r.records.records;
+          last = r.records.last;
+        })
         (desk_of r.desk)
         × AreStored (facts_of (contents r.desk)) r.records.records
         × AreListed (facts_of (contents r.desk)) r.records };
@@ -189,18 +193,18 @@ impl<A: Allocator + Copy> Running<A> {
         laws();
         let catalogue = self.desk.catalogue();
         prove!(0 < catalogue.command_limit());
-        let Some(number) = self.records.newest(catalogue, terminal, what, meter) else {
+        let Some(target) = self.records.newest(catalogue, terminal, what, meter) else {
             return Ok(TurnReply::Refused(Refusal::NothingToCancel));
         };
-        if let Some(dependent) = self.records.first_clash(catalogue, number, meter) {
-            return Ok(TurnReply::Refused(Refusal::Depends { number: dependent }));
+        if let Some(number) = self.records.first_clash(catalogue, target, meter) {
+            return Ok(TurnReply::Refused(Refusal::Depends { number }));
         }
-        let Some(target) = self.records.get(number) else {
+        let Some(kept) = self.records.get(target) else {
             unreachable!()
         };
-        undo(&mut self.desk, target.changes, meter)?;
-        self.records.take_out(self.desk.catalogue(), number, meter);
-        Ok(TurnReply::Cancelled { number })
+        undo(&mut self.desk, kept.changes, meter)?;
+        self.records.take_out(self.desk.catalogue(), target, meter);
+        Ok(TurnReply::Cancelled { number: target })
     }
 }
 

@@ -12,7 +12,8 @@ pub among_filter : (P : Record → Bool) (r : Record) (rs : List Record) → IsA
 among_filter P r [] among = among
 among_filter P r (x ∷ xs) among = by_test (P x) (λ (later : IsAmong r (filter P xs)). among_filter P r xs later) among
   where
-    by_test : (b : Bool) → (IsAmong r (filter P xs) → IsAmong r xs) → IsAmong r (cond b (x ∷ filter P xs) (filter P xs)) → IsAmong r (x ∷ xs)
+    by_test : (b : Bool) → (IsAmong r (filter P xs) → IsAmong r xs) → IsAmong r (cond b (x ∷ filter P xs) (filter P xs))
+        → IsAmong r (x ∷ xs)
     by_test true rest (inl same) = inl same
     by_test true rest (inr later) = inr (rest later)
     by_test false rest later = inr (rest later)
@@ -59,7 +60,8 @@ pub passes : (P : Record → Bool) (r : Record) (rs : List Record) → IsAmong r
 passes P r [] among = absurd among
 passes P r (x ∷ xs) among = by_test (P x) refl (λ (later : IsAmong r (filter P xs)). passes P r xs later) among
   where
-    by_test : (b : Bool) → P x ≡ b → (IsAmong r (filter P xs) → P r ≡ true) → IsAmong r (cond b (x ∷ filter P xs) (filter P xs)) → P r ≡ true
+    by_test : (b : Bool) → P x ≡ b → (IsAmong r (filter P xs) → P r ≡ true) → IsAmong r (cond b (x ∷ filter P xs) (filter P xs))
+        → P r ≡ true
     by_test true is rest (inl same) = ap P same ∙ is
     by_test true is rest (inr later) = rest later
     by_test false is rest later = rest later

@@ -27,7 +27,8 @@ one_more P (x ∷ xs) r = by_tests (P x) (P r) (one_more P xs r)
     by_tests : (b c : Bool)
         → numbers_of (filter P (xs ++ r ∷ [])) ≡ cond c (numbers_of (filter P xs) ++ r.number ∷ []) (numbers_of (filter P xs))
         → numbers_of (cond b (x ∷ filter P (xs ++ r ∷ [])) (filter P (xs ++ r ∷ [])))
-        ≡ cond c (numbers_of (cond b (x ∷ filter P xs) (filter P xs)) ++ r.number ∷ []) (numbers_of (cond b (x ∷ filter P xs) (filter P xs)))
+        ≡ cond c (numbers_of (cond b (x ∷ filter P xs) (filter P xs)) ++ r.number ∷ [])
+        (numbers_of (cond b (x ∷ filter P xs) (filter P xs)))
     by_tests true true rest = ap (λ (ns : List ℕ). x.number ∷ ns) rest
     by_tests true false rest = ap (λ (ns : List ℕ). x.number ∷ ns) rest
     by_tests false c rest = rest
@@ -127,12 +128,14 @@ shifted_alike k changes x [] = refl
 shifted_alike k changes x (r ∷ rs) = by_test (asks_about k x r) (shifted_alike k changes x rs)
   where
     by_test : (b : Bool) → numbers_of (records_about k x (shift_records k changes rs)) ≡ numbers_of (records_about k x rs)
-        → numbers_of (cond b (shift_record k changes r ∷ records_about k x (shift_records k changes rs)) (records_about k x (shift_records k changes rs)))
+        → numbers_of (cond b (shift_record k changes r ∷ records_about k x (shift_records k changes rs))
+        (records_about k x (shift_records k changes rs)))
         ≡ numbers_of (cond b (r ∷ records_about k x rs) (records_about k x rs))
     by_test true rest = ap (λ (ns : List ℕ). r.number ∷ ns) rest
     by_test false rest = rest
 
-joined_numbers : (P : Record → Bool) (xs ys : List Record) → numbers_of (filter P (xs ++ ys)) ≡ numbers_of (filter P xs) ++ numbers_of (filter P ys)
+joined_numbers : (P : Record → Bool) (xs ys : List Record) → numbers_of (filter P (xs ++ ys))
+    ≡ numbers_of (filter P xs) ++ numbers_of (filter P ys)
 joined_numbers P [] ys = refl
 joined_numbers P (x ∷ xs) ys = by_test (P x) (joined_numbers P xs ys)
   where

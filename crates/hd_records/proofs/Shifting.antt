@@ -35,7 +35,8 @@ shift_nothing k changes b [] = refl
 shift_nothing k changes b (x ∷ xs) = ap (λ (ys : List (Option Record)). x ∷ ys) (shift_nothing k changes (suc b) xs)
 
 -- no slot has the number
-pub shift_past : (k : Facts) (changes : List Change) (n b : ℕ) (slots : List (Option Record)) → ((m : ℕ) → m < length slots → n ≡ suc b + m → ⊥)
+pub shift_past : (k : Facts) (changes : List Change) (n b : ℕ) (slots : List (Option Record))
+    → ((m : ℕ) → m < length slots → n ≡ suc b + m → ⊥)
     → shift_at k changes (n ∷ []) b slots ≡ slots
 shift_past k changes n b [] other = refl
 shift_past k changes n b (x ∷ xs) other =
@@ -63,7 +64,8 @@ shift_one k changes n b (suc m) (x ∷ xs) is below =
 
 -- one number after others
 twice : (k : Facts) (changes : List Change) (slot : Option Record) (one rest : Bool) → (one ≡ true → rest ≡ false)
-    → cond rest (shift_slot k changes (cond (one || false) (shift_slot k changes slot) slot)) (cond (one || false) (shift_slot k changes slot) slot)
+    → cond rest (shift_slot k changes (cond (one || false) (shift_slot k changes slot) slot))
+    (cond (one || false) (shift_slot k changes slot) slot)
     ≡ cond (one || rest) (shift_slot k changes slot) slot
 twice k changes slot true rest apart =
     ap (λ (b : Bool). cond b (shift_slot k changes (shift_slot k changes slot)) (shift_slot k changes slot)) (apart refl)

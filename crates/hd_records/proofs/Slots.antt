@@ -119,7 +119,8 @@ within_of [] m r is = absurd (none_some r is)
 within_of (x ∷ xs) zero r is = omega arith
 within_of (x ∷ xs) (suc m) r is = (let rest : m < length xs = within_of xs m r is in omega (arith, rest))
 
-pub stands : (n : ℕ) (slots : List (Option Record)) (r : Record) → AreNumbered 0 slots → record_of n (taken slots) ≡ Some r → Stands n slots r
+pub stands : (n : ℕ) (slots : List (Option Record)) (r : Record) → AreNumbered 0 slots → record_of n (taken slots) ≡ Some r
+    → Stands n slots r
 stands zero slots r numbered is = absurd (none_some r (sym (none_of_zero slots numbered) ∙ is))
 stands (suc m) slots r numbered is =
     let there : get_or slots m None ≡ Some r = sym (record_is (suc m) 0 m slots (omega arith) numbered) ∙ is in

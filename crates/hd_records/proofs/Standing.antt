@@ -144,7 +144,8 @@ at_slot (suc m) slots r numbered is =
     }
 
 -- no other record has its number
-pub only_one : (n : ℕ) (slots : List (Option Record)) (r y : Record) → AreNumbered 0 slots → slot_of n slots ≡ Some r → IsAmong y (taken slots)
+pub only_one : (n : ℕ) (slots : List (Option Record)) (r y : Record) → AreNumbered 0 slots → slot_of n slots ≡ Some r
+    → IsAmong y (taken slots)
     → y.number ≡ n → y ≡ r
 only_one n slots r y numbered is among number =
     some_same y r (sym (stand_all slots numbered y among) ∙ ap (λ (i : ℕ). slot_of i slots) number ∙ is)

@@ -217,7 +217,8 @@ has_is P m (x ∷ xs) r rising (inr among) = by_test (P x) (has_is P (x.number +
 
     by_test : (b : Bool) → has r.number (numbers_of (filter P xs)) ≡ P r
         → has r.number (numbers_of (cond b (x ∷ filter P xs) (filter P xs))) ≡ P r
-    by_test true rest = ap (λ (c : Bool). c || has r.number (numbers_of (filter P xs))) (other_back x.number r.number (omega (arith, up))) ∙ rest
+    by_test true rest = ap (λ (c : Bool). c || has r.number (numbers_of (filter P xs))) (other_back x.number r.number (omega (arith, up)))
+        ∙ rest
     by_test false rest = rest
 
 -- no newer record has a number up to it

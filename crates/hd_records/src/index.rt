@@ -12,7 +12,7 @@ ghost use Rattle.hd_records.specs.Index.{HasRoomAt, HasRoomUnder, listed_under};
 
 use hd_clash::{CommandKeys, Key};
 use hd_index::{Lists, Union};
-use hd_rules::TitleNo;
+use hd_rules::{BranchNo, PatronNo, TitleNo};
 use std::alloc::{AllocError, Allocator, Global};
 use std::marker::Model;
 
@@ -54,11 +54,8 @@ impl<A: Allocator + Copy> Index<A> {
         ensures full { OnErr result (HasRoomUnder keys self.old → ⊥) }
     {
         ready_at(&mut self.titles, Some(keys.title.number()))?;
-        ready_at(&mut self.patrons, keys.patron.map(|patron| patron.number()))?;
-        ready_at(
-            &mut self.branches,
-            keys.branch.map(|branch| u32::from(branch.number())),
-        )
+        ready_at(&mut self.patrons, number_of_patron(keys.patron))?;
+        ready_at(&mut self.branches, number_of_branch(keys.branch))
     }
 }
 
@@ -71,16 +68,8 @@ impl<A: Allocator> Index<A> {
             ≡ (if has_key keys x then listed_under x self.old ++ number ∷ [] else listed_under x self.old) }
     {
         push_at(&mut self.titles, Some(keys.title.number()), number);
-        push_at(
-            &mut self.patrons,
-            keys.patron.map(|patron| patron.number()),
-            number,
-        );
-        push_at(
-            &mut self.branches,
-            keys.branch.map(|branch| u32::from(branch.number())),
-            number,
-        );
+        push_at(&mut self.patrons, number_of_patron(keys.patron), number);
+        push_at(&mut self.branches, number_of_branch(keys.branch), number);
     }
 
     /// Lists a number no longer under the keys. It takes no memory.
@@ -89,16 +78,8 @@ impl<A: Allocator> Index<A> {
             ≡ (if has_key keys x then without number (listed_under x self.old) else listed_under x self.old) }
     {
         take_at(&mut self.titles, Some(keys.title.number()), number);
-        take_at(
-            &mut self.patrons,
-            keys.patron.map(|patron| patron.number()),
-            number,
-        );
-        take_at(
-            &mut self.branches,
-            keys.branch.map(|branch| u32::from(branch.number())),
-            number,
-        );
+        take_at(&mut self.patrons, number_of_patron(keys.patron), number);
+        take_at(&mut self.branches, number_of_branch(keys.branch), number);
     }
 
     /// The numbers that are listed under a title.
@@ -131,6 +112,20 @@ impl<A: Allocator> Index<A> {
         }
         union
     }
+}
+
+/// The number of a patron, if there is one.
+fn number_of_patron(patron: Option<PatronNo>) -> Option<u32>
+    ensures { result ≡ patron }
+{
+    patron.map(|patron| patron.number())
+}
+
+/// The number of a branch, if there is one.
+fn number_of_branch(branch: Option<BranchNo>) -> Option<u32>
+    ensures { result ≡ branch }
+{
+    branch.map(|branch| u32::from(branch.number()))
 }
 
 /// Makes room for one more place at a number, if there is one.

@@ -37,7 +37,8 @@ use std::marker::Model;
 ///
 /// Numbers are given from 1 on, one after another, and each has a slot; that of a record that was taken out
 /// stays empty. The records are listed by what their commands ask about, so that a cancellation looks only at
-/// those that have a title, a patron or a branch in common with what it takes back. Only `ready` takes memory.
+/// those that have a title, a patron or a branch in common with what it takes back. Only `ready` takes
+/// memory.
 #[derive(Drop)]
 pub struct Records<A: Allocator = Global> {
     slots: Vec<Option<StoredRecord>, A>,
@@ -182,9 +183,9 @@ impl<A: Allocator + Copy> Records<A> {
         unions_have_each_once();
         the_first_clash_is_touched();
         let keys = ChangedKeys::of(catalogue, target.changes());
-        let touched = self.index.touched(keys.keys(), number as u32);
+        let later = self.index.touched(keys.keys(), number as u32);
         let slots = self.slots.as_slice();
-        walking::first_clash(catalogue, target.changes(), slots, touched, meter)
+        walking::first_clash(catalogue, target.changes(), slots, later, meter)
     }
 
     /// Takes the record of this number out, and mends the later ones: what they noted becomes what is found

@@ -44,5 +44,6 @@ pub returns-clause-slots : goal.returns-clause-slots
 returns-clause-slots g c =
     let k = facts_of c.args.catalogue.now in
     let slots = c.loop-number.slots.items in
-    sym (ap (λ (xs : List ℕ). shift_at k c.args.changes.now xs 0 slots) c.in-None.ensures.steps.0 ∙ shift_nothing k c.args.changes.now 0 slots)
+    sym (ap (λ (xs : List ℕ). shift_at k c.args.changes.now xs 0 slots) c.in-None.ensures.steps.0
+    ∙ shift_nothing k c.args.changes.now 0 slots)
     ∙ c.loop-number.invariant.rest

@@ -49,7 +49,7 @@ first_clash-requires-clause-of g c =
     let contents = c.self.inside.desk.copies.contents in
     let a =
     aiming c.laws.ensures contents (desk_of c.self.inside.desk) c.self.inside.records c.args.terminal c.args.what.now
-    c.in-Some.number c.deref.result.now (c.deref.ensures ∙ c.catalogue-catalogue.ensures) c.command_limit.ensures.facts c.self.invariant
+    c.in-Some.target c.deref.result.now (c.deref.ensures ∙ c.catalogue-catalogue.ensures) c.command_limit.ensures.facts c.self.invariant
     c.in-Some.ensures.target in
     subst (λ (x : Contents). AreOf (facts_of x) c.self.inside.records) (sym (c.deref-3.ensures ∙ c.catalogue-catalogue.ensures)) a.of
 
@@ -58,7 +58,7 @@ take_out-requires-clause-there g c =
     let contents = c.self.inside.desk.copies.contents in
     let a =
     aiming c.laws.ensures contents (desk_of c.self.inside.desk) c.self.inside.records c.args.terminal c.args.what.now
-    c.in-Some.number c.deref.result.now (c.deref.ensures ∙ c.catalogue-catalogue.ensures) c.command_limit.ensures.facts c.self.invariant
+    c.in-Some.target c.deref.result.now (c.deref.ensures ∙ c.catalogue-catalogue.ensures) c.command_limit.ensures.facts c.self.invariant
     c.in-Some.ensures.target in
     ap is_some a.parts.at.there
 
@@ -67,7 +67,7 @@ take_out-requires-clause-of g c =
     let contents = c.self.inside.desk.copies.contents in
     let a =
     aiming c.laws.ensures contents (desk_of c.self.inside.desk) c.self.inside.records c.args.terminal c.args.what.now
-    c.in-Some.number c.deref.result.now (c.deref.ensures ∙ c.catalogue-catalogue.ensures) c.command_limit.ensures.facts c.self.invariant
+    c.in-Some.target c.deref.result.now (c.deref.ensures ∙ c.catalogue-catalogue.ensures) c.command_limit.ensures.facts c.self.invariant
     c.in-Some.ensures.target in
     subst (λ (x : Contents). AreOf (facts_of x) c.self.inside.records)
     (sym (c.deref-4.ensures ∙ c.catalogue.ensures ∙ c.in_ok-undo.ensures.contents)) a.of
@@ -92,7 +92,7 @@ first_clash-requires-clause-there g c =
     let rs = c.self.inside.records.records in
     let a =
     aiming c.laws.ensures contents (desk_of c.self.inside.desk) c.self.inside.records c.args.terminal c.args.what.now
-    c.in-Some.number c.deref.result.now (c.deref.ensures ∙ c.catalogue-catalogue.ensures) c.command_limit.ensures.facts c.self.invariant
+    c.in-Some.target c.deref.result.now (c.deref.ensures ∙ c.catalogue-catalogue.ensures) c.command_limit.ensures.facts c.self.invariant
     c.in-Some.ensures.target in
     ap is_some a.parts.at.there
 
@@ -102,7 +102,7 @@ unreachable-requires g c =
     let rs = c.self.inside.records.records in
     let a =
     aiming c.laws.ensures contents (desk_of c.self.inside.desk) c.self.inside.records c.args.terminal c.args.what.now
-    c.in-Some.number c.deref.result.now (c.deref.ensures ∙ c.catalogue-catalogue.ensures) c.command_limit.ensures.facts c.self.invariant
+    c.in-Some.target c.deref.result.now (c.deref.ensures ∙ c.catalogue-catalogue.ensures) c.command_limit.ensures.facts c.self.invariant
     c.in-Some.ensures.target in
     none_there a.aim (c.in_default-get.ensures.record ∙ a.parts.at.there)
 
@@ -110,16 +110,16 @@ pub returns-in-Some-first_clash-clause-cancelled : goal.returns-in-Some-first_cl
 returns-in-Some-first_clash-clause-cancelled g c =
     let contents = c.self.inside.desk.copies.contents in
     let rs = c.self.inside.records.records in
-    let n = c.in-Some-first_clash.dependent in
+    let n = c.in-Some-first_clash.number in
     let a =
-    aiming c.laws.ensures contents (desk_of c.self.inside.desk) c.self.inside.records c.args.terminal c.args.what.now c.in-Some.number
+    aiming c.laws.ensures contents (desk_of c.self.inside.desk) c.self.inside.records c.args.terminal c.args.what.now c.in-Some.target
     c.deref.result.now (c.deref.ensures ∙ c.catalogue-catalogue.ensures) c.command_limit.ensures.facts c.self.invariant
     c.in-Some.ensures.target in
     let clash =
-    clash_there c.deref-3.result.now contents (changes_of c.in-Some.number rs) (newer c.in-Some.number rs) (Some n)
+    clash_there c.deref-3.result.now contents (changes_of c.in-Some.target rs) (newer c.in-Some.target rs) (Some n)
     (c.deref-3.ensures ∙ c.catalogue-catalogue.ensures) c.in-Some-first_clash.ensures.clash in
     subst (λ (x : Running). Withdrawn x c.args.terminal c.args.what.now (Refused (refusal.Depends n)) x) c.self.view_is
-    (withdrawn_depends c.laws.ensures (running_at contents rs c.self.inside.records.last) c.args.terminal c.args.what.now rs c.in-Some.number a.aim n
+    (withdrawn_depends c.laws.ensures (running_at contents rs c.self.inside.records.last) c.args.terminal c.args.what.now rs c.in-Some.target a.aim n
     (record { same = refl; is_target = a.is_target }) a.parts a.rising a.of.known clash)
 
 pub returns-in-Some-first_clash-clause-work : goal.returns-in-Some-first_clash-clause-work
@@ -127,31 +127,32 @@ returns-in-Some-first_clash-clause-work g c =
     let contents = c.self.inside.desk.copies.contents in
     let k = facts_of contents in
     let rs = c.self.inside.records.records in
-    let n = c.in-Some-first_clash.dependent in
+    let n = c.in-Some-first_clash.number in
     let a =
-    aiming c.laws.ensures contents (desk_of c.self.inside.desk) c.self.inside.records c.args.terminal c.args.what.now c.in-Some.number
+    aiming c.laws.ensures contents (desk_of c.self.inside.desk) c.self.inside.records c.args.terminal c.args.what.now c.in-Some.target
     c.deref.result.now (c.deref.ensures ∙ c.catalogue-catalogue.ensures) c.command_limit.ensures.facts c.self.invariant
     c.in-Some.ensures.target in
     let same = c.deref-3.ensures ∙ c.catalogue-catalogue.ensures in
     let clash =
-    clash_there c.deref-3.result.now contents (changes_of c.in-Some.number rs) (newer c.in-Some.number rs) (Some n) same
+    clash_there c.deref-3.result.now contents (changes_of c.in-Some.target rs) (newer c.in-Some.target rs) (Some n) same
     c.in-Some-first_clash.ensures.clash in
     let P : Record → Bool =
     asks_about (facts_of c.deref-2.result.now) (key.Title (title_of_cancel (facts_of c.deref-2.result.now) c.args.what.now)) in
-    let work : Compares k P rs c.in-Some.number c.args.meter.now c.newest.new.meter c.first_clash.new.meter = record {
+    let work : Compares k P rs c.in-Some.target c.args.meter.now c.newest.new.meter c.first_clash.new.meter = record {
       few = a.few;
       found = c.in-Some.ensures.work;
       compared =
           c.in-Some-first_clash.ensures.work
-          ∙ ap (λ (x : Contents). walked (facts_of x) (changes_of c.in-Some.number rs)
-          (filter (touches (facts_of x) (changes_of c.in-Some.number rs)) (newer c.in-Some.number rs)) c.newest.new.meter)
+          ∙ ap (λ (x : Contents). walked (facts_of x) (changes_of c.in-Some.target rs)
+          (filter (touches (facts_of x) (changes_of c.in-Some.target rs)) (newer c.in-Some.target rs)) c.newest.new.meter)
           same;
     } in
     subst
     (λ (x : Running). IsCancellation (facts_of x.contents) x.survivors (target c.args.terminal c.args.what.now x.survivors)
     c.args.meter.now c.first_clash.new.meter)
     c.self.view_is
-    (work_depends c.laws.ensures k (survivors_of rs) (target c.args.terminal c.args.what.now (survivors_of rs)) rs c.in-Some.number a.aim n P
+    (work_depends c.laws.ensures k (survivors_of rs) (target c.args.terminal c.args.what.now
+    (survivors_of rs)) rs c.in-Some.target a.aim n P
     c.args.meter.now c.newest.new.meter c.first_clash.new.meter refl a.is_target a.parts a.rising a.of.known clash work)
 
 pub undo-requires-clause-known : goal.undo-requires-clause-known
@@ -160,12 +161,12 @@ undo-requires-clause-known g c =
     let k = facts_of contents in
     let rs = c.self.inside.records.records in
     let a =
-    aiming c.laws.ensures contents (desk_of c.self.inside.desk) c.self.inside.records c.args.terminal c.args.what.now c.in-Some.number
+    aiming c.laws.ensures contents (desk_of c.self.inside.desk) c.self.inside.records c.args.terminal c.args.what.now c.in-Some.target
     c.deref.result.now (c.deref.ensures ∙ c.catalogue-catalogue.ensures) c.command_limit.ensures.facts c.self.invariant
     c.in-Some.ensures.target in
     subst (AreKnown k)
-    (sym (lent_changes (shown c.in-Some-get.target) a.aim (record_of c.in-Some.number rs) c.in-Some-get.ensures.record a.parts.at.there))
-    (undoable_at k rs c.in-Some.number a.aim a.parts.at a.stored).0
+    (sym (lent_changes (shown c.in-Some-get.kept) a.aim (record_of c.in-Some.target rs) c.in-Some-get.ensures.record a.parts.at.there))
+    (undoable_at k rs c.in-Some.target a.aim a.parts.at a.stored).0
 
 pub undo-requires-clause-apart : goal.undo-requires-clause-apart
 undo-requires-clause-apart g c =
@@ -173,11 +174,12 @@ undo-requires-clause-apart g c =
     let k = facts_of contents in
     let rs = c.self.inside.records.records in
     let a =
-    aiming c.laws.ensures contents (desk_of c.self.inside.desk) c.self.inside.records c.args.terminal c.args.what.now c.in-Some.number
+    aiming c.laws.ensures contents (desk_of c.self.inside.desk) c.self.inside.records c.args.terminal c.args.what.now c.in-Some.target
     c.deref.result.now (c.deref.ensures ∙ c.catalogue-catalogue.ensures) c.command_limit.ensures.facts c.self.invariant
     c.in-Some.ensures.target in
-    subst AreApart (sym (lent_changes (shown c.in-Some-get.target) a.aim (record_of c.in-Some.number rs) c.in-Some-get.ensures.record a.parts.at.there))
-    (undoable_at k rs c.in-Some.number a.aim a.parts.at a.stored).1
+    subst AreApart (sym (lent_changes (shown c.in-Some-get.kept) a.aim
+    (record_of c.in-Some.target rs) c.in-Some-get.ensures.record a.parts.at.there))
+    (undoable_at k rs c.in-Some.target a.aim a.parts.at a.stored).1
 
 pub undo-requires-clause-fit : goal.undo-requires-clause-fit
 undo-requires-clause-fit g c =
@@ -185,47 +187,47 @@ undo-requires-clause-fit g c =
     let k = facts_of contents in
     let rs = c.self.inside.records.records in
     let a =
-    aiming c.laws.ensures contents (desk_of c.self.inside.desk) c.self.inside.records c.args.terminal c.args.what.now c.in-Some.number
+    aiming c.laws.ensures contents (desk_of c.self.inside.desk) c.self.inside.records c.args.terminal c.args.what.now c.in-Some.target
     c.deref.result.now (c.deref.ensures ∙ c.catalogue-catalogue.ensures) c.command_limit.ensures.facts c.self.invariant
     c.in-Some.ensures.target in
     let clash =
-    clash_there c.deref-3.result.now contents (changes_of c.in-Some.number rs) (newer c.in-Some.number rs) None
+    clash_there c.deref-3.result.now contents (changes_of c.in-Some.target rs) (newer c.in-Some.target rs) None
     (c.deref-3.ensures ∙ c.catalogue-catalogue.ensures) c.in_default-first_clash.ensures.clash in
-    subst (λ (x : Desk). EachBackIsFit k c.in-Some-get.target.changes.now x) (sym c.self.invariant.0.desk)
+    subst (λ (x : Desk). EachBackIsFit k c.in-Some-get.kept.changes.now x) (sym c.self.invariant.0.desk)
     (subst (λ (cs : List Change). EachBackIsFit k cs (run k (survivors_of rs)))
-    (sym (lent_changes (shown c.in-Some-get.target) a.aim (record_of c.in-Some.number rs) c.in-Some-get.ensures.record a.parts.at.there))
-    (each_back c.laws.ensures k rs c.in-Some.number a.aim
-    (can_go c.laws.ensures k rs c.in-Some.number a.aim a.parts a.rising a.of.known clash)))
+    (sym (lent_changes (shown c.in-Some-get.kept) a.aim (record_of c.in-Some.target rs) c.in-Some-get.ensures.record a.parts.at.there))
+    (each_back c.laws.ensures k rs c.in-Some.target a.aim
+    (can_go c.laws.ensures k rs c.in-Some.target a.aim a.parts a.rising a.of.known clash)))
 
 pub returns-in_err-undo-clause-rise : goal.returns-in_err-undo-clause-rise
 returns-in_err-undo-clause-rise g c =
     let contents = c.self.inside.desk.copies.contents in
     let rs = c.self.inside.records.records in
     let a =
-    aiming c.laws.ensures contents (desk_of c.self.inside.desk) c.self.inside.records c.args.terminal c.args.what.now c.in-Some.number
+    aiming c.laws.ensures contents (desk_of c.self.inside.desk) c.self.inside.records c.args.terminal c.args.what.now c.in-Some.target
     c.deref.result.now (c.deref.ensures ∙ c.catalogue-catalogue.ensures) c.command_limit.ensures.facts c.self.invariant
     c.in-Some.ensures.target in
     let same = c.deref-3.ensures ∙ c.catalogue-catalogue.ensures in
     let P : Record → Bool =
     asks_about (facts_of c.deref-2.result.now) (key.Title (title_of_cancel (facts_of c.deref-2.result.now) c.args.what.now)) in
-    let work : Compares (facts_of contents) P rs c.in-Some.number c.args.meter.now c.newest.new.meter c.first_clash.new.meter = record {
+    let work : Compares (facts_of contents) P rs c.in-Some.target c.args.meter.now c.newest.new.meter c.first_clash.new.meter = record {
       few = a.few;
       found = c.in-Some.ensures.work;
       compared =
           c.in_default-first_clash.ensures.work
-          ∙ ap (λ (x : Contents). walked (facts_of x) (changes_of c.in-Some.number rs)
-          (filter (touches (facts_of x) (changes_of c.in-Some.number rs)) (newer c.in-Some.number rs)) c.newest.new.meter)
+          ∙ ap (λ (x : Contents). walked (facts_of x) (changes_of c.in-Some.target rs)
+          (filter (touches (facts_of x) (changes_of c.in-Some.target rs)) (newer c.in-Some.target rs)) c.newest.new.meter)
           same;
     } in
     on_err _ _ (subst (λ (x : Counts). OnlyRise c.args.meter.now x) (sym c.in_err-undo.ensures.uncounted)
-    (rise_compared (facts_of contents) P rs c.in-Some.number c.args.meter.now c.newest.new.meter c.first_clash.new.meter work))
+    (rise_compared (facts_of contents) P rs c.in-Some.target c.args.meter.now c.newest.new.meter c.first_clash.new.meter work))
 
 pub invariant_of-self-2 : goal.invariant_of-self-2
 invariant_of-self-2 g c =
     let contents = c.self.inside.desk.copies.contents in
     let k = facts_of contents in
     let rs = c.self.inside.records.records in
-    let i = c.in-Some.number in
+    let i = c.in-Some.target in
     let a =
     aiming c.laws.ensures contents (desk_of c.self.inside.desk) c.self.inside.records c.args.terminal c.args.what.now i
     c.deref.result.now (c.deref.ensures ∙ c.catalogue-catalogue.ensures) c.command_limit.ensures.facts c.self.invariant
@@ -241,7 +243,8 @@ invariant_of-self-2 g c =
     let desk : desk_of c.undo.new.cells ≡ run k (survivors_of (older i rs) ++ survivors_of (newer i rs)) =
     c.in_ok-undo.ensures.ok
     ∙ (λ j. undone
-    ((lent_changes (shown c.in-Some-get.target) a.aim (record_of i rs) c.in-Some-get.ensures.record a.parts.at.there) j) (c.self.invariant.0.desk j))
+    ((lent_changes (shown c.in-Some-get.kept) a.aim (record_of i rs) c.in-Some-get.ensures.record a.parts.at.there) j)
+    (c.self.invariant.0.desk j))
     ∙ undone_is c.laws.ensures k rs i a.aim goes in (
       subst (λ (m : ℕ). IsRunning (record {
         contents = c.undo.new.cells.copies.contents;
@@ -263,7 +266,7 @@ returns-clause-cancelled g c =
     let contents = c.self.inside.desk.copies.contents in
     let k = facts_of contents in
     let rs = c.self.inside.records.records in
-    let i = c.in-Some.number in
+    let i = c.in-Some.target in
     let a =
     aiming c.laws.ensures contents (desk_of c.self.inside.desk) c.self.inside.records c.args.terminal c.args.what.now i
     c.deref.result.now (c.deref.ensures ∙ c.catalogue-catalogue.ensures) c.command_limit.ensures.facts c.self.invariant
@@ -297,7 +300,7 @@ returns-clause-work g c =
     let contents = c.self.inside.desk.copies.contents in
     let k = facts_of contents in
     let rs = c.self.inside.records.records in
-    let i = c.in-Some.number in
+    let i = c.in-Some.target in
     let a =
     aiming c.laws.ensures contents (desk_of c.self.inside.desk) c.self.inside.records c.args.terminal c.args.what.now i
     c.deref.result.now (c.deref.ensures ∙ c.catalogue-catalogue.ensures) c.command_limit.ensures.facts c.self.invariant
@@ -312,12 +315,13 @@ returns-clause-work g c =
       found = c.in-Some.ensures.work;
       compared =
           c.in_default-first_clash.ensures.work
-          ∙ ap (λ (x : Contents). walked (facts_of x) (changes_of i rs) (filter (touches (facts_of x) (changes_of i rs)) (newer i rs)) c.newest.new.meter) same;
+          ∙ ap (λ (x : Contents). walked (facts_of x) (changes_of i rs)
+              (filter (touches (facts_of x) (changes_of i rs)) (newer i rs)) c.newest.new.meter) same;
     } in
     let writes : c.undo.new.meter ≡ written (length a.aim.changes) c.first_clash.new.meter =
     c.in_ok-undo.ensures.counted
     ∙ ap (λ (cs : List Change). written (length cs) c.first_clash.new.meter)
-    (lent_changes (shown c.in-Some-get.target) a.aim (record_of i rs) c.in-Some-get.ensures.record a.parts.at.there) in
+    (lent_changes (shown c.in-Some-get.kept) a.aim (record_of i rs) c.in-Some-get.ensures.record a.parts.at.there) in
     subst
     (λ (x : Running). IsCancellation (facts_of x.contents) x.survivors (target c.args.terminal c.args.what.now x.survivors)
     c.args.meter.now c.take_out.new.meter)

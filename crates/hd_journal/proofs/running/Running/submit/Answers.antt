@@ -148,7 +148,8 @@ returns-in-Ok-clause-submitted g c =
     (λ (x : Running). Submitted x c.args.terminal c.args.command.now (Accepted (n + 1) c.reply-reply.result) (next c.push.new.self.last))
     (ap (running_at contents rs) same ∙ c.self.view_is)
     (subst (λ (m : ℕ). Submitted r c.args.terminal c.args.command.now (Accepted (n + 1) c.reply-reply.result) (next m)) last
-    (subst (λ (x : Reply). Submitted r c.args.terminal c.args.command.now (Accepted (n + 1) x) (next (n + 1))) (sym c.reply-reply.ensures) done))
+    (subst (λ (x : Reply). Submitted r c.args.terminal c.args.command.now (Accepted (n + 1) x) (next (n + 1)))
+    (sym c.reply-reply.ensures) done))
 
 pub returns-in-Err-Memory-clause-rise : goal.returns-in-Err-Memory-clause-rise
 returns-in-Err-Memory-clause-rise g c = rise_step _ _ c.in-Err-Memory.ensures.step

@@ -11,8 +11,10 @@ push_at-requires-clause-above g c n =
 
 pub push_at-requires-2-clause-above : goal.push_at-requires-2-clause-above
 push_at-requires-2-clause-above g c n =
-    subst (λ (x : IndexValue). AreBelow c.args.number (listed_under (key.Patron n) x)) (sym c.self.view_is) (c.requires.above (key.Patron n))
+    subst (λ (x : IndexValue). AreBelow c.args.number (listed_under (key.Patron n) x)) (sym c.self.view_is)
+    (c.requires.above (key.Patron n))
 
 pub push_at-requires-3-clause-above : goal.push_at-requires-3-clause-above
 push_at-requires-3-clause-above g c n =
-    subst (λ (x : IndexValue). AreBelow c.args.number (listed_under (key.Branch n) x)) (sym c.self.view_is) (c.requires.above (key.Branch n))
+    subst (λ (x : IndexValue). AreBelow c.args.number (listed_under (key.Branch n) x)) (sym c.self.view_is)
+    (c.requires.above (key.Branch n))

@@ -64,11 +64,11 @@ first_clash-requires-clause-known g c =
     let slots = c.self.inside.slots.items in
     let of = subst (AreOf k) (sym c.self.view_is) c.requires.of in
     let keys : List Key = c.keys.result.now in
-    let at : Touching k c.changes.result.now n slots c.touched-touched.result =
-    touching c.unions_have_each_once.ensures k c.changes.result.now n slots c.self.inside.index c.of-keys.result c.touched-touched.result
+    let at : Touching k c.changes.result.now n slots c.touched-later.result =
+    touching c.unions_have_each_once.ensures k c.changes.result.now n slots c.self.inside.index c.of-keys.result c.touched-later.result
     c.self.invariant.0 of.listed c.of-keys.ensures.touched
-    (c.touched-touched.ensures ∙ ap (map (λ (x : Key). above n (listed_under x c.self.inside.index))) c.keys.ensures.keys) in
-    subst (λ (xs : List (Option Record)). EachRecordIsKnown k (records_at (union c.touched-touched.result) xs))
+    (c.touched-later.ensures ∙ ap (map (λ (x : Key). above n (listed_under x c.self.inside.index))) c.keys.ensures.keys) in
+    subst (λ (xs : List (Option Record)). EachRecordIsKnown k (records_at (union c.touched-later.result) xs))
     (sym c.as_slice-slots.ensures.value)
     (subst (EachRecordIsKnown k) (sym at.there)
     (known_filter k (touches k c.changes.result.now) (newer n (taken slots))
@@ -76,21 +76,22 @@ first_clash-requires-clause-known g c =
 
 -- the records that it goes over
 over : (g : Over) (c : After-first_clash g)
-    → records_at (union c.touched-touched.result) c.as_slice-slots.result.now
+    → records_at (union c.touched-later.result) c.as_slice-slots.result.now
     ≡ filter (touches (facts_of c.args.catalogue.now) c.changes.result.now) (newer c.args.number (taken c.self.inside.slots.items))
 over g c =
     let k = facts_of c.args.catalogue.now in
     let n : ℕ = c.args.number in
     let slots = c.self.inside.slots.items in
     let of = subst (AreOf k) (sym c.self.view_is) c.requires.of in
-    let at : Touching k c.changes.result.now n slots c.touched-touched.result =
-    touching c.unions_have_each_once.ensures k c.changes.result.now n slots c.self.inside.index c.of-keys.result c.touched-touched.result
+    let at : Touching k c.changes.result.now n slots c.touched-later.result =
+    touching c.unions_have_each_once.ensures k c.changes.result.now n slots c.self.inside.index c.of-keys.result c.touched-later.result
     c.self.invariant.0 of.listed c.of-keys.ensures.touched
-    (c.touched-touched.ensures ∙ ap (map (λ (x : Key). above n (listed_under x c.self.inside.index))) c.keys.ensures.keys) in
-    ap (records_at (union c.touched-touched.result)) c.as_slice-slots.ensures.value ∙ at.there
+    (c.touched-later.ensures ∙ ap (map (λ (x : Key). above n (listed_under x c.self.inside.index))) c.keys.ensures.keys) in
+    ap (records_at (union c.touched-later.result)) c.as_slice-slots.ensures.value ∙ at.there
 
 -- the changes of the record of the number
-changes_are : (g : Over) (c : After-first_clash g) → c.in-Some.target.now.changes ≡ changes_of c.args.number (taken c.self.inside.slots.items)
+changes_are : (g : Over) (c : After-first_clash g) → c.in-Some.target.now.changes ≡ changes_of c.args.number
+    (taken c.self.inside.slots.items)
 changes_are g c =
     let slots = c.self.inside.slots.items in
     ap changes_in
@@ -125,5 +126,6 @@ returns-clause-work g c =
     ∙ (λ j. walked k cs (filter (touches k (same j)) (newer n (taken slots))) c.args.meter.now)
     ∙ ap (λ (xs : List Change). walked k xs (filter (touches k xs) (newer n (taken slots))) c.args.meter.now) (changes_are g c)
     ∙ ap
-    (λ (x : RecordsValue). walked k (changes_of n x.records) (filter (touches k (changes_of n x.records)) (newer n x.records)) c.args.meter.now)
+    (λ (x : RecordsValue). walked k (changes_of n x.records) (filter (touches k (changes_of n x.records))
+    (newer n x.records)) c.args.meter.now)
     c.self.view_is

@@ -80,7 +80,8 @@ of-listed-requires g c =
     let r : Record = c.take-gone.result in
     let of = subst (AreOf k) (sym c.self.view_is) c.requires.of in
     let at : At c.args.number slots r = at_slot c.args.number slots r c.self.invariant.0 c.take-gone.ensures.taken in
-    subst (λ (s : Survivor). IsKnownAction k s.command.action) (sym c.survivor.ensures) (command_known k (taken slots) r of.commands at.among)
+    subst (λ (s : Survivor). IsKnownAction k s.command.action) (sym c.survivor.ensures)
+    (command_known k (taken slots) r of.commands at.among)
 
 pub overflow_cast-number-2 : goal.overflow_cast-number-2
 overflow_cast-number-2 g c =
@@ -168,4 +169,5 @@ returns-clause-work g c =
     ∙ ap (λ (ns : List ℕ). looked (length ns) c.args.meter.now) at.numbers
     ∙ ap (λ (i : ℕ). looked i c.args.meter.now) (length-map (met k cs n slots) (λ (x : Record). x.number))
     ∙ ap (λ (xs : List Change). looked (length (filter (touches k xs) (newer n (taken slots)))) c.args.meter.now) changes
-    ∙ ap (λ (x : RecordsValue). looked (length (filter (touches k (changes_of n x.records)) (newer n x.records))) c.args.meter.now) c.self.view_is
+    ∙ ap (λ (x : RecordsValue). looked (length (filter (touches k (changes_of n x.records))
+    (newer n x.records))) c.args.meter.now) c.self.view_is
