@@ -57,8 +57,8 @@ questions_from k d (s ∷ ss) =
 abbrev pub later_questions : Facts → Split → ℕ
 later_questions k at = questions_from k (step k (run k at.older) at.survivor) at.newer
 
--- A cancellation with a target: each later record is looked at to find it, and once more to compare; where
--- none depends on it, its cells are written, and each later record is looked at to be mended.
+-- A cancellation with a target: at most each later record is looked at to find it, and once more to compare;
+-- where none depends on it, its cells are written, and at most each later record is looked at to be mended.
 abbrev pub IsDecidedSo : Facts → Split → Option ℕ → Counts → Counts → Type 0
 IsDecidedSo k at (Some n) old new = IsDecision 0 (2 * length at.newer + 1) (later_questions k at) old new
 IsDecidedSo k at None old new =

@@ -88,6 +88,7 @@ impl<A: Allocator + Copy> Records<A> {
             OnOk result (HasRoomFor keys self.new) }
         ensures full { let keys = keys_of_command (facts_of catalogue.now) command.now in
             OnErr result (HasRoomFor keys self.old → ⊥) }
+        ensures room { self.old.room ≤ self.new.room }
         ensures listed { (k : Facts) → AreListed k self.old → AreListed k self.new }
     {
         if self.slots.len() >= MOST_RECORDS {
@@ -106,6 +107,7 @@ impl<A: Allocator + Copy> Records<A> {
         requires listed { AreListed (facts_of catalogue.now) self.old }
         ensures records { self.new.records ≡ self.old.records ++ new ∷ [] }
         ensures last { self.new.last ≡ self.old.last + 1 }
+        ensures room { self.old.room ≤ self.new.room + 1 }
         ensures listed { AreListed (facts_of catalogue.now) self.new }
     {
         let survivor = new.survivor();
@@ -199,6 +201,7 @@ impl<A: Allocator + Copy> Records<A> {
             ++ shift_records (facts_of catalogue.now) (changes_of number self.old.records)
             (newer number self.old.records) }
         ensures last { self.new.last ≡ self.old.last }
+        ensures room { self.new.room ≡ self.old.room }
         ensures listed { AreListed (facts_of catalogue.now) self.new }
         ensures work { let k = facts_of catalogue.now in
             let changes = changes_of number self.old.records in

@@ -316,7 +316,7 @@ returns-clause-work g c =
       compared =
           c.in_default-first_clash.ensures.work
           ∙ ap (λ (x : Contents). walked (facts_of x) (changes_of i rs)
-              (filter (touches (facts_of x) (changes_of i rs)) (newer i rs)) c.newest.new.meter) same;
+          (filter (touches (facts_of x) (changes_of i rs)) (newer i rs)) c.newest.new.meter) same;
     } in
     let writes : c.undo.new.meter ≡ written (length a.aim.changes) c.first_clash.new.meter =
     c.in_ok-undo.ensures.counted
