@@ -1,6 +1,6 @@
 //! Plays rows at a hall, and says of each whether it went as it is to.
 //!
-//! Two seats at one journal, one of which comes too late for its hold; a closing from which a seat is missing;
+//! Two seats at one journal, of which one comes too late for its hold; a closing with a seat missing;
 //! seats that are handed in out of order; and two threads, a seat each, that hold and cancel 200 times. After
 //! each, every copy and every hold is compared with a fresh desk to which the survivors came.
 #![tactic(auto)]

@@ -33,8 +33,8 @@ impl Row {
     }
 }
 
-/// Plays a row at a hall of this journal, whose house is picked here, and gives the journal of the closed hall.
-/// None where something didn't go as it is to.
+/// Plays a row at a hall of this journal, whose house is picked here, and gives the journal of the closed
+/// hall. None where something didn't go as it is to.
 pub(crate) fn play_picked<R: Threads + Wait + Sync>(
     rt: &R,
     alloc: Global,
