@@ -1,4 +1,4 @@
-use Rattle.std.proofs.Common.{◌∙◌, ◌++◌, List, ℕ, ap, arith, subst, sym, take}
+use Rattle.std.proofs.Common.{◌∙◌, ◌++◌, List, ℕ, ap, arith, subst, sym}
 use Rattle.hd_server.specs.declared.fault.ServerFault.TheVariants.{Write}
 use Rattle.hd_server.specs.Inputs.{AreLines}
 use Rattle.hd_server.proofs.Reading.{filled, stop_of_line, stop_passed}
