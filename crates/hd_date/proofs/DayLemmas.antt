@@ -91,3 +91,8 @@ last_day =
     let next = days_from_civil-next_year (pos 9999) (pos 10000) (omega (arith, signed_arith)) refl in
     let counted = days_from_civil-day_count (pos 10000) 1 1 in
     omega (arith, signed_arith, next, counted, day_count-end, day_zero)
+
+-- 1970-01-01 is 719,528 days after 0000-01-01
+pub day_of_clocks : days_from_civil (pos 1970) 1 1 ≡ days_from_civil (pos 0) 1 1 +ℤ pos 719_528
+unfolding days_from_civil day_count days_of_years days_of_months
+day_of_clocks = refl

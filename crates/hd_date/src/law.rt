@@ -1,5 +1,6 @@
 //! Printing and reading.
 ghost use Rattle.std.specs.Prelude.{◌≡◌, ℕ, ◌-◌, List, ℤ};
+ghost use Rattle.hd_date.specs.Clock.{IsStampAt, first_day};
 ghost use Rattle.hd_date.specs.Days.{IsCalendarDay, end_of_days};
 ghost use Rattle.hd_date.specs.Faults.{IsFirstFault};
 ghost use Rattle.hd_date.specs.Stamps.{IsLocal, IsMoment, IsOwnPrint, IsStamp, Prints, Stamp};
@@ -33,4 +34,11 @@ pub fn texts_show_one_stamp()
         → IsFirstFault text offset g → f ≡ g }
     ensures no_fault { (text : List ℕ) (offset : ℤ) (s : Stamp) (fault : DateFault) → IsStamp text offset s
         → ¬ IsFirstFault text offset fault }
+{}
+
+/// Clocks begin on 1 January 1970. What a clock tells is one stamp at most, in each local time.
+pub fn clocks_tell_one_stamp()
+    ensures first { IsCalendarDay 1970 1 1 first_day }
+    ensures one { (told offset : ℤ) (s t : Stamp) → IsStampAt told offset s → IsStampAt told offset t
+        → s ≡ t }
 {}

@@ -2,6 +2,7 @@
 #![tactic(auto)]
 
 mod calendar;
+mod clock;
 mod day;
 mod digits;
 mod fault;
@@ -16,7 +17,9 @@ mod zone;
 
 pub use crate::day::Day;
 pub use crate::fault::DateFault;
-pub use crate::law::{days_are_dates, prints_show_their_stamp, texts_show_one_stamp};
+pub use crate::law::{
+    clocks_tell_one_stamp, days_are_dates, prints_show_their_stamp, texts_show_one_stamp,
+};
 pub use crate::offset::OffsetMinutes;
 pub use crate::reading::{local_text, read};
 pub use crate::stamp::Stamp18;

@@ -108,3 +108,34 @@ fn offsets_are_less_than_a_day(rt: HostRuntime) -> Result<(), Fail> {
     assert!(rt; OffsetMinutes::new(-1440).is_none());
     Ok(())
 }
+
+/// What is printed of the stamp of a moment, or nothing where it has none.
+fn printed_at(seconds: i64, offset: i16) -> Option<[u8; 18]> {
+    Some(Stamp18::at(seconds, OffsetMinutes::new(offset)?)?.print())
+}
+
+#[test]
+fn a_year_turns_at_local_midnight(rt: HostRuntime) {
+    assert!(rt; printed_at(0, 0) == Some(*b"19700101    000000"));
+    assert!(rt; printed_at(-1, 0) == Some(*b"19691231    235959"));
+    assert!(rt; printed_at(1_767_225_599, 0) == Some(*b"20251231    235959"));
+    assert!(rt; printed_at(1_767_225_600, 0) == Some(*b"20260101    000000"));
+    assert!(rt; printed_at(1_767_221_999, 60) == Some(*b"20251231    235959"));
+    assert!(rt; printed_at(1_767_222_000, 60) == Some(*b"20260101    000000"));
+    assert!(rt; printed_at(1_709_164_800, -1439) == Some(*b"20240228    000100"));
+}
+
+#[test]
+fn clocks_tell_the_years_0000_to_9999(rt: HostRuntime) {
+    assert!(rt; printed_at(-62_167_219_200, 0) == Some(*b"00000101    000000"));
+    assert!(rt; printed_at(-62_167_219_201, 0).is_none());
+    assert!(rt; printed_at(-62_167_219_260, 1) == Some(*b"00000101    000000"));
+    assert!(rt; printed_at(-62_167_219_200, -1).is_none());
+    assert!(rt; printed_at(253_402_300_799, 0) == Some(*b"99991231    235959"));
+    assert!(rt; printed_at(253_402_300_800, 0).is_none());
+    assert!(rt; printed_at(253_402_300_800, -1) == Some(*b"99991231    235900"));
+    assert!(rt; printed_at(253_402_300_799, 1).is_none());
+    assert!(rt; Stamp18::first().print() == *b"00000101    000000");
+    assert!(rt; printed_at(i64::MIN, 0).is_none());
+    assert!(rt; printed_at(i64::MAX, 0).is_none());
+}

@@ -1,0 +1,16 @@
+//! Terminals served over TCP, from one hall.
+#![tactic(auto)]
+
+mod accepting;
+mod clock;
+mod fault;
+mod options;
+mod places;
+mod serving;
+mod summary;
+mod worker;
+
+pub use crate::fault::ServeFault;
+pub use crate::options::Options;
+pub use crate::serving::serve;
+pub use crate::summary::Summary;

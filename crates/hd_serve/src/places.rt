@@ -1,0 +1,83 @@
+//! The seats of the connections, kept until the hall is closed.
+ghost use Rattle.std.specs.Prelude.{◌≡◌, [], IfOk};
+ghost use Rattle.hd_hall.specs.Seats.{EachSeat};
+
+use hd_hall::{House, Seat};
+use std::alloc::{AllocError, Global};
+
+/// A seat with its part of the ledger.
+#[derive(Drop)]
+pub(crate) struct Held<H: House> {
+    seat: Seat<H>,
+    ghost part: { seat.parts ≡ 1 },
+}
+
+impl<H: House> Held<H> {
+    /// A seat that has its part.
+    pub(crate) fn new(seat: Seat<H>) -> Held<H>
+        requires { seat.parts ≡ 1 }
+    {
+        Held { seat }
+    }
+}
+
+/// A place for each seat that may have been opened, by the seats' numbers from 1, and room for a list of them.
+#[derive(Drop)]
+pub(crate) struct Places<H: House> {
+    places: Vec<Option<Held<H>>>,
+    seats: Vec<Seat<H>>,
+    ghost empty: { seats.items ≡ [] },
+}
+
+impl<H: House> Places<H> {
+    /// No places.
+    pub(crate) fn new(alloc: Global) -> Places<H> {
+        Places {
+            places: Vec::new(alloc),
+            seats: Vec::new(alloc),
+        }
+    }
+
+    /// Makes room to keep one seat more.
+    ///
+    /// An error is want of memory.
+    pub(crate) fn add(&mut self) -> Result<(), AllocError> {
+        let count = self.places.len().saturating_add(1);
+        self.seats.reserve(count)?;
+        self.places.push(None)?;
+        Ok(())
+    }
+
+    /// Keeps a seat in its place. There is one, since room is made before each seat is opened.
+    pub(crate) fn keep(&mut self, held: Held<H>) {
+        let number = held.seat.number().number() as usize;
+        if let Some(place) = self.places.get_mut(number.saturating_sub(1)) {
+            *place = Some(held);
+        }
+    }
+
+    /// The seats, in the order of their numbers.
+    ///
+    /// An error is want of memory, where room wasn't made.
+    pub(crate) fn into_seats(self) -> Result<Vec<Seat<H>>, AllocError>
+        ensures { IfOk result (λ seats. EachSeat seats.items (λ s. s.parts ≡ 1)) }
+    {
+        let Places { places, mut seats } = self;
+        for place in places {
+            if let Some(held) = place {
+                add_seat(&mut seats, held)?;
+            }
+        }
+        Ok(seats)
+    }
+}
+
+/// Adds a seat to a list.
+fn add_seat<H: House>(seats: &mut Vec<Seat<H>>, held: Held<H>) -> Result<(), AllocError>
+    requires { EachSeat seats.old.items (λ s. s.parts ≡ 1) }
+    ensures { EachSeat seats.new.items (λ s. s.parts ≡ 1) }
+{
+    let Held { seat } = held;
+    seats.push(seat)?;
+    Ok(())
+}

@@ -1,0 +1,114 @@
+//! Serving terminals over TCP.
+ghost use Rattle.std.specs.Prelude.{◌≡◌, ◌≤◌, [], IfOk};
+ghost use Rattle.hd_serve.specs.Summaries.{IsSummary};
+
+use crate::accepting::{Arrived, accept};
+use crate::fault::ServeFault;
+use crate::options::Options;
+use crate::places::Places;
+use crate::summary::{Summary, summary_of};
+use crate::worker::Service;
+use crossbeam_channel::{Sender, bounded};
+use hd_attend::Gate;
+use hd_hall::{Hall, House};
+use hd_journal::Journal;
+use std::alloc::Global;
+use std::marker::Brand;
+use std::net::TcpListener;
+use std::sync::ledger::Blank;
+use std::sync::{Mutex, Wait};
+use std::thread;
+use std::thread::Threads;
+use std::time::Clock;
+
+/// Serves terminals over TCP, each connection as a session at a seat of its own in one hall round the journal,
+/// until so many connections have been served; then the hall is closed.
+///
+/// The workers are threads, started before the first connection is accepted. Where not all can be had, those
+/// that can do the work. Each serves one connection at a time, whose replies are sent at once. The gate is
+/// called before each turn, outside the hall's lock, with the numbers of the session and of its turn, both
+/// from 1. The present is what the clock tells, in the local time of the catalogue, and `00000101    000000`
+/// where it can't be read or its year lies outside 0000 to 9999.
+///
+/// A connection makes room to keep its seat, and has a session and, last, a seat opened. Where one can't be
+/// had it is closed without a reply. A read or a write that fails ends that connection alone, as one does that
+/// waits longer than the idle time; the turns that it has made stay.
+///
+/// # Errors
+/// `CannotListen` where a connection can't be accepted: those that run are served to their end, and the hall is
+/// closed. `NotClosed` where the hall doesn't close. `Memory` for want of memory at the start, or where no
+/// thread can be had.
+pub fn serve<R: Threads + Wait + Clock + Sync, G: Gate>(
+    rt: &R,
+    alloc: Global,
+    listener: TcpListener,
+    journal: Journal,
+    options: &Options,
+    gate: &G,
+) -> Result<Summary, ServeFault>
+    requires turns { journal.turns ≡ [] }
+    requires workers { (1 ≤ options.now.workers) × (options.now.workers ≤ 64) }
+    ensures { IfOk result (IsSummary journal.contents) }
+{
+    let blank = Blank::new(4_294_967_296);
+    serve_in::<Brand, R, G>(rt, alloc, &listener, journal, blank, options, gate)
+}
+
+/// The same in a hall of a house.
+fn serve_in<H: House + Send + Sync, R: Threads + Wait + Clock + Sync, G: Gate>(
+    rt: &R,
+    alloc: Global,
+    listener: &TcpListener,
+    journal: Journal,
+    blank: Blank,
+    options: &Options,
+    gate: &G,
+) -> Result<Summary, ServeFault>
+    requires turns { journal.turns ≡ [] }
+    requires contents { journal.contents ≡ H.contents }
+    requires name { blank.name ≡ H.name }
+    requires parts { (blank.parts ≡ H.parts) × (H.parts ≡ 4294967296) }
+    ensures { IfOk result (IsSummary journal.contents) }
+{
+    let hall = Hall::<H>::new(alloc, journal, blank)?;
+    let places = Mutex::new(Places::new(alloc));
+    let (to, from) = bounded(alloc, options.workers as usize)?;
+    let service = Service {
+        rt,
+        alloc,
+        hall: &hall,
+        places: &places,
+        from: &from,
+        gate,
+        idle: options.idle,
+    };
+    let served = serve_by(&service, listener, to, options);
+    let seats = places.into_inner().into_seats()?;
+    let Ok(journal) = hall.close(seats) else {
+        return Err(ServeFault::NotClosed);
+    };
+    served?;
+    Ok(summary_of(&journal))
+}
+
+/// Starts the workers, hands them the connections, and returns when all are served.
+fn serve_by<H: House + Send + Sync, R: Threads + Wait + Clock + Sync, G: Gate>(
+    service: &Service<'_, H, R, G>,
+    listener: &TcpListener,
+    to: Sender<Arrived>,
+    options: &Options,
+) -> Result<(), ServeFault> {
+    thread::scope(thread::scope_env(), service.rt, |scope| {
+        let mut has_worker = false;
+        for _ in 0..options.workers {
+            if scope.spawn(|| service.work()).is_err() {
+                break;
+            }
+            has_worker = true;
+        }
+        if !has_worker {
+            return Err(ServeFault::Memory);
+        }
+        accept(service.rt, listener, to, options.connections)
+    })
+}

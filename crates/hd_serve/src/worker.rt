@@ -1,0 +1,94 @@
+//! Serving one connection after another.
+ghost use Rattle.std.specs.Prelude.{◌≡◌};
+ghost use Rattle.hd_session.specs.Sessions.{new_session};
+
+use crate::accepting::Arrived;
+use crate::clock::present;
+use crate::places::{Held, Places};
+use crossbeam_channel::Receiver;
+use hd_attend::{Gate, attend};
+use hd_hall::{Hall, House, Seat};
+use hd_session::Session;
+use std::alloc::Global;
+use std::io;
+use std::net::TcpStream;
+use std::sync::{Mutex, Wait};
+use std::time::{Clock, Duration};
+
+/// What the workers of a server share.
+#[derive(Drop)]
+pub(crate) struct Service<'a, H: House, R, G: Gate> {
+    pub(crate) rt: &'a R,
+    pub(crate) alloc: Global,
+    pub(crate) hall: &'a Hall<H>,
+    pub(crate) places: &'a Mutex<Places<H>>,
+    pub(crate) from: &'a Receiver<Arrived>,
+    pub(crate) gate: &'a G,
+    /// For how many seconds a connection may be idle; with 0 for ever.
+    pub(crate) idle: u32,
+}
+
+impl<'a, H: House, R: Wait + Clock, G: Gate> Service<'a, H, R, G> {
+    /// Serves connections, until no more can come.
+    pub(crate) fn work(&self) {
+        for _ in self.rt.forever() {
+            match self.from.recv(self.rt) {
+                Ok(arrived) => self.welcome(&arrived),
+                Err(_) => return,
+            }
+        }
+    }
+
+    /// Serves a connection to its end, and keeps its seat. Where its options can't be set, or there is no room
+    /// to keep a seat, no session or no seat, nothing is read and nothing written.
+    fn welcome(&self, arrived: &Arrived) {
+        if prepare(&arrived.stream, self.idle).is_err()
+            || self.places.lock(self.rt).add().is_err()
+        {
+            return;
+        }
+        let Ok(state) = Session::new(self.alloc) else {
+            return;
+        };
+        let Some(seat) = self.hall.seat(self.rt) else {
+            return;
+        };
+        let held = self.attended(arrived, state, seat);
+        self.places.lock(self.rt).keep(held);
+    }
+
+    /// The seat, when the connection has ended. Why it ended makes no difference to the others.
+    fn attended(&self, arrived: &Arrived, mut state: Session, mut seat: Seat<H>) -> Held<H>
+        requires seat { seat.parts ≡ 1 }
+        requires state { state ≡ new_session }
+    {
+        let offset = self.hall.catalogue().offset();
+        let now = || present(self.rt, offset);
+        let mut reader = &arrived.stream;
+        let mut writer = &arrived.stream;
+        let _ = attend(
+            self.rt,
+            self.alloc,
+            &mut reader,
+            &mut writer,
+            self.hall,
+            &mut seat,
+            &mut state,
+            arrived.session,
+            &now,
+            self.gate,
+        );
+        Held::new(seat)
+    }
+}
+
+/// Has small replies sent at once, and reads and writes fail that wait longer than so many seconds.
+fn prepare(stream: &TcpStream, idle: u32) -> io::Result<()> {
+    stream.set_nodelay(true)?;
+    if idle > 0 {
+        let limit = Some(Duration::from_secs(u64::from(idle)));
+        stream.set_read_timeout(limit)?;
+        stream.set_write_timeout(limit)?;
+    }
+    Ok(())
+}
