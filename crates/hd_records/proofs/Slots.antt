@@ -1,5 +1,5 @@
 -- Slots, and the records in them.
-use Rattle.std.proofs.Common.{arith, ◌≡◌, refl, sym, ◌∙◌, ap, subst, ℕ, zero, suc, ◌+◌, ◌<◌, ◌≤◌}
+use Rattle.std.proofs.Common.{arith, ◌≡◌, refl, sym, ap, subst, ℕ, zero, suc, ◌+◌, ◌<◌, ◌≤◌}
 use Rattle.std.proofs.Common.{List, [], ◌∷◌, ◌++◌, length, take, drop, get_or, Option, None, Some}
 use Rattle.std.specs.Option.{IsSome}
 use Rattle.std.proofs.lemmas.Bool.{false≢true}
@@ -107,26 +107,13 @@ numbered_more b n (None ∷ xs) r is number numbered = numbered_more (suc b) n x
 numbered_more b n (Some x ∷ xs) r is number numbered =
     (numbered.0, numbered_more (suc b) n xs r (omega (arith, is)) number numbered.1)
 
--- a number's record stands behind as many slots as there are smaller numbers
-pub record Stands (n : ℕ) (slots : List (Option Record)) (r : Record) : Type 0 where
-  pub place : ℕ
-  pub is : n ≡ suc place
-  pub within : place < length slots
-  pub there : get_or slots place None ≡ Some r
-
+-- a slot with a record is one of the slots
 pub within_of : (slots : List (Option Record)) (m : ℕ) (r : Record) → get_or slots m None ≡ Some r → m < length slots
 within_of [] m r is = absurd (none_some r is)
 within_of (x ∷ xs) zero r is = omega arith
 within_of (x ∷ xs) (suc m) r is = (let rest : m < length xs = within_of xs m r is in omega (arith, rest))
 
-pub stands : (n : ℕ) (slots : List (Option Record)) (r : Record) → AreNumbered 0 slots → record_of n (taken slots) ≡ Some r
-    → Stands n slots r
-stands zero slots r numbered is = absurd (none_some r (sym (none_of_zero slots numbered) ∙ is))
-stands (suc m) slots r numbered is =
-    let there : get_or slots m None ≡ Some r = sym (record_is (suc m) 0 m slots (omega arith) numbered) ∙ is in
-    record { place = m; is = refl; within = within_of slots m r there; there = there }
-
--- one found, the number's slot has it; and its place
+-- what was found
 pub some_of : (o : Option Record) → IsSome o → (r : Record) × (o ≡ Some r)
 some_of None is = absurd (false≢true is)
 some_of (Some r) is = (r, refl)
@@ -136,11 +123,6 @@ pub read_at : (slots : List (Option Record)) (m : ℕ) (o : Option Record) → m
 read_at [] m o below is = absurd (omega (arith, below))
 read_at (x ∷ xs) zero o below is = sym is
 read_at (x ∷ xs) (suc m) o below is = read_at xs m o (omega (arith, below)) is
-
-none_past : (slots : List (Option Record)) (m : ℕ) → length slots ≤ m → get_or slots m None ≡ None
-none_past [] m le = refl
-none_past (x ∷ xs) zero le = absurd (omega (arith, le))
-none_past (x ∷ xs) (suc m) le = none_past xs m (omega (arith, le))
 
 -- the record of a number stands in its slot
 pub record_there : (n : ℕ) (slots : List (Option Record)) → AreNumbered 0 slots → record_of n (taken slots) ≡ slot_of n slots
