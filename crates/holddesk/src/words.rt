@@ -1,37 +1,29 @@
 //! The words of the command line.
-use clap::{Arg, ArgAction, Command, Error};
-use std::alloc::Global;
 
-const ABOUT: &str = "A hold desk for the self-service terminals of a library, over SIP2 2.00";
+use crate::texts::{
+    ABOUT, REPLAY, REPLAY_ABOUT, REPLAY_EXAMPLE, SERVE, SERVE_ABOUT, SERVE_EXAMPLE,
+};
+use clap::{Arg, ArgAction, ArgMatches, Command, Error, value_parser};
+use std::alloc::{AllocError, Global};
 
-const REPLAY_ABOUT: &str = "Answers messages from standard input as the server would";
+/// What the program is asked to do.
+#[derive(Clone, Copy)]
+pub(crate) enum Order<'a> {
+    /// To answer the messages of its input.
+    Replay(Replay<'a>),
+    /// To serve terminals.
+    Serve(Serve<'a>),
+}
 
-const REPLAY: &str = "Answers messages from standard input as the server would
-
-Each line of the input is `<session> <message>`: the number of a session, 1 to 64, one blank, and a SIP2
-message without its carriage return. Each reply is printed as `<session> <reply>`. A session whose message
-is longer than 1,024 bytes ends, and is answered `<session> ENDED` from then on.
-
-A session logs in first, by a message 93 with a terminal's name (CN) and password (CO) of the catalogue; it
-may log in again as another. Then it may check out (11), check in (09), renew (29), add, delete and change
-holds (15), and ask for an item (17); status (99) and resend (97) need no login. A message with BIY| cancels
-what this terminal did by the opposite one: 09 a checkout, 11 a checkin, 15 with - an added hold and with +
-a deleted one, 29 a renewal, and 15 with * a change.";
-
-const EXAMPLE: &str = "Example: a hold, and its cancellation
-
-  $ holddesk replay --catalogue demonstration.catalogue --now '20260301    120000' <<'END'
-  1 9300CNt1|COpw|
-  1 15+20260301    100000BSnorth|BY2|AOlib|AAp1|AJta|
-  1 15-20260301    100000AOlib|AAp1|AJta|BIY|
-  END
-  1 941
-  1 161Y20260301    100000BR1|BSnorth|AOlib|AAp1|AJta|
-  1 161N20260301    100000AOlib|AAp1|AJta|AFCANCELLED 1|
-
-Exit status: 0 well; 1 a fault, printed as one line (`catalogue line N: CAUSE`, `cannot read the catalogue`,
-`bad --now`, `input line N: no session`, `input too long`, `cannot read`, `cannot write`, `no memory`); 2
-the command line was refused.";
+impl<'a> Order<'a> {
+    /// The path of the catalogue file.
+    pub(crate) fn catalogue(&self) -> &'a str {
+        match self {
+            Order::Replay(order) => order.catalogue,
+            Order::Serve(order) => order.catalogue,
+        }
+    }
+}
 
 /// What `replay` is asked to do.
 #[derive(Clone, Copy)]
@@ -42,39 +34,121 @@ pub(crate) struct Replay<'a> {
     pub(crate) now: &'a str,
 }
 
-/// Reads the words of the command line, of which `replay` is the one command as yet.
+/// What `serve` is asked to do.
+#[derive(Clone, Copy)]
+pub(crate) struct Serve<'a> {
+    /// The path of the catalogue file.
+    pub(crate) catalogue: &'a str,
+    /// The address and port to listen at.
+    pub(crate) listen: &'a str,
+    /// How many connections are served at once.
+    pub(crate) workers: u32,
+    /// After how many connections the hall is closed; 0: never.
+    pub(crate) connections: u32,
+    /// After how many idle seconds a connection is dropped; 0: never.
+    pub(crate) idle: u32,
+}
+
+/// Reads the words of the command line.
 ///
 /// An error is a mistake in the words, or the text of a help that was asked for.
-pub(crate) fn parse<'a>(alloc: Global, words: &'a [String]) -> Result<Replay<'a>, Error> {
-    let catalogue = Arg::new(alloc, "catalogue")
-        .long("catalogue")
-        .value_name("FILE")
-        .help("The file of the library's branches, terminals, patrons, titles and copies")
-        .required(true)
-        .action(ArgAction::Set);
+pub(crate) fn parse<'a>(alloc: Global, words: &'a [String]) -> Result<Order<'a>, Error> {
+    let command = Command::new(alloc, "holddesk")
+        .about(ABOUT)
+        .subcommand_required(true)
+        .arg_required_else_help(true)
+        .subcommand(replay_command(alloc)?)?
+        .subcommand(serve_command(alloc)?)?;
+    let matches = command.try_get_matches_from(words)?;
+    Ok(match matches.subcommand_matches("serve") {
+        Some(found) => Order::Serve(serve_of(found)),
+        None => Order::Replay(replay_of(matches.subcommand_matches("replay"))),
+    })
+}
+
+/// The words of `replay`.
+fn replay_command<'a>(alloc: Global) -> Result<Command<'a>, AllocError> {
     let now = Arg::new(alloc, "now")
         .long("now")
         .value_name("DATE")
         .help("The present: 18 bytes, YYYYMMDD, four blanks (or three and Z), HHMMSS")
         .required(true)
         .action(ArgAction::Set);
-    let replay = Command::new(alloc, "replay")
+    Command::new(alloc, "replay")
         .about(REPLAY_ABOUT)
         .long_about(REPLAY)
-        .after_help(EXAMPLE)
-        .arg(catalogue)?
-        .arg(now)?;
-    let command = Command::new(alloc, "holddesk")
-        .about(ABOUT)
-        .subcommand_required(true)
-        .arg_required_else_help(true)
-        .subcommand(replay)?;
-    let matches = command.try_get_matches_from(words)?;
-    let replay = matches.subcommand_matches("replay");
-    Ok(Replay {
-        catalogue: replay
+        .after_help(REPLAY_EXAMPLE)
+        .arg(catalogue(alloc))?
+        .arg(now)
+}
+
+/// The words of `serve`.
+fn serve_command<'a>(alloc: Global) -> Result<Command<'a>, AllocError> {
+    let listen = Arg::new(alloc, "listen")
+        .long("listen")
+        .value_name("ADDRESS")
+        .help("The IP address and port to listen at, as 127.0.0.1:6001; names are not looked up")
+        .required(true)
+        .action(ArgAction::Set);
+    let workers = Arg::new(alloc, "workers")
+        .long("workers")
+        .value_name("N")
+        .help("How many connections are served at once, 1 to 64")
+        .required(true)
+        .action(ArgAction::Set)
+        .value_parser(value_parser!(u32).range(1..65));
+    let connections = Arg::new(alloc, "connections")
+        .long("connections")
+        .value_name("K")
+        .help("After how many connections to end; 0: never")
+        .action(ArgAction::Set)
+        .value_parser(value_parser!(u32))
+        .default_value("0");
+    let idle = Arg::new(alloc, "idle")
+        .long("idle")
+        .value_name("SECONDS")
+        .help("How long a connection may be silent before it is dropped, up to 86400; 0: for ever")
+        .action(ArgAction::Set)
+        .value_parser(value_parser!(u32).range(0..86_401))
+        .default_value("600");
+    Command::new(alloc, "serve")
+        .about(SERVE_ABOUT)
+        .long_about(SERVE)
+        .after_help(SERVE_EXAMPLE)
+        .arg(catalogue(alloc))?
+        .arg(listen)?
+        .arg(workers)?
+        .arg(connections)?
+        .arg(idle)
+}
+
+/// The option of the catalogue file.
+fn catalogue<'a>(alloc: Global) -> Arg<'a> {
+    Arg::new(alloc, "catalogue")
+        .long("catalogue")
+        .value_name("FILE")
+        .help("The file of the library's branches, terminals, patrons, titles and copies")
+        .required(true)
+        .action(ArgAction::Set)
+}
+
+/// What `replay` is asked to do by what was found.
+fn replay_of<'a>(found: Option<&ArgMatches<'a>>) -> Replay<'a> {
+    Replay {
+        catalogue: found
             .and_then(|found| found.get_str("catalogue"))
             .unwrap_or(""),
-        now: replay.and_then(|found| found.get_str("now")).unwrap_or(""),
-    })
+        now: found.and_then(|found| found.get_str("now")).unwrap_or(""),
+    }
+}
+
+/// What `serve` is asked to do by what was found.
+fn serve_of<'a>(found: &ArgMatches<'a>) -> Serve<'a> {
+    Serve {
+        catalogue: found.get_str("catalogue").unwrap_or(""),
+        listen: found.get_str("listen").unwrap_or(""),
+        workers: found.get_one::<u32>("workers").unwrap_or(1),
+        connections: found.get_one::<u32>("connections").unwrap_or(0),
+        idle: found.get_one::<u32>("idle").unwrap_or(600),
+    }
 }

@@ -1,0 +1,57 @@
+//! Why the program stops.
+
+use hd_catalogue::CatFault;
+use hd_serve::ServeFault;
+use hd_server::ServerFault;
+use std::alloc::{AllocError, AllocFailed};
+use thiserror::Error;
+
+/// Why the program stops before its end, printed as one line on standard error.
+#[derive(Clone, Copy, Debug, PartialEq, Eq, Error)]
+pub(crate) enum Fault {
+    /// The catalogue file can't be read.
+    #[error("cannot read the catalogue")]
+    CannotReadCatalogue,
+    /// The catalogue file is refused.
+    #[error("catalogue {0}")]
+    Catalogue(CatFault),
+    /// Want of memory before the first connection.
+    #[error("no memory")]
+    Memory,
+    /// A replay stopped.
+    #[error("{0}")]
+    Replay(ServerFault),
+    /// A server stopped.
+    #[error("{0}")]
+    Serve(ServeFault),
+}
+
+impl From<CatFault> for Fault {
+    fn from(fault: CatFault) -> Fault {
+        Fault::Catalogue(fault)
+    }
+}
+
+impl From<ServerFault> for Fault {
+    fn from(fault: ServerFault) -> Fault {
+        Fault::Replay(fault)
+    }
+}
+
+impl From<ServeFault> for Fault {
+    fn from(fault: ServeFault) -> Fault {
+        Fault::Serve(fault)
+    }
+}
+
+impl From<AllocError> for Fault {
+    fn from(_: AllocError) -> Fault {
+        Fault::Memory
+    }
+}
+
+impl<T: Drop> From<AllocFailed<T>> for Fault {
+    fn from(_: AllocFailed<T>) -> Fault {
+        Fault::Memory
+    }
+}

@@ -1,0 +1,64 @@
+//! What the help of the command line says.
+
+/// What the program is.
+pub(crate) const ABOUT: &str =
+    "A hold desk for the self-service terminals of a library, over SIP2 2.00";
+
+/// What `replay` does, in a line.
+pub(crate) const REPLAY_ABOUT: &str = "Answers messages from standard input as the server would";
+
+/// What `replay` does.
+pub(crate) const REPLAY: &str = "Answers messages from standard input as the server would
+
+Each line of the input is `<session> <message>`: the number of a session, 1 to 64, one blank, and a SIP2
+message without its carriage return. Each reply is printed as `<session> <reply>`. A session whose message
+is longer than 1,024 bytes ends, and is answered `<session> ENDED` from then on.
+
+A session logs in first, by a message 93 with a terminal's name (CN) and password (CO) of the catalogue; it
+may log in again as another. Then it may check out (11), check in (09), renew (29), add, delete and change
+holds (15), and ask for an item (17); status (99) and resend (97) need no login. A message with BIY| cancels
+what this terminal did by the opposite one: 09 a checkout, 11 a checkin, 15 with - an added hold and with +
+a deleted one, 29 a renewal, and 15 with * a change.";
+
+/// An example of `replay`, and its exit statuses.
+pub(crate) const REPLAY_EXAMPLE: &str = "Example: a hold, and its cancellation
+
+  $ holddesk replay --catalogue demonstration.catalogue --now '20260301    120000' <<'END'
+  1 9300CNt1|COpw|
+  1 15+20260301    100000BSnorth|BY2|AOlib|AAp1|AJta|
+  1 15-20260301    100000AOlib|AAp1|AJta|BIY|
+  END
+  1 941
+  1 161Y20260301    100000BR1|BSnorth|AOlib|AAp1|AJta|
+  1 161N20260301    100000AOlib|AAp1|AJta|AFCANCELLED 1|
+
+Exit status: 0 well; 1 a fault, printed as one line (`catalogue line N: CAUSE`, `cannot read the catalogue`,
+`bad --now`, `input line N: no session`, `input too long`, `cannot read`, `cannot write`, `no memory`); 2
+the command line was refused.";
+
+/// What `serve` does, in a line.
+pub(crate) const SERVE_ABOUT: &str = "Serves terminals that connect over TCP";
+
+/// What `serve` does.
+pub(crate) const SERVE: &str = "Serves terminals that connect over TCP
+
+Each connection is a session: SIP2 messages, each ended by a carriage return, are answered in order. All
+connections share one desk. `holddesk replay --help` says what a session may ask.
+
+When the port is bound, a line on standard error says so, with the port that the system gave where 0 was
+asked for. The desk is kept in memory, and a stop loses it: the next start begins with the catalogue.";
+
+/// An example of `serve`, and its exit statuses.
+pub(crate) const SERVE_EXAMPLE: &str =
+    "Example: one connection, whose messages printf makes and nc sends
+
+  $ holddesk serve --catalogue demonstration.catalogue --listen 127.0.0.1:6001 --workers 4 --connections 1 &
+  listening on 127.0.0.1:6001, 4 workers
+  the catalogue has 2 branches, 2 terminals, 3 patrons, 2 titles, 5 copies
+  $ printf '9300CNt1|COpw|\\r1720260301    100000AOlib|ABa1|\\r' | nc -N 127.0.0.1 6001 | tr '\\r' '\\n'
+  941
+  1803000120260301    100000CF0|ABa1|AJta|AQnorth|APnorth|
+  closed: 1 turns, 0 survivors
+
+Exit status: 0 well; 1 a fault, printed as one line (`catalogue line N: CAUSE`, `cannot read the catalogue`,
+`cannot listen`, `not closed`, `no memory`); 2 the command line was refused.";
