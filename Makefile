@@ -1,5 +1,5 @@
 # The commands of the README. All need the Rattle kit's command rt on the path.
-.PHONY: try run test
+.PHONY: try run day test
 
 STORED = replay --catalogue data/demonstration.catalogue --now '20260301    120000' < stdin
 
@@ -13,6 +13,10 @@ try:
 run:
 	@echo 'make run: proves the crates that changed, builds holddesk, and answers the stored messages.' >&2
 	@cd crates/holddesk && rt run -- $(STORED)
+
+# A stored day through four connections of holddesk serve, as make run has built it; its replies are compared.
+day:
+	@python3 scripts/play_day.py
 
 # The gate: every proof from nothing, the wrong bodies that must be refused, the tests and the stored runs.
 test:
