@@ -88,7 +88,11 @@ impl Terminals {
 
     /// How many commands survive.
     pub(crate) fn survivors(&self) -> usize {
-        self.journal.survivors().count()
+        let mut count = 0_usize;
+        for _ in self.journal.survivors() {
+            count = count.saturating_add(1);
+        }
+        count
     }
 
     /// The last number that was given to a command.

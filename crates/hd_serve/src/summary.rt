@@ -16,6 +16,7 @@ pub struct Summary {
 pub(crate) fn summary_of(journal: &Journal) -> Summary
     ensures { IsSummary journal.now.contents result }
 {
+    prove!(journal.last() <= u64::MAX);
     Summary {
         turns: journal.front(),
         survivors: journal.survivors().count(),
