@@ -37,7 +37,7 @@ pub(crate) fn two_seats<H: House, R: Wait>(rt: &R, alloc: Global, hall: Hall<H>)
     seats.push(two).ok()?;
     let journal = hall.close(seats).ok()?;
     when(
-        told && journal.front() == 2 && journal.survivors().count() == 1,
+        told && journal.front() == 2 && has_one_survivor(&journal),
         journal,
     )
 }
@@ -127,4 +127,10 @@ fn is_held_already(reply: &TurnReply) -> bool {
         TurnReply::Refused(Refusal::HoldExists) => true,
         _ => false,
     }
+}
+
+/// Whether just one command survives.
+fn has_one_survivor(journal: &Journal) -> bool {
+    let mut survivors = journal.survivors();
+    survivors.next().is_some() && survivors.next().is_none()
 }

@@ -16,7 +16,7 @@ returns-in_err-sessions g c =
 pub returns : goal.returns
 returns g c =
     let contents = ap (λ (b : Book). b.contents) c.new-journal.ensures.new ∙
-      (c.in_ok-desk.ensures.contents ∙ c.in_ok-catalogue.ensures.ok) in
+    (c.in_ok-desk.ensures.contents ∙ c.in_ok-catalogue.ensures.ok) in
     let first : c.in_ok-sessions.sessions ≡ opening c.args.catalogue c.args.now =
     c.in_ok-sessions.ensures.new ∙ ap (λ (k : Contents). opening k c.args.now) contents in
     inr (record {
