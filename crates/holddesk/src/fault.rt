@@ -4,6 +4,7 @@ use hd_catalogue::CatFault;
 use hd_serve::ServeFault;
 use hd_server::ServerFault;
 use std::alloc::{AllocError, AllocFailed};
+use std::io;
 use thiserror::Error;
 
 /// Why the program stops before its end, printed as one line on standard error.
@@ -15,7 +16,10 @@ pub(crate) enum Fault {
     /// The catalogue file is refused.
     #[error("catalogue {0}")]
     Catalogue(CatFault),
-    /// Want of memory before the first connection.
+    /// What the program tells can't be written.
+    #[error("cannot write")]
+    CannotWrite,
+    /// Want of memory before the first connection, or for what `check` tells.
     #[error("no memory")]
     Memory,
     /// A replay stopped.
@@ -53,5 +57,11 @@ impl From<AllocError> for Fault {
 impl<T: Drop> From<AllocFailed<T>> for Fault {
     fn from(_: AllocFailed<T>) -> Fault {
         Fault::Memory
+    }
+}
+
+impl From<io::Error> for Fault {
+    fn from(_: io::Error) -> Fault {
+        Fault::CannotWrite
     }
 }

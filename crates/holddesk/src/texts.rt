@@ -4,6 +4,37 @@
 pub(crate) const ABOUT: &str =
     "A hold desk for the self-service terminals of a library, over SIP2 2.00";
 
+/// Which version of the program it is.
+pub(crate) const VERSION: &str = "0.1.0";
+
+/// What `check` does, in a line.
+pub(crate) const CHECK_ABOUT: &str = "Tells what a catalogue file says, or its first fault";
+
+/// What `check` does.
+pub(crate) const CHECK: &str = "Tells what a catalogue file says, or its first fault
+
+The file is read as `serve` and `replay` read it. What it says is told in ten lines: its version, the
+institution, the offset of local time, how many commands the desk may take in all, and how many branches,
+terminals, patrons, titles, titles with local priority and copies there are.";
+
+/// An example of `check`, and its exit statuses.
+pub(crate) const CHECK_EXAMPLE: &str = "Example:
+
+  $ holddesk check --catalogue demonstration.catalogue
+  version: 1
+  institution: lib
+  offset: 60 minutes
+  command limit: 100
+  branches: 2
+  terminals: 2
+  patrons: 3
+  titles: 2
+  titles with local priority: 0
+  copies: 5
+
+Exit status: 0 well; 1 a fault, printed as one line (`catalogue line N: CAUSE`, `cannot read the catalogue`,
+`cannot write`, `no memory`); 2 the command line was refused.";
+
 /// What `replay` does, in a line.
 pub(crate) const REPLAY_ABOUT: &str = "Answers messages from standard input as the server would";
 

@@ -1,7 +1,8 @@
 //! The words of the command line.
 
 use crate::texts::{
-    ABOUT, REPLAY, REPLAY_ABOUT, REPLAY_EXAMPLE, SERVE, SERVE_ABOUT, SERVE_EXAMPLE,
+    ABOUT, CHECK, CHECK_ABOUT, CHECK_EXAMPLE, REPLAY, REPLAY_ABOUT, REPLAY_EXAMPLE, SERVE,
+    SERVE_ABOUT, SERVE_EXAMPLE, VERSION,
 };
 use clap::{Arg, ArgAction, ArgMatches, Command, Error, value_parser};
 use std::alloc::{AllocError, Global};
@@ -9,20 +10,19 @@ use std::alloc::{AllocError, Global};
 /// What the program is asked to do.
 #[derive(Clone, Copy)]
 pub(crate) enum Order<'a> {
+    /// To tell what a catalogue file says.
+    Check(Check<'a>),
     /// To answer the messages of its input.
     Replay(Replay<'a>),
     /// To serve terminals.
     Serve(Serve<'a>),
 }
 
-impl<'a> Order<'a> {
+/// What `check` is asked to do.
+#[derive(Clone, Copy)]
+pub(crate) struct Check<'a> {
     /// The path of the catalogue file.
-    pub(crate) fn catalogue(&self) -> &'a str {
-        match self {
-            Order::Replay(order) => order.catalogue,
-            Order::Serve(order) => order.catalogue,
-        }
-    }
+    pub(crate) catalogue: &'a str,
 }
 
 /// What `replay` is asked to do.
@@ -55,15 +55,29 @@ pub(crate) struct Serve<'a> {
 pub(crate) fn parse<'a>(alloc: Global, words: &'a [String]) -> Result<Order<'a>, Error> {
     let command = Command::new(alloc, "holddesk")
         .about(ABOUT)
+        .version(VERSION)
         .subcommand_required(true)
         .arg_required_else_help(true)
+        .subcommand(check_command(alloc)?)?
         .subcommand(replay_command(alloc)?)?
         .subcommand(serve_command(alloc)?)?;
     let matches = command.try_get_matches_from(words)?;
+    if let Some(found) = matches.subcommand_matches("check") {
+        return Ok(Order::Check(check_of(found)));
+    }
     Ok(match matches.subcommand_matches("serve") {
         Some(found) => Order::Serve(serve_of(found)),
         None => Order::Replay(replay_of(matches.subcommand_matches("replay"))),
     })
+}
+
+/// The words of `check`.
+fn check_command<'a>(alloc: Global) -> Result<Command<'a>, AllocError> {
+    Command::new(alloc, "check")
+        .about(CHECK_ABOUT)
+        .long_about(CHECK)
+        .after_help(CHECK_EXAMPLE)
+        .arg(catalogue(alloc))
 }
 
 /// The words of `replay`.
@@ -130,6 +144,13 @@ fn catalogue<'a>(alloc: Global) -> Arg<'a> {
         .help("The file of the library's branches, terminals, patrons, titles and copies")
         .required(true)
         .action(ArgAction::Set)
+}
+
+/// What `check` is asked to do by what was found.
+fn check_of<'a>(found: &ArgMatches<'a>) -> Check<'a> {
+    Check {
+        catalogue: found.get_str("catalogue").unwrap_or(""),
+    }
 }
 
 /// What `replay` is asked to do by what was found.
