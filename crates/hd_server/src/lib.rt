@@ -12,4 +12,4 @@ mod tests;
 
 pub use crate::fault::ServerFault;
 pub use crate::laws::replays_are_determined;
-pub use crate::replaying::replay;
+pub use crate::replaying::{replay, replay_in};

@@ -53,9 +53,31 @@ pub fn replay<R: Read, W: Write>(
       to' = W.contents to.new;
     }) result }
 {
-    match Catalogue::read(rt.alloc(), catalogue) {
+    replay_in(rt, rt.alloc(), catalogue, now, from, to)
+}
+
+/// The same over memory of an allocator.
+///
+/// # Errors
+/// Those of `replay`.
+pub fn replay_in<A: Allocator + Copy, R: Read, W: Write>(
+    rt: &HostRuntime,
+    alloc: A,
+    catalogue: &[u8],
+    now: &[u8],
+    from: &mut R,
+    to: &mut W,
+) -> Result<(), ServerFault>
+    ensures { IsReplayOf catalogue.now now.now (record {
+      from = R.remaining from.old;
+      from' = R.remaining from.new;
+      to = W.contents to.old;
+      to' = W.contents to.new;
+    }) result }
+{
+    match Catalogue::read(alloc, catalogue) {
         Ok(catalogue) => match hd_date::read(now, catalogue.offset()) {
-            Ok(now) => replay_over(rt, catalogue, now, from, to),
+            Ok(now) => replay_over(rt, alloc, catalogue, now, from, to),
             Err(_) => Err(ServerFault::BadNow),
         },
         Err(fault) => Err(ServerFault::Catalogue(fault)),
@@ -63,9 +85,10 @@ pub fn replay<R: Read, W: Write>(
 }
 
 /// The same over a catalogue, at a present.
-fn replay_over<R: Read, W: Write>(
+fn replay_over<A: Allocator + Copy, R: Read, W: Write>(
     rt: &HostRuntime,
-    catalogue: Catalogue,
+    alloc: A,
+    catalogue: Catalogue<A>,
     now: Stamp18,
     from: &mut R,
     to: &mut W,
@@ -83,9 +106,8 @@ fn replay_over<R: Read, W: Write>(
           to' = W.contents to.new;
         }) result }
 {
-    let alloc = rt.alloc();
     let catalogue = Arc::new(alloc, catalogue)?;
-    let desk = Desk::open(alloc, alloc, catalogue)?;
+    let desk = Desk::open(alloc, rt.alloc(), catalogue)?;
     let journal = Journal::new(alloc, desk, Meter::new(rt));
     let mut sessions = Sessions::new(alloc, journal, now)?;
     answer_input(alloc, &mut sessions, from, to)

@@ -24,3 +24,7 @@ returns g c =
       reads = rw first at c.answer_input.ensures.reads;
       legal = c.answer_input.ensures.legal c.in_ok-sessions.ensures.legal;
     })
+
+pub returns-in_err-desk : goal.returns-in_err-desk
+returns-in_err-desk g c =
+    inl ((Keeps-refl _, Keeps-refl _), for_memory _ c.from_residual-in_err-desk.ensures.0 c.from_residual-in_err-desk.ensures.1)
