@@ -1,5 +1,5 @@
 # The commands of the README. All need the Rattle kit's command rt on the path.
-.PHONY: try run day test
+.PHONY: try run day hostile load test
 
 STORED = replay --catalogue data/demonstration.catalogue --now '20260301    120000' < stdin
 
@@ -17,6 +17,30 @@ run:
 # A stored day through four connections of holddesk serve, as make run has built it; its replies are compared.
 day:
 	@python3 scripts/play_day.py
+
+# A day of hostile clients against holddesk serve, as make run has built it, beside one that has to be answered.
+hostile:
+	@python3 scripts/hostile_day.py
+
+# How fast holddesk serve, as make run has built it, answers beside a server that only echoes: eight minutes. Needs rustc
+# and Python 3. LOAD has other words for hd_load compare (bench/out/hd_load --help).
+LOAD =
+LIBRARIES = bench/out/demonstration.catalogue bench/out/large.catalogue
+load: bench/out/hd_load $(LIBRARIES)
+	@for library in $(LIBRARIES); do bench/out/hd_load compare --catalogue $$library $(LOAD) || exit 1; done
+
+bench/out/hd_load: $(wildcard bench/*.rs)
+	@mkdir -p bench/out
+	@rustc --edition 2024 -O -o $@ bench/hd_load.rs
+
+# The demonstration library, with room for as many commands as there may be.
+bench/out/demonstration.catalogue: crates/holddesk/data/demonstration.catalogue
+	@mkdir -p bench/out
+	@sed '1s/[0-9]*$$/1000000/' $< > $@
+
+bench/out/large.catalogue: scripts/make_library.py
+	@mkdir -p bench/out
+	@python3 $< --out $@
 
 # The gate: every proof from nothing, the wrong bodies that must be refused, the tests and the stored runs.
 test:
