@@ -1,5 +1,5 @@
 # The commands of the README. All need the Rattle kit's command rt on the path.
-.PHONY: help try run day install uninstall test
+.PHONY: help try run day hostile load install uninstall test
 
 PREFIX ?= /usr/local
 
@@ -8,6 +8,8 @@ help:
 	@echo 'make try        answer the stored messages by a program that is built without proofs (two minutes)'
 	@echo 'make run        prove what changed, build holddesk, and answer the stored messages'
 	@echo 'make day        after make run: play a stored day through four connections of holddesk serve'
+	@echo 'make hostile    after make run: a day of hostile clients beside one that has to be answered'
+	@echo 'make load       after make run: turns a second beside a server that only echoes (eight minutes; rustc)'
 	@echo 'make install    after make run: the program and its manual page, below PREFIX ($(PREFIX)) and DESTDIR'
 	@echo 'make uninstall  take them away again'
 	@echo 'make test       the gate: every proof from nothing, wrong bodies, tests, stored runs'
@@ -40,6 +42,30 @@ install:
 uninstall:
 	rm -f $(DESTDIR)$(PREFIX)/bin/holddesk $(DESTDIR)$(PREFIX)/share/man/man1/holddesk.1
 	rm -rf $(DESTDIR)$(PREFIX)/share/doc/holddesk
+
+# A day of hostile clients against holddesk serve, as make run has built it, beside one that has to be answered.
+hostile:
+	@python3 scripts/hostile_day.py
+
+# How fast holddesk serve, as make run has built it, answers beside a server that only echoes: eight minutes. Needs rustc
+# and Python 3. LOAD has other words for hd_load compare (bench/out/hd_load --help).
+LOAD =
+LIBRARIES = bench/out/demonstration.catalogue bench/out/large.catalogue
+load: bench/out/hd_load $(LIBRARIES)
+	@for library in $(LIBRARIES); do bench/out/hd_load compare --catalogue $$library $(LOAD) || exit 1; done
+
+bench/out/hd_load: $(wildcard bench/*.rs)
+	@mkdir -p bench/out
+	@rustc --edition 2024 -O -o $@ bench/hd_load.rs
+
+# The demonstration library, with room for as many commands as there may be.
+bench/out/demonstration.catalogue: crates/holddesk/data/demonstration.catalogue
+	@mkdir -p bench/out
+	@sed '1s/[0-9]*$$/1000000/' $< > $@
+
+bench/out/large.catalogue: scripts/make_library.py
+	@mkdir -p bench/out
+	@python3 $< --out $@
 
 # The gate: every proof from nothing, the wrong bodies that must be refused, the tests and the stored runs.
 test:
