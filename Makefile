@@ -47,7 +47,7 @@ uninstall:
 hostile:
 	@python3 scripts/hostile_day.py
 
-# How fast holddesk serve, as make run has built it, answers beside a server that only echoes: eight minutes. Needs rustc
+# How fast holddesk serve, as make run has built it, answers beside a server that only echoes: four minutes. Needs rustc
 # and Python 3. LOAD has other words for hd_load compare (bench/out/hd_load --help).
 LOAD =
 LIBRARIES = bench/out/demonstration.catalogue bench/out/large.catalogue

@@ -22,8 +22,8 @@ pub const HELP: &str = "hd_load: drives a SIP2 server over TCP, and says how fas
       of at most 512 bytes), which sends each line back. Ends after K connections (0: never).
   hd_load compare --program HOLDDESK --catalogue FILE [options]
       Starts holddesk and the echo server by turns, with as many workers as connections, drives both alike, and
-      prints holddesk's turns a second as a part of the echo server's. Looks that holddesk ends well, and that
-      it counted the turns that were sent.
+      prints holddesk's turns a second as a part of the echo server's: the median of the rounds, the least and the
+      most. Looks that holddesk ends well, and that it counted the turns that were sent.
 
 Options of drive and compare (what stands where they aren't given):
   --connections C     how many connections, each of a thread (4); in compare a list (1,4,16)

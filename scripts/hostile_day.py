@@ -293,8 +293,8 @@ def compare_end(honest, hostile, status, out):
         raise Trouble("the server ends with %r and %r, wanted 0 and %r" % (status, out, wanted))
     if unread <= 0:
         raise Trouble("no line of one who reads no replies was taken")
-    print("hostile_day: %d honest turns, the worst after %.3f s, %d of %d replies after more than 0.1 s" % (
-        honest.turns, honest.worst, honest.late, honest.turns))
+    print("hostile_day: %d honest turns, the worst reply after %.3f s, %d after more than 0.1 s" % (
+        honest.turns, honest.worst, honest.late))
     print("hostile_day: with all workers taken a login was answered after %.2f s" % honest.again)
     print("hostile_day: 64 hostile connections, %d turns of theirs (%d unread), the last dropped after %.1f s" % (
         hostile.turns + unread, unread, hostile.longest))
