@@ -23,6 +23,3 @@ pub use crate::cause::{CatFault, Cause};
 pub use crate::law::accepted_or_refused;
 pub use hd_date::OffsetMinutes;
 pub use hd_rules::{BranchNo, CopyNo, PatronNo, TerminalNo, TitleNo};
-
-#[cfg(test)]
-mod tests;

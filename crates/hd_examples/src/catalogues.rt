@@ -1,5 +1,5 @@
 //! Catalogue files.
-use crate::{Catalogue, Cause};
+use hd_catalogue::{Catalogue, Cause};
 use std::alloc::Global;
 use std::test::Fail;
 
