@@ -7,8 +7,6 @@ mod prefix;
 mod printing;
 mod replaying;
 mod sessions;
-#[cfg(test)]
-mod tests;
 
 pub use crate::fault::ServerFault;
 pub use crate::laws::replays_are_determined;

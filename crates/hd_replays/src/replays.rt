@@ -2,7 +2,7 @@
 //! writer.
 ghost use Rattle.std.specs.Prelude.{Some};
 
-use crate::{ServerFault, replay};
+use hd_server::{ServerFault, replay};
 use std::alloc::{AllocError, Global};
 use std::cell::Cell;
 use std::io::{self, ErrorKind, Read, Write};
