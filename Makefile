@@ -12,7 +12,7 @@ help:
 	@echo 'make load       after make run: turns a second beside a server that only echoes (eight minutes; rustc)'
 	@echo 'make install    after make run: the program and its manual page, below PREFIX ($(PREFIX)) and DESTDIR'
 	@echo 'make uninstall  take them away again'
-	@echo 'make test       the gate: every proof from nothing, wrong bodies, tests, stored runs'
+	@echo 'make test       the gate: a stored day over TCP, every proof from nothing, wrong bodies, tests, stored runs'
 
 STORED = replay --catalogue data/demonstration.catalogue --now '20260301    120000' < stdin
 
@@ -67,6 +67,8 @@ bench/out/large.catalogue: scripts/make_library.py
 	@mkdir -p bench/out
 	@python3 $< --out $@
 
-# The gate: every proof from nothing, the wrong bodies that must be refused, the tests and the stored runs.
+# The gate: a stored day through four connections of the program, built without proofs for it; then every proof from
+# nothing, the wrong bodies that must be refused, the tests and the stored runs.
 test:
+	@python3 scripts/play_day.py --try
 	@rt ci
