@@ -18,5 +18,3 @@ pub use hd_date::Day;
 pub use hd_queue::QueueView;
 pub use hd_rules::{BranchNo, CopyNo, CopyState, Hold};
 
-#[cfg(test)]
-mod tests;

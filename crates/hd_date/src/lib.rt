@@ -24,5 +24,3 @@ pub use crate::offset::OffsetMinutes;
 pub use crate::reading::{local_text, read};
 pub use crate::stamp::Stamp18;
 
-#[cfg(test)]
-mod tests;

@@ -5,8 +5,6 @@ mod count;
 mod findings;
 mod footprint;
 mod meter;
-#[cfg(test)]
-mod tests;
 
 pub use crate::count::Count;
 pub use crate::findings::Findings;

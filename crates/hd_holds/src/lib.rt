@@ -8,5 +8,3 @@ pub use hd_catalogue::Catalogue;
 pub use hd_queue::QueueView;
 pub use hd_rules::{Hold, PatronNo, TitleNo};
 
-#[cfg(test)]
-mod tests;

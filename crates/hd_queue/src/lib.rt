@@ -12,5 +12,3 @@ pub use crate::queue::Queue;
 pub use crate::view::{QueueView, Waiting};
 pub use hd_rules::{Hold, HoldKind, PatronNo};
 
-#[cfg(test)]
-mod tests;
