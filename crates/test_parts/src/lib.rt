@@ -7,8 +7,6 @@ mod allocation;
 #[cfg(test)]
 mod clashes;
 #[cfg(test)]
-mod copies;
-#[cfg(test)]
 mod footprints;
 #[cfg(test)]
 mod holds;

@@ -3,7 +3,7 @@
 ghost use Rattle.std.specs.Prelude.{◌≡◌, ◌<◌, IfOk};
 ghost use Rattle.hd_copies.specs.Standing.{facts};
 
-use hd_copies::{BranchNo, Catalogue, Copies, CopyNo, CopyState, HoldKind, PatronNo, TitleNo};
+use crate::{BranchNo, Catalogue, Copies, CopyNo, CopyState, HoldKind, PatronNo, TitleNo};
 use hd_date::{Day, OffsetMinutes};
 use hd_rules::{HoldPlace, Loan, Transit};
 use std::alloc::{AllocError, Global};

@@ -1,7 +1,7 @@
 use Rattle.std.proofs.Common.{◌≡◌, ◌≢◌, ℕ, ◌==◌, ◌&&◌, Bool, true, false, cond, Option, None, Some, refl, ap, sym, ◌∙◌, arith, eq-eqb}
 use Rattle.std.proofs.lemmas.Bool.{eqb-true}
 use Rattle.hd_rules.specs.declared.holds.Hold.{Hold}
-use Rattle.hd_holds.proofs.tests.holds_stand_by_stamp.Goals as goal
+use Rattle.test_parts.proofs.holds.holds_stand_by_stamp.Goals as goal
 
 -- no other patron's hold of the title has the stamp
 abbrev IsAlone : (ℕ → ℕ → Option Hold) → ℕ → ℕ → ℕ → Type 0
