@@ -20,11 +20,11 @@ pub struct Comparison {
 }
 
 /// A server that was started, and is stopped where it doesn't end by itself.
-struct Server {
+pub struct Server {
     child: Child,
     /// Its standard error, which it must find open.
     _errors: BufReader<ChildStderr>,
-    address: SocketAddr,
+    pub address: SocketAddr,
 }
 
 /// One of the two servers, driven.
@@ -58,11 +58,11 @@ pub fn compare(comparison: &Comparison) -> Result<(), Failure> {
 /// One round: both servers, each first in every second round. Returns holddesk's part of the echo server's rate.
 fn measure_both(comparison: &Comparison, connections: usize, round: usize) -> Result<f64, Failure> {
     let (holddesk, echo) = if round % 2 == 1 {
-        let holddesk = measure(&mut holddesk(comparison, connections), comparison, connections)?;
+        let holddesk = measure(&mut of(comparison, connections), comparison, connections)?;
         (holddesk, measure(&mut echo(connections), comparison, connections)?)
     } else {
         let echo = measure(&mut echo(connections), comparison, connections)?;
-        (measure(&mut holddesk(comparison, connections), comparison, connections)?, echo)
+        (measure(&mut of(comparison, connections), comparison, connections)?, echo)
     };
     let wanted = format!("closed: {} turns, ", holddesk.driven.turns());
     if !holddesk.printed.starts_with(&wanted) {
@@ -89,10 +89,14 @@ fn print_measured(connections: usize, name: &str, measured: &Measured) {
     );
 }
 
-/// The command that starts holddesk for so many connections.
-fn holddesk(comparison: &Comparison, connections: usize) -> Command {
-    let mut command = Command::new(&comparison.program);
-    command.args(["serve", "--catalogue", &comparison.catalogue]);
+fn of(comparison: &Comparison, connections: usize) -> Command {
+    serve(&comparison.program, &comparison.catalogue, connections)
+}
+
+/// The command that starts holddesk for so many connections, each with a worker.
+pub fn serve(program: &str, catalogue: &str, connections: usize) -> Command {
+    let mut command = Command::new(program);
+    command.args(["serve", "--catalogue", catalogue]);
     serving(command, connections)
 }
 
@@ -112,7 +116,7 @@ fn serving(mut command: Command, connections: usize) -> Command {
 /// Starts a server, drives it, and waits for its end.
 fn measure(command: &mut Command, comparison: &Comparison, connections: usize) -> Result<Measured, Failure> {
     let mut server = Server::start(command)?;
-    let process = server.child.id();
+    let process = server.process();
     let ready = Ready::open(server.address, &comparison.plan, connections)?;
     let before = (Usage::now(&process.to_string())?, memory(process)?);
     let mut driven = ready.drive()?;
@@ -129,7 +133,7 @@ fn measure(command: &mut Command, comparison: &Comparison, connections: usize) -
 
 impl Server {
     /// Starts a server, and waits until it says where it listens.
-    fn start(command: &mut Command) -> Result<Server, Failure> {
+    pub fn start(command: &mut Command) -> Result<Server, Failure> {
         let mut child = command
             .stdout(Stdio::piped())
             .stderr(Stdio::piped())
@@ -150,8 +154,13 @@ impl Server {
         }
     }
 
+    /// The number of its process.
+    pub fn process(&self) -> u32 {
+        self.child.id()
+    }
+
     /// Waits for the end of a server whose connections are closed.
-    fn end(&mut self) -> Result<String, Failure> {
+    pub fn end(&mut self) -> Result<String, Failure> {
         let mut printed = String::new();
         if let Some(mut out) = self.child.stdout.take() {
             out.read_to_string(&mut printed)?;

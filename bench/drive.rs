@@ -86,18 +86,23 @@ impl<'a> Ready<'a> {
         Ok(Ready { plan, drivers: drivers? })
     }
 
-    /// Makes their turns, all beginning at once.
-    pub fn drive(self) -> Result<Driven, Failure> {
+    /// Makes their turns, all beginning at once, and gives their connections back, still open.
+    pub fn drive(mut self) -> Result<Driven, Failure> {
+        let mut driven = self.step(self.plan.length)?;
+        driven.open = self.drivers.into_iter().map(|driver| driver.stream).collect();
+        Ok(driven)
+    }
+
+    /// Makes so many turns of each, all beginning at once. The connections stay.
+    pub fn step(&mut self, length: Length) -> Result<Driven, Failure> {
         let connections = self.drivers.len();
-        let length = self.plan.length;
         let usage = Usage::now("self")?;
         let begun = Instant::now();
-        let ended: Result<Vec<Driver>, Failure> = thread::scope(|scope| {
-            let start = |driver: Driver<'a>| scope.spawn(move || driver.run(length));
-            let threads: Vec<_> = self.drivers.into_iter().map(start).collect();
-            threads.into_iter().map(|thread| thread.join().map_err(|_| "a thread ended badly")?).collect()
-        });
-        let ended = ended?;
+        thread::scope(|scope| {
+            let start = |driver| scope.spawn(move || Driver::run(driver, length));
+            let threads: Vec<_> = self.drivers.iter_mut().map(start).collect();
+            threads.into_iter().try_for_each(|thread| thread.join().map_err(|_| "a thread ended badly")?)
+        })?;
         let seconds = begun.elapsed().as_secs_f64();
         let used = Usage::now("self")?.since(&usage);
         let mut driven = Driven {
@@ -110,10 +115,9 @@ impl<'a> Ready<'a> {
             load: load()?,
             open: Vec::new(),
         };
-        for driver in ended {
-            driven.nanoseconds.extend(driver.nanoseconds);
-            driven.replies.add(driver.replies);
-            driven.open.push(driver.stream);
+        for driver in &mut self.drivers {
+            driven.nanoseconds.append(&mut driver.nanoseconds);
+            driven.replies.add(std::mem::take(&mut driver.replies));
         }
         driven.nanoseconds.sort_unstable();
         Ok(driven)
@@ -144,7 +148,7 @@ impl<'a> Driver<'a> {
     }
 
     /// Makes the turns.
-    fn run(mut self, length: Length) -> Result<Driver<'a>, Failure> {
+    fn run(&mut self, length: Length) -> Result<(), Failure> {
         let begun = Instant::now();
         for turn in 0.. {
             let over = match length {
@@ -156,7 +160,7 @@ impl<'a> Driver<'a> {
             }
             self.turn()?;
         }
-        Ok(self)
+        Ok(())
     }
 
     /// Sends a message, waits for its reply, and judges it.

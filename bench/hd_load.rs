@@ -6,6 +6,7 @@ mod compare;
 mod drive;
 mod echo;
 mod library;
+mod long;
 mod machine;
 mod random;
 mod replies;
@@ -44,5 +45,6 @@ fn run(order: Order) -> Result<(), Failure> {
         }
         Order::Echo(echo) => echo::serve(&echo),
         Order::Compare(comparison) => compare::compare(&comparison),
+        Order::Long(long) => long::run(&long),
     }
 }

@@ -4,6 +4,7 @@ use crate::compare::Comparison;
 use crate::drive::{Length, Plan};
 use crate::echo::Echo;
 use crate::library::Library;
+use crate::long::{LongRun, turns_of_a_step};
 use crate::Failure;
 use std::collections::HashMap;
 use std::net::SocketAddr;
@@ -25,15 +26,21 @@ pub const HELP: &str = "hd_load: drives a SIP2 server over TCP, and says how fas
       prints holddesk's turns a second as a part of the echo server's: the median of the rounds, the least and the
       most. Looks that holddesk ends well, and that it counted the turns that were sent.
 
-Options of drive and compare (what stands where they aren't given):
-  --connections C     how many connections, each of a thread (4); in compare a list (1,4,16)
-  --turns T           how many turns each connection makes after its login
+  hd_load long --program HOLDDESK --catalogue FILE [options]
+      Starts holddesk with a worker for each connection, has T turns made in all, in steps, and prints after each
+      step its speed, the memory of holddesk and how much of it came a turn. Looks that holddesk ends well, and that
+      it counted the turns. When the catalogue's limit of commands is reached, further commands are refused.
+
+Options of drive, compare and long (what stands where they aren't given):
+  --connections C     how many connections, each of a thread (4; long: 16); in compare a list (1,4,16)
+  --turns T           how many turns each connection makes after its login; long: all together (10000000)
+  --steps S           long: in how many steps (10)
   --seconds S         or for how long (5)
   --cancel PERCENT    how many of a hundred turns cancel one of the last commands of the connection (10)
   --plain             messages without sequence digits and check numbers (with both)
   --terminals A,B     the terminals to log in as, in turn (all of the catalogue)
   --seed N            the generator's seed (1)
-  --program PATH      compare: the program of holddesk (crates/holddesk/out/holddesk)
+  --program PATH      compare, long: the program of holddesk (crates/holddesk/out/holddesk)
   --rounds N          compare: how often each is measured (3)
 
 The other turns are holds, checkouts, checkins, renewals and item information, a fifth each, at random. Of the
@@ -48,6 +55,7 @@ pub enum Order {
     Drive { server: SocketAddr, connections: usize, plan: Plan },
     Echo(Echo),
     Compare(Comparison),
+    Long(LongRun),
 }
 
 /// The words after the first, as options with their values.
@@ -77,14 +85,28 @@ pub fn read(mut words: impl Iterator<Item = String>) -> Result<Order, Failure> {
             let catalogue = options.text("catalogue");
             let (connections, plan) = options.plan("1,4,16")?;
             Order::Compare(Comparison {
-                program: options.text("program").unwrap_or("crates/holddesk/out/holddesk".to_string()),
+                program: options.program(),
                 catalogue: catalogue.unwrap_or_default(),
                 rounds: options.number("rounds", 3, 1..=100)?,
                 connections,
                 plan,
             })
         }
-        _ => return Err(format!("{verb} isn't drive, echo or compare; hd_load --help says more").into()),
+        "long" => {
+            let catalogue = options.text("catalogue");
+            let turns = options.number("turns", 10_000_000, 1..=usize::MAX)?;
+            let steps = options.number("steps", 10, 1..=1_000)?;
+            let (connections, mut plan) = options.plan("16")?;
+            plan.length = turns_of_a_step(turns, steps, connections[0]);
+            Order::Long(LongRun {
+                program: options.program(),
+                catalogue: catalogue.unwrap_or_default(),
+                connections: connections[0],
+                steps,
+                plan,
+            })
+        }
+        _ => return Err(format!("{verb} isn't drive, echo, compare or long; hd_load --help says more").into()),
     };
     options.all_used()?;
     Ok(order)
@@ -113,6 +135,10 @@ impl Options {
     fn text(&mut self, name: &str) -> Option<String> {
         // A catalogue is asked for twice in compare: it is driven by it, and holddesk reads it.
         if name == "catalogue" { self.0.get(name).cloned() } else { self.0.remove(name) }
+    }
+
+    fn program(&mut self) -> String {
+        self.text("program").unwrap_or("crates/holddesk/out/holddesk".to_string())
     }
 
     fn required<T: FromStr>(&mut self, name: &str) -> Result<T, Failure> {
