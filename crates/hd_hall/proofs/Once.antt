@@ -132,3 +132,10 @@ pub there_more : (turns : List Turn) (n : ℕ) (ss : List SeatView) (i : ℕ) (s
 there_more turns n ss i s within is above stand rest =
     let P : SeatView → Type 0 = λ x. AreThere turns n (x ∷ drop (i + 1) ss) in
     subst (λ (rs : List SeatView). AreThere turns n rs) (sym (drop_more ss i s within)) (subst P is (above, stand, rest))
+
+-- the seat at i comes above n and its receipts stand, where those from it on do
+pub there_here : (turns : List Turn) (n : ℕ) (ss : List SeatView) (i : ℕ) (s : SeatView) → i < length ss → s ≡ get_or ss i s
+    → AreThere turns n (drop i ss) → AreThere turns n (s ∷ drop (i + 1) ss)
+there_here turns n ss i s within is there =
+    let P : SeatView → Type 0 = λ x. AreThere turns n (x ∷ drop (i + 1) ss) in
+    subst P (sym is) (subst (λ (rs : List SeatView). AreThere turns n rs) (drop_more ss i s within) there)

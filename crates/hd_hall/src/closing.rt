@@ -80,7 +80,7 @@ fn give_back<H: House, A: Allocator>(all: &mut Share<H>, seats: &mut [Seat<H, A>
 /// Whether the seats stand in the order of their numbers, and each receipt is of the journal's turn of its
 /// number.
 fn are_there<H: House, A: Allocator + Copy, K: Keeper<A>>(keeper: &K, seats: &[Seat<H, A>]) -> bool
-    ensures { IsTrue result → AreThere (K.turns keeper.now) 0 seats.now }
+    ensures { IsTrue result ↔ AreThere (K.turns keeper.now) 0 seats.now }
 {
     let mut last = 0;
     for seat in seats {
@@ -95,7 +95,7 @@ fn are_there<H: House, A: Allocator + Copy, K: Keeper<A>>(keeper: &K, seats: &[S
 
 /// Whether each receipt is of the journal's turn of its number.
 fn all_stand<A: Allocator + Copy, K: Keeper<A>>(keeper: &K, receipts: &[Kept<A>]) -> bool
-    ensures { IsTrue result → All (Stands (K.turns keeper.now)) receipts.now }
+    ensures { IsTrue result ↔ All (Stands (K.turns keeper.now)) receipts.now }
 {
     for receipt in receipts {
         if !stands(keeper, receipt) {

@@ -1,6 +1,12 @@
 //! A seat of a hall is an office.
 
-ghost use Rattle.std.specs.Prelude.{◌≡◌};
+ghost use Rattle.std.specs.Prelude.{◌≡◌, ◌≢◌, ℕ, IfErr, IfOk, OnErr};
+ghost use Rattle.hd_catalogue.specs.Contents.{facts_of};
+ghost use Rattle.hd_journal.specs.Asks.{IsKnownMessage, sent};
+ghost use Rattle.hd_exchange.specs.declared.fault.OfficeFault.{OfficeFault};
+ghost use Rattle.hd_hall.specs.Receipts.{received};
+ghost use Rattle.hd_hall.specs.Seats.{with_receipt};
+ghost use Rattle.hd_hall.specs.Submitting.{AreNext, IsNextOf, IsStrangeTo};
 
 use crate::fault::HallFault;
 use crate::hall::Hall;
@@ -37,10 +43,43 @@ impl<'a, H: House, R: Wait, A: Allocator, K: Keeper<A>> Counter<'a, H, R, A, K> 
     }
 }
 
+impl<'a, H: House, R: Wait, A: Allocator + Copy, K: Keeper<A> + Drop> Counter<'a, H, R, A, K> {
+    /// One turn: what a terminal of this seat asks. The terminal, and all that it asks, are of the hall's
+    /// catalogue.
+    ///
+    /// The turn is the last of the hall's journal, and its receipt is the seat's last.
+    ///
+    /// # Errors
+    /// `Estranged` only where the seat has receipts and the hall's journal lacks the last of them, and
+    /// `Memory` else. The seat is unchanged.
+    pub fn submit(&mut self, ask: &Ask<'_>) -> Result<Turn, OfficeFault>
+        requires seat { ask.now.seat ≡ self.old.seat.now.number }
+        requires known { IsKnownMessage (facts_of H.contents) (sent ask.now).message }
+        ensures next { IfOk result (λ made.
+            IsNextOf H.contents self.old.seat.now.receipts (received (sent ask.now) made)) }
+        ensures kept { IfOk result (λ made.
+            self.new.seat.now ≡ with_receipt self.old.seat.now (received (sent ask.now) made)) }
+        ensures all { AreNext H.contents self.new.seat.now.receipts }
+        ensures estranged { IfErr result (λ fault. fault ≢ OfficeFault.Memory →
+            (fault ≡ OfficeFault.Estranged)
+            × ((front : ℕ) × IsStrangeTo H.contents self.old.seat.now.receipts front)) }
+        ensures err { OnErr result (self.new.seat.now ≡ self.old.seat.now) }
+        ensures same_reference { self.new.seat.ghost_name ≡ self.old.seat.ghost_name }
+    {
+        match self.hall.submit(self.rt, self.seat, ask) {
+            Ok(receipt) => Ok(Turn {
+                at: receipt.number,
+                reply: receipt.turn.reply,
+            }),
+            Err(HallFault::Memory) => Err(OfficeFault::Memory),
+            Err(HallFault::Estranged { .. }) => Err(OfficeFault::Estranged),
+        }
+    }
+}
+
 impl<'a, H: House, R: Wait, A: Allocator + Copy, K: Keeper<A> + Drop> Office<A>
     for Counter<'a, H, R, A, K> {
     ghost use Rattle.std.specs.Prelude.{map, [], ◌∷◌};
-    ghost use Rattle.hd_hall.specs.Submitting.{AreNext};
 
     ghost keeps = { λ c. record {
       contents = H.contents;
@@ -64,13 +103,6 @@ impl<'a, H: House, R: Wait, A: Allocator + Copy, K: Keeper<A> + Drop> Office<A>
     }
 
     fn turn(&mut self, ask: &Ask<'_>) -> Result<Turn, OfficeFault> {
-        match self.hall.submit(self.rt, self.seat, ask) {
-            Ok(receipt) => Ok(Turn {
-                at: receipt.number,
-                reply: receipt.turn.reply,
-            }),
-            Err(HallFault::Memory) => Err(OfficeFault::Memory),
-            Err(HallFault::Estranged { .. }) => Err(OfficeFault::Estranged),
-        }
+        self.submit(ask)
     }
 }

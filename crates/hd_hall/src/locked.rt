@@ -1,7 +1,7 @@
 //! What lies under the lock.
 
-ghost use Rattle.std.specs.Prelude.{◌≡◌, ◌≢◌, ◌+◌, ◌<◌, ◌↔◌, [], IsTrue, IfOk, IfErr, IfSome, OnOk};
-ghost use Rattle.std.specs.Prelude.{OnErr, false, length, option_copied};
+ghost use Rattle.std.specs.Prelude.{◌≡◌, ◌≢◌, ◌+◌, ◌<◌, ◌↔◌, [], IsTrue, IsNone, IfOk, IfErr, IfSome};
+ghost use Rattle.std.specs.Prelude.{IfNone, OnOk, OnErr, OnSome, false, length, option_copied};
 ghost use Rattle.hd_catalogue.specs.Contents.{facts_of};
 ghost use Rattle.hd_journal.specs.Asks.{IsKnownMessage};
 ghost use Rattle.hd_journal.specs.Books.{IsLegalBook};
@@ -53,10 +53,14 @@ impl<H: House, A: Allocator + Copy, K: Keeper<A>> Locked<H, A, K> {
         }
     }
 
-    /// The number of a new seat, and its part, or `None` where all have been opened.
+    /// The number of a new seat, which is the next one, and its part, or `None` where all have been opened.
     pub(crate) fn seat(&mut self) -> Option<(SeatNo, Share<H>)>
-        ensures some { IfSome result (λ s. (0 < s.0) × (s.1.parts ≡ 1) × (s.1.amount ≡ 0)) }
-        ensures same { self.new.keeper ≡ self.old.keeper }
+        ensures none { IsNone result ↔ (self.old.opened ≡ SEATS) }
+        ensures number { IfSome result (λ s. s.0 ≡ self.old.opened + 1) }
+        ensures opened { OnSome result (self.new.opened ≡ self.old.opened + 1) }
+        ensures part { IfSome result (λ s. (s.1.parts ≡ 1) × (s.1.amount ≡ 0)) }
+        ensures same { (self.new.keeper ≡ self.old.keeper) × (self.new.book ≡ self.old.book) }
+        ensures unchanged { IfNone result (self.new ≡ self.old) }
     {
         if self.opened == SEATS {
             return None;

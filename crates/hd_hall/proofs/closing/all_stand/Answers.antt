@@ -1,7 +1,20 @@
-use Rattle.std.proofs.Common.{◌<◌, length, arith}
+use Rattle.std.proofs.Common.{◌≡◌, ◌<◌, length, arith, false, true, refl, sym, subst}
 use Rattle.hd_hall.specs.Receipts.{Stands}
 use Rattle.hd_hall.proofs.Walking.{first_more}
 use Rattle.hd_hall.proofs.closing.all_stand.Goals as goal
+
+pub returns-then-not-stands : goal.returns-then-not-stands
+returns-then-not-stands g c =
+    let i = c.loop-receipt.receipt-index in
+    let x = c.receipt-item.result in
+    let within : i < length c.args.receipts.now = omega arith in (
+      (λ yes. absurd (let h : false ≡ true = yes in cc)),
+      (λ all.
+          let here = subst (Stands (g.K.Keeper.turns c.args.keeper.now)) (sym c.receipt-item.is) (all i x within) in
+          let yes = c.stands.ensures.1 here in
+          let no = c.if-not-stands.true in
+          absurd cc),
+    )
 
 pub loop-receipt-preserved : goal.loop-receipt-preserved
 loop-receipt-preserved g c =
@@ -10,4 +23,4 @@ loop-receipt-preserved g c =
     c.receipt-item.result within c.receipt-item.is (c.stands.ensures.0 c.if-not-stands.false) c.loop-receipt.invariant
 
 pub returns : goal.returns
-returns g c held k d within = c.loop-receipt.invariant k (omega arith) d
+returns g c = ((λ yes k d within. c.loop-receipt.invariant k (omega arith) d), (λ all. refl))

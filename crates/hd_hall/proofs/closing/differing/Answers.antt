@@ -16,7 +16,7 @@ returns-then-are_there-clause-none g c =
     let total = c.audit.ensures.whole all in
     let counts : length (g.K.Keeper.turns c.args.keeper.now) ≡ shares c.args.seats.now =
     omega (arith, c.gather.ensures.amount, c.empty-none.ensures.amount, c.merge.ensures.amount, c.requires.empty.0, c.requires.counted) in
-    let there = c.are_there.ensures c.if-are_there.true in
+    let there = c.are_there.ensures.0 c.if-are_there.true in
     let here : AreThere (g.K.Keeper.turns c.args.keeper.now) 0 c.args.seats.now =
     lent_there (g.K.Keeper.turns c.args.keeper.now) 0 c.args.seats.now
     (subst (λ (ss : List SeatView). AreThere (g.K.Keeper.turns c.args.keeper.now) 0 ss) c.gather.ensures.lent there) in
