@@ -5,12 +5,6 @@
 #[cfg(test)]
 mod catalogues;
 #[cfg(test)]
-mod dates;
-#[cfg(test)]
-mod fields;
-#[cfg(test)]
 mod replies;
 #[cfg(test)]
 mod requests;
-#[cfg(test)]
-mod trailers;
