@@ -65,12 +65,15 @@ const CANCELLATION: &[u8] = b"15-20260301    100000AOlib|AAp1|AJta|BIY|\r";
 const RESEND: &[u8] = b"97\r";
 
 const LOGIN_HOLD_AND_CANCELLATION: &[u8] =
-    b"9300CNt1|COpw|\r15+20260301    100000BSnorth|BY2|AOlib|AAp1|AJta|\r15-20260301    100000AOlib|AAp1|AJta|BIY|\r";
+    b"9300CNt1|COpw|\r15+20260301    100000BSnorth|BY2|AOlib|AAp1|AJta|\r\
+        15-20260301    100000AOlib|AAp1|AJta|BIY|\r";
 
 const LOGIN_HOLD_CANCELLATION_AND_RESEND: &[u8] =
-    b"9300CNt1|COpw|\r15+20260301    100000BSnorth|BY2|AOlib|AAp1|AJta|\r15-20260301    100000AOlib|AAp1|AJta|BIY|\r97\r";
+    b"9300CNt1|COpw|\r15+20260301    100000BSnorth|BY2|AOlib|AAp1|AJta|\r\
+        15-20260301    100000AOlib|AAp1|AJta|BIY|\r97\r";
 
 const REPLIES: &[u8] = b"941\r161Y20260301    100000BR1|BSnorth|AOlib|AAp1|AJta|\r";
 
 const REPLIES_AND_AGAIN: &[u8] =
-    b"941\r161Y20260301    100000BR1|BSnorth|AOlib|AAp1|AJta|\r161Y20260301    100000BR1|BSnorth|AOlib|AAp1|AJta|\r";
+    b"941\r161Y20260301    100000BR1|BSnorth|AOlib|AAp1|AJta|\r\
+        161Y20260301    100000BR1|BSnorth|AOlib|AAp1|AJta|\r";
