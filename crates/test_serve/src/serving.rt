@@ -1,0 +1,120 @@
+//! A server and its terminals, side by side.
+
+ghost use Rattle.std.specs.Prelude.{◌≡◌, ◌≤◌, [], IfSome};
+
+use crate::library::journal;
+use crate::terminal::Terminal;
+use hd_attend::Gate;
+use hd_journal::Journal;
+use hd_serve::{Options, ServeFault, Summary, serve};
+use std::alloc::Global;
+use std::net::{SocketAddr, TcpListener};
+use std::sync::Wait;
+use std::thread::{Threads, join};
+use std::time::Clock;
+
+/// A row: what the terminals do, and what is called before each turn.
+pub(crate) trait Row: Gate {
+    /// What the terminals do, one after the other or side by side. Whether all went as it is to. Connections
+    /// that haven't ended before end with it.
+    fn play(&self, terminals: Vec<Terminal>) -> bool;
+}
+
+/// A port of the loopback, terminals that have connected, and a journal without turns.
+#[derive(Drop)]
+pub(crate) struct Opened {
+    pub(crate) listener: TcpListener,
+    pub(crate) terminals: Vec<Terminal>,
+    journal: Journal,
+}
+
+/// How many serve and are served, and for how many idle seconds.
+#[derive(Clone, Copy)]
+pub(crate) struct Scale {
+    /// How many workers there are, 1 to 64.
+    pub(crate) workers: u32,
+    /// How many connections are accepted.
+    pub(crate) connections: u32,
+    /// After how many idle seconds a connection is dropped; with 0 never.
+    pub(crate) idle: u32,
+}
+
+/// Takes a port that the system gives, and has so many terminals connect. They wait there for the server.
+pub(crate) fn open(rt: &HostRuntime, count: u32) -> Option<Opened>
+    ensures { IfSome result (λ opened. opened.journal.turns ≡ []) }
+{
+    let listener = TcpListener::bind(rt, "127.0.0.1:0").ok()?;
+    let address = listener.local_addr().ok()?;
+    let terminals = connected(rt, address, count)?;
+    let journal = journal(rt)?;
+    Some(Opened {
+        listener,
+        terminals,
+        journal,
+    })
+}
+
+/// So many terminals, one connected after the other.
+fn connected(rt: &HostRuntime, address: SocketAddr, count: u32) -> Option<Vec<Terminal>> {
+    let mut terminals = Vec::new(rt.alloc());
+    for _ in 0..count {
+        let terminal = Terminal::connect(rt, address).ok()?;
+        terminals.push(terminal).ok()?;
+    }
+    Some(terminals)
+}
+
+/// Serves the terminals while they play the row: how the server ended, and whether all went as it is to.
+pub(crate) fn play<R: Threads + Wait + Clock + Sync, W: Row>(
+    rt: &R,
+    alloc: Global,
+    opened: Opened,
+    scale: Scale,
+    row: &W,
+) -> (Result<Summary, ServeFault>, bool)
+    requires turns { opened.journal.turns ≡ [] }
+    requires workers { (1 ≤ scale.workers) × (scale.workers ≤ 64) }
+{
+    let Opened {
+        listener,
+        terminals,
+        journal,
+    } = opened;
+    let options = Options {
+        workers: scale.workers,
+        connections: scale.connections,
+        idle: scale.idle,
+    };
+    join(
+        rt,
+        || -> Result<Summary, ServeFault>
+            requires turns { journal.turns ≡ [] }
+            requires workers { (1 ≤ options.workers) × (options.workers ≤ 64) }
+        { serve(rt, alloc, listener, journal, &options, row) },
+        || row.play(terminals),
+    )
+}
+
+/// Whether the server ended well, with these numbers, and all went as it is to.
+pub(crate) fn is_well(
+    played: &(Result<Summary, ServeFault>, bool),
+    turns: usize,
+    survivors: usize,
+) -> bool {
+    match &played.0 {
+        Ok(summary) => played.1 && summary.turns == turns && summary.survivors == survivors,
+        Err(_) => false,
+    }
+}
+
+/// The one terminal.
+pub(crate) fn one(mut terminals: Vec<Terminal>) -> Option<Terminal> {
+    terminals.pop()
+}
+
+/// The first terminal and the second.
+pub(crate) fn two(mut terminals: Vec<Terminal>) -> Option<(Terminal, Terminal)> {
+    let second = terminals.pop()?;
+    let first = terminals.pop()?;
+    Some((first, second))
+}
