@@ -48,19 +48,19 @@ have_count findings = list_any (λ f. is_count f.question) findings
 
 -- The slot tells where its findings and changes begin and whether a count is among them. There are as many
 -- as it tells.
-pub record IsLaid (f c : ℕ) (s : Slot) (findings : List Finding) (changes : List Change) : Type 0 where
+pub record IsLaid (f c : ℕ) (s : Slot) (fs : List Finding) (cs : List Change) : Type 0 where
   pub asked : s.findings.first ≡ f
   pub changed : s.changes.first ≡ c
-  pub findings : s.findings.count ≤ length findings
-  pub changes : s.changes.count ≤ length changes
+  pub findings : s.findings.count ≤ length fs
+  pub changes : s.changes.count ≤ length cs
   pub few : s.changes.count ≤ 4
-  pub counts : s.has_count ≡ have_count (take s.findings.count findings)
+  pub counts : s.has_count ≡ have_count (take s.findings.count fs)
 
 -- Each slot's are behind those of the slot before it, and there are no others. So many findings and changes
 -- are before these.
 abbrev pub AreLaid : ℕ → ℕ → List Slot → List Finding → List Change → Type 0
-AreLaid f c [] findings changes = (findings ≡ []) × (changes ≡ [])
-AreLaid f c (s ∷ ss) findings changes =
-    IsLaid f c s findings changes
-    × AreLaid (f + s.findings.count) (c + s.changes.count) ss (drop s.findings.count findings)
-    (drop s.changes.count changes)
+AreLaid f c [] fs cs = (fs ≡ []) × (cs ≡ [])
+AreLaid f c (s ∷ ss) fs cs =
+    IsLaid f c s fs cs
+    × AreLaid (f + s.findings.count) (c + s.changes.count) ss (drop s.findings.count fs)
+    (drop s.changes.count cs)

@@ -133,7 +133,10 @@ impl<A: Allocator> Slots<A> {
     pub(crate) fn get(&self, place: usize) -> Option<Lent<'_>>
         ensures { result ≡ slice_index_or self.now.items place None }
     {
-        let slot = self.slots.get(place)?;
+        if place >= self.slots.len() {
+            return None;
+        }
+        let slot = &self.slots[place];
         let kept = slot.kept.as_ref()?;
         let findings = values_at(self.findings.as_slice(), slot.findings);
         let changes = values_at(self.changes.as_slice(), slot.changes);

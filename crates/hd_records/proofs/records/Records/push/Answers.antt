@@ -8,7 +8,7 @@ use Rattle.hd_records.specs.Index.{asks_about, numbers_of, records_about}
 use Rattle.hd_records.specs.RecordsValue.{AreListed, RecordsValue}
 use Rattle.hd_records.specs.Slots.{AreNumbered, taken}
 use Rattle.hd_records.proofs.Listed.{all_below, one_more}
-use Rattle.hd_records.proofs.Slots.{numbered_more, taken_joined}
+use Rattle.hd_records.proofs.Numbered.{numbered_more, taken_joined}
 use Rattle.hd_records.proofs.records.Records.push.Goals as goal
 
 pub push-requires-clause-above : goal.push-requires-clause-above

@@ -24,7 +24,7 @@ use Rattle.hd_records.proofs.Filters.{known_filter}
 use Rattle.hd_records.proofs.Leaving.{Touching, emptied, left_records, met, met_left, numbered_emptied, touching}
 use Rattle.hd_records.proofs.Listed.{one_less}
 use Rattle.hd_records.proofs.Shifting.{numbered_shifted}
-use Rattle.hd_records.proofs.Slots.{record_there, slots_rise}
+use Rattle.hd_records.proofs.Numbered.{record_there, slots_rise}
 use Rattle.hd_records.proofs.Standing.{At, at_slot, command_known, known_one, only_one}
 use Rattle.hd_records.proofs.records.Records.take_out.Given.{Over}
 use Rattle.hd_records.proofs.records.Records.take_out.Goals.{Joined-gone-2}
