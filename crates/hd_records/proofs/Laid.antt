@@ -1,5 +1,5 @@
 -- Slots, and the lists of what their records found and changed.
-use Rattle.std.proofs.Common.{arith, ◌≡◌, refl, sym, ◌∙◌, ap, subst, ℕ, zero, suc, ◌+◌, ◌-◌, ◌<◌, ◌≤◌, Bool, true, false, ◌||◌}
+use Rattle.std.proofs.Common.{arith, ◌≡◌, refl, sym, ◌∙◌, ap, subst, ℕ, zero, suc, ◌+◌, ◌<◌, ◌≤◌, Bool, true, false, ◌||◌}
 use Rattle.std.proofs.Common.{List, [], ◌∷◌, ◌++◌, length, take, drop, get_or, set, Option, None, Some, length-append, length-drop}
 use Rattle.std.proofs.Common.{take-add, length-take-le}
 use Rattle.std.proofs.lemmas.Bool.{false≢true}
@@ -12,10 +12,10 @@ use Rattle.hd_rules.specs.declared.questions.Question.{Question}
 use Rattle.hd_rules.specs.declared.questions.Question.TheVariants as question
 use Rattle.hd_rules.specs.Facts.{Facts}
 use Rattle.hd_rules.specs.Record.{Record}
-use Rattle.hd_clash.specs.Shift.{is_count, shift_each, shift_finding, shift_of}
+use Rattle.hd_clash.specs.Shift.{is_count, shift_each, shift_of}
 use Rattle.hd_records.specs.declared.slots.Kept.{Kept}
 use Rattle.hd_records.specs.declared.slots.Slot.{Slot}
-use Rattle.hd_records.specs.Laid.{AreLaid, IsLaid, have_count, kept_first, record_in, stored, survivors_in}
+use Rattle.hd_records.specs.Laid.{AreLaid, have_count, kept_first, record_in, stored, survivors_in}
 use Rattle.hd_records.specs.Slots.{shift_slot, taken}
 use Rattle.hd_records.specs.Survivors.{survivors_of}
 
@@ -33,7 +33,7 @@ survivors_stored (s ∷ ss) fs cs = by_slot s.kept (survivors_stored ss (drop s.
     by_slot : (o : Option Kept)
         → survivors_of (taken (stored ss (drop s.findings.count fs) (drop s.changes.count cs))) ≡ survivors_in ss
         → survivors_of (taken (record_in o (take s.findings.count fs) (take s.changes.count cs)
-            ∷ stored ss (drop s.findings.count fs) (drop s.changes.count cs)))
+        ∷ stored ss (drop s.findings.count fs) (drop s.changes.count cs)))
         ≡ kept_first o (survivors_in ss)
     by_slot None rest = rest
     by_slot (Some x) rest = ap (λ (xs : List Survivor). x.survivor ∷ xs) rest

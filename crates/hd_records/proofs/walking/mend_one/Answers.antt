@@ -1,4 +1,4 @@
-use Rattle.std.proofs.Common.{arith, ◌≡◌, ◌∙◌, ap, sym, ℕ, ◌-◌, suc, ◌<◌, ◌+◌, set, Option, length}
+use Rattle.std.proofs.Common.{arith, ◌≡◌, ◌∙◌, sym, ℕ, ◌-◌, suc, ◌<◌, ◌+◌, length}
 use Rattle.hd_catalogue.specs.Contents.{facts_of}
 use Rattle.hd_records.proofs.Shifting.{shift_one, shift_past}
 use Rattle.hd_records.proofs.walking.mend_one.Goals as goal

@@ -13,7 +13,7 @@ use Rattle.hd_records.proofs.Standing.{Reads, reads}
 use Rattle.hd_records.proofs.walking.newest.Goals as goal
 
 pub returns-then-is_target-clause-target : goal.returns-then-is_target-clause-target
-returns-then-is_target-clause-target c =
+returns-then-is_target-clause-target g c =
     let slots = c.args.slots.now.items in
     let numbers = c.args.numbers.now in
     let i : ℕ = c.loop-place.place - 1 in
@@ -39,7 +39,7 @@ returns-then-is_target-clause-target c =
     ∙ sym (ap (option_map (λ (x : Split). x.survivor.number)) found)
 
 pub returns-then-is_target-clause-work : goal.returns-then-is_target-clause-work
-returns-then-is_target-clause-work c =
+returns-then-is_target-clause-work g c =
     let slots = c.args.slots.now.items in
     let numbers = c.args.numbers.now in
     let i : ℕ = c.loop-place.place - 1 in
@@ -61,7 +61,7 @@ returns-then-is_target-clause-work c =
     ∙ ap (λ (n : ℕ). looked n c.args.meter.now) one
 
 pub loop-place-preserved-else-is_target : goal.loop-place-preserved-else-is_target
-loop-place-preserved-else-is_target c =
+loop-place-preserved-else-is_target g c =
     let slots = c.args.slots.now.items in
     let numbers = c.args.numbers.now in
     let i : ℕ = c.loop-place.place - 1 in

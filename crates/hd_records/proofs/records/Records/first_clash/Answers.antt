@@ -1,4 +1,4 @@
-use Rattle.std.proofs.Common.{◌≡◌, ◌∙◌, ap, sym, subst, ℕ, List, filter, map, nat_lt, Option, Some}
+use Rattle.std.proofs.Common.{◌≡◌, ◌∙◌, ap, sym, subst, ℕ, List, filter, map, nat_lt}
 use Rattle.hd_catalogue.specs.Contents.{facts_of}
 use Rattle.hd_clash.specs.About.{EachIsAbout, touches}
 use Rattle.hd_clash.specs.Clash.{first_clash}
@@ -12,7 +12,7 @@ use Rattle.hd_rules.specs.Record.{Record}
 use Rattle.hd_records.specs.Index.{listed_under}
 use Rattle.hd_records.specs.Looks.{walked}
 use Rattle.hd_records.specs.RecordsValue.{AreOf, RecordsValue}
-use Rattle.hd_records.specs.Slots.{records_at, slot_of, taken}
+use Rattle.hd_records.specs.Slots.{records_at, taken}
 use Rattle.hd_records.specs.Survivors.{changes_in, changes_of, newer, record_of}
 use Rattle.hd_records.proofs.Filters.{about_filter, known_filter}
 use Rattle.hd_records.proofs.Leaving.{Touching, touching}

@@ -8,8 +8,12 @@ use Rattle.hd_records.proofs.slots.Slots.empty.Goals as goal
 pub index_mut-requires : goal.index_mut-requires
 index_mut-requires g c =
     let there = subst (λ (v : SlotsValue). c.args.place < length v.items) (sym c.self.view_is) c.requires in
-    omega (arith, there, c.self.inside.slots.ok.0,
-    length_stored c.self.inside.slots.items c.self.inside.findings.items c.self.inside.changes.items)
+    omega (
+      arith,
+      there,
+      c.self.inside.slots.ok.0,
+      length_stored c.self.inside.slots.items c.self.inside.findings.items c.self.inside.changes.items,
+    )
 
 pub invariant_of-self : goal.invariant_of-self
 invariant_of-self g c =

@@ -1,4 +1,4 @@
-use Rattle.std.proofs.Common.{arith, ◌≡◌, ◌<◌, ◌∙◌, ap, sym, ℕ, length, get_or, take, drop, List, Option, None, Some}
+use Rattle.std.proofs.Common.{arith, ◌≡◌, ◌<◌, ◌∙◌, ap, sym, length, get_or, take, drop, List, Option, None, Some}
 use Rattle.std.proofs.lemmas.List.{get_or_past, length-take}
 use Rattle.hd_rules.specs.declared.cells.Change.{Change}
 use Rattle.hd_rules.specs.declared.questions.Finding.{Finding}
@@ -7,15 +7,20 @@ use Rattle.hd_records.specs.declared.slots.Kept.{Kept}
 use Rattle.hd_records.specs.declared.slots.Slot.{Slot}
 use Rattle.hd_records.specs.Laid.{record_in, stored}
 use Rattle.hd_records.specs.SlotsValue.{SlotsValue}
-use Rattle.hd_records.proofs.Laid.{Stands, length_stored, stands_here}
+use Rattle.hd_records.proofs.Laid.{length_stored, stands_here}
 use Rattle.hd_records.proofs.slots.Slots.get.Goals as goal
 
 pub returns-then-place-len : goal.returns-then-place-len
 returns-then-place-len g c =
     let items : List (Option Record) = stored c.self.inside.slots.items c.self.inside.findings.items c.self.inside.changes.items in
     sym (get_or_past items c.args.place None
-    (omega (arith, c.if-place-len.true, c.len.ensures, c.self.inside.slots.ok.0,
-    length_stored c.self.inside.slots.items c.self.inside.findings.items c.self.inside.changes.items)))
+    (omega (
+      arith,
+      c.if-place-len.true,
+      c.len.ensures,
+      c.self.inside.slots.ok.0,
+      length_stored c.self.inside.slots.items c.self.inside.findings.items c.self.inside.changes.items,
+    )))
     ∙ ap (λ (v : SlotsValue). get_or v.items c.args.place None) c.self.view_is
 
 pub returns-in_err-kept : goal.returns-in_err-kept

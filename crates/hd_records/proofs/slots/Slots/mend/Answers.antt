@@ -1,6 +1,6 @@
 use Rattle.std.proofs.Common.{arith, ◌≡◌, ◌<◌, ◌∙◌, ap, sym, subst, refl, ℕ, length, get_or, set, take, drop, List, ◌∷◌, [], Option, None, Some, false, true}
 use Rattle.std.proofs.lemmas.Bool.{false≢true}
-use Rattle.std.specs.Option.{IsSome, is_some}
+use Rattle.std.specs.Option.{is_some}
 use Rattle.hd_catalogue.specs.Contents.{facts_of}
 use Rattle.hd_clash.specs.Counting.{EachIsSmall}
 use Rattle.hd_clash.specs.Records.{EachRecordIsKnown}
@@ -13,7 +13,7 @@ use Rattle.hd_records.specs.declared.slots.Slot.{Slot}
 use Rattle.hd_records.specs.Laid.{AreLaid, record_in, stored}
 use Rattle.hd_records.specs.Slots.{shift_slot, taken}
 use Rattle.hd_records.specs.SlotsValue.{SlotsValue}
-use Rattle.hd_records.proofs.Laid.{Stands, laid_mended, length_stored, mended, none_mended, nothing_mended, stands_here, stored_mended}
+use Rattle.hd_records.proofs.Laid.{laid_mended, length_stored, mended, none_mended, nothing_mended, stands_here, stored_mended}
 use Rattle.hd_records.proofs.slots.Slots.mend.Goals.{else-slot-via-then-slot+else-is_some, else-slot-via-else-slot}
 use Rattle.hd_records.proofs.slots.Slots.mend.Goals as goal
 
@@ -29,8 +29,12 @@ none_in (Some x) fs cs none = absurd (false≢true (sym none))
 pub index-slot-requires : goal.index-slot-requires
 index-slot-requires g c =
     let there = subst (λ (v : SlotsValue). c.args.place < length v.items) (sym c.self.view_is) c.requires.there in
-    omega (arith, there, c.self.inside.slots.ok.0,
-    length_stored c.self.inside.slots.items c.self.inside.findings.items c.self.inside.changes.items)
+    omega (
+      arith,
+      there,
+      c.self.inside.slots.ok.0,
+      length_stored c.self.inside.slots.items c.self.inside.findings.items c.self.inside.changes.items,
+    )
 
 pub mend_at-requires-clause-there : goal.mend_at-requires-clause-there
 mend_at-requires-clause-there g c =
@@ -106,7 +110,7 @@ returns-else-slot-clause-items g c =
     (λ (v : SlotsValue). v.items ≡ set v.items c.args.place (shift_slot k c.args.changes.now (get_or v.items c.args.place None)))
     c.self.view_is
     (elim c.else-slot.branch [
-      else-slot-via-then-slot+else-is_some w ↦ none_mended k c.args.changes.now c.args.place (stored ss fs cs)
+      | else-slot-via-then-slot+else-is_some w ↦ none_mended k c.args.changes.now c.args.place (stored ss fs cs)
           (at.is ∙ none_in s.kept xs ys (sym w.is_some.ensures ∙ w.if-is_some.false))
       | else-slot-via-else-slot w ↦ nothing_mended k c.args.changes.now c.args.place (stored ss fs cs) s.kept xs ys at.is
           (sym at.counts ∙ w.if-slot.false)
