@@ -20,7 +20,7 @@ use Rattle.hd_records.specs.Slots.{AreNumbered, records_at, shift_at, slot_of, t
 use Rattle.hd_records.specs.Survivors.{newer, older, survivors_of}
 use Rattle.hd_records.proofs.Filters.{about_filter, among_filter, map_alike, map_none, passes, rising_filter}
 use Rattle.hd_records.proofs.Shifting.{shift_if, taken_shifted}
-use Rattle.hd_records.proofs.Slots.{newer_are, older_are, slots_rise}
+use Rattle.hd_records.proofs.Numbered.{newer_are, older_are, slots_rise}
 use Rattle.hd_records.proofs.Standing.{Stand, at_numbers, stand_all}
 use Rattle.hd_records.proofs.Touched.{has_is, has_not, union_is}
 

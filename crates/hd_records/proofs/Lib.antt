@@ -1,4 +1,5 @@
-pub mod Slots
+pub mod Numbered
+pub mod Laid
 pub mod Filters
 pub mod Standing
 pub mod Shifting

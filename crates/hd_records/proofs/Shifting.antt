@@ -34,6 +34,11 @@ pub shift_nothing : (k : Facts) (changes : List Change) (b : ℕ) (slots : List 
 shift_nothing k changes b [] = refl
 shift_nothing k changes b (x ∷ xs) = ap (λ (ys : List (Option Record)). x ∷ ys) (shift_nothing k changes (suc b) xs)
 
+pub length_shift_at : (k : Facts) (changes : List Change) (ns : List ℕ) (b : ℕ) (slots : List (Option Record))
+    → length (shift_at k changes ns b slots) ≡ length slots
+length_shift_at k changes ns b [] = refl
+length_shift_at k changes ns b (x ∷ xs) = ap suc (length_shift_at k changes ns (suc b) xs)
+
 -- no slot has the number
 pub shift_past : (k : Facts) (changes : List Change) (n b : ℕ) (slots : List (Option Record))
     → ((m : ℕ) → m < length slots → n ≡ suc b + m → ⊥)

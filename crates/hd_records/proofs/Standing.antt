@@ -13,7 +13,7 @@ use Rattle.hd_records.specs.Index.{asks_about, numbers_of, records_about}
 use Rattle.hd_records.specs.Slots.{AreNumbered, records_at, slot_of, taken}
 use Rattle.hd_records.specs.Survivors.{newer, survivors_of}
 use Rattle.hd_records.proofs.Filters.{among_filter, number_from}
-use Rattle.hd_records.proofs.Slots.{none_some, some_same, taken_joined, within_of}
+use Rattle.hd_records.proofs.Numbered.{none_some, some_same, taken_joined, within_of}
 
 -- each of the records stands in the slot of its number
 abbrev pub Stand : List (Option Record) → List Record → Type 0

@@ -3,6 +3,9 @@ pub mod IndexValue
 pub mod Index
 pub mod RecordsValue
 pub mod Slots
+pub mod SlotsValue
+pub mod Room
+pub mod Laid
 pub mod Titles
 pub mod Looks
 pub mod Shown

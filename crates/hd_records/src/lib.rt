@@ -6,8 +6,12 @@
 
 mod index;
 mod laws;
+mod lent;
+mod lists;
+mod mending;
 mod record;
 mod records;
+mod slots;
 mod survivors;
 mod targets;
 mod walking;

@@ -2,18 +2,11 @@
 #![tactic(auto)]
 
 ghost use Rattle.std.specs.Prelude.{◌≡◌, ◌≤◌, length};
-ghost use Rattle.hd_catalogue.specs.Contents.{facts_of};
-ghost use Rattle.hd_clash.specs.Law.{EachCellIsKnown};
-ghost use Rattle.hd_clash.specs.Shift.{shift_record};
-ghost use Rattle.hd_clash.specs.Counting.{EachIsSmall};
 ghost use Rattle.hd_records.specs.Survivors.{survivor_of};
 ghost use Rattle.hd_records.specs.Shown.{shown};
 
-use hd_catalogue::Catalogue;
-use hd_clash::mend;
 use hd_footprint::{Findings, Footprint};
 use hd_rules::{Change, Finding, Reply, Survivor};
-use std::alloc::Allocator;
 use std::marker::Model;
 
 /// What is kept of an accepted command: who sent it with which number, what it replied, the questions that it
@@ -104,15 +97,11 @@ impl StoredRecord {
         }
     }
 
-    /// The noted answers become those that are found without some changes, where none clashes with them. It
-    /// takes no memory.
-    pub(crate) fn mend<A: Allocator + Copy>(&mut self, catalogue: &Catalogue<A>, changes: &[Change])
-        requires few { length changes.now ≤ 4 }
-        requires known { EachCellIsKnown (facts_of catalogue.now) changes.now }
-        requires small { EachIsSmall self.old.findings }
-        ensures { self.new ≡ shift_record (facts_of catalogue.now) changes.now self.old }
+    /// What it replied.
+    pub(crate) fn reply(&self) -> Reply
+        ensures { result ≡ self.now.reply }
     {
-        mend(catalogue, changes, &mut self.findings);
+        self.reply
     }
 }
 

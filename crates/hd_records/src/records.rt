@@ -22,14 +22,16 @@ ghost use Rattle.hd_records.specs.Survivors.{target_of};
 
 use crate::index::Index;
 use crate::record::{RecordRef, StoredRecord};
+use crate::slots::Slots;
 use crate::survivors::Survivors;
 use crate::targets::title_of;
 use crate::walking;
+use arrayvec::ArrayVec;
 use hd_catalogue::Catalogue;
 use hd_clash::{ChangedKeys, CommandKeys, only_touched_records_shift, the_first_clash_is_touched};
 use hd_footprint::Meter;
 use hd_index::unions_have_each_once;
-use hd_rules::{Cancel, Command, TerminalNo};
+use hd_rules::{Cancel, Change, Command, TerminalNo};
 use std::alloc::{AllocError, Allocator, Global};
 use std::marker::Model;
 
@@ -41,7 +43,7 @@ use std::marker::Model;
 /// memory.
 #[derive(Drop)]
 pub struct Records<A: Allocator = Global> {
-    slots: Vec<Option<StoredRecord>, A>,
+    slots: Slots<A>,
     index: Index<A>,
 }
 
@@ -49,7 +51,7 @@ pub struct Records<A: Allocator = Global> {
 const MOST_RECORDS: usize = 4_294_967_295;
 
 impl<A: Allocator> Model for Records<A> {
-    ghost use Rattle.std.specs.Prelude.{◌-◌, ◌<◌, ◌^◌, vec_capacity, vec_len};
+    ghost use Rattle.std.specs.Prelude.{◌<◌, ◌^◌, length};
     ghost use Rattle.hd_records.specs.RecordsValue.{RecordsValue};
     ghost use Rattle.hd_records.specs.Slots.{AreNumbered, taken};
 
@@ -57,12 +59,12 @@ impl<A: Allocator> Model for Records<A> {
 
     ghost view = { λ r. record {
       records = taken r.slots.items;
-      last = vec_len r.slots;
-      room = vec_capacity r.slots - vec_len r.slots;
+      last = length r.slots.items;
+      room = r.slots.room;
       index = r.index;
     } };
 
-    ghost invariant = { λ r. AreNumbered 0 r.slots.items × (vec_len r.slots < 2 ^ 32) };
+    ghost invariant = { λ r. AreNumbered 0 r.slots.items × (length r.slots.items < 2 ^ 32) };
 }
 
 impl<A: Allocator + Copy> Records<A> {
@@ -73,7 +75,7 @@ impl<A: Allocator + Copy> Records<A> {
         ensures listed { (k : Facts) → AreListed k result }
     {
         Records {
-            slots: Vec::new(alloc),
+            slots: Slots::new(alloc),
             index: Index::new(alloc),
         }
     }
@@ -94,7 +96,7 @@ impl<A: Allocator + Copy> Records<A> {
         if self.slots.len() >= MOST_RECORDS {
             return Err(AllocError);
         }
-        self.slots.reserve(1)?;
+        self.slots.ready()?;
         self.index.ready(CommandKeys::of(catalogue, command))
     }
 
@@ -113,7 +115,7 @@ impl<A: Allocator + Copy> Records<A> {
         let survivor = new.survivor();
         let keys = CommandKeys::of(catalogue, &survivor.command);
         self.index.push(keys, survivor.number as u32);
-        self.slots.push_reserved(Some(new));
+        self.slots.push(new);
     }
 
     /// The last number given, or 0 where none was.
@@ -128,7 +130,7 @@ impl<A: Allocator + Copy> Records<A> {
         ensures record { option_map shown result ≡ record_of number self.now.records }
         ensures few { IfSome result (λ r. length r.changes.now ≤ 4) }
     {
-        let stored = walking::find(self.slots.as_slice(), number)?;
+        let stored = walking::find(&self.slots, number)?;
         Some(stored.show())
     }
 
@@ -137,7 +139,7 @@ impl<A: Allocator + Copy> Records<A> {
         ensures survivors { result ≡ survivors_of self.now.records }
         ensures rising { Rising 1 (survivors_of self.now.records) }
     {
-        Survivors::new(self.slots.as_slice())
+        self.slots.survivors()
     }
 
     /// The number of the newest survivor that such a cancellation by the terminal takes back, or `None` where
@@ -157,7 +159,7 @@ impl<A: Allocator + Copy> Records<A> {
             (records_about k (key.Title (title_of_cancel k what.now)) self.now.records)) meter.old }
     {
         let numbers = self.index.of_title(title_of(catalogue, what));
-        walking::newest(self.slots.as_slice(), numbers, terminal, what, meter)
+        walking::newest(&self.slots, numbers, terminal, what, meter)
     }
 
     /// The number of the first later record that clashes with the changes of the record of this number, or
@@ -179,15 +181,14 @@ impl<A: Allocator + Copy> Records<A> {
             meter.new ≡ walked k changes (filter (touches k changes) (newer number self.now.records))
             meter.old }
     {
-        let Some(target) = walking::find(self.slots.as_slice(), number) else {
+        let Some(target) = walking::find(&self.slots, number) else {
             unreachable!()
         };
         unions_have_each_once();
         the_first_clash_is_touched();
         let keys = ChangedKeys::of(catalogue, target.changes());
         let later = self.index.touched(keys.keys(), number as u32);
-        let slots = self.slots.as_slice();
-        walking::first_clash(catalogue, target.changes(), slots, later, meter)
+        walking::first_clash(catalogue, target.changes(), &self.slots, later, meter)
     }
 
     /// Takes the record of this number out, and mends the later ones: what they noted becomes what is found
@@ -210,11 +211,33 @@ impl<A: Allocator + Copy> Records<A> {
     {
         unions_have_each_once();
         only_touched_records_shift();
-        let gone = walking::take(&mut self.slots, number);
-        let keys = ChangedKeys::of(catalogue, gone.changes());
+        let Some(target) = walking::find(&self.slots, number) else {
+            unreachable!()
+        };
+        let listed = CommandKeys::of(catalogue, &target.survivor().command);
+        let changes = copied(target.changes());
+        let keys = ChangedKeys::of(catalogue, changes.as_slice());
+        walking::take(&mut self.slots, number);
         let touched = self.index.touched(keys.keys(), number as u32);
-        walking::mend_each(catalogue, gone.changes(), &mut self.slots, touched, meter);
-        let listed = CommandKeys::of(catalogue, &gone.survivor().command);
+        walking::mend_each(
+            catalogue,
+            changes.as_slice(),
+            &mut self.slots,
+            touched,
+            meter,
+        );
         self.index.take(listed, number as u32);
     }
+}
+
+/// A copy of the changes of a record, which stands in the value itself.
+fn copied(changes: &[Change]) -> ArrayVec<Change, 4>
+    requires { length changes.now ≤ 4 }
+    ensures { result.items ≡ changes.now }
+{
+    let mut copy = ArrayVec::new();
+    let Ok(()) = copy.try_extend_from_slice(changes) else {
+        unreachable!()
+    };
+    copy
 }

@@ -1,9 +1,7 @@
 //! Walks over records by their numbers.
 #![tactic(auto)]
 
-ghost use Rattle.std.specs.Prelude.{◌≡◌, ◌≤◌, ◌∷◌, [], length, vec_len, vec_capacity};
-ghost use Rattle.std.specs.Prelude.{◌-◌, None, Some, IsSome, slice_set};
-ghost use Rattle.std.specs.Option.{option_copied};
+ghost use Rattle.std.specs.Prelude.{◌≡◌, ◌≤◌, ◌∷◌, [], ◌-◌, None, IsSome, length, slice_set};
 ghost use Rattle.hd_catalogue.specs.Contents.{facts_of};
 ghost use Rattle.hd_clash.specs.Clash.{first_clash};
 ghost use Rattle.hd_clash.specs.Law.{EachCellIsKnown};
@@ -11,10 +9,11 @@ ghost use Rattle.hd_clash.specs.Records.{EachRecordIsKnown};
 ghost use Rattle.hd_index.specs.Union.{union};
 ghost use Rattle.hd_rules.specs.Run.{Rising};
 ghost use Rattle.hd_records.specs.Looks.{looked, looks_to, walked};
-ghost use Rattle.hd_records.specs.Slots.{records_at, shift_at, shift_slot, slot_of, taken};
+ghost use Rattle.hd_records.specs.Slots.{records_at, shift_at, slot_of};
 ghost use Rattle.hd_records.specs.Survivors.{survivors_of, target_of};
 
-use crate::record::StoredRecord;
+use crate::lent::Lent;
+use crate::slots::Slots;
 use crate::targets::is_target;
 use hd_catalogue::Catalogue;
 use hd_clash::has_clash;
@@ -24,43 +23,34 @@ use hd_rules::{Cancel, Change, TerminalNo, the_target_is_the_newest};
 use std::alloc::Allocator;
 
 /// The record of a number, or `None` where there is none. It stands in the number's slot.
-pub(crate) fn find(slots: &[Option<StoredRecord>], number: u64) -> Option<&StoredRecord>
-    ensures { option_copied result ≡ slot_of number slots.now }
+pub(crate) fn find<A: Allocator>(slots: &Slots<A>, number: u64) -> Option<Lent<'_>>
+    ensures { result ≡ slot_of number slots.now.items }
 {
     let place = number.checked_sub(1)?;
-    slots.get(place as usize)?.as_ref()
+    slots.get(place as usize)
 }
 
 /// Takes the record of a number out of its slot.
-pub(crate) fn take<A: Allocator>(
-    slots: &mut Vec<Option<StoredRecord>, A>,
-    number: u64,
-) -> StoredRecord
+pub(crate) fn take<A: Allocator>(slots: &mut Slots<A>, number: u64)
     requires { IsSome (slot_of number slots.old.items) }
-    ensures taken { slot_of number slots.old.items ≡ Some result }
     ensures slots { slots.new.items ≡ slice_set slots.old.items (number - 1) None }
-    ensures len { vec_len slots.new ≡ vec_len slots.old }
-    ensures room { vec_capacity slots.new ≡ vec_capacity slots.old }
+    ensures room { slots.new.room ≡ slots.old.room }
 {
-    let place = number as usize - 1;
-    match slots[place].take() {
-        Some(gone) => gone,
-        None => unreachable!(),
-    }
+    slots.empty(number as usize - 1);
 }
 
 /// Of the records of these numbers the number of the newest whose command such a cancellation by the terminal
 /// takes back.
-pub(crate) fn newest(
-    slots: &[Option<StoredRecord>],
+pub(crate) fn newest<A: Allocator>(
+    slots: &Slots<A>,
     numbers: &[u32],
     terminal: TerminalNo,
     what: &Cancel,
     meter: &mut Meter,
 ) -> Option<u64>
-    requires { Rising 1 (survivors_of (records_at numbers.now slots.now)) }
-    ensures target { result ≡ target_of terminal what.now (records_at numbers.now slots.now) }
-    ensures work { meter.new ≡ looked (looks_to result (records_at numbers.now slots.now)) meter.old }
+    requires { Rising 1 (survivors_of (records_at numbers.now slots.now.items)) }
+    ensures target { result ≡ target_of terminal what.now (records_at numbers.now slots.now.items) }
+    ensures work { meter.new ≡ looked (looks_to result (records_at numbers.now slots.now.items)) meter.old }
 {
     the_target_is_the_newest();
     for place in (0..numbers.len()).rev() {
@@ -78,17 +68,17 @@ pub(crate) fn newest(
 pub(crate) fn first_clash<A: Allocator + Copy>(
     catalogue: &Catalogue<A>,
     changes: &[Change],
-    slots: &[Option<StoredRecord>],
+    slots: &Slots<A>,
     numbers: Union<'_>,
     meter: &mut Meter,
 ) -> Option<u64>
     requires few { length changes.now ≤ 4 }
     requires cells { EachCellIsKnown (facts_of catalogue.now) changes.now }
-    requires known { EachRecordIsKnown (facts_of catalogue.now) (records_at (union numbers) slots.now) }
+    requires known { EachRecordIsKnown (facts_of catalogue.now) (records_at (union numbers) slots.now.items) }
     ensures clash { result
-        ≡ first_clash (facts_of catalogue.now) changes.now (records_at (union numbers.entry) slots.now) }
+        ≡ first_clash (facts_of catalogue.now) changes.now (records_at (union numbers.entry) slots.now.items) }
     ensures work { meter.new
-        ≡ walked (facts_of catalogue.now) changes.now (records_at (union numbers.entry) slots.now) meter.old }
+        ≡ walked (facts_of catalogue.now) changes.now (records_at (union numbers.entry) slots.now.items) meter.old }
 {
     for number in numbers {
         if let Some(later) = find(slots, u64::from(number)) {
@@ -105,7 +95,7 @@ pub(crate) fn first_clash<A: Allocator + Copy>(
 pub(crate) fn mend_each<A: Allocator + Copy>(
     catalogue: &Catalogue<A>,
     changes: &[Change],
-    slots: &mut Vec<Option<StoredRecord>, A>,
+    slots: &mut Slots<A>,
     numbers: Union<'_>,
     meter: &mut Meter,
 )
@@ -115,8 +105,7 @@ pub(crate) fn mend_each<A: Allocator + Copy>(
         (records_at (union numbers) slots.old.items) }
     ensures slots { slots.new.items
         ≡ shift_at (facts_of catalogue.now) changes.now (union numbers.entry) 0 slots.old.items }
-    ensures len { vec_len slots.new ≡ vec_len slots.old }
-    ensures room { vec_capacity slots.new ≡ vec_capacity slots.old }
+    ensures room { slots.new.room ≡ slots.old.room }
     ensures work { meter.new ≡ looked (length (union numbers.entry)) meter.old }
 {
     unions_have_each_once();
@@ -130,7 +119,7 @@ pub(crate) fn mend_each<A: Allocator + Copy>(
 fn mend_one<A: Allocator + Copy>(
     catalogue: &Catalogue<A>,
     changes: &[Change],
-    slots: &mut Vec<Option<StoredRecord>, A>,
+    slots: &mut Slots<A>,
     number: u32,
 )
     requires few { length changes.now ≤ 4 }
@@ -139,29 +128,12 @@ fn mend_one<A: Allocator + Copy>(
         (records_at (number ∷ []) slots.old.items) }
     ensures slots { slots.new.items
         ≡ shift_at (facts_of catalogue.now) changes.now (number ∷ []) 0 slots.old.items }
-    ensures len { vec_len slots.new ≡ vec_len slots.old }
-    ensures room { vec_capacity slots.new ≡ vec_capacity slots.old }
+    ensures room { slots.new.room ≡ slots.old.room }
 {
     if 0 < number {
         let place = number as usize - 1;
         if place < slots.len() {
-            mend_slot(catalogue, changes, &mut slots[place]);
+            slots.mend(catalogue, changes, place);
         }
-    }
-}
-
-/// Mends the record of a slot, if it has one.
-fn mend_slot<A: Allocator + Copy>(
-    catalogue: &Catalogue<A>,
-    changes: &[Change],
-    slot: &mut Option<StoredRecord>,
-)
-    requires few { length changes.now ≤ 4 }
-    requires cells { EachCellIsKnown (facts_of catalogue.now) changes.now }
-    requires known { EachRecordIsKnown (facts_of catalogue.now) (taken (slot.old ∷ [])) }
-    ensures { slot.new ≡ shift_slot (facts_of catalogue.now) changes.now slot.old }
-{
-    if let Some(stored) = slot {
-        stored.mend(catalogue, changes);
     }
 }

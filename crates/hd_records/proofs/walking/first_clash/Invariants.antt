@@ -9,9 +9,9 @@ use Rattle.hd_records.proofs.walking.first_clash.Given as goal
 
 abbrev pub invariant-loop-number : goal.invariant-loop-number
 invariant-loop-number g l = record {
-  known : EachRecordIsKnown (facts_of l.catalogue) (records_at (union l.number-iterator) l.slots);
-  rest : first_clash (facts_of l.catalogue) l.changes (records_at (union l.number-iterator) l.slots)
-      ≡ first_clash (facts_of l.catalogue) l.changes (records_at (union l.fn.numbers) l.slots);
-  work : walked (facts_of l.catalogue) l.changes (records_at (union l.number-iterator) l.slots) l.meter
-      ≡ walked (facts_of l.catalogue) l.changes (records_at (union l.fn.numbers) l.slots) l.fn.meter;
+  known : EachRecordIsKnown (facts_of l.catalogue) (records_at (union l.number-iterator) l.slots.items);
+  rest : first_clash (facts_of l.catalogue) l.changes (records_at (union l.number-iterator) l.slots.items)
+      ≡ first_clash (facts_of l.catalogue) l.changes (records_at (union l.fn.numbers) l.slots.items);
+  work : walked (facts_of l.catalogue) l.changes (records_at (union l.number-iterator) l.slots.items) l.meter
+      ≡ walked (facts_of l.catalogue) l.changes (records_at (union l.fn.numbers) l.slots.items) l.fn.meter;
 }

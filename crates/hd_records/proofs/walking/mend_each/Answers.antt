@@ -33,7 +33,6 @@ loop-number-preserved g c =
       rest =
           ap (shift_at k c.args.changes.now ns 0) c.mend_one.ensures.slots ∙ at.rest
           ∙ ap (λ (xs : List ℕ). shift_at k c.args.changes.now xs 0 slots) (sym first) ∙ c.loop-number.invariant.rest;
-      size = c.mend_one.ensures.len ∙ c.loop-number.invariant.size;
       room = c.mend_one.ensures.room ∙ c.loop-number.invariant.room;
       work =
           ap (looked (length ns)) c.add.ensures

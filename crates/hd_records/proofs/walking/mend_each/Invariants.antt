@@ -1,4 +1,4 @@
-use Rattle.std.proofs.Common.{◌≡◌, length, vec_len, vec_capacity}
+use Rattle.std.proofs.Common.{◌≡◌, length}
 use Rattle.hd_catalogue.specs.Contents.{facts_of}
 use Rattle.hd_clash.specs.Records.{EachRecordIsKnown}
 use Rattle.hd_index.specs.Rising.{IsRising}
@@ -13,7 +13,6 @@ invariant-loop-number g l = record {
   known : EachRecordIsKnown (facts_of l.catalogue) (records_at (union l.number-iterator) l.slots.items);
   rest : shift_at (facts_of l.catalogue) l.changes (union l.number-iterator) 0 l.slots.items
       ≡ shift_at (facts_of l.catalogue) l.changes (union l.fn.numbers) 0 l.fn.slots.items;
-  size : vec_len l.slots ≡ vec_len l.fn.slots;
-  room : vec_capacity l.slots ≡ vec_capacity l.fn.slots;
+  room : l.slots.room ≡ l.fn.slots.room;
   work : looked (length (union l.number-iterator)) l.meter ≡ looked (length (union l.fn.numbers)) l.fn.meter;
 }

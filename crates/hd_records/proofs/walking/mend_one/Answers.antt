@@ -1,9 +1,6 @@
-use Rattle.std.proofs.Common.{arith, ◌≡◌, ◌∙◌, ap, sym, ℕ, ◌-◌, suc, ◌<◌, ◌+◌, set, Option, length}
+use Rattle.std.proofs.Common.{arith, ◌≡◌, ◌∙◌, sym, ℕ, ◌-◌, suc, ◌<◌, ◌+◌, length}
 use Rattle.hd_catalogue.specs.Contents.{facts_of}
-use Rattle.hd_rules.specs.Record.{Record}
-use Rattle.hd_records.specs.Slots.{shift_slot}
 use Rattle.hd_records.proofs.Shifting.{shift_one, shift_past}
-use Rattle.hd_records.proofs.Slots.{read_at}
 use Rattle.hd_records.proofs.walking.mend_one.Goals as goal
 
 pub returns-then-place-len-clause-slots : goal.returns-then-place-len-clause-slots
@@ -12,9 +9,7 @@ returns-then-place-len-clause-slots g c =
     let slots = c.args.slots.now.items in
     let place : ℕ = c.args.number - 1 in
     let below : place < length slots = omega arith in
-    ap (set slots place) c.mend_slot.ensures
-    ∙ ap (λ (o : Option Record). set slots place (shift_slot k c.args.changes.now o))
-    (sym (read_at slots place c.index_mut.result.now below c.index_mut.ensures.value))
+    c.mend.ensures.items
     ∙ sym (shift_one k c.args.changes.now c.args.number 0 place slots (omega arith) below)
 
 pub returns-else-place-len-clause-slots : goal.returns-else-place-len-clause-slots

@@ -13,11 +13,11 @@ use Rattle.hd_records.proofs.Standing.{Reads, reads}
 use Rattle.hd_records.proofs.walking.newest.Goals as goal
 
 pub returns-then-is_target-clause-target : goal.returns-then-is_target-clause-target
-returns-then-is_target-clause-target c =
-    let slots = c.args.slots.now in
+returns-then-is_target-clause-target g c =
+    let slots = c.args.slots.now.items in
     let numbers = c.args.numbers.now in
     let i : ℕ = c.loop-place.place - 1 in
-    let r : Record = c.in-Some.stored.now in
+    let r : Record = c.in-Some.stored in
     let next : c.loop-place.place ≡ i + 1 = omega arith in
     let at : Reads slots numbers i r = reads slots numbers i c.from.result r (omega arith) c.from.ensures c.in-Some.ensures c.requires in
     let split : Split = record {
@@ -39,11 +39,11 @@ returns-then-is_target-clause-target c =
     ∙ sym (ap (option_map (λ (x : Split). x.survivor.number)) found)
 
 pub returns-then-is_target-clause-work : goal.returns-then-is_target-clause-work
-returns-then-is_target-clause-work c =
-    let slots = c.args.slots.now in
+returns-then-is_target-clause-work g c =
+    let slots = c.args.slots.now.items in
     let numbers = c.args.numbers.now in
     let i : ℕ = c.loop-place.place - 1 in
-    let r : Record = c.in-Some.stored.now in
+    let r : Record = c.in-Some.stored in
     let next : c.loop-place.place ≡ i + 1 = omega arith in
     let at : Reads slots numbers i r = reads slots numbers i c.from.result r (omega arith) c.from.ensures c.in-Some.ensures c.requires in
     let number : c.survivor-then-is_target.result.now.number ≡ r.number =
@@ -61,11 +61,11 @@ returns-then-is_target-clause-work c =
     ∙ ap (λ (n : ℕ). looked n c.args.meter.now) one
 
 pub loop-place-preserved-else-is_target : goal.loop-place-preserved-else-is_target
-loop-place-preserved-else-is_target c =
-    let slots = c.args.slots.now in
+loop-place-preserved-else-is_target g c =
+    let slots = c.args.slots.now.items in
     let numbers = c.args.numbers.now in
     let i : ℕ = c.loop-place.place - 1 in
-    let r : Record = c.in-Some.stored.now in
+    let r : Record = c.in-Some.stored in
     let next : c.loop-place.place ≡ i + 1 = omega arith in
     let at : Reads slots numbers i r = reads slots numbers i c.from.result r (omega arith) c.from.ensures c.in-Some.ensures c.requires in
     record {

@@ -6,7 +6,7 @@ use Rattle.hd_records.specs.Survivors.{survivors_of}
 use Rattle.hd_records.proofs.walking.newest.Given as goal
 
 abbrev pub invariant-loop-place : goal.invariant-loop-place
-invariant-loop-place l = record {
-  none : NoTarget l.terminal l.what (survivors_of (records_at (drop l.place l.numbers) l.slots));
-  work : l.meter ≡ looked (length (records_at (drop l.place l.numbers) l.slots)) l.fn.meter;
+invariant-loop-place g l = record {
+  none : NoTarget l.terminal l.what (survivors_of (records_at (drop l.place l.numbers) l.slots.items));
+  work : l.meter ≡ looked (length (records_at (drop l.place l.numbers) l.slots.items)) l.fn.meter;
 }

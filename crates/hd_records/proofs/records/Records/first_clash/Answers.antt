@@ -1,4 +1,4 @@
-use Rattle.std.proofs.Common.{◌≡◌, ◌∙◌, ap, sym, subst, ℕ, List, filter, map, nat_lt, Option, Some}
+use Rattle.std.proofs.Common.{◌≡◌, ◌∙◌, ap, sym, subst, ℕ, List, filter, map, nat_lt}
 use Rattle.hd_catalogue.specs.Contents.{facts_of}
 use Rattle.hd_clash.specs.About.{EachIsAbout, touches}
 use Rattle.hd_clash.specs.Clash.{first_clash}
@@ -12,19 +12,15 @@ use Rattle.hd_rules.specs.Record.{Record}
 use Rattle.hd_records.specs.Index.{listed_under}
 use Rattle.hd_records.specs.Looks.{walked}
 use Rattle.hd_records.specs.RecordsValue.{AreOf, RecordsValue}
-use Rattle.hd_records.specs.Slots.{records_at, slot_of, taken}
+use Rattle.hd_records.specs.Slots.{records_at, taken}
 use Rattle.hd_records.specs.Survivors.{changes_in, changes_of, newer, record_of}
 use Rattle.hd_records.proofs.Filters.{about_filter, known_filter}
 use Rattle.hd_records.proofs.Leaving.{Touching, touching}
-use Rattle.hd_records.proofs.Slots.{none_some, record_there, some_of}
+use Rattle.hd_records.proofs.Numbered.{none_some, record_there, some_of}
 use Rattle.hd_records.proofs.Standing.{At, at_slot, known_one}
 use Rattle.hd_records.proofs.records.Records.first_clash.Given.{Over}
 use Rattle.hd_records.proofs.records.Records.first_clash.Goals.{After-first_clash}
 use Rattle.hd_records.proofs.records.Records.first_clash.Goals as goal
-
--- the record that was found, in its slot
-found : (n : ℕ) (slots lent : List (Option Record)) (o : Option Record) → lent ≡ slots → o ≡ slot_of n lent → slot_of n slots ≡ o
-found n slots lent o same is = sym (is ∙ ap (slot_of n) same)
 
 pub unreachable-requires : goal.unreachable-requires
 unreachable-requires g c =
@@ -32,29 +28,29 @@ unreachable-requires g c =
     let slots = c.self.inside.slots.items in
     let r = some_of (record_of n c.args.self.now.records) c.requires.there in
     none_some r.0
-    (c.in_default.ensures ∙ ap (slot_of n) c.as_slice.ensures.value ∙ sym (record_there n slots c.self.invariant.0)
+    (c.in_default.ensures ∙ sym (record_there n slots c.self.invariant.0)
     ∙ ap (λ (x : RecordsValue). record_of n x.records) c.self.view_is ∙ r.1)
 
 pub of-keys-requires-clause-known : goal.of-keys-requires-clause-known
 of-keys-requires-clause-known g c =
     let k = facts_of c.args.catalogue.now in
     let slots = c.self.inside.slots.items in
-    let r : Record = c.in-Some.target.now in
+    let r : Record = c.in-Some.target in
     let of = subst (AreOf k) (sym c.self.view_is) c.requires.of in
     let at : At c.args.number slots r =
     at_slot c.args.number slots r c.self.invariant.0
-    (found c.args.number slots c.as_slice.result.now (Some r) c.as_slice.ensures.value c.in-Some.ensures) in
+    (sym c.in-Some.ensures) in
     subst (EachCellIsKnown k) (sym c.changes.ensures.changes) (known_one k (taken slots) r of.known at.among).cells
 
 pub first_clash-requires-clause-cells : goal.first_clash-requires-clause-cells
 first_clash-requires-clause-cells g c =
     let k = facts_of c.args.catalogue.now in
     let slots = c.self.inside.slots.items in
-    let r : Record = c.in-Some.target.now in
+    let r : Record = c.in-Some.target in
     let of = subst (AreOf k) (sym c.self.view_is) c.requires.of in
     let at : At c.args.number slots r =
     at_slot c.args.number slots r c.self.invariant.0
-    (found c.args.number slots c.as_slice.result.now (Some r) c.as_slice.ensures.value c.in-Some.ensures) in
+    (sym c.in-Some.ensures) in
     subst (EachCellIsKnown k) (sym c.changes-2.ensures.changes) (known_one k (taken slots) r of.known at.among).cells
 
 pub first_clash-requires-clause-known : goal.first_clash-requires-clause-known
@@ -68,15 +64,13 @@ first_clash-requires-clause-known g c =
     touching c.unions_have_each_once.ensures k c.changes.result.now n slots c.self.inside.index c.of-keys.result c.touched-later.result
     c.self.invariant.0 of.listed c.of-keys.ensures.touched
     (c.touched-later.ensures ∙ ap (map (λ (x : Key). above n (listed_under x c.self.inside.index))) c.keys.ensures.keys) in
-    subst (λ (xs : List (Option Record)). EachRecordIsKnown k (records_at (union c.touched-later.result) xs))
-    (sym c.as_slice-slots.ensures.value)
-    (subst (EachRecordIsKnown k) (sym at.there)
+    subst (EachRecordIsKnown k) (sym at.there)
     (known_filter k (touches k c.changes.result.now) (newer n (taken slots))
-    (known_filter k (λ (x : Record). nat_lt n x.number) (taken slots) of.known)))
+    (known_filter k (λ (x : Record). nat_lt n x.number) (taken slots) of.known))
 
 -- the records that it goes over
 over : (g : Over) (c : After-first_clash g)
-    → records_at (union c.touched-later.result) c.as_slice-slots.result.now
+    → records_at (union c.touched-later.result) c.self.inside.slots.items
     ≡ filter (touches (facts_of c.args.catalogue.now) c.changes.result.now) (newer c.args.number (taken c.self.inside.slots.items))
 over g c =
     let k = facts_of c.args.catalogue.now in
@@ -87,23 +81,23 @@ over g c =
     touching c.unions_have_each_once.ensures k c.changes.result.now n slots c.self.inside.index c.of-keys.result c.touched-later.result
     c.self.invariant.0 of.listed c.of-keys.ensures.touched
     (c.touched-later.ensures ∙ ap (map (λ (x : Key). above n (listed_under x c.self.inside.index))) c.keys.ensures.keys) in
-    ap (records_at (union c.touched-later.result)) c.as_slice-slots.ensures.value ∙ at.there
+    at.there
 
 -- the changes of the record of the number
-changes_are : (g : Over) (c : After-first_clash g) → c.in-Some.target.now.changes ≡ changes_of c.args.number
+changes_are : (g : Over) (c : After-first_clash g) → c.in-Some.target.changes ≡ changes_of c.args.number
     (taken c.self.inside.slots.items)
 changes_are g c =
     let slots = c.self.inside.slots.items in
     ap changes_in
     (sym (record_there c.args.number slots c.self.invariant.0
-    ∙ found c.args.number slots c.as_slice.result.now (Some c.in-Some.target.now) c.as_slice.ensures.value c.in-Some.ensures))
+    ∙ sym c.in-Some.ensures))
 
 pub returns-clause-clash : goal.returns-clause-clash
 returns-clause-clash g c =
     let k = facts_of c.args.catalogue.now in
     let n : ℕ = c.args.number in
     let slots = c.self.inside.slots.items in
-    let cs : List Change = c.in-Some.target.now.changes in
+    let cs : List Change = c.in-Some.target.changes in
     let of = subst (AreOf k) (sym c.self.view_is) c.requires.of in
     let about : EachIsAbout k (newer n (taken slots)) = about_filter k (λ (x : Record). nat_lt n x.number) (taken slots) of.about in
     let same : c.changes.result.now ≡ cs = c.changes.ensures.changes in
@@ -119,7 +113,7 @@ returns-clause-work g c =
     let k = facts_of c.args.catalogue.now in
     let n : ℕ = c.args.number in
     let slots = c.self.inside.slots.items in
-    let cs : List Change = c.in-Some.target.now.changes in
+    let cs : List Change = c.in-Some.target.changes in
     let same : c.changes.result.now ≡ cs = c.changes.ensures.changes in
     c.first_clash.ensures.work
     ∙ (λ j. walked k (c.changes-2.ensures.changes j) (over g c j) c.args.meter.now)

@@ -1,4 +1,4 @@
-use Rattle.std.proofs.Common.{arith, ◌∙◌, ap, sym, subst, ℕ, List}
+use Rattle.std.proofs.Common.{arith, ◌∙◌, ap, refl, sym, subst, ℕ, List}
 use Rattle.hd_catalogue.specs.Contents.{facts_of}
 use Rattle.hd_clash.specs.declared.key.Key.TheVariants as key
 use Rattle.hd_index.specs.Rows.{places_of}
@@ -11,7 +11,7 @@ use Rattle.hd_records.specs.Slots.{taken}
 use Rattle.hd_records.specs.Survivors.{survivors_of, target_of}
 use Rattle.hd_records.specs.Titles.{title_of_cancel}
 use Rattle.hd_records.proofs.Filters.{rising_filter}
-use Rattle.hd_records.proofs.Slots.{slots_rise}
+use Rattle.hd_records.proofs.Numbered.{slots_rise}
 use Rattle.hd_records.proofs.Standing.{about_there}
 use Rattle.hd_records.proofs.Titles.{target_of_title}
 use Rattle.hd_records.proofs.records.Records.newest.Goals as goal
@@ -25,7 +25,7 @@ newest-requires g c =
     let numbers =
     c.of_title-numbers.ensures ∙ ap (λ (n : ℕ). places_of n c.self.inside.index.titles) c.title_of.ensures ∙ listed (key.Title t) in
     let there =
-    about_there k (key.Title t) slots c.as_slice.result.now c.of_title-numbers.result.now c.self.invariant.0 c.as_slice.ensures.value
+    about_there k (key.Title t) slots slots c.of_title-numbers.result.now c.self.invariant.0 refl
     numbers in
     subst (λ (rs : List Record). Rising 1 (survivors_of rs)) (sym there)
     (rising_filter (asks_about k (key.Title t)) 1 (taken slots) (slots_rise 0 1 slots (omega arith) c.self.invariant.0))
@@ -39,7 +39,7 @@ returns-clause-target g c =
     let numbers =
     c.of_title-numbers.ensures ∙ ap (λ (n : ℕ). places_of n c.self.inside.index.titles) c.title_of.ensures ∙ listed (key.Title t) in
     let there =
-    about_there k (key.Title t) slots c.as_slice.result.now c.of_title-numbers.result.now c.self.invariant.0 c.as_slice.ensures.value
+    about_there k (key.Title t) slots slots c.of_title-numbers.result.now c.self.invariant.0 refl
     numbers in
     c.newest.ensures.target ∙ ap (target_of c.args.terminal c.args.what.now) there
     ∙ sym (target_of_title k c.args.terminal c.args.what.now (taken slots))
@@ -54,7 +54,7 @@ returns-clause-work g c =
     let numbers =
     c.of_title-numbers.ensures ∙ ap (λ (n : ℕ). places_of n c.self.inside.index.titles) c.title_of.ensures ∙ listed (key.Title t) in
     let there =
-    about_there k (key.Title t) slots c.as_slice.result.now c.of_title-numbers.result.now c.self.invariant.0 c.as_slice.ensures.value
+    about_there k (key.Title t) slots slots c.of_title-numbers.result.now c.self.invariant.0 refl
     numbers in
     c.newest.ensures.work ∙ ap (λ (rs : List Record). looked (looks_to c.newest.result rs) c.args.meter.now) there
     ∙ ap (λ (x : RecordsValue). looked (looks_to c.newest.result (records_about k (key.Title t) x.records)) c.args.meter.now) c.self.view_is

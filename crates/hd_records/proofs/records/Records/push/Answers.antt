@@ -1,4 +1,5 @@
-use Rattle.std.proofs.Common.{arith, ◌≡◌, ◌++◌, ◌∷◌, [], ◌∙◌, ◌+◌, ◌<◌, ap, sym, subst, length, vec_len, List, Some, cond}
+use Rattle.std.proofs.Common.{arith, ◌≡◌, ◌++◌, ◌∷◌, [], ◌∙◌, ◌+◌, ◌<◌, ap, sym, subst, length, List, Option, Some, cond}
+use Rattle.std.proofs.lemmas.List.{length_push}
 use Rattle.hd_catalogue.specs.Contents.{facts_of}
 use Rattle.hd_clash.specs.CommandKeys.{has_key, keys_of_command}
 use Rattle.hd_index.specs.Rising.{AreBelow}
@@ -8,7 +9,7 @@ use Rattle.hd_records.specs.Index.{asks_about, numbers_of, records_about}
 use Rattle.hd_records.specs.RecordsValue.{AreListed, RecordsValue}
 use Rattle.hd_records.specs.Slots.{AreNumbered, taken}
 use Rattle.hd_records.proofs.Listed.{all_below, one_more}
-use Rattle.hd_records.proofs.Slots.{numbered_more, taken_joined}
+use Rattle.hd_records.proofs.Numbered.{numbered_more, taken_joined}
 use Rattle.hd_records.proofs.records.Records.push.Goals as goal
 
 pub push-requires-clause-above : goal.push-requires-clause-above
@@ -16,7 +17,7 @@ push-requires-clause-above g c x =
     let k = facts_of c.args.catalogue.now in
     let slots = c.self.inside.slots.items in
     let listed = subst (AreListed k) (sym c.self.view_is) c.requires.listed in
-    let number : c.args.new.number ≡ vec_len c.self.inside.slots + 1 =
+    let number : c.args.new.number ≡ length c.self.inside.slots.items + 1 =
     subst (λ (v : RecordsValue). c.args.new.number ≡ v.last + 1) (sym c.self.view_is) c.requires.number in
     let same : c.survivor-survivor.result.now.number ≡ c.args.new.number = ap (λ (s : Survivor). s.number) c.survivor-survivor.ensures in
     let low : 0 + length slots < c.survivor-survivor.result.now.number = omega (arith, number, same) in
@@ -26,19 +27,19 @@ push-requires-clause-above g c x =
 pub invariant_of-self : goal.invariant_of-self
 invariant_of-self g c =
     let slots = c.self.inside.slots.items in
-    let number : c.args.new.number ≡ vec_len c.self.inside.slots + 1 =
+    let number : c.args.new.number ≡ length c.self.inside.slots.items + 1 =
     subst (λ (x : RecordsValue). c.args.new.number ≡ x.last + 1) (sym c.self.view_is) c.requires.number in
-    let last : vec_len c.self.inside.slots + 1 < 4294967296 =
+    let last : length c.self.inside.slots.items + 1 < 4294967296 =
     subst (λ (x : RecordsValue). x.last + 1 < 4294967296) (sym c.self.view_is) c.requires.room.number in (
-      subst (AreNumbered 0) (sym c.push_reserved.ensures.items)
+      subst (AreNumbered 0) (sym c.push-2.ensures.items)
           (numbered_more 0 c.args.new.number slots c.args.new (omega (arith, number)) (omega arith) c.self.invariant.0),
-      omega (arith, last, c.push_reserved.ensures.len),
+      omega (arith, last, ap (λ (xs : List (Option Record)). length xs) c.push-2.ensures.items, length_push slots (Some c.args.new)),
     )
 
 pub returns-clause-records : goal.returns-clause-records
 returns-clause-records g c =
     let slots = c.self.inside.slots.items in
-    ap taken c.push_reserved.ensures.items ∙ taken_joined slots (Some c.args.new ∷ [])
+    ap taken c.push-2.ensures.items ∙ taken_joined slots (Some c.args.new ∷ [])
     ∙ ap (λ (x : RecordsValue). x.records ++ c.args.new ∷ []) c.self.view_is
 
 pub returns-clause-listed : goal.returns-clause-listed
@@ -50,8 +51,8 @@ returns-clause-listed g c x =
     let keys : c.of-keys.result ≡ keys_of_command k r.command =
     c.of-keys.ensures ∙ ap (λ (s : Survivor). keys_of_command k s.command) c.survivor-survivor.ensures in
     let number : c.survivor-survivor.result.now.number ≡ r.number = ap (λ (s : Survivor). s.number) c.survivor-survivor.ensures in
-    let records : taken c.push_reserved.new.self.items ≡ taken slots ++ r ∷ [] =
-    ap taken c.push_reserved.ensures.items ∙ taken_joined slots (Some r ∷ []) in
+    let records : taken c.push-2.new.self.items ≡ taken slots ++ r ∷ [] =
+    ap taken c.push-2.ensures.items ∙ taken_joined slots (Some r ∷ []) in
     c.push.ensures x
     ∙ (λ j. cond (has_key (keys j) x) (listed x j ++ number j ∷ []) (listed x j))
     ∙ sym (one_more (asks_about k x) (taken slots) r)

@@ -2,7 +2,7 @@ use Rattle.std.proofs.Common.{arith, subst}
 use Rattle.hd_rules.specs.Run.{Rising}
 use Rattle.hd_records.specs.RecordsValue.{RecordsValue}
 use Rattle.hd_records.specs.Survivors.{survivors_of}
-use Rattle.hd_records.proofs.Slots.{slots_rise}
+use Rattle.hd_records.proofs.Numbered.{slots_rise}
 use Rattle.hd_records.proofs.records.Records.survivors.Goals as goal
 
 pub returns-clause-rising : goal.returns-clause-rising
