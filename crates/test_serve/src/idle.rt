@@ -35,19 +35,28 @@ impl<'a> Row for Idle<'a> {
         let Some((silent, busy)) = two(terminals) else {
             return false;
         };
-        let is_left = says_all(&busy) && falls_silent(&silent);
+        let is_left = silent.hears(LOGGED_IN) && silent.is_left();
         let is_called = is_up_within(self.host, &self.is_called, TURNS);
         self.is_left.store(true, Ordering::SeqCst);
         is_left && is_called && hears_all(&busy)
     }
 }
 
-/// Logs in, begins a line, and says no more. Whether the server leaves it.
-fn falls_silent(silent: &Terminal) -> bool {
-    silent.asks(LOGIN_1, LOGGED_IN) && silent.says(BEGINNING) && silent.is_left()
+/// Both say all that they have to say before there is a server that could leave them: the one logs in and
+/// begins a line, the other logs in, asks twice and ends. Whether it went out.
+fn have_spoken(terminals: &Vec<Terminal>) -> bool {
+    match (terminals.first(), terminals.last()) {
+        (Some(silent), Some(busy)) => begins(silent) && says_all(busy),
+        _ => false,
+    }
 }
 
-/// Says all that it has to say at once.
+/// Logs in and begins a line.
+fn begins(silent: &Terminal) -> bool {
+    silent.says(LOGIN_1) && silent.says(BEGINNING)
+}
+
+/// Says all at once.
 fn says_all(busy: &Terminal) -> bool {
     busy.says(LOGIN_2) && busy.says(HOLD_2) && busy.says(ITEM) && busy.ends()
 }
@@ -60,6 +69,9 @@ fn hears_all(busy: &Terminal) -> bool {
 /// The silent one is left, and the other is served to its end.
 pub(crate) fn goes<R: Threads + Wait + Clock + Sync>(rt: &R, host: &HostRuntime) -> Option<bool> {
     let opened = open(host, 2)?;
+    if !have_spoken(&opened.terminals) {
+        return None;
+    }
     let scale = Scale {
         workers: 2,
         connections: 2,
