@@ -17,4 +17,3 @@ pub use crate::settling::{allot_copy, settle_copy, tied_to, with_copy};
 pub use hd_date::Day;
 pub use hd_queue::QueueView;
 pub use hd_rules::{BranchNo, CopyNo, CopyState, Hold};
-

@@ -23,4 +23,3 @@ pub use crate::law::{
 pub use crate::offset::OffsetMinutes;
 pub use crate::reading::{local_text, read};
 pub use crate::stamp::Stamp18;
-

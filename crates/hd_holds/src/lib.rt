@@ -7,4 +7,3 @@ pub use crate::holds::Holds;
 pub use hd_catalogue::Catalogue;
 pub use hd_queue::QueueView;
 pub use hd_rules::{Hold, PatronNo, TitleNo};
-

@@ -11,4 +11,3 @@ mod wanted;
 pub use crate::queue::Queue;
 pub use crate::view::{QueueView, Waiting};
 pub use hd_rules::{Hold, HoldKind, PatronNo};
-

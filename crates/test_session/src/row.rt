@@ -74,6 +74,5 @@ const LOGIN_HOLD_CANCELLATION_AND_RESEND: &[u8] =
 
 const REPLIES: &[u8] = b"941\r161Y20260301    100000BR1|BSnorth|AOlib|AAp1|AJta|\r";
 
-const REPLIES_AND_AGAIN: &[u8] =
-    b"941\r161Y20260301    100000BR1|BSnorth|AOlib|AAp1|AJta|\r\
+const REPLIES_AND_AGAIN: &[u8] = b"941\r161Y20260301    100000BR1|BSnorth|AOlib|AAp1|AJta|\r\
         161Y20260301    100000BR1|BSnorth|AOlib|AAp1|AJta|\r";
