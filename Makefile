@@ -67,8 +67,10 @@ bench/out/large.catalogue: scripts/make_library.py
 	@mkdir -p bench/out
 	@python3 $< --out $@
 
-# The gate: a stored day through four connections of the program, built without proofs for it; then every proof from
-# nothing, the wrong bodies that must be refused, the tests and the stored runs.
+# The gate: a stored day through four connections of the program, built without proofs for it; a seat of one hall at
+# another, which the types refuse; then every proof from nothing, the wrong bodies that must be refused, the tests and
+# the stored runs.
 test:
 	@python3 scripts/play_day.py --try
+	@python3 scripts/other_house.py
 	@rt ci
