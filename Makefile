@@ -25,6 +25,7 @@ try:
 # The main job: the stored messages, answered. In a fresh clone every crate below the program is proved first.
 run:
 	@echo 'make run: proves the crates that changed, builds holddesk, and answers the stored messages.' >&2
+	@python3 scripts/prove.py
 	@cd crates/holddesk && rt run -- $(STORED)
 
 # A stored day through four connections of holddesk serve, as make run has built it; its replies are compared.

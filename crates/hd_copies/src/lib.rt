@@ -3,8 +3,6 @@
 
 mod copies;
 mod indexes;
-#[cfg(test)]
-mod tests;
 
 pub use crate::copies::Copies;
 pub use hd_catalogue::Catalogue;

@@ -4,8 +4,6 @@
 mod laws;
 mod lists;
 mod row;
-#[cfg(test)]
-mod tests;
 mod union;
 
 pub use crate::laws::{unions_above_are_filters, unions_are_filters, unions_have_each_once};

@@ -2,8 +2,6 @@
 #![tactic(auto)]
 
 mod loans;
-#[cfg(test)]
-mod tests;
 
 pub use crate::loans::Loans;
 pub use hd_rules::Loan;

@@ -12,6 +12,7 @@
 
 mod answers;
 mod cancelling;
+mod catalogues;
 mod count;
 mod cuts;
 mod damage;
@@ -33,6 +34,7 @@ mod terminals;
 mod ways;
 
 use crate::cancelling::cancel_rows;
+use crate::catalogues::read_catalogues;
 use crate::damaging::damage_rows;
 use crate::memory::cancel_with_little_memory;
 use crate::metering::meter_rows;
@@ -47,6 +49,7 @@ fn main(rt: HostRuntime) -> io::Result<()> {
     for name in ROWS {
         rows.push(Row::read(&rt, name)?)?;
     }
+    read_catalogues(&rt)?;
     replay_rows(&rt, rows.as_slice())?;
     hear_rows(&rt, rows.as_slice())?;
     damage_rows(&rt, rows.as_slice())?;

@@ -2,7 +2,5 @@
 #![tactic(auto)]
 
 mod places;
-#[cfg(test)]
-mod tests;
 
 pub use crate::places::Places;

@@ -3,8 +3,6 @@
 
 mod home;
 mod stock;
-#[cfg(test)]
-mod tests;
 
 pub use crate::stock::Stock;
 pub use hd_rules::{BranchNo, TitleNo};

@@ -2,8 +2,6 @@
 #![tactic(auto)]
 
 mod bound;
-#[cfg(test)]
-mod tests;
 mod transits;
 
 pub use crate::bound::Bound;

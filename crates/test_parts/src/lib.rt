@@ -7,8 +7,22 @@ mod allocation;
 #[cfg(test)]
 mod clashes;
 #[cfg(test)]
+mod copies;
+#[cfg(test)]
 mod footprints;
 #[cfg(test)]
 mod holds;
 #[cfg(test)]
+mod lists;
+#[cfg(test)]
+mod loans;
+#[cfg(test)]
 mod queues;
+#[cfg(test)]
+mod shelves;
+#[cfg(test)]
+mod stocks;
+#[cfg(test)]
+mod tables;
+#[cfg(test)]
+mod transits;

@@ -1,5 +1,5 @@
 //! An example of a stock.
-use crate::{BranchNo, Stock, TitleNo};
+use hd_stock::{BranchNo, Stock, TitleNo};
 use std::test::Fail;
 
 #[test]

@@ -1,5 +1,5 @@
 //! An example of a table.
-use crate::Table;
+use hd_table::Table;
 use std::test::Fail;
 
 #[test]

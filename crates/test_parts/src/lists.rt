@@ -1,5 +1,5 @@
 //! Examples of lists, and of a union.
-use crate::{Lists, Union};
+use hd_index::{Lists, Union};
 use std::test::Fail;
 
 #[test]

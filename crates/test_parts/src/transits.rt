@@ -1,6 +1,6 @@
 //! An example of transits.
-use crate::{Transit, Transits};
 use hd_rules::{BranchNo, CopyNo};
+use hd_transit::{Transit, Transits};
 use std::test::Fail;
 
 /// A transit for nobody.

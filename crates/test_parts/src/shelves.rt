@@ -1,6 +1,6 @@
 //! Examples of a hold shelf.
-use crate::Places;
 use hd_rules::CopyNo;
+use hd_shelf::Places;
 use std::test::Fail;
 
 #[test]

@@ -3,10 +3,10 @@
 ghost use Rattle.std.specs.Prelude.{◌≡◌, ◌<◌, IfOk};
 ghost use Rattle.hd_copies.specs.Standing.{facts};
 
-use crate::{BranchNo, Catalogue, Copies, CopyNo, CopyState, HoldKind, PatronNo, TitleNo};
+use hd_copies::{BranchNo, Catalogue, Copies, CopyNo, CopyState, HoldKind, PatronNo, TitleNo};
 use hd_date::{Day, OffsetMinutes};
-use hd_rules::{HoldPlace, Loan, Transit};
-use std::alloc::{AllocError, Global};
+use hd_rules::Loan;
+use std::alloc::Global;
 use std::sync::Arc;
 use std::test::Fail;
 
@@ -80,29 +80,6 @@ fn lend(copies: &mut Copies, copy: CopyNo, patron: PatronNo, due: Day)
     copies.put(copy, &CopyState::OnLoan(loan));
 }
 
-/// Keeps the copy for the patron, at the branch's least free place, and tells the place.
-fn keep(
-    copies: &mut Copies,
-    copy: CopyNo,
-    branch: BranchNo,
-    patron: PatronNo,
-) -> Result<u32, AllocError>
-    requires copy { copy < (facts copies.old).copies }
-    requires branch { branch < (facts copies.old).branches }
-    requires patron { patron < (facts copies.old).patrons }
-    ensures { copies.new.contents ≡ copies.old.contents }
-{
-    let place = copies.least_free(branch);
-    let kept = CopyState::OnHoldShelf(HoldPlace {
-        branch,
-        place,
-        patron,
-    });
-    copies.ready(&kept)?;
-    copies.put(copy, &kept);
-    Ok(place)
-}
-
 #[test]
 fn copies_are_at_home(rt: HostRuntime) -> Result<(), Fail> {
     let copies = opened(rt.alloc())?;
@@ -111,6 +88,7 @@ fn copies_are_at_home(rt: HostRuntime) -> Result<(), Fail> {
     let first = copy(&copies, b"a1")?;
     let other = copy(&copies, b"b1")?;
     assert_eq!(rt; copies.get(first), CopyState::Shelf(north));
+    assert_eq!(rt; copies.least_free(north), 1);
     assert_eq!(rt; copies.on_shelf(title, &HoldKind::Any, north), 2);
     assert_eq!(rt; copies.on_shelf(title, &HoldKind::AtBranch, north), 1);
     assert_eq!(rt; copies.on_shelf(title, &HoldKind::One(first), north), 1);
@@ -119,7 +97,7 @@ fn copies_are_at_home(rt: HostRuntime) -> Result<(), Fail> {
 }
 
 #[test]
-fn a_lent_copy_comes_back_for_a_hold(rt: HostRuntime) -> Result<(), Fail> {
+fn a_copy_is_lent_and_comes_back(rt: HostRuntime) -> Result<(), Fail> {
     let mut copies = opened(rt.alloc())?;
     let offset = OffsetMinutes::new(0).ok_or("no offset")?;
     let Ok(now) = hd_date::read(b"20260301    100000", offset) else {
@@ -133,32 +111,8 @@ fn a_lent_copy_comes_back_for_a_hold(rt: HostRuntime) -> Result<(), Fail> {
     assert_eq!(rt; copies.loans_of(patron), 1);
     assert_eq!(rt; copies.on_shelf(title, &HoldKind::Any, north), 1);
     assert_eq!(rt; copies.on_shelf(title, &HoldKind::One(first), north), 0);
-    assert_eq!(rt; keep(&mut copies, first, north, patron)?, 1);
+    copies.put(first, &CopyState::Shelf(north));
     assert_eq!(rt; copies.loans_of(patron), 0);
-    assert_eq!(rt; copies.least_free(north), 2);
-    Ok(())
-}
-
-#[test]
-fn the_first_place_is_freed_and_found_again(rt: HostRuntime) -> Result<(), Fail> {
-    let mut copies = opened(rt.alloc())?;
-    let north = branch(&copies, b"north")?;
-    let south = branch(&copies, b"south")?;
-    let patron = patron(&copies, b"p2")?;
-    let first = copy(&copies, b"a1")?;
-    let other = copy(&copies, b"b1")?;
-    assert_eq!(rt; keep(&mut copies, first, north, patron)?, 1);
-    assert_eq!(rt; keep(&mut copies, other, north, patron)?, 2);
-    assert_eq!(rt; copies.least_free(south), 1);
-    let transit = CopyState::InTransit(Transit {
-        from: north,
-        to: south,
-        patron: None,
-    });
-    copies.put(first, &transit);
-    assert_eq!(rt; copies.get(first), transit);
-    assert_eq!(rt; copies.least_free(north), 1);
-    copies.put(first, &CopyState::Shelf(south));
-    assert_eq!(rt; keep(&mut copies, other, north, patron)?, 1);
+    assert_eq!(rt; copies.get(first), CopyState::Shelf(north));
     Ok(())
 }

@@ -1,6 +1,6 @@
 //! An example of loans.
-use crate::{Loan, Loans};
 use hd_date::{Day, OffsetMinutes, read};
+use hd_loans::{Loan, Loans};
 use hd_rules::{CopyNo, PatronNo};
 use std::test::Fail;
 
