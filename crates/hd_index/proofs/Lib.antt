@@ -2,3 +2,4 @@ pub mod RisingLemmas
 pub mod UnionLemmas
 pub mod Passing
 pub mod UnionLaws
+pub mod Ahead

@@ -5,7 +5,7 @@ use Rattle.std.proofs.lemmas.Bool.{cases_Bool}
 use Rattle.std.proofs.lemmas.Bool.Decides.{nat_tests}
 use Rattle.std.specs.List.{AllByRecursion, list_any}
 use Rattle.hd_index.specs.Rising.{IsRising}
-use Rattle.hd_index.specs.Union.{joined, least_first, past, union, union_with}
+use Rattle.hd_index.specs.Union.{IsNotBelow, joined, least_first, past, union, union_with}
 
 -- each number of the list is above this one
 abbrev pub AreAbove : ℕ → List ℕ → Type 0
@@ -21,11 +21,11 @@ joined_above h n (m ∷ ms) l all = elim (cases_Bool (nat_lt n m)) [
   ]
 ]
 
-union_above : (h : ℕ) (ns ms : List ℕ) → AreAbove h ns → AreAbove h ms → AreAbove h (union_with ns ms)
+pub union_above : (h : ℕ) (ns ms : List ℕ) → AreAbove h ns → AreAbove h ms → AreAbove h (union_with ns ms)
 union_above h [] ms low all = all
 union_above h (n ∷ ns) ms low all = joined_above h n (union_with ns ms) low.0 (union_above h ns ms low.1 all)
 
-joined_first : (h : ℕ) (ms : List ℕ) → AreAbove h ms → joined h ms ≡ h ∷ ms
+pub joined_first : (h : ℕ) (ms : List ℕ) → AreAbove h ms → joined h ms ≡ h ∷ ms
 joined_first h [] all = refl
 joined_first h (m ∷ ms) all =
     let less = all.0 in
@@ -61,14 +61,9 @@ union_front true false h ns ms low all = joined_first h (union_with ns ms) (unio
 union_front true true h ns ms low all = ap (joined h) (union_behind h ns ms low) ∙ joined_same h (union_with ns ms)
 
 -- the list begins with the number
-abbrev begins : ℕ → List ℕ → Bool
+abbrev pub begins : ℕ → List ℕ → Bool
 begins n [] = false
 begins n (m ∷ ms) = m == n
-
--- it begins with no smaller number
-abbrev IsNotBelow : ℕ → List ℕ → Type 0
-IsNotBelow n [] = Unit {0}
-IsNotBelow n (m ∷ ms) = n ≤ m
 
 pub weaker : (h n : ℕ) (ns : List ℕ) → h ≤ n → AreAbove n ns → AreAbove h ns
 weaker h n [] l all = tt
@@ -97,7 +92,7 @@ lists_are h (ns ∷ lists) up low =
       union_above h (past h ns) rests here.1 rest.1,
     )
 
-least_some : (b : ℕ) (lists : List (List ℕ)) → least_first (Some b) lists ≡ None → ⊥
+pub least_some : (b : ℕ) (lists : List (List ℕ)) → least_first (Some b) lists ≡ None → ⊥
 least_some b [] e = cc
 least_some b ([] ∷ lists) e = least_some b lists e
 least_some b ((n ∷ ns) ∷ lists) e = least_some (min b n) lists e
@@ -109,16 +104,16 @@ least_none ([] ∷ lists) e = least_none lists e
 least_none ((n ∷ ns) ∷ lists) e = absurd (least_some n lists e)
 
 -- a least number: no list begins below it, and it is what we had or a list begins with it
-record IsLeast (h : ℕ) (had : Option ℕ) (lists : List (List ℕ)) : Type 0 where
-  low : AllByRecursion (IsNotBelow h) lists
-  below : (b : ℕ) → had ≡ Some b → h ≤ b
-  there : (had ≡ Some h) ⊎ (list_any (begins h) lists ≡ true)
+pub record IsLeast (h : ℕ) (had : Option ℕ) (lists : List (List ℕ)) : Type 0 where
+  pub low : AllByRecursion (IsNotBelow h) lists
+  pub below : (b : ℕ) → had ≡ Some b → h ≤ b
+  pub there : (had ≡ Some h) ⊎ (list_any (begins h) lists ≡ true)
 
 either : (a b : Bool) → b ≡ true → (a || b) ≡ true
 either false b e = e
 either true b e = refl
 
-least_is : (had : Option ℕ) (lists : List (List ℕ)) (h : ℕ) → least_first had lists ≡ Some h → IsLeast h had lists
+pub least_is : (had : Option ℕ) (lists : List (List ℕ)) (h : ℕ) → least_first had lists ≡ Some h → IsLeast h had lists
 least_is had [] h e = record { low = tt; below = λ b f. let same : Some h ≡ Some b = sym e ∙ f in grind (arith, same); there = inl e }
 least_is had ([] ∷ lists) h e =
     let rest = least_is had lists h e in

@@ -39,10 +39,21 @@ pub record UnionsHaveEachOnce : Type 0 where
   pub rising : (lists : List (List ℕ)) → IsRising (union lists)
   pub numbers : (lists : List (List ℕ)) (n : ℕ) → has n (union lists) ≡ list_any (has n) lists
 
--- lists of a union: at most twelve, and each rises
-pub record AreLists (count : ℕ) (lists : List (List ℕ)) : Type 0 where
+-- the list begins with no number below this one
+abbrev pub IsNotBelow : ℕ → List ℕ → Type 0
+IsNotBelow n [] = Unit {0}
+IsNotBelow n (m ∷ ms) = n ≤ m
+
+-- So it is with each list behind the first. Without lists the number is 0.
+abbrev pub IsBehindFirst : ℕ → List (List ℕ) → Type 0
+IsBehindFirst n [] = n ≡ 0
+IsBehindFirst n (ns ∷ lists) = AllByRecursion (IsNotBelow n) lists
+
+-- lists of a union: at most twelve, each rises, and those behind the first begin with no number below one
+pub record AreLists (count others : ℕ) (lists : List (List ℕ)) : Type 0 where
   pub few : count ≤ 12
   pub rising : AllByRecursion IsRising lists
+  pub behind : IsBehindFirst others lists
 
 -- the lesser of a number, if there is one, and the first of a list, if it has one
 abbrev pub lesser : Option ℕ → List ℕ → Option ℕ

@@ -1,8 +1,9 @@
 //! Going over several rising lists at once.
 ghost use Rattle.std.specs.Prelude.{◌≡◌, ◌<◌, [], ◌∷◌, ◌++◌, None, length, map};
 ghost use Rattle.std.specs.Iterator.{YieldsFirst, item_count};
+ghost use Rattle.std.specs.List.{AllByRecursion};
 ghost use Rattle.hd_index.specs.Rising.{IsRising};
-ghost use Rattle.hd_index.specs.Union.{least_first, past, union};
+ghost use Rattle.hd_index.specs.Union.{IsNotBelow, least_first, past, union};
 
 use std::marker::Model;
 
@@ -13,6 +14,8 @@ use std::marker::Model;
 pub struct Union<'a> {
     lists: [&'a [u32]; 12],
     count: usize,
+    /// No list behind the first begins with a smaller number.
+    others: u64,
 }
 
 impl<'a> Model for Union<'a> {
@@ -23,7 +26,7 @@ impl<'a> Model for Union<'a> {
 
     ghost view = { λ u. map (λ list. list.now) (take u.count u.lists) };
 
-    ghost invariant = { λ u. AreLists u.count (map (λ list. list.now) (take u.count u.lists)) };
+    ghost invariant = { λ u. AreLists u.count u.others (map (λ list. list.now) (take u.count u.lists)) };
 }
 
 impl<'a> Union<'a> {
@@ -34,6 +37,7 @@ impl<'a> Union<'a> {
         Union {
             lists: [&[]; 12],
             count: 0,
+            others: 0,
         }
     }
 
@@ -45,6 +49,7 @@ impl<'a> Union<'a> {
     {
         self.lists[self.count] = list;
         self.count += 1;
+        self.others = 0;
     }
 }
 
@@ -56,9 +61,16 @@ impl<'a> Iterator for Union<'a> {
     ghost remaining = { item_count (λ lists. union lists) };
 
     fn next(&mut self) -> Option<u32> {
+        if let Some((first, rest)) = self.lists[0].split_first() {
+            if u64::from(*first) < self.others {
+                self.lists[0] = rest;
+                return Some(*first);
+            }
+        }
         let count = self.count;
         let least = least_first(&self.lists[..count])?;
         pass(&mut self.lists[..count], least);
+        self.others = bound(&self.lists[1..count]);
         Some(least)
     }
 }
@@ -77,6 +89,16 @@ fn least_first(lists: &[&[u32]]) -> Option<u32>
         }
     }
     least
+}
+
+/// A number that none of the lists begins below.
+fn bound(lists: &[&[u32]]) -> u64
+    ensures { AllByRecursion (IsNotBelow result) (map (λ list. list.now) lists.now) }
+{
+    match least_first(lists) {
+        Some(first) => u64::from(first),
+        None => u64::MAX,
+    }
 }
 
 /// Moves each list that begins with the number past it.
