@@ -1,3 +1,5 @@
 pub mod Counts
+pub mod Kept
 pub mod Lists
+pub mod Placed
 pub mod Queues

@@ -1,12 +1,11 @@
 -- The queues of all titles.
-use Rattle.std.proofs.Common.{◌≡◌, ℕ, ◌+◌, ◌<◌, ◌≤◌, ◌==◌, ◌&&◌, Bool, true, false, cond, List, [], ◌∷◌, ◌++◌, Option, None, Some, is_some}
-use Rattle.std.proofs.Common.{refl, ap, sym, ◌∙◌, inl, inr, arith, length, zero, suc, eq-eqb, get_or}
+use Rattle.std.proofs.Common.{◌≡◌, ℕ, ◌+◌, ◌<◌, ◌≤◌, ◌==◌, ◌&&◌, Bool, true, false, cond, List, [], Option, None, Some, is_some}
+use Rattle.std.proofs.Common.{refl, ap, sym, ◌∙◌, inl, inr, length, eq-eqb}
 use Rattle.std.proofs.Math.ListN.{set}
-use Rattle.std.proofs.lemmas.Grind.{common_steps}
 use Rattle.std.proofs.lemmas.Bool.{cases_Bool, eqb-true}
-use Rattle.std.proofs.lemmas.List.{get_or-set_same, get_or-set_other, get_or_read, length-set}
+use Rattle.std.proofs.lemmas.List.{get_or-set_same, get_or-set_other, length-set}
 use Rattle.hd_rules.specs.declared.holds.Hold.{Hold}
-use Rattle.hd_rules.specs.Facts.{Facts, AreInRange}
+use Rattle.hd_rules.specs.Facts.{Facts}
 use Rattle.hd_rules.specs.Desk.{Desk}
 use Rattle.hd_rules.specs.Known.{IsKnownHeld}
 use Rattle.hd_rules.specs.Sound.{AreNamed, StampsApart}
@@ -14,33 +13,16 @@ use Rattle.hd_rules.specs.Choose.{count_below, is_before, position}
 use Rattle.hd_queue.specs.Holds.{HasNoStamp, count_before, hold_of, without}
 use Rattle.hd_queue.specs.QueueValue.{QueueValue}
 use Rattle.hd_holds.specs.HoldsValue.{HoldsValue}
-use Rattle.hd_holds.specs.Held.{AreQueues, IsQueue, IsWelcome, facts, held, no_queue, queue_of, with_held}
+use Rattle.hd_holds.specs.Held.{AreQueues, IsQueue, IsWelcome, facts, held, queue_of, with_held}
 use Rattle.hd_holds.proofs.Counts.{count-all, count-holds, count-le}
 use Rattle.hd_holds.proofs.Lists.{hold-named, hold_of-with_held, known-held, known-patrons, no_stamp-without, queue-with_held, stamps-apart}
 
--- each of the queues is empty
-abbrev pub AreEmpty : List QueueValue → Type 0
-AreEmpty [] = Unit {0}
-AreEmpty (q ∷ qs) = (q.holds ≡ []) × AreEmpty qs
-
-pub empty-more : (qs : List QueueValue) (q : QueueValue) → q.holds ≡ [] → AreEmpty qs → AreEmpty (qs ++ q ∷ [])
-empty-more [] q e all = (e, tt)
-empty-more (x ∷ qs) q e all = (all.0, empty-more qs q e all.1)
-
-empty-queue : (qs : List QueueValue) → AreEmpty qs → (t : ℕ) → (queue_of qs t).holds ≡ []
-empty-queue [] all t = grind (arith, common_steps)
-empty-queue (q ∷ qs) all zero = all.0
-empty-queue (q ∷ qs) all (suc t) = empty-queue qs all.1 t
-
-queue-empty : (k : Facts) (hs : List Hold) → hs ≡ [] → IsQueue k hs
+pub queue-empty : (k : Facts) (hs : List Hold) → hs ≡ [] → IsQueue k hs
 queue-empty k hs e = rw e record { ordered = tt; once = tt; known = tt }
 
-pub queues-empty : (k : Facts) (qs : List QueueValue) → AreInRange k → AreEmpty qs → length qs ≡ k.titles → AreQueues k qs
-queues-empty k qs range all many = record { range = range; titles = many; queue = λ t. queue-empty k _ (empty-queue qs all t) }
-
-pub held-empty : (v : HoldsValue) → AreEmpty v.queues → held v ≡ (λ t p. None)
+pub held-empty : (v : HoldsValue) → ((t : ℕ) → (queue_of v.queues t).holds ≡ []) → held v ≡ (λ t p. None)
 unfolding held
-held-empty v all = λ i t p. hold_of (empty-queue v.queues all t i) p
+held-empty v none = λ i t p. hold_of (none t i) p
 
 -- the queues after one of them is written
 pub queue_of-set : (qs : List QueueValue) (i : ℕ) (q : QueueValue) (t : ℕ) → i < length qs →
@@ -124,59 +106,55 @@ pub few-holds : (v : HoldsValue) (t : ℕ) → IsQueue (facts v) (queue_of v.que
     length (queue_of v.queues t).holds ≤ (facts v).patrons
 few-holds v t is = rw (count-queue v t is) (count-le (λ p. is_some (held v t p)) (facts v).patrons)
 
--- the queue of a title as the code reads it, of holds v that are w
-pub record Reads (v w : HoldsValue) (i t : ℕ) (q : QueueValue) : Type 0 where
+-- the queue of a title, of holds v that are w
+pub record Reads (v w : HoldsValue) (t : ℕ) (q : QueueValue) : Type 0 where
   pub same : v ≡ w
-  pub index : i ≡ t
   pub within : t < (facts w).titles
-  pub read : q ≡ get_or v.queues i q
+  pub read : q ≡ queue_of v.queues t
   pub all : AreQueues (facts v) v.queues
 
 -- the holds with another queue of a title
 abbrev pub written : HoldsValue → ℕ → QueueValue → HoldsValue
-written v i r = record { contents = v.contents; queues = set v.queues i r }
+written v t r = record { contents = v.contents; queues = set v.queues t r }
 
-reads-within : (v w : HoldsValue) (i t : ℕ) (q : QueueValue) → Reads v w i t q → i < length v.queues
-reads-within v w i t q reads = rw (reads.index, reads.all.titles, reads.same) reads.within
+module _ {v w : HoldsValue} {t : ℕ} {q : QueueValue} (reads : Reads v w t q) where
+  pub reads-within : t < length v.queues
+  reads-within = rw (reads.all.titles, reads.same) reads.within
 
-reads-queue : (v w : HoldsValue) (i t : ℕ) (q : QueueValue) → Reads v w i t q → q ≡ queue_of v.queues i
-reads-queue v w i t q reads = get_or_read v.queues i q (reads-within v w i t q reads) reads.read no_queue
+  -- more room alone
+  pub held-ready : (r : QueueValue) → r.holds ≡ q.holds → held (written v t r) ≡ held w
+  held-ready r holds =
+      held-same v (written v t r) t r refl reads-within (holds ∙ ap (λ (x : QueueValue). x.holds) reads.read)
+      ∙ ap held reads.same
 
--- more room alone
-pub held-ready : (v w : HoldsValue) (i t : ℕ) (q r : QueueValue) → Reads v w i t q → r.holds ≡ q.holds → held (written v i r) ≡ held w
-held-ready v w i t q r reads holds =
-    held-same v (written v i r) i r refl (reads-within v w i t q reads)
-    (holds ∙ ap (λ (x : QueueValue). x.holds) (reads-queue v w i t q reads))
-    ∙ ap held reads.same
+  pub queue-ready : (r : QueueValue) → r.holds ≡ q.holds → IsQueue (facts v) r.holds
+  queue-ready r holds = rw (holds, reads.read) (reads.all.queue t)
 
--- a patron's hold becomes another, or none
-welcome-read : (v w : HoldsValue) (i t : ℕ) (q : QueueValue) (p : ℕ) (o : Option Hold) → Reads v w i t q → IsWelcome (held w) t p o →
-    IsWelcome (held v) i p o
-welcome-read v w i t q p o reads fit = rw (reads.same, reads.index) fit
+  -- a patron's hold becomes another, or none
+  module _ (p : ℕ) (o : Option Hold) (fit : IsWelcome (held w) t p o) where
+    welcome-read : IsWelcome (held v) t p o
+    welcome-read = rw reads.same fit
 
-pub stamp-put : (v w : HoldsValue) (i t : ℕ) (q : QueueValue) (p : ℕ) (o : Option Hold) → Reads v w i t q → IsWelcome (held w) t p o →
-    (h : Hold) → o ≡ Some h → HasNoStamp h.stamp (without q.holds p)
-stamp-put v w i t q p o reads fit =
-    rw (reads-queue v w i t q reads) (welcome-stamp v i p o (reads.all.queue i) (welcome-read v w i t q p o reads fit))
+    pub stamp-put : (h : Hold) → o ≡ Some h → HasNoStamp h.stamp (without q.holds p)
+    stamp-put = rw reads.read (welcome-stamp v t p o (reads.all.queue t) welcome-read)
 
-pub queues-put : (v w : HoldsValue) (i t : ℕ) (q r : QueueValue) (p : ℕ) (o : Option Hold) → Reads v w i t q → IsWelcome (held w) t p o →
-    IsKnownHeld (facts w) o → r.holds ≡ with_held q.holds p o → AreQueues (facts v) (set v.queues i r)
-queues-put v w i t q r p o reads fit known holds =
-    let is : IsQueue (facts v) q.holds = rw (reads-queue v w i t q reads) (reads.all.queue i) in
-    let own : (h : Hold) → o ≡ Some h → h.patron ≡ p = welcome-own v i p o (welcome-read v w i t q p o reads fit) in
-    queues-set (facts v) v.queues i r (reads-within v w i t q reads) reads.all
-    (rw holds (queue-with_held (facts v) q.holds p o is (rw reads.same known) own (stamp-put v w i t q p o reads fit)))
+    own : (h : Hold) → o ≡ Some h → h.patron ≡ p
+    own = welcome-own v t p o welcome-read
 
-pub held-put : (v w : HoldsValue) (i t : ℕ) (q r : QueueValue) (p : ℕ) (o : Option Hold) → Reads v w i t q → IsWelcome (held w) t p o →
-    r.holds ≡ with_held q.holds p o → held (written v i r) ≡ (λ u n. cond ((t == u) && (p == n)) o (held w u n))
-unfolding held
-held-put v w i t q r p o reads fit holds =
-    let own : (h : Hold) → o ≡ Some h → h.patron ≡ p = welcome-own v i p o (welcome-read v w i t q p o reads fit) in
-    let each : (n : ℕ) → hold_of r.holds n ≡ cond (p == n) o (held v i n) = λ n.
-    ap (λ (hs : List Hold). hold_of hs n) (holds ∙ ap (λ (x : QueueValue). with_held x.holds p o) (reads-queue v w i t q reads))
-    ∙ hold_of-with_held (queue_of v.queues i).holds p n o own in
-    held-set v (written v i r) i r p o refl (reads-within v w i t q reads) each
-    ∙ (λ j u n. cond ((reads.index j == u) && (p == n)) o (held (reads.same j) u n))
+    pub queue-put : (r : QueueValue) → IsKnownHeld (facts w) o → r.holds ≡ with_held q.holds p o → IsQueue (facts v) r.holds
+    queue-put r known holds =
+        let is : IsQueue (facts v) q.holds = rw reads.read (reads.all.queue t) in
+        rw holds (queue-with_held (facts v) q.holds p o is (rw reads.same known) own stamp-put)
+
+    pub held-put : (r : QueueValue) → r.holds ≡ with_held q.holds p o →
+        held (written v t r) ≡ (λ u n. cond ((t == u) && (p == n)) o (held w u n))
+    unfolding held
+    held-put r holds =
+        let each : (n : ℕ) → hold_of r.holds n ≡ cond (p == n) o (held v t n) = λ n.
+        ap (λ (hs : List Hold). hold_of hs n) (holds ∙ ap (λ (x : QueueValue). with_held x.holds p o) reads.read)
+        ∙ hold_of-with_held (queue_of v.queues t).holds p n o own in
+        held-set v (written v t r) t r p o refl reads-within each
+        ∙ (λ j u n. cond ((t == u) && (p == n)) o (held (reads.same j) u n))
 
 -- holds of queues are fit
 pub held-named : (v : HoldsValue) → AreNamed (held v)

@@ -1,2 +1,3 @@
 pub mod HoldsValue
 pub mod Held
+pub mod Places

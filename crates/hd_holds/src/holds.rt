@@ -1,8 +1,8 @@
 //! Holds, a queue for each title.
 #![tactic(auto, unfolding(crate::specs::Held::held, crate::specs::Held::room_of))]
 
-ghost use Rattle.std.specs.Prelude.{◌≡◌, ◌+◌, ◌<◌, ◌≤◌, ◌==◌, ◌&&◌, ℕ, if◌then◌else◌, IfOk, None, OnErr};
-ghost use Rattle.std.specs.Prelude.{OnOk, Option, is_some};
+ghost use Rattle.std.specs.Prelude.{[], ◌≡◌, ◌+◌, ◌<◌, ◌≤◌, ◌==◌, ◌&&◌, ℕ, if◌then◌else◌, IfOk, None, OnErr};
+ghost use Rattle.std.specs.Prelude.{◌^◌, OnOk, Option, is_some, length, slice_set};
 ghost use Rattle.std.specs.Arc.{arc_value};
 ghost use Rattle.std.specs.Option.{ForSome};
 ghost use Rattle.hd_rules.specs.Choose.{count_below, position};
@@ -12,6 +12,7 @@ ghost use Rattle.hd_rules.specs.Sound.{AreNamed, StampsApart};
 ghost use Rattle.hd_queue.specs.Holds.{HasNoStamp, HasPatronsOnce, IsInOrder, hold_of, without};
 ghost use Rattle.hd_holds.specs.Held.{AreKnown, AreOfPatrons, AreQueues, IsQueue, IsWelcome, facts, held};
 ghost use Rattle.hd_holds.specs.Held.{queue_of, room_of, with_held};
+ghost use Rattle.hd_holds.specs.Places.{HasOneMore};
 
 use hd_catalogue::Catalogue;
 use hd_queue::{Queue, QueueView};
@@ -23,11 +24,13 @@ use std::sync::Arc;
 /// The holds of all titles of a library: at most one a title and patron, those of a title in order of stamp
 /// (docs/desk-rules.md, "State").
 ///
-/// Only `open` and `ready` take memory.
+/// Only `open` and `ready` take memory: a title four bytes, and a queue once room is made for a hold of it.
 #[derive(Drop)]
 pub struct Holds<A: Allocator = Global> {
     catalogue: Arc<Catalogue<A>, A>,
-    /// The queue of each title, by its number.
+    /// The place of each title's queue among the queues, by the title's number, or 0 where it has none.
+    places: Vec<u32, A>,
+    /// First a queue without holds, which stands for those that aren't there, and then the titles' own.
     queues: Vec<Queue<A>, A>,
 }
 
@@ -35,13 +38,16 @@ impl<A: Allocator> Model for Holds<A> {
     ghost use Rattle.std.specs.Arc.{arc_value};
     ghost use Rattle.hd_catalogue.specs.Contents.{facts_of};
     ghost use Rattle.hd_holds.specs.HoldsValue.{HoldsValue};
-    ghost use Rattle.hd_holds.specs.Held.{AreQueues};
+    ghost use Rattle.hd_holds.specs.Places.{IsPlaced, queues_at};
 
     ghost Value = { HoldsValue };
 
-    ghost view = { λ h. record { contents = arc_value h.catalogue; queues = h.queues.items } };
+    ghost view = { λ h. record {
+      contents = arc_value h.catalogue;
+      queues = queues_at h.queues.items h.places.items;
+    } };
 
-    ghost invariant = { λ h. AreQueues (facts_of (arc_value h.catalogue)) h.queues.items };
+    ghost invariant = { λ h. IsPlaced (facts_of (arc_value h.catalogue)) h.places.items h.queues.items };
 }
 
 impl<A: Allocator + Copy> Holds<A> {
@@ -50,12 +56,14 @@ impl<A: Allocator + Copy> Holds<A> {
         ensures contents { IfOk result (λ made. made.contents ≡ arc_value catalogue) }
         ensures none { IfOk result (λ made. held made ≡ (λ t p. None)) }
     {
-        let titles = catalogue.titles();
-        let mut queues = Vec::with_capacity(alloc, titles)?;
-        for _ in 0..titles {
-            queues.push(Queue::new(alloc))?;
-        }
-        Ok(Holds { catalogue, queues })
+        let places = vec![in alloc; 0; catalogue.titles()]?;
+        let mut queues = Vec::new(alloc);
+        queues.push(Queue::new(alloc))?;
+        Ok(Holds {
+            catalogue,
+            places,
+            queues,
+        })
     }
 
     /// The patron's hold of the title, or `None` where there is none.
@@ -83,7 +91,15 @@ impl<A: Allocator + Copy> Holds<A> {
         ensures full { OnErr result (room_of self.old title < more) }
         ensures room { (t : ℕ) → room_of self.old t ≤ room_of self.new t }
     {
-        self.queues[title.number() as usize].ready(more)
+        let at = title.number() as usize;
+        let place = self.places[at];
+        if place > 0 {
+            self.queues[place as usize].ready(more)
+        } else if more > 0 {
+            add_queue(&mut self.places, &mut self.queues, at, more)
+        } else {
+            Ok(())
+        }
     }
 
     /// The patron's hold of the title becomes this, or ends. It takes no memory.
@@ -101,7 +117,11 @@ impl<A: Allocator + Copy> Holds<A> {
         ensures contents { self.new.contents ≡ self.old.contents }
         ensures room { (t : ℕ) → room_of self.old t ≤ room_of self.new t + 1 }
     {
-        replace(&mut self.queues[title.number() as usize], patron, new);
+        let place = self.places[title.number() as usize];
+        // A title without a queue has no hold that could end, and no room for one.
+        if place > 0 {
+            replace(&mut self.queues[place as usize], patron, new);
+        }
     }
 
     /// The position that a hold with this stamp has in the title's queue, from 1.
@@ -137,12 +157,38 @@ impl<A: Allocator + Copy> Holds<A> {
     /// The title's queue, as it is kept.
     fn queue(&self, title: TitleNo) -> &Queue<A>
         requires { title < (facts self.now).titles }
-        ensures value { result.now ≡ queue_of self.now.queues title }
+        ensures holds { result.now.holds ≡ (queue_of self.now.queues title).holds }
         ensures queue { IsQueue (facts self.now) (queue_of self.now.queues title).holds }
         ensures all { AreQueues (facts self.now) self.now.queues }
     {
-        &self.queues[title.number() as usize]
+        let place = self.places[title.number() as usize];
+        &self.queues[place as usize]
     }
+}
+
+/// Puts a queue without holds, with room for that many, behind the others, at the place of this title.
+///
+/// Want of memory changes nothing.
+fn add_queue<A: Allocator + Copy>(
+    places: &mut Vec<u32, A>,
+    queues: &mut Vec<Queue<A>, A>,
+    title: usize,
+    more: usize,
+) -> Result<(), AllocError>
+    requires title { title < length places.old.items }
+    requires few { length queues.old.items < 2 ^ 32 }
+    ensures places { OnOk result (places.new.items
+        ≡ slice_set places.old.items title (length queues.old.items)) }
+    ensures queues { OnOk result (HasOneMore more queues.old.items queues.new.items) }
+    ensures err_places { OnErr result (places.new.items ≡ places.old.items) }
+    ensures err_queues { OnErr result (queues.new.items ≡ queues.old.items) }
+{
+    let mut queue = Queue::new(*queues.allocator());
+    queue.ready(more)?;
+    let place = queues.len() as u32;
+    queues.push(queue)?;
+    places[title] = place;
+    Ok(())
 }
 
 /// Takes a patron's hold out of a queue, and puts the new one in at the place of its stamp, if there is one.

@@ -5,7 +5,7 @@ use Rattle.hd_holds.proofs.holds.Holds.get.Goals as goal
 
 pub returns-clause-known : goal.returns-clause-known
 returns-clause-known g c =
-    rw (c.hold_of.ensures, c.queue.ensures.value) (known-held (facts c.args.self.now)
+    rw (c.hold_of.ensures, c.queue.ensures.holds) (known-held (facts c.args.self.now)
     (queue_of c.args.self.now.queues c.args.title).holds c.args.patron c.queue.ensures.queue.known)
 
 pub returns-clause-named : goal.returns-clause-named

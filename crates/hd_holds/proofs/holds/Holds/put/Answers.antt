@@ -1,45 +1,91 @@
+use Rattle.std.proofs.Common.{◌∙◌, ◌<◌, ℕ, ap, arith, subst}
 use Rattle.std.specs.Arc.{arc_value}
-use Rattle.hd_holds.specs.HoldsValue.{HoldsValue}
-use Rattle.hd_holds.proofs.Queues.{Reads, held-put, queues-put, stamp-put}
+use Rattle.hd_holds.specs.Held.{held}
+use Rattle.hd_holds.proofs.Kept.{ReadsPlace, held-none, placed-own, reads-none, reads-own, room-kept, room-read, written-own}
+use Rattle.hd_holds.proofs.Queues.{held-put, queue-put, stamp-put}
 use Rattle.hd_holds.proofs.holds.Holds.put.Goals as goal
+
+pub replace-requires-clause-room : goal.replace-requires-clause-room
+replace-requires-clause-room g c =
+    let at : ReadsPlace (arc_value c.self.inside.catalogue) c.self.inside.places.items c.self.inside.queues.items c.args.self.now
+    c.number.result c.args.title c.index-place.result.now =
+    record {
+      same = c.self.view_is;
+      all = c.self.invariant;
+      index = c.number.ensures.value;
+      within = c.requires.title;
+      read = c.index-place.ensures;
+    } in
+    let reads = reads-own at c.if-place-gt0.true c.index_mut.result.now c.index_mut.ensures.value in
+    λ hold is. subst (λ (n : ℕ). 0 < n) (room-read reads) (c.requires.room hold is)
 
 pub replace-requires-clause-stamp : goal.replace-requires-clause-stamp
 replace-requires-clause-stamp g c =
-    let old : HoldsValue = record { contents = arc_value c.self.inside.catalogue; queues = c.self.inside.queues.items } in
-    let reads : Reads old c.args.self.now c.number.result c.args.title c.index_mut.result.now =
+    let at : ReadsPlace (arc_value c.self.inside.catalogue) c.self.inside.places.items c.self.inside.queues.items c.args.self.now
+    c.number.result c.args.title c.index-place.result.now =
     record {
       same = c.self.view_is;
+      all = c.self.invariant;
       index = c.number.ensures.value;
       within = c.requires.title;
-      read = c.index_mut.ensures.value;
-      all = c.self.invariant;
+      read = c.index-place.ensures;
     } in
-    stamp-put old c.args.self.now c.number.result c.args.title c.index_mut.result.now c.args.patron c.args.new.now reads c.requires.fit
+    let reads = reads-own at c.if-place-gt0.true c.index_mut.result.now c.index_mut.ensures.value in
+    stamp-put reads c.args.patron c.args.new.now c.requires.fit
 
 pub invariant_of-self : goal.invariant_of-self
 invariant_of-self g c =
-    let old : HoldsValue = record { contents = arc_value c.self.inside.catalogue; queues = c.self.inside.queues.items } in
-    let reads : Reads old c.args.self.now c.number.result c.args.title c.index_mut.result.now =
+    let at : ReadsPlace (arc_value c.self.inside.catalogue) c.self.inside.places.items c.self.inside.queues.items c.args.self.now
+    c.number.result c.args.title c.index-place.result.now =
     record {
       same = c.self.view_is;
+      all = c.self.invariant;
       index = c.number.ensures.value;
       within = c.requires.title;
-      read = c.index_mut.ensures.value;
-      all = c.self.invariant;
+      read = c.index-place.ensures;
     } in
-    queues-put old c.args.self.now c.number.result c.args.title c.index_mut.result.now c.replace.new.queue c.args.patron c.args.new.now
-    reads c.requires.fit c.requires.known c.replace.ensures.holds
+    let reads = reads-own at c.if-place-gt0.true c.index_mut.result.now c.index_mut.ensures.value in
+    placed-own at c.if-place-gt0.true c.replace.new.queue
+    (queue-put reads c.args.patron c.args.new.now c.requires.fit c.replace.new.queue c.requires.known c.replace.ensures.holds)
 
-pub returns-clause-held : goal.returns-clause-held
-returns-clause-held g c =
-    let old : HoldsValue = record { contents = arc_value c.self.inside.catalogue; queues = c.self.inside.queues.items } in
-    let reads : Reads old c.args.self.now c.number.result c.args.title c.index_mut.result.now =
+pub returns-then-place-gt0-clause-held : goal.returns-then-place-gt0-clause-held
+returns-then-place-gt0-clause-held g c =
+    let at : ReadsPlace (arc_value c.self.inside.catalogue) c.self.inside.places.items c.self.inside.queues.items c.args.self.now
+    c.number.result c.args.title c.index-place.result.now =
     record {
       same = c.self.view_is;
+      all = c.self.invariant;
       index = c.number.ensures.value;
       within = c.requires.title;
-      read = c.index_mut.ensures.value;
-      all = c.self.invariant;
+      read = c.index-place.ensures;
     } in
-    held-put old c.args.self.now c.number.result c.args.title c.index_mut.result.now c.replace.new.queue c.args.patron c.args.new.now reads
-    c.requires.fit c.replace.ensures.holds
+    let reads = reads-own at c.if-place-gt0.true c.index_mut.result.now c.index_mut.ensures.value in
+    ap held (written-own at c.if-place-gt0.true c.replace.new.queue)
+    ∙ held-put reads c.args.patron c.args.new.now c.requires.fit c.replace.new.queue c.replace.ensures.holds
+
+pub returns-then-place-gt0-clause-room : goal.returns-then-place-gt0-clause-room
+returns-then-place-gt0-clause-room g c =
+    let at : ReadsPlace (arc_value c.self.inside.catalogue) c.self.inside.places.items c.self.inside.queues.items c.args.self.now
+    c.number.result c.args.title c.index-place.result.now =
+    record {
+      same = c.self.view_is;
+      all = c.self.invariant;
+      index = c.number.ensures.value;
+      within = c.requires.title;
+      read = c.index-place.ensures;
+    } in
+    let reads = reads-own at c.if-place-gt0.true c.index_mut.result.now c.index_mut.ensures.value in
+    λ u. rw (written-own at c.if-place-gt0.true c.replace.new.queue) (room-kept reads c.replace.new.queue 1 u c.replace.ensures.room)
+
+pub returns-else-place-gt0-clause-held : goal.returns-else-place-gt0-clause-held
+returns-else-place-gt0-clause-held g c =
+    let at : ReadsPlace (arc_value c.self.inside.catalogue) c.self.inside.places.items c.self.inside.queues.items c.args.self.now
+    c.number.result c.args.title c.index-place.result.now =
+    record {
+      same = c.self.view_is;
+      all = c.self.invariant;
+      index = c.number.ensures.value;
+      within = c.requires.title;
+      read = c.index-place.ensures;
+    } in
+    held-none (reads-none at (omega (arith, c.if-place-gt0.false))) c.args.patron c.args.new.now c.requires.room

@@ -1,17 +1,69 @@
+use Rattle.std.proofs.Common.{arith}
+use Rattle.std.proofs.Math.ListN.{set}
 use Rattle.std.specs.Arc.{arc_value}
-use Rattle.hd_holds.specs.HoldsValue.{HoldsValue}
-use Rattle.hd_holds.proofs.Queues.{Reads, held-ready}
+use Rattle.hd_holds.proofs.Kept.{ReadsPlace, kept, placed-own, placed-ready, ready-added, ready-written, reads-own, written-own}
+use Rattle.hd_holds.proofs.Queues.{queue-ready}
 use Rattle.hd_holds.proofs.holds.Holds.ready.Goals as goal
 
-pub returns-clause-held : goal.returns-clause-held
-returns-clause-held g c =
-    let old : HoldsValue = record { contents = arc_value c.self.inside.catalogue; queues = c.self.inside.queues.items } in
-    let reads : Reads old c.args.self.now c.number.result c.args.title c.index_mut.result.now =
+pub invariant_of-self : goal.invariant_of-self
+invariant_of-self g c =
+    let at : ReadsPlace (arc_value c.self.inside.catalogue) c.self.inside.places.items c.self.inside.queues.items c.args.self.now
+    c.number-at.result c.args.title c.index-place.result.now =
     record {
       same = c.self.view_is;
-      index = c.number.ensures.value;
-      within = c.requires;
-      read = c.index_mut.ensures.value;
       all = c.self.invariant;
+      index = c.number-at.ensures.value;
+      within = c.requires;
+      read = c.index-place.ensures;
     } in
-    held-ready old c.args.self.now c.number.result c.args.title c.index_mut.result.now c.ready.new.self reads c.ready.ensures.holds
+    let reads = reads-own at c.if-place-gt0.true c.index_mut.result.now c.index_mut.ensures.value in
+    placed-own at c.if-place-gt0.true c.ready.new.self (queue-ready reads c.ready.new.self c.ready.ensures.holds)
+
+pub returns-then-place-gt0 : goal.returns-then-place-gt0
+returns-then-place-gt0 g c =
+    let at : ReadsPlace (arc_value c.self.inside.catalogue) c.self.inside.places.items c.self.inside.queues.items c.args.self.now
+    c.number-at.result c.args.title c.index-place.result.now =
+    record {
+      same = c.self.view_is;
+      all = c.self.invariant;
+      index = c.number-at.ensures.value;
+      within = c.requires;
+      read = c.index-place.ensures;
+    } in
+    let reads = reads-own at c.if-place-gt0.true c.index_mut.result.now c.index_mut.ensures.value in
+    let queues = set c.self.inside.queues.items c.index-place.result.now c.ready.new.self in
+    let is =
+    ready-written c.ready.result reads (kept (arc_value c.self.inside.catalogue) c.self.inside.places.items queues) c.args.more
+    c.ready.new.self (written-own at c.if-place-gt0.true c.ready.new.self) c.ready.ensures.holds c.ready.ensures.ok c.ready.ensures.err
+    c.ready.ensures.full c.ready.ensures.room in
+    record { held = is.held; contents = is.contents; ok = is.ok; err = is.err; full = is.full; room = is.room }
+
+pub invariant_of-self-then-more-gt0 : goal.invariant_of-self-then-more-gt0
+invariant_of-self-then-more-gt0 g c =
+    let at : ReadsPlace (arc_value c.self.inside.catalogue) c.self.inside.places.items c.self.inside.queues.items c.args.self.now
+    c.number-at.result c.args.title c.index-place.result.now =
+    record {
+      same = c.self.view_is;
+      all = c.self.invariant;
+      index = c.number-at.ensures.value;
+      within = c.requires;
+      read = c.index-place.ensures;
+    } in
+    placed-ready at (omega (arith, c.if-place-gt0.false)) c.add_queue.new.places.items c.add_queue.new.queues.items c.args.more c.if-more-gt0.true
+    c.add_queue.result c.add_queue.ensures.places c.add_queue.ensures.queues c.add_queue.ensures.err_places c.add_queue.ensures.err_queues
+
+pub returns-then-more-gt0 : goal.returns-then-more-gt0
+returns-then-more-gt0 g c =
+    let at : ReadsPlace (arc_value c.self.inside.catalogue) c.self.inside.places.items c.self.inside.queues.items c.args.self.now
+    c.number-at.result c.args.title c.index-place.result.now =
+    record {
+      same = c.self.view_is;
+      all = c.self.invariant;
+      index = c.number-at.ensures.value;
+      within = c.requires;
+      read = c.index-place.ensures;
+    } in
+    let is =
+    ready-added at (omega (arith, c.if-place-gt0.false)) c.add_queue.new.places.items c.add_queue.new.queues.items c.args.more c.if-more-gt0.true
+    c.add_queue.result c.add_queue.ensures.places c.add_queue.ensures.queues c.add_queue.ensures.err_places c.add_queue.ensures.err_queues in
+    record { held = is.held; contents = is.contents; ok = is.ok; err = is.err; full = is.full; room = is.room }
