@@ -9,10 +9,10 @@ help:
 	@echo 'make run        prove what changed, build holddesk, and answer the stored messages'
 	@echo 'make day        after make run: play a stored day through four connections of holddesk serve'
 	@echo 'make hostile    after make run: a day of hostile clients beside one that has to be answered'
-	@echo 'make load       after make run: turns a second beside a server that only echoes (eight minutes; rustc)'
+	@echo 'make load       after make run: turns a second beside a server that only echoes (four minutes; rustc)'
 	@echo 'make install    after make run: the program and its manual page, below PREFIX ($(PREFIX)) and DESTDIR'
 	@echo 'make uninstall  take them away again'
-	@echo 'make test       the gate: a stored day over TCP, every proof from nothing, wrong bodies, tests, stored runs'
+	@echo 'make test       the gate: two days over TCP, every proof from nothing, wrong bodies, tests, stored runs'
 
 STORED = replay --catalogue data/demonstration.catalogue --now '20260301    120000' < stdin
 
@@ -44,7 +44,8 @@ uninstall:
 	rm -f $(DESTDIR)$(PREFIX)/bin/holddesk $(DESTDIR)$(PREFIX)/share/man/man1/holddesk.1
 	rm -rf $(DESTDIR)$(PREFIX)/share/doc/holddesk
 
-# A day of hostile clients against holddesk serve, as make run has built it, beside one that has to be answered.
+# A day of hostile clients against holddesk serve, as make run has built it, beside one that has to be answered; the
+# gate plays it with a program built without proofs.
 hostile:
 	@python3 scripts/hostile_day.py
 
@@ -68,10 +69,11 @@ bench/out/large.catalogue: scripts/make_library.py
 	@mkdir -p bench/out
 	@python3 $< --out $@
 
-# The gate: a stored day through four connections of the program, built without proofs for it; a seat of one hall at
-# another, which the types refuse; then every proof from nothing, the wrong bodies that must be refused, the tests and
-# the stored runs.
+# The gate: a stored day through four connections of the program, and a day of hostile clients, built without proofs
+# for them; a seat of one hall at another, which the types refuse; then every proof from nothing, the wrong bodies that
+# must be refused, the tests and the stored runs.
 test:
 	@python3 scripts/play_day.py --try
+	@python3 scripts/hostile_day.py --try
 	@python3 scripts/other_house.py
 	@rt ci

@@ -2,14 +2,16 @@
 """Plays a day of hostile clients against holddesk serve, beside one honest terminal that has to be answered.
 
     python3 scripts/hostile_day.py [PROGRAM]
+    python3 scripts/hostile_day.py --try
 
-PROGRAM is crates/holddesk/out/holddesk where it isn't given. The server has 8 workers, and drops a connection that is
-idle for 2 seconds. 56 hostile connections come at once and hold all workers but the honest terminal's: some send
-nothing, half a line, a megabyte without an end, bytes by chance, a login and a reset, a turn and a reset, or many lines
-whose replies they never read. Then 8 that send nothing take all workers, and the honest terminal has to connect anew.
-It makes 1,000 turns in all, whose replies are compared byte for byte, each within the idle limit and a second. At last
-the server has to end by itself, with the turns and survivors that were made. Takes under a minute. Needs nothing but
-Python 3. Status 0: all is well.
+PROGRAM is crates/holddesk/out/holddesk where it isn't given; with --try it is built first without any proof, by rt try.
+The server has 8 workers, and drops a connection that is idle for 2 seconds. 56 hostile connections come at once and
+hold all workers but the honest terminal's: some send nothing, half a line, a megabyte without an end, bytes by chance,
+a login and a reset, a turn and a reset, or many lines whose replies they never read. Then 8 that send nothing take all
+workers, and the honest terminal has to connect anew. It makes 1,000 turns in all, whose replies are compared byte for
+byte, each within the idle limit and a second. At last the server has to end by itself, with the turns and survivors
+that were made. Takes at most a minute, or two without proofs, whose checks are slow, beside the building. Needs nothing
+but Python 3 (and rt, for --try). Status 0: all is well.
 """
 
 import os
@@ -24,10 +26,13 @@ import tempfile
 import threading
 import time
 
+from play_day import BUILDING, FOLDER, free_port, listening
+
 HERE = os.path.dirname(os.path.abspath(__file__))
 TOP = os.path.dirname(HERE)
 CATALOGUE = os.path.join(TOP, "crates", "holddesk", "data", "demonstration.catalogue")
 WORKERS = 8
+CONNECTIONS = 56 + WORKERS + 2
 IDLE = 2
 LIMIT = IDLE + 1
 SECONDS = 60
@@ -300,41 +305,69 @@ def compare_end(honest, hostile, status, out):
         hostile.turns + unread, unread, hostile.longest))
 
 
+def words_of_serve(catalogue, port, connections):
+    """The words of the command line after the program's name."""
+    return ["serve", "--catalogue", catalogue, "--listen", "127.0.0.1:%d" % port, "--workers", str(WORKERS),
+            "--idle", str(IDLE), "--connections", str(connections)]
+
+
+def day_at(server, port, seconds=SECONDS):
+    """Plays the day at a server that listens, and looks at how it ends."""
+    signal.alarm(seconds)
+    honest, hostile = play(port)
+    out, _ = server.communicate(timeout=SECONDS)
+    compare_end(honest, hostile, server.returncode, out)
+
+
 def served(program, catalogue):
-    """Starts the server, plays the day, and looks at how it ends."""
-    server = subprocess.Popen(
-        [program, "serve", "--catalogue", catalogue, "--listen", "127.0.0.1:0", "--workers", str(WORKERS),
-         "--idle", str(IDLE), "--connections", str(56 + WORKERS + 2)],
-        stdout=subprocess.PIPE, stderr=subprocess.PIPE)
+    """Starts the program's server, and plays the day."""
+    server = subprocess.Popen([program, *words_of_serve(catalogue, 0, CONNECTIONS)],
+                              stdout=subprocess.PIPE, stderr=subprocess.PIPE)
     try:
         first = server.stderr.readline()
         port = re.fullmatch(rb"listening on 127\.0\.0\.1:(\d+), 8 workers\n", first)
         if not port:
             raise Trouble("it says %r first" % first)
-        honest, hostile = play(int(port[1]))
-        out, _ = server.communicate(timeout=SECONDS)
-        compare_end(honest, hostile, server.returncode, out)
+        day_at(server, int(port[1]))
     finally:
         if server.poll() is None:
             server.kill()
             server.wait()
 
 
+def tried(catalogue):
+    """Builds the program without proofs, starts its server, and plays the day. One connection more only looks whether
+    it listens."""
+    port = free_port()
+    server = subprocess.Popen(
+        ["rt", "try", "--seconds", str(BUILDING), "--", *words_of_serve(catalogue, port, CONNECTIONS + 1)],
+        cwd=FOLDER, stdin=subprocess.DEVNULL, stdout=subprocess.PIPE, stderr=subprocess.PIPE)
+    try:
+        listening(server, port).close()
+        day_at(server, port, 2 * SECONDS)
+    finally:
+        if server.poll() is None:
+            server.terminate()
+
+
 def too_long(*_):
-    raise Trouble("the day takes over %d seconds" % SECONDS)
+    raise Trouble("the day takes too long")
 
 
 def main():
+    is_tried = sys.argv[1:] == ["--try"]
     program = sys.argv[1] if len(sys.argv) > 1 else os.path.join(TOP, "crates", "holddesk", "out", "holddesk")
     signal.signal(signal.SIGALRM, too_long)
-    signal.alarm(SECONDS)
     with tempfile.TemporaryDirectory() as folder, open(CATALOGUE, encoding="ascii") as file:
         header, rest = file.read().split("\n", 1)
         catalogue = os.path.join(folder, "catalogue")
         with open(catalogue, "w", encoding="ascii") as made:
             made.write(header.rsplit("|", 1)[0] + "|1000000\n" + rest)
         try:
-            served(program, catalogue)
+            if is_tried:
+                tried(catalogue)
+            else:
+                served(program, catalogue)
         except (Trouble, OSError) as trouble:
             print("hostile_day:", trouble, file=sys.stderr)
             sys.exit(1)
