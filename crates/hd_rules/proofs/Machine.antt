@@ -14,7 +14,8 @@ use Rattle.hd_rules.specs.Depends.{NoneDepends, IsLeastDependent, first_dependen
 use Rattle.hd_rules.specs.Target.{Split, IsTarget, target}
 use Rattle.hd_rules.specs.Turns.{Message, Kept, State, Answered, repeated_of, repeated, with_survivor, without, next_survivor}
 use Rattle.hd_rules.specs.Turns.{answered_command, answered_target, answered_cancel, keeping, with_kept, answered_new, answered_unless}
-use Rattle.hd_rules.specs.Turns.{turn_of, IsRepeat, IsCommandTurn, IsRefusedCancel, IsCancelTurn, IsQueryTurn, IsNewTurn, IsTurn}
+use Rattle.hd_rules.specs.Turns.{turn_of, IsRepeat}
+use Rattle.hd_rules.specs.TurnRelation.{IsCommandTurn, IsRefusedCancel, IsCancelTurn, IsQueryTurn, IsNewTurn, IsTurn}
 use Rattle.hd_rules.proofs.Tests.{and_left, and_right, some_is}
 use Rattle.hd_rules.proofs.Same.{asked_self, line_self}
 use Rattle.hd_rules.proofs.Alike.{asked_is, line_is}

@@ -6,8 +6,8 @@ use Rattle.hd_rules.specs.declared.turns.Asked.TheVariants as ask
 use Rattle.hd_rules.specs.declared.replies.TurnReply.TheVariants.{Done as Accepted, Refused, Cancelled, Item}
 use Rattle.hd_rules.specs.Facts.{Facts}
 use Rattle.hd_rules.specs.Run.{IsAmong}
-use Rattle.hd_rules.specs.Turns.{Message, Kept, State, start, kept_of, keeping, next_survivor, turn_of, IsCommandTurn, IsCancelTurn}
-use Rattle.hd_rules.specs.Turns.{IsQueryTurn, IsNewTurn, IsTurn}
+use Rattle.hd_rules.specs.Turns.{Message, Kept, State, start, kept_of, keeping, next_survivor, turn_of}
+use Rattle.hd_rules.specs.TurnRelation.{IsCommandTurn, IsCancelTurn, IsQueryTurn, IsNewTurn, IsTurn}
 use Rattle.hd_rules.specs.Journal.{Turn, IsLegalFrom, IsLegal, IsRunOfSurvivors}
 use Rattle.hd_rules.specs.Replies.{TellsOf, IsReplyTo}
 use Rattle.hd_rules.proofs.Tests.{some_is}

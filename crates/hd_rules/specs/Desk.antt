@@ -1,15 +1,17 @@
 -- A desk gives each copy a place and each pair of title and patron a hold or none.
-use Rattle.std.specs.Prelude.{ℕ, Bool, false, ◌&&◌, ◌==◌, Option, None, List, [], ◌∷◌, if◌then◌else◌}
+use Rattle.std.specs.Prelude.{◌&&◌, ◌==◌, Option, None, List, [], ◌∷◌, if◌then◌else◌}
 use Rattle.hd_rules.specs.Words.{Hold, CopyState, Shelf, Cell, CopyCell, HoldCell, Value, CopyHas, HoldHas}
 use Rattle.hd_rules.specs.Words.{Change}
+use Rattle.hd_rules.specs.Numbers.{CopyNo, TitleNo, PatronNo}
 use Rattle.hd_rules.specs.Facts.{Facts}
+pub use Rattle.hd_rules.specs.Changes.{same_cell}
 
--- what each cell has
+-- what each cell has (§ State)
 pub record Desk : Type 0 where
-  pub copy : ℕ → CopyState
-  pub hold : ℕ → ℕ → Option Hold
+  pub copy : CopyNo → CopyState
+  pub hold : TitleNo → PatronNo → Option Hold
 
--- each copy at home, and no holds
+-- each copy at home, and no holds (§ State)
 abbrev pub opening : Facts → Desk
 opening k = record { copy = λ c. Shelf (k.home c); hold = λ t p. None }
 
@@ -18,20 +20,11 @@ abbrev pub value : Desk → Cell → Value
 value d (CopyCell c) = CopyHas (d.copy c)
 value d (HoldCell t p) = HoldHas (d.hold t p)
 
--- the two are one cell
-abbrev pub same_cell : Cell → Cell → Bool
-same_cell (CopyCell c) (CopyCell x) = c == x
-same_cell (CopyCell c) (HoldCell t p) = false
-same_cell (HoldCell t p) (CopyCell c) = false
-same_cell (HoldCell t p) (HoldCell u q) = (t == u) && (p == q)
-
 -- the desk with this value in this cell
 abbrev pub put : Desk → Cell → Value → Desk
-put d (CopyCell c) (CopyHas v) = record { copy = λ x. if c == x then v else d.copy x; hold = d.hold }
-put d (HoldCell t p) (HoldHas v) =
-    record { copy = d.copy; hold = λ u q. if (t == u) && (p == q) then v else d.hold u q }
-put d (CopyCell c) (HoldHas v) = d
-put d (HoldCell t p) (CopyHas v) = d
+put d (CopyCell c) (CopyHas v) = record d { copy = λ x. if c == x then v else d.copy x }
+put d (HoldCell t p) (HoldHas v) = record d { hold = λ u q. if (t == u) && (p == q) then v else d.hold u q }
+put d _ _ = d
 
 -- the desk after these changes, in order
 abbrev pub after : List Change → Desk → Desk

@@ -3,7 +3,8 @@ use Rattle.std.specs.Prelude.{◌≡◌, ◌↔◌, List, [], ◌∷◌, ◌++�
 use Rattle.hd_rules.specs.Words.{Survivor, TurnReply}
 use Rattle.hd_rules.specs.Facts.{Facts, AreInRange}
 use Rattle.hd_rules.specs.Run.{IsAmong, Rising}
-use Rattle.hd_rules.specs.Turns.{Message, State, start, IsTurn, turn_of}
+use Rattle.hd_rules.specs.Turns.{Message, State, start, turn_of}
+use Rattle.hd_rules.specs.TurnRelation.{IsTurn}
 use Rattle.hd_rules.specs.Journal.{Turn, state_after, IsLegal, replied_from, IsRunOfSurvivors}
 use Rattle.hd_rules.specs.Known.{IsKnown, IsKnownJournal}
 use Rattle.hd_rules.specs.Record.{IsKeptOf}
@@ -49,8 +50,7 @@ KnownMessagesGetKnownReplies =
 -- Whatever the messages are, there is one legal list of turns with them.
 abbrev pub EveryListOfMessagesIsAnswered : Type 0
 EveryListOfMessagesIsAnswered =
-    (k : Facts) (turns : List Turn)
-    → IsLegal k (replied_from k (start k) turns)
+    (k : Facts) (turns : List Turn) → IsLegal k (replied_from k (start k) turns)
     × (IsLegal k turns → replied_from k (start k) turns ≡ turns)
 
 -- in every legal list of turns

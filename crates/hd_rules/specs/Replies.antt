@@ -1,4 +1,4 @@
--- Which replies a message may get.
+-- Which replies a message may get (docs/protocol.md, "Replies written"; SIP2 2.00).
 use Rattle.hd_rules.specs.Words.{Action, Asked, Reply, LentOrRenewed, Returned, Held, Deleted, TurnReply}
 use Rattle.hd_rules.specs.declared.commands.Action.TheVariants as action
 use Rattle.hd_rules.specs.declared.turns.Asked.TheVariants as ask

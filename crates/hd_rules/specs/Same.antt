@@ -24,8 +24,7 @@ same_number m n = m == n
 abbrev pub same_option : {A : Type 0} → (A → A → Bool) → Option A → Option A → Bool
 same_option same None None = true
 same_option same (Some x) (Some y) = same x y
-same_option same None (Some y) = false
-same_option same (Some x) None = false
+same_option same _ _ = false
 
 -- kinds of holds
 abbrev pub same_kind : HoldKind → HoldKind → Bool
@@ -151,9 +150,8 @@ same_turn_reply _ _ = false
 abbrev pub same_line : List ℕ → List ℕ → Bool
 same_line [] [] = true
 same_line (x ∷ xs) (y ∷ ys) = (x == y) && same_line xs ys
-same_line [] (y ∷ ys) = false
-same_line (x ∷ xs) [] = false
+same_line _ _ = false
 
--- the changes that change something
+-- the changes that change something (§ All commands)
 unfoldable pub real_changes : List Change → List Change
 real_changes changes = filter (λ (c : Change). not (same_value c.old c.new)) changes

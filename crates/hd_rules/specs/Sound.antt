@@ -1,45 +1,48 @@
 -- What holds of every desk that commands lead to.
-use Rattle.std.specs.Prelude.{◌≡◌, ℕ, ◌<◌, ◌≤◌, Option, Some, None, List, [], ◌∷◌}
-use Rattle.hd_rules.specs.Words.{Change, Hold, HoldPlace, CopyState, Shelf, OnLoan, OnHoldShelf, InTransit}
+use Rattle.std.specs.Prelude.{◌≡◌, ◌<◌, ◌≤◌, Option, Some, None, List, [], ◌∷◌}
+use Rattle.hd_rules.specs.Words.{Change, Hold, HoldPlace, CopyState, OnHoldShelf, InTransit}
+use Rattle.hd_rules.specs.Numbers.{BranchNo, TitleNo, CopyNo, PatronNo, Stamp}
 use Rattle.hd_rules.specs.Facts.{Facts}
 use Rattle.hd_rules.specs.Desk.{Desk, put, undone}
 
 -- the hold has this copy, and this pickup
-abbrev pub Has : Option Hold → ℕ → ℕ → Type 0
+abbrev pub Has : Option Hold → CopyNo → BranchNo → Type 0
 Has None c b = ⊥
 Has (Some h) c b = (h.copy ≡ Some c) × (h.pickup ≡ b)
 
 -- the copy is kept for the patron at this branch, or is on the way there
-abbrev pub Tied : CopyState → ℕ → ℕ → Type 0
-Tied (Shelf x) p b = ⊥
-Tied (OnLoan l) p b = ⊥
+abbrev pub Tied : CopyState → PatronNo → BranchNo → Type 0
 Tied (OnHoldShelf s) p b = (s.patron ≡ p) × (s.branch ≡ b)
 Tied (InTransit t) p b = (t.patron ≡ Some p) × (t.to ≡ b)
+Tied _ p b = ⊥
 
--- A hold has a copy exactly where that copy, one of its title, is tied to its patron at its pickup.
+-- A hold has a copy exactly where that copy, one of its title, is tied to its patron at its pickup (§ State).
 pub record Tie (k : Facts) (d : Desk) : Type 0 where
-  pub tied : (t : ℕ) (p : ℕ) (c : ℕ) (b : ℕ) → Has (d.hold t p) c b → (k.title_of c ≡ t) × Tied (d.copy c) p b
-  pub has : (p : ℕ) (c : ℕ) (b : ℕ) → Tied (d.copy c) p b → Has (d.hold (k.title_of c) p) c b
+  pub tied : (t : TitleNo) (p : PatronNo) (c : CopyNo) (b : BranchNo) →
+      Has (d.hold t p) c b → (k.title_of c ≡ t) × Tied (d.copy c) p b
+  pub has : (p : PatronNo) (c : CopyNo) (b : BranchNo) →
+      Tied (d.copy c) p b → Has (d.hold (k.title_of c) p) c b
 
 -- each hold stands under its own patron
-abbrev pub AreNamed : (ℕ → ℕ → Option Hold) → Type 0
-AreNamed holds = (t : ℕ) (p : ℕ) (h : Hold) → holds t p ≡ Some h → h.patron ≡ p
+abbrev pub AreNamed : (TitleNo → PatronNo → Option Hold) → Type 0
+AreNamed holds = (t : TitleNo) (p : PatronNo) (h : Hold) → holds t p ≡ Some h → h.patron ≡ p
 
 -- no two holds of a title have one stamp
-abbrev pub StampsApart : (ℕ → ℕ → Option Hold) → Type 0
+abbrev pub StampsApart : (TitleNo → PatronNo → Option Hold) → Type 0
 StampsApart holds =
-    (t : ℕ) (p q : ℕ) (g h : Hold) → holds t p ≡ Some g → holds t q ≡ Some h → g.stamp ≡ h.stamp → p ≡ q
+    (t : TitleNo) (p q : PatronNo) (g h : Hold) → holds t p ≡ Some g → holds t q ≡ Some h →
+    g.stamp ≡ h.stamp → p ≡ q
 
 -- and each stamp is below n
-pub record HoldsFit (n : ℕ) (holds : ℕ → ℕ → Option Hold) : Type 0 where
+pub record HoldsFit (n : Stamp) (holds : TitleNo → PatronNo → Option Hold) : Type 0 where
   pub named : AreNamed holds
-  pub stamped : (t : ℕ) (p : ℕ) (h : Hold) → holds t p ≡ Some h → h.stamp < n
+  pub stamped : (t : TitleNo) (p : PatronNo) (h : Hold) → holds t p ≡ Some h → h.stamp < n
   pub apart : StampsApart holds
 
 -- Places are numbered from 1, and no two of the catalogue's copies share a place of a branch.
-pub record PlacesFit (k : Facts) (copies : ℕ → CopyState) : Type 0 where
-  pub from_one : (c : ℕ) (s : HoldPlace) → copies c ≡ OnHoldShelf s → 1 ≤ s.place
-  pub apart : (x y : ℕ) (s r : HoldPlace) → x < k.copies → y < k.copies → copies x ≡ OnHoldShelf s
+pub record PlacesFit (k : Facts) (copies : CopyNo → CopyState) : Type 0 where
+  pub from_one : (c : CopyNo) (s : HoldPlace) → copies c ≡ OnHoldShelf s → 1 ≤ s.place
+  pub apart : (x y : CopyNo) (s r : HoldPlace) → x < k.copies → y < k.copies → copies x ≡ OnHoldShelf s
       → copies y ≡ OnHoldShelf r → s.branch ≡ r.branch → s.place ≡ r.place → x ≡ y
 
 -- a fit desk
@@ -49,7 +52,7 @@ pub record IsFit (k : Facts) (d : Desk) : Type 0 where
   pub places : PlacesFit k d.copy
 
 -- the desk is fit and sound, and n is above every stamp
-pub record Sound (k : Facts) (n : ℕ) (d : Desk) : Type 0 where
+pub record Sound (k : Facts) (n : Stamp) (d : Desk) : Type 0 where
   pub holds : HoldsFit n d.hold
   pub places : PlacesFit k d.copy
   pub tie : Tie k d

@@ -1,14 +1,15 @@
--- Which command a cancellation takes back.
-use Rattle.std.specs.Prelude.{◌≡◌, ℕ, Bool, true, false, ◌&&◌, ◌==◌, if◌then◌else◌, Option, Some, None, List}
+-- Which command a cancellation takes back (docs/protocol.md, "Cancellations").
+use Rattle.std.specs.Prelude.{◌≡◌, Bool, true, false, ◌&&◌, ◌==◌, if◌then◌else◌, Option, Some, None, List}
 use Rattle.std.specs.Prelude.{[], ◌∷◌, ◌++◌}
 use Rattle.hd_rules.specs.Words.{Action, Cancel, Survivor}
 use Rattle.hd_rules.specs.declared.commands.Action.TheVariants.{Checkout, OffLine, Checkin, Add, Delete}
 use Rattle.hd_rules.specs.declared.commands.Action.TheVariants.{ChangeHold, Renew}
 use Rattle.hd_rules.specs.declared.commands.Cancel.TheVariants.{Loan, Return, Renewal, Adding, Deletion}
 use Rattle.hd_rules.specs.declared.commands.Cancel.TheVariants.{Changing}
+use Rattle.hd_rules.specs.Numbers.{PatronNo, TitleNo, TerminalNo}
 
 -- the same patron and title
-abbrev pub same_pair : ℕ → ℕ → ℕ → ℕ → Bool
+abbrev pub same_pair : PatronNo → TitleNo → PatronNo → TitleNo → Bool
 same_pair p t q u = (p == q) && (t == u)
 
 -- The action is what such a cancellation takes back. The patron
@@ -23,35 +24,35 @@ is_of_kind (Deletion p t) (Delete q u) = same_pair p t q u
 is_of_kind (Changing p t) (ChangeHold q u kind pickup expiry) = same_pair p t q u
 is_of_kind _ _ = false
 
--- a survivor that such a cancellation by this terminal may take back
-abbrev pub is_target : ℕ → Cancel → Survivor → Bool
-is_target terminal what s = (s.terminal == terminal) && is_of_kind what s.command.action
-
--- none of them may be taken back so
-abbrev pub NoTarget : ℕ → Cancel → List Survivor → Type 0
-NoTarget terminal what [] = Unit {0}
-NoTarget terminal what (s ∷ ss) = (is_target terminal what s ≡ false) × NoTarget terminal what ss
-
 -- survivors, split at one of them
 pub record Split : Type 0 where
   pub older : List Survivor
   pub survivor : Survivor
   pub newer : List Survivor
 
--- the survivors, split at the newest target
-pub record IsTarget (terminal : ℕ) (what : Cancel) (survivors : List Survivor) (at : Split) : Type 0 where
-  pub split : survivors ≡ at.older ++ at.survivor ∷ at.newer
-  pub fits : is_target terminal what at.survivor ≡ true
-  pub newest : NoTarget terminal what at.newer
+module _ (terminal : TerminalNo) (what : Cancel) where
+  -- a survivor that such a cancellation by this terminal may take back
+  abbrev pub is_target : Survivor → Bool
+  is_target s = (s.terminal == terminal) && is_of_kind what s.command.action
 
--- the target among these later ones, or else the survivor before them
-abbrev pub newest_of : ℕ → Cancel → Survivor → List Survivor → Option Split → Option Split
-newest_of terminal what s ss (Some at) =
-    Some (record { older = s ∷ at.older; survivor = at.survivor; newer = at.newer })
-newest_of terminal what s ss None =
-    if is_target terminal what s then Some (record { older = []; survivor = s; newer = ss }) else None
+  -- none of them may be taken back so
+  abbrev pub NoTarget : List Survivor → Type 0
+  NoTarget [] = Unit {0}
+  NoTarget (s ∷ ss) = (is_target s ≡ false) × NoTarget ss
 
--- the newest target, if there is one
-abbrev pub target : ℕ → Cancel → List Survivor → Option Split
-target terminal what [] = None
-target terminal what (s ∷ ss) = newest_of terminal what s ss (target terminal what ss)
+  -- the survivors, split at the newest target
+  pub record IsTarget (survivors : List Survivor) (at : Split) : Type 0 where
+    pub split : survivors ≡ at.older ++ at.survivor ∷ at.newer
+    pub fits : is_target at.survivor ≡ true
+    pub newest : NoTarget at.newer
+
+  -- the target among these later ones, or else the survivor before them
+  abbrev pub newest_of : Survivor → List Survivor → Option Split → Option Split
+  newest_of s ss (Some at) =
+      Some (record { older = s ∷ at.older; survivor = at.survivor; newer = at.newer })
+  newest_of s ss None = if is_target s then Some (record { older = []; survivor = s; newer = ss }) else None
+
+  -- how it is found: the newest target, if there is one
+  abbrev pub target : List Survivor → Option Split
+  target [] = None
+  target (s ∷ ss) = newest_of s ss (target ss)
