@@ -121,6 +121,9 @@ module _ {contents : Contents} {ps : List ℕ} {qs : List QueueValue} {w : Holds
       get_or_read ps i p (omega (arith, at.index, of_title, titles-places (facts_of contents) ps qs at.all)) at.read 0
       ∙ ap (place_of ps) at.index
 
+  pub place-within : p < length qs
+  place-within = omega (arith, is-place, at.all.within t)
+
   -- a queue of its own
   module _ (own : 0 < p) where
     own-place : 0 < place_of ps t

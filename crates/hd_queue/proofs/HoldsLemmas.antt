@@ -17,7 +17,7 @@ count_before-after s t (k ∷ ks) a h = grind (arith, nat_tests, count_before-af
 pub insert-cons : (h x : Hold) (hs : List Hold) (n m : ℕ) → n ≡ m + 1 → insert (h ∷ hs) n x ≡ h ∷ insert hs m x
 insert-cons h x hs n m e = grind (arith, common_steps, e)
 
-count_before-less : (h : Hold) (hs : List Hold) (t : ℕ) → h.stamp < t → count_before (h ∷ hs) t ≡ count_before hs t + 1
+pub count_before-less : (h : Hold) (hs : List Hold) (t : ℕ) → h.stamp < t → count_before (h ∷ hs) t ≡ count_before hs t + 1
 count_before-less h hs t l = grind (arith, nat_tests, common_steps, sum_by-cons (λ k. cond (nat_lt k.stamp t) 1 0) h hs)
 
 insert-count_before_less : (h x : Hold) (hs : List Hold) → h.stamp < x.stamp → insert hs (count_before hs x.stamp) x ≡ with_hold hs x →
@@ -134,7 +134,7 @@ pub hold_of-later : (h x : Hold) (hs : List Hold) (patron : ℕ) → (h.patron =
     hold_of hs patron ≡ Some x
 hold_of-later h x hs patron t e = sym (rw t) ∙ e
 
-AllAfter-hold_of : (s : ℕ) (hs : List Hold) (patron : ℕ) (x : Hold) → AllAfter s hs → hold_of hs patron ≡ Some x → s < x.stamp
+pub AllAfter-hold_of : (s : ℕ) (hs : List Hold) (patron : ℕ) (x : Hold) → AllAfter s hs → hold_of hs patron ≡ Some x → s < x.stamp
 AllAfter-hold_of s [] patron x a e = absurd (cc e)
 AllAfter-hold_of s (h ∷ hs) patron x a e = elim (cases_Bool (h.patron == patron)) [
   | inl t ↦ let same : h ≡ x = hold_of-first h x hs patron t e in subst (λ (k : Hold). s < k.stamp) same a.0
@@ -142,7 +142,7 @@ AllAfter-hold_of s (h ∷ hs) patron x a e = elim (cases_Bool (h.patron == patro
 ]
 
 -- no stamp is smaller than the first
-count_before-first : (h : Hold) (hs : List Hold) → AllAfter h.stamp hs → count_before (h ∷ hs) h.stamp ≡ 0
+pub count_before-first : (h : Hold) (hs : List Hold) → AllAfter h.stamp hs → count_before (h ∷ hs) h.stamp ≡ 0
 count_before-first h hs a =
     grind (
       arith,

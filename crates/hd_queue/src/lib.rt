@@ -4,6 +4,7 @@
 mod lent;
 mod list;
 mod queue;
+mod stamps;
 mod view;
 mod waiting;
 mod wanted;

@@ -1,10 +1,11 @@
 //! Holds as one list in order of stamp.
-ghost use Rattle.std.specs.Prelude.{◌≡◌, ◌+◌, ◌<◌, ◌≤◌, ◌^◌, [], None, Some, OnErr, OnOk, length};
+ghost use Rattle.std.specs.Prelude.{◌≡◌, ℕ, ◌+◌, ◌<◌, ◌≤◌, ◌^◌, [], None, Some, OnErr, OnOk, length};
+ghost use Rattle.hd_rules.specs.declared.holds.Hold.{Hold};
 ghost use Rattle.hd_queue.specs.Holds.{HasNoStamp, HasPatronsOnce, IsInOrder, count_before, hold_of};
 ghost use Rattle.hd_queue.specs.Holds.{with_hold, without};
 
 use crate::lent::HoldSlices;
-use hd_rules::{Hold, PatronNo};
+use hd_rules::Hold;
 use std::alloc::{AllocError, Allocator};
 use std::collections::VecDeque;
 use std::marker::Model;
@@ -75,11 +76,13 @@ impl<A: Allocator> HoldList<A> {
         let _ = self.ring.remove(at);
     }
 
-    /// A patron's hold, or `None` where there is none.
-    pub(crate) fn hold_of(&self, patron: PatronNo) -> Option<Hold>
-        ensures { result ≡ hold_of self.now.holds patron }
+    /// The patron's hold that has this stamp.
+    pub(crate) fn at_stamp(&self, stamp: u64) -> Option<Hold>
+        ensures { (patron : ℕ) (hold : Hold) → hold_of self.now.holds patron ≡ Some hold
+            → hold.stamp ≡ stamp → result ≡ Some hold }
     {
-        self.lend().hold_of(patron).copied()
+        let at = number_before(&self.ring, stamp);
+        self.ring.get(at).copied()
     }
 
     /// How many holds have a smaller stamp.

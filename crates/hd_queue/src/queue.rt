@@ -4,6 +4,7 @@ ghost use Rattle.hd_queue.specs.Holds.{HasNoStamp, HasPatronsOnce, IsInOrder, co
 ghost use Rattle.hd_queue.specs.Holds.{with_hold, without};
 
 use crate::list::HoldList;
+use crate::stamps::Stamps;
 use crate::view::QueueView;
 use crate::waiting::WaitingLists;
 use hd_rules::{Hold, PatronNo};
@@ -12,12 +13,14 @@ use std::marker::Model;
 
 /// The holds of one title, at most one a patron, in order of stamp (docs/desk-rules.md, "State").
 ///
-/// Those without a copy stand also in lists of their own, by what they wait for.
+/// Those without a copy stand also in lists of their own, by what they wait for. Beside them stands the stamp
+/// of each patron's hold, by which its place is found without a walk.
 #[derive(Drop)]
 pub struct Queue<A: Allocator = Global> {
     list: HoldList<A>,
     waiting: WaitingLists<A>,
-    /// How many more holds each of the lists has room for, at least.
+    stamps: Stamps<A>,
+    /// How many more holds each of the lists and the stamps have room for, at least.
     room: usize,
 }
 
@@ -29,7 +32,7 @@ impl<A: Allocator> Model for Queue<A> {
 
     ghost view = { λ q. record { holds = q.list.holds; room = q.room } };
 
-    ghost invariant = { λ q. AreLists q.list q.waiting q.room };
+    ghost invariant = { λ q. AreLists q.list q.waiting q.stamps q.room };
 }
 
 impl<A: Allocator + Copy> Queue<A> {
@@ -40,6 +43,7 @@ impl<A: Allocator + Copy> Queue<A> {
         Queue {
             list: HoldList::new(alloc),
             waiting: WaitingLists::new(alloc),
+            stamps: Stamps::new(alloc),
             room: 0,
         }
     }
@@ -57,6 +61,7 @@ impl<A: Allocator> Queue<A> {
     {
         self.list.ready(more)?;
         self.waiting.ready(more)?;
+        self.stamps.ready(more)?;
         self.room = self.room.max(more);
         Ok(())
     }
@@ -73,6 +78,7 @@ impl<A: Allocator> Queue<A> {
     {
         self.list.put(hold);
         self.waiting.put(&hold);
+        self.stamps.put(hold.patron, hold.stamp);
         self.room -= 1;
     }
 
@@ -95,13 +101,15 @@ impl<A: Allocator> Queue<A> {
     {
         self.list.remove(hold);
         self.waiting.remove(hold);
+        self.stamps.remove(hold.patron);
     }
 
     /// A patron's hold, or `None` where there is none.
     pub fn hold_of(&self, patron: PatronNo) -> Option<Hold>
         ensures { result ≡ hold_of self.now.holds patron }
     {
-        self.list.hold_of(patron)
+        let stamp = self.stamps.of(patron)?;
+        self.list.at_stamp(stamp)
     }
 
     /// The place of a patron's hold in the queue, from 1, or `None` where there is no such hold.
@@ -109,8 +117,8 @@ impl<A: Allocator> Queue<A> {
         ensures { result ≡ option_map (λ h. count_before self.now.holds h.stamp + 1)
             (hold_of self.now.holds patron) }
     {
-        let hold = self.list.hold_of(patron)?;
-        Some(self.list.count_before(hold.stamp) as u64 + 1)
+        let stamp = self.stamps.of(patron)?;
+        Some(self.list.count_before(stamp) as u64 + 1)
     }
 
     /// How many holds have a smaller stamp.

@@ -1,9 +1,22 @@
 use Rattle.std.proofs.Common.{◌∙◌, ◌<◌, ℕ, ap, arith, subst}
 use Rattle.std.specs.Arc.{arc_value}
 use Rattle.hd_holds.specs.Held.{held}
-use Rattle.hd_holds.proofs.Kept.{ReadsPlace, held-none, placed-own, reads-none, reads-own, room-kept, room-read, written-own}
+use Rattle.hd_holds.proofs.Kept.{ReadsPlace, held-none, place-within, placed-own, reads-none, reads-own, room-kept, room-read, written-own}
 use Rattle.hd_holds.proofs.Queues.{held-put, queue-put, stamp-put}
 use Rattle.hd_holds.proofs.holds.Holds.put.Goals as goal
+
+pub index_mut-requires : goal.index_mut-requires
+index_mut-requires g c =
+    let at : ReadsPlace (arc_value c.self.inside.catalogue) c.self.inside.places.items c.self.inside.queues.items c.args.self.now
+    c.number.result c.args.title c.index-place.result.now =
+    record {
+      same = c.self.view_is;
+      all = c.self.invariant;
+      index = c.number.ensures.value;
+      within = c.requires.title;
+      read = c.index-place.ensures;
+    } in
+    omega (arith, place-within at, c.self.inside.queues.ok.0)
 
 pub replace-requires-clause-room : goal.replace-requires-clause-room
 replace-requires-clause-room g c =

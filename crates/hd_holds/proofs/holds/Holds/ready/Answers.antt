@@ -1,9 +1,22 @@
 use Rattle.std.proofs.Common.{arith}
 use Rattle.std.proofs.Math.ListN.{set}
 use Rattle.std.specs.Arc.{arc_value}
-use Rattle.hd_holds.proofs.Kept.{ReadsPlace, kept, placed-own, placed-ready, ready-added, ready-written, reads-own, written-own}
+use Rattle.hd_holds.proofs.Kept.{ReadsPlace, kept, place-within, placed-own, placed-ready, ready-added, ready-written, reads-own, written-own}
 use Rattle.hd_holds.proofs.Queues.{queue-ready}
 use Rattle.hd_holds.proofs.holds.Holds.ready.Goals as goal
+
+pub index_mut-requires : goal.index_mut-requires
+index_mut-requires g c =
+    let at : ReadsPlace (arc_value c.self.inside.catalogue) c.self.inside.places.items c.self.inside.queues.items c.args.self.now
+    c.number-at.result c.args.title c.index-place.result.now =
+    record {
+      same = c.self.view_is;
+      all = c.self.invariant;
+      index = c.number-at.ensures.value;
+      within = c.requires;
+      read = c.index-place.ensures;
+    } in
+    omega (arith, place-within at, c.self.inside.queues.ok.0)
 
 pub invariant_of-self : goal.invariant_of-self
 invariant_of-self g c =

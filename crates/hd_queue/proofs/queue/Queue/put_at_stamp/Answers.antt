@@ -1,5 +1,6 @@
 use Rattle.std.proofs.Common.{◌≡◌, ap, arith, sym}
 use Rattle.hd_queue.specs.Waiting.{waits_for_any, waits_for_one, waits_at_branch}
+use Rattle.hd_queue.proofs.StampsLemmas.{stamped-with_hold}
 use Rattle.hd_queue.proofs.WaitingLemmas.{IsNew-filter, AreWaiting-with_hold}
 use Rattle.hd_queue.proofs.queue.Queue.put_at_stamp.Goals as goal
 
@@ -25,6 +26,12 @@ pub invariant_of-self : goal.invariant_of-self
 invariant_of-self g c = record {
   lists = rw (c.put.ensures.holds, c.put-2.ensures.for_any, c.put-2.ensures.for_one, c.put-2.ensures.at_branch)
       (AreWaiting-with_hold c.self.inside.list.holds _ _ _ c.args.hold c.put.ensures.ordered c.self.invariant.lists);
+  stamped =
+      let same : c.args.self.now.holds ≡ c.self.inside.list.holds = ap (λ q. q.holds) (sym c.self.view_is)
+      in rw c.put.ensures.holds
+      (stamped-with_hold c.self.inside.stamps c.put-3.new.self c.self.inside.list.holds c.args.hold (rw (← same) c.requires.patron)
+      c.self.invariant.stamped c.put-3.ensures.stamps);
   list_room = omega (arith, c.self.invariant.list_room, c.put.ensures.room);
   waiting_room = omega (arith, c.self.invariant.waiting_room, c.put-2.ensures.room);
+  stamps_room = omega (arith, c.self.invariant.stamps_room, c.put-3.ensures.room);
 }

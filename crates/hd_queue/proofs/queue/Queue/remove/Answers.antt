@@ -1,5 +1,6 @@
 use Rattle.std.proofs.Common.{◌≡◌, ap, arith, sym}
 use Rattle.hd_queue.specs.Waiting.{waits_for_any, waits_for_one, waits_at_branch}
+use Rattle.hd_queue.proofs.StampsLemmas.{stamped-without}
 use Rattle.hd_queue.proofs.WaitingLemmas.{IsListed-filter, AreWaiting-without}
 use Rattle.hd_queue.proofs.queue.Queue.remove.Goals as goal
 
@@ -28,6 +29,11 @@ invariant_of-self g c =
       lists = rw (c.remove.ensures.holds, c.remove-2.ensures.for_any, c.remove-2.ensures.for_one, c.remove-2.ensures.at_branch)
           (AreWaiting-without c.self.inside.list.holds _ _ _ c.args.hold.now c.remove.ensures.once (rw (← same) c.requires)
           c.self.invariant.lists);
+      stamped =
+          rw c.remove.ensures.holds
+          (stamped-without c.self.inside.stamps c.remove-3.new.self c.self.inside.list.holds c.args.hold.now.patron c.self.invariant.stamped
+          c.remove-3.ensures.stamps);
       list_room = omega (arith, c.self.invariant.list_room, c.remove.ensures.room);
       waiting_room = omega (arith, c.self.invariant.waiting_room, c.remove-2.ensures.room);
+      stamps_room = omega (arith, c.self.invariant.stamps_room, c.remove-3.ensures.room);
     }

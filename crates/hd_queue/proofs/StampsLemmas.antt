@@ -1,0 +1,71 @@
+-- The stamps of the holds of a title, by patron, and the holds that stand at their places.
+use Rattle.std.proofs.Common.{◌≡◌, ℕ, ◌+◌, ◌<◌, Bool, true, false, cond, ◌==◌, List, [], ◌∷◌, Option, None, Some, IsSome, Bor}
+use Rattle.std.proofs.Common.{refl, ap, sym, subst, ◌∙◌, inl, inr, arith, length, get_or, true≢false}
+use Rattle.std.specs.Prelude.{IfSome, option_map, slice_get}
+use Rattle.std.specs.Option.{option_copied}
+use Rattle.std.proofs.lemmas.Bool.Decides.{nat_tests}
+use Rattle.std.proofs.lemmas.Bool.{cases_Bool}
+use Rattle.std.proofs.lemmas.Grind.{common_steps}
+use Rattle.std.proofs.lemmas.Option.{get_or_from_slice_get, slice_get_within}
+use Rattle.hd_rules.specs.declared.holds.Hold.{Hold}
+use Rattle.hd_queue.specs.Holds.{IsInOrder, count_before, hold_of, with_hold, without}
+use Rattle.hd_queue.specs.StampsValue.{StampsValue, stamp_of}
+use Rattle.hd_queue.proofs.HoldsLemmas.{AllAfter-hold_of, count_before-first, count_before-less, hold_of-first, hold_of-later, hold_of-with_hold}
+
+-- the hold that stands at the place of its stamp
+
+slice_get-first : (h : Hold) (hs : List Hold) (n : ℕ) → n ≡ 0 → slice_get (h ∷ hs) n ≡ Some h
+slice_get-first h hs n e = rw e
+
+slice_get-later : (h : Hold) (hs : List Hold) (n m : ℕ) → n ≡ m + 1 → slice_get (h ∷ hs) n ≡ slice_get hs m
+slice_get-later h hs n m e = grind (arith, common_steps, e)
+
+pub at_stamp : (hs : List Hold) (patron : ℕ) (x : Hold) → IsInOrder hs → hold_of hs patron ≡ Some x →
+    slice_get hs (count_before hs x.stamp) ≡ Some x
+at_stamp [] patron x o e = absurd (cc e)
+at_stamp (h ∷ hs) patron x o e = elim (cases_Bool (h.patron == patron)) [
+  | inl t ↦
+      let same : h ≡ x = hold_of-first h x hs patron t e
+      in let at : count_before (h ∷ hs) x.stamp ≡ 0 =
+      subst (λ (k : Hold). count_before (h ∷ hs) k.stamp ≡ 0) same (count_before-first h hs o.0)
+      in slice_get-first h hs _ at ∙ ap Some same
+  | inr t ↦
+      let later : hold_of hs patron ≡ Some x = hold_of-later h x hs patron t e
+      in let at : count_before (h ∷ hs) x.stamp ≡ count_before hs x.stamp + 1 =
+      count_before-less h hs x.stamp (AllAfter-hold_of h.stamp hs patron x o.0 later)
+      in slice_get-later h hs _ _ at ∙ at_stamp hs patron x o.1 later
+]
+
+-- what is read at a place is what stands there
+pub read_at : (hs : List Hold) (i : ℕ) (x : Hold) (r : Option (Bor Hold)) → slice_get hs i ≡ Some x → (i < length hs → IsSome r) →
+    IfSome r (λ (b : Bor Hold). b.now ≡ get_or hs i b.now) → option_copied r ≡ Some x
+read_at hs i x None e some is = absurd (true≢false (sym (some (slice_get_within hs i x e))))
+read_at hs i x (Some b) e some is = ap Some (is ∙ get_or_from_slice_get hs i x b.now e)
+
+-- the stamp of the patron's hold, in each of two cases
+option_map-stamp : (b : Bool) (o p : Option Hold) →
+    option_map (λ (h : Hold). h.stamp) (cond b o p) ≡ cond b (option_map (λ (h : Hold). h.stamp) o) (option_map (λ (h : Hold). h.stamp) p)
+option_map-stamp true o p = refl
+option_map-stamp false o p = refl
+
+-- putting a hold in
+pub stamped-with_hold : (old new : StampsValue) (hs : List Hold) (x : Hold) → hold_of hs x.patron ≡ None →
+    ((p : ℕ) → stamp_of old p ≡ option_map (λ h. h.stamp) (hold_of hs p)) →
+    ((p : ℕ) → stamp_of new p ≡ cond (x.patron == p) (Some x.stamp) (stamp_of old p)) →
+    (p : ℕ) → stamp_of new p ≡ option_map (λ h. h.stamp) (hold_of (with_hold hs x) p)
+stamped-with_hold old new hs x none was is p =
+    is p ∙ ap (cond (x.patron == p) (Some x.stamp)) (was p) ∙ sym (option_map-stamp (x.patron == p) (Some x) (hold_of hs p))
+    ∙ ap (option_map (λ (h : Hold). h.stamp)) (sym (hold_of-with_hold hs x p none))
+
+-- taking a hold out
+hold_of-without : (hs : List Hold) (patron p : ℕ) → hold_of (without hs patron) p ≡ cond (patron == p) None (hold_of hs p)
+hold_of-without [] patron p = elim (cases_Bool (patron == p)) [ inl t ↦ rw t | inr t ↦ rw t ]
+hold_of-without (h ∷ hs) patron p = grind (arith, nat_tests, common_steps, hold_of-without hs patron p)
+
+pub stamped-without : (old new : StampsValue) (hs : List Hold) (patron : ℕ) →
+    ((p : ℕ) → stamp_of old p ≡ option_map (λ h. h.stamp) (hold_of hs p)) →
+    ((p : ℕ) → stamp_of new p ≡ cond (patron == p) None (stamp_of old p)) →
+    (p : ℕ) → stamp_of new p ≡ option_map (λ h. h.stamp) (hold_of (without hs patron) p)
+stamped-without old new hs patron was is p =
+    is p ∙ ap (cond (patron == p) None) (was p) ∙ sym (option_map-stamp (patron == p) None (hold_of hs p))
+    ∙ ap (option_map (λ (h : Hold). h.stamp)) (sym (hold_of-without hs patron p))
