@@ -1,19 +1,19 @@
 //! Attending to a connection.
-ghost use Rattle.std.specs.Prelude.{◌≡◌, ◌<◌, ◌≤◌, [], Some, length, map};
+ghost use Rattle.std.specs.Prelude.{◌≡◌, ◌<◌, ◌≤◌, [], IfErr, Some, length, map};
 ghost use Rattle.hd_hall.specs.Submitting.{AreNext};
 ghost use Rattle.hd_session.specs.Standing.{IsKnownTo};
 ghost use Rattle.hd_attend.specs.Attending.{Attends};
+ghost use Rattle.hd_attend.specs.Reasons.{HasReason};
 
 use crate::fault::AttendFault;
 use crate::gate::Gate;
 use crate::gated::Gated;
-use hd_connection::{read_some, write_all};
+use hd_connection::{Input, Output, write_all};
 use hd_date::Stamp18;
 use hd_exchange::Office;
 use hd_hall::{Counter, Hall, House, Keeper, Seat};
 use hd_session::Session;
 use std::alloc::Allocator;
-use std::io::{Read, Write};
 use std::sync::Wait;
 
 /// How many bytes are read at once, at most.
@@ -28,8 +28,8 @@ const PIECE: usize = 512;
 /// written then, but where a write fails.
 pub fn attend_office<
     R: Wait,
-    I: Read,
-    W: Write,
+    I: Input,
+    W: Output,
     A: Allocator + Copy,
     O: Office<A>,
     N: Fn() -> Stamp18,
@@ -52,6 +52,7 @@ pub fn attend_office<
           to = W.contents to.old;
           to' = W.contents to.new;
         }) state.old state.new (O.turns office.old) (O.turns office.new) result }
+    ensures why { IfErr result (HasReason (I.fails from.new) (W.fails to.new)) }
     ensures place { IsKnownTo (O.keeps office.old).contents state.new.standing }
     ensures same { O.keeps office.new ≡ O.keeps office.old }
     ensures holds { O.holds office.old → O.holds office.new }
@@ -59,7 +60,7 @@ pub fn attend_office<
     let mut piece = [0; PIECE];
     let mut out = Vec::new(alloc);
     for _ in rt.forever() {
-        let count = read_some(from, &mut piece)?;
+        let count = from.read_some(&mut piece)?;
         if count == 0 {
             return Ok(());
         }
@@ -69,7 +70,7 @@ pub fn attend_office<
 }
 
 /// Feeds one piece to the session, and writes the replies.
-fn answer_piece<W: Write, A: Allocator + Copy, O: Office<A>>(
+fn answer_piece<W: Output, A: Allocator + Copy, O: Office<A>>(
     piece: &[u8],
     now: &Stamp18,
     office: &mut O,
@@ -87,6 +88,7 @@ fn answer_piece<W: Write, A: Allocator + Copy, O: Office<A>>(
           to = W.contents to.old;
           to' = W.contents to.new;
         }) state.old state.new (O.turns office.old) (O.turns office.new) result }
+    ensures why { IfErr result (HasReason ⊥ (W.fails to.new)) }
     ensures place { IsKnownTo (O.keeps office.old).contents state.new.standing }
     ensures same { O.keeps office.new ≡ O.keeps office.old }
     ensures holds { O.holds office.old → O.holds office.new }
@@ -105,8 +107,8 @@ fn answer_piece<W: Write, A: Allocator + Copy, O: Office<A>>(
 /// Those of `attend_office`.
 pub fn attend<
     R: Wait,
-    I: Read,
-    W: Write,
+    I: Input,
+    W: Output,
     H: House,
     A: Allocator + Copy,
     K: Keeper<A> + Drop,
@@ -135,6 +137,7 @@ pub fn attend<
           to' = W.contents to.new;
         }) state.old state.new (map (λ receipt. receipt.turn) seat.old.receipts)
         (map (λ receipt. receipt.turn) seat.new.receipts) result }
+    ensures why { IfErr result (HasReason (I.fails from.new) (W.fails to.new)) }
     ensures place { IsKnownTo H.contents state.new.standing }
     ensures same { (seat.new.parts ≡ 1) × (seat.new.number ≡ seat.old.number) }
     ensures holds { AreNext H.contents seat.old.receipts → AreNext H.contents seat.new.receipts }
@@ -146,8 +149,8 @@ pub fn attend<
 /// The same at any office, with a gate before each turn.
 fn attend_gated<
     R: Wait,
-    I: Read,
-    W: Write,
+    I: Input,
+    W: Output,
     A: Allocator + Copy,
     O: Office<A>,
     N: Fn() -> Stamp18,
@@ -173,6 +176,7 @@ fn attend_gated<
           to = W.contents to.old;
           to' = W.contents to.new;
         }) state.old state.new (O.turns office.old) (O.turns office.new) result }
+    ensures why { IfErr result (HasReason (I.fails from.new) (W.fails to.new)) }
     ensures place { IsKnownTo (O.keeps office.old).contents state.new.standing }
     ensures same { O.keeps office.new ≡ O.keeps office.old }
     ensures holds { O.holds office.old → O.holds office.new }

@@ -1,11 +1,14 @@
 //! What no row says: long lines, long inputs, a library without terminals, and faults of the reader and the
 //! writer.
-ghost use Rattle.std.specs.Prelude.{Some};
+ghost use Rattle.std.specs.Prelude.{◌≢◌, IfErr};
+ghost use Rattle.hd_server.specs.declared.fault.ServerFault.TheVariants as fault;
 
+use hd_connection::Fallible;
+use hd_failing::{FailingReader, FailingWriter, Fault};
 use hd_server::{ServerFault, replay};
 use std::alloc::{AllocError, Global};
 use std::cell::Cell;
-use std::io::{self, ErrorKind, Read, Write};
+use std::io::{self, Read, Write};
 use std::test::Fail;
 
 const CATALOGUE: &[u8] = b"H|1|lib|60|100
@@ -18,12 +21,10 @@ C|a1|ta|north
 
 const NOW: &[u8] = b"20260301    120000";
 
-/// What `replay` writes for an input, and how it ends.
-fn replayed(
-    rt: &HostRuntime,
-    catalogue: &[u8],
-    input: &[u8],
-) -> (Vec<u8>, Result<(), ServerFault>) {
+/// What `replay` writes for an input, and how it ends: not at a read that fails, since none does from memory.
+fn replayed(rt: &HostRuntime, catalogue: &[u8], input: &[u8]) -> (Vec<u8>, Result<(), ServerFault>)
+    ensures { IfErr result.1 (λ why. why ≢ fault.Read) }
+{
     let mut from = input;
     let mut out = Vec::new(rt.alloc());
     let end = replay(rt, catalogue, NOW, &mut from, &mut out);
@@ -117,53 +118,19 @@ fn a_line_without_a_session_stops_the_input(rt: HostRuntime) {
     }
 }
 
-/// A reader that gives one line over and over, until it fails.
-#[derive(Drop)]
-struct FailingReader {
-    calls: usize,
-}
-
-impl Read for FailingReader {
-    fn read(&mut self, piece: &mut [u8]) -> io::Result<usize> {
-        if self.calls == 0 {
-            return Err(io::Error::from(ErrorKind::Other));
-        }
-        self.calls -= 1;
-        let line = b"1 97\n";
-        if piece.len() < line.len() {
-            return Ok(0);
-        }
-        piece[..5].copy_from_slice(line);
-        Ok(5)
-    }
-}
-
-/// A writer that takes no byte.
-#[derive(Drop)]
-struct FullWriter;
-
-impl Write for FullWriter {
-    fn write(&mut self, _bytes: &[u8]) -> io::Result<usize> {
-        Ok(0)
-    }
-
-    fn flush(&mut self) -> io::Result<()> {
-        Ok(())
-    }
-}
-
 #[test]
 fn reads_and_writes_that_fail_are_named(rt: HostRuntime) {
     let mut out = Vec::new(rt.alloc());
-    let mut from = FailingReader { calls: 2 };
+    let mut from = FailingReader::new(b"1 97\n1 97\n1 97\n", 5, Fault::FailsAt(2));
     assert_eq!(rt;
         replay(&rt, CATALOGUE, NOW, &mut from, &mut out),
         Err(ServerFault::Read)
     );
     assert_eq!(rt; out.as_slice(), b"1 96\n1 96\n".as_slice());
     let mut from = b"1 97\n".as_slice();
+    let mut to = FailingWriter::in_pieces(0, Fault::None);
     assert_eq!(rt;
-        replay(&rt, CATALOGUE, NOW, &mut from, &mut FullWriter),
+        replay(&rt, CATALOGUE, NOW, &mut from, &mut to),
         Err(ServerFault::Write)
     );
 }
@@ -191,7 +158,7 @@ fn an_input_has_a_longest_length(rt: HostRuntime) {
         (16_777_216, ServerFault::NoSession { line: 1 }),
         (16_777_217, ServerFault::InputTooLong),
     ] {
-        let mut from = EndlessLine { left: length };
+        let mut from = Fallible(EndlessLine { left: length });
         let mut out = Vec::new(rt.alloc());
         assert_eq!(rt;
             replay(&rt, CATALOGUE, NOW, &mut from, &mut out),
@@ -220,96 +187,20 @@ const GIVEN: usize = 7;
 /// How many bytes a writer of few bytes takes at a call.
 const TAKEN: usize = 5;
 
-/// Calls, some of which fail, in a row.
-#[derive(Drop)]
-struct Calls {
-    /// How many come before those that fail.
-    before: usize,
-    /// How many fail then.
-    failing: usize,
-    kind: ErrorKind,
-}
-
-impl Calls {
-    /// So many fail, after so many that are well.
-    fn failing(before: usize, failing: usize, kind: ErrorKind) -> Calls {
-        Calls {
-            before,
-            failing,
-            kind,
-        }
-    }
-
-    /// One call.
-    fn call(&mut self) -> io::Result<()> {
-        if self.before > 0 {
-            self.before -= 1;
-            return Ok(());
-        }
-        if self.failing > 0 {
-            self.failing -= 1;
-            return Err(io::Error::from(self.kind));
-        }
-        Ok(())
-    }
-}
-
-/// Gives few bytes of a text at each call, but at those that fail.
-#[derive(Drop)]
-struct FewBytesReader<'a> {
-    rest: &'a [u8],
-    calls: Calls,
-}
-
-impl Read for FewBytesReader<'_> {
-    ghost remaining = { λ reader. Some reader.rest.now };
-
-    fn read(&mut self, piece: &mut [u8]) -> io::Result<usize> {
-        self.calls.call()?;
-        let room = piece.len().min(GIVEN);
-        self.rest.read(&mut piece[..room])
-    }
-}
-
-/// Takes few bytes at each call, but at those that fail.
-#[derive(Drop)]
-struct FewBytesWriter {
-    taken: Vec<u8>,
-    calls: Calls,
-}
-
-impl Write for FewBytesWriter {
-    ghost contents = { λ writer. Some writer.taken.items };
-
-    fn write(&mut self, bytes: &[u8]) -> io::Result<usize> {
-        self.calls.call()?;
-        let count = bytes.len().min(TAKEN);
-        self.taken.extend_from_slice(&bytes[..count])?;
-        Ok(count)
-    }
-
-    fn flush(&mut self) -> io::Result<()> {
-        Ok(())
-    }
-}
-
 /// What is written, and how it ends, where these reads fail.
-fn replayed_reading(rt: &HostRuntime, calls: Calls) -> (Vec<u8>, Result<(), ServerFault>) {
-    let mut from = FewBytesReader { rest: INPUT, calls };
+fn replayed_reading(rt: &HostRuntime, fault: Fault) -> (Vec<u8>, Result<(), ServerFault>) {
+    let mut from = FailingReader::new(INPUT, GIVEN, fault);
     let mut out = Vec::new(rt.alloc());
     let end = replay(rt, CATALOGUE, NOW, &mut from, &mut out);
     (out, end)
 }
 
 /// What is written, and how it ends, where these writes fail.
-fn replayed_writing(rt: &HostRuntime, calls: Calls) -> (Vec<u8>, Result<(), ServerFault>) {
+fn replayed_writing(rt: &HostRuntime, fault: Fault) -> (FailingWriter, Result<(), ServerFault>) {
     let mut from = INPUT;
-    let mut to = FewBytesWriter {
-        taken: Vec::new(rt.alloc()),
-        calls,
-    };
+    let mut to = FailingWriter::in_pieces(TAKEN, fault);
     let end = replay(rt, CATALOGUE, NOW, &mut from, &mut to);
-    (to.taken, end)
+    (to, end)
 }
 
 /// The replies to the lines that end among the first so many bytes of the input.
@@ -341,50 +232,44 @@ fn writes() -> usize {
 
 #[test]
 fn a_read_fails_at_each_call(rt: HostRuntime) {
-    for before in 0..reads() {
-        let calls = Calls::failing(before, 1, ErrorKind::Other);
-        let (out, end) = replayed_reading(&rt, calls);
+    for call in 0..reads() {
+        let (out, end) = replayed_reading(&rt, Fault::FailsAt(call));
         assert_eq!(rt; end, Err(ServerFault::Read));
-        assert_eq!(rt;
-            out.as_slice(),
-            answered_among(before.saturating_mul(GIVEN))
-        );
+        assert_eq!(rt; out.as_slice(), answered_among(call.saturating_mul(GIVEN)));
     }
-    let (out, end) = replayed_reading(&rt, Calls::failing(reads(), 1, ErrorKind::Other));
+    let (out, end) = replayed_reading(&rt, Fault::FailsAt(reads()));
     assert_eq!(rt; end, Ok(()));
     assert_eq!(rt; out.as_slice(), ANSWERED);
 }
 
 #[test]
 fn a_write_fails_at_each_call(rt: HostRuntime) {
-    for before in 0..writes() {
-        let calls = Calls::failing(before, 1, ErrorKind::Other);
-        let (out, end) = replayed_writing(&rt, calls);
+    for call in 0..writes() {
+        let (to, end) = replayed_writing(&rt, Fault::FailsAt(call));
+        let written = to.written();
         assert_eq!(rt; end, Err(ServerFault::Write));
-        assert!(rt; ANSWERED.starts_with(out.as_slice()));
-        assert!(rt; before <= out.len() && out.len() <= before.saturating_mul(TAKEN));
+        assert!(rt; ANSWERED.starts_with(written));
+        assert!(rt; call <= written.len() && written.len() <= call.saturating_mul(TAKEN));
     }
-    let (out, end) = replayed_writing(&rt, Calls::failing(writes(), 1, ErrorKind::Other));
+    let (to, end) = replayed_writing(&rt, Fault::FailsAt(writes()));
     assert_eq!(rt; end, Ok(()));
-    assert_eq!(rt; out.as_slice(), ANSWERED);
+    assert_eq!(rt; to.written(), ANSWERED);
 }
 
 #[test]
 fn an_interrupted_call_is_tried_again_sixteen_times_in_a_row(rt: HostRuntime) {
-    for before in 0..reads() {
-        for (failing, wanted) in [(16, Ok(())), (17, Err(ServerFault::Read))] {
-            let calls = Calls::failing(before, failing, ErrorKind::Interrupted);
-            let (out, end) = replayed_reading(&rt, calls);
+    for call in 0..reads() {
+        for (times, wanted) in [(16, Ok(())), (17, Err(ServerFault::Read))] {
+            let (out, end) = replayed_reading(&rt, Fault::InterruptedAt { call, times });
             assert_eq!(rt; end, wanted);
             assert!(rt; end.is_err() || out.as_slice() == ANSWERED);
         }
     }
-    for before in 0..writes() {
-        for (failing, wanted) in [(16, Ok(())), (17, Err(ServerFault::Write))] {
-            let calls = Calls::failing(before, failing, ErrorKind::Interrupted);
-            let (out, end) = replayed_writing(&rt, calls);
+    for call in 0..writes() {
+        for (times, wanted) in [(16, Ok(())), (17, Err(ServerFault::Write))] {
+            let (to, end) = replayed_writing(&rt, Fault::InterruptedAt { call, times });
             assert_eq!(rt; end, wanted);
-            assert!(rt; end.is_err() || out.as_slice() == ANSWERED);
+            assert!(rt; end.is_err() || to.written() == ANSWERED);
         }
     }
 }
@@ -435,15 +320,15 @@ impl Write for CountingWriter<'_> {
 #[test]
 fn replies_are_written_before_the_next_read(rt: HostRuntime) {
     let written = Cell::new(0);
-    let mut from = WatchingReader {
+    let mut from = Fallible(WatchingReader {
         rest: INPUT,
         given: 0,
         written: &written,
         missed: false,
-    };
-    let mut to = CountingWriter { written: &written };
+    });
+    let mut to = Fallible(CountingWriter { written: &written });
     let end = replay(&rt, CATALOGUE, NOW, &mut from, &mut to);
     assert_eq!(rt; end, Ok(()));
-    assert!(rt; !from.missed);
+    assert!(rt; !from.0.missed);
     assert_eq!(rt; written.get(), ANSWERED.len());
 }

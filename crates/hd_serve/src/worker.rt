@@ -7,6 +7,7 @@ use crate::clock::present;
 use crate::places::{Held, Places};
 use crossbeam_channel::Receiver;
 use hd_attend::{Gate, attend};
+use hd_connection::Fallible;
 use hd_hall::{Hall, House, Seat};
 use hd_session::Session;
 use std::alloc::Global;
@@ -64,8 +65,8 @@ impl<'a, H: House, R: Wait + Clock, G: Gate> Service<'a, H, R, G> {
     {
         let offset = self.hall.catalogue().offset();
         let now = || present(self.rt, offset);
-        let mut reader = &arrived.stream;
-        let mut writer = &arrived.stream;
+        let mut reader = Fallible(&arrived.stream);
+        let mut writer = Fallible(&arrived.stream);
         let _ = attend(
             self.rt,
             self.alloc,

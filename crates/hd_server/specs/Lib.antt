@@ -3,3 +3,4 @@ pub mod Printing
 pub mod Replays
 pub mod Ends
 pub mod Endings
+pub mod Reasons

@@ -6,17 +6,17 @@ ghost use Rattle.std.specs.Io.KnownBytes.{Appends};
 ghost use Rattle.hd_server.specs.Ends.{IsReplayOf, IsUntouched, Reads, Replay};
 ghost use Rattle.hd_server.specs.declared.fault.ServerFault.TheVariants.{Memory};
 ghost use Rattle.hd_server.specs.Inputs.{AreLines, with_rest};
+ghost use Rattle.hd_server.specs.Reasons.{HasReason};
 ghost use Rattle.hd_server.specs.Replays.{IsLegal, IsStop, Replayed};
 
 use crate::fault::ServerFault;
 use crate::sessions::Sessions;
 use hd_catalogue::Catalogue;
-use hd_connection::{read_some, write_all};
+use hd_connection::{Input, Output, write_all};
 use hd_date::Stamp18;
 use hd_desk::{Desk, Meter};
 use hd_journal::Journal;
 use std::alloc::{AllocError, Allocator};
-use std::io::{Read, Write};
 use std::sync::Arc;
 
 /// The most bytes that an input may have.
@@ -39,19 +39,20 @@ const PIECE: usize = 65_536;
 /// the whole lines among them are answered. `Read` where a read fails; the whole lines read are answered.
 /// `Write` where a write fails, and `Memory` for want of memory, also in a session: what was written is the
 /// beginning of the replies to the first lines.
-pub fn replay<R: Read, W: Write>(
+pub fn replay<R: Input, W: Output>(
     rt: &HostRuntime,
     catalogue: &[u8],
     now: &[u8],
     from: &mut R,
     to: &mut W,
 ) -> Result<(), ServerFault>
-    ensures { IsReplayOf catalogue.now now.now (record {
+    ensures replay { IsReplayOf catalogue.now now.now (record {
       from = R.remaining from.old;
       from' = R.remaining from.new;
       to = W.contents to.old;
       to' = W.contents to.new;
     }) result }
+    ensures why { IfErr result (HasReason (R.fails from.new) (W.fails to.new)) }
 {
     replay_in(rt, rt.alloc(), catalogue, now, from, to)
 }
@@ -60,7 +61,7 @@ pub fn replay<R: Read, W: Write>(
 ///
 /// # Errors
 /// Those of `replay`.
-pub fn replay_in<A: Allocator + Copy, R: Read, W: Write>(
+pub fn replay_in<A: Allocator + Copy, R: Input, W: Output>(
     rt: &HostRuntime,
     alloc: A,
     catalogue: &[u8],
@@ -68,12 +69,13 @@ pub fn replay_in<A: Allocator + Copy, R: Read, W: Write>(
     from: &mut R,
     to: &mut W,
 ) -> Result<(), ServerFault>
-    ensures { IsReplayOf catalogue.now now.now (record {
+    ensures replay { IsReplayOf catalogue.now now.now (record {
       from = R.remaining from.old;
       from' = R.remaining from.new;
       to = W.contents to.old;
       to' = W.contents to.new;
     }) result }
+    ensures why { IfErr result (HasReason (R.fails from.new) (W.fails to.new)) }
 {
     match Catalogue::read(alloc, catalogue) {
         Ok(catalogue) => match hd_date::read(now, catalogue.offset()) {
@@ -85,7 +87,7 @@ pub fn replay_in<A: Allocator + Copy, R: Read, W: Write>(
 }
 
 /// The same over a catalogue, at a present.
-fn replay_over<A: Allocator + Copy, R: Read, W: Write>(
+fn replay_over<A: Allocator + Copy, R: Input, W: Output>(
     rt: &HostRuntime,
     alloc: A,
     catalogue: Catalogue<A>,
@@ -93,7 +95,7 @@ fn replay_over<A: Allocator + Copy, R: Read, W: Write>(
     from: &mut R,
     to: &mut W,
 ) -> Result<(), ServerFault>
-    ensures { (IsUntouched (record {
+    ensures replay { (IsUntouched (record {
       from = R.remaining from.old;
       from' = R.remaining from.new;
       to = W.contents to.old;
@@ -105,6 +107,7 @@ fn replay_over<A: Allocator + Copy, R: Read, W: Write>(
           to = W.contents to.old;
           to' = W.contents to.new;
         }) result }
+    ensures why { IfErr result (HasReason (R.fails from.new) (W.fails to.new)) }
 {
     let catalogue = Arc::new(alloc, catalogue)?;
     let desk = Desk::open(alloc, rt.alloc(), catalogue)?;
@@ -114,7 +117,7 @@ fn replay_over<A: Allocator + Copy, R: Read, W: Write>(
 }
 
 /// Answers the lines of an input.
-fn answer_input<A: Allocator + Copy, R: Read, W: Write>(
+fn answer_input<A: Allocator + Copy, R: Input, W: Output>(
     alloc: A,
     sessions: &mut Sessions<A>,
     from: &mut R,
@@ -127,6 +130,7 @@ fn answer_input<A: Allocator + Copy, R: Read, W: Write>(
       to = W.contents to.old;
       to' = W.contents to.new;
     }) result }
+    ensures why { IfErr result (HasReason (R.fails from.new) (W.fails to.new)) }
     ensures legal { IsLegal sessions.old → IsLegal sessions.new }
 {
     let mut input = Vec::new(alloc);
@@ -134,7 +138,7 @@ fn answer_input<A: Allocator + Copy, R: Read, W: Write>(
     let mut piece = blank(alloc, PIECE)?;
     let mut room = LONGEST_INPUT;
     for _ in 0..=LONGEST_INPUT {
-        let count = read_some(from, piece.as_mut_slice())?;
+        let count = from.read_some(piece.as_mut_slice())?;
         if count == 0 {
             return answer_rest(sessions, &mut input, &mut out, to);
         }
@@ -150,7 +154,7 @@ fn answer_input<A: Allocator + Copy, R: Read, W: Write>(
 }
 
 /// Answers the whole lines of what was read, and writes the replies. What is left is the beginning of a line.
-fn answer_whole<A: Allocator + Copy, W: Write>(
+fn answer_whole<A: Allocator + Copy, W: Output>(
     sessions: &mut Sessions<A>,
     input: &mut Vec<u8, A>,
     out: &mut Vec<u8, A>,
@@ -164,6 +168,7 @@ fn answer_whole<A: Allocator + Copy, W: Write>(
         × Appends (W.contents to.old) (W.contents to.new) put
         × OnOk result (input.new.items ≡ rest) }
     ensures stops { IfErr result IsStop }
+    ensures why { IfErr result (HasReason ⊥ (W.fails to.new)) }
     ensures out { OnOk result (out.new.items ≡ []) }
     ensures legal { IsLegal sessions.old → IsLegal sessions.new }
 {
@@ -184,7 +189,7 @@ fn take_front<A: Allocator>(input: &mut Vec<u8, A>, count: usize)
 }
 
 /// Answers a last line that nothing ends, where there is one: the end of input ends it.
-fn answer_rest<A: Allocator + Copy, W: Write>(
+fn answer_rest<A: Allocator + Copy, W: Output>(
     sessions: &mut Sessions<A>,
     input: &mut Vec<u8, A>,
     out: &mut Vec<u8, A>,
@@ -197,6 +202,7 @@ fn answer_rest<A: Allocator + Copy, W: Write>(
         × Replayed sessions.old sessions.new (with_rest [] input.old.items) result put
         × Appends (W.contents to.old) (W.contents to.new) put }
     ensures stops { IfErr result IsStop }
+    ensures why { IfErr result (HasReason ⊥ (W.fails to.new)) }
     ensures legal { IsLegal sessions.old → IsLegal sessions.new }
 {
     if input.is_empty() {

@@ -12,6 +12,7 @@ use crate::checking::check;
 use crate::fault::Fault;
 use crate::serving::{run, start};
 use crate::words::{Order, Replay, parse};
+use hd_connection::Fallible;
 use hd_server::replay;
 use std::process::ExitCode;
 use std::{fs, io};
@@ -55,6 +56,8 @@ fn answer(rt: &HostRuntime, order: &Replay<'_>) -> Result<(), Fault> {
         return Err(Fault::CannotReadCatalogue);
     };
     let now = order.now.as_bytes();
-    replay(rt, file.as_slice(), now, &mut rt.stdin(), &mut rt.stdout())?;
+    let mut from = Fallible(rt.stdin());
+    let mut to = Fallible(rt.stdout());
+    replay(rt, file.as_slice(), now, &mut from, &mut to)?;
     Ok(())
 }

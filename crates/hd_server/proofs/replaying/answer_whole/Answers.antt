@@ -8,7 +8,7 @@ use Rattle.hd_server.proofs.replaying.answer_whole.Goals as goal
 pub returns-in_err-write_all-clause-replayed : goal.returns-in_err-write_all-clause-replayed
 returns-in_err-write_all-clause-replayed g c =
     let told = c.answer_lines-answered.ensures.replayed in
-    let wrote = c.in_err-write_all.ensures in
+    let wrote = c.in_err-write_all.ensures.wrote in
     let out = c.as_slice.ensures.value ∙ (told.3.2 ∙ ap (λ (o : List ℕ). o ++ told.3.0) c.requires.out) in (
       told.0,
       told.1,
@@ -29,7 +29,7 @@ returns-in_err-used-clause-replayed g c =
       told.3.0,
       subst (λ (t : List ℕ). AreLines 10 t told.0 told.1) c.as_mut_slice.ensures.value told.2,
       passed_on _ _ _ _ _ _ c.from_residual-in_err-used.ensures.0 c.from_residual-in_err-used.ensures.1 told.3.1,
-      rw out at c.in_ok-write_all.ensures,
+      rw out at c.in_ok-write_all.ensures.wrote,
       no_ok _ _ c.from_residual-in_err-used.ensures.0,
     )
 
@@ -59,6 +59,6 @@ returns-clause-replayed g c =
       told.3.0,
       subst (λ (t : List ℕ). AreLines 10 t told.0 told.1) c.as_mut_slice.ensures.value told.2,
       told.3.1,
-      rw out at c.in_ok-write_all.ensures,
+      rw out at c.in_ok-write_all.ensures.wrote,
       c.take_front.ensures ∙ rw buffer told.4.1,
     )

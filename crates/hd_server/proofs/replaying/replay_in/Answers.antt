@@ -2,12 +2,12 @@ use Rattle.std.proofs.KnownBytes.{Keeps-refl}
 use Rattle.hd_server.proofs.Ended.{replay_of}
 use Rattle.hd_server.proofs.replaying.replay_in.Goals as goal
 
-pub returns-in-Ok-read : goal.returns-in-Ok-read
-returns-in-Ok-read g c =
-    replay_of _ _ _ c.in-Ok-read.now _ c.in-Ok.ensures.accepted (rw c.offset.ensures at c.in-Ok-read.ensures.stamp) _ c.replay_over.ensures
+pub returns-in-Ok-read-clause-replay : goal.returns-in-Ok-read-clause-replay
+returns-in-Ok-read-clause-replay g c =
+    replay_of _ _ _ c.in-Ok-read.now _ c.in-Ok.ensures.accepted (rw c.offset.ensures at c.in-Ok-read.ensures.stamp) _ c.replay_over.ensures.replay
 
-pub returns-in-Err-read : goal.returns-in-Err-read
-returns-in-Err-read g c = (
+pub returns-in-Err-read-clause-replay : goal.returns-in-Err-read-clause-replay
+returns-in-Err-read-clause-replay g c = (
   record {
     k = c.in-Ok.catalogue;
     accepted = c.in-Ok.ensures.accepted;

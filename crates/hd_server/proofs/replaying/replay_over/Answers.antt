@@ -6,15 +6,15 @@ use Rattle.std.proofs.KnownBytes.{Keeps-refl}
 use Rattle.hd_server.proofs.Ended.{for_memory}
 use Rattle.hd_server.proofs.replaying.replay_over.Goals as goal
 
-pub returns-in_err-catalogue : goal.returns-in_err-catalogue
-returns-in_err-catalogue g c = inl ((Keeps-refl _, Keeps-refl _), for_memory _ c.from_residual.ensures.0 c.from_residual.ensures.1)
+pub returns-in_err-catalogue-clause-replay : goal.returns-in_err-catalogue-clause-replay
+returns-in_err-catalogue-clause-replay g c = inl ((Keeps-refl _, Keeps-refl _), for_memory _ c.from_residual.ensures.0 c.from_residual.ensures.1)
 
-pub returns-in_err-sessions : goal.returns-in_err-sessions
-returns-in_err-sessions g c =
+pub returns-in_err-sessions-clause-replay : goal.returns-in_err-sessions-clause-replay
+returns-in_err-sessions-clause-replay g c =
     inl ((Keeps-refl _, Keeps-refl _), for_memory _ c.from_residual-in_err-sessions.ensures.0 c.from_residual-in_err-sessions.ensures.1)
 
-pub returns : goal.returns
-returns g c =
+pub returns-clause-replay : goal.returns-clause-replay
+returns-clause-replay g c =
     let contents = ap (λ (b : Book). b.contents) c.new-journal.ensures.new ∙
     (c.in_ok-desk.ensures.contents ∙ c.in_ok-catalogue.ensures.ok) in
     let first : c.in_ok-sessions.sessions ≡ opening c.args.catalogue c.args.now =
@@ -25,6 +25,6 @@ returns g c =
       legal = c.answer_input.ensures.legal c.in_ok-sessions.ensures.legal;
     })
 
-pub returns-in_err-desk : goal.returns-in_err-desk
-returns-in_err-desk g c =
+pub returns-in_err-desk-clause-replay : goal.returns-in_err-desk-clause-replay
+returns-in_err-desk-clause-replay g c =
     inl ((Keeps-refl _, Keeps-refl _), for_memory _ c.from_residual-in_err-desk.ensures.0 c.from_residual-in_err-desk.ensures.1)
