@@ -1,20 +1,27 @@
 //! Rows through `replay`.
 
 use crate::library::{CATALOGUE, NOW};
-use crate::row::Row;
+use crate::row::{Row, replay_lines};
 use hd_catalogue::{CatFault, Cause};
 use hd_refusing::Refusing;
-use hd_server::{ServerFault, replay, replay_in};
+use hd_server::{ServerFault, replay_in};
 
 /// Gives a row to `replay` and refuses the request for memory before which so many are passed on: how many
 /// there were. None where it doesn't end well with all that is written without a refusal or, where a request
 /// is refused, for want of memory and with a beginning of that.
-pub(crate) fn replay_row(rt: &HostRuntime, row: Row, passed: u64) -> Option<u64> {
-    let mut whole = Vec::new(rt.alloc());
-    replay(rt, CATALOGUE, NOW, &mut row.input(), &mut whole).ok()?;
+pub(crate) fn replay_row(rt: &HostRuntime, row: &Row, passed: u64) -> Option<u64> {
+    let input = replay_lines(rt.alloc(), row.messages).ok()?;
+    let whole = replay_lines(rt.alloc(), row.replies).ok()?;
     let memory = Refusing::after(rt.alloc(), passed);
     let mut written = Vec::new(rt.alloc());
-    let end = replay_in(rt, &memory, CATALOGUE, NOW, &mut row.input(), &mut written);
+    let end = replay_in(
+        rt,
+        &memory,
+        CATALOGUE,
+        NOW,
+        &mut input.as_slice(),
+        &mut written,
+    );
     let requests = memory.requests();
     let is_well = match end {
         Ok(()) => requests <= passed && written.as_slice() == whole.as_slice(),
