@@ -1,0 +1,43 @@
+//! The library of the rows, and their present.
+
+ghost use Rattle.std.specs.Prelude.{◌≡◌, [], IfSome};
+
+use hd_catalogue::Catalogue;
+use hd_date::{OffsetMinutes, Stamp18};
+use hd_desk::{Desk, Meter};
+use hd_journal::Journal;
+use std::sync::Arc;
+
+/// Two terminals, three patrons, two titles and five copies.
+const CATALOGUE: &[u8] = b"H|1|lib|60|100
+B|north
+B|south
+S|t1|pw|north
+S|t2|pw|south
+P|p1|3
+P|p2|3
+P|p3|1
+T|ta|21|1
+T|tb|14|0
+C|a1|ta|north
+C|a2|ta|north
+C|a3|ta|south
+C|b1|tb|north
+C|b2|tb|north
+";
+
+/// A journal without turns.
+pub(crate) fn journal(rt: &HostRuntime) -> Option<Journal>
+    ensures { IfSome result (λ journal. journal.turns ≡ []) }
+{
+    let alloc = rt.alloc();
+    let catalogue = Catalogue::read(alloc, CATALOGUE).ok()?;
+    let catalogue = Arc::new(alloc, catalogue).ok()?;
+    let desk = Desk::open(alloc, alloc, catalogue).ok()?;
+    Some(Journal::new(alloc, desk, Meter::new(rt)))
+}
+
+/// The present.
+pub(crate) fn present() -> Option<Stamp18> {
+    hd_date::read(b"20260301    120000", OffsetMinutes::new(60)?).ok()
+}
