@@ -11,6 +11,7 @@ twenty times smaller, to try the script. Needs nothing but Python 3.
 """
 
 import argparse
+import multiprocessing
 import os
 import random
 import subprocess
@@ -35,8 +36,9 @@ def copy(n):
     return "copy-%07d" % n
 
 
-def hold(p, t, mode="+", expiry="", day=DAY):
-    return "1 15%s%s%sBSbranch-1|BY2|AOlib|AA%s|AJ%s|\n" % (mode, day, expiry and "BW%s|" % expiry, patron(p), title(t))
+def hold(p, t, mode="+", expiry="", day=DAY, pickup=1):
+    return "1 15%s%s%sBSbranch-%d|BY2|AOlib|AA%s|AJ%s|\n" % (
+        mode, day, expiry and "BW%s|" % expiry, pickup, patron(p), title(t))
 
 
 def checkout(p, c, cancels=""):
@@ -59,17 +61,23 @@ CANCELS = "BIY|"
 
 
 class Library:
-    """A library: its catalogue file, made once."""
+    """A library: its catalogue file, made once. Either each title has as many copies, or the last one all that are left.
+    Titles may have local priority."""
 
-    def __init__(self, folder, name, titles, copies, patrons, days=3650, renewals=99, loans=999):
+    def __init__(self, folder, name, titles, copies, patrons, is_even=False, is_local=False):
         self.path = os.path.join(folder, name)
+        self.titles, self.copies, self.patrons, self.is_even = titles, copies, patrons, is_even
         with open(self.path, "w", encoding="ascii") as out:
-            out.write("H|1|lib|60|1000000\nB|branch-1\nB|branch-2\nB|branch-3\nS|terminal-1|password-1|branch-1\n")
-            out.writelines("P|%s|%d\n" % (patron(n), loans) for n in range(1, patrons + 1))
-            out.writelines("T|%s|%d|%d\n" % (title(n), days, renewals) for n in range(1, titles + 1))
-            out.writelines("C|%s|%s|branch-%d\n" % (copy(n), title(min(n, titles)), n % 3 + 1)
+            out.write("H|%d|lib|60|1000000\n" % (2 if is_local else 1))
+            out.write("B|branch-1\nB|branch-2\nB|branch-3\nS|terminal-1|password-1|branch-1\n")
+            out.writelines("P|%s|%d\n" % (patron(n), 999) for n in range(1, patrons + 1))
+            out.writelines("T|%s|%d|%d%s\n" % (title(n), 3650, 99, "|L" if is_local else "")
+                           for n in range(1, titles + 1))
+            out.writelines("C|%s|%s|branch-%d\n" % (copy(n), title(self.title_of(n)), n % 3 + 1)
                            for n in range(1, copies + 1))
-        self.titles, self.copies, self.patrons = titles, copies, patrons
+
+    def title_of(self, n):
+        return (n - 1) % self.titles + 1 if self.is_even else min(n, self.titles)
 
 
 def mixed(library, count, cancels, seed=1):
@@ -81,7 +89,7 @@ def mixed(library, count, cancels, seed=1):
             yield recent.pop(draw.randrange(len(recent)))
             continue
         kind = draw.randrange(5)
-        t = min(c, library.titles)
+        t = library.title_of(c)
         yield (hold(p, t), checkout(p, c), checkin(c), renewal(p, c), item(c))[kind]
         back = (hold(p, t, "-").rstrip("\n") + CANCELS + "\n", checkin(c, cancels=CANCELS), checkout(p, c, CANCELS),
                 renewal(p, c).rstrip("\n") + CANCELS + "\n", None)[kind]
@@ -95,33 +103,43 @@ def rows(folder, size):
     def of(count):
         return max(20, count // size)
 
-    one = Library(folder, "one", 1, of(5_000), of(100_000))
+    one = Library(folder, "one", 1, of(5_000), of(110_000))
     for count in (of(10_000), of(20_000), of(40_000), of(80_000)):
         yield ("a hold of a title that has up to %d" % count, one, [], [hold(p, 1) for p in range(1, count + 1)], count)
     queue = [hold(p, 1) for p in range(1, of(40_000) + 1)]
     some = random.Random(2).sample(range(1, of(40_000) + 1), of(4_000))
-    yield ("a change of one of %d holds of a title" % of(40_000), one, queue, [hold(p, 1, "*") for p in some], len(some))
-    yield ("the deletion of one of %d holds of a title" % of(40_000), one, queue, [hold(p, 1, "-") for p in some], len(some))
+    yield ("a change of one of %d holds of a title" % len(queue), one, queue, [hold(p, 1, "*") for p in some], len(some))
+    yield ("the deletion of one of %d holds of a title" % len(queue), one, queue, [hold(p, 1, "-") for p in some],
+           len(some))
     lent = [checkout(p, p) for p in range(1, of(5_000) + 1)]
     waiting = [hold(p, 1, expiry="20260315    100000" if p % 10 == 0 else "")
-               for p in range(of(5_000) + 1, of(45_000) + 1)]
+               for p in range(of(5_000) + 1, of(105_000) + 1)]
     back = [checkin(c, LATER) for c in range(1, of(2_000) + 1)]
-    yield ("a return to one of %d holds, a tenth expired" % of(40_000), one, lent + waiting, back, len(back))
+    yield ("a return to one of %d holds, a tenth expired" % len(waiting), one, lent + waiting, back, len(back))
+    local = Library(folder, "local", 1, of(5_000), of(110_000), is_local=True)
+    elsewhere = [hold(p, 1, pickup=2) for p in range(of(5_000) + 1, of(105_000) + 1)]
+    few = back[:max(20, len(back) // 20)]
+    yield ("the same with local priority, no hold of %d at the branch" % len(elsewhere), local, lent + elsewhere, few,
+           len(few))
 
-    large = Library(folder, "large", of(100_000), of(300_000), of(100_000))
-    others = [checkout(p, p) for p in range(1, of(100_000) + 1)]
-    first = [checkout(p, of(100_000) + p) for p in range(1, of(20_000) + 1)]
-    undo = [checkin(of(100_000) + p, cancels=CANCELS) for p in range(1, of(20_000) + 1)]
-    yield ("a cancellation behind %d commands of other titles" % of(100_000), large, first + others, undo, len(undo))
-    aimless = [checkin(of(200_000) + p, cancels=CANCELS) for p in range(1, of(20_000) + 1)]
-    yield ("a cancellation without a target, there", large, first + others, aimless, len(aimless))
+    even = Library(folder, "even", of(100_000), of(300_000), of(100_000), is_even=True)
+    first = [checkout(p, p) for p in range(1, of(20_000) + 1)]
+    others = [checkout(p, p) for p in range(of(20_000) + 1, of(100_000) + 1)]
+    others += [checkout(p, of(100_000) + p) for p in range(of(20_000) + 1, of(40_000) + 1)]
+    undo = [checkin(c, cancels=CANCELS) for c in range(1, of(20_000) + 1)]
+    yield ("a cancellation behind %d commands of other titles" % len(others), even, first + others, undo, len(undo))
+    aimless = [checkin(of(200_000) + c, cancels=CANCELS) for c in range(1, of(20_000) + 1)]
+    yield ("a cancellation without a target, there", even, first + others, aimless, len(aimless))
     hot = [checkout(p, p) for p in range(1, of(1_000) + 21)]
     again = [renewal(p, p) for _ in range(99) for p in range(21, of(1_000) + 21)]  # as often as a title may have it
     taken = [checkin(p, cancels=CANCELS) for p in range(1, 21)]
     yield ("a cancellation, for each of %d later commands of its title" % len(again), one, hot + again, taken,
            20 * len(again))
-    yield ("a message of a mixed day, large library", large, [], list(mixed(large, of(200_000), 0)), of(200_000))
-    yield ("the same, a tenth of them cancellations", large, [], list(mixed(large, of(200_000), 0.1)), of(200_000))
+    yield ("a message of a mixed day, large library", even, [], list(mixed(even, of(200_000), 0)), of(200_000))
+    yield ("the same, a tenth of them cancellations", even, [], list(mixed(even, of(200_000), 0.1)), of(200_000))
+    large = Library(folder, "large", of(100_000), of(300_000), of(100_000))
+    yield ("a message of a mixed day, two thirds of the copies of one title", large, [],
+           list(mixed(large, of(200_000), 0)), of(200_000))
     small = Library(folder, "small", 2, 5, 3)
     yield ("a message of a mixed day, five copies", small, [], list(mixed(small, of(200_000), 0)), of(200_000))
     yield ("a renewal, and what is kept of it", one, hot, again, len(again))
@@ -131,22 +149,29 @@ def rows(folder, size):
     yield ("reading a million titles, copies and patrons, and opening the desk", million, None, [], 1)
 
 
-def run(program, library, messages, folder):
+def spend(words, given, out):
+    """Runs a program: its status, its processor time and its memory in kilobytes. It is called in a process of its own,
+    which is small, since a child's largest memory counts from that of the process that began it."""
+    with open(given, "rb") as messages, open(out, "wb") as replies:
+        child = subprocess.Popen(words, stdin=messages, stdout=replies)
+        _, status, used = os.wait4(child.pid, 0)
+    return status, used.ru_utime + used.ru_stime, used.ru_maxrss
+
+
+def run(pool, program, library, messages, folder):
     """Has a program answer the messages: its output, its processor time and its memory in kilobytes."""
-    with open(os.path.join(folder, "input"), "w+", encoding="ascii") as given:
-        given.writelines(messages)
-        given.seek(0)
-        with open(os.path.join(folder, "output"), "wb") as out:
-            words = [program, "replay", "--catalogue", library.path, "--now", DAY]
-            child = subprocess.Popen(words, stdin=given, stdout=out)
-            _, status, used = os.wait4(child.pid, 0)
+    given, out = os.path.join(folder, "input"), os.path.join(folder, "output")
+    with open(given, "w", encoding="ascii") as file:
+        file.writelines(messages)
+    words = [program, "replay", "--catalogue", library.path, "--now", DAY]
+    status, *cost = pool.apply(spend, (words, given, out))
     if status:
         sys.exit("measure: %s ended with %d" % (" ".join(words), status))
-    with open(os.path.join(folder, "output"), "rb") as out:
-        return out.read(), used.ru_utime + used.ru_stime, used.ru_maxrss
+    with open(out, "rb") as file:
+        return file.read(), *cost
 
 
-def measure(programs, library, before, told, runs, folder):
+def measure(pool, programs, library, before, told, runs, folder):
     """Of each program the time and the memory that the messages told take beyond those before them; beyond nothing where
     there is no day before."""
     least = [[(0, 0) if before is None else (1e9, 0), (1e9, 0)] for _ in programs]
@@ -154,8 +179,8 @@ def measure(programs, library, before, told, runs, folder):
         outputs = set()
         for program, best in zip(programs, least):
             if before is not None:
-                best[0] = min(best[0], run(program, library, [LOGIN] + before, folder)[1:])
-            output, *cost = run(program, library, [LOGIN] + (before or []) + told, folder)
+                best[0] = min(best[0], run(pool, program, library, [LOGIN] + before, folder)[1:])
+            output, *cost = run(pool, program, library, [LOGIN] + (before or []) + told, folder)
             best[1] = min(best[1], tuple(cost))
             outputs.add(output)
         if len(outputs) != 1:
@@ -179,11 +204,11 @@ def main():
     programs = [asked.program] + ([asked.beside] if asked.beside else [])
     print("| What | " + " | ".join(["Microseconds each", "Bytes each"] * len(programs)) + " |")
     print("|---|" + "---|---|" * len(programs))
-    with tempfile.TemporaryDirectory() as folder:
+    with tempfile.TemporaryDirectory() as folder, multiprocessing.get_context("spawn").Pool(1) as pool:
         for name, library, before, told, count in rows(folder, 20 if asked.small else 1):
             if asked.only not in name:
                 continue
-            costs = measure(programs, library, before, told, asked.runs, folder)
+            costs = measure(pool, programs, library, before, told, asked.runs, folder)
             print("| %s | %s |" % (name, " | ".join(
                 "%.3g | %d" % (seconds * 1e6 / count, memory * 1024 / count) for seconds, memory in costs)), flush=True)
 
