@@ -1,19 +1,8 @@
 //! Room that is made first.
 
-ghost use Rattle.std.specs.Prelude.{◌≡◌, ◌<◌, ◌++◌, ◌∷◌, [], ℕ, Option, None, OnOk, OnErr, length, vec_len};
-ghost use Rattle.std.specs.Prelude.{vec_capacity, slice_index_or};
+ghost use Rattle.std.specs.Prelude.{◌≡◌, ◌<◌, ℕ, None, OnOk, length, slice_index_or};
 
 use std::alloc::{AllocError, Allocator};
-
-/// Adds an item for which there is room.
-pub(crate) fn push_ready<T: Drop, A: Allocator>(items: &mut Vec<T, A>, item: T)
-    requires { vec_len items.old < vec_capacity items.old }
-    ensures { items.new.items ≡ items.old.items ++ item ∷ [] }
-{
-    if items.push(item).is_err() {
-        unreachable!()
-    }
-}
 
 /// Makes the list reach to an index, by places that are none. A place that is read there is none before and
 /// afterwards.

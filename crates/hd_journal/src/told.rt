@@ -8,8 +8,9 @@ ghost use Rattle.hd_journal.specs.Telling.{after_turn, kept_by, with_turn};
 
 use crate::ask::OwnedAsk;
 use crate::entry::Entry;
-use crate::room::{push_ready, reach};
+use crate::room::reach;
 use crate::turn::{Turn, TurnRef};
+use hd_log::Log;
 use hd_rules::{TerminalNo, TurnReply};
 use std::alloc::{AllocError, Allocator};
 use std::marker::Model;
@@ -17,12 +18,11 @@ use std::marker::Model;
 /// The turns, and by terminal the place of its last changing turn.
 #[derive(Drop)]
 pub(crate) struct Told<A: Allocator> {
-    turns: Vec<Entry<A>, A>,
+    turns: Log<Entry<A>, A>,
     places: Vec<Option<usize>, A>,
 }
 
 impl<A: Allocator> Model for Told<A> {
-    ghost use Rattle.std.specs.Prelude.{vec_capacity};
     ghost use Rattle.hd_journal.specs.Telling.{Told, AreTurns};
 
     ghost Value = { Told };
@@ -30,7 +30,7 @@ impl<A: Allocator> Model for Told<A> {
     ghost view = { λ told. record {
       turns = told.turns.items;
       places = told.places.items;
-      room = vec_capacity told.turns;
+      room = told.turns.room;
     } };
 
     ghost invariant = { λ told. AreTurns told.turns.items told.places.items };
@@ -43,7 +43,7 @@ impl<A: Allocator + Copy> Told<A> {
         ensures places { result.places ≡ [] }
     {
         Told {
-            turns: Vec::new(alloc),
+            turns: Log::new(alloc),
             places: Vec::new(alloc),
         }
     }
@@ -71,7 +71,7 @@ impl<A: Allocator + Copy> Told<A> {
         ensures terminal { OnOk result (terminal < length self.new.places) }
         ensures number { OnOk result (length self.new.turns + 1 < 2 ^ 64) }
     {
-        self.turns.reserve(1)?;
+        self.turns.ready()?;
         reach(&mut self.places, terminal.number() as usize)
     }
 
@@ -95,8 +95,8 @@ impl<A: Allocator + Copy> Told<A> {
         ensures made { result ≡ record { at = length self.new.turns; reply = again.reply } }
     {
         let reply = again.reply;
-        push_ready(&mut self.turns, again);
-        Turn::new(self.turns.as_slice().len(), reply)
+        self.turns.push(again);
+        Turn::new(self.turns.len(), reply)
     }
 
     /// A turn that is no repeat: a query leaves what is kept, and of any other is kept what carried a line.
@@ -124,9 +124,9 @@ impl<A: Allocator + Copy> Told<A> {
     {
         let reply = turn.reply;
         let terminal = turn.ask.terminal().number() as usize;
-        let place = self.turns.as_slice().len();
-        push_ready(&mut self.turns, turn);
+        let place = self.turns.len();
+        self.turns.push(turn);
         self.places[terminal] = Some(place);
-        Turn::new(self.turns.as_slice().len(), reply)
+        Turn::new(self.turns.len(), reply)
     }
 }

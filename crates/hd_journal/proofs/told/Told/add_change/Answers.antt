@@ -11,11 +11,11 @@ invariant_of-self g c =
     let below : c.number-terminal.result < length c.self.inside.places.items =
     subst (λ (n : ℕ). n < length c.self.inside.places.items) (sym own)
     (subst (λ (x : Told). c.args.turn.message.terminal < length x.places) (sym c.self.view_is) c.requires.terminal) in
-    turns_set c.self.inside.turns.items c.push_ready.new.items.items c.args.turn c.self.inside.places.items c.number-terminal.result
-    (length c.as_slice-place.result.now)
+    turns_set c.self.inside.turns.items c.push.new.self.items c.args.turn c.self.inside.places.items c.number-terminal.result
+    c.len-place.result
     (record {
-      goes_on = c.push_ready.ensures;
-      place = ap length c.as_slice-place.ensures.value;
+      goes_on = c.push.ensures.items;
+      place = c.len-place.ensures;
       own = own;
       below = below;
       are = c.self.invariant;
@@ -28,11 +28,11 @@ returns-clause-kept g c =
     let below : c.number-terminal.result < length c.self.inside.places.items =
     subst (λ (n : ℕ). n < length c.self.inside.places.items) (sym own)
     (subst (λ (x : Told). c.args.turn.message.terminal < length x.places) (sym c.self.view_is) c.requires.terminal) in
-    kept_set c.self.inside.turns.items c.push_ready.new.items.items c.args.turn c.self.inside.places.items c.number-terminal.result
-    (length c.as_slice-place.result.now)
+    kept_set c.self.inside.turns.items c.push.new.self.items c.args.turn c.self.inside.places.items c.number-terminal.result
+    c.len-place.result
     (record {
-      goes_on = c.push_ready.ensures;
-      place = ap length c.as_slice-place.ensures.value;
+      goes_on = c.push.ensures.items;
+      place = c.len-place.ensures;
       own = own;
       below = below;
       are = c.self.invariant;

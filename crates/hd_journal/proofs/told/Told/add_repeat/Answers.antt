@@ -6,11 +6,11 @@ use Rattle.hd_journal.proofs.told.Told.add_repeat.Goals as goal
 
 pub invariant_of-self : goal.invariant_of-self
 invariant_of-self g c =
-    subst (λ (xs : List Turn). AreTurns xs c.self.inside.places.items) (sym c.push_ready.ensures)
+    subst (λ (xs : List Turn). AreTurns xs c.self.inside.places.items) (sym c.push.ensures.items)
     (turns_after_repeat _ _ _ c.self.invariant)
 
 pub returns-clause-kept : goal.returns-clause-kept
 returns-clause-kept g c =
-    ap (λ (xs : List Turn). kept_in xs c.self.inside.places.items) c.push_ready.ensures
+    ap (λ (xs : List Turn). kept_in xs c.self.inside.places.items) c.push.ensures.items
     ∙ kept_after_repeat _ _ _ c.self.invariant
     ∙ ap kept_by c.self.view_is

@@ -1,0 +1,99 @@
+//! A list in blocks.
+ghost use Rattle.std.specs.Prelude.{◌≡◌, ◌+◌, ◌<◌, ◌≤◌, ◌^◌, ◌++◌, ◌∷◌, [], OnErr, OnOk, length, slice_get};
+ghost use Rattle.std.specs.Option.{option_copied};
+
+use crate::block::{BLOCK, Block};
+use std::alloc::{AllocError, Allocator, Global};
+use std::marker::Model;
+
+/// Items in the order in which they came, in blocks of 1,024 that never move: a list that grows copies none
+/// of its items.
+///
+/// Only `ready` takes memory.
+#[derive(Drop)]
+pub struct Log<T, A: Allocator = Global> {
+    blocks: Vec<Block<T, A>, A>,
+    len: usize,
+}
+
+impl<T, A: Allocator> Model for Log<T, A> {
+    ghost use Rattle.std.specs.Prelude.{◌*◌, length};
+    ghost use Rattle.hd_log.specs.declared.block.TheConstants.{BLOCK};
+    ghost use Rattle.hd_log.specs.Blocks.{AreBlocks, joined};
+    ghost use Rattle.hd_log.specs.LogValue.{LogValue};
+
+    ghost Value = { LogValue T };
+
+    ghost view = { λ log. record {
+      items = joined log.blocks.items;
+      room = BLOCK * length log.blocks.items;
+    } };
+
+    ghost invariant = { λ log. AreBlocks BLOCK log.len log.blocks.items };
+}
+
+impl<T, A: Allocator + Copy> Log<T, A> {
+    /// No items. It takes no memory.
+    pub fn new(alloc: A) -> Log<T, A>
+        ensures items { result.items ≡ [] }
+        ensures room { result.room ≡ 0 }
+    {
+        Log {
+            blocks: Vec::new(alloc),
+            len: 0,
+        }
+    }
+
+    /// Makes room for one more item. Where there is room, nothing changes.
+    ///
+    /// Answers `AllocError` where there is no memory for it, and then nothing is changed.
+    pub fn ready(&mut self) -> Result<(), AllocError>
+        ensures items { self.new.items ≡ self.old.items }
+        ensures room { OnOk result (length self.new.items < self.new.room) }
+        ensures kept { length self.old.items < self.old.room → self.new ≡ self.old }
+        ensures number { OnOk result (length self.new.items + 1 < 2 ^ 64) }
+        ensures err { OnErr result (self.new ≡ self.old) }
+        ensures full { OnErr result (self.old.room ≤ length self.old.items) }
+    {
+        let room = self.blocks.len() * BLOCK;
+        if self.len < room {
+            return Ok(());
+        }
+        if usize::MAX - room < BLOCK {
+            return Err(AllocError);
+        }
+        let alloc = *self.blocks.allocator();
+        self.blocks.reserve(1)?;
+        let block = Block::new(alloc)?;
+        self.blocks.push_reserved(block);
+        Ok(())
+    }
+}
+
+impl<T, A: Allocator> Log<T, A> {
+    /// How many items there are.
+    pub fn len(&self) -> usize
+        ensures { result ≡ length self.now.items }
+    {
+        self.len
+    }
+
+    /// Puts an item behind the others. There must be room. It takes no memory.
+    pub fn push(&mut self, item: T)
+        requires { length self.old.items < self.old.room }
+        ensures items { self.new.items ≡ self.old.items ++ item ∷ [] }
+        ensures room { self.new.room ≡ self.old.room }
+    {
+        let number = self.len / BLOCK;
+        self.blocks[number].push(item);
+        self.len += 1;
+    }
+
+    /// The item at a place, from 0, or `None` where there is none.
+    pub fn get(&self, place: usize) -> Option<&T>
+        ensures { option_copied result ≡ slice_get self.now.items place }
+    {
+        let block = self.blocks.get(place / BLOCK)?;
+        block.get(place % BLOCK)
+    }
+}
