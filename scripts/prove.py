@@ -1,19 +1,17 @@
 #!/usr/bin/env python3
-"""Proves the crates below a program side by side, and says how far it is.
+"""Proves the crates below a program side by side, and the program, and says how far it is.
 
     python3 scripts/prove.py [NAME] [--cores N]
 
-NAME is holddesk where it isn't given. Each crate that it uses is proved and built as a library (rt lib), those first that
-others stand on, as many at a time as there are cores. What was proved before and hasn't changed is proved already. Needs
-Python 3 and rt. Status 0: all are proved; else the log of the first crate that isn't is printed.
+NAME is holddesk where it isn't given. Each crate that it uses is proved and built as a library, those first that others
+stand on, as many at a time as there are cores and memory (rt all check). What was proved before and hasn't changed is
+proved already. Needs Python 3 and rt. Status 0: all are proved; else what rt says of the first crate that isn't is printed.
 """
 
 import argparse
-import concurrent.futures
 import os
 import subprocess
 import sys
-import tempfile
 import time
 
 TOP = os.path.dirname(os.path.dirname(os.path.abspath(__file__)))
@@ -31,58 +29,44 @@ def uses_of_all():
 
 
 def below(name, uses, found):
-    """The crates below this one, lowest first, added to those found."""
+    """The crates below this one, added to those found."""
     for use in uses[name]:
         if use not in found:
+            found.add(use)
             below(use, uses, found)
-            found.append(use)
     return found
 
 
-def prove(name, jobs, logs):
-    """Proves one crate, the ones that it uses being built: whether it is proved, its log and its seconds."""
-    log = os.path.join(logs, name)
+def prove(name, count, cores):
+    """Proves the crate and all below it, and says after each which of how many it is. Whether all are proved."""
     begin = time.monotonic()
-    with open(log, "w", encoding="utf-8") as out:
-        done = subprocess.run(["rt", "lib", "--jobs", str(jobs)], cwd=os.path.join(TOP, "crates", name),
-                              stdin=subprocess.DEVNULL, stdout=out, stderr=subprocess.STDOUT, check=False)
-    return done.returncode == 0, log, time.monotonic() - begin
-
-
-def all_proved(crates, uses, cores, logs):
-    """Proves these crates, each when those that it uses are proved. Whether all are."""
-    waiting, running, proved = list(crates), {}, set()
-    with concurrent.futures.ThreadPoolExecutor(max_workers=cores) as pool:
-        while waiting or running:
-            ready = [name for name in waiting if proved.issuperset(uses[name])][:cores - len(running)]
-            for name in ready:
-                waiting.remove(name)
-                jobs = max(1, cores // (len(ready) + len(running)))
-                running[pool.submit(prove, name, jobs, logs)] = name
-            done, _ = concurrent.futures.wait(running, return_when=concurrent.futures.FIRST_COMPLETED)
-            for future in done:
-                name = running.pop(future)
-                is_proved, log, seconds = future.result()
-                if not is_proved:
-                    with open(log, encoding="utf-8") as text:
-                        sys.stderr.write(text.read())
-                    print("prove: %s is not proved" % name, file=sys.stderr)
-                    return False
-                proved.add(name)
-                print("prove: %d of %d, %s in %d s" % (len(proved), len(crates), name, seconds), file=sys.stderr)
-    return True
+    rt = subprocess.Popen(["rt", "all", "check", "--jobs", str(cores)], cwd=os.path.join(TOP, "crates", name),
+                          stdin=subprocess.DEVNULL, stdout=subprocess.PIPE, stderr=subprocess.STDOUT, text=True)
+    since, crate, proved = [], "", 0
+    for line in rt.stdout:
+        since.append(line)
+        if line.startswith("crate "):
+            crate = line.split()[1].rstrip(":")
+        elif line.startswith("logic=proved"):
+            since, proved = [], proved + 1
+            minutes, seconds = divmod(int(time.monotonic() - begin), 60)
+            print("prove: %d of %d, %s, after %d:%02d" % (proved, count, crate, minutes, seconds), file=sys.stderr)
+    is_proved = rt.wait() == 0
+    if not is_proved:
+        sys.stderr.writelines(since)
+    return is_proved
 
 
 def main():
-    parser = argparse.ArgumentParser(description="Proves the crates below a program side by side.")
+    parser = argparse.ArgumentParser(description="Proves the crates below a program side by side, and the program.")
     parser.add_argument("name", nargs="?", default="holddesk", help="a crate of crates.txt (holddesk)")
     parser.add_argument("--cores", type=int, default=os.cpu_count(), help="how many to use (all)")
     options = parser.parse_args()
     uses = uses_of_all()
     if options.name not in uses or options.cores < 1:
         parser.error("no such crate in crates.txt, or no core")
-    with tempfile.TemporaryDirectory() as logs:
-        sys.exit(0 if all_proved(below(options.name, uses, []), uses, options.cores, logs) else 1)
+    count = len(below(options.name, uses, set())) + 1
+    sys.exit(0 if prove(options.name, count, options.cores) else 1)
 
 
 if __name__ == "__main__":
