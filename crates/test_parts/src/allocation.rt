@@ -1,7 +1,7 @@
 //! Choices as the desk's rules tell them, where memory is ample.
 ghost use Rattle.std.specs.Prelude.{◌≡◌, ◌≢◌, ◌<◌};
 
-use hd_allocate::{BranchNo, CopyFacts, CopyNo, CopyState, Day, Hold, QueueView, choice, settle};
+use hd_allocate::{BranchNo, CopyFacts, CopyNo, CopyState, Day, Hold, choice, settle};
 use hd_date::{OffsetMinutes, read};
 use hd_queue::Queue;
 use hd_rules::{HoldKind, HoldPlace, PatronNo, Transit};
@@ -55,49 +55,68 @@ fn hold(number: u32, kind: HoldKind, pickup: u16) -> Hold
 /// A queue of two holds.
 fn queue_of<A: Allocator + Copy>(
     alloc: A,
-    first: Hold,
-    second: Hold,
+    first: &Hold,
+    second: &Hold,
 ) -> Result<Queue<A>, AllocError>
-    requires patrons { first.patron ≢ second.patron }
-    requires stamps { first.stamp ≢ second.stamp }
+    requires patrons { first.now.patron ≢ second.now.patron }
+    requires stamps { first.now.stamp ≢ second.now.stamp }
 {
     let mut queue = Queue::new(alloc);
     queue.ready(2)?;
-    queue.put_at_stamp(second);
-    queue.put_at_stamp(first);
+    queue.put_at_stamp(*second);
+    queue.put_at_stamp(*first);
     Ok(queue)
 }
 
-/// The stamp of the choice at a branch.
-fn chosen(queue: &QueueView<'_>, copy: &CopyFacts, at: BranchNo, day: Day) -> Option<u64> {
-    choice(queue, copy, at, day).map(|hold| hold.stamp)
+/// The stamp of the choice of two holds at a branch.
+fn chosen<A: Allocator + Copy>(
+    alloc: A,
+    first: &Hold,
+    second: &Hold,
+    copy: &CopyFacts,
+    at: BranchNo,
+    day: Day,
+) -> Result<Option<u64>, AllocError>
+    requires patrons { first.now.patron ≢ second.now.patron }
+    requires stamps { first.now.stamp ≢ second.now.stamp }
+{
+    let queue = queue_of(alloc, first, second)?;
+    Ok(choice(&queue.view(), copy, at, day).map(|hold| hold.stamp))
 }
 
 /// A copy gets the hold of least stamp of those that admit it.
 #[test]
-fn holds_of_three_kinds(rt: HostRuntime) -> Result<(), Fail> {
+fn holds_of_copies_and_titles(rt: HostRuntime) -> Result<(), Fail> {
     let today = day(b"20260310    120000")?;
     let here = branch(0);
-    let named = HoldKind::One(CopyNo::new(1).unwrap());
-    let queue = queue_of(rt.alloc(), hold(4, named, 0), hold(6, HoldKind::Any, 0))?;
-    let view = queue.view();
-    let stamps = (
-        chosen(&view, &copy(1, 0), here, today),
-        chosen(&view, &copy(2, 0), here, today),
-    );
-    assert_eq!(rt; stamps, (Some(4), Some(6)));
-    let queue = queue_of(
-        rt.alloc(),
-        hold(2, HoldKind::AtBranch, 0),
-        hold(6, HoldKind::Any, 0),
-    )?;
-    let view = queue.view();
-    let stamps = (
-        chosen(&view, &copy(1, 0), branch(1), today),
-        chosen(&view, &copy(1, 1), here, today),
-    );
-    assert_eq!(rt; stamps, (Some(2), Some(6)));
+    let one = hold(4, HoldKind::One(CopyNo::new(1).unwrap()), 0);
+    let any = hold(6, HoldKind::Any, 0);
+    let named = chosen(rt.alloc(), &one, &any, &copy(1, 0), here, today)?;
+    assert_eq!(rt; named, Some(4));
+    let other = chosen(rt.alloc(), &one, &any, &copy(2, 0), here, today)?;
+    assert_eq!(rt; other, Some(6));
     Ok(())
+}
+
+/// A hold of the copies of its branch gets those at home there, wherever they are.
+#[test]
+fn holds_of_a_branch(rt: HostRuntime) -> Result<(), Fail> {
+    let today = day(b"20260310    120000")?;
+    let at_branch = hold(2, HoldKind::AtBranch, 0);
+    let any = hold(6, HoldKind::Any, 0);
+    let home = chosen(rt.alloc(), &at_branch, &any, &copy(1, 0), branch(1), today)?;
+    assert_eq!(rt; home, Some(2));
+    let away = chosen(rt.alloc(), &at_branch, &any, &copy(1, 1), branch(0), today)?;
+    assert_eq!(rt; away, Some(6));
+    Ok(())
+}
+
+/// A copy of a title with local priority.
+fn local_copy() -> CopyFacts {
+    CopyFacts {
+        priority: true,
+        ..copy(0, 0)
+    }
 }
 
 /// At a title with local priority, a hold that is picked up at the branch comes before one with a smaller
@@ -105,28 +124,25 @@ fn holds_of_three_kinds(rt: HostRuntime) -> Result<(), Fail> {
 #[test]
 fn local_priority(rt: HostRuntime) -> Result<(), Fail> {
     let today = day(b"20260310    120000")?;
-    let plain = copy(0, 0);
-    let local = CopyFacts {
-        priority: true,
-        ..plain
-    };
-    let queue = queue_of(
-        rt.alloc(),
-        hold(2, HoldKind::Any, 1),
-        hold(6, HoldKind::Any, 2),
-    )?;
-    let view = queue.view();
-    let at_second = (
-        chosen(&view, &plain, branch(2), today),
-        chosen(&view, &local, branch(2), today),
-        chosen(&view, &local, branch(0), today),
-    );
-    assert_eq!(rt; at_second, (Some(2), Some(6), Some(2)));
+    let first = hold(2, HoldKind::Any, 1);
+    let second = hold(6, HoldKind::Any, 2);
+    let plain = chosen(rt.alloc(), &first, &second, &copy(0, 0), branch(2), today)?;
+    assert_eq!(rt; plain, Some(2));
+    let local = chosen(rt.alloc(), &first, &second, &local_copy(), branch(2), today)?;
+    assert_eq!(rt; local, Some(6));
+    let elsewhere = chosen(rt.alloc(), &first, &second, &local_copy(), branch(0), today)?;
+    assert_eq!(rt; elsewhere, Some(2));
+    Ok(())
+}
 
-    // A hold that doesn't admit the copy gives no priority.
-    let other = HoldKind::One(CopyNo::new(5).unwrap());
-    let queue = queue_of(rt.alloc(), hold(2, HoldKind::Any, 1), hold(6, other, 2))?;
-    assert_eq!(rt; chosen(&queue.view(), &local, branch(2), today), Some(2));
+/// A hold that doesn't admit the copy gives no priority.
+#[test]
+fn no_priority_for_another_copy(rt: HostRuntime) -> Result<(), Fail> {
+    let today = day(b"20260310    120000")?;
+    let any = hold(2, HoldKind::Any, 1);
+    let other = hold(6, HoldKind::One(CopyNo::new(5).unwrap()), 2);
+    let stamp = chosen(rt.alloc(), &any, &other, &local_copy(), branch(2), today)?;
+    assert_eq!(rt; stamp, Some(2));
     Ok(())
 }
 
@@ -139,17 +155,25 @@ fn expired_holds(rt: HostRuntime) -> Result<(), Fail> {
         expiry: Some(yesterday),
         ..hold(2, HoldKind::Any, 0)
     };
-    let local = CopyFacts {
-        priority: true,
-        ..copy(0, 0)
-    };
-    let queue = queue_of(rt.alloc(), expired, hold(6, HoldKind::Any, 2))?;
-    let view = queue.view();
-    let stamps = (
-        chosen(&view, &local, branch(0), today),
-        chosen(&view, &local, branch(0), yesterday),
-    );
-    assert_eq!(rt; stamps, (Some(6), Some(2)));
+    let later = hold(6, HoldKind::Any, 2);
+    let after = chosen(
+        rt.alloc(),
+        &expired,
+        &later,
+        &local_copy(),
+        branch(0),
+        today,
+    )?;
+    assert_eq!(rt; after, Some(6));
+    let on_the_day = chosen(
+        rt.alloc(),
+        &expired,
+        &later,
+        &local_copy(),
+        branch(0),
+        yesterday,
+    )?;
+    assert_eq!(rt; on_the_day, Some(2));
     Ok(())
 }
 
@@ -162,49 +186,49 @@ fn kept(place: u32, patron: PatronNo) -> CopyState {
     })
 }
 
-/// Where a copy goes from an empty hold shelf, and whether a hold gets it.
+/// Where a copy goes from an empty hold shelf on a day, and whether a hold gets it: of a hold of the copy of
+/// number 1, and a later one of the first branch's copies, both picked up there.
 fn goes<A: Allocator + Copy>(
     alloc: A,
-    queue: &QueueView<'_>,
     copy: &CopyFacts,
     at: BranchNo,
     day: Day,
-) -> (CopyState, bool) {
-    let settled = settle(queue, &Places::new(alloc), copy, at, day);
-    (settled.state, settled.gets.is_some())
+) -> Result<(CopyState, bool), AllocError> {
+    let one = hold(4, HoldKind::One(CopyNo::new(1).unwrap()), 0);
+    let queue = queue_of(alloc, &one, &hold(6, HoldKind::AtBranch, 0))?;
+    let settled = settle(&queue.view(), &Places::new(alloc), copy, at, day);
+    Ok((settled.state, settled.gets.is_some()))
 }
 
-/// A copy without a hold goes home, one with a choice to its pickup, and a tied one keeps its place there.
+/// A copy without a hold goes home, and one with a choice to its pickup.
 #[test]
-fn settled_copies(rt: HostRuntime) -> Result<(), Fail> {
+fn copies_on_their_way(rt: HostRuntime) -> Result<(), Fail> {
     let today = day(b"20260310    120000")?;
     let (here, there) = (branch(0), branch(1));
-    let patron = PatronNo::new(4).unwrap();
-    let named = HoldKind::One(CopyNo::new(1).unwrap());
-    let queue = queue_of(
-        rt.alloc(),
-        hold(4, named, 0),
-        hold(6, HoldKind::AtBranch, 0),
-    )?;
-    let view = queue.view();
-
-    let home = goes(rt.alloc(), &view, &copy(2, 1), there, today);
+    let home = goes(rt.alloc(), &copy(2, 1), there, today)?;
     assert_eq!(rt; home, (CopyState::Shelf(there), false));
-    let sent = goes(rt.alloc(), &view, &copy(1, 1), there, today);
+    let sent = goes(rt.alloc(), &copy(1, 1), there, today)?;
     let on_its_way = CopyState::InTransit(Transit {
         from: there,
         to: here,
-        patron: Some(patron),
+        patron: Some(PatronNo::new(4).unwrap()),
     });
     assert_eq!(rt; sent, (on_its_way, true));
-    let first = goes(rt.alloc(), &view, &copy(1, 1), here, today);
-    assert_eq!(rt; first, (kept(1, patron), true));
+    Ok(())
+}
 
+/// A copy with a choice is kept where that is picked up, and one that is kept for a patron keeps its place.
+#[test]
+fn copies_at_their_pickup(rt: HostRuntime) -> Result<(), Fail> {
+    let today = day(b"20260310    120000")?;
+    let patron = PatronNo::new(4).unwrap();
+    let first = goes(rt.alloc(), &copy(1, 1), branch(0), today)?;
+    assert_eq!(rt; first, (kept(1, patron), true));
     let tied = CopyFacts {
         state: kept(3, patron),
         ..copy(1, 1)
     };
-    let stays = goes(rt.alloc(), &view, &tied, here, today);
+    let stays = goes(rt.alloc(), &tied, branch(0), today)?;
     assert_eq!(rt; stays, (kept(3, patron), false));
     Ok(())
 }

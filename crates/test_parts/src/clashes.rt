@@ -19,11 +19,8 @@ T|ta|21|1
 C|a1|ta|north
 ";
 
-fn library(alloc: Global) -> Result<Catalogue, Fail> {
-    let Ok(catalogue) = Catalogue::read(alloc, CATALOGUE) else {
-        return Err("refused".into());
-    };
-    Ok(catalogue)
+fn library(alloc: Global) -> Option<Catalogue> {
+    Catalogue::read(alloc, CATALOGUE).ok()
 }
 
 /// On the first place of the branch's hold shelf.
@@ -37,7 +34,8 @@ fn kept(patron: PatronNo, branch: BranchNo) -> Value {
 
 /// Whether a noted place of a branch clashes with a copy's way from an open shelf to the first place of the
 /// northern hold shelf.
-fn place_clashes(catalogue: &Catalogue, branch: &[u8], noted: u32) -> Option<bool> {
+fn place_clashes(alloc: Global, branch: &[u8], noted: u32) -> Option<bool> {
+    let catalogue = library(alloc)?;
     let copy = catalogue.copy(b"a1")?;
     let north = catalogue.branch(b"north")?;
     let asked = catalogue.branch(branch)?;
@@ -50,20 +48,20 @@ fn place_clashes(catalogue: &Catalogue, branch: &[u8], noted: u32) -> Option<boo
         question: Question::Place(asked),
         noted: Noted::Place(noted),
     };
-    Some(clashes(catalogue, &changes, &finding))
+    Some(clashes(&catalogue, &changes, &finding))
 }
 
 /// A copy was given the second place since a return had taken the first. Places elsewhere don't rest on it.
 #[test]
 fn a_place_rests_on_lower_ones(rt: HostRuntime) -> Result<(), Fail> {
-    let catalogue = library(rt.alloc())?;
-    assert_eq!(rt; place_clashes(&catalogue, b"north", 2), Some(true));
-    assert_eq!(rt; place_clashes(&catalogue, b"south", 1), Some(false));
+    assert_eq!(rt; place_clashes(rt.alloc(), b"north", 2), Some(true));
+    assert_eq!(rt; place_clashes(rt.alloc(), b"south", 1), Some(false));
     Ok(())
 }
 
 /// How many copies on open shelves are noted in place of two, without a copy's way there from the hold shelf.
-fn shelf_without(catalogue: &Catalogue, alloc: Global) -> Option<Noted> {
+fn shelf_without(alloc: Global) -> Option<Noted> {
+    let catalogue = library(alloc)?;
     let copy = catalogue.copy(b"a1")?;
     let north = catalogue.branch(b"north")?;
     let changes = [Change {
@@ -76,22 +74,19 @@ fn shelf_without(catalogue: &Catalogue, alloc: Global) -> Option<Noted> {
         question: Question::OnShelf(catalogue.title(b"ta")?, HoldKind::Any, north),
         noted: Noted::OnShelf(2),
     });
-    mend(catalogue, &changes, &mut findings);
+    mend(&catalogue, &changes, &mut findings);
     findings.findings().first().map(|finding| finding.noted)
 }
 
 #[test]
 fn a_copy_less_is_noted(rt: HostRuntime) -> Result<(), Fail> {
-    let catalogue = library(rt.alloc())?;
-    assert_eq!(rt;
-        shelf_without(&catalogue, rt.alloc()),
-        Some(Noted::OnShelf(1))
-    );
+    assert_eq!(rt; shelf_without(rt.alloc()), Some(Noted::OnShelf(1)));
     Ok(())
 }
 
 /// Whether a return of the copy at the southern branch asks about the copy's title, that branch, and no more.
-fn return_asks_about_both(catalogue: &Catalogue) -> Option<bool> {
+fn return_asks_about_both(alloc: Global) -> Option<bool> {
+    let catalogue = library(alloc)?;
     let title = catalogue.title(b"ta")?;
     let branch = catalogue.branch(b"south")?;
     let action = Action::Checkin {
@@ -100,14 +95,13 @@ fn return_asks_about_both(catalogue: &Catalogue) -> Option<bool> {
     };
     let now = read(b"20260310    120000", OffsetMinutes::new(0)?).ok()?;
     let day = now.day();
-    let keys = CommandKeys::of(catalogue, &Command { day, action });
+    let keys = CommandKeys::of(&catalogue, &Command { day, action });
     Some(keys.title == title && keys.branch == Some(branch) && keys.patron.is_none())
 }
 
 #[test]
 fn a_return_asks_about_its_title_and_branch(rt: HostRuntime) -> Result<(), Fail> {
-    let catalogue = library(rt.alloc())?;
-    assert_eq!(rt; return_asks_about_both(&catalogue), Some(true));
+    assert_eq!(rt; return_asks_about_both(rt.alloc()), Some(true));
     Ok(())
 }
 
@@ -128,23 +122,24 @@ fn twice_touched(catalogue: &Catalogue) -> Option<ChangedKeys> {
 }
 
 /// Whether that is the title and the branch, each once.
-fn each_touched_once(catalogue: &Catalogue) -> Option<bool> {
+fn each_touched_once(alloc: Global) -> Option<bool> {
+    let catalogue = library(alloc)?;
     let title = Key::Title(catalogue.title(b"ta")?);
     let branch = Key::Branch(catalogue.branch(b"north")?);
-    let touched = twice_touched(catalogue)?;
+    let touched = twice_touched(&catalogue)?;
     let keys = touched.keys();
     Some(keys.len() == 2 && keys.contains(&title) && keys.contains(&branch))
 }
 
 #[test]
 fn a_key_is_touched_once(rt: HostRuntime) -> Result<(), Fail> {
-    let catalogue = library(rt.alloc())?;
-    assert_eq!(rt; each_touched_once(&catalogue), Some(true));
+    assert_eq!(rt; each_touched_once(rt.alloc()), Some(true));
     Ok(())
 }
 
 /// Whether the second place of the northern hold shelf, found free, clashes with a copy's way to the first.
-fn second_place_clashes(catalogue: &Catalogue, meter: &mut Meter) -> Option<bool> {
+fn second_place_clashes(alloc: Global, meter: &mut Meter) -> Option<bool> {
+    let catalogue = library(alloc)?;
     let north = catalogue.branch(b"north")?;
     let changes = [Change {
         cell: Cell::Copy(catalogue.copy(b"a1")?),
@@ -156,15 +151,14 @@ fn second_place_clashes(catalogue: &Catalogue, meter: &mut Meter) -> Option<bool
         question,
         noted: Noted::Place(2),
     };
-    let is_keyed = key_of(catalogue, &question) == Key::Branch(north);
-    Some(is_keyed && has_clash(catalogue, &changes, &[finding], meter))
+    let is_keyed = key_of(&catalogue, &question) == Key::Branch(north);
+    Some(is_keyed && has_clash(&catalogue, &changes, &[finding], meter))
 }
 
 #[test]
 fn a_comparison_is_counted(rt: HostRuntime) -> Result<(), Fail> {
-    let catalogue = library(rt.alloc())?;
     let mut meter = Meter::new(&rt);
-    assert_eq!(rt; second_place_clashes(&catalogue, &mut meter), Some(true));
+    assert_eq!(rt; second_place_clashes(rt.alloc(), &mut meter), Some(true));
     assert_eq!(rt; meter.count(Count::Compared), 1);
     Ok(())
 }
