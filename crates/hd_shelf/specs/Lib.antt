@@ -1,2 +1,3 @@
 pub mod PlacesValue
 pub mod Shelf
+pub mod Taken

@@ -1,9 +1,9 @@
 -- The places of a hold shelf, from 1, and the copies that stand there.
-use Rattle.std.specs.Prelude.{◌≡◌, ◌≢◌, ℕ, zero, suc, ◌<◌, ◌≤◌, cond, List, [], ◌∷◌, None, Some, IsSome}
-use Rattle.std.specs.Prelude.{is_none}
+use Rattle.std.specs.Prelude.{◌≡◌, ◌≢◌, ℕ, ◌<◌, ◌≤◌, List, None, Some, IsSome}
 use Rattle.std.specs.Ordering.{nat_cmp}
 use Rattle.std.specs.FinMap as map
 use Rattle.hd_rules.specs.declared.limits.TheConstants.{MOST_COPIES}
+use Rattle.hd_shelf.specs.Taken.{AreOnBoards}
 
 -- the least place, from 1, at which no copy stands
 pub record LeastFree (copies : map.FinMap nat_cmp ℕ) (place : ℕ) : Type 0 where
@@ -26,16 +26,8 @@ pub record IsShelf (copies : map.FinMap nat_cmp ℕ) : Type 0 where
   pub apart : (p q copy : ℕ) → map.get copies p ≡ Some copy → map.get copies q ≡ Some copy → p ≡ q
   pub known : (place copy : ℕ) → map.get copies place ≡ Some copy → copy < MOST_COPIES
 
--- the free places from this one down to 1
-abbrev pub free_places : map.FinMap nat_cmp ℕ → ℕ → List ℕ
-free_places copies zero = []
-free_places copies (suc below) =
-    cond (is_none (map.get copies (suc below))) (suc below ∷ free_places copies below)
-    (free_places copies below)
-
--- a shelf whose free places are kept, in a list that has room for all places
-pub record IsKept (copies : map.FinMap nat_cmp ℕ) (room : ℕ) (free : List ℕ) (capacity : ℕ) : Type 0 where
+-- a shelf whose free places are counted by board
+pub record IsKept (copies : map.FinMap nat_cmp ℕ) (room : ℕ) (boards : List ℕ) : Type 0 where
   pub shelf : IsShelf copies
   pub above : (place : ℕ) → room < place → map.get copies place ≡ None
-  pub free_is : free ≡ free_places copies room
-  pub enough : room ≤ capacity
+  pub free : AreOnBoards copies room boards

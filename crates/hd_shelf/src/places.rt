@@ -1,11 +1,10 @@
 //! The places of a hold shelf.
-ghost use Rattle.std.specs.Prelude.{◌≡◌, ◌≤◌, ◌<◌, ◌+◌, ℕ, max, length, nat_lt, None, OnOk, OnErr};
-ghost use Rattle.std.specs.List.{prefix_len};
-ghost use Rattle.std.specs.List.Sorted.{IsPartitionedBy};
+ghost use Rattle.std.specs.Prelude.{◌≡◌, ◌≤◌, ◌<◌, ◌+◌, ℕ, max, None, IsSome, OnOk, OnErr};
 ghost use Rattle.std.specs.FinMap as map;
 ghost use Rattle.hd_rules.specs.declared.limits.TheConstants.{MOST_COPIES};
 ghost use Rattle.hd_shelf.specs.Shelf.{IsShelf, IsReady, LeastFree, StandsNowhere};
 
+use crate::boards::{Boards, SPAN};
 use hd_rules::{CopyNo, MOST_COPIES};
 use hd_table::Table;
 use std::alloc::{AllocError, Allocator, Global};
@@ -13,17 +12,18 @@ use std::marker::Model;
 
 /// The copies on the hold shelf of a branch by place. Places count from 1.
 ///
-/// Only `ready` takes memory. `least_free` is one read: beside the copies stand the free places, of which the
-/// last is the least.
+/// Only `ready` takes memory. The free places are counted by boards of 128 places and by bays of 128 boards:
+/// `put` and `take` change one or two counts, and `least_free` walks the bays, the boards of one and the places
+/// of one.
 #[derive(Drop)]
 pub struct Places<A: Allocator = Global> {
     table: Table<CopyNo, A>,
-    /// The places that have room and no copy, from the greatest to the least. There is room for all places.
-    free: Vec<u32, A>,
+    /// How many places of each board have room and no copy. The first board begins with place 1.
+    boards: Boards<A>,
 }
 
 impl<A: Allocator> Model for Places<A> {
-    ghost use Rattle.std.specs.Prelude.{◌-◌, vec_capacity};
+    ghost use Rattle.std.specs.Prelude.{◌-◌};
     ghost use Rattle.hd_shelf.specs.PlacesValue.{PlacesValue, places_code};
     ghost use Rattle.hd_shelf.specs.Shelf.{IsKept};
 
@@ -33,7 +33,7 @@ impl<A: Allocator> Model for Places<A> {
 
     ghost view = { λ p. record { copies = p.table.entries; room = p.table.size - 1 } };
 
-    ghost invariant = { λ p. IsKept p.table.entries (p.table.size - 1) p.free.items (vec_capacity p.free) };
+    ghost invariant = { λ p. IsKept p.table.entries (p.table.size - 1) p.boards };
 }
 
 impl<A: Allocator + Copy> Places<A> {
@@ -44,7 +44,7 @@ impl<A: Allocator + Copy> Places<A> {
     {
         Places {
             table: Table::new(alloc),
-            free: Vec::new(alloc),
+            boards: Boards::new(alloc),
         }
     }
 }
@@ -57,9 +57,10 @@ impl<A: Allocator> Places<A> {
         ensures least { LeastFree self.now.copies result }
         ensures bound { result ≤ MOST_COPIES + 1 }
     {
-        match self.free.last() {
-            Some(least) => *least,
-            None => self.room() as u32 + 1,
+        let room = self.room();
+        match self.boards.first_open() {
+            Some(board) => self.free_after(board * SPAN) as u32,
+            None => room as u32 + 1,
         }
     }
 
@@ -77,13 +78,11 @@ impl<A: Allocator> Places<A> {
         let room = self.room();
         let last = place as usize;
         if room < last {
-            self.free.reserve(last - self.free.len())?;
+            self.boards.grow(last.div_ceil(SPAN))?;
             self.table.grow(last + 1)?;
-            self.free.reverse();
-            for below in room..last {
-                self.free.push_reserved(below as u32 + 1);
+            for others in room..last {
+                self.boards.raise(others / SPAN);
             }
-            self.free.reverse();
         }
         Ok(())
     }
@@ -97,8 +96,7 @@ impl<A: Allocator> Places<A> {
         ensures room { self.new.room ≡ self.old.room }
     {
         prove!(copy.number() < MOST_COPIES);
-        let at = number_above(self.free.as_slice(), place);
-        self.free.remove(at);
+        self.boards.lower((place as usize - 1) / SPAN);
         self.table.set(place as usize, copy);
     }
 
@@ -109,8 +107,7 @@ impl<A: Allocator> Places<A> {
         ensures room { self.new.room ≡ self.old.room }
     {
         let copy = self.table.take(place as usize)?;
-        let at = number_above(self.free.as_slice(), place);
-        self.free.insert(at, place).unwrap();
+        self.boards.raise((place as usize - 1) / SPAN);
         Some(copy)
     }
 
@@ -124,17 +121,25 @@ impl<A: Allocator> Places<A> {
 
     /// The greatest place that has room, or 0.
     fn room(&self) -> usize
-        ensures { result ≡ self.now.room }
+        ensures room { result ≡ self.now.room }
+        ensures next { result < usize.MAX }
     {
         self.table.size().saturating_sub(1)
     }
-}
 
-/// How many of these places, which fall, are greater than this one.
-fn number_above(falling: &[u32], place: u32) -> usize
-    requires { IsPartitionedBy (nat_lt place) falling.now }
-    ensures number { result ≡ prefix_len (nat_lt place) falling.now }
-    ensures within { result ≤ length falling.now }
-{
-    falling.partition_point(|other| *other > place)
+    /// The least free place after so many others, where all that follow may have a copy.
+    fn free_after(&self, others: usize) -> usize
+        ensures from_one { 1 ≤ result }
+        ensures free { map.get self.now.copies result ≡ None }
+        ensures taken { (place : ℕ) → others < place → place < result → IsSome (map.get self.now.copies place) }
+        ensures within { result ≤ self.now.room + 1 }
+    {
+        let room = self.room();
+        for below in others..room {
+            if self.table.get(below + 1).is_none() {
+                return below + 1;
+            }
+        }
+        room + 1
+    }
 }

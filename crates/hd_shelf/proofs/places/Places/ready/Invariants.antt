@@ -1,11 +1,12 @@
-use Rattle.std.proofs.Common.{◌≡◌, ◌≤◌, ◌+◌, reverse, vec_capacity}
-use Rattle.hd_shelf.specs.Shelf.{free_places}
+use Rattle.std.proofs.Common.{◌≡◌, ◌≤◌, ◌+◌, ◌*◌, length}
+use Rattle.hd_shelf.specs.declared.boards.TheConstants.{SPAN}
+use Rattle.hd_shelf.specs.Taken.{AreCounts, is_free_after}
 use Rattle.hd_shelf.proofs.places.Places.ready.Given as goal
 
-abbrev pub invariant-loop-below : goal.invariant-loop-below
-invariant-loop-below g l = record {
+abbrev pub invariant-loop-others : goal.invariant-loop-others
+invariant-loop-others g l = record {
   same_copies : l.self-inside.table.entries ≡ l.fn.self.copies;
   size : l.self-inside.table.size ≡ l.place + 1;
-  risen : l.self-inside.free.items ≡ reverse (free_places l.fn.self.copies l.below);
-  enough : l.place ≤ vec_capacity l.self-inside.free;
+  counts : AreCounts (is_free_after l.fn.self.copies l.others) l.self-inside.boards;
+  enough : l.place ≤ SPAN * length l.self-inside.boards;
 }
