@@ -6,3 +6,4 @@ pub mod Laws
 pub mod Telling
 pub mod Books
 pub mod Shown
+pub mod Changing

@@ -1,7 +1,7 @@
 //! What is asked in one turn.
 
 ghost use Rattle.std.specs.Prelude.{◌≡◌, None, IfOk, IsOk, option_map};
-ghost use Rattle.hd_journal.specs.Asks.{asking, kept_line, replied, sent};
+ghost use Rattle.hd_journal.specs.Asks.{asking, is_query, kept_line, replied, sent};
 ghost use Rattle.hd_journal.specs.Shown.{shown};
 
 use crate::entry::Entry;
@@ -131,6 +131,16 @@ impl<A: Allocator> OwnedAsk<A> {
         ensures { result ≡ self.now.message.terminal }
     {
         self.terminal
+    }
+
+    /// Whether it asks for no change.
+    pub(crate) fn is_query(&self) -> bool
+        ensures { result ≡ is_query self.now.message.asked }
+    {
+        match &self.asked {
+            Asked::Command(_) | Asked::Cancel(_) => false,
+            Asked::Item(_) => true,
+        }
     }
 
     /// The line, where there is one.

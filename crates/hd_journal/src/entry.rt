@@ -80,9 +80,6 @@ impl<A: Allocator> Entry<A> {
     pub(crate) fn is_query(&self) -> bool
         ensures { result ≡ is_query self.now.message.asked }
     {
-        match &self.ask.asked {
-            Asked::Command(_) | Asked::Cancel(_) => false,
-            Asked::Item(_) => true,
-        }
+        self.ask.is_query()
     }
 }

@@ -10,6 +10,7 @@ ghost use Rattle.hd_rules.specs.Run.{run};
 ghost use Rattle.hd_desk.specs.Desks.{contents, desk_of};
 ghost use Rattle.hd_journal.specs.Asks.{IsKnownMessage, asking, sent};
 ghost use Rattle.hd_journal.specs.Books.{AddsTurn, IsLegalBook, MakesNoTurn, facts, state, turn_numbered};
+ghost use Rattle.hd_journal.specs.Changing.{is_changing};
 ghost use Rattle.hd_journal.specs.Shown.{shown};
 
 use crate::ask::{Ask, OwnedAsk};
@@ -170,6 +171,13 @@ impl<A: Allocator + Copy> Journal<A> {
         ensures { IsLegalBook self.now.contents self.now.turns }
     {
         self.alloc
+    }
+
+    /// Whether the turn of this ask would change something: it is no query, and it wasn't answered already.
+    pub fn is_changing(&self, ask: &OwnedAsk<A>) -> bool
+        ensures { result ≡ is_changing (state self.now) ask.now.message }
+    {
+        !ask.is_query() && self.told.repeated(ask).is_none()
     }
 
     /// How many turns there are.

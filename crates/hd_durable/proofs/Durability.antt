@@ -1,0 +1,181 @@
+-- What is kept of a turn more.
+use Rattle.std.proofs.Common.{◌≡◌, refl, sym, ◌∙◌, ap, subst, arith, ◌⊎◌, inl, inr, ℕ, Bool, true, false, if◌then◌else◌}
+use Rattle.std.proofs.Common.{List, [], ◌∷◌, ◌++◌, length, Option, Some, None, Result, Ok, Err, OnOk, OnErr, true≢false}
+use Rattle.std.specs.Prelude.{slice_get, take}
+use Rattle.std.proofs.lemmas.List.{append-nil}
+use Rattle.std.proofs.Math.Seq.{take-length, take-append_seam}
+use Rattle.hd_rules.specs.Facts.{Facts}
+use Rattle.hd_rules.specs.Turns.{Message, start}
+use Rattle.hd_rules.specs.Journal.{Turn, IsLegal, state_after}
+use Rattle.hd_catalogue.specs.Contents.{Contents, facts_of}
+use Rattle.hd_journal.specs.declared.turn.Turn.{Turn as Made}
+use Rattle.hd_journal.specs.Books.{Book, AddsTurn, IsLegalBook, next_turn, facts, state, turn_numbered}
+use Rattle.hd_journal.specs.Changing.{is_changing, changing}
+use Rattle.hd_durable.specs.Durable.{IsLeft, IsOpen, IsDurable}
+use Rattle.hd_durable.proofs.Beginnings.{beginning}
+
+-- the last of some turns
+last_of : (first : Turn) (turns : List Turn) (turn : Turn)
+    → slice_get (first ∷ (turns ++ turn ∷ [])) (length (turns ++ turn ∷ [])) ≡ Some turn
+last_of first [] turn = refl
+last_of first (t ∷ ts) turn = last_of t ts turn
+
+numbered_last : (turns : List Turn) (turn : Turn)
+    → turn_numbered (turns ++ turn ∷ []) (length (turns ++ turn ∷ [])) ≡ Some turn
+numbered_last [] turn = refl
+numbered_last (t ∷ ts) turn = last_of t ts turn
+
+abbrev of_some : Turn → Option Turn → Turn
+of_some other (Some turn) = turn
+of_some other None = other
+
+-- what is found at the number of the last
+pub last_is : (all turns : List Turn) (turn : Turn) (n : ℕ) (last : Turn) → all ≡ turns ++ turn ∷ []
+    → n ≡ length all → Some last ≡ turn_numbered all n → last ≡ turn
+last_is all turns turn n last is number found =
+    ap (of_some last)
+    (found ∙ ap (turn_numbered all) number
+    ∙ subst (λ (ts : List Turn). turn_numbered ts (length ts) ≡ Some turn) (sym is) (numbered_last turns turn))
+
+-- one that changes something
+pub changing_more : (k : Facts) (turns : List Turn) (turn : Turn)
+    → is_changing (state_after k turns) turn.message ≡ true
+    → changing k (turns ++ turn ∷ []) ≡ changing k turns ++ turn ∷ []
+changing_more k turns turn is =
+    beginning k (start k) turns (turn ∷ [])
+    ∙ ap (λ (b : Bool). changing k turns ++ (if b then turn ∷ [] else [])) is
+
+-- one that changes nothing
+pub changing_same : (k : Facts) (turns : List Turn) (turn : Turn)
+    → is_changing (state_after k turns) turn.message ≡ false
+    → changing k (turns ++ turn ∷ []) ≡ changing k turns
+changing_same k turns turn is =
+    beginning k (start k) turns (turn ∷ [])
+    ∙ ap (λ (b : Bool). changing k turns ++ (if b then turn ∷ [] else [])) is
+    ∙ append-nil (changing k turns)
+
+-- nothing is left but what was answered
+pub left_none : (k : Facts) (answered left : List Turn) → IsLegal k answered → left ≡ changing k answered
+    → IsLeft k answered left
+left_none k answered left legal is = record {
+  more = [];
+  few = omega arith;
+  legal = subst (IsLegal k) (sym (append-nil answered)) legal;
+  is = is ∙ ap (changing k) (sym (append-nil answered));
+}
+
+-- one more is left that nobody was answered
+pub left_one : (k : Facts) (answered : List Turn) (turn : Turn) (left : List Turn)
+    → IsLegal k (answered ++ turn ∷ []) → left ≡ changing k (answered ++ turn ∷ []) → IsLeft k answered left
+left_one k answered turn left legal is = record { more = turn ∷ []; few = omega arith; legal = legal; is = is }
+
+-- it isn't known whether it is left
+pub left_either : (k : Facts) (answered : List Turn) (turn : Turn) (left : List Turn)
+    → IsLegal k answered → IsLegal k (answered ++ turn ∷ [])
+    → is_changing (state_after k answered) turn.message ≡ true
+    → (left ≡ changing k answered) ⊎ (left ≡ changing k answered ++ turn ∷ [])
+    → IsLeft k answered left
+left_either k answered turn left before after is (inl none) = left_none k answered left before none
+left_either k answered turn left before after is (inr one) =
+    left_one k answered turn left after (one ∙ sym (changing_more k answered turn is))
+
+pub on_ok : {A E : Type 0} (r : Result A E) (P Q : Type 0) → (P → Q) → OnOk r P → OnOk r Q
+on_ok (Ok x) P Q f p = f p
+on_ok (Err e) P Q f p = p
+
+pub on_err : {A E : Type 0} (r : Result A E) (P Q : Type 0) → (P → Q) → OnErr r P → OnErr r Q
+on_err (Ok x) P Q f p = p
+on_err (Err e) P Q f p = f p
+
+-- all were answered, and the changing ones are committed
+pub durable_all : (holds leaves : List Turn → Type 0) (contents : Contents) (turns : List Turn) (n : ℕ) (b : Bool)
+    → IsLegalBook contents turns → n ≡ length turns → holds (changing (facts_of contents) turns)
+    → ((left : List Turn) → leaves left → left ≡ changing (facts_of contents) turns)
+    → IsDurable holds leaves contents turns n b
+durable_all holds leaves contents turns n b legal all held settled =
+    let whole : take n turns ≡ turns = ap (λ (m : ℕ). take m turns) all ∙ take-length turns
+    in record {
+      legal = subst (IsLegalBook contents) (sym whole) legal;
+      left = λ left is. subst (λ (ts : List Turn). IsLeft (facts_of contents) ts left) (sym whole)
+          (left_none (facts_of contents) turns left legal.legal (settled left is));
+      opened = λ open_. record { all = all; held = held; settled = settled };
+    }
+
+-- while it is open a stop leaves the changing ones of those that were answered
+pub committed : (holds leaves : List Turn → Type 0) (k : Facts) (turns : List Turn) (n : ℕ)
+    → IsOpen holds leaves k turns n
+    → (left : List Turn) → leaves left → left ≡ changing k (take n turns)
+committed holds leaves k turns n opened left found =
+    let whole : take n turns ≡ turns = ap (λ (m : ℕ). take m turns) opened.all ∙ take-length turns
+    in opened.settled left found ∙ ap (changing k) (sym whole)
+
+module _ (old new : Book) (seat : ℕ) (message : Message) (made : Made) (adds : AddsTurn old new seat message made)
+    (legal : IsLegalBook new.contents new.turns) where
+  -- after a turn that changes nothing
+  pub durable_same : (holds leaves : List Turn → Type 0) (n : ℕ) (b : Bool)
+      → is_changing (state old) message ≡ false → IsOpen holds leaves (facts old) old.turns n
+      → IsDurable holds leaves new.contents new.turns made.at b
+  durable_same holds leaves n b is opened =
+      let same : changing (facts_of new.contents) new.turns ≡ changing (facts old) old.turns =
+      ap (λ (c : Contents). changing (facts_of c) new.turns) adds.contents
+      ∙ ap (changing (facts old)) adds.turns
+      ∙ changing_same (facts old) old.turns (next_turn old seat message) is
+      in durable_all holds leaves new.contents new.turns made.at b legal adds.number
+      (subst holds (sym same) opened.held)
+      (λ left found. opened.settled left found ∙ sym same)
+
+  -- after one that is committed
+  pub durable_more : (holds leaves holds' leaves' : List Turn → Type 0) (n : ℕ) (b : Bool)
+      → is_changing (state old) message ≡ true → IsOpen holds leaves (facts old) old.turns n
+      → ((turns held : List Turn) (t : Turn) → new.turns ≡ turns ++ t ∷ [] → holds held → holds' (held ++ t ∷ []))
+      → ((held left : List Turn) → holds' held → leaves' left → left ≡ held)
+      → IsDurable holds' leaves' new.contents new.turns made.at b
+  durable_more holds leaves holds' leaves' n b is opened ok settled =
+      let more : changing (facts_of new.contents) new.turns
+      ≡ changing (facts old) old.turns ++ next_turn old seat message ∷ [] =
+      ap (λ (c : Contents). changing (facts_of c) new.turns) adds.contents
+      ∙ ap (changing (facts old)) adds.turns
+      ∙ changing_more (facts old) old.turns (next_turn old seat message) is
+      in let held : holds' (changing (facts_of new.contents) new.turns) =
+      subst holds' (sym more) (ok old.turns _ (next_turn old seat message) adds.turns opened.held)
+      in durable_all holds' leaves' new.contents new.turns made.at b legal adds.number held
+      (λ left found. settled _ left held found)
+
+  -- after one that may be left or not
+  pub left_in_doubt : (holds leaves leaves' : List Turn → Type 0) (n : ℕ)
+      → is_changing (state old) message ≡ true → IsLegalBook old.contents (take n old.turns)
+      → IsOpen holds leaves (facts old) old.turns n
+      → ((turns held left : List Turn) (t : Turn) → new.turns ≡ turns ++ t ∷ [] → holds held → leaves' left
+      → (left ≡ held) ⊎ (left ≡ held ++ t ∷ []))
+      → (left : List Turn) → leaves' left → IsLeft (facts_of new.contents) (take n new.turns) left
+  left_in_doubt holds leaves leaves' n is before opened err left found =
+      let whole : take n old.turns ≡ old.turns = ap (λ (m : ℕ). take m old.turns) opened.all ∙ take-length old.turns
+      in let same : take n new.turns ≡ old.turns =
+      ap (take n) adds.turns ∙ ap (λ (m : ℕ). take m (old.turns ++ next_turn old seat message ∷ [])) opened.all
+      ∙ take-append_seam old.turns (next_turn old seat message ∷ [])
+      in let after : IsLegal (facts old) (old.turns ++ next_turn old seat message ∷ []) =
+      subst (IsLegal (facts old)) adds.turns (subst (λ (c : Contents). IsLegal (facts_of c) new.turns) adds.contents legal.legal)
+      in subst (λ (ts : List Turn). IsLeft (facts_of new.contents) ts left) (sym same)
+      (subst (λ (c : Contents). IsLeft (facts_of c) old.turns left) (sym adds.contents)
+      (left_either (facts old) old.turns (next_turn old seat message) left
+      (subst (IsLegal (facts old)) whole before.legal) after is
+      (err old.turns _ left (next_turn old seat message) adds.turns opened.held found)))
+
+  -- the journal is then shut
+  pub durable_shut : (holds leaves holds' leaves' : List Turn → Type 0) (n : ℕ)
+      → is_changing (state old) message ≡ true → IsLegalBook old.contents (take n old.turns)
+      → IsOpen holds leaves (facts old) old.turns n
+      → ((turns held left : List Turn) (t : Turn) → new.turns ≡ turns ++ t ∷ [] → holds held → leaves' left
+      → (left ≡ held) ⊎ (left ≡ held ++ t ∷ []))
+      → IsDurable holds' leaves' new.contents new.turns n true
+  durable_shut holds leaves holds' leaves' n is before opened err =
+      let same : take n new.turns ≡ take n old.turns =
+      ap (take n) adds.turns ∙ ap (λ (m : ℕ). take m (old.turns ++ next_turn old seat message ∷ [])) opened.all
+      ∙ take-append_seam old.turns (next_turn old seat message ∷ [])
+      ∙ sym (ap (λ (m : ℕ). take m old.turns) opened.all ∙ take-length old.turns)
+      in record {
+        legal = subst (λ (c : Contents). IsLegalBook c (take n new.turns)) (sym adds.contents)
+            (subst (IsLegalBook old.contents) (sym same) before);
+        left = left_in_doubt holds leaves leaves' n is before opened err;
+        opened = λ never. absurd (true≢false never);
+      }

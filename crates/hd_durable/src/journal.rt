@@ -1,0 +1,121 @@
+//! The durable journal.
+
+ghost use Rattle.std.specs.Prelude.{◌≡◌, ◌⊎◌, ◌++◌, ◌∷◌, [], Err, IfOk, List, OnErr, OnOk};
+ghost use Rattle.hd_catalogue.specs.Contents.{facts_of};
+ghost use Rattle.hd_rules.specs.Journal.{Turn as TurnValue};
+ghost use Rattle.hd_journal.specs.Asks.{IsKnownMessage, replied};
+ghost use Rattle.hd_journal.specs.Books.{IsLegalBook, facts};
+ghost use Rattle.hd_journal.specs.Changing.{changing};
+ghost use Rattle.hd_durable.specs.Durable.{IsLeft};
+
+use crate::fault::DurableFault;
+use crate::table::{NotCommitted, TurnTable};
+use hd_journal::{Journal, OwnedAsk, Turn};
+use std::alloc::{Allocator, Global};
+use std::marker::Model;
+
+/// A journal each of whose changing turns is committed to a table before it is answered.
+///
+/// Whatever is asked, a stop at any moment leaves the changing turns of all that were answered, or of these and
+/// one more that nobody was answered (`left` of each call). Where a turn can't be committed the journal shuts
+/// for good, and answers nothing more.
+#[derive(Drop)]
+pub struct DurableJournal<T: TurnTable, A: Allocator = Global> {
+    journal: Journal<A>,
+    table: T,
+    /// How many turns were answered.
+    answered: usize,
+    is_shut: bool,
+}
+
+impl<T: TurnTable, A: Allocator> Model for DurableJournal<T, A> {
+    ghost use Rattle.std.specs.Prelude.{take};
+    ghost use Rattle.hd_durable.specs.Durable.{DurableValue, IsDurable};
+
+    ghost Value = { DurableValue T };
+
+    ghost view = { λ d. record {
+      contents = d.journal.contents;
+      turns = take d.answered d.journal.turns;
+      table = d.table;
+    } };
+
+    ghost invariant = { λ d.
+        IsDurable (T.holds d.table) (T.leaves d.table) d.journal.contents d.journal.turns d.answered d.is_shut };
+}
+
+impl<T: TurnTable, A: Allocator + Copy> DurableJournal<T, A> {
+    /// The journal, whose changing turns this table has.
+    pub fn new(journal: Journal<A>, table: T) -> DurableJournal<T, A>
+        requires held { T.holds table (changing (facts journal) journal.turns) }
+        requires settled { (left : List TurnValue) → T.leaves table left
+            → left ≡ changing (facts journal) journal.turns }
+        ensures turns { result.turns ≡ journal.turns }
+        ensures contents { result.contents ≡ journal.contents }
+    {
+        let answered = journal.front();
+        DurableJournal {
+            journal,
+            table,
+            answered,
+            is_shut: false,
+        }
+    }
+
+    /// One turn: what a terminal of a seat asks. What it names, and the terminal, are of the journal's
+    /// catalogue. A turn that changes something is committed before it is answered.
+    ///
+    /// # Errors
+    /// `Memory`, and then the table is as it was; `Unwritten` where this turn or an earlier one couldn't be
+    /// committed. Nobody is answered.
+    pub fn take(&mut self, ask: OwnedAsk<A>) -> Result<Turn, DurableFault>
+        requires { IsKnownMessage (facts_of self.old.contents) ask.message }
+        ensures turn { IfOk result (λ made.
+            self.new.turns ≡ self.old.turns ++ replied ask made.reply ∷ []) }
+        ensures committed { OnOk result ((left : List TurnValue) → T.leaves self.new.table left
+            → left ≡ changing (facts_of self.new.contents) self.new.turns) }
+        ensures left { (left : List TurnValue) → T.leaves self.new.table left
+            → IsLeft (facts_of self.new.contents) self.new.turns left }
+        ensures legal { IsLegalBook self.new.contents self.new.turns }
+        ensures err { OnErr result (self.new.turns ≡ self.old.turns) }
+        ensures memory { result ≡ Err DurableFault.Memory → self.new.table ≡ self.old.table }
+        ensures contents { self.new.contents ≡ self.old.contents }
+    {
+        if self.is_shut {
+            return Err(DurableFault::Unwritten);
+        }
+        if !self.journal.is_changing(&ask) {
+            let turn = self.journal.take(ask)?;
+            self.answered = turn.at;
+            return Ok(turn);
+        }
+        let turn = self.journal.take(ask)?;
+        // Shut until the turn is committed, and for good where it can't be.
+        self.is_shut = true;
+        commit_last(&self.journal, &mut self.table)?;
+        self.is_shut = false;
+        self.answered = turn.at;
+        Ok(turn)
+    }
+}
+
+/// Commits the last turn of a journal.
+fn commit_last<T: TurnTable, A: Allocator + Copy>(
+    journal: &Journal<A>,
+    table: &mut T,
+) -> Result<(), NotCommitted>
+    requires { (turns : List TurnValue) × (turn : TurnValue) × (journal.now.turns ≡ turns ++ turn ∷ []) }
+    ensures ok { OnOk result ((turns held : List TurnValue) (turn : TurnValue)
+        → journal.now.turns ≡ turns ++ turn ∷ []
+        → T.holds table.old held → T.holds table.new (held ++ turn ∷ [])) }
+    ensures settled { OnOk result ((held left : List TurnValue) → T.holds table.new held
+        → T.leaves table.new left → left ≡ held) }
+    ensures err { OnErr result ((turns held left : List TurnValue) (turn : TurnValue)
+        → journal.now.turns ≡ turns ++ turn ∷ [] → T.holds table.old held → T.leaves table.new left
+        → (left ≡ held) ⊎ (left ≡ held ++ turn ∷ [])) }
+{
+    let Some(last) = journal.turn_at(journal.front()) else {
+        return Err(NotCommitted);
+    };
+    table.commit(&last)
+}

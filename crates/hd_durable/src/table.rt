@@ -1,0 +1,32 @@
+//! Where turns outlive a stop.
+
+ghost use Rattle.std.specs.Prelude.{◌≡◌, ◌⊎◌, ◌++◌, ◌∷◌, [], List, OnErr, OnOk};
+ghost use Rattle.hd_rules.specs.Journal.{Turn};
+ghost use Rattle.hd_journal.specs.Shown.{shown};
+
+use hd_journal::TurnRef;
+
+/// That a turn wasn't committed, or that it isn't known whether it was.
+#[derive(Clone, Copy, PartialEq, Eq, Debug)]
+pub struct NotCommitted;
+
+/// A table of turns that outlives a stop, as a file.
+pub trait TurnTable {
+    /// That it has just these turns, in this order, each committed.
+    ghost holds: { Self → List Turn → Type 0 };
+
+    /// That a stop at this moment may leave just these turns in it.
+    ghost leaves: { Self → List Turn → Type 0 };
+
+    /// Commits one turn more, behind all others. A stop after it leaves the turn.
+    ///
+    /// # Errors
+    /// Where it can't be written. A stop may then leave the turn or not, and the table is to be used no more.
+    fn commit(&mut self, turn: &TurnRef<'_>) -> Result<(), NotCommitted>
+        ensures ok { OnOk result ((turns : List Turn) → holds self.old turns
+            → holds self.new (turns ++ shown turn.now ∷ [])) }
+        ensures settled { OnOk result ((turns left : List Turn) → holds self.new turns
+            → leaves self.new left → left ≡ turns) }
+        ensures err { OnErr result ((turns left : List Turn) → holds self.old turns → leaves self.new left
+            → (left ≡ turns) ⊎ (left ≡ turns ++ shown turn.now ∷ [])) };
+}
