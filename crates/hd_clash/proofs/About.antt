@@ -18,7 +18,6 @@ use Rattle.hd_rules.specs.Step.{plan}
 use Rattle.hd_rules.specs.Run.{IsAmong, Rising, step}
 use Rattle.hd_rules.specs.Record.{Record, IsRecordAt, findings}
 use Rattle.hd_rules.specs.Sound.{Has, Tie, Sound}
-use Rattle.hd_rules.proofs.Reach.{reachable_sound}
 use Rattle.hd_clash.specs.declared.key.Key.{Key}
 use Rattle.hd_clash.specs.Clash.{some_clash, first_clash}
 use Rattle.hd_clash.specs.Shift.{shift_each, shift_record, shift_records}
@@ -27,6 +26,7 @@ use Rattle.hd_clash.specs.Law.{NoneIsTouched}
 use Rattle.hd_clash.specs.CommandKeys.{keys_of_action, keys_of_command, has_key}
 use Rattle.hd_clash.specs.About.{IsOfCommand, IsAbout, EachIsAbout, touches, shift_touched}
 use Rattle.hd_clash.specs.Records.{AreRecords}
+use Rattle.hd_clash.specs.Rules.{Rules}
 use Rattle.hd_clash.proofs.Asking.{OfCopy, OfTitle, OfItsCopy, OfAction, asked_of}
 use Rattle.hd_clash.proofs.Untouched.{untouched}
 use Rattle.hd_clash.proofs.Walk.{sound_on}
@@ -84,19 +84,19 @@ record_about k d s r tie is f among =
     (λ q there. questions_of_command k d s.number s.command q tie there) f
     (subst (λ (fs : List Finding). IsAmong f fs) is.findings among))
 
-pub records_about : (k : Facts) (d : Desk) (n : ℕ) (ss : List Survivor) (rs : List Record) → Sound k n d → Rising n ss
+pub records_about : Rules → (k : Facts) (d : Desk) (n : ℕ) (ss : List Survivor) (rs : List Record) → Sound k n d → Rising n ss
     → AreRecords k d ss rs → EachIsAbout k rs
-records_about k d n [] [] sound rising are = tt
-records_about k d n [] (r ∷ rs) sound rising are = absurd are
-records_about k d n (s ∷ ss) [] sound rising are = absurd are
-records_about k d n (s ∷ ss) (r ∷ rs) sound rising are = (
+records_about rules k d n [] [] sound rising are = tt
+records_about rules k d n [] (r ∷ rs) sound rising are = absurd are
+records_about rules k d n (s ∷ ss) [] sound rising are = absurd are
+records_about rules k d n (s ∷ ss) (r ∷ rs) sound rising are = (
   record_about k d s r sound.tie are.0,
-  records_about k (step k d s) (s.number + 1) ss rs (sound_on k n d s rising.0 sound) rising.1 are.1,
+  records_about rules k (step k d s) (s.number + 1) ss rs (sound_on rules k n d s rising.0 sound) rising.1 are.1,
 )
 
-pub all_records_about : (k : Facts) (ss : List Survivor) (rs : List Record) → Rising 1 ss → AreRecords k (opening k) ss rs
+pub all_records_about : Rules → (k : Facts) (ss : List Survivor) (rs : List Record) → Rising 1 ss → AreRecords k (opening k) ss rs
     → EachIsAbout k rs
-all_records_about k ss rs rising are = records_about k (opening k) 1 ss rs (reachable_sound k 1 [] tt) rising are
+all_records_about rules k ss rs rising are = records_about rules k (opening k) 1 ss rs (rules.runs k 1 [] tt) rising are
 
 -- shifting keeps the questions
 shifted_about : (P : Question → Type 0) (k : Facts) (cs : List Change) (fs : List Finding)

@@ -2,7 +2,7 @@
 use Rattle.std.proofs.Common.{◌≡◌, refl, sym, ◌∙◌, subst, Bool, true, false, ◌||◌, cond, ◌⊎◌, ◌↔◌, inl, inr, List, [], ◌∷◌, ◌++◌}
 use Rattle.std.specs.List.{list_any}
 use Rattle.hd_rules.specs.Run.{IsAmong}
-use Rattle.hd_rules.proofs.Splits.{among_left, among_right, among_either}
+use Rattle.hd_lemmas.proofs.Lists.{among_left, among_right, among_either}
 use Rattle.hd_clash.specs.declared.key.Key.{Key}
 use Rattle.hd_clash.specs.Keys.{same_key}
 use Rattle.hd_clash.specs.ChangedKeys.{AreDistinct, HaveSameKeys, with_key, with_keys}

@@ -1,5 +1,6 @@
 -- Lists of records: parts of them, and that they name things of the catalogue.
-use Rattle.std.proofs.Common.{arith, ◌≡◌, refl, sym, subst, inl, inr, List, [], ◌∷◌, ◌++◌, length, Result, Ok, Err}
+use Rattle.std.proofs.Common.{arith, ◌≡◌, ◌==◌, ◌&&◌, refl, sym, subst, inl, inr, List, [], ◌∷◌, ◌++◌, length, Result, Ok, Err}
+use Rattle.std.proofs.lemmas.Bool.{cond_both}
 use Rattle.hd_rules.specs.declared.cells.Cell.{Cell}
 use Rattle.hd_rules.specs.declared.cells.Cell.TheVariants.{Copy as CopyCell, Hold as HoldCell}
 use Rattle.hd_rules.specs.declared.cells.Value.{Value}
@@ -15,11 +16,10 @@ use Rattle.hd_rules.specs.Step.{plan}
 use Rattle.hd_rules.specs.Run.{IsAmong, outcome_of, changed_by, step, run_from}
 use Rattle.hd_rules.specs.Record.{Record, IsRecordAt, findings}
 use Rattle.hd_rules.specs.Known.{IsKnownCell, IsKnownAction, IsKnownState, IsKnownHeld, IsKnownValue, IsKnownDesk}
-use Rattle.hd_rules.proofs.Puts.{copy_cases, hold_cases}
-use Rattle.hd_rules.proofs.Familiar.{known_done}
 use Rattle.hd_clash.specs.Counting.{EachIsSmall}
 use Rattle.hd_clash.specs.Law.{EachQuestionIsKnown}
 use Rattle.hd_clash.specs.Records.{AreRecords, EachCommandIsKnown, IsKnownRecord, EachRecordIsKnown}
+use Rattle.hd_clash.specs.Rules.{Rules}
 use Rattle.hd_clash.proofs.Known.{known_asks}
 use Rattle.hd_clash.proofs.Untouched.{counts_small, done_known}
 
@@ -43,12 +43,13 @@ join k d (s ∷ ss) newer (r ∷ rs) ts are = (are.0.0, join k (step k d s) ss n
 -- a known desk stays one
 put_known : (k : Facts) (d : Desk) (x : Cell) (v : Value) → IsKnownDesk k d → IsKnownValue k v → IsKnownDesk k (put d x v)
 put_known k d (CopyCell c) (CopyHas s) known fine = record {
-  copies = λ y in_y. copy_cases (IsKnownState k) c y s (d.copy y) (λ e. fine) (λ other. known.copies y in_y);
+  copies = λ y in_y. cond_both (c == y) s (d.copy y) (IsKnownState k) (λ e. fine) (λ other. known.copies y in_y);
   holds = known.holds;
 }
 put_known k d (HoldCell t p) (HoldHas o) known fine = record {
   copies = known.copies;
-  holds = λ u q in_u in_q. hold_cases (IsKnownHeld k) t u p q o (d.hold u q) (λ e f. fine) (λ other. known.holds u q in_u in_q);
+  holds = λ u q in_u in_q. cond_both ((t == u) && (p == q)) o (d.hold u q) (IsKnownHeld k) (λ e. fine)
+      (λ other. known.holds u q in_u in_q);
 }
 put_known k d (CopyCell c) (HoldHas o) known fine = known
 put_known k d (HoldCell t p) (CopyHas s) known fine = known
@@ -59,32 +60,32 @@ after_known k d [] known fine = known
 after_known k d (c ∷ cs) known fine =
     after_known k (put d c.cell c.new) cs (put_known k d c.cell c.new known (fine c (inl refl)).1) (λ change among. fine change (inr among))
 
-step_known : (k : Facts) (d : Desk) (s : Survivor) → AreInRange k → IsKnownDesk k d → IsKnownAction k s.command.action
+step_known : Rules → (k : Facts) (d : Desk) (s : Survivor) → AreInRange k → IsKnownDesk k d → IsKnownAction k s.command.action
     → IsKnownDesk k (step k d s)
-step_known k d s range known fine = by_outcome (outcome_of k d s) refl
+step_known rules k d s range known fine = by_outcome (outcome_of k d s) refl
   where
     by_outcome : (r : Result Done Refusal) → outcome_of k d s ≡ r → IsKnownDesk k (changed_by r d)
-    by_outcome (Ok done) is = after_known k d done.changes known (known_done k d s.number s.command done range known fine is).changes
+    by_outcome (Ok done) is = after_known k d done.changes known (rules.known k d s.number s.command done range known fine is).changes
     by_outcome (Err r) is = known
 
 each_small : (k : Facts) (d : Desk) (qs : List Question) → AreInRange k → EachIsSmall (findings k d qs)
 each_small k d [] range = tt
 each_small k d (q ∷ qs) range = (counts_small k d q range, each_small k d qs range)
 
-record_known : (k : Facts) (d : Desk) (s : Survivor) (r : Record) → AreInRange k → IsKnownDesk k d → IsKnownAction k s.command.action
+record_known : Rules → (k : Facts) (d : Desk) (s : Survivor) (r : Record) → AreInRange k → IsKnownDesk k d → IsKnownAction k s.command.action
     → IsRecordAt k d s r → IsKnownRecord k r
-record_known k d s r range desk known is = record {
-  cells = done_known k (record { changes = r.changes; reply = r.reply }) (known_done k d s.number s.command _ range desk known is.done);
+record_known rules k d s r range desk known is = record {
+  cells = done_known k (record { changes = r.changes; reply = r.reply }) (rules.known k d s.number s.command _ range desk known is.done);
   questions = subst (EachQuestionIsKnown k) (sym is.findings) (known_asks k d s.number s.command range desk known);
   counts = subst EachIsSmall (sym is.findings) (each_small k d (asks k d (plan k s.number s.command)) range);
 }
 
-pub records_known : (k : Facts) (d : Desk) (ss : List Survivor) (rs : List Record) → AreInRange k → IsKnownDesk k d
+pub records_known : Rules → (k : Facts) (d : Desk) (ss : List Survivor) (rs : List Record) → AreInRange k → IsKnownDesk k d
     → EachCommandIsKnown k ss → AreRecords k d ss rs → EachRecordIsKnown k rs
-records_known k d [] [] range desk known are = tt
-records_known k d [] (r ∷ rs) range desk known are = absurd are
-records_known k d (s ∷ ss) [] range desk known are = absurd are
-records_known k d (s ∷ ss) (r ∷ rs) range desk known are = (
-  record_known k d s r range desk known.0 are.0,
-  records_known k (step k d s) ss rs range (step_known k d s range desk known.0) known.1 are.1,
+records_known rules k d [] [] range desk known are = tt
+records_known rules k d [] (r ∷ rs) range desk known are = absurd are
+records_known rules k d (s ∷ ss) [] range desk known are = absurd are
+records_known rules k d (s ∷ ss) (r ∷ rs) range desk known are = (
+  record_known rules k d s r range desk known.0 are.0,
+  records_known rules k (step k d s) ss rs range (step_known rules k d s range desk known.0) known.1 are.1,
 )

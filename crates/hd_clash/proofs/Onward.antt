@@ -1,0 +1,108 @@
+-- Desks that differ by some changes go on to do so where a command is answered alike at both.
+use Rattle.std.proofs.Common.{◌≡◌, refl, sym, ◌∙◌, ap, subst, Bool, true, false, cond, ◌==◌, ◌&&◌, List, [], ◌∷◌, inl, inr, Result, Ok, Err}
+use Rattle.hd_rules.specs.declared.cells.Cell.{Cell}
+use Rattle.hd_rules.specs.declared.cells.Cell.TheVariants.{Copy as CopyCell, Hold as HoldCell}
+use Rattle.hd_rules.specs.declared.cells.Value.{Value}
+use Rattle.hd_rules.specs.declared.cells.Value.TheVariants.{Copy as CopyHas, Hold as HoldHas}
+use Rattle.hd_rules.specs.declared.cells.Change.{Change}
+use Rattle.hd_rules.specs.declared.commands.Survivor.{Survivor}
+use Rattle.hd_rules.specs.declared.replies.Refusal.{Refusal}
+use Rattle.hd_rules.specs.Facts.{Facts}
+use Rattle.hd_rules.specs.Desk.{Desk, value, same_cell, put, after}
+use Rattle.hd_rules.specs.Ask.{Done}
+use Rattle.hd_rules.specs.Step.{plan}
+use Rattle.hd_rules.specs.Run.{IsAmong, outcome_of, changed_by, step, AreChanges, Elsewhere}
+use Rattle.hd_rules.specs.Depends.{AnsweredAlike}
+use Rattle.hd_rules.specs.Differ.{DifferAt, DifferAtEach, DifferBy}
+use Rattle.hd_clash.specs.Rules.{Rules}
+use Rattle.hd_clash.proofs.Cells.{copy_is, hold_is, put_elsewhere, put_same, same_cell_is, same_cell_self}
+
+-- a cell that is the same at two desks stays so where both are written alike
+put_alike : (d e : Desk) (x : Cell) (v : Value) (y : Cell) → value d y ≡ value e y → value (put d x v) y ≡ value (put e x v) y
+put_alike d e (CopyCell c) (CopyHas s) (CopyCell x) same = ap (λ w. CopyHas (cond (c == x) s w)) (copy_is _ _ same)
+put_alike d e (CopyCell c) (CopyHas s) (HoldCell u q) same = same
+put_alike d e (CopyCell c) (HoldHas o) y same = same
+put_alike d e (HoldCell t p) (HoldHas o) (HoldCell u q) same = ap (λ w. HoldHas (cond ((t == u) && (p == q)) o w)) (hold_is _ _ same)
+put_alike d e (HoldCell t p) (HoldHas o) (CopyCell x) same = same
+put_alike d e (HoldCell t p) (CopyHas s) y same = same
+
+after_alike : (gs : List Change) (d e : Desk) (y : Cell) → value d y ≡ value e y → value (after gs d) y ≡ value (after gs e) y
+after_alike [] d e y same = same
+after_alike (g ∷ gs) d e y same = after_alike gs (put d g.cell g.new) (put e g.cell g.new) y (put_alike d e g.cell g.new y same)
+
+after_elsewhere : (gs : List Change) (d : Desk) (y : Cell) → Elsewhere y gs → value (after gs d) y ≡ value d y
+after_elsewhere [] d y apart = refl
+after_elsewhere (g ∷ gs) d y apart = after_elsewhere gs (put d g.cell g.new) y apart.1 ∙ put_elsewhere d g.cell g.new y apart.0
+
+-- each of these changes is of a cell that is the same at both desks
+abbrev AreAlike : Desk → Desk → List Change → Type 0
+AreAlike d e gs = (g : Change) → IsAmong g gs → value d g.cell ≡ value e g.cell
+
+-- so it is of none in which they differ
+two_cells : (d e : Desk) (c g : Change) → DifferAt d e c → value d g.cell ≡ value e g.cell → (b : Bool) → same_cell g.cell c.cell ≡ b
+    → b ≡ false
+two_cells d e c g kept same false is = refl
+two_cells d e c g kept same true is =
+    let at : g.cell ≡ c.cell = same_cell_is g.cell c.cell is in
+    absurd (kept.differ (sym kept.old ∙ ap (value e) (sym at) ∙ sym same ∙ ap (value d) at ∙ kept.new))
+
+elsewhere : (d e : Desk) (c : Change) (gs : List Change) → DifferAt d e c → AreAlike d e gs → Elsewhere c.cell gs
+elsewhere d e c [] kept same = tt
+elsewhere d e c (g ∷ gs) kept same = (
+  two_cells d e c g kept (same g (inl refl)) (same_cell g.cell c.cell) refl,
+  elsewhere d e c gs kept (λ x among. same x (inr among)),
+)
+
+each_differs : (d e : Desk) (cs gs : List Change) → DifferAtEach d e cs → AreAlike d e gs → DifferAtEach (after gs d) (after gs e) cs
+each_differs d e [] gs kept same = tt
+each_differs d e (c ∷ cs) gs kept same =
+    let apart : Elsewhere c.cell gs = elsewhere d e c gs kept.0 same in (
+      record {
+        new = after_elsewhere gs d c.cell apart ∙ kept.0.new;
+        old = after_elsewhere gs e c.cell apart ∙ kept.0.old;
+        differ = kept.0.differ;
+      },
+      each_differs d e cs gs kept.1 same,
+    )
+
+differ_after : (d e : Desk) (cs gs : List Change) → DifferBy cs d e → AreAlike d e gs → DifferBy cs (after gs d) (after gs e)
+differ_after d e cs gs h same = record {
+  elsewhere = λ y apart. after_alike gs d e y (h.elsewhere y apart);
+  each = each_differs d e cs gs h.each same;
+}
+
+-- each has its new value once the changes are made
+each_made : (d e : Desk) (cs : List Change) → AreChanges cs → ((c : Change) → IsAmong c cs → value e c.cell ≡ c.old)
+    → DifferAtEach (after cs d) e cs
+each_made d e [] are old = tt
+each_made d e (c ∷ cs) are old = (
+  record {
+    new = after_elsewhere cs (put d c.cell c.new) c.cell are.2 ∙ put_same d c.cell c.new c.cell are.1 (same_cell_self c.cell);
+    old = old c (inl refl);
+    differ = are.0;
+  },
+  each_made (put d c.cell c.new) e cs are.3 (λ x among. old x (inr among)),
+)
+
+module _ (rules : Rules) (k : Facts) where
+  -- the desk after a command differs by its changes from the desk before it
+  pub differ_made : (d : Desk) (s : Survivor) (done : Done) → AreChanges done.changes → outcome_of k d s ≡ Ok done
+      → DifferBy done.changes (after done.changes d) d
+  differ_made d s done are is = record {
+    elsewhere = λ y apart. after_elsewhere done.changes d y apart;
+    each = each_made d d done.changes are (λ c among. (rules.written k d s.number s.command done is c among).1);
+  }
+
+  differ_ended : (d e : Desk) (cs : List Change) (s : Survivor) → DifferBy cs d e → outcome_of k e s ≡ outcome_of k d s
+      → (r : Result Done Refusal) → outcome_of k d s ≡ r → DifferBy cs (changed_by r d) (changed_by r e)
+  differ_ended d e cs s h same (Err r) is = h
+  differ_ended d e cs s h same (Ok done) is = differ_after d e cs done.changes h (λ g among.
+      (rules.written k d s.number s.command done is g among).1 ∙ sym (rules.written k e s.number s.command done (same ∙ is) g among).1)
+
+  -- after a command that is answered alike at two desks they differ as before
+  pub differ_on : (d e : Desk) (cs : List Change) (s : Survivor) → DifferBy cs d e → AnsweredAlike k d e (plan k s.number s.command)
+      → DifferBy cs (step k d s) (step k e s)
+  differ_on d e cs s h alike =
+      let same : outcome_of k d s ≡ outcome_of k e s = (rules.step k d e s.number s.command alike).0 in
+      subst (λ (r : Result Done Refusal). DifferBy cs (step k d s) (changed_by r e)) same
+      (differ_ended d e cs s h (sym same) (outcome_of k d s) refl)
