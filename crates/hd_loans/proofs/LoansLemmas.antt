@@ -7,10 +7,10 @@ use Rattle.std.proofs.lemmas.Bool.{cases_Bool}
 use Rattle.std.proofs.lemmas.Grind.{get_or-set_at}
 use Rattle.std.specs.Ordering.{nat_cmp}
 use Rattle.std.specs.FinMap.{FinMap, get, insert, remove, empty, get-empty}
-use Rattle.hd_table.proofs.SlotsLemmas.{get-insert_number, get-remove_number}
+use Rattle.hd_lemmas.proofs.Maps.{get-insert_number, get-remove_number}
 use Rattle.hd_rules.specs.declared.copies.Loan.{Loan}
 use Rattle.hd_loans.specs.Counts.{is_loan_to, loans_of, AreCounts}
-use Rattle.hd_loans.proofs.CountsLemmas.{one, count_below-same, count_below-changed, count_below-none, count_below-some, count_below-free}
+use Rattle.hd_lemmas.proofs.Counts.{one, count_below-same, count_below-changed, count_below-none, count_below-some, count_below-free}
 
 -- a loan changes the answer for its copy alone
 insert_other : (m : FinMap nat_cmp Loan) (k p : ℕ) (loan : Loan) (q : ℕ) → q ≢ k →

@@ -12,7 +12,7 @@ use Rattle.std.proofs.lemmas.Map.Views.{any-filter_same}
 use Rattle.std.specs.Option.{SomeIff}
 use Rattle.std.specs.Ordering.{nat_cmp}
 use Rattle.std.specs.FinMap.{FinMap, get, insert, remove, empty, get-empty}
-use Rattle.hd_table.proofs.SlotsLemmas.{get-insert_number, get-remove_number}
+use Rattle.hd_lemmas.proofs.Maps.{get-insert_number, get-remove_number}
 use Rattle.hd_rules.specs.declared.copies.Transit.{Transit}
 use Rattle.hd_rules.specs.declared.limits.TheConstants.{MOST_COPIES}
 use Rattle.hd_transit.specs.TransitsValue.{AreBelow, AreCopies}

@@ -1,7 +1,7 @@
 use Rattle.std.proofs.Common.{◌≡◌, ◌-◌, arith, ap, sym, ◌∙◌, Some, None, get_or}
 use Rattle.std.proofs.lemmas.List.{get_or_default}
 use Rattle.std.specs.FinMap.{get}
-use Rattle.hd_table.proofs.SlotsLemmas.{remove-absent}
+use Rattle.hd_lemmas.proofs.Maps.{remove-absent}
 use Rattle.hd_loans.proofs.LoansLemmas.{AreCounts-end, counted}
 use Rattle.hd_loans.proofs.loans.Loans.end.Goals as goal
 
