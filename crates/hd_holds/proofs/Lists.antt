@@ -8,8 +8,7 @@ use Rattle.hd_rules.specs.declared.holds.Hold.{Hold}
 use Rattle.hd_rules.specs.Facts.{Facts}
 use Rattle.hd_rules.specs.Known.{IsKnownHeld, IsKnownHold}
 use Rattle.hd_queue.specs.Holds.{AllAfter, HasNoStamp, HasPatronsOnce, IsInOrder, hold_of, with_hold, without}
-use Rattle.hd_queue.proofs.HoldsLemmas.{HasPatronsOnce-filter, HasPatronsOnce-with_hold, IsInOrder-filter, IsInOrder-with_hold}
-use Rattle.hd_queue.proofs.HoldsLemmas.{hold_of-with_hold}
+use Rattle.hd_queue.specs.Laws.{QueuesStayInOrder}
 use Rattle.hd_holds.specs.Held.{AreKnown, AreOfPatrons, IsQueue, with_held}
 use Rattle.hd_holds.proofs.Counts.{hold_of-here, hold_of-other}
 
@@ -75,10 +74,10 @@ pub hold_of-taken : (hs : List Hold) (p : ℕ) → hold_of (without hs p) p ≡ 
 hold_of-taken hs p = grind (arith, nat_tests, hold_of-without hs p p)
 
 -- and has a stamp only where another patron's hold has it
-pub no_stamp-without : (n : ℕ) (hs : List Hold) (p : ℕ) → HasPatronsOnce hs →
+pub no_stamp-without : QueuesStayInOrder → (n : ℕ) (hs : List Hold) (p : ℕ) → HasPatronsOnce hs →
     ((q : ℕ) (h : Hold) → hold_of hs q ≡ Some h → h.stamp ≡ n → q ≡ p) → HasNoStamp n (without hs p)
-no_stamp-without n hs p once alone =
-    no_stamp n (without hs p) (HasPatronsOnce-filter _ hs once)
+no_stamp-without law n hs p once alone =
+    no_stamp n (without hs p) (law.left_once hs p once)
     (λ q h is same. by_test (p == q) q refl h (sym (hold_of-without hs p q) ∙ is) same)
   where
     by_test : (b : Bool) (q : ℕ) → (p == q) ≡ b → (h : Hold) → cond b None (hold_of hs q) ≡ Some h → h.stamp ≡ n → ⊥
@@ -86,13 +85,13 @@ no_stamp-without n hs p once alone =
     by_test false q e h is same = let there : (p == q) ≡ true = eq-eqb p q (sym (alone q h is same)) in cc
 
 -- the list in which a patron's hold is another, or none
-pub hold_of-with_held : (hs : List Hold) (p q : ℕ) (o : Option Hold) → ((h : Hold) → o ≡ Some h → h.patron ≡ p) →
+pub hold_of-with_held : QueuesStayInOrder → (hs : List Hold) (p q : ℕ) (o : Option Hold) → ((h : Hold) → o ≡ Some h → h.patron ≡ p) →
     hold_of (with_held hs p o) q ≡ cond (p == q) o (hold_of hs q)
-hold_of-with_held hs p q None own = hold_of-without hs p q
-hold_of-with_held hs p q (Some h) own =
+hold_of-with_held law hs p q None own = hold_of-without hs p q
+hold_of-with_held law hs p q (Some h) own =
     let own_hold : h.patron ≡ p = own h refl in
     let none : hold_of (without hs p) h.patron ≡ None = ap (hold_of (without hs p)) own_hold ∙ hold_of-taken hs p in
-    hold_of-with_hold (without hs p) h q none ∙ grind (arith, nat_tests, hold_of-without hs p q)
+    law.put_has (without hs p) h q none ∙ grind (arith, nat_tests, hold_of-without hs p q)
 
 known-without : (k : Facts) (hs : List Hold) (p : ℕ) → AreKnown k hs → AreKnown k (without hs p)
 known-without k [] p all = tt
@@ -120,16 +119,16 @@ known-patrons k [] all = tt
 known-patrons k (h ∷ hs) all = (all.0.patron, known-patrons k hs all.1)
 
 -- a queue in which a patron's hold becomes another, or none
-pub queue-with_held : (k : Facts) (hs : List Hold) (p : ℕ) (o : Option Hold) → IsQueue k hs → IsKnownHeld k o →
+pub queue-with_held : QueuesStayInOrder → (k : Facts) (hs : List Hold) (p : ℕ) (o : Option Hold) → IsQueue k hs → IsKnownHeld k o →
     ((h : Hold) → o ≡ Some h → h.patron ≡ p) → ((h : Hold) → o ≡ Some h → HasNoStamp h.stamp (without hs p)) → IsQueue k (with_held hs p o)
-queue-with_held k hs p None is known own apart = record {
-  ordered = IsInOrder-filter _ hs is.ordered;
-  once = HasPatronsOnce-filter _ hs is.once;
+queue-with_held law k hs p None is known own apart = record {
+  ordered = law.left_ordered hs p is.ordered;
+  once = law.left_once hs p is.once;
   known = known-without k hs p is.known;
 }
-queue-with_held k hs p (Some h) is known own apart = record {
-  ordered = IsInOrder-with_hold (without hs p) h (IsInOrder-filter _ hs is.ordered) (apart h refl);
-  once = HasPatronsOnce-with_hold (without hs p) h (HasPatronsOnce-filter _ hs is.once) (ap (hold_of (without hs p)) (own h refl)
+queue-with_held law k hs p (Some h) is known own apart = record {
+  ordered = law.put_ordered (without hs p) h (law.left_ordered hs p is.ordered) (apart h refl);
+  once = law.put_once (without hs p) h (law.left_once hs p is.once) (ap (hold_of (without hs p)) (own h refl)
       ∙ hold_of-taken hs p);
   known = known-with_hold k (without hs p) h (known-without k hs p is.known) known;
 }

@@ -15,6 +15,7 @@ use Rattle.hd_queue.specs.QueueValue.{QueueValue}
 use Rattle.hd_holds.specs.HoldsValue.{HoldsValue}
 use Rattle.hd_holds.specs.Held.{AreQueues, IsQueue, IsWelcome, facts, held, queue_of, with_held}
 use Rattle.hd_holds.proofs.Counts.{count-all, count-holds, count-le}
+use Rattle.hd_queue.specs.Laws.{QueuesStayInOrder}
 use Rattle.hd_holds.proofs.Lists.{hold-named, hold_of-with_held, known-held, known-patrons, no_stamp-without, queue-with_held, stamps-apart}
 
 pub queue-empty : (k : Facts) (hs : List Hold) → hs ≡ [] → IsQueue k hs
@@ -78,13 +79,13 @@ welcome-own : (v : HoldsValue) (t p : ℕ) (o : Option Hold) → IsWelcome (held
 welcome-own v t p None fit h is = cc
 welcome-own v t p (Some x) fit h is = let same : x ≡ h = cc in ap (λ (y : Hold). y.patron) (sym same) ∙ fit.0
 
-welcome-stamp : (v : HoldsValue) (t p : ℕ) (o : Option Hold) → IsQueue (facts v) (queue_of v.queues t).holds → IsWelcome (held v) t p o →
+welcome-stamp : QueuesStayInOrder → (v : HoldsValue) (t p : ℕ) (o : Option Hold) → IsQueue (facts v) (queue_of v.queues t).holds → IsWelcome (held v) t p o →
     (h : Hold) → o ≡ Some h → HasNoStamp h.stamp (without (queue_of v.queues t).holds p)
 unfolding held
-welcome-stamp v t p None is fit h e = cc
-welcome-stamp v t p (Some x) is fit h e =
+welcome-stamp law v t p None is fit h e = cc
+welcome-stamp law v t p (Some x) is fit h e =
     let same : x ≡ h = cc in
-    rw (← same) (no_stamp-without x.stamp (queue_of v.queues t).holds p is.once fit.1)
+    rw (← same) (no_stamp-without law x.stamp (queue_of v.queues t).holds p is.once fit.1)
 
 -- the answers from a queue
 pub position-queue : (v : HoldsValue) (t stamp : ℕ) → IsQueue (facts v) (queue_of v.queues t).holds → (d : Desk) → d.hold ≡ held v →
@@ -131,12 +132,12 @@ module _ {v w : HoldsValue} {t : ℕ} {q : QueueValue} (reads : Reads v w t q) w
   queue-ready r holds = rw (holds, reads.read) (reads.all.queue t)
 
   -- a patron's hold becomes another, or none
-  module _ (p : ℕ) (o : Option Hold) (fit : IsWelcome (held w) t p o) where
+  module _ (law : QueuesStayInOrder) (p : ℕ) (o : Option Hold) (fit : IsWelcome (held w) t p o) where
     welcome-read : IsWelcome (held v) t p o
     welcome-read = rw reads.same fit
 
     pub stamp-put : (h : Hold) → o ≡ Some h → HasNoStamp h.stamp (without q.holds p)
-    stamp-put = rw reads.read (welcome-stamp v t p o (reads.all.queue t) welcome-read)
+    stamp-put = rw reads.read (welcome-stamp law v t p o (reads.all.queue t) welcome-read)
 
     own : (h : Hold) → o ≡ Some h → h.patron ≡ p
     own = welcome-own v t p o welcome-read
@@ -144,7 +145,7 @@ module _ {v w : HoldsValue} {t : ℕ} {q : QueueValue} (reads : Reads v w t q) w
     pub queue-put : (r : QueueValue) → IsKnownHeld (facts w) o → r.holds ≡ with_held q.holds p o → IsQueue (facts v) r.holds
     queue-put r known holds =
         let is : IsQueue (facts v) q.holds = rw reads.read (reads.all.queue t) in
-        rw holds (queue-with_held (facts v) q.holds p o is (rw reads.same known) own stamp-put)
+        rw holds (queue-with_held law (facts v) q.holds p o is (rw reads.same known) own stamp-put)
 
     pub held-put : (r : QueueValue) → r.holds ≡ with_held q.holds p o →
         held (written v t r) ≡ (λ u n. cond ((t == u) && (p == n)) o (held w u n))
@@ -152,7 +153,7 @@ module _ {v w : HoldsValue} {t : ℕ} {q : QueueValue} (reads : Reads v w t q) w
     held-put r holds =
         let each : (n : ℕ) → hold_of r.holds n ≡ cond (p == n) o (held v t n) = λ n.
         ap (λ (hs : List Hold). hold_of hs n) (holds ∙ ap (λ (x : QueueValue). with_held x.holds p o) reads.read)
-        ∙ hold_of-with_held (queue_of v.queues t).holds p n o own in
+        ∙ hold_of-with_held law (queue_of v.queues t).holds p n o own in
         held-set v (written v t r) t r p o refl reads-within each
         ∙ (λ j u n. cond ((t == u) && (p == n)) o (held (reads.same j) u n))
 

@@ -15,7 +15,7 @@ ghost use Rattle.hd_holds.specs.Held.{queue_of, room_of, with_held};
 ghost use Rattle.hd_holds.specs.Places.{HasOneMore};
 
 use hd_catalogue::Catalogue;
-use hd_queue::{Queue, QueueView};
+use hd_queue::{Queue, QueueView, queues_stay_in_order};
 use hd_rules::{Hold, PatronNo, TitleNo};
 use std::alloc::{AllocError, Allocator, Global};
 use std::marker::Model;
@@ -117,6 +117,7 @@ impl<A: Allocator + Copy> Holds<A> {
         ensures contents { self.new.contents ≡ self.old.contents }
         ensures room { (t : ℕ) → room_of self.old t ≤ room_of self.new t + 1 }
     {
+        queues_stay_in_order();
         let place = self.places[title.number() as usize];
         // A title without a queue has no hold that could end, and no room for one.
         if place > 0 {

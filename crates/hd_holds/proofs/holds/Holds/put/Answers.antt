@@ -44,7 +44,7 @@ replace-requires-clause-stamp g c =
       read = c.index-place.ensures;
     } in
     let reads = reads-own at c.if-place-gt0.true c.index_mut.result.now c.index_mut.ensures.value in
-    stamp-put reads c.args.patron c.args.new.now c.requires.fit
+    stamp-put reads c.queues_stay_in_order.ensures c.args.patron c.args.new.now c.requires.fit
 
 pub invariant_of-self : goal.invariant_of-self
 invariant_of-self g c =
@@ -59,7 +59,8 @@ invariant_of-self g c =
     } in
     let reads = reads-own at c.if-place-gt0.true c.index_mut.result.now c.index_mut.ensures.value in
     placed-own at c.if-place-gt0.true c.replace.new.queue
-    (queue-put reads c.args.patron c.args.new.now c.requires.fit c.replace.new.queue c.requires.known c.replace.ensures.holds)
+    (queue-put reads c.queues_stay_in_order.ensures c.args.patron c.args.new.now c.requires.fit c.replace.new.queue c.requires.known
+    c.replace.ensures.holds)
 
 pub returns-then-place-gt0-clause-held : goal.returns-then-place-gt0-clause-held
 returns-then-place-gt0-clause-held g c =
@@ -74,7 +75,8 @@ returns-then-place-gt0-clause-held g c =
     } in
     let reads = reads-own at c.if-place-gt0.true c.index_mut.result.now c.index_mut.ensures.value in
     ap held (written-own at c.if-place-gt0.true c.replace.new.queue)
-    ∙ held-put reads c.args.patron c.args.new.now c.requires.fit c.replace.new.queue c.replace.ensures.holds
+    ∙ held-put reads c.queues_stay_in_order.ensures c.args.patron c.args.new.now c.requires.fit c.replace.new.queue
+    c.replace.ensures.holds
 
 pub returns-then-place-gt0-clause-room : goal.returns-then-place-gt0-clause-room
 returns-then-place-gt0-clause-room g c =
