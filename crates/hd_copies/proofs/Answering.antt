@@ -3,7 +3,7 @@ use Rattle.std.proofs.Common.{◌≡◌, ◌≢◌, ℕ, ◌<◌, ◌≤◌, ◌
 use Rattle.std.proofs.Common.{◌∙◌, inl, inr, arith, eq-eqb}
 use Rattle.std.specs.Prelude.{IsSome}
 use mir.Val.{bool_byte}
-use Rattle.std.proofs.lemmas.Bool.{cases_lt}
+use Rattle.std.proofs.lemmas.Bool.{cases_lt, ne_eqb}
 use Rattle.std.proofs.lemmas.Bool.Decides.{nat_tests}
 use Rattle.std.specs.List.{slice_get}
 use Rattle.std.specs.FinMap.{get}
@@ -14,11 +14,10 @@ use Rattle.hd_rules.specs.declared.copies.CopyState.TheVariants.{Shelf, OnLoan, 
 use Rattle.hd_rules.specs.Facts.{Facts}
 use Rattle.hd_rules.specs.Desk.{Desk}
 use Rattle.hd_rules.specs.Choose.{admits, count_below, is_lent_to, is_on_shelf, loans, on_shelf, place, stands_at}
-use Rattle.hd_rules.proofs.Only.{place_is_only}
-use Rattle.hd_rules.proofs.Tests.{other_number}
+use Rattle.hd_rules.specs.Laws.{TheLeastFreePlaceIsOne}
 use Rattle.hd_shelf.specs.Shelf.{LeastFree as IsLeast}
 use Rattle.hd_loans.specs.Counts.{is_loan_to, loans_of}
-use Rattle.hd_loans.proofs.CountsLemmas.{one, count_below-changed, count_below-none, count_below-same}
+use Rattle.hd_lemmas.proofs.Counts.{one, count_below-changed, count_below-none, count_below-same}
 use Rattle.hd_stock.specs.Counts.{of_home, of_title}
 use Rattle.hd_copies.specs.IndexesValue.{IndexesValue}
 use Rattle.hd_copies.specs.Standing.{AreStates, stands_ready, state_in}
@@ -83,7 +82,7 @@ no_other false b = refl
 pub one-is : (k : Facts) (d : Desk) (f : ℕ → CopyState) (t c pickup : ℕ) → d.copy ≡ f →
     one (stands_ready k f t c) ≡ on_shelf k d t (One c) pickup
 one-is k d f t c pickup e = ap (λ (g : ℕ → CopyState). one (stands_ready k g t c)) (sym e) ∙ sym (
-    count-one test c k.copies (λ x other. let apart : (c == x) ≡ false = other_number c x (λ same. other (sym same)) in
+    count-one test c k.copies (λ x other. let apart : (c == x) ≡ false = ne_eqb c x (λ same. other (sym same)) in
     rw apart (no_other ((k.title_of x) == t) (is_on_shelf (d.copy x))))
     ∙ (let itself : (c == c) ≡ true = eq-eqb c c refl in rw itself refl))
   where
@@ -95,9 +94,9 @@ some_number None is = absurd (let no : ⊥ = cc in no)
 some_number (Some n) is = (n, refl)
 
 -- the least free place
-pub least-is : (k : Facts) (states : List CopyState) (x : IndexesValue) (d : Desk) (b f : ℕ) → AreKept k states x → b < k.branches →
-    d.copy ≡ state_in states → IsLeast (get_or x.shelves b no_shelf).copies f → f ≡ place k d b
-least-is k states x d b f kept l e is = (place_is_only k d b f).0 (record { from_one = is.from_one; free = free; least = least })
+pub least-is : TheLeastFreePlaceIsOne → (k : Facts) (states : List CopyState) (x : IndexesValue) (d : Desk) (b f : ℕ) →
+    AreKept k states x → b < k.branches → d.copy ≡ state_in states → IsLeast (get_or x.shelves b no_shelf).copies f → f ≡ place k d b
+least-is law k states x d b f kept l e is = (law k d b f).0 (record { from_one = is.from_one; free = free; least = least })
   where
     free : (c : ℕ) → c < k.copies → stands_at b f (d.copy c) ≡ false
     free c in_c = by_test (stands_at b f (d.copy c)) refl

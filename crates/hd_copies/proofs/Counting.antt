@@ -6,7 +6,7 @@ use Rattle.hd_rules.specs.declared.copies.CopyState.{CopyState}
 use Rattle.hd_rules.specs.declared.copies.CopyState.TheVariants.{Shelf}
 use Rattle.hd_rules.specs.Facts.{Facts}
 use Rattle.hd_rules.specs.Choose.{admits}
-use Rattle.hd_loans.proofs.CountsLemmas.{one, count_below-same, count_below-changed}
+use Rattle.hd_lemmas.proofs.Counts.{one, count_below-same, count_below-changed}
 use Rattle.hd_stock.specs.StockValue.{StockValue}
 use Rattle.hd_stock.specs.Counts.{HasOneMore, KeepsEntries}
 use Rattle.hd_copies.specs.Indexing.{IsStock, is_shelved, shelved}

@@ -3,7 +3,7 @@ use Rattle.std.proofs.Common.{◌≡◌, ℕ, ◌<◌, ◌≤◌, ◌==◌, ◌&
 use Rattle.std.proofs.Common.{arith, eq-eqb, inl, inr}
 use Rattle.std.proofs.Math.ListN.{set, get_or-map}
 use Rattle.std.proofs.lemmas.List.{get_or_default, map-set, set-get_or}
-use Rattle.std.proofs.lemmas.Bool.{cases_lt, eqb-true}
+use Rattle.std.proofs.lemmas.Bool.{and_parts, cases_lt, eqb-true, eqb-false}
 use Rattle.std.proofs.lemmas.Option.{slice_get_past}
 use Rattle.std.specs.List.{slice_get}
 use Rattle.std.specs.FinMap.{get, insert, remove}
@@ -17,10 +17,9 @@ use Rattle.hd_rules.specs.declared.copies.CopyState.TheVariants.{Shelf, OnLoan, 
 use Rattle.hd_rules.specs.declared.limits.TheConstants.{MOST_COPIES}
 use Rattle.hd_rules.specs.Facts.{Facts}
 use Rattle.hd_rules.specs.Choose.{admits, stands_at}
-use Rattle.hd_rules.proofs.Tests.{and_left, and_right, number_not}
 use Rattle.hd_shelf.specs.PlacesValue.{PlacesValue}
 use Rattle.hd_loans.specs.LoansValue.{LoansValue}
-use Rattle.hd_loans.proofs.CountsLemmas.{count_below-free, count_below-some}
+use Rattle.hd_lemmas.proofs.Counts.{count_below-free, count_below-some}
 use Rattle.hd_transit.specs.TransitsValue.{TransitsValue}
 use Rattle.hd_stock.specs.StockValue.{StockValue}
 use Rattle.hd_stock.specs.Counts.{HasOneMore, KeepsEntries, of_home, of_title}
@@ -220,7 +219,7 @@ placed_in k states n b p fit there = elim (cases_lt n (length states)) [
 
 -- and there it stands on a hold shelf
 pub held_at : (b p : ℕ) (v : CopyState) → stands_at b p v ≡ true → (r : HoldPlace) × (v ≡ OnHoldShelf r) × (r.branch ≡ b) × (r.place ≡ p)
-held_at b p (OnHoldShelf r) is = (r, refl, eqb-true r.branch b (and_left _ _ is), eqb-true r.place p (and_right _ _ is))
+held_at b p (OnHoldShelf r) is = (r, refl, eqb-true r.branch b (and_parts _ _ is).0, eqb-true r.place p (and_parts _ _ is).1)
 held_at b p (Shelf x) is = absurd (let no : ⊥ = cc in no)
 held_at b p (OnLoan l) is = absurd (let no : ⊥ = cc in no)
 held_at b p (InTransit t) is = absurd (let no : ⊥ = cc in no)
@@ -252,5 +251,5 @@ free_for k states shelves c w are fit l at = none_or_some (copy_at shelves w.bra
             let no : true ≡ false = sym placed ∙ ap (is_placed w.branch w.place) none in cc
         by_test false e =
             let there : is_placed w.branch w.place (slice_get states n) ≡ true =
-            sym (ap (is_placed w.branch w.place) (but_there (slice_get states) c n (number_not n c e))) ∙ placed in
-            number_not n c e (same_place k states n c w fit l (state_at k states c (OnHoldShelf w) fit l at) there)
+            sym (ap (is_placed w.branch w.place) (but_there (slice_get states) c n (eqb-false n c e))) ∙ placed in
+            eqb-false n c e (same_place k states n c w fit l (state_at k states c (OnHoldShelf w) fit l at) there)

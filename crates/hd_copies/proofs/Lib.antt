@@ -6,4 +6,3 @@ pub mod Indexed
 pub mod Opening
 pub mod Rooms
 pub mod Answering
-pub mod Welcoming

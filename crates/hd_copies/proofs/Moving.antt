@@ -2,18 +2,17 @@
 use Rattle.std.proofs.Common.{◌≡◌, ◌≢◌, ℕ, ◌<◌, ◌==◌, Bool, true, false, cond, Option, None, Some, List, length, get_or, refl, ap, sym, ◌∙◌}
 use Rattle.std.proofs.Common.{subst, inl, inr, arith, eq-eqb}
 use Rattle.std.proofs.Math.ListN.{set, length-set}
-use Rattle.std.proofs.lemmas.Bool.{eqb-true, cases_Bool, cases_lt}
+use Rattle.std.proofs.lemmas.Bool.{eqb-true, eqb-false, cases_Bool, cases_lt}
 use Rattle.std.proofs.lemmas.List.{get_or-set_other}
-use Rattle.std.proofs.lemmas.Option.{slice_get-get_or, slice_get_past}
+use Rattle.std.proofs.lemmas.Option.{same_Some, slice_get-get_or, slice_get_past}
 use Rattle.std.specs.List.{slice_get}
 use Rattle.std.specs.Ordering.{nat_cmp}
 use Rattle.std.specs.FinMap.{FinMap, get, insert, remove}
-use Rattle.hd_table.proofs.SlotsLemmas.{get-insert_number, get-remove_number}
+use Rattle.hd_lemmas.proofs.Maps.{get-insert_number, get-remove_number}
 use Rattle.hd_rules.specs.declared.copies.CopyState.{CopyState}
 use Rattle.hd_rules.specs.declared.copies.CopyState.TheVariants.{Shelf}
 use Rattle.hd_rules.specs.Facts.{Facts}
 use Rattle.hd_rules.specs.Known.{IsKnownState}
-use Rattle.hd_rules.proofs.Tests.{number_not, some_is}
 use Rattle.hd_copies.specs.Standing.{AreStates, state_in}
 use Rattle.hd_copies.specs.Indexing.{all_but}
 
@@ -29,7 +28,7 @@ pub alike : {X : Type 0} (of : Option CopyState → X) (c : ℕ) (f g : ℕ → 
 alike of c f g a b moves same x = elim (cases_Bool (x == c)) [
   | inl e ↦ (let at : x ≡ c = eqb-true x c e in
       ap (λ (y : ℕ). of (g y)) at ∙ ap of moves.is ∙ same ∙ sym (ap of moves.was) ∙ sym (ap (λ (y : ℕ). of (f y)) at))
-  | inr e ↦ ap of (moves.others x (number_not x c e))
+  | inr e ↦ ap of (moves.others x (eqb-false x c e))
 ]
 
 -- a map by copies loses the entry of the one that goes
@@ -40,7 +39,7 @@ map-out {X} of m c f g a b moves none all x = get-remove_number m c x ∙ by_tes
   where
     by_test : (t : Bool) → (x == c) ≡ t → cond t None (get m x) ≡ of (g x)
     by_test true e = sym (ap (λ (y : ℕ). of (g y)) (eqb-true x c e) ∙ ap of moves.is ∙ none)
-    by_test false e = all x ∙ ap of (sym (moves.others x (number_not x c e)))
+    by_test false e = all x ∙ ap of (sym (moves.others x (eqb-false x c e)))
 
 -- and gains one for it
 pub map-in : {X : Type 0} (of : Option CopyState → Option X) (m : FinMap nat_cmp X) (c : ℕ) (f g : ℕ →
@@ -50,7 +49,7 @@ map-in {X} of m c f g a b v moves some all x = get-insert_number m c v x ∙ by_
   where
     by_test : (t : Bool) → (x == c) ≡ t → cond t (Some v) (get m x) ≡ of (g x)
     by_test true e = sym (ap (λ (y : ℕ). of (g y)) (eqb-true x c e) ∙ ap of moves.is ∙ some)
-    by_test false e = all x ∙ ap of (sym (moves.others x (number_not x c e)))
+    by_test false e = all x ∙ ap of (sym (moves.others x (eqb-false x c e)))
 
 -- the entry of a copy of the list
 pub found_in : (states : List CopyState) (c : ℕ) → c < length states → slice_get states c ≡ Some (state_in states c)
@@ -88,7 +87,7 @@ but-set states i c v at = λ j. λ x. each x j
     each : (x : ℕ) → all_but c (slice_get (set states i v)) x ≡ all_but c (slice_get states) x
     each x = elim (cases_Bool (c == x)) [
       | inl e ↦ rw e refl
-      | inr e ↦ rw e (slice_get-set_other states i x v (λ same. number_not c x e (sym at ∙ sym same)))
+      | inr e ↦ rw e (slice_get-set_other states i x v (λ same. eqb-false c x e (sym at ∙ sym same)))
     ]
 
 -- an entry that was read is where its copy is
@@ -100,7 +99,7 @@ read_at k states i c d v are l at is =
 
 pub state_at : (k : Facts) (states : List CopyState) (c : ℕ) (v : CopyState) → AreStates k states → c < k.copies →
     slice_get states c ≡ Some v → state_in states c ≡ v
-state_at k states c v are l at = some_is _ v (sym (found_in states c (omega (arith, are.copies))) ∙ at)
+state_at k states c v are l at = same_Some _ v (sym (found_in states c (omega (arith, are.copies))) ∙ at)
 
 -- and names things of the catalogue
 pub known_at : (k : Facts) (states : List CopyState) (c : ℕ) (v : CopyState) → AreStates k states → c < k.copies →

@@ -13,7 +13,7 @@ use Rattle.hd_rules.specs.Facts.{Facts}
 use Rattle.hd_rules.specs.Choose.{count_below}
 use Rattle.hd_shelf.specs.PlacesValue.{PlacesValue}
 use Rattle.hd_loans.specs.LoansValue.{LoansValue}
-use Rattle.hd_loans.proofs.CountsLemmas.{one, count_below-same}
+use Rattle.hd_lemmas.proofs.Counts.{one, count_below-same}
 use Rattle.hd_transit.specs.TransitsValue.{TransitsValue}
 use Rattle.hd_stock.specs.StockValue.{StockValue}
 use Rattle.hd_stock.specs.Counts.{HasEntry, of_home, of_title}
@@ -73,11 +73,6 @@ shelves-home k shelves branches none = record {
   found = λ b p c l placed. absurd (let no : true ≡ false = sym placed ∙ not_placed (nat_lt c k.copies) (k.home c) b p in
       let never : ⊥ = cc in never);
 }
-
--- no more are counted than there are
-pub count-le : (test : ℕ → Bool) (n : ℕ) → count_below test n ≤ n
-count-le test zero = omega arith
-count-le test (suc n) = grind (arith, count-le test n)
 
 -- one more number is counted, or not
 pub count-next : (test : ℕ → Bool) (n count next : ℕ) (b : Bool) → b ≡ test n → count ≡ count_below test n → next ≡ count + one b →

@@ -3,12 +3,11 @@ use Rattle.std.proofs.Common.{◌≡◌, ℕ, ◌<◌, ◌≤◌, ◌==◌, Resu
 use Rattle.std.specs.Prelude.{max}
 use Rattle.std.specs.declared.alloc.AllocError.{AllocError}
 use Rattle.std.proofs.Math.ListN.{set, get_or-map}
-use Rattle.std.proofs.lemmas.Bool.{cases_Bool, eqb-true}
+use Rattle.std.proofs.lemmas.Bool.{cases_Bool, eqb-true, eqb-false}
 use Rattle.std.proofs.lemmas.Grind.{get_or-set_at}
 use Rattle.std.proofs.lemmas.List.{get_or-set_other, length-map, map-set, set-get_or}
 use Rattle.hd_rules.specs.declared.copies.CopyState.{CopyState}
 use Rattle.hd_rules.specs.declared.copies.CopyState.TheVariants.{Shelf, OnLoan, OnHoldShelf, InTransit}
-use Rattle.hd_rules.proofs.Tests.{number_not}
 use Rattle.hd_shelf.specs.PlacesValue.{PlacesValue}
 use Rattle.hd_copies.specs.IndexesValue.{IndexesValue}
 use Rattle.hd_copies.specs.Standing.{HasRoom}
@@ -36,7 +35,7 @@ room-more shelves i b s l le = elim (cases_Bool (b == i)) [
       omega arith)
   | inr e ↦ (let same : get_or (rooms_in (set shelves i s)) b 0 ≡ get_or (rooms_in shelves) b 0 =
       ap (λ (rooms : List ℕ). get_or rooms b 0) (map-set (λ (s : PlacesValue). s.room) shelves i s)
-      ∙ get_or-set_other (rooms_in shelves) i b s.room 0 (number_not b i e) in
+      ∙ get_or-set_other (rooms_in shelves) i b s.room 0 (eqb-false b i e) in
       omega arith)
 ]
 

@@ -2,17 +2,17 @@
 use Rattle.std.proofs.Common.{◌≡◌, ℕ, ◌<◌, ◌==◌, ◌&&◌, Bool, true, false, cond, Option, None, Some, List, length, refl, ap, sym, ◌∙◌, inl}
 use Rattle.std.proofs.Common.{inr, arith, get_or, eq-eqb}
 use Rattle.std.proofs.Math.ListN.{set, length-set}
-use Rattle.std.proofs.lemmas.Bool.{eqb-true, cases_Bool}
+use Rattle.std.proofs.lemmas.Bool.{and_parts, eqb-true, eqb-false, cases_Bool}
+use Rattle.std.proofs.lemmas.Option.{same_Some}
 use Rattle.std.proofs.lemmas.Grind.{get_or-set_at}
 use Rattle.std.proofs.lemmas.List.{get_or-set_other}
 use Rattle.std.specs.Ordering.{nat_cmp}
 use Rattle.std.specs.FinMap.{FinMap, get, insert, remove}
-use Rattle.hd_table.proofs.SlotsLemmas.{get-insert_number, get-remove_number}
+use Rattle.hd_lemmas.proofs.Maps.{get-insert_number, get-remove_number}
 use Rattle.hd_rules.specs.declared.copies.HoldPlace.{HoldPlace}
 use Rattle.hd_rules.specs.declared.copies.CopyState.{CopyState}
 use Rattle.hd_rules.specs.declared.copies.CopyState.TheVariants.{OnHoldShelf}
 use Rattle.hd_rules.specs.Facts.{Facts}
-use Rattle.hd_rules.proofs.Tests.{number_not, and_left, and_right, some_is}
 use Rattle.hd_shelf.specs.PlacesValue.{PlacesValue}
 use Rattle.hd_copies.specs.Indexing.{AreShelves, copy_at, is_placed, no_shelf}
 use Rattle.hd_copies.proofs.Moving.{Moves}
@@ -22,14 +22,14 @@ abbrev pub is_there : ℕ → ℕ → ℕ → ℕ → Bool
 is_there branch place b p = (branch == b) && (place == p)
 
 is_there-same : (branch place b p : ℕ) → is_there branch place b p ≡ true → (branch ≡ b) × (place ≡ p)
-is_there-same branch place b p is = (eqb-true branch b (and_left _ _ is), eqb-true place p (and_right _ _ is))
+is_there-same branch place b p is = (eqb-true branch b (and_parts _ _ is).0, eqb-true place p (and_parts _ _ is).1)
 
 -- one shelf is written
 copy_at-set : (shelves : List PlacesValue) (i : ℕ) (s : PlacesValue) (b p : ℕ) → i < length shelves →
     copy_at (set shelves i s) b p ≡ cond (i == b) (get s.copies p) (copy_at shelves b p)
 copy_at-set shelves i s b p l = elim (cases_Bool (i == b)) [
   | inl e ↦ rw e (ap (λ (x : PlacesValue). get x.copies p) (get_or-set_at shelves i b s no_shelf (sym (eqb-true i b e)) l))
-  | inr e ↦ rw e (ap (λ (x : PlacesValue). get x.copies p) (get_or-set_other shelves i b s no_shelf (λ same. number_not i b e (sym same))))
+  | inr e ↦ rw e (ap (λ (x : PlacesValue). get x.copies p) (get_or-set_other shelves i b s no_shelf (λ same. eqb-false i b e (sym same))))
 ]
 
 -- a test of numbers, from the other side
@@ -37,7 +37,7 @@ turned : (m n : ℕ) → (m == n) ≡ (n == m)
 turned m n = elim (cases_Bool (m == n)) [
   | inl is ↦ is ∙ sym (eq-eqb n m (sym (eqb-true m n is)))
   | inr not_is ↦ elim (cases_Bool (n == m)) [
-    | inl is ↦ absurd (number_not m n not_is (sym (eqb-true n m is)))
+    | inl is ↦ absurd (eqb-false m n not_is (sym (eqb-true n m is)))
     | inr other ↦ not_is ∙ sym other
   ]
 ]
@@ -100,19 +100,19 @@ shelves-out k f g c w shelves s moves are known out = record {
         let here : is_placed b p (f x) ≡ is_there w.branch w.place b p =
         ap (λ (y : ℕ). is_placed b p (f y)) (eqb-true x c e) ∙ ap (is_placed b p) moves.was in
         let no : true ≡ false = sym placed ∙ here ∙ is in cc)
-    stands b p x false is some false e = ap (is_placed b p) (moves.others x (number_not x c e)) ∙ are.stands b p x some
+    stands b p x false is some false e = ap (is_placed b p) (moves.others x (eqb-false x c e)) ∙ are.stands b p x some
 
     found : (b p x : ℕ) → b < k.branches → (t : Bool) → is_there w.branch w.place b p ≡ t → (u : Bool) → (x == c) ≡ u →
         is_placed b p (g x) ≡ true → cond t None (copy_at shelves b p) ≡ Some x
     found b p x l t is true e placed = absurd (
         let none : is_placed b p (g x) ≡ false = ap (λ (y : ℕ). is_placed b p (g y)) (eqb-true x c e) ∙ ap (is_placed b p) moves.is in
         let no : true ≡ false = sym placed ∙ none in cc)
-    found b p x l true is false e placed = absurd (number_not x c e (
+    found b p x l true is false e placed = absurd (eqb-false x c e (
         let one : copy_at shelves b p ≡ Some x =
-        are.found b p x l (sym (ap (is_placed b p) (moves.others x (number_not x c e))) ∙ placed) in
+        are.found b p x l (sym (ap (is_placed b p) (moves.others x (eqb-false x c e))) ∙ placed) in
         let other : copy_at shelves b p ≡ Some c = are.found b p c l (ap (is_placed b p) moves.was ∙ is) in
-        some_is x c (sym one ∙ other)))
-    found b p x l false is false e placed = are.found b p x l (sym (ap (is_placed b p) (moves.others x (number_not x c e))) ∙ placed)
+        same_Some x c (sym one ∙ other)))
+    found b p x l false is false e placed = are.found b p x l (sym (ap (is_placed b p) (moves.others x (eqb-false x c e))) ∙ placed)
 
 -- a copy comes to a free place
 pub shelves-in : (k : Facts) (f g : ℕ → Option CopyState) (c : ℕ) (w : HoldPlace) (shelves : List PlacesValue) (s : PlacesValue) →
@@ -135,11 +135,11 @@ shelves-in k f g c w shelves s moves are known free into = record {
     old b p x some true e = absurd (
         let none : is_placed b p (f x) ≡ false = ap (λ (y : ℕ). is_placed b p (f y)) (eqb-true x c e) ∙ ap (is_placed b p) moves.was in
         let no : true ≡ false = sym (are.stands b p x some) ∙ none in cc)
-    old b p x some false e = ap (is_placed b p) (moves.others x (number_not x c e)) ∙ are.stands b p x some
+    old b p x some false e = ap (is_placed b p) (moves.others x (eqb-false x c e)) ∙ are.stands b p x some
 
     stands : (b p x : ℕ) (t : Bool) → is_there w.branch w.place b p ≡ t → cond t (Some c) (copy_at shelves b p) ≡ Some x →
         is_placed b p (g x) ≡ true
-    stands b p x true is some = here b p x (sym (some_is c x some)) ∙ is
+    stands b p x true is some = here b p x (sym (same_Some c x some)) ∙ is
     stands b p x false is some = old b p x some (x == c) refl
 
     found : (b p x : ℕ) → b < k.branches → (t : Bool) → is_there w.branch w.place b p ≡ t → (u : Bool) → (x == c) ≡ u →
@@ -148,8 +148,8 @@ shelves-in k f g c w shelves s moves are known free into = record {
     found b p x l false is true e placed = absurd (let no : true ≡ false = sym placed ∙ here b p x (eqb-true x c e) ∙ is in cc)
     found b p x l true is false e placed = absurd (
         let some : copy_at shelves b p ≡ Some x =
-        are.found b p x l (sym (ap (is_placed b p) (moves.others x (number_not x c e))) ∙ placed) in
+        are.found b p x l (sym (ap (is_placed b p) (moves.others x (eqb-false x c e))) ∙ placed) in
         let same = is_there-same w.branch w.place b p is in
         let none : copy_at shelves b p ≡ None = (λ i. copy_at shelves (sym same.0 i) (sym same.1 i)) ∙ free in
         let no : ⊥ = cc in no)
-    found b p x l false is false e placed = are.found b p x l (sym (ap (is_placed b p) (moves.others x (number_not x c e))) ∙ placed)
+    found b p x l false is false e placed = are.found b p x l (sym (ap (is_placed b p) (moves.others x (eqb-false x c e))) ∙ placed)

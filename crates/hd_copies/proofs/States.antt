@@ -2,7 +2,7 @@
 use Rattle.std.proofs.Common.{◌≡◌, ℕ, ◌<◌, ◌≤◌, ◌==◌, true, false, cond, nat_lt, List, None, Some, length, get_or, refl, ap, sym, ◌∙◌}
 use Rattle.std.proofs.Common.{subst, inl, inr, arith, eq-eqb}
 use Rattle.std.proofs.Math.ListN.{set, length-set}
-use Rattle.std.proofs.lemmas.Bool.{eqb-true, cases_Bool, cases_lt}
+use Rattle.std.proofs.lemmas.Bool.{and_from, eqb-true, eqb-false, cases_Bool, cases_lt, cond_both}
 use Rattle.std.proofs.lemmas.List.{get_or-set_same, get_or-set_other, get_or_past}
 use Rattle.std.proofs.lemmas.Option.{slice_get-get_or, slice_get_past}
 use Rattle.std.proofs.lemmas.Bool.Decides.{nat_tests}
@@ -14,9 +14,6 @@ use Rattle.hd_rules.specs.Facts.{AreInRange, Facts}
 use Rattle.hd_rules.specs.Choose.{stands_at}
 use Rattle.hd_rules.specs.Known.{IsKnownState}
 use Rattle.hd_rules.specs.Sound.{PlacesFit}
-use Rattle.hd_rules.proofs.Fits.{Welcome, places_put}
-use Rattle.hd_rules.proofs.Puts.{copy_cases}
-use Rattle.hd_rules.proofs.Tests.{number_not, both_true}
 use Rattle.hd_catalogue.specs.declared.facts.CopyFacts.{CopyFacts}
 use Rattle.hd_catalogue.specs.Contents.{Contents, facts_of, known}
 use Rattle.hd_copies.specs.Indexing.{each_at_home}
@@ -38,25 +35,42 @@ state_in-set states i c v at l = λ j. λ x. each x j
 -- a copy goes somewhere else
 pub known-put : (k : Facts) (f : ℕ → CopyState) (c : ℕ) (v : CopyState) → ((x : ℕ) → x < k.copies → IsKnownState k (f x)) →
     IsKnownState k v → (x : ℕ) → x < k.copies → IsKnownState k (cond (c == x) v (f x))
-known-put k f c v all here x l = copy_cases (IsKnownState k) c x v (f x) (λ e. here) (λ other. all x l)
+known-put k f c v all here x l = cond_both (c == x) v (f x) (IsKnownState k) (λ e. here) (λ other. all x l)
 
-pub welcome-at : (k : Facts) (f : ℕ → CopyState) (c : ℕ) (v : CopyState) → IsWelcome k f c v → (s : HoldPlace) → v ≡ OnHoldShelf s →
-    Welcome k f c s
-welcome-at k f c v welcome s is = alone (subst (IsWelcome k f c) is welcome)
+-- the place is at least 1, and no other of the catalogue's copies stands there
+record Placed (k : Facts) (f : ℕ → CopyState) (c : ℕ) (s : HoldPlace) : Type 0 where
+  pub from_one : 1 ≤ s.place
+  pub alone : (x : ℕ) (r : HoldPlace) → x < k.copies → (c == x) ≡ false → f x ≡ OnHoldShelf r → s.branch ≡ r.branch
+      → s.place ≡ r.place → ⊥
+
+placed-at : (k : Facts) (f : ℕ → CopyState) (c : ℕ) (v : CopyState) → IsWelcome k f c v → (s : HoldPlace) → v ≡ OnHoldShelf s →
+    Placed k f c s
+placed-at k f c v welcome s is = placed (subst (IsWelcome k f c) is welcome)
   where
-    alone : IsAlone k f c s → Welcome k f c s
-    alone a = record {
+    placed : IsAlone k f c s → Placed k f c s
+    placed a = record {
       from_one = a.from_one;
-      alone = λ x r in_c in_x other at branch place.
-          let no : stands_at s.branch s.place (f x) ≡ false = a.alone x in_x (λ e. number_not c x other (sym e)) in
+      alone = λ x r in_x other at branch place.
+          let no : stands_at s.branch s.place (f x) ≡ false = a.alone x in_x (λ e. eqb-false c x other (sym e)) in
           let there : stands_at s.branch s.place (f x) ≡ true =
-          ap (stands_at s.branch s.place) at ∙ both_true _ _ (eq-eqb r.branch s.branch (sym branch)) (eq-eqb r.place s.place (sym place)) in
+          ap (stands_at s.branch s.place) at ∙ and_from _ _ (eq-eqb r.branch s.branch (sym branch)) (eq-eqb r.place s.place (sym place)) in
           let none : ⊥ = cc in none;
     }
 
 pub places-put : (k : Facts) (f : ℕ → CopyState) (c : ℕ) (v : CopyState) → PlacesFit k f → IsWelcome k f c v →
     PlacesFit k (λ x. cond (c == x) v (f x))
-places-put k f c v fit welcome = places_put k (record { copy = f; hold = λ t p. None }) c v fit (welcome-at k f c v welcome)
+places-put k f c v fit welcome = record {
+  from_one = λ x s. cond_both (c == x) v (f x) (λ w. w ≡ OnHoldShelf s → 1 ≤ s.place)
+      (λ e is. (placed-at k f c v welcome s is).from_one) (λ other is. fit.from_one x s is);
+  apart = λ x y s r in_x in_y. cond_both (c == x) v (f x)
+      (λ w. w ≡ OnHoldShelf s → cond (c == y) v (f y) ≡ OnHoldShelf r → s.branch ≡ r.branch → s.place ≡ r.place → x ≡ y)
+      (λ e is. cond_both (c == y) v (f y) (λ w. w ≡ OnHoldShelf r → s.branch ≡ r.branch → s.place ≡ r.place → x ≡ y)
+      (λ same _ _ _. sym (eqb-true c x e) ∙ eqb-true c y same)
+      (λ other was branch place. absurd ((placed-at k f c v welcome s is).alone y r in_y other was branch place)))
+      (λ other was. cond_both (c == y) v (f y) (λ w. w ≡ OnHoldShelf r → s.branch ≡ r.branch → s.place ≡ r.place → x ≡ y)
+      (λ same is branch place. absurd ((placed-at k f c v welcome r is).alone x s in_x other was (sym branch) (sym place)))
+      (λ apart is branch place. fit.apart x y s r in_x in_y was is branch place));
+}
 
 pub states-put : (k : Facts) (states : List CopyState) (i c : ℕ) (v : CopyState) → AreStates k states → i ≡ c → c < k.copies →
     IsKnownState k v → IsWelcome k (state_in states) c v → AreStates k (set states i v)

@@ -16,7 +16,7 @@ ghost use Rattle.hd_copies.specs.Standing.{stands_ready};
 
 use crate::indexes::Indexes;
 use hd_catalogue::Catalogue;
-use hd_rules::{BranchNo, CopyNo, CopyState, HoldKind, PatronNo, TitleNo};
+use hd_rules::{BranchNo, CopyNo, CopyState, HoldKind, PatronNo, TitleNo, the_least_free_place_is_one};
 use std::alloc::{AllocError, Allocator, Global};
 use std::marker::Model;
 use std::sync::Arc;
@@ -138,6 +138,7 @@ impl<A: Allocator + Copy> Copies<A> {
         requires { branch < (facts self.now).branches }
         ensures { (d : Desk) → d.copy ≡ standing self.now → result ≡ place (facts self.now) d branch }
     {
+        the_least_free_place_is_one();
         self.indexes.shelves[branch.number() as usize].least_free()
     }
 

@@ -2,7 +2,8 @@ use Rattle.std.proofs.Common.{◌≡◌, ℕ, ◌∙◌, ◌==◌, ◌&&◌, ap,
 use Rattle.std.proofs.lemmas.Grind.{common_steps}
 use Rattle.hd_catalogue.specs.Contents.{facts_of}
 use Rattle.hd_stock.specs.Counts.{HasEntry, HasOneMore}
-use Rattle.hd_copies.proofs.Opening.{count-le, count-next, stock-home}
+use Rattle.hd_lemmas.proofs.Counts.{count_below-le}
+use Rattle.hd_copies.proofs.Opening.{count-next, stock-home}
 use Rattle.hd_copies.proofs.indexes.full_stock.Goals as goal
 
 pub stock-requires-clause-copies : goal.stock-requires-clause-copies
@@ -11,7 +12,7 @@ stock-requires-clause-copies g c =
     omega (
       arith,
       c.loop-number.invariant.title c.title_of.result,
-      count-le (λ n. (k.title_of n) == c.title_of.result) c.loop-number.number,
+      count_below-le (λ n. (k.title_of n) == c.title_of.result) c.loop-number.number,
       c.loop-number-test.true,
       c.copies-number-end.ensures.count,
       c.titles.ensures.facts.copies,
@@ -23,7 +24,7 @@ stock-requires-clause-copies_of_home g c =
     omega (
       arith,
       c.loop-number.invariant.home c.title_of.result c.home.result,
-      count-le (λ n. ((k.title_of n) == c.title_of.result) && ((k.home n) == c.home.result)) c.loop-number.number,
+      count_below-le (λ n. ((k.title_of n) == c.title_of.result) && ((k.home n) == c.home.result)) c.loop-number.number,
       c.loop-number-test.true,
       c.copies-number-end.ensures.count,
       c.titles.ensures.facts.copies,
