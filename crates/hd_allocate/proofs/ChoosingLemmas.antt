@@ -4,14 +4,14 @@ use Rattle.std.proofs.Common.{Bor, List, [], ◌∷◌, filter, refl, sym, ap, �
 use Rattle.std.specs.Option.{option_copied}
 use Rattle.std.proofs.lemmas.Bool.Decides.{nat_tests, Decides-eqb}
 use Rattle.std.proofs.lemmas.Bool.{cases_Bool, ltb-true, ltb-false, le-ltb}
+use Rattle.std.proofs.lemmas.Option.{same_Some}
 use Rattle.hd_rules.specs.declared.holds.Hold.{Hold}
 use Rattle.hd_rules.specs.declared.holds.HoldKind.{HoldKind}
 use Rattle.hd_rules.specs.declared.holds.HoldKind.TheVariants.{Any, One, AtBranch}
 use Rattle.hd_rules.specs.Facts.{Facts}
 use Rattle.hd_rules.specs.Desk.{Desk}
 use Rattle.hd_rules.specs.Choose.{admits, may_have, candidate, is_local, precedes, earlier, choice, FirstCandidate}
-use Rattle.hd_rules.proofs.Tests.{some_is}
-use Rattle.hd_rules.proofs.First.{choice_is_first}
+use Rattle.hd_rules.specs.Laws.{ChoiceIsTheFirstCandidate}
 use Rattle.hd_queue.specs.Holds.{hold_of, IsInOrder, HasPatronsOnce}
 use Rattle.hd_queue.specs.Waiting.{is_any, is_at_branch, names, waits_for_any, waits_for, waits_at}
 use Rattle.hd_allocate.specs.declared.facts.CopyFacts.{CopyFacts}
@@ -147,7 +147,7 @@ candidate_is : (k : Facts) (c day : ℕ) (o : Option Hold) (h : Hold) → candid
 candidate_is k c day None h is = let none : ◌≡◌ {A = Option Hold} None (Some h) = is in cc
 candidate_is k c day (Some g) h is = elim (cases_Bool (may_have k c day g)) [
   | inl e ↦
-      let same : g ≡ h = some_is g h (sym (rw e) ∙ is) in
+      let same : g ≡ h = same_Some g h (sym (rw e) ∙ is) in
       (ap Some same, sym (ap (may_have k c day) same) ∙ e)
   | inr e ↦ absurd (let none : ◌≡◌ {A = Option Hold} None (Some h) = sym (rw e) ∙ is in cc)
 ]
@@ -223,14 +223,14 @@ found_first copy b day hs any named home x y z v w ordered once f =
     (f.z_is ∙ ap (front copy.priority b day) f.home_is))
 
 -- and that is the choice of the rules
-pub first_is_choice : (k : Facts) (d : Desk) (holds : List Hold) (copy : CopyFacts) (b day : ℕ) (o : Option Hold) → IsInOrder holds →
+pub first_is_choice : ChoiceIsTheFirstCandidate → (k : Facts) (d : Desk) (holds : List Hold) (copy : CopyFacts) (b day : ℕ) (o : Option Hold) → IsInOrder holds →
     IsAt k d holds copy → IsFirst copy.priority b (wants copy.copy copy.home day) holds o → o ≡ choice k d copy.copy b day
-first_is_choice k d holds copy b day o ordered at first =
+first_is_choice law k d holds copy b day o ordered at first =
     unique copy.priority b (may_have k copy.copy day) holds o (choice k d copy.copy b day) ordered
     (same_test copy.priority b (wants copy.copy copy.home day) (may_have k copy.copy day) holds o
     (wants_may_have k copy.copy copy.home day at.home) first)
     (subst (λ (t : Bool). IsFirst t b (may_have k copy.copy day) holds (choice k d copy.copy b day)) at.priority
-    (first_here k d holds copy b day (choice k d copy.copy b day) at (choice_is_first k d copy.copy b day)))
+    (first_here k d holds copy b day (choice k d copy.copy b day) at (law k d copy.copy b day)))
 
 no_copy : (c home : ℕ) (copy : Option ℕ) (kind : HoldKind) (pickup : ℕ) (open_ : Bool) →
     ((is_none copy && is_any kind && open_) || (is_none copy && names c kind && open_) ||

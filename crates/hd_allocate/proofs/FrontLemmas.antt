@@ -3,10 +3,10 @@ use Rattle.std.proofs.Common.{◌≡◌, ℕ, ◌<◌, ◌≤◌, Bool, true, fa
 use Rattle.std.proofs.Common.{sym, ap, ◌∙◌, inl, inr, arith}
 use Rattle.std.specs.Option.{option_or}
 use Rattle.std.proofs.lemmas.Bool.Decides.{Decides-eqb}
-use Rattle.std.proofs.lemmas.Bool.{cases_Bool, le-ltb}
+use Rattle.std.proofs.lemmas.Bool.{and_from, and_parts, cases_Bool, le-ltb}
+use Rattle.std.proofs.lemmas.Option.{same_Some}
 use Rattle.hd_rules.specs.declared.holds.Hold.{Hold}
 use Rattle.hd_rules.specs.Choose.{is_local, precedes}
-use Rattle.hd_rules.proofs.Tests.{and_left, and_right, both_true, some_is}
 use Rattle.hd_queue.specs.Holds.{hold_of, AllAfter, IsInOrder, HasPatronsOnce}
 use Rattle.hd_allocate.specs.Choosing.{is_open, is_open_at, front}
 
@@ -32,7 +32,7 @@ record IsLeast (test : Hold → Bool) (holds : List Hold) (h : Hold) : Type 0 wh
 
 -- a hold that is found for a patron is the head of the list, or is found behind it
 here : (x : Hold) (hs : List Hold) (p : ℕ) (g : Hold) → hold_of (x ∷ hs) p ≡ Some g → (x.patron == p) ≡ true → x ≡ g
-here x hs p g is e = some_is x g (sym (rw e) ∙ is)
+here x hs p g is e = same_Some x g (sym (rw e) ∙ is)
 
 behind : (x : Hold) (hs : List Hold) (p : ℕ) (g : Hold) → hold_of (x ∷ hs) p ≡ Some g → (x.patron == p) ≡ false → hold_of hs p ≡ Some g
 behind x hs p g is e = sym (rw e) ∙ is
@@ -119,7 +119,7 @@ still_least test x hs h l e p g m t = elim (cases_Bool (x.patron == p)) [
 find-least : (test : Hold → Bool) (hs : List Hold) (h : Hold) → IsInOrder hs → HasPatronsOnce hs → find test hs ≡ Some h → IsLeast test hs h
 find-least test [] h o once is = let none : ◌≡◌ {A = Option Hold} None (Some h) = is in cc
 find-least test (x ∷ hs) h o once is = elim (cases_Bool (test x)) [
-  | inl e ↦ head_passes test x hs h o.0 e (some_is x h (sym (rw e) ∙ is))
+  | inl e ↦ head_passes test x hs h o.0 e (same_Some x h (sym (rw e) ∙ is))
   | inr e ↦
       let l : IsLeast test hs h = find-least test hs h o.1 once.1 (sym (rw e) ∙ is) in
       record { queued = still_queued x hs h once.0 l.queued; passes = l.passes; least = still_least test x hs h l e }
@@ -145,17 +145,15 @@ local_opens wanted b day g = wanted g && is_open_at b day g
 opens_there : (wanted : Hold → Bool) (b day : ℕ) (g : Hold) → local_opens wanted b day g ≡ true →
     ((g.pickup == b) ≡ true) × (opens wanted day g ≡ true)
 opens_there wanted b day g t =
-    let at : is_open_at b day g ≡ true = and_right (wanted g) (is_open_at b day g) t in (
-      and_left (g.pickup == b) (is_open day g) at,
-      both_true (wanted g) (is_open day g) (and_left (wanted g) (is_open_at b day g) t)
-          (and_right (g.pickup == b) (is_open day g) at),
-    )
+    let both : (wanted g ≡ true) × (is_open_at b day g ≡ true) = and_parts (wanted g) (is_open_at b day g) t in
+    let at : ((g.pickup == b) ≡ true) × (is_open day g ≡ true) = and_parts (g.pickup == b) (is_open day g) both.1 in
+    (at.0, and_from (wanted g) (is_open day g) both.0 at.1)
 
 opens_here : (wanted : Hold → Bool) (b day : ℕ) (g : Hold) → opens wanted day g ≡ true → (g.pickup == b) ≡ true →
     local_opens wanted b day g ≡ true
 opens_here wanted b day g t at =
-    both_true (wanted g) (is_open_at b day g) (and_left (wanted g) (is_open day g) t)
-    (both_true (g.pickup == b) (is_open day g) at (and_right (wanted g) (is_open day g) t))
+    let both : (wanted g ≡ true) × (is_open day g ≡ true) = and_parts (wanted g) (is_open day g) t in
+    and_from (wanted g) (is_open_at b day g) both.0 (and_from (g.pickup == b) (is_open day g) at both.1)
 
 -- where no pickup is preferred
 plain : (wanted : Hold → Bool) (b day : ℕ) (hs : List Hold) (o : Option Hold) → IsInOrder hs → HasPatronsOnce hs →

@@ -6,7 +6,7 @@ use Rattle.std.specs.FinMap.{FinMap, get}
 use Rattle.hd_rules.specs.Facts.{Facts}
 use Rattle.hd_rules.specs.Desk.{Desk}
 use Rattle.hd_rules.specs.Choose.{place, stands_at}
-use Rattle.hd_rules.proofs.Only.{place_is_only}
+use Rattle.hd_rules.specs.Laws.{TheLeastFreePlaceIsOne}
 use Rattle.hd_shelf.specs.Shelf.{LeastFree}
 use Rattle.hd_allocate.specs.Settling.{IsShelfOf}
 
@@ -14,9 +14,9 @@ some_number : (o : Option ℕ) → IsSome o → (n : ℕ) × (o ≡ Some n)
 some_number None is = absurd (let no : ⊥ = cc in no)
 some_number (Some n) is = (n, refl)
 
-pub least_is_place : (k : Facts) (d : Desk) (b f : ℕ) (copies : FinMap nat_cmp ℕ) → IsShelfOf k d b copies → LeastFree copies f
-    → place k d b ≡ f
-least_is_place k d b f copies shelf is = sym ((place_is_only k d b f).0 (record { from_one = is.from_one; free = free; least = least }))
+pub least_is_place : TheLeastFreePlaceIsOne → (k : Facts) (d : Desk) (b f : ℕ) (copies : FinMap nat_cmp ℕ) → IsShelfOf k d b copies
+    → LeastFree copies f → place k d b ≡ f
+least_is_place law k d b f copies shelf is = sym ((law k d b f).0 (record { from_one = is.from_one; free = free; least = least }))
   where
     free : (c : ℕ) → c < k.copies → stands_at b f (d.copy c) ≡ false
     free c below = by_test (stands_at b f (d.copy c)) refl

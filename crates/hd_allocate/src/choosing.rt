@@ -9,7 +9,7 @@ ghost use Rattle.hd_allocate.specs.Choosing.{front, IsAt, Waits};
 use crate::facts::CopyFacts;
 use hd_date::Day;
 use hd_queue::{QueueView, Waiting};
-use hd_rules::{BranchNo, Hold};
+use hd_rules::{BranchNo, Hold, choice_is_the_first_candidate};
 
 /// The hold that a copy is for, at a branch on a day (docs/desk-rules.md, "Choice"): of the holds of its
 /// title that have no copy, admit this one and haven't expired, the first. They come by stamp; where the
@@ -27,6 +27,7 @@ pub fn choice<'a>(
         → option_copied result ≡ choice k d copy.now.copy at day }
     ensures waits { IfSome result (λ h. Waits queue.now h.now) }
 {
+    choice_is_the_first_candidate();
     let any = front(queue.any(), copy.priority, at, day);
     let named = front(queue.for_copy(copy.copy), copy.priority, at, day);
     let home = front(queue.at_branch(copy.home), copy.priority, at, day);

@@ -25,8 +25,8 @@ first c =
 
 pub returns-clause-chosen : goal.returns-clause-chosen
 returns-clause-chosen c = λ k d at.
-    first_is_choice k d c.args.queue.now c.args.copy.now c.args.at c.args.day (option_copied c.earlier.result) c.any.ensures.ordered at
-    (first c)
+    first_is_choice c.choice_is_the_first_candidate.ensures k d c.args.queue.now c.args.copy.now c.args.at c.args.day
+    (option_copied c.earlier.result) c.any.ensures.ordered at (first c)
 
 pub returns-clause-waits : goal.returns-clause-waits
 returns-clause-waits c =
