@@ -16,7 +16,6 @@ use Rattle.hd_rules.specs.Known.{IsKnownCell}
 use Rattle.hd_rules.specs.Run.{Elsewhere}
 use Rattle.hd_rules.specs.Same.{real_changes, same_value}
 use Rattle.hd_rules.specs.Sound.{IsFit, EachOnIsFit}
-use Rattle.hd_rules.proofs.Undo.{same_cell_is, same_cell_refl}
 use Rattle.hd_catalogue.specs.Contents.{Contents, facts_of}
 use Rattle.hd_copies.specs.Standing.{standing, IsWelcome}
 use Rattle.hd_holds.specs.Held.{held, IsWelcome as IsWelcomeHold}
@@ -28,7 +27,7 @@ use Rattle.hd_inverse.specs.Cells.{AreApart, AreKnown, HaveRoom, MayHave}
 use Rattle.hd_inverse.specs.Work.{written}
 use Rattle.hd_desk.specs.Cells.{HasRoomFor}
 use Rattle.hd_desk.specs.Rooms.{fewer}
-use Rattle.hd_desk.proofs.Writing.{copy-welcome, hold-welcome, drop_at}
+use Rattle.hd_desk.proofs.Writing.{copy-welcome, hold-welcome, drop_at, two-cells}
 
 -- what a desk's cells ask of a write
 pub put-copy : (d : DeskValue) (cell : Cell) (v : Value) (c : ℕ) (s : CopyState) → cell ≡ CopyCell c → v ≡ CopyHas s →
@@ -47,24 +46,14 @@ put-hold d cell v t p o is_cell is_value fit =
     (subst (λ (w : Value). IsFit (facts d) (put (desk_of d) (HoldCell t p) w)) is_value
     (subst (λ (x : Cell). IsFit (facts d) (put (desk_of d) x v)) is_cell fit))
 
--- cells that are two, whichever comes first
-two_cells : (x y : Cell) → same_cell x y ≡ false → same_cell y x ≡ false
-two_cells x y two = by_test (same_cell y x) refl
-  where
-    by_test : (b : Bool) → same_cell y x ≡ b → b ≡ false
-    by_test false is = refl
-    by_test true is =
-        let one : y ≡ x = same_cell_is y x is in
-        let both : true ≡ false = sym (same_cell_refl x) ∙ ap (same_cell x) (sym one) ∙ two in cc
-
 -- room for more is room for fewer, and what is left of it after a write of another cell
 room-left : (d e : DeskValue) (n : ℕ) (y : Cell) (cs : List Change) →
     ((x : Cell) (v : Value) (n : ℕ) → same_cell y x ≡ false → HasRoomFor d x v (n + 1) → HasRoomFor e x v n) → Elsewhere y cs →
     HaveRoom (HasRoomFor d) (n + 1) cs → HaveRoom (HasRoomFor e) n cs
 room-left d e n y [] goes there room = tt
 room-left d e n y (c ∷ cs) goes there room = (
-  goes c.cell c.old n (two_cells c.cell y there.0) room.0,
-  goes c.cell c.new n (two_cells c.cell y there.0) room.1,
+  goes c.cell c.old n (two-cells c.cell y there.0) room.0,
+  goes c.cell c.new n (two-cells c.cell y there.0) room.1,
   room-left d e n y cs goes there.1 room.2,
 )
 

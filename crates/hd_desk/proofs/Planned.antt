@@ -1,6 +1,7 @@
 -- A command at a desk, from its questions to its changes.
-use Rattle.std.proofs.Common.{arith, Bool, true, false, ◌≡◌, sym, ◌∙◌, ap, subst, ℕ, ◌+◌}
+use Rattle.std.proofs.Common.{arith, Bool, true, false, ◌≡◌, sym, ◌∙◌, ap, subst, ℕ, ◌+◌, ◌==◌}
 use Rattle.std.proofs.Common.{Bor, Option, Some, None, is_some, IfSome, List, [], ◌∷◌, ◌++◌, Result, Ok, Err, length}
+use Rattle.std.proofs.lemmas.Bool.{cond_both}
 use Rattle.std.specs.Option.{option_copied}
 use Rattle.std.specs.Prelude.{OnErr}
 use Rattle.std.specs.Result.{is_err}
@@ -22,9 +23,6 @@ use Rattle.hd_rules.specs.Record.{findings, note}
 use Rattle.hd_rules.specs.Run.{AreChanges}
 use Rattle.hd_rules.specs.Sound.{IsFit, Sound, EachOnIsFit}
 use Rattle.hd_rules.specs.Step.{plan}
-use Rattle.hd_rules.proofs.Familiar.{known_done}
-use Rattle.hd_rules.proofs.Onward.{on_through_fit, sound_after}
-use Rattle.hd_rules.proofs.Written.{each_written}
 use Rattle.hd_desk.proofs.Kept.{sound-later}
 use Rattle.hd_catalogue.specs.Contents.{Contents, facts_of}
 use Rattle.hd_queue.specs.Holds.{hold_of}
@@ -32,7 +30,6 @@ use Rattle.hd_copies.specs.CopiesValue.{CopiesValue}
 use Rattle.hd_copies.specs.Standing.{standing}
 use Rattle.hd_holds.specs.HoldsValue.{HoldsValue}
 use Rattle.hd_holds.specs.Held.{held, AreOfPatrons, AreKnown as AreKnownHolds}
-use Rattle.hd_holds.proofs.Lists.{known-held}
 use Rattle.hd_allocate.specs.Choosing.{AreOfPatrons as AreAllOfPatrons, IsAt, Waits}
 use Rattle.hd_allocate.specs.declared.facts.CopyFacts.{CopyFacts}
 use Rattle.hd_rules.specs.declared.cells.Change.{Change}
@@ -40,6 +37,7 @@ use Rattle.hd_desk.specs.Asking.{InquiryValue, ending_of, asked_of, AreKnownQues
 use Rattle.hd_inverse.specs.Cells.{AreApart, AreKnown, HaveRoom}
 use Rattle.hd_desk.specs.declared.refused.Refused.TheVariants.{Memory}
 use Rattle.hd_desk.specs.Cells.{HasRoomFor, IsShort}
+use Rattle.hd_desk.specs.Laws.{Laws}
 use Rattle.hd_desk.specs.DeskValue.{DeskValue}
 use Rattle.hd_desk.specs.Desks.{IsKept, contents, desk_of, facts}
 use Rattle.hd_desk.proofs.Following.{ending_is, findings_more, asked_more, known_more}
@@ -111,12 +109,18 @@ is-at d h holds copy t same contents title home priority each patrons = record {
   patrons = all-of-patrons (facts d).patrons holds (subst (λ x. AreOfPatrons (facts_of x).patrons holds) contents patrons);
 }
 
+-- a hold of a queue names things of the catalogue
+known-hold : (k : Facts) (holds : List Hold) (p : ℕ) → AreKnownHolds k holds → IsKnownHeld k (hold_of holds p)
+known-hold k [] p known = tt
+known-hold k (h ∷ holds) p known =
+    cond_both (h.patron == p) (Some h) (hold_of holds p) (IsKnownHeld k) (λ e. known.0) (λ e. known-hold k holds p known.1)
+
 -- what was chosen names things of the catalogue
 pub chosen-known : (k : Facts) (holds : List Hold) (r : Option (Bor Hold)) (o : Option Hold) → o ≡ option_copied r →
     IfSome r (λ h. Waits holds h.now) → AreKnownHolds k holds → IsKnownHeld k o
 chosen-known k holds None o is waits known = subst (IsKnownHeld k) (sym is) tt
 chosen-known k holds (Some b) o is waits known =
-    subst (IsKnownHeld k) (waits.queued ∙ sym is) (known-held k holds b.now.patron known)
+    subst (IsKnownHeld k) (waits.queued ∙ sym is) (known-hold k holds b.now.patron known)
 
 -- an accepted command's changes can be made
 pub record CanBeMade (k : Facts) (d : Desk) (n : ℕ) (done : Done) : Type 0 where
@@ -125,15 +129,15 @@ pub record CanBeMade (k : Facts) (d : Desk) (n : ℕ) (done : Done) : Type 0 whe
   pub fit : EachOnIsFit k done.changes d
   pub sound : Sound k (n + 1) (after done.changes d)
 
-pub can-be-made : (k : Facts) (d : Desk) (n : ℕ) (command : Command) (done : Done) → AreInRange k → IsKnownDesk k d →
+pub can-be-made : Laws → (k : Facts) (d : Desk) (n : ℕ) (command : Command) (done : Done) → AreInRange k → IsKnownDesk k d →
     IsFit k d → IsKnownAction k command.action → Sound k n d → outcome k d (plan k n command) ≡ Ok done → CanBeMade k d n done
-can-be-made k d n command done range desk is_fit action sound is =
-    let fit : EachOnIsFit k done.changes d = on_through_fit k d n command done sound is in
-    let after_it : AreChanges done.changes × Sound k (n + 1) (after done.changes d) = sound_after k d n command done sound is in
+can-be-made laws k d n command done range desk is_fit action sound is =
+    let fit : EachOnIsFit k done.changes d = laws.fit k d n command done sound is in
+    let after_it : AreChanges done.changes × Sound k (n + 1) (after done.changes d) = laws.sound k d n command done sound is in
     record {
       known = are-known k d d done.changes desk is_fit after_it.0 (record {
-        known = (known_done k d n command done range desk action is).changes;
-        old = λ c among. (each_written k d n command done is c among).1;
+        known = (laws.known k d n command done range desk action is).changes;
+        old = λ c among. (laws.asked k d n command done is c among).1;
       }) fit;
       apart = are-apart done.changes after_it.0;
       fit = fit;
@@ -149,17 +153,17 @@ pub record Planned (d : DeskValue) (n : ℕ) (command : Command) (done : Done) (
   pub asks : asked ≡ asks (facts d) (desk_of d) (plan (facts d) n command)
   pub can : CanBeMade (facts d) (desk_of d) n done
 
-pub planned : (d : DeskValue) (n : ℕ) (command : Command) (q : InquiryValue) (r : Result Done Refusal) (asked : List Question)
-    (accepted done : Done) → q ≡ record { desk = d; asked = [] } → (r, asked) ≡ ending_of q (plan (facts q.desk) n command) →
+pub planned : Laws → (d : DeskValue) (n : ℕ) (command : Command) (q : InquiryValue) (r : Result Done Refusal)
+    (asked : List Question) (accepted done : Done) → q ≡ record { desk = d; asked = [] } → (r, asked) ≡ ending_of q (plan (facts q.desk) n command) →
     r ≡ Ok accepted → done ≡ accepted → IsKept (facts d) (desk_of d) → IsKnownAction (facts d) command.action →
     Sound (facts d) n (desk_of d) → Planned d n command done asked
-planned d n command q r asked accepted done start ends is same kept action sound =
+planned laws d n command q r asked accepted done start ends is same kept action sound =
     let f : Followed (facts d) (desk_of d) (plan (facts d) n command) r asked = followed d n command q r asked start ends in
     let ok : outcome (facts d) (desk_of d) (plan (facts d) n command) ≡ Ok done = sym f.outcome ∙ is ∙ ap (λ (x : Done). Ok x) (sym same) in
     record {
       outcome = ok;
       asks = f.asks;
-      can = can-be-made (facts d) (desk_of d) n command done kept.range kept.known kept.fit action sound ok;
+      can = can-be-made laws (facts d) (desk_of d) n command done kept.range kept.known kept.fit action sound ok;
     }
 
 -- once there is room for them

@@ -1,6 +1,7 @@
 -- Writing a cell of a fit desk.
 use Rattle.std.proofs.Common.{◌≡◌, ◌≢◌, refl, sym, ◌∙◌, ap, subst, ℕ, ◌+◌, ◌<◌, Bool, true, false, cond, ◌==◌, ◌&&◌, Option}
 use Rattle.std.proofs.Common.{Some, None, List, [], ◌∷◌, length, drop, get_or, add-one, drop-cons, eq-eqb, inl, inr}
+use Rattle.std.proofs.lemmas.Bool.{and_parts, cases_Bool, eqb-true, eqb-false, ne_eqb}
 use Rattle.hd_rules.specs.declared.holds.Hold.{Hold}
 use Rattle.hd_rules.specs.declared.copies.HoldPlace.{HoldPlace}
 use Rattle.hd_rules.specs.declared.copies.CopyState.{CopyState}
@@ -11,14 +12,13 @@ use Rattle.hd_rules.specs.declared.cells.Value.{Value}
 use Rattle.hd_rules.specs.declared.cells.Value.TheVariants.{Copy as CopyHas, Hold as HoldHas}
 use Rattle.hd_rules.specs.declared.cells.Change.{Change}
 use Rattle.hd_rules.specs.Facts.{Facts}
-use Rattle.hd_rules.specs.Desk.{Desk, put, value}
+use Rattle.hd_rules.specs.Desk.{Desk, put, same_cell, value}
 use Rattle.hd_rules.specs.Choose.{stands_at}
 use Rattle.hd_rules.specs.Known.{IsKnownCell, IsKnownValue, IsKnownDesk}
 use Rattle.hd_rules.specs.Run.{IsAmong, AreChanges, Fits}
 use Rattle.hd_rules.specs.Sound.{IsFit, EachOnIsFit}
 use Rattle.hd_rules.specs.Same.{same_value}
-use Rattle.hd_rules.proofs.Same.{differs}
-use Rattle.hd_rules.proofs.Tests.{and_left, and_right, number_is}
+use Rattle.hd_rules.specs.Laws.{TestsAreExact}
 use Rattle.hd_copies.specs.Standing.{IsWelcome}
 use Rattle.hd_holds.specs.Held.{IsWelcome as IsWelcomeHold}
 use Rattle.hd_inverse.specs.Cells.{AreApart, AreKnown, IsFromOne, MayHave}
@@ -33,17 +33,13 @@ there c x s v other = rw other refl
 at-place : (b place : ℕ) (v : CopyState) → stands_at b place v ≡ true → (r : HoldPlace) × (v ≡ OnHoldShelf r) × (b ≡ r.branch)
     × (place ≡ r.place)
 at-place b place (OnHoldShelf r) is =
-    (r, refl, sym (number_is r.branch b (and_left _ _ is)), sym (number_is r.place place (and_right _ _ is)))
+    (r, refl, sym (eqb-true r.branch b (and_parts _ _ is).0), sym (eqb-true r.place place (and_parts _ _ is).1))
 at-place b place (Shelf x) is = cc
 at-place b place (OnLoan l) is = cc
 at-place b place (InTransit t) is = cc
 
 not-same : (c x : ℕ) → x ≢ c → (c == x) ≡ false
-not-same c x other = by_test (c == x) refl
-  where
-    by_test : (b : Bool) → (c == x) ≡ b → b ≡ false
-    by_test true is = absurd (other (sym (number_is c x is)))
-    by_test false is = refl
+not-same c x other = ne_eqb c x (λ e. other (sym e))
 
 -- a copy that makes a fit desk has its place alone
 pub copy-welcome : (k : Facts) (d : Desk) (c : ℕ) (s : CopyState) → c < k.copies → IsFit k (put d (CopyCell c) (CopyHas s)) →
@@ -80,7 +76,7 @@ hold-welcome k d t p (Some h) fit =
     (fit.named t p h (hold-here t p (Some h) (d.hold t p)), λ q g has same. by_test q g has same (p == q) refl)
   where
     by_test : (q : ℕ) (g : Hold) → d.hold t q ≡ Some g → g.stamp ≡ h.stamp → (b : Bool) → (p == q) ≡ b → q ≡ p
-    by_test q g has same true is = sym (number_is p q is)
+    by_test q g has same true is = sym (eqb-true p q is)
     by_test q g has same false is =
         fit.stamps t q p g h (hold-there t p q (Some h) (d.hold t q) is ∙ has) (hold-here t p (Some h) (d.hold t p)) same
 
@@ -145,5 +141,19 @@ pub drop_at : (cs : List Change) (i : ℕ) (c : Change) → i < length cs → c 
 drop_at cs i c below is = drop_from cs i c below ∙ ap (λ (x : Change). x ∷ drop (i + 1) cs) (sym is)
 
 -- values that the test tells apart
-pub are-two : (v w : Value) (r : Bool) → r ≡ same_value v w → r ≡ false → v ≢ w
-are-two v w r test is = differs v w (sym test ∙ is)
+pub are-two : TestsAreExact → (v w : Value) (r : Bool) → r ≡ same_value v w → r ≡ false → v ≢ w
+are-two exact v w r test is same = let yes : r ≡ true = test ∙ (exact.values v w).1 same in cc
+
+-- a test of numbers, from the other side
+turned : (m n : ℕ) → (m == n) ≡ (n == m)
+turned m n = elim (cases_Bool (n == m)) [
+  | inl is ↦ eq-eqb m n (sym (eqb-true n m is)) ∙ sym is
+  | inr other ↦ ne_eqb m n (λ e. eqb-false n m other (sym e)) ∙ sym other
+]
+
+-- cells that are two, whichever comes first
+pub two-cells : (x y : Cell) → same_cell x y ≡ false → same_cell y x ≡ false
+two-cells (CopyCell c) (CopyCell x) two = turned x c ∙ two
+two-cells (CopyCell c) (HoldCell u q) two = refl
+two-cells (HoldCell t p) (CopyCell x) two = refl
+two-cells (HoldCell t p) (HoldCell u q) two = (λ i. turned u t i && turned q p i) ∙ two

@@ -5,3 +5,4 @@ pub mod Cells
 pub mod DoneValue
 pub mod Telling
 pub mod Rooms
+pub mod Laws

@@ -22,6 +22,7 @@ use crate::desk::Desk;
 use crate::done::Done;
 use crate::holding::Wishes;
 use crate::inquiry::Inquiry;
+use crate::laws::laws;
 use crate::lending::Lending;
 use crate::refused::Refused;
 use hd_footprint::{Count, Meter};
@@ -61,6 +62,7 @@ impl<A: Allocator + Copy> Desk<A> {
         ensures written { IfOk result (λ done. meter.new
             ≡ written (length done.changes) (add meter.old Step)) }
     {
+        laws();
         meter.add(Count::Step);
         let mut inquiry = Inquiry::new(self);
         let accepted = match inquiry.follow(number, command) {

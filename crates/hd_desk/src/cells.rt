@@ -18,7 +18,7 @@ ghost use Rattle.hd_desk.specs.Rooms.{fewer};
 use crate::desk::Desk;
 use hd_footprint::{Count, Meter};
 use hd_inverse::Cells;
-use hd_rules::{Cell, Change, Value};
+use hd_rules::{Cell, Change, Value, tests_are_exact};
 use std::alloc::{AllocError, Allocator};
 
 impl<A: Allocator + Copy> Cells for Desk<A> {
@@ -44,6 +44,7 @@ impl<A: Allocator + Copy> Cells for Desk<A> {
     }
 
     fn put(&mut self, cell: Cell, value: Value) {
+        tests_are_exact();
         if !is_same(&self.get(cell), &value) {
             self.write(&cell, &value);
         }

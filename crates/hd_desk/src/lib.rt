@@ -14,6 +14,7 @@ mod done;
 mod facts;
 mod holding;
 mod inquiry;
+mod laws;
 mod lending;
 mod offline;
 mod refused;

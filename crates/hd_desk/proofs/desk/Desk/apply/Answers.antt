@@ -23,7 +23,8 @@ returns-in-Err-clause-later g c = λ n above.
 pub ready-requires : goal.ready-requires
 ready-requires g c =
     let p =
-    planned c.args.self.now c.args.number c.args.command.now c.new-inquiry.result c.follow.result c.follow.new.self.asked c.in-Ok.accepted
+    planned c.laws.ensures c.args.self.now c.args.number c.args.command.now c.new-inquiry.result c.follow.result
+    c.follow.new.self.asked c.in-Ok.accepted
     (record { changes = c.accepted.inside.changes; reply = c.accepted.inside.reply })
     c.new-inquiry.ensures.start c.follow.ensures.ends c.in-Ok.is c.accepted.view_is c.new-inquiry.ensures.kept c.requires.known
     c.requires.sound in
@@ -32,7 +33,8 @@ ready-requires g c =
 pub make-requires-clause-known : goal.make-requires-clause-known
 make-requires-clause-known g c =
     let p =
-    planned c.args.self.now c.args.number c.args.command.now c.new-inquiry.result c.follow.result c.follow.new.self.asked c.in-Ok.accepted
+    planned c.laws.ensures c.args.self.now c.args.number c.args.command.now c.new-inquiry.result c.follow.result
+    c.follow.new.self.asked c.in-Ok.accepted
     (record { changes = c.accepted.inside.changes; reply = c.accepted.inside.reply })
     c.new-inquiry.ensures.start c.follow.ensures.ends c.in-Ok.is c.accepted.view_is c.new-inquiry.ensures.kept c.requires.known
     c.requires.sound in
@@ -42,7 +44,8 @@ make-requires-clause-known g c =
 pub make-requires-clause-apart : goal.make-requires-clause-apart
 make-requires-clause-apart g c =
     let p =
-    planned c.args.self.now c.args.number c.args.command.now c.new-inquiry.result c.follow.result c.follow.new.self.asked c.in-Ok.accepted
+    planned c.laws.ensures c.args.self.now c.args.number c.args.command.now c.new-inquiry.result c.follow.result
+    c.follow.new.self.asked c.in-Ok.accepted
     (record { changes = c.accepted.inside.changes; reply = c.accepted.inside.reply })
     c.new-inquiry.ensures.start c.follow.ensures.ends c.in-Ok.is c.accepted.view_is c.new-inquiry.ensures.kept c.requires.known
     c.requires.sound in
@@ -52,7 +55,8 @@ make-requires-clause-apart g c =
 pub make-requires-clause-fit : goal.make-requires-clause-fit
 make-requires-clause-fit g c =
     let p =
-    planned c.args.self.now c.args.number c.args.command.now c.new-inquiry.result c.follow.result c.follow.new.self.asked c.in-Ok.accepted
+    planned c.laws.ensures c.args.self.now c.args.number c.args.command.now c.new-inquiry.result c.follow.result
+    c.follow.new.self.asked c.in-Ok.accepted
     (record { changes = c.accepted.inside.changes; reply = c.accepted.inside.reply })
     c.new-inquiry.ensures.start c.follow.ensures.ends c.in-Ok.is c.accepted.view_is c.new-inquiry.ensures.kept c.requires.known
     c.requires.sound in
@@ -62,7 +66,8 @@ make-requires-clause-fit g c =
 pub returns-clause-outcome : goal.returns-clause-outcome
 returns-clause-outcome g c =
     let p =
-    planned c.args.self.now c.args.number c.args.command.now c.new-inquiry.result c.follow.result c.follow.new.self.asked c.in-Ok.accepted
+    planned c.laws.ensures c.args.self.now c.args.number c.args.command.now c.new-inquiry.result c.follow.result
+    c.follow.new.self.asked c.in-Ok.accepted
     (record { changes = c.accepted.inside.changes; reply = c.accepted.inside.reply })
     c.new-inquiry.ensures.start c.follow.ensures.ends c.in-Ok.is c.accepted.view_is c.new-inquiry.ensures.kept c.requires.known
     c.requires.sound in
@@ -71,7 +76,8 @@ returns-clause-outcome g c =
 pub returns-clause-findings : goal.returns-clause-findings
 returns-clause-findings g c =
     let p =
-    planned c.args.self.now c.args.number c.args.command.now c.new-inquiry.result c.follow.result c.follow.new.self.asked c.in-Ok.accepted
+    planned c.laws.ensures c.args.self.now c.args.number c.args.command.now c.new-inquiry.result c.follow.result
+    c.follow.new.self.asked c.in-Ok.accepted
     (record { changes = c.accepted.inside.changes; reply = c.accepted.inside.reply })
     c.new-inquiry.ensures.start c.follow.ensures.ends c.in-Ok.is c.accepted.view_is c.new-inquiry.ensures.kept c.requires.known
     c.requires.sound in
@@ -81,7 +87,8 @@ returns-clause-findings g c =
 pub returns-clause-sound : goal.returns-clause-sound
 returns-clause-sound g c =
     let p =
-    planned c.args.self.now c.args.number c.args.command.now c.new-inquiry.result c.follow.result c.follow.new.self.asked c.in-Ok.accepted
+    planned c.laws.ensures c.args.self.now c.args.number c.args.command.now c.new-inquiry.result c.follow.result
+    c.follow.new.self.asked c.in-Ok.accepted
     (record { changes = c.accepted.inside.changes; reply = c.accepted.inside.reply })
     c.new-inquiry.ensures.start c.follow.ensures.ends c.in-Ok.is c.accepted.view_is c.new-inquiry.ensures.kept c.requires.known
     c.requires.sound in
@@ -105,7 +112,8 @@ returns-then-is_err-clause-later g c = λ n above.
 pub returns-then-is_err-clause-full : goal.returns-then-is_err-clause-full
 returns-then-is_err-clause-full g c =
     let p =
-    planned c.args.self.now c.args.number c.args.command.now c.new-inquiry.result c.follow.result c.follow.new.self.asked c.in-Ok.accepted
+    planned c.laws.ensures c.args.self.now c.args.number c.args.command.now c.new-inquiry.result c.follow.result
+    c.follow.new.self.asked c.in-Ok.accepted
     (record { changes = c.accepted.inside.changes; reply = c.accepted.inside.reply })
     c.new-inquiry.ensures.start c.follow.ensures.ends c.in-Ok.is c.accepted.view_is c.new-inquiry.ensures.kept c.requires.known
     c.requires.sound in
@@ -115,11 +123,12 @@ returns-then-is_err-clause-full g c =
 pub returns-clause-back : goal.returns-clause-back
 returns-clause-back g c =
     let p =
-    planned c.args.self.now c.args.number c.args.command.now c.new-inquiry.result c.follow.result c.follow.new.self.asked c.in-Ok.accepted
+    planned c.laws.ensures c.args.self.now c.args.number c.args.command.now c.new-inquiry.result c.follow.result
+    c.follow.new.self.asked c.in-Ok.accepted
     (record { changes = c.accepted.inside.changes; reply = c.accepted.inside.reply })
     c.new-inquiry.ensures.start c.follow.ensures.ends c.in-Ok.is c.accepted.view_is c.new-inquiry.ensures.kept c.requires.known
     c.requires.sound in
-    taken-back c.args.self.now c.make.new.self c.args.number c.args.command.now
+    taken-back c.laws.ensures c.args.self.now c.make.new.self c.args.number c.args.command.now
     (record { changes = c.accepted.inside.changes; reply = c.accepted.inside.reply })
     c.requires.sound p.outcome p.can.known (c.make.ensures.contents ∙ c.ready.ensures.contents)
     (c.make.ensures.desk ∙ (λ i. after (c.changes-3.ensures.changes i) (c.ready.ensures.desk i)))
