@@ -13,7 +13,6 @@ use Rattle.hd_rules.specs.Run.{outcome_of, run, Rising, next_number}
 use Rattle.hd_rules.specs.Depends.{first_dependent}
 use Rattle.hd_rules.specs.Target.{Split, target}
 use Rattle.hd_rules.specs.Turns.{Kept, answered_cancel, answered_target}
-use Rattle.hd_rules.proofs.Splits.{rising_at}
 use Rattle.hd_catalogue.specs.Contents.{Contents, facts_of}
 use Rattle.hd_footprint.specs.Meter.{Counts}
 use Rattle.hd_inverse.specs.Work.{written}
@@ -27,7 +26,7 @@ use Rattle.hd_journal.specs.Laws.{Laws}
 use Rattle.hd_journal.specs.Running.{Running, IsRunning, MayRun, Withdrawn, state_at}
 use Rattle.hd_journal.specs.Stored.{AreStored}
 use Rattle.hd_journal.specs.Working.{IsCancellation, IsDecidedSo, IsDecision, cells_of}
-use Rattle.hd_journal.proofs.Runs.{may_run_without}
+use Rattle.hd_journal.proofs.Runs.{may_run_without, rising_at}
 use Rattle.hd_journal.proofs.Stored.{Parts, changes_there, done_of_record, first_is, parts_at, stored_of}
 use Rattle.hd_journal.proofs.Targets.{Aimed, aimed}
 use Rattle.hd_journal.proofs.Working.{Compares, cells_are, compares, in_words, takes_back}

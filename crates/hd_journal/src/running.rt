@@ -18,7 +18,9 @@ use crate::laws::laws;
 use hd_desk::{Desk, Done, Meter, Refused};
 use hd_inverse::undo;
 use hd_records::{RecordRef, Records, StoredRecord, Survivors};
-use hd_rules::{Asked, Cancel, Command, CopyNo, Refusal, Survivor, TerminalNo, TurnReply};
+use hd_rules::{
+    Asked, Cancel, Command, CopyNo, Refusal, Survivor, TerminalNo, TurnReply, every_desk_is_sound,
+};
 use std::alloc::{AllocError, Allocator};
 use std::marker::Model;
 
@@ -154,6 +156,7 @@ impl<A: Allocator + Copy> Running<A> {
         ensures err { OnErr result (self.new ≡ self.old) }
     {
         laws();
+        every_desk_is_sound();
         self.records.ready(self.desk.catalogue(), command)?;
         let number = self.records.last() + 1;
         match self.desk.apply(number, command, meter) {

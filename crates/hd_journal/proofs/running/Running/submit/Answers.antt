@@ -56,8 +56,8 @@ apply-requires-clause-sound g c =
     let k = facts_of c.self.inside.desk.copies.contents in
     let same : c.last-number.result ≡ c.self.inside.records.last = c.last-number.ensures ∙ c.in_ok-ready.ensures.last in
     subst (λ (n : ℕ). Sound k (n + 1) (desk_of c.self.inside.desk)) (sym same)
-    (sound_below k (survivors_of c.self.inside.records.records) (c.self.inside.records.last + 1) (desk_of c.self.inside.desk)
-    c.self.invariant.0.desk c.self.invariant.0.may_run.rising c.self.invariant.0.last)
+    (sound_below c.every_desk_is_sound.ensures k (survivors_of c.self.inside.records.records) (c.self.inside.records.last + 1)
+    (desk_of c.self.inside.desk) c.self.invariant.0.desk c.self.invariant.0.may_run.rising c.self.invariant.0.last)
 
 pub push-requires-clause-number : goal.push-requires-clause-number
 push-requires-clause-number g c =
