@@ -16,7 +16,9 @@ ghost use Rattle.hd_copies.specs.Standing.{stands_ready};
 
 use crate::indexes::Indexes;
 use hd_catalogue::Catalogue;
-use hd_rules::{BranchNo, CopyNo, CopyState, HoldKind, PatronNo, TitleNo, the_least_free_place_is_one};
+use hd_rules::{
+    BranchNo, CopyNo, CopyState, HoldKind, PatronNo, TitleNo, the_least_free_place_is_one,
+};
 use std::alloc::{AllocError, Allocator, Global};
 use std::marker::Model;
 use std::sync::Arc;
