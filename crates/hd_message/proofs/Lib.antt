@@ -1,3 +1,4 @@
+pub mod StepLemmas
 pub mod DueLemmas
 pub mod LengthLemmas
 pub mod RepeatedLemmas

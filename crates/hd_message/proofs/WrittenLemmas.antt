@@ -6,10 +6,10 @@ use Rattle.std.specs.Option.{option_map, option_map_or}
 use Rattle.std.specs.Str.{bytes_eq}
 use Rattle.hd_field.specs.Fields.{Occurrence, fields_at, has_code, value_end, width_of}
 use Rattle.hd_field.specs.declared.occurrences.TheConstants.{BAR}
-use Rattle.hd_field.proofs.FieldLemmas.{fields_at-bar, fields_at-field, is_bar, value_end_is}
 use Rattle.hd_message.specs.Fields.{field_text}
 use Rattle.hd_message.specs.Grammar.{AreWritable, Written, fields_text, has_bar, value_of}
 use Rattle.hd_message.specs.Values.{first_value}
+use Rattle.hd_message.proofs.StepLemmas.{fields_at-bar, fields_at-field, is_bar, value_end_is}
 
 -- the value of the first field with an identifier, of the bytes that stand at a place
 abbrev value_at : List ℕ → ℕ → ℕ → List ℕ → Option (List ℕ)

@@ -3,12 +3,13 @@ ghost use Rattle.std.specs.Prelude.{◌≡◌};
 ghost use Rattle.std.specs.Option.{option_copied, option_map};
 ghost use Rattle.hd_message.specs.Due.{due_text};
 
-use hd_date::Day;
+use hd_date::{Day, days_are_dates};
 
 /// A day as it is printed.
 pub(crate) fn printed(day: &Day) -> [u8; 18]
     ensures { result ≡ due_text day.now }
 {
+    days_are_dates();
     day.print_due()
 }
 
