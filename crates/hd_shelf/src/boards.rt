@@ -10,8 +10,8 @@ pub(crate) const SPAN: usize = 128;
 
 /// How many places of each board of a hold shelf are free, from the first board on.
 ///
-/// A bay is so many boards in a row. How many of its boards have a free place is kept too, so that the first of
-/// all boards with one is found by a walk of the bays and of the boards of one bay.
+/// A bay is so many boards in a row. How many of its boards have a free place is kept too, so that the first
+/// of all boards with one is found by a walk of the bays and of the boards of one bay.
 #[derive(Drop)]
 pub(crate) struct Boards<A: Allocator = Global> {
     /// How many places of each board are free.

@@ -13,8 +13,8 @@ use std::marker::Model;
 /// The copies on the hold shelf of a branch by place. Places count from 1.
 ///
 /// Only `ready` takes memory. The free places are counted by boards of 128 places and by bays of 128 boards:
-/// `put` and `take` change one or two counts, and `least_free` walks the bays, the boards of one and the places
-/// of one.
+/// `put` and `take` change one or two counts, and `least_free` walks the bays, the boards of one bay and the
+/// places of one board.
 #[derive(Drop)]
 pub struct Places<A: Allocator = Global> {
     table: Table<CopyNo, A>,
@@ -131,7 +131,7 @@ impl<A: Allocator> Places<A> {
     fn free_after(&self, others: usize) -> usize
         ensures from_one { 1 ≤ result }
         ensures free { map.get self.now.copies result ≡ None }
-        ensures taken { (place : ℕ) → others < place → place < result → IsSome (map.get self.now.copies place) }
+        ensures taken { (p : ℕ) → others < p → p < result → IsSome (map.get self.now.copies p) }
         ensures within { result ≤ self.now.room + 1 }
     {
         let room = self.room();
