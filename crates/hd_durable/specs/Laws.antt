@@ -13,7 +13,8 @@ OtherTurnsChangeNothing =
 
 -- all that a journal's turns come to
 abbrev pub ChangingTurnsLeaveTheSame : Type 0
-ChangingTurnsLeaveTheSame = (k : Facts) (turns : List Turn) → state_after k (changing k turns) ≡ state_after k turns
+ChangingTurnsLeaveTheSame =
+    (k : Facts) (turns : List Turn) → state_after k (changing k turns) ≡ state_after k turns
 
 -- without the others
 abbrev pub ChangingTurnsAreLegal : Type 0

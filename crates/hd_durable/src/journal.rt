@@ -16,8 +16,8 @@ use std::marker::Model;
 
 /// A journal each of whose changing turns is committed to a table before it is answered.
 ///
-/// Whatever is asked, a stop at any moment leaves the changing turns of all that were answered, or of these and
-/// one more that nobody was answered (`left` of each call). Where a turn can't be committed the journal shuts
+/// Whatever is asked, a stop at any moment leaves the changing turns of all that were answered, or of these
+/// and one more that nobody was answered (`left` of `take`). Where a turn can't be committed the journal shuts
 /// for good, and answers nothing more.
 #[derive(Drop)]
 pub struct DurableJournal<T: TurnTable, A: Allocator = Global> {
@@ -40,8 +40,8 @@ impl<T: TurnTable, A: Allocator> Model for DurableJournal<T, A> {
       table = d.table;
     } };
 
-    ghost invariant = { λ d.
-        IsDurable (T.holds d.table) (T.leaves d.table) d.journal.contents d.journal.turns d.answered d.is_shut };
+    ghost invariant = { λ d. IsDurable (T.holds d.table) (T.leaves d.table)
+        d.journal.contents d.journal.turns d.answered d.is_shut };
 }
 
 impl<T: TurnTable, A: Allocator + Copy> DurableJournal<T, A> {

@@ -35,8 +35,8 @@ pub fn a_turn_more_is_kept_where_it_changes()
     ensures { ATurnMoreIsKeptWhereItChanges }
 {}
 
-/// What a stop leaves is a legal journal, which comes to the state of the turns that were answered, or of these
-/// and one more that nobody was answered.
+/// What a stop leaves is a legal journal, which comes to the state of the turns that were answered, or of
+/// these and one more that nobody was answered.
 pub fn a_stop_leaves_a_legal_journal()
     ensures { AStopLeavesALegalJournal }
 {}

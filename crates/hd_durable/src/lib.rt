@@ -1,5 +1,5 @@
-//! A journal whose changing turns are committed to a table before they are answered, so that a stop, whenever it
-//! comes, leaves every turn that a terminal was answered.
+//! A journal whose changing turns are committed to a table before they are answered, so that a stop, whenever
+//! it comes, leaves every turn that a terminal was answered.
 //!
 //! A turn changes something where it is no query and its message wasn't answered already; the laws here say
 //! that the changing turns of a journal are all that has to be kept of it. What the table is, a trait says.

@@ -29,7 +29,7 @@ fn patron(number: u32) -> PatronNo
     PatronNo::new(number).unwrap()
 }
 
-/// A queue of two holds of any copy: of patron 1 by command 4, and of patron 2 by command 7, which is put first.
+/// A queue of two holds of any copy: of patron 1 by command 4, and of patron 2 by command 7, put first.
 fn two_holds<A: Allocator + Copy>(alloc: A) -> Result<Queue<A>, AllocError> {
     let mut queue = Queue::new(alloc);
     queue.ready(2)?;
