@@ -1,0 +1,8 @@
+use Rattle.std.proofs.Common.{sym}
+use Rattle.hd_catalogue.specs.Contents.{facts_of}
+use Rattle.hd_turn_row.proofs.PartLemmas.{parts_known}
+use Rattle.hd_turn_row.proofs.row.row_of.Goals as goal
+
+pub columns_of-requires-clause-known : goal.columns_of-requires-clause-known
+columns_of-requires-clause-known g c =
+    parts_known (facts_of c.args.catalogue.now) c.args.ask.now.asked c.in_ok-parts.parts (sym c.in_ok-parts.ensures) c.requires.known.1

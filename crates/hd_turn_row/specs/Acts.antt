@@ -1,0 +1,50 @@
+-- The words of acts, and of what a hold admits.
+use Rattle.std.specs.Prelude.{ℕ, Bool, List, [], ◌∷◌, Option, codes, find}
+use Rattle.std.specs.Str.{bytes_eq}
+use Rattle.hd_turn_row.specs.declared.act.Act.{Act}
+use Rattle.hd_turn_row.specs.declared.act.Act.TheVariants as acts
+use Rattle.hd_turn_row.specs.declared.act.Admits.{Admits}
+use Rattle.hd_turn_row.specs.declared.act.Admits.TheVariants as admitted
+
+-- the word of each act
+abbrev pub act_word : Act → List ℕ
+act_word acts.Checkout = codes "checkout"
+act_word acts.CheckoutOrRenewal = codes "checkout or renewal"
+act_word acts.OffLine = codes "checkout off line"
+act_word acts.Checkin = codes "checkin"
+act_word acts.Add = codes "hold"
+act_word acts.Delete = codes "delete hold"
+act_word acts.Change = codes "change hold"
+act_word acts.Renew = codes "renewal"
+act_word acts.CancelLoan = codes "cancel checkout"
+act_word acts.CancelReturn = codes "cancel checkin"
+act_word acts.CancelRenewal = codes "cancel renewal"
+act_word acts.CancelAdding = codes "cancel hold"
+act_word acts.CancelDeletion = codes "cancel delete hold"
+act_word acts.CancelChanging = codes "cancel change hold"
+
+-- each act once
+abbrev pub all_acts : List Act
+all_acts =
+    acts.Checkout ∷ acts.CheckoutOrRenewal ∷ acts.OffLine ∷ acts.Checkin
+    ∷ acts.Add ∷ acts.Delete ∷ acts.Change
+    ∷ acts.Renew ∷ acts.CancelLoan ∷ acts.CancelReturn ∷ acts.CancelRenewal ∷ acts.CancelAdding
+    ∷ acts.CancelDeletion ∷ acts.CancelChanging ∷ []
+
+-- the act of a word, where it is one's
+unfoldable pub act_named : List ℕ → Option Act
+act_named word = find (λ act. bytes_eq (act_word act) word) all_acts
+
+-- the word of what a hold admits
+abbrev pub admits_word : Admits → List ℕ
+admits_word admitted.Any = codes "any"
+admits_word admitted.Copy = codes "copy"
+admits_word admitted.Branch = codes "branch"
+
+-- each of these once
+abbrev pub all_admits : List Admits
+all_admits = admitted.Any ∷ admitted.Copy ∷ admitted.Branch ∷ []
+
+-- what a word says that a hold admits
+unfoldable pub admits_named : List ℕ → Option Admits
+admits_named word = find (λ admits. bytes_eq (admits_word admits) word) all_admits

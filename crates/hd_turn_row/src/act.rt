@@ -1,0 +1,141 @@
+//! The words of acts, and of what a hold admits.
+ghost use Rattle.std.specs.Prelude.{◌≡◌, IfNone, IfSome};
+ghost use Rattle.hd_turn_row.specs.Acts.{act_named, act_word, admits_named, admits_word};
+ghost use Rattle.hd_turn_row.specs.Columns.{SaysAct, SaysAdmits};
+
+/// What a terminal asks, without what that names.
+#[derive(Clone, Copy, PartialEq, Eq, Debug)]
+pub(crate) enum Act {
+    /// A checkout that may not renew.
+    Checkout,
+    /// A checkout that renews the loan where the patron has the copy.
+    CheckoutOrRenewal,
+    /// A loan that took place while the terminal was off line.
+    OffLine,
+    /// A return.
+    Checkin,
+    /// The adding of a hold.
+    Add,
+    /// The deletion of a hold.
+    Delete,
+    /// The change of a hold.
+    Change,
+    /// A renewal.
+    Renew,
+    /// The cancellation of a checkout.
+    CancelLoan,
+    /// The cancellation of a return.
+    CancelReturn,
+    /// The cancellation of a renewal.
+    CancelRenewal,
+    /// The cancellation of an adding.
+    CancelAdding,
+    /// The cancellation of a deletion.
+    CancelDeletion,
+    /// The cancellation of a change.
+    CancelChanging,
+}
+
+/// Every act once.
+const ACTS: [Act; 14] = [
+    Act::Checkout,
+    Act::CheckoutOrRenewal,
+    Act::OffLine,
+    Act::Checkin,
+    Act::Add,
+    Act::Delete,
+    Act::Change,
+    Act::Renew,
+    Act::CancelLoan,
+    Act::CancelReturn,
+    Act::CancelRenewal,
+    Act::CancelAdding,
+    Act::CancelDeletion,
+    Act::CancelChanging,
+];
+
+impl Act {
+    /// The word that stands for it in the column `act`.
+    pub(crate) fn word(self) -> &'static [u8]
+        ensures { result.now ≡ act_word self }
+    {
+        match self {
+            Act::Checkout => b"checkout",
+            Act::CheckoutOrRenewal => b"checkout or renewal",
+            Act::OffLine => b"checkout off line",
+            Act::Checkin => b"checkin",
+            Act::Add => b"hold",
+            Act::Delete => b"delete hold",
+            Act::Change => b"change hold",
+            Act::Renew => b"renewal",
+            Act::CancelLoan => b"cancel checkout",
+            Act::CancelReturn => b"cancel checkin",
+            Act::CancelRenewal => b"cancel renewal",
+            Act::CancelAdding => b"cancel hold",
+            Act::CancelDeletion => b"cancel delete hold",
+            Act::CancelChanging => b"cancel change hold",
+        }
+    }
+
+    /// The act of a word, or `None` where it is no act's.
+    pub(crate) fn said(word: &[u8]) -> Option<Act>
+        ensures said { IfSome result (λ act. SaysAct act word.now) }
+        ensures none { IfNone result ((act : Act) → ¬ SaysAct act word.now) }
+    {
+        Act::named(word)
+    }
+
+    /// The first act that has the word.
+    #[tactic(auto, unfolding(crate::specs::Acts::act_named))]
+    fn named(word: &[u8]) -> Option<Act>
+        ensures { result ≡ act_named word.now }
+    {
+        ACTS.iter().copied().find(|act| act.word() == word)
+    }
+}
+
+/// What a hold admits, without the copy.
+#[derive(Clone, Copy, PartialEq, Eq, Debug)]
+pub(crate) enum Admits {
+    /// Any copy of the title.
+    Any,
+    /// One copy, which the column `copy` names.
+    Copy,
+    /// The copies whose home is the hold's pickup branch.
+    Branch,
+}
+
+/// Each of these once.
+const ALL_ADMITS: [Admits; 3] = [Admits::Any, Admits::Copy, Admits::Branch];
+
+impl Admits {
+    /// The word that stands for it in the column `admits`.
+    pub(crate) fn word(self) -> &'static [u8]
+        ensures { result.now ≡ admits_word self }
+    {
+        match self {
+            Admits::Any => b"any",
+            Admits::Copy => b"copy",
+            Admits::Branch => b"branch",
+        }
+    }
+
+    /// What a word says that a hold admits, or `None` where it says nothing.
+    pub(crate) fn said(word: &[u8]) -> Option<Admits>
+        ensures said { IfSome result (λ admits. SaysAdmits admits word.now) }
+        ensures none { IfNone result ((admits : Admits) → ¬ SaysAdmits admits word.now) }
+    {
+        Admits::named(word)
+    }
+
+    /// The first of these that has the word.
+    #[tactic(auto, unfolding(crate::specs::Acts::admits_named))]
+    fn named(word: &[u8]) -> Option<Admits>
+        ensures { result ≡ admits_named word.now }
+    {
+        ALL_ADMITS
+            .iter()
+            .copied()
+            .find(|admits| admits.word() == word)
+    }
+}

@@ -1,0 +1,39 @@
+//! Laws of rows.
+ghost use Rattle.std.specs.Prelude.{◌≡◌, ℕ, List};
+ghost use Rattle.hd_catalogue.specs.Contents.{Contents, facts_of};
+ghost use Rattle.hd_rules.specs.Turns.{Message};
+ghost use Rattle.hd_turn_row.specs.Days.{IsDayText};
+ghost use Rattle.hd_turn_row.specs.Faults.{IsFirstFault};
+ghost use Rattle.hd_turn_row.specs.Grown.{OnlyGrew};
+ghost use Rattle.hd_turn_row.specs.Rows.{IsKnownMessage, IsRowOf, RowTexts};
+
+use crate::fault::RowFault;
+use hd_date::{prints_show_their_stamp, texts_show_one_stamp};
+
+/// A text is that of one day at most.
+pub(crate) fn a_text_is_of_one_day()
+    ensures { (text : List ℕ) (day other : ℕ) → IsDayText day text → IsDayText other text → day ≡ other }
+{
+    prints_show_their_stamp();
+    texts_show_one_stamp();
+}
+
+/// A row is that of one message of one seat at most, and of none where it has a fault. What it asks is known
+/// to the catalogue.
+pub fn a_row_is_of_one_message()
+    ensures one { (k : Contents) (seat seat' : ℕ) (message message' : Message) (row : RowTexts)
+        → IsRowOf k seat message row → IsRowOf k seat' message' row
+        → (seat ≡ seat') × (message ≡ message') }
+    ensures none { (k : Contents) (seat : ℕ) (message : Message) (row : RowTexts) (fault : RowFault)
+        → IsFirstFault k row.terminal row.asked fault → ¬ IsRowOf k seat message row }
+    ensures known { (k : Contents) (seat : ℕ) (message : Message) (row : RowTexts)
+        → IsRowOf k seat message row → IsKnownMessage (facts_of k) message }
+{
+    a_text_is_of_one_day();
+}
+
+/// A row asks the same of a catalogue that only grew.
+pub fn a_grown_catalogue_reads_the_same()
+    ensures { (old new : Contents) (seat : ℕ) (message : Message) (row : RowTexts) → OnlyGrew old new
+        → IsRowOf old seat message row → IsRowOf new seat message row }
+{}
