@@ -6,7 +6,6 @@ use Rattle.hd_date.specs.Stamps.{Stamp}
 use Rattle.hd_rules.specs.Journal.{Turn}
 use Rattle.hd_catalogue.specs.Contents.{Contents}
 use Rattle.hd_field.specs.Streams.{Begun, after, after_return, lines_in}
-use Rattle.hd_field.proofs.Cutting.{after_append, lines_append, nothing_heard}
 use Rattle.hd_exchange.specs.declared.fault.OfficeFault.{OfficeFault}
 use Rattle.hd_exchange.specs.declared.fault.OfficeFault.TheVariants as fault
 use Rattle.hd_session.specs.declared.ended.Ended.{Ended}
@@ -31,13 +30,15 @@ short_where_open false is = refl
 abbrev pub IsSettled : Hearing → Type 0
 IsSettled h = h.ended ≡ None → h.begun.too_long ≡ false
 
--- the lines of two pieces
-pub lines_of_two : (b : Begun) (first second : List ℕ) → lines_in b (first ++ second) ≡ lines_in b first ++ lines_in (after b first) second
-lines_of_two b first second = lines_append b.fresh b.text b.too_long first second
+-- the lines of two pieces, and what has come of the next line after them
+pub record Cuts : Type 0 where
+  pub lines : (b : Begun) (first second : List ℕ) → lines_in b (first ++ second) ≡ lines_in b first ++ lines_in (after b first) second
+  pub rest : (b : Begun) (first second : List ℕ) → after b (first ++ second) ≡ after (after b first) second
 
--- and what has come of the next line after them
-pub after_two : (b : Begun) (first second : List ℕ) → after b (first ++ second) ≡ after (after b first) second
-after_two b first second = after_append b.fresh b.text b.too_long first second
+-- nothing is heard of a stream whose line is too long
+nothing_heard : (b : Begun) (bytes : List ℕ) → b.too_long ≡ true → (lines_in b bytes ≡ []) × (b ≡ after b bytes)
+nothing_heard b [] long = (refl, refl)
+nothing_heard b (byte ∷ bytes) long = rw long (refl, refl)
 
 -- the causes of ends
 module _ (k : Contents) (faults : OfficeFault → Type 0) where
@@ -55,19 +56,19 @@ module _ (k : Contents) (faults : OfficeFault → Type 0) where
   cause_of room s earlier line fault.Memory given asks = inl (given, asks)
   cause_of room s earlier line fault.Estranged given asks = (given, asks)
 
-module _ (k : Contents) (seat : ℕ) (faults : OfficeFault → Type 0) (now : Stamp) where
+module _ (cuts : Cuts) (k : Contents) (seat : ℕ) (faults : OfficeFault → Type 0) (now : Stamp) where
   -- a piece that is heard whole, after another
   pub all_after_all : (first second : List ℕ) (made made' : List Turn) (h between h' : Hearing) (text text' : List ℕ)
       → HearsAll k seat now h first made between text → HearsAll k seat now between second made' h' text'
       → HearsAll k seat now h (first ++ second) (made ++ made') h' (text ++ text')
   all_after_all first second made made' h between h' text text' a b =
       let lines : lines_in h.begun (first ++ second) ≡ lines_in h.begun first ++ lines_in between.begun second =
-      lines_of_two h.begun first second ∙ ap (λ (x : Begun). lines_in h.begun first ++ lines_in x second) (sym a.begun) in
+      cuts.lines h.begun first second ∙ ap (λ (x : Begun). lines_in h.begun first ++ lines_in x second) (sym a.begun) in
       record {
         heard = subst (λ (ls : List (List ℕ)). AreHeard k seat now ls h.standing (made ++ made') h'.standing (text ++ text')) (sym lines)
             (heard_append k seat now (lines_in h.begun first) (lines_in between.begun second) h.standing between.standing h'.standing
             made made' text text' a.heard b.heard);
-        begun = b.begun ∙ (ap (λ (x : Begun). after x second) a.begun ∙ sym (after_two h.begun first second));
+        begun = b.begun ∙ (ap (λ (x : Begun). after x second) a.begun ∙ sym (cuts.rest h.begun first second));
         ended = b.ended;
       }
 
@@ -78,7 +79,7 @@ module _ (k : Contents) (seat : ℕ) (faults : OfficeFault → Type 0) (now : St
       → EndsAtLine k seat faults now room h (first ++ second) (made ++ made') h' (text ++ text')
   end_after_all room left first second made made' h between h' text text' fits a b =
       let lines : lines_in h.begun (first ++ second) ≡ lines_in h.begun first ++ lines_in between.begun second =
-      lines_of_two h.begun first second ∙ ap (λ (x : Begun). lines_in h.begun first ++ lines_in x second) (sym a.begun) in
+      cuts.lines h.begun first second ∙ ap (λ (x : Begun). lines_in h.begun first ++ lines_in x second) (sym a.begun) in
       record {
         before = lines_in h.begun first ++ b.before;
         line = b.line;
@@ -101,11 +102,11 @@ module _ (k : Contents) (seat : ℕ) (faults : OfficeFault → Type 0) (now : St
   long_then_more first second made h between text long a =
       let dead = nothing_heard between.begun second long in
       let lines : lines_in h.begun (first ++ second) ≡ lines_in h.begun first =
-      lines_of_two h.begun first second ∙ (ap (λ (x : Begun). lines_in h.begun first ++ lines_in x second) (sym a.begun)
+      cuts.lines h.begun first second ∙ (ap (λ (x : Begun). lines_in h.begun first ++ lines_in x second) (sym a.begun)
       ∙ (ap (λ (ls : List (List ℕ)). lines_in h.begun first ++ ls) dead.0 ∙ append-nil (lines_in h.begun first))) in
       record {
         heard = subst (λ (ls : List (List ℕ)). AreHeard k seat now ls h.standing made between.standing text) (sym lines) a.heard;
-        begun = dead.1 ∙ (ap (λ (x : Begun). after x second) a.begun ∙ sym (after_two h.begun first second));
+        begun = dead.1 ∙ (ap (λ (x : Begun). after x second) a.begun ∙ sym (cuts.rest h.begun first second));
         ended = a.ended;
       }
 
@@ -116,7 +117,7 @@ module _ (k : Contents) (seat : ℕ) (faults : OfficeFault → Type 0) (now : St
     before = a.before;
     line = a.line;
     later = a.later ++ lines_in (after h.begun first) second;
-    split = lines_of_two h.begun first second
+    split = cuts.lines h.begun first second
         ∙ (ap (λ (ls : List (List ℕ)). ls ++ lines_in (after h.begun first) second) a.split
         ∙ append_assoc a.before (a.line ∷ a.later) (lines_in (after h.begun first) second));
     heard = a.heard;
@@ -154,6 +155,7 @@ module _ (k : Contents) (seat : ℕ) (faults : OfficeFault → Type 0) (now : St
   fed_after_fed room left first second made made' h between h' text text' fits a b =
       one_after_other h.ended between.ended room left first second made made' h between h' text text' fits refl refl a b
 
+module _ (k : Contents) (seat : ℕ) (faults : OfficeFault → Type 0) (now : Stamp) where
   -- with less room
   less_room_at : (e : Option Ended) (room less : ℕ) (piece : List ℕ) (made : List Turn) (h h' : Hearing) (text : List ℕ) → less ≤ room
       → IsFedAt k seat faults e now room h piece made h' text → IsFedAt k seat faults e now less h piece made h' text

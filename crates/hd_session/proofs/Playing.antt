@@ -15,7 +15,7 @@ use Rattle.hd_session.specs.declared.ended.Ended.TheVariants.{Estranged}
 use Rattle.hd_session.specs.Sessions.{AreFedTo, Feeds, Hearing, IsFed, Piece, new_session, stream}
 use Rattle.hd_session.specs.Scripts.{AreFed, Event, Plays, Step, events_of, pieces_of, session_at, text_of, turns_of, written}
 use Rattle.hd_session.proofs.Causes.{fed_other}
-use Rattle.hd_session.proofs.Feeding.{IsSettled, fed_after_fed, less_room, nothing_fed_at, settled_at}
+use Rattle.hd_session.proofs.Feeding.{Cuts, IsSettled, fed_after_fed, less_room, nothing_fed_at, settled_at}
 use Rattle.hd_session.proofs.Knowing.{each_goes_on}
 use Rattle.hd_session.proofs.Strangers.{all_behind, all_more}
 
@@ -93,37 +93,37 @@ module _ (k : Contents) (seat : ℕ) (faults : OfficeFault → Type 0) where
       ] refl
 
   -- pieces at one present are one
-  pub one_present : (now : Stamp) (room : ℕ) (pieces : List Piece) (h : Hearing) (made : List Turn) (h' : Hearing) (text : List ℕ)
+  pub one_present : Cuts → (now : Stamp) (room : ℕ) (pieces : List Piece) (h : Hearing) (made : List Turn) (h' : Hearing) (text : List ℕ)
       → AreAt now pieces → IsSettled h → AreFedTo k seat faults room pieces h made h' text
       → IsFed k seat faults now room h (stream pieces) made h' text
-  one_present now room [] h made h' text all settled (none, same, nothing) =
+  one_present cuts now room [] h made h' text all settled (none, same, nothing) =
       rw (none, same, nothing) (nothing_fed_at k seat faults now h.ended room h refl settled)
-  one_present now room (piece ∷ pieces) h made h' text all settled more =
+  one_present cuts now room (piece ∷ pieces) h made h' text all settled more =
       let here : piece.now ≡ now = all zero piece (omega arith) in
       let first : IsFed k seat faults now room h piece.bytes more.first_made more.between more.first_text =
       subst (λ (n : Stamp). IsFed k seat faults n room h piece.bytes more.first_made more.between more.first_text) here more.first in
       let goes_on : IsSettled more.between =
       settled_at k seat faults now h.ended room piece.bytes more.first_made h more.between more.first_text refl first in
-      let rest = one_present now room pieces more.between more.then_made h' more.then_text
+      let rest = one_present cuts now room pieces more.between more.then_made h' more.then_text
       (all_behind (λ (p : Piece). p.now ≡ now) piece pieces all) goes_on more.rest in
-      rw (more.all_made, more.all_text) (fed_after_fed k seat faults now room room piece.bytes
+      rw (more.all_made, more.all_text) (fed_after_fed cuts k seat faults now room room piece.bytes
       (stream pieces) more.first_made more.then_made
       h more.between h' more.first_text more.then_text (omega arith) first rest)
 
   -- those of a new session
-  pub new_at_one_present : (now : Stamp) (room : ℕ) (pieces : List Piece) (made : List Turn) (h' : Hearing) (text : List ℕ)
+  pub new_at_one_present : Cuts → (now : Stamp) (room : ℕ) (pieces : List Piece) (made : List Turn) (h' : Hearing) (text : List ℕ)
       → AreAt now pieces → AreFedTo k seat faults room pieces new_session made h' text
       → IsFed k seat faults now room new_session (stream pieces) made h' text
-  new_at_one_present now room pieces made h' text all fed =
-      one_present now room pieces new_session made h' text all (λ still. refl) fed
+  new_at_one_present cuts now room pieces made h' text all fed =
+      one_present cuts now room pieces new_session made h' text all (λ still. refl) fed
 
   -- a session that was new hears its stream
-  pub new_hears_stream : (now : Stamp) (steps : List Step) (ss ss' : List Hearing) (events : List Event) (i : ℕ) → i < length ss
+  pub new_hears_stream : Cuts → (now : Stamp) (steps : List Step) (ss ss' : List Hearing) (events : List Event) (i : ℕ) → i < length ss
       → All (λ step. step.piece.now ≡ now) steps → AreFed k seat faults steps ss events ss' → session_at ss i ≡ new_session
       → IsFed k seat faults now 0 new_session (stream (pieces_of i steps)) (turns_of (events_of i events)) (session_at ss' i)
       (written i events)
-  new_hears_stream now steps ss ss' events i within all fed new =
-      new_at_one_present now 0 (pieces_of i steps) _ _ _ (pieces_at now steps i all)
+  new_hears_stream cuts now steps ss ss' events i within all fed new =
+      new_at_one_present cuts now 0 (pieces_of i steps) _ _ _ (pieces_at now steps i all)
       (subst (λ (h : Hearing). AreFedTo k seat faults 0 (pieces_of i steps) h (turns_of (events_of i events)) (session_at ss' i)
       (written i events))
       new (hears_pieces steps ss ss' events i within fed))

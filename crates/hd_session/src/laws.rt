@@ -12,6 +12,7 @@ ghost use Rattle.hd_session.specs.declared.ended.Ended.TheVariants.{Estranged};
 ghost use Rattle.hd_exchange.specs.declared.fault.OfficeFault.TheVariants as fault;
 
 use hd_exchange::{Office, each_body_has_one_answer};
+use hd_field::cuts_change_nothing;
 use std::alloc::Allocator;
 
 /// A session that is fed a piece of its stream and then another at the same present is one that is fed both
@@ -24,7 +25,9 @@ pub fn pieces_are_one<A: Allocator, O: Office<A>>()
         → IsFed k seat O.faults now room h first made between text
         → IsFed k seat O.faults now left between then made' h' text'
         → IsFed k seat O.faults now room h (first ++ then) (made ++ made') h' (text ++ text') }
-{}
+{
+    cuts_change_nothing();
+}
 
 /// A new session that is fed pieces of its stream at one present is one that is fed its whole stream at once.
 pub fn pieces_at_one_present<A: Allocator, O: Office<A>>()
@@ -33,7 +36,9 @@ pub fn pieces_at_one_present<A: Allocator, O: Office<A>>()
         → All (λ piece. piece.now ≡ now) pieces
         → AreFedTo k seat O.faults room pieces new_session made h' text
         → IsFed k seat O.faults now room new_session (stream pieces) made h' text }
-{}
+{
+    cuts_change_nothing();
+}
 
 /// Of a script, each session has heard its own pieces in their order, as if they had come alone: by the turns
 /// that are its own, and with all that is written to it. One that was new at the start of a script at one
@@ -53,7 +58,9 @@ pub fn sessions_hear_their_streams<A: Allocator, O: Office<A>>()
         → session_at ss i ≡ new_session
         → IsFed k seat O.faults now 0 new_session (stream (pieces_of i steps)) (turns_of (events_of i events))
         (session_at ss' i) (written i events) }
-{}
+{
+    cuts_change_nothing();
+}
 
 /// Where an office never answers that it is estranged, as a journal alone never does, no session ends so.
 pub fn no_session_is_estranged<A: Allocator, O: Office<A>>()
