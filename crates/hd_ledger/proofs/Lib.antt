@@ -1,0 +1,14 @@
+pub mod CreateTexts
+pub mod InsertTexts
+pub mod SelectTexts
+pub mod UpdateTexts
+pub mod Order
+pub mod Values
+pub mod Steps
+pub mod Begins
+pub mod Adds
+pub mod Ends
+pub mod Finding
+pub mod Accepts
+pub mod Decodes
+pub mod Columns

@@ -1,0 +1,18 @@
+use Rattle.std.proofs.Common.{◌≡◌, ◌++◌, List, map, take}
+use Rattle.sqlite.specs.State.{HasCleanDisk, Survives}
+use Rattle.sqlite.specs.Held.{state}
+use Rattle.hd_ledger.specs.Kept.{Kept, Head}
+use Rattle.hd_ledger.specs.Holds.{Holds, Has}
+use Rattle.hd_ledger.specs.Rows.{kept}
+use Rattle.hd_ledger.proofs.ledger.put_all.Given as goal
+
+-- the transaction has the turns so far, nothing of them is committed, and it is still of this connection
+abbrev pub invariant-loop-row : goal.invariant-loop-row
+invariant-loop-row g l =
+    let old = state g.S.Store l.fn.conn in
+    let now = state g.S.Store l.batch.conn.now in
+    record {
+      same : l.batch.conn.ghost_name ≡ l.initial.batch.conn.ghost_name;
+      survives : Survives old now (λ _. ⊥);
+      has : HasCleanDisk now → (head : Head) (ks : List Kept) → Holds old head ks → Has now head (ks ++ map kept (take l.row-index l.rows));
+    }

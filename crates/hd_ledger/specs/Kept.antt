@@ -1,0 +1,56 @@
+-- What is kept of a turn, and of the journal that it belongs to.
+use Rattle.std.specs.Prelude.{ℕ, pos, List, [], ◌∷◌, Option}
+use Rattle.sqlite.specs.declared.types.Value.{Value}
+use Rattle.sqlite.specs.declared.types.Value.TheVariants.{Int, Text, Blob}
+use Rattle.sqlite.specs.Order.{Row}
+use Rattle.sqlite.specs.Values.{or_null}
+
+-- what was asked, by the catalogue's names
+pub record Named : Type 0 where
+  pub act : List ℕ
+  pub patron : Option (List ℕ)
+  pub copy : Option (List ℕ)
+  pub title : Option (List ℕ)
+  pub branch : Option (List ℕ)
+  pub admits : Option (List ℕ)
+  pub until : Option (List ℕ)
+
+-- a turn
+pub record Kept : Type 0 where
+  pub seat : ℕ
+  pub terminal : List ℕ
+  pub day : List ℕ
+  pub asked : Named
+  pub line : Option (List ℕ)
+  pub outcome : List ℕ
+  pub number : Option ℕ
+  pub reply : List ℕ
+
+-- the format of a journal, and the digest of its catalogue file
+pub record Head : Type 0 where
+  pub format : ℕ
+  pub catalogue : List ℕ
+
+-- the format that is written
+abbrev pub begun : List ℕ → Head
+begun digest = record { format = 1; catalogue = digest }
+
+abbrev pub number_cell : ℕ → Value
+number_cell n = Int (pos n)
+
+-- the values of a turn, in the order of their columns
+unfoldable pub cells : Kept → Row
+cells k =
+    Int (pos k.seat) ∷ Text k.terminal ∷ Text k.day ∷ Text k.asked.act ∷ or_null Text k.asked.patron
+    ∷ or_null Text k.asked.copy
+    ∷ or_null Text k.asked.title ∷ or_null Text k.asked.branch ∷ or_null Text k.asked.admits
+    ∷ or_null Text k.asked.until
+    ∷ or_null Blob k.line ∷ Text k.outcome ∷ or_null number_cell k.number ∷ Blob k.reply ∷ []
+
+-- the values of a journal's head
+abbrev pub head_cells : Head → Row
+head_cells h = Int (pos h.format) ∷ Blob h.catalogue ∷ []
+
+-- how many turns are read at a time
+unfoldable pub piece : ℕ
+piece = 1024

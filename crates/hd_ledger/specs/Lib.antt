@@ -1,0 +1,6 @@
+pub mod Kept
+pub mod Tables
+pub mod Holds
+pub mod Rows
+pub mod Crashes
+pub mod Faults
