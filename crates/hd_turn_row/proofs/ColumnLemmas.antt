@@ -1,11 +1,11 @@
 -- What columns say, and their first fault.
-use Rattle.std.proofs.Common.{◌≡◌, ℕ, ◌<◌, ◌⊎◌, Option, None, Some, List, refl, sym, ap, subst, ◌∙◌, inl, inr}
+use Rattle.std.proofs.Common.{◌≡◌, ℕ, ◌<◌, ◌⊎◌, Option, None, Some, List, refl, sym, ap, ◌∙◌, inl, inr}
 use Rattle.std.specs.Prelude.{IfSome}
 use Rattle.hd_catalogue.specs.Contents.{Contents, branch_number, copy_number, facts_of, patron_number, title_number}
 use Rattle.hd_turn_row.specs.Columns.{AreKnown, AreShown, AskedTexts, IsShown, SaysAct, SaysAdmits, SaysBranch}
 use Rattle.hd_turn_row.specs.Columns.{SaysCopy, SaysPatron, SaysTitle}
 use Rattle.hd_turn_row.specs.Days.{IsDayText}
-use Rattle.hd_turn_row.specs.Faults.{FirstOf, IsFirstMisfit, IsFirstUnread, IsRead}
+use Rattle.hd_turn_row.specs.Faults.{IsFirstMisfit, IsFirstUnread, IsRead}
 use Rattle.hd_turn_row.specs.Forms.{FitsForm}
 use Rattle.hd_turn_row.specs.Grown.{OnlyGrew}
 use Rattle.hd_turn_row.specs.declared.act.Act.{Act}

@@ -1,6 +1,6 @@
 -- The texts of days.
 use Rattle.std.proofs.Common.{◌≡◌, ℕ, ◌+◌, ◌/◌, ◌%◌, ◌<◌, List, [], ◌∷◌, length, slice_index, codes, ℤ, pos, refl, sym, ap, subst, ◌∙◌, arith}
-use Rattle.hd_date.specs.Days.{IsPrinted, date_text, end_of_days}
+use Rattle.hd_date.specs.Days.{IsCalendarDay, IsPrinted, end_of_days}
 use Rattle.hd_date.specs.Faults.{IsFirstFault}
 use Rattle.hd_date.specs.Stamps.{IsLocal, IsMoment, IsOwnPrint, IsStamp, Prints, Stamp}
 use Rattle.hd_date.specs.declared.fault.DateFault.{DateFault}
@@ -111,3 +111,11 @@ module _ (shown : (stamp : Stamp) (text : List ℕ) (offset : ℤ) → IsMoment 
   no_day no_fault text moment offset fault is f day p =
       no_fault moment offset (midnight day) fault
       (subst (λ (t : List ℕ). IsStamp t offset (midnight day)) (sym is) (midnight_shown day text offset p)) f
+
+-- a day has one text
+pub one_day_text : ((y m d y' m' d' n : ℕ) → IsCalendarDay y m d n → IsCalendarDay y' m' d' n → (y ≡ y') × (m ≡ m') × (d ≡ d'))
+    → (day : ℕ) (text other : List ℕ) → IsDayText day text → IsDayText day other → text ≡ other
+one_day_text one_date day text other p q =
+    let same = one_date p.year p.month p.day q.year q.month q.day day p.shows q.shows in
+    p.spelled ∙ ap (λ y. dashed y p.month p.day) same.0 ∙ ap (λ m. dashed q.year m p.day) same.1
+    ∙ ap (λ d. dashed q.year q.month d) same.2 ∙ sym q.spelled

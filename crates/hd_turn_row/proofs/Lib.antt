@@ -4,3 +4,7 @@ pub mod DayLemmas
 pub mod PartLemmas
 pub mod ColumnLemmas
 pub mod RowLemmas
+pub mod PieceTexts
+pub mod PieceLemmas
+pub mod RefusalLemmas
+pub mod ReplyLemmas

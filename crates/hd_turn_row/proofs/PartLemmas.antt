@@ -1,8 +1,8 @@
 -- What is asked, column by column.
-use Rattle.std.proofs.Common.{◌≡◌, ℕ, ◌<◌, Bool, true, false, Option, None, Some, List, refl, sym, ap, subst, ◌∙◌}
+use Rattle.std.proofs.Common.{◌≡◌, ℕ, true, false, Option, None, Some, refl, sym, ap, subst, ◌∙◌}
 use Rattle.std.specs.Prelude.{unwrap_or}
 use Rattle.hd_rules.specs.Facts.{Facts}
-use Rattle.hd_rules.specs.Known.{IsKnown, IsKnownAction, IsKnownCancel, IsKnownKind}
+use Rattle.hd_rules.specs.Known.{IsKnown, IsKnownAction, IsKnownCancel}
 use Rattle.hd_rules.specs.declared.holds.HoldKind.{HoldKind}
 use Rattle.hd_rules.specs.declared.holds.HoldKind.TheVariants as kind
 use Rattle.hd_rules.specs.declared.commands.Action.{Action}

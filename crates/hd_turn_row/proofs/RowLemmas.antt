@@ -1,5 +1,5 @@
 -- Rows and what they ask.
-use Rattle.std.proofs.Common.{◌≡◌, ℕ, ◌<◌, Option, Some, List, refl, sym, ap, subst, ◌∙◌, inl, inr}
+use Rattle.std.proofs.Common.{◌≡◌, ℕ, Option, Some, List, sym, ap, subst, ◌∙◌, inl, inr}
 use Rattle.hd_rules.specs.declared.turns.Asked.{Asked}
 use Rattle.hd_catalogue.specs.Contents.{Contents, facts_of}
 use Rattle.hd_rules.specs.Turns.{Message}
@@ -7,7 +7,6 @@ use Rattle.hd_turn_row.specs.Days.{IsDayText}
 use Rattle.hd_turn_row.specs.Faults.{IsFirstFault}
 use Rattle.hd_turn_row.specs.Forms.{AreFit, form_of}
 use Rattle.hd_turn_row.specs.Grown.{OnlyGrew}
-use Rattle.hd_turn_row.specs.Parts.{parts_of}
 use Rattle.hd_turn_row.specs.Rows.{IsKnownMessage, IsRowOf, RowTexts}
 use Rattle.hd_turn_row.specs.declared.fault.RowFault.{RowFault}
 use Rattle.hd_turn_row.specs.declared.parts.Parts.{Parts}

@@ -1,5 +1,5 @@
 -- The words of acts, and of what a hold admits.
-use Rattle.std.specs.Prelude.{ℕ, Bool, List, [], ◌∷◌, Option, codes, find}
+use Rattle.std.specs.Prelude.{ℕ, List, [], ◌∷◌, Option, codes, find}
 use Rattle.std.specs.Str.{bytes_eq}
 use Rattle.hd_turn_row.specs.declared.act.Act.{Act}
 use Rattle.hd_turn_row.specs.declared.act.Act.TheVariants as acts

@@ -5,8 +5,6 @@ use Rattle.hd_turn_row.specs.Columns.{AreShown, AskedTexts, IsShown, SaysAct, Sa
 use Rattle.hd_turn_row.specs.Columns.{SaysCopy, SaysPatron, SaysTerminal, SaysTitle}
 use Rattle.hd_turn_row.specs.Days.{IsDayText}
 use Rattle.hd_turn_row.specs.Forms.{Fits, form_of}
-use Rattle.hd_turn_row.specs.declared.act.Act.{Act}
-use Rattle.hd_turn_row.specs.declared.act.Admits.{Admits}
 use Rattle.hd_turn_row.specs.declared.fault.Column.{Column}
 use Rattle.hd_turn_row.specs.declared.fault.Column.TheVariants as columns
 use Rattle.hd_turn_row.specs.declared.fault.RowFault.{RowFault}

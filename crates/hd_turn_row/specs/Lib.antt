@@ -7,3 +7,5 @@ pub mod Forms  -- which columns each act has
 pub mod Faults  -- the first fault of the columns
 pub mod Rows  -- the row of a turn
 pub mod Grown  -- catalogues that only grew
+pub mod Pieces  -- texts made of words, numbers and days
+pub mod Replies  -- what a turn came to

@@ -2,13 +2,15 @@
 ghost use Rattle.std.specs.Prelude.{◌≡◌, ℕ, List};
 ghost use Rattle.hd_catalogue.specs.Contents.{Contents, facts_of};
 ghost use Rattle.hd_rules.specs.Turns.{Message};
+ghost use Rattle.hd_rules.specs.declared.replies.TurnReply.{TurnReply};
 ghost use Rattle.hd_turn_row.specs.Days.{IsDayText};
 ghost use Rattle.hd_turn_row.specs.Faults.{IsFirstFault};
 ghost use Rattle.hd_turn_row.specs.Grown.{OnlyGrew};
+ghost use Rattle.hd_turn_row.specs.Replies.{IsReplyText};
 ghost use Rattle.hd_turn_row.specs.Rows.{IsKnownMessage, IsRowOf, RowTexts};
 
 use crate::fault::RowFault;
-use hd_date::{prints_show_their_stamp, texts_show_one_stamp};
+use hd_date::{days_are_dates, prints_show_their_stamp, texts_show_one_stamp};
 
 /// A text is that of one day at most.
 pub(crate) fn a_text_is_of_one_day()
@@ -37,3 +39,15 @@ pub fn a_grown_catalogue_reads_the_same()
     ensures { (old new : Contents) (seat : ℕ) (message : Message) (row : RowTexts) → OnlyGrew old new
         → IsRowOf old seat message row → IsRowOf new seat message row }
 {}
+
+/// A text is that of one reply at most, and a reply has one text at most. So two replies are the same where
+/// their texts are, and where they differ their texts do.
+pub fn replies_of_one_text_are_one()
+    ensures reply { (one other : TurnReply) (text : List ℕ) → IsReplyText one text → IsReplyText other text
+        → one ≡ other }
+    ensures text { (reply : TurnReply) (one other : List ℕ) → IsReplyText reply one
+        → IsReplyText reply other → one ≡ other }
+{
+    a_text_is_of_one_day();
+    days_are_dates();
+}

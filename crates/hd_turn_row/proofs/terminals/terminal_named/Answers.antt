@@ -1,4 +1,4 @@
-use Rattle.std.proofs.Common.{◌≡◌, ℕ, Some, sym, subst, below_more, arith}
+use Rattle.std.proofs.Common.{◌≡◌, Some, sym, subst, below_more, arith}
 use Rattle.hd_catalogue.specs.Contents.{facts_of, terminal_name}
 use Rattle.hd_catalogue.specs.Names.{name_at}
 use Rattle.hd_turn_row.proofs.NumberLemmas.{differ, no_number, number_known, other_name}
