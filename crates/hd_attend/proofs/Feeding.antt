@@ -8,7 +8,7 @@ use Rattle.hd_exchange.specs.declared.fault.OfficeFault.{OfficeFault}
 use Rattle.hd_session.specs.Sessions.{AreFedTo, Hearing, IsCause, IsFed, IsFedAt, Piece}
 use Rattle.hd_session.specs.Standing.{Stands}
 use Rattle.hd_session.specs.declared.ended.Ended.{Ended}
-use Rattle.hd_session.specs.declared.ended.Ended.TheVariants.{TooLong, Memory, Estranged}
+use Rattle.hd_session.specs.declared.ended.Ended.TheVariants.{TooLong, Memory, Estranged, Unwritten}
 
 -- a piece of a stream
 abbrev pub piece_at : Stamp → List ℕ → Piece
@@ -22,6 +22,7 @@ module _ (k : Contents) (seat : ℕ) (faults : OfficeFault → Type 0) where
   cause_without room s earlier line Memory (inl given) = inl given
   cause_without room s earlier line Memory (inr (some, full)) = inr (some, omega (arith, full))
   cause_without room s earlier line Estranged given = given
+  cause_without room s earlier line Unwritten given = given
 
   -- and so is a piece that is fed
   fed_without : (now : Stamp) (room : ℕ) (ended : Option Ended) (h : Hearing) (piece : List ℕ) (made : List Turn) (h' : Hearing)

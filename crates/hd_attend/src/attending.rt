@@ -1,5 +1,6 @@
 //! Attending to a connection.
 ghost use Rattle.std.specs.Prelude.{◌≡◌, ◌<◌, ◌≤◌, [], IfErr, Some, length, map};
+ghost use Rattle.hd_hall.specs.Counters.{IsCounterFault};
 ghost use Rattle.hd_hall.specs.Submitting.{AreNext};
 ghost use Rattle.hd_session.specs.Standing.{IsKnownTo};
 ghost use Rattle.hd_attend.specs.Attending.{Attends};
@@ -111,7 +112,8 @@ pub fn attend<
     W: Output,
     H: House,
     A: Allocator + Copy,
-    K: Keeper<A> + Drop,
+    Q: Drop,
+    K: Keeper<A, Q> + Drop,
     N: Fn() -> Stamp18,
     G: Gate,
 >(
@@ -119,7 +121,7 @@ pub fn attend<
     alloc: A,
     from: &mut I,
     to: &mut W,
-    hall: &Hall<H, A, K>,
+    hall: &Hall<H, A, Q, K>,
     seat: &mut Seat<H, A>,
     state: &mut Session<A>,
     session: usize,
@@ -128,8 +130,9 @@ pub fn attend<
 ) -> Result<(), AttendFault>
     requires now { N.IsAlwaysCallable now.now }
     requires part { seat.old.parts ≡ 1 }
-    requires place { IsKnownTo H.contents state.old.standing }
-    ensures attends { Attends H.contents seat.old.number (λ _. Unit {0}) (N.post now.now)
+    requires place { IsKnownTo H.opening.contents state.old.standing }
+    ensures attends { Attends H.opening.contents seat.old.number
+        (IsCounterFault K.faults (λ _. Unit {0})) (N.post now.now)
         (record {
           from = I.remaining from.old;
           from' = I.remaining from.new;
@@ -138,9 +141,9 @@ pub fn attend<
         }) state.old state.new (map (λ receipt. receipt.turn) seat.old.receipts)
         (map (λ receipt. receipt.turn) seat.new.receipts) result }
     ensures why { IfErr result (HasReason (I.fails from.new) (W.fails to.new)) }
-    ensures place { IsKnownTo H.contents state.new.standing }
+    ensures place { IsKnownTo H.opening.contents state.new.standing }
     ensures same { (seat.new.parts ≡ 1) × (seat.new.number ≡ seat.old.number) }
-    ensures holds { AreNext H.contents seat.old.receipts → AreNext H.contents seat.new.receipts }
+    ensures holds { AreNext H.opening seat.old.receipts → AreNext H.opening seat.new.receipts }
 {
     let mut counter = Counter::new(rt, hall, seat);
     attend_gated(rt, alloc, from, to, &mut counter, state, session, now, gate)

@@ -1,6 +1,6 @@
 -- What is kept of a turn more.
 use Rattle.std.proofs.Common.{◌≡◌, refl, sym, ◌∙◌, ap, subst, arith, ◌⊎◌, inl, inr, ℕ, Bool, true, false, if◌then◌else◌}
-use Rattle.std.proofs.Common.{List, [], ◌∷◌, ◌++◌, length, Option, Some, None, Result, Ok, Err, OnOk, OnErr, true≢false}
+use Rattle.std.proofs.Common.{List, [], ◌∷◌, ◌++◌, length, length-append, Option, Some, None, Result, Ok, Err, OnOk, OnErr, true≢false}
 use Rattle.std.specs.Prelude.{slice_get, take}
 use Rattle.std.proofs.lemmas.List.{append-nil}
 use Rattle.std.proofs.Math.Seq.{take-length, take-append_seam}
@@ -10,9 +10,11 @@ use Rattle.hd_rules.specs.Journal.{Turn, IsLegal, state_after}
 use Rattle.hd_catalogue.specs.Contents.{Contents, facts_of}
 use Rattle.hd_journal.specs.declared.turn.Turn.{Turn as Made}
 use Rattle.hd_journal.specs.Books.{Book, AddsTurn, IsLegalBook, next_turn, facts, state, turn_numbered}
+use Rattle.hd_journal.specs.Asks.{IsKnownMessage}
 use Rattle.hd_journal.specs.Changing.{is_changing, changing}
 use Rattle.hd_durable.specs.Durable.{IsLeft, IsOpen, IsDurable}
 use Rattle.hd_durable.proofs.Beginnings.{beginning}
+use Rattle.hd_durable.proofs.Leaving.{legal_changing}
 
 -- the last of some turns
 last_of : (first : Turn) (turns : List Turn) (turn : Turn)
@@ -88,13 +90,16 @@ on_err (Ok x) P Q f p = p
 on_err (Err e) P Q f p = f p
 
 -- all were answered, and the changing ones are committed
-pub durable_all : (holds leaves : List Turn → Type 0) (contents : Contents) (turns : List Turn) (n : ℕ) (b : Bool)
-    → IsLegalBook contents turns → n ≡ length turns → holds (changing (facts_of contents) turns)
+pub durable_all : (told : Contents) (holds leaves : List Turn → Type 0) (contents : Contents) (turns : List Turn)
+    (n : ℕ) (b : Bool) → told ≡ contents → IsLegalBook contents turns → n ≡ length turns
+    → holds (changing (facts_of contents) turns)
     → ((left : List Turn) → leaves left → left ≡ changing (facts_of contents) turns)
-    → IsDurable holds leaves contents turns n b
-durable_all holds leaves contents turns n b legal all held settled =
+    → IsDurable told holds leaves contents turns n b
+durable_all told holds leaves contents turns n b same legal all held settled =
     let whole : take n turns ≡ turns = ap (λ (m : ℕ). take m turns) all ∙ take-length turns
     in record {
+      same = same;
+      within = omega (arith, all);
       legal = subst (IsLegalBook contents) (sym whole) legal;
       left = λ left is. subst (λ (ts : List Turn). IsLeft (facts_of contents) ts left) (sym whole)
           (left_none (facts_of contents) turns left legal.legal (settled left is));
@@ -111,42 +116,72 @@ committed holds leaves k turns n opened left found =
 
 module _ (old new : Book) (seat : ℕ) (message : Message) (made : Made) (adds : AddsTurn old new seat message made)
     (legal : IsLegalBook new.contents new.turns) where
-  -- after a turn that changes nothing
-  pub durable_same : (holds leaves : List Turn → Type 0) (n : ℕ) (b : Bool)
-      → is_changing (state old) message ≡ false → IsOpen holds leaves (facts old) old.turns n
-      → IsDurable holds leaves new.contents new.turns made.at b
-  durable_same holds leaves n b is opened =
-      let same : changing (facts_of new.contents) new.turns ≡ changing (facts old) old.turns =
-      ap (λ (c : Contents). changing (facts_of c) new.turns) adds.contents
-      ∙ ap (changing (facts old)) adds.turns
-      ∙ changing_same (facts old) old.turns (next_turn old seat message) is
-      in durable_all holds leaves new.contents new.turns made.at b legal adds.number
-      (subst holds (sym same) opened.held)
-      (λ left found. opened.settled left found ∙ sym same)
+  abbrev Commits : (List Turn → Type 0) → (List Turn → Type 0) → Type 0
+  Commits holds holds' =
+      (turns held : List Turn) (t : Turn) → new.turns ≡ turns ++ t ∷ [] → IsLegal (facts new) (held ++ t ∷ [])
+      → holds held → holds' (held ++ t ∷ [])
 
-  -- after one that is committed
-  pub durable_more : (holds leaves holds' leaves' : List Turn → Type 0) (n : ℕ) (b : Bool)
-      → is_changing (state old) message ≡ true → IsOpen holds leaves (facts old) old.turns n
-      → ((turns held : List Turn) (t : Turn) → new.turns ≡ turns ++ t ∷ [] → holds held → holds' (held ++ t ∷ []))
-      → ((held left : List Turn) → holds' held → leaves' left → left ≡ held)
-      → IsDurable holds' leaves' new.contents new.turns made.at b
-  durable_more holds leaves holds' leaves' n b is opened ok settled =
-      let more : changing (facts_of new.contents) new.turns
-      ≡ changing (facts old) old.turns ++ next_turn old seat message ∷ [] =
+  abbrev Doubts : (List Turn → Type 0) → (List Turn → Type 0) → Type 0
+  Doubts holds leaves' =
+      (turns held left : List Turn) (t : Turn) → new.turns ≡ turns ++ t ∷ [] → IsLegal (facts new) (held ++ t ∷ [])
+      → holds held → leaves' left → (left ≡ held) ⊎ (left ≡ held ++ t ∷ [])
+
+  -- a turn more is one of the changing ones
+  more : is_changing (state old) message ≡ true
+      → changing (facts new) new.turns ≡ changing (facts old) old.turns ++ next_turn old seat message ∷ []
+  more is =
       ap (λ (c : Contents). changing (facts_of c) new.turns) adds.contents
       ∙ ap (changing (facts old)) adds.turns
       ∙ changing_more (facts old) old.turns (next_turn old seat message) is
-      in let held : holds' (changing (facts_of new.contents) new.turns) =
-      subst holds' (sym more) (ok old.turns _ (next_turn old seat message) adds.turns opened.held)
-      in durable_all holds' leaves' new.contents new.turns made.at b legal adds.number held
-      (λ left found. settled _ left held found)
+
+  -- and legal behind them
+  legal_more : is_changing (state old) message ≡ true
+      → IsLegal (facts new) (changing (facts old) old.turns ++ next_turn old seat message ∷ [])
+  legal_more is =
+      subst (IsLegal (facts new)) (more is) (legal_changing (facts new) (start (facts new)) new.turns legal.legal)
+
+  -- the last turn's message is known
+  pub last_known : IsKnownMessage (facts old) message
+      → (turns : List Turn) × (turn : Turn) × (new.turns ≡ turns ++ turn ∷ []) × IsKnownMessage (facts new) turn.message
+  last_known known = (
+    old.turns,
+    next_turn old seat message,
+    adds.turns,
+    subst (λ (c : Contents). IsKnownMessage (facts_of c) message) (sym adds.contents) known,
+  )
+
+  -- after a turn that changes nothing
+  pub durable_same : (told : Contents) (holds leaves : List Turn → Type 0) (n : ℕ) (b : Bool)
+      → told ≡ old.contents → is_changing (state old) message ≡ false → IsOpen holds leaves (facts old) old.turns n
+      → IsDurable told holds leaves new.contents new.turns made.at b
+  durable_same told holds leaves n b same is opened =
+      let still : changing (facts_of new.contents) new.turns ≡ changing (facts old) old.turns =
+      ap (λ (c : Contents). changing (facts_of c) new.turns) adds.contents
+      ∙ ap (changing (facts old)) adds.turns
+      ∙ changing_same (facts old) old.turns (next_turn old seat message) is
+      in durable_all told holds leaves new.contents new.turns made.at b (same ∙ sym adds.contents) legal adds.number
+      (subst holds (sym still) opened.held)
+      (λ left found. opened.settled left found ∙ sym still)
+
+  -- after one that is committed
+  pub durable_more : (told told' : Contents) (holds leaves holds' leaves' : List Turn → Type 0) (n : ℕ) (b : Bool)
+      → told ≡ old.contents → told' ≡ told
+      → is_changing (state old) message ≡ true → IsOpen holds leaves (facts old) old.turns n
+      → Commits holds holds'
+      → ((held left : List Turn) → holds' held → leaves' left → left ≡ held)
+      → IsDurable told' holds' leaves' new.contents new.turns made.at b
+  durable_more told told' holds leaves holds' leaves' n b same same' is opened ok settled =
+      let held : holds' (changing (facts_of new.contents) new.turns) =
+      subst holds' (sym (more is))
+      (ok old.turns _ (next_turn old seat message) adds.turns (legal_more is) opened.held)
+      in durable_all told' holds' leaves' new.contents new.turns made.at b (same' ∙ same ∙ sym adds.contents) legal
+      adds.number held (λ left found. settled _ left held found)
 
   -- after one that may be left or not
   pub left_in_doubt : (holds leaves leaves' : List Turn → Type 0) (n : ℕ)
       → is_changing (state old) message ≡ true → IsLegalBook old.contents (take n old.turns)
       → IsOpen holds leaves (facts old) old.turns n
-      → ((turns held left : List Turn) (t : Turn) → new.turns ≡ turns ++ t ∷ [] → holds held → leaves' left
-      → (left ≡ held) ⊎ (left ≡ held ++ t ∷ []))
+      → Doubts holds leaves'
       → (left : List Turn) → leaves' left → IsLeft (facts_of new.contents) (take n new.turns) left
   left_in_doubt holds leaves leaves' n is before opened err left found =
       let whole : take n old.turns ≡ old.turns = ap (λ (m : ℕ). take m old.turns) opened.all ∙ take-length old.turns
@@ -159,21 +194,25 @@ module _ (old new : Book) (seat : ℕ) (message : Message) (made : Made) (adds :
       (subst (λ (c : Contents). IsLeft (facts_of c) old.turns left) (sym adds.contents)
       (left_either (facts old) old.turns (next_turn old seat message) left
       (subst (IsLegal (facts old)) whole before.legal) after is
-      (err old.turns _ left (next_turn old seat message) adds.turns opened.held found)))
+      (err old.turns _ left (next_turn old seat message) adds.turns (legal_more is) opened.held found)))
 
   -- the journal is then shut
-  pub durable_shut : (holds leaves holds' leaves' : List Turn → Type 0) (n : ℕ)
+  pub durable_shut : (told told' : Contents) (holds leaves holds' leaves' : List Turn → Type 0) (n : ℕ)
+      → told ≡ old.contents → told' ≡ told
       → is_changing (state old) message ≡ true → IsLegalBook old.contents (take n old.turns)
       → IsOpen holds leaves (facts old) old.turns n
-      → ((turns held left : List Turn) (t : Turn) → new.turns ≡ turns ++ t ∷ [] → holds held → leaves' left
-      → (left ≡ held) ⊎ (left ≡ held ++ t ∷ []))
-      → IsDurable holds' leaves' new.contents new.turns n true
-  durable_shut holds leaves holds' leaves' n is before opened err =
+      → Doubts holds leaves'
+      → IsDurable told' holds' leaves' new.contents new.turns n true
+  durable_shut told told' holds leaves holds' leaves' n still still' is before opened err =
       let same : take n new.turns ≡ take n old.turns =
       ap (take n) adds.turns ∙ ap (λ (m : ℕ). take m (old.turns ++ next_turn old seat message ∷ [])) opened.all
       ∙ take-append_seam old.turns (next_turn old seat message ∷ [])
       ∙ sym (ap (λ (m : ℕ). take m old.turns) opened.all ∙ take-length old.turns)
+      in let longer = ap (λ (ts : List Turn). length ts) adds.turns ∙ length-append old.turns (next_turn old seat message ∷ []) in
+      let all = opened.all
       in record {
+        within = omega (arith, longer, all);
+        same = still' ∙ still ∙ sym adds.contents;
         legal = subst (λ (c : Contents). IsLegalBook c (take n new.turns)) (sym adds.contents)
             (subst (IsLegalBook old.contents) (sym same) before);
         left = left_in_doubt holds leaves leaves' n is before opened err;

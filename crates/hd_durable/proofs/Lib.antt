@@ -1,3 +1,4 @@
 pub mod Leaving
 pub mod Beginnings
 pub mod Durability
+pub mod Counting

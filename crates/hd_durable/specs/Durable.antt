@@ -27,9 +27,11 @@ pub record IsOpen (holds leaves : List Turn → Type 0) (k : Facts) (turns : Lis
     pub held : holds (changing k turns)
     pub settled : (left : List Turn) → leaves left → left ≡ changing k turns
 
--- The turns that were answered are a legal journal, and a stop leaves them.
-pub record IsDurable (holds leaves : List Turn → Type 0) (contents : Contents) (turns : List Turn)
-    (number : ℕ) (is_shut : Bool) : Type 0 where
+-- The turns that were answered are a legal journal, a stop leaves them, and the table is of its catalogue.
+pub record IsDurable (told : Contents) (holds leaves : List Turn → Type 0) (contents : Contents)
+    (turns : List Turn) (number : ℕ) (is_shut : Bool) : Type 0 where
+  pub same : told ≡ contents
+  pub within : number ≤ length turns
   pub legal : IsLegalBook contents (take number turns)
   pub left : (left : List Turn) → leaves left → IsLeft (facts_of contents) (take number turns) left
   pub opened : is_shut ≡ false → IsOpen holds leaves (facts_of contents) turns number

@@ -1,24 +1,29 @@
 //! The durable journal.
 
-ghost use Rattle.std.specs.Prelude.{◌≡◌, ◌⊎◌, ◌++◌, ◌∷◌, [], Err, IfOk, List, OnErr, OnOk};
+ghost use Rattle.std.specs.Prelude.{◌≡◌, ◌⊎◌, ◌++◌, ◌∷◌, [], ℕ, Err, IfOk, List, OnErr, OnOk, length};
+ghost use Rattle.std.specs.Prelude.{option_map, take};
+ghost use Rattle.std.specs.Arc.{arc_value};
 ghost use Rattle.hd_catalogue.specs.Contents.{facts_of};
-ghost use Rattle.hd_rules.specs.Journal.{Turn as TurnValue};
+ghost use Rattle.hd_rules.specs.Journal.{IsLegal, Turn as TurnValue};
 ghost use Rattle.hd_journal.specs.Asks.{IsKnownMessage, replied};
-ghost use Rattle.hd_journal.specs.Books.{IsLegalBook, facts};
+ghost use Rattle.hd_journal.specs.Books.{IsLegalBook, facts, turn_numbered};
 ghost use Rattle.hd_journal.specs.Changing.{changing};
+ghost use Rattle.hd_journal.specs.Shown.{shown};
 ghost use Rattle.hd_durable.specs.Durable.{IsLeft};
 
 use crate::fault::DurableFault;
 use crate::table::{NotCommitted, TurnTable};
-use hd_journal::{Journal, OwnedAsk, Turn};
+use hd_catalogue::Catalogue;
+use hd_journal::{Journal, OwnedAsk, Turn, TurnRef};
 use std::alloc::{Allocator, Global};
 use std::marker::Model;
+use std::sync::Arc;
 
 /// A journal each of whose changing turns is committed to a table before it is answered.
 ///
 /// Whatever is asked, a stop at any moment leaves the changing turns of all that were answered, or of these
-/// and one more that nobody was answered (`left` of `take`). Where a turn can't be committed the journal shuts
-/// for good, and answers nothing more.
+/// and one more that nobody was answered (`left` of `take`). Where a turn can't be committed the journal
+/// shuts for good, and answers nothing more.
 #[derive(Drop)]
 pub struct DurableJournal<T: TurnTable, A: Allocator = Global> {
     journal: Journal<A>,
@@ -40,18 +45,20 @@ impl<T: TurnTable, A: Allocator> Model for DurableJournal<T, A> {
       table = d.table;
     } };
 
-    ghost invariant = { λ d. IsDurable (T.holds d.table) (T.leaves d.table)
+    ghost invariant = { λ d. IsDurable (T.contents d.table) (T.holds d.table) (T.leaves d.table)
         d.journal.contents d.journal.turns d.answered d.is_shut };
 }
 
 impl<T: TurnTable, A: Allocator + Copy> DurableJournal<T, A> {
-    /// The journal, whose changing turns this table has.
+    /// The journal, whose changing turns this table has, told by the journal's catalogue.
     pub fn new(journal: Journal<A>, table: T) -> DurableJournal<T, A>
+        requires catalogue { T.contents table ≡ journal.contents }
         requires held { T.holds table (changing (facts journal) journal.turns) }
         requires settled { (left : List TurnValue) → T.leaves table left
             → left ≡ changing (facts journal) journal.turns }
         ensures turns { result.turns ≡ journal.turns }
         ensures contents { result.contents ≡ journal.contents }
+        ensures table { result.table ≡ table }
     {
         let answered = journal.front();
         DurableJournal {
@@ -72,6 +79,7 @@ impl<T: TurnTable, A: Allocator + Copy> DurableJournal<T, A> {
         requires { IsKnownMessage (facts_of self.old.contents) ask.message }
         ensures turn { IfOk result (λ made.
             self.new.turns ≡ self.old.turns ++ replied ask made.reply ∷ []) }
+        ensures number { IfOk result (λ made. made.at ≡ length self.new.turns) }
         ensures committed { OnOk result ((left : List TurnValue) → T.leaves self.new.table left
             → left ≡ changing (facts_of self.new.contents) self.new.turns) }
         ensures left { (left : List TurnValue) → T.leaves self.new.table left
@@ -99,20 +107,68 @@ impl<T: TurnTable, A: Allocator + Copy> DurableJournal<T, A> {
     }
 }
 
+impl<T: TurnTable, A: Allocator + Copy> DurableJournal<T, A> {
+    /// The catalogue.
+    pub fn catalogue(&self) -> &Arc<Catalogue<A>, A>
+        ensures { arc_value result.now ≡ self.now.contents }
+    {
+        self.journal.desk().catalogue()
+    }
+
+    /// How many turns were answered.
+    pub fn front(&self) -> usize
+        ensures count { result ≡ length self.now.turns }
+        ensures legal { IsLegalBook self.now.contents self.now.turns }
+    {
+        self.answered
+    }
+
+    /// The turn of a number, from 1, or `None` where none was answered.
+    pub fn turn_at(&self, at: usize) -> Option<TurnRef<'_>>
+        ensures { option_map shown result ≡ turn_numbered self.now.turns at }
+    {
+        if at > self.answered {
+            return None;
+        }
+        self.journal.turn_at(at)
+    }
+
+    /// The journal in memory. It has the turns that were answered; where one couldn't be committed, that one
+    /// too.
+    pub fn journal(&self) -> &Journal<A>
+        ensures contents { result.now.contents ≡ self.now.contents }
+        ensures turns { (answered : ℕ) × (take answered result.now.turns ≡ self.now.turns) }
+    {
+        &self.journal
+    }
+
+    /// The table, where all that a stop leaves is committed. The journal is dropped.
+    pub fn into_table(self) -> T
+        ensures { result ≡ self.table }
+    {
+        let DurableJournal { table, .. } = self;
+        table
+    }
+}
+
 /// Commits the last turn of a journal.
 fn commit_last<T: TurnTable, A: Allocator + Copy>(
     journal: &Journal<A>,
     table: &mut T,
 ) -> Result<(), NotCommitted>
-    requires { (turns : List TurnValue) × (turn : TurnValue) × (journal.now.turns ≡ turns ++ turn ∷ []) }
+    requires catalogue { T.contents table.old ≡ journal.now.contents }
+    requires last { (turns : List TurnValue) × (turn : TurnValue) × (journal.now.turns ≡ turns ++ turn ∷ [])
+        × IsKnownMessage (facts journal.now) turn.message }
     ensures ok { OnOk result ((turns held : List TurnValue) (turn : TurnValue)
-        → journal.now.turns ≡ turns ++ turn ∷ []
+        → journal.now.turns ≡ turns ++ turn ∷ [] → IsLegal (facts journal.now) (held ++ turn ∷ [])
         → T.holds table.old held → T.holds table.new (held ++ turn ∷ [])) }
     ensures settled { OnOk result ((held left : List TurnValue) → T.holds table.new held
         → T.leaves table.new left → left ≡ held) }
     ensures err { OnErr result ((turns held left : List TurnValue) (turn : TurnValue)
-        → journal.now.turns ≡ turns ++ turn ∷ [] → T.holds table.old held → T.leaves table.new left
+        → journal.now.turns ≡ turns ++ turn ∷ [] → IsLegal (facts journal.now) (held ++ turn ∷ [])
+        → T.holds table.old held → T.leaves table.new left
         → (left ≡ held) ⊎ (left ≡ held ++ turn ∷ [])) }
+    ensures contents { T.contents table.new ≡ T.contents table.old }
 {
     let Some(last) = journal.turn_at(journal.front()) else {
         return Err(NotCommitted);

@@ -7,11 +7,13 @@
 
 mod fault;
 mod journal;
+mod keeper;
 mod laws;
 mod table;
 
 pub use crate::fault::DurableFault;
 pub use crate::journal::DurableJournal;
+pub use crate::keeper::DurableKeeper;
 pub use crate::laws::{
     a_stop_leaves_a_legal_journal, a_turn_more_is_kept_where_it_changes, changing_turns_all_change,
     changing_turns_are_legal, changing_turns_leave_the_same, other_turns_change_nothing,

@@ -1,7 +1,9 @@
 //! Where turns outlive a stop.
 
 ghost use Rattle.std.specs.Prelude.{◌≡◌, ◌⊎◌, ◌++◌, ◌∷◌, [], List, OnErr, OnOk};
-ghost use Rattle.hd_rules.specs.Journal.{Turn};
+ghost use Rattle.hd_rules.specs.Journal.{IsLegal, Turn};
+ghost use Rattle.hd_catalogue.specs.Contents.{Contents, facts_of};
+ghost use Rattle.hd_journal.specs.Asks.{IsKnownMessage};
 ghost use Rattle.hd_journal.specs.Shown.{shown};
 
 use hd_journal::TurnRef;
@@ -10,23 +12,32 @@ use hd_journal::TurnRef;
 #[derive(Clone, Copy, PartialEq, Eq, Debug)]
 pub struct NotCommitted;
 
-/// A table of turns that outlives a stop, as a file.
+/// A table of turns that outlives a stop, as a file. It tells them by the names of a catalogue.
 pub trait TurnTable {
+    /// What its catalogue says.
+    ghost contents: { Self → Contents };
+
     /// That it has just these turns, in this order, each committed.
     ghost holds: { Self → List Turn → Type 0 };
 
     /// That a stop at this moment may leave just these turns in it.
     ghost leaves: { Self → List Turn → Type 0 };
 
-    /// Commits one turn more, behind all others. A stop after it leaves the turn.
+    /// Commits one turn more, behind all others, which are legal with it. What its message names, and its
+    /// terminal, are of the catalogue. A stop after it leaves the turn.
     ///
     /// # Errors
     /// Where it can't be written. A stop may then leave the turn or not, and the table is to be used no more.
     fn commit(&mut self, turn: &TurnRef<'_>) -> Result<(), NotCommitted>
-        ensures ok { OnOk result ((turns : List Turn) → holds self.old turns
-            → holds self.new (turns ++ shown turn.now ∷ [])) }
+        requires { IsKnownMessage (facts_of (contents self.old)) (shown turn.now).message }
+        ensures ok { OnOk result ((turns : List Turn)
+            → IsLegal (facts_of (contents self.old)) (turns ++ shown turn.now ∷ [])
+            → holds self.old turns → holds self.new (turns ++ shown turn.now ∷ [])) }
         ensures settled { OnOk result ((turns left : List Turn) → holds self.new turns
             → leaves self.new left → left ≡ turns) }
-        ensures err { OnErr result ((turns left : List Turn) → holds self.old turns → leaves self.new left
-            → (left ≡ turns) ⊎ (left ≡ turns ++ shown turn.now ∷ [])) };
+        ensures err { OnErr result ((turns left : List Turn)
+            → IsLegal (facts_of (contents self.old)) (turns ++ shown turn.now ∷ [])
+            → holds self.old turns → leaves self.new left
+            → (left ≡ turns) ⊎ (left ≡ turns ++ shown turn.now ∷ [])) }
+        ensures contents { contents self.new ≡ contents self.old };
 }

@@ -4,13 +4,16 @@ ghost use Rattle.hd_exchange.specs.declared.fault.OfficeFault.TheVariants.{Memor
 
 use hd_journal::Fault;
 
-/// Why an office makes no turn. Nothing is changed then.
+/// Why an office makes no turn. It has no turn more then.
 #[derive(Clone, Copy, PartialEq, Eq, Debug)]
 pub enum OfficeFault {
     /// There was no memory for it.
     Memory,
     /// The office's turns aren't those that the session saw: it has come to another journal.
     Estranged,
+    /// The office keeps its turns where they outlive a stop, and this one or an earlier one couldn't be
+    /// written.
+    Unwritten,
 }
 
 /// A journal alone wants nothing but memory.

@@ -5,7 +5,7 @@ use Rattle.std.proofs.Math.Seq.{take-append_seam}
 use Rattle.std.proofs.lemmas.List.{take-append-le}
 use Rattle.std.proofs.lemmas.Option.{slice_get_within}
 use Rattle.hd_rules.specs.Journal.{Turn}
-use Rattle.hd_catalogue.specs.Contents.{Contents}
+use Rattle.hd_hall.specs.Openings.{Opening}
 use Rattle.hd_hall.specs.Receipts.{Receipted, IsLast, Stands, last_receipt}
 use Rattle.hd_hall.specs.Seats.{SeatView, IsSeat, AreOf, RiseAbove}
 use Rattle.hd_hall.specs.Submitting.{AreNext, IsNextOf}
@@ -67,27 +67,27 @@ read_added [] r = refl
 read_added (x ∷ xs) r = read_added xs r
 
 -- receipts of which each is next of those before it, and one more
-pub next-snoc : (k : Contents) (rs : List Receipted) (r : Receipted) → AreNext k rs → IsNextOf k rs r
-    → AreNext k (rs ++ r ∷ [])
-next-snoc k rs r all next n x is =
+pub next-snoc : (o : Opening) (rs : List Receipted) (r : Receipted) → AreNext o rs → IsNextOf o rs r
+    → AreNext o (rs ++ r ∷ [])
+next-snoc o rs r all next n x is =
     let within = slice_get_within (rs ++ r ∷ []) n x is in
     elim (below_or_at n (length rs) (omega (arith, length-append rs (r ∷ [])))) [
       | inl below ↦
-          subst (λ (b : List Receipted). IsNextOf k b x) (sym (take-append-le n rs (r ∷ []) (omega arith)))
+          subst (λ (b : List Receipted). IsNextOf o b x) (sym (take-append-le n rs (r ∷ []) (omega arith)))
           (all n x (sym (read_before rs r n below) ∙ is))
       | inr at ↦
           let here : Some r ≡ Some x = sym (read_added rs r) ∙ subst (λ m. slice_get (rs ++ r ∷ []) m ≡ Some x) at is in
           let same : r ≡ x = cc in
-          subst (λ m. IsNextOf k (take m (rs ++ r ∷ [])) x) (sym at)
-          (subst (λ (b : List Receipted). IsNextOf k b x) (sym (take-append_seam rs (r ∷ [])))
-          (subst (λ (y : Receipted). IsNextOf k rs y) same next))
+          subst (λ m. IsNextOf o (take m (rs ++ r ∷ [])) x) (sym at)
+          (subst (λ (b : List Receipted). IsNextOf o b x) (sym (take-append_seam rs (r ∷ [])))
+          (subst (λ (y : Receipted). IsNextOf o rs y) same next))
     ]
 
 -- a seat that gains a receipt beyond a list in which its last one stands
-pub seat-snoc : (k : Contents) (s : SeatView) (r : Receipted) → s.parts ≡ 1 → IsSeat k s → IsNextOf k s.receipts r
+pub seat-snoc : (o : Opening) (s : SeatView) (r : Receipted) → s.parts ≡ 1 → IsSeat o s → IsNextOf o s.receipts r
     → r.turn.seat ≡ s.number
-    → IsSeat k (record { number = s.number; receipts = s.receipts ++ r ∷ []; parts = s.parts; share = s.share + 1 })
-seat-snoc k s r whole ok next own =
+    → IsSeat o (record { number = s.number; receipts = s.receipts ++ r ∷ []; parts = s.parts; share = s.share + 1 })
+seat-snoc o s r whole ok next own =
     let number = next.number in
     record {
       own = own-snoc s.number s.receipts r ok.own own;
@@ -96,5 +96,5 @@ seat-snoc k s r whole ok next own =
           (λ p last. let below = stands_within next.before p (next.holds p last) in omega arith);
       counted = λ one. let count = ok.counted one in omega (arith, length-append s.receipts (r ∷ []));
       lent = λ none. absurd (omega arith);
-      told = next-snoc k s.receipts r ok.told next;
+      told = next-snoc o s.receipts r ok.told next;
     }

@@ -3,15 +3,14 @@ use Rattle.std.specs.Prelude.{◌≡◌, ℕ, ◌-◌, ◌<◌, List, [], ◌∷
 use Rattle.std.specs.List.{All, Contains}
 use Rattle.std.specs.List.Sorted.{IsPermutation}
 use Rattle.hd_rules.specs.Journal.{Turn}
-use Rattle.hd_catalogue.specs.Contents.{Contents}
-use Rattle.hd_journal.specs.Books.{IsLegalBook}
+use Rattle.hd_hall.specs.Openings.{Opening, IsLegalFrom}
 use Rattle.hd_hall.specs.Receipts.{Stands, numbered}
 use Rattle.hd_hall.specs.Seats.{SeatView, all_receipts, shares}
 
--- The turns are those of a legal journal, and they are the receipts of the seats, each once, as many as the
--- seats' shares say.
-pub record AreTurnsOf (k : Contents) (turns : List Turn) (seats : List SeatView) : Type 0 where
-  pub legal : IsLegalBook k turns
+-- The turns are those that a legal journal has gone on by since the hall was opened, and they are the
+-- receipts of the seats, each once, as many as the seats' shares say.
+pub record AreTurnsOf (o : Opening) (turns : List Turn) (seats : List SeatView) : Type 0 where
+  pub legal : IsLegalFrom o turns
   pub once : IsPermutation (numbered 0 turns) (all_receipts seats)
   pub counted : length turns ≡ shares seats
 
@@ -22,9 +21,9 @@ IsLacking turns seats number =
     × (Contains (all_receipts seats) (record { number = number; turn = turn }) → ⊥)
 
 -- The same of a legal journal, with as many turns as the seats' shares say.
-pub record LacksReceipt (k : Contents) (turns : List Turn) (seats : List SeatView) (number : ℕ)
+pub record LacksReceipt (o : Opening) (turns : List Turn) (seats : List SeatView) (number : ℕ)
     : Type 0 where
-  pub legal : IsLegalBook k turns
+  pub legal : IsLegalFrom o turns
   pub counted : length turns ≡ shares seats
   pub lacks : IsLacking turns seats number
 

@@ -1,7 +1,9 @@
+pub mod Openings
 pub mod Houses
 pub mod Keepers
 pub mod Receipts
 pub mod Submitting
+pub mod Counters
 pub mod Seats
 pub mod Closings
 pub mod NotClosing

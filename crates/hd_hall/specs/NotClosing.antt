@@ -1,7 +1,7 @@
 -- What a hall that didn't close gives back.
 use Rattle.std.specs.Prelude.{◌≡◌, ◌<◌, List, length}
-use Rattle.hd_catalogue.specs.Contents.{Contents}
 use Rattle.hd_hall.specs.Closings.{LacksReceipt}
+use Rattle.hd_hall.specs.Openings.{Opening}
 use Rattle.hd_hall.specs.Seats.{SeatView, EachSeat, IsWhole}
 use Rattle.std.specs.declared.alloc.Allocator.{Ghosts as AllocatorGhosts}
 use Rattle.hd_hall.specs.declared.house.House.{Ghosts}
@@ -12,10 +12,10 @@ use Rattle.hd_hall.specs.declared.hall.NotClosed.TheVariants.{SeatMissing, Recei
 -- The seats come back as they were. More were opened than these; or a legal journal of the catalogue, with as
 -- many turns as the seats' shares say, each share being the number of its seat's receipts, has a turn of that
 -- number of which no seat has a receipt.
-abbrev pub Misses : {H A K Own : Type 0} {house : Ghosts H} {memory : AllocatorGhosts A}
-    {keeping : KeeperGhosts K A Own} → Contents → NotClosed H A K Own house memory keeping
+abbrev pub Misses : {H A Q K : Type 0} {house : Ghosts H} {memory : AllocatorGhosts A}
+    {keeping : KeeperGhosts K A Q} → Opening → NotClosed H A Q K house memory keeping
     → List SeatView → Type 0
-Misses k (SeatMissing hall back opened) seats = (back.items ≡ seats) × (length seats < opened)
-Misses {keeping = keeping} k (ReceiptDiffers keeper back number) seats =
-    (back.items ≡ seats) × (keeping.contents keeper ≡ k) × LacksReceipt k (keeping.turns keeper) seats number
+Misses o (SeatMissing hall back opened) seats = (back.items ≡ seats) × (length seats < opened)
+Misses {keeping = keeping} o (ReceiptDiffers keeper back number) seats =
+    (back.items ≡ seats) × (keeping.opening keeper ≡ o) × LacksReceipt o (keeping.turns keeper) seats number
     × EachSeat seats IsWhole

@@ -1,7 +1,7 @@
 -- Seats.
 use Rattle.std.specs.Prelude.{◌≡◌, ℕ, ◌+◌, ◌<◌, List, [], ◌∷◌, ◌++◌, length, Some, slice_get}
 use Rattle.std.specs.List.{flat_map}
-use Rattle.hd_catalogue.specs.Contents.{Contents}
+use Rattle.hd_hall.specs.Openings.{Opening}
 use Rattle.hd_hall.specs.Receipts.{Receipted}
 use Rattle.hd_hall.specs.Submitting.{AreNext}
 
@@ -25,12 +25,12 @@ RiseAbove n (r ∷ rs) = (n < r.number) × RiseAbove r.number rs
 
 -- A seat's receipts are its own and in order, each told as the next of those before it. With its part it has
 -- one share for each, without it none.
-pub record IsSeat (k : Contents) (s : SeatView) : Type 0 where
+pub record IsSeat (o : Opening) (s : SeatView) : Type 0 where
   pub own : AreOf s.number s.receipts
   pub in_order : RiseAbove 0 s.receipts
   pub counted : s.parts ≡ 1 → s.share ≡ length s.receipts
   pub lent : s.parts ≡ 0 → s.share ≡ 0
-  pub told : AreNext k s.receipts
+  pub told : AreNext o s.receipts
 
 -- the same of a seat that has its part
 pub record IsWhole (s : SeatView) : Type 0 where

@@ -1,26 +1,37 @@
 -- What a seat is told: its receipts, or that the journal isn't the one that it came from.
 use Rattle.std.specs.Prelude.{◌≡◌, ℕ, ◌+◌, List, [], ◌∷◌, ◌++◌, Some, length, slice_get, take}
 use Rattle.hd_rules.specs.Journal.{Turn}
-use Rattle.hd_catalogue.specs.Contents.{Contents}
-use Rattle.hd_journal.specs.Books.{IsLegalBook}
+use Rattle.hd_hall.specs.Openings.{Opening, IsLegalFrom}
 use Rattle.hd_hall.specs.Receipts.{Receipted, HoldsLast, LacksLast}
+use Rattle.hd_hall.specs.declared.fault.HallFault.{HallFault}
+use Rattle.hd_hall.specs.declared.fault.HallFault.TheVariants as hall
+use Rattle.hd_hall.specs.declared.fault.KeeperFault.{KeeperFault}
+use Rattle.hd_hall.specs.declared.fault.KeeperFault.TheVariants as keeper
 
 -- The receipt is of the last turn of a legal journal of the catalogue, in which the seat's last turn before
--- it, if there was one, stands at its own number, which is lower.
-pub record IsNextOf (k : Contents) (receipts : List Receipted) (r : Receipted) : Type 0 where
+-- it, if there was one, stands at its own number, which is lower. Turns are numbered from the hall's opening
+-- on.
+pub record IsNextOf (o : Opening) (receipts : List Receipted) (r : Receipted) : Type 0 where
   pub before : List Turn
-  pub legal : IsLegalBook k (before ++ r.turn ∷ [])
+  pub legal : IsLegalFrom o (before ++ r.turn ∷ [])
   pub number : r.number ≡ length before + 1
   pub holds : HoldsLast before receipts
 
 -- each receipt is the next of those before it
-abbrev pub AreNext : Contents → List Receipted → Type 0
-AreNext k receipts =
-    (n : ℕ) (r : Receipted) → slice_get receipts n ≡ Some r → IsNextOf k (take n receipts) r
+abbrev pub AreNext : Opening → List Receipted → Type 0
+AreNext o receipts =
+    (n : ℕ) (r : Receipted) → slice_get receipts n ≡ Some r → IsNextOf o (take n receipts) r
 
--- A legal journal of the catalogue, with so many turns, lacks the seat's last turn.
-pub record IsStrangeTo (k : Contents) (receipts : List Receipted) (front : ℕ) : Type 0 where
+-- A legal journal of the catalogue, with so many turns since, lacks the seat's last turn.
+pub record IsStrangeTo (o : Opening) (receipts : List Receipted) (front : ℕ) : Type 0 where
   pub turns : List Turn
-  pub legal : IsLegalBook k turns
+  pub legal : IsLegalFrom o turns
   pub counted : length turns ≡ front
   pub lacks : LacksLast turns receipts
+
+-- Why there is no turn: the keeper gave a fault that it can give, memory was wanting before the lock was
+-- taken, or the journal, of so many turns, lacks the seat's last one.
+abbrev pub IsSubmitFault : (KeeperFault → Type 0) → (ℕ → Type 0) → HallFault → Type 0
+IsSubmitFault gives Lacks hall.Memory = Unit {0}
+IsSubmitFault gives Lacks (hall.Estranged front) = Lacks front
+IsSubmitFault gives Lacks hall.Unwritten = gives keeper.Unwritten

@@ -20,7 +20,7 @@ use std::alloc::Allocator;
 use std::sync::ledger::{Book, Share};
 
 /// The number of a turn of which no seat has the receipt. With `None` the turns are the receipts.
-pub(crate) fn differing<H: House, A: Allocator + Copy, K: Keeper<A>>(
+pub(crate) fn differing<H: House, A: Allocator + Copy, Q: Drop, K: Keeper<A, Q>>(
     keeper: &K,
     book: &mut Book<H>,
     rest: &mut Share<H>,
@@ -30,8 +30,8 @@ pub(crate) fn differing<H: House, A: Allocator + Copy, K: Keeper<A>>(
     requires counted { book.old.total ≡ length (K.turns keeper.now) }
     requires empty { (rest.old.amount ≡ 0) × (0 < rest.old.parts) }
     requires all { H.parts ≤ rest.old.parts + length seats.old }
-    ensures none { IfNone result (AreTurnsOf (K.contents keeper.now) (K.turns keeper.now) seats.old) }
-    ensures some { IfSome result (LacksReceipt (K.contents keeper.now) (K.turns keeper.now) seats.old) }
+    ensures none { IfNone result (AreTurnsOf (K.opening keeper.now) (K.turns keeper.now) seats.old) }
+    ensures some { IfSome result (LacksReceipt (K.opening keeper.now) (K.turns keeper.now) seats.old) }
     ensures same { OnSome result (seats.new ≡ seats.old) }
     ensures whole { EachSeat seats.old IsWhole }
 {
@@ -79,7 +79,10 @@ fn give_back<H: House, A: Allocator>(all: &mut Share<H>, seats: &mut [Seat<H, A>
 
 /// Whether the seats stand in the order of their numbers, and each receipt is of the journal's turn of its
 /// number.
-fn are_there<H: House, A: Allocator + Copy, K: Keeper<A>>(keeper: &K, seats: &[Seat<H, A>]) -> bool
+fn are_there<H: House, A: Allocator + Copy, Q: Drop, K: Keeper<A, Q>>(
+    keeper: &K,
+    seats: &[Seat<H, A>],
+) -> bool
     ensures { IsTrue result ↔ AreThere (K.turns keeper.now) 0 seats.now }
 {
     let mut last = 0;
@@ -94,7 +97,10 @@ fn are_there<H: House, A: Allocator + Copy, K: Keeper<A>>(keeper: &K, seats: &[S
 }
 
 /// Whether each receipt is of the journal's turn of its number.
-fn all_stand<A: Allocator + Copy, K: Keeper<A>>(keeper: &K, receipts: &[Kept<A>]) -> bool
+fn all_stand<A: Allocator + Copy, Q: Drop, K: Keeper<A, Q>>(
+    keeper: &K,
+    receipts: &[Kept<A>],
+) -> bool
     ensures { IsTrue result ↔ All (Stands (K.turns keeper.now)) receipts.now }
 {
     for receipt in receipts {
@@ -106,7 +112,7 @@ fn all_stand<A: Allocator + Copy, K: Keeper<A>>(keeper: &K, receipts: &[Kept<A>]
 }
 
 /// The first turn of which no seat has the receipt, of `front` turns.
-fn first_without_receipt<H: House, A: Allocator + Copy, K: Keeper<A>>(
+fn first_without_receipt<H: House, A: Allocator + Copy, Q: Drop, K: Keeper<A, Q>>(
     keeper: &K,
     seats: &[Seat<H, A>],
     front: usize,
@@ -126,7 +132,7 @@ fn first_without_receipt<H: House, A: Allocator + Copy, K: Keeper<A>>(
 }
 
 /// Whether some seat has the receipt of the turn of this number, where there is such a turn.
-fn is_received<H: House, A: Allocator + Copy, K: Keeper<A>>(
+fn is_received<H: House, A: Allocator + Copy, Q: Drop, K: Keeper<A, Q>>(
     keeper: &K,
     seats: &[Seat<H, A>],
     number: usize,

@@ -1,11 +1,11 @@
 //! A seat of a hall is an office.
 
-ghost use Rattle.std.specs.Prelude.{◌≡◌, ◌≢◌, ℕ, IfErr, IfOk, OnErr};
+ghost use Rattle.std.specs.Prelude.{◌≡◌, IfErr, IfOk, OnErr};
 ghost use Rattle.hd_catalogue.specs.Contents.{facts_of};
 ghost use Rattle.hd_journal.specs.Asks.{IsKnownMessage, sent};
-ghost use Rattle.hd_exchange.specs.declared.fault.OfficeFault.{OfficeFault};
 ghost use Rattle.hd_hall.specs.Receipts.{received};
 ghost use Rattle.hd_hall.specs.Seats.{with_receipt};
+ghost use Rattle.hd_hall.specs.Counters.{IsCounterFault};
 ghost use Rattle.hd_hall.specs.Submitting.{AreNext, IsNextOf, IsStrangeTo};
 
 use crate::fault::HallFault;
@@ -15,26 +15,33 @@ use crate::keeper::Keeper;
 use crate::seat::Seat;
 use hd_catalogue::Catalogue;
 use hd_exchange::{Office, OfficeFault};
-use hd_journal::{Ask, Journal, SeatNo, Turn};
+use hd_journal::{Ask, Journal, OwnedAsk, SeatNo, Turn};
 use std::alloc::{Allocator, Global};
 use std::sync::Wait;
 
 /// A seat of a hall, as an office: its turns are the seat's receipts.
 #[derive(Drop)]
-pub struct Counter<'a, H: House, R: Wait, A: Allocator = Global, K: Keeper<A> = Journal<A>> {
+pub struct Counter<
+    'a,
+    H: House,
+    R: Wait,
+    A: Allocator = Global,
+    Q: Drop = OwnedAsk<A>,
+    K: Keeper<A, Q> = Journal<A>,
+> {
     rt: &'a R,
-    hall: &'a Hall<H, A, K>,
+    hall: &'a Hall<H, A, Q, K>,
     seat: &'a mut Seat<H, A>,
     ghost held: { seat.now.parts ≡ 1 },
 }
 
-impl<'a, H: House, R: Wait, A: Allocator, K: Keeper<A>> Counter<'a, H, R, A, K> {
+impl<'a, H: House, R: Wait, A: Allocator, Q: Drop, K: Keeper<A, Q>> Counter<'a, H, R, A, Q, K> {
     /// The counter of a seat, which was opened by this hall.
     pub fn new(
         rt: &'a R,
-        hall: &'a Hall<H, A, K>,
+        hall: &'a Hall<H, A, Q, K>,
         seat: &'a mut Seat<H, A>,
-    ) -> Counter<'a, H, R, A, K>
+    ) -> Counter<'a, H, R, A, Q, K>
         requires { seat.old.parts ≡ 1 }
         ensures same_reference { result.seat.ghost_name ≡ seat.entry.ghost_name }
         ensures seat { result.seat.now ≡ seat.old }
@@ -43,26 +50,32 @@ impl<'a, H: House, R: Wait, A: Allocator, K: Keeper<A>> Counter<'a, H, R, A, K> 
     }
 }
 
-impl<'a, H: House, R: Wait, A: Allocator + Copy, K: Keeper<A> + Drop> Counter<'a, H, R, A, K> {
+impl<'a, H: House, R: Wait, A: Allocator + Copy, Q: Drop, K: Keeper<A, Q> + Drop> Counter<
+    'a,
+    H,
+    R,
+    A,
+    Q,
+    K,
+> {
     /// One turn: what a terminal of this seat asks. The terminal, and all that it asks, are of the hall's
     /// catalogue.
     ///
     /// The turn is the last of the hall's journal, and its receipt is the seat's last.
     ///
     /// # Errors
-    /// `Estranged` only where the seat has receipts and the hall's journal lacks the last of them, and
-    /// `Memory` else. The seat is unchanged.
+    /// `Estranged` only where the seat has receipts and the hall's journal lacks the last of them,
+    /// `Unwritten` only where the hall's keeper can give that, and `Memory` else. The seat is unchanged.
     pub fn submit(&mut self, ask: &Ask<'_>) -> Result<Turn, OfficeFault>
         requires seat { ask.now.seat ≡ self.old.seat.now.number }
-        requires known { IsKnownMessage (facts_of H.contents) (sent ask.now).message }
+        requires known { IsKnownMessage (facts_of H.opening.contents) (sent ask.now).message }
         ensures next { IfOk result (λ made.
-            IsNextOf H.contents self.old.seat.now.receipts (received (sent ask.now) made)) }
+            IsNextOf H.opening self.old.seat.now.receipts (received (sent ask.now) made)) }
         ensures kept { IfOk result (λ made.
             self.new.seat.now ≡ with_receipt self.old.seat.now (received (sent ask.now) made)) }
-        ensures all { AreNext H.contents self.new.seat.now.receipts }
-        ensures estranged { IfErr result (λ fault. fault ≢ OfficeFault.Memory →
-            (fault ≡ OfficeFault.Estranged)
-            × ((front : ℕ) × IsStrangeTo H.contents self.old.seat.now.receipts front)) }
+        ensures all { AreNext H.opening self.new.seat.now.receipts }
+        ensures why { IfErr result
+            (IsCounterFault K.faults (IsStrangeTo H.opening self.old.seat.now.receipts)) }
         ensures err { OnErr result (self.new.seat.now ≡ self.old.seat.now) }
         ensures same_reference { self.new.seat.ghost_name ≡ self.old.seat.ghost_name }
     {
@@ -73,26 +86,28 @@ impl<'a, H: House, R: Wait, A: Allocator + Copy, K: Keeper<A> + Drop> Counter<'a
             }),
             Err(HallFault::Memory) => Err(OfficeFault::Memory),
             Err(HallFault::Estranged { .. }) => Err(OfficeFault::Estranged),
+            Err(HallFault::Unwritten) => Err(OfficeFault::Unwritten),
         }
     }
 }
 
-impl<'a, H: House, R: Wait, A: Allocator + Copy, K: Keeper<A> + Drop> Office<A>
-    for Counter<'a, H, R, A, K> {
+impl<'a, H: House, R: Wait, A: Allocator + Copy, Q: Drop, K: Keeper<A, Q> + Drop> Office<A>
+    for Counter<'a, H, R, A, Q, K> {
     ghost use Rattle.std.specs.Prelude.{map, [], ◌∷◌};
 
     ghost keeps = { λ c. record {
-      contents = H.contents;
+      contents = H.opening.contents;
       seat = c.seat.now.number;
       borrows = c.seat.ghost_name ∷ [];
     } };
 
     ghost turns = { λ c. map (λ r. r.turn) c.seat.now.receipts };
 
-    ghost faults = { λ fault. Unit {0} };
+    /// Any, but for what the hall's keeper never gives: a journal alone never fails to write.
+    ghost faults = { IsCounterFault K.faults (λ front. Unit {0}) };
 
     /// Each of the seat's receipts was the last turn of a legal journal, which held the receipt before it.
-    ghost holds = { λ c. AreNext H.contents c.seat.now.receipts };
+    ghost holds = { λ c. AreNext H.opening c.seat.now.receipts };
 
     fn catalogue(&self) -> &Catalogue<A> {
         self.hall.catalogue()

@@ -7,7 +7,7 @@ ghost use Rattle.hd_journal.specs.Asks.{IsKnownMessage, replied, sent};
 ghost use Rattle.hd_hall.specs.Closings.{AreTurnsOf};
 ghost use Rattle.hd_hall.specs.Receipts.{received, told};
 ghost use Rattle.hd_hall.specs.Seats.{EachSeat, IsWhole, with_receipt};
-ghost use Rattle.hd_hall.specs.Submitting.{AreNext, IsNextOf, IsStrangeTo};
+ghost use Rattle.hd_hall.specs.Submitting.{AreNext, IsNextOf, IsStrangeTo, IsSubmitFault};
 
 use crate::closing::differing;
 use crate::fault::HallFault;
@@ -18,7 +18,7 @@ use crate::locked::Locked;
 use crate::receipt::Receipt;
 use crate::seat::Seat;
 use hd_catalogue::Catalogue;
-use hd_journal::{Ask, Journal, Turn};
+use hd_journal::{Ask, Journal, OwnedAsk, Turn};
 use std::alloc::{Allocator, Global};
 use std::sync::ledger::{Blank, Share};
 use std::sync::{Arc, Mutex, Wait};
@@ -29,20 +29,30 @@ use std::sync::{Arc, Mutex, Wait};
 /// Under the lock are the journal's keeper, the book of the ledger, the parts that no seat has and the number
 /// of seats opened. The journal is always legal.
 #[derive(Drop)]
-pub struct Hall<H: House, A: Allocator = Global, K: Keeper<A> = Journal<A>> {
+pub struct Hall<
+    H: House,
+    A: Allocator = Global,
+    Q: Drop = OwnedAsk<A>,
+    K: Keeper<A, Q> = Journal<A>,
+> {
     pub(crate) alloc: A,
     pub(crate) catalogue: Arc<Catalogue<A>, A>,
-    pub(crate) shared: Mutex<Locked<H, A, K>>,
-    ghost ours: { arc_value catalogue ≡ H.contents },
+    pub(crate) shared: Mutex<Locked<H, A, Q, K>>,
+    ghost ours: { arc_value catalogue ≡ H.opening.contents },
 }
 
 /// Why a hall did not close. The seats come back as they were.
 #[derive(Drop)]
-pub enum NotClosed<H: House, A: Allocator = Global, K: Keeper<A> = Journal<A>> {
+pub enum NotClosed<
+    H: House,
+    A: Allocator = Global,
+    Q: Drop = OwnedAsk<A>,
+    K: Keeper<A, Q> = Journal<A>,
+> {
     /// More seats were opened than were handed in.
     SeatMissing {
         /// The hall.
-        hall: Hall<H, A, K>,
+        hall: Hall<H, A, Q, K>,
         /// The seats that were handed in.
         seats: Vec<Seat<H, A>, A>,
         /// How many seats were opened.
@@ -59,7 +69,7 @@ pub enum NotClosed<H: House, A: Allocator = Global, K: Keeper<A> = Journal<A>> {
     },
 }
 
-impl<H: House, A: Allocator + Copy, K: Keeper<A> + Drop> Hall<H, A, K> {
+impl<H: House, A: Allocator + Copy, Q: Drop, K: Keeper<A, Q> + Drop> Hall<H, A, Q, K> {
     ghost use Rattle.hd_hall.specs.NotClosing.{Misses};
 
     /// A hall round a journal without turns, with a new ledger, whose parts are one for each seat and one
@@ -67,9 +77,9 @@ impl<H: House, A: Allocator + Copy, K: Keeper<A> + Drop> Hall<H, A, K> {
     ///
     /// # Errors
     /// `Memory`. The journal is dropped then.
-    pub fn new(alloc: A, keeper: K, blank: Blank) -> Result<Hall<H, A, K>, HallFault>
+    pub fn new(alloc: A, keeper: K, blank: Blank) -> Result<Hall<H, A, Q, K>, HallFault>
         requires turns { K.turns keeper ≡ [] }
-        requires contents { K.contents keeper ≡ H.contents }
+        requires opening { K.opening keeper ≡ H.opening }
         requires name { blank.name ≡ H.name }
         requires parts { (blank.parts ≡ H.parts) × (H.parts ≡ 4294967296) }
         ensures { IfErr result (λ why. why ≡ HallFault.Memory) }
@@ -84,7 +94,7 @@ impl<H: House, A: Allocator + Copy, K: Keeper<A> + Drop> Hall<H, A, K> {
 
     /// The catalogue.
     pub fn catalogue(&self) -> &Catalogue<A>
-        ensures { result.now ≡ H.contents }
+        ensures { result.now ≡ H.opening.contents }
     {
         &self.catalogue
     }
@@ -105,12 +115,12 @@ impl<H: House, A: Allocator + Copy, K: Keeper<A> + Drop> Hall<H, A, K> {
     /// that it asks, are of the hall's catalogue.
     ///
     /// The receipt is of the turn, which is the last of the hall's journal, and lends the asker's own line.
-    /// The seat keeps it, with a copy of the line. The room for it, that copy and the journal's are made before
-    /// the lock is taken.
+    /// The seat keeps it, with a copy of the line. The room for it, that copy and the journal's are made
+    /// before the lock is taken.
     ///
     /// # Errors
-    /// `Memory`, and `Estranged` where the journal lacks the seat's last turn. The journal and the seat are
-    /// unchanged.
+    /// `Memory`, `Estranged` where the journal lacks the seat's last turn, and `Unwritten` where the keeper
+    /// gives that. The journal's turns and the seat are unchanged.
     pub fn submit<'l, R: Wait>(
         &self,
         rt: &R,
@@ -119,14 +129,14 @@ impl<H: House, A: Allocator + Copy, K: Keeper<A> + Drop> Hall<H, A, K> {
     ) -> Result<Receipt<'l>, HallFault>
         requires part { seat.old.parts ≡ 1 }
         requires seat { ask.now.seat ≡ seat.old.number }
-        requires known { IsKnownMessage (facts_of H.contents) (sent ask.now).message }
+        requires known { IsKnownMessage (facts_of H.opening.contents) (sent ask.now).message }
         ensures turn { IfOk result (λ receipt.
             (told receipt).turn ≡ replied (sent ask.now) receipt.turn.reply) }
-        ensures next { IfOk result (λ receipt. IsNextOf H.contents seat.old.receipts (told receipt)) }
+        ensures next { IfOk result (λ receipt. IsNextOf H.opening seat.old.receipts (told receipt)) }
         ensures kept { IfOk result (λ receipt. seat.new ≡ with_receipt seat.old (told receipt)) }
-        ensures all { AreNext H.contents seat.new.receipts }
-        ensures estranged { (front : ℕ) → result ≡ Err (HallFault.Estranged front)
-            → IsStrangeTo H.contents seat.old.receipts front }
+        ensures all { AreNext H.opening seat.new.receipts }
+        ensures why { IfErr result
+            (IsSubmitFault K.faults (IsStrangeTo H.opening seat.old.receipts)) }
         ensures err { OnErr result (seat.new ≡ seat.old) }
     {
         let Seat {
@@ -150,13 +160,13 @@ impl<H: House, A: Allocator + Copy, K: Keeper<A> + Drop> Hall<H, A, K> {
     /// # Errors
     /// `SeatMissing` where fewer seats are handed in than were opened, and `ReceiptDiffers` where some turn
     /// has no receipt. The seats come back as they were.
-    pub fn close(self, mut seats: Vec<Seat<H, A>, A>) -> Result<K, NotClosed<H, A, K>>
+    pub fn close(self, mut seats: Vec<Seat<H, A>, A>) -> Result<K, NotClosed<H, A, Q, K>>
         requires parts { H.parts ≡ 4294967296 }
         requires seats { EachSeat seats.items (λ s. s.parts ≡ 1) }
-        ensures turns { IfOk result (λ keeper. AreTurnsOf H.contents (K.turns keeper) seats.items) }
-        ensures contents { IfOk result (λ keeper. K.contents keeper ≡ H.contents) }
+        ensures turns { IfOk result (λ keeper. AreTurnsOf H.opening (K.turns keeper) seats.items) }
+        ensures opening { IfOk result (λ keeper. K.opening keeper ≡ H.opening) }
         ensures in_order { OnOk result (EachSeat seats.items IsWhole) }
-        ensures missing { IfErr result (λ why. Misses H.contents why seats.items) }
+        ensures missing { IfErr result (λ why. Misses H.opening why seats.items) }
     {
         let Hall {
             alloc,
@@ -169,6 +179,7 @@ impl<H: House, A: Allocator + Copy, K: Keeper<A> + Drop> Hall<H, A, K> {
             mut rest,
             opened,
             of,
+            asks,
         } = shared.into_inner();
         if seats.len() < opened as usize {
             let locked = Locked {
@@ -177,6 +188,7 @@ impl<H: House, A: Allocator + Copy, K: Keeper<A> + Drop> Hall<H, A, K> {
                 rest,
                 opened,
                 of,
+                asks,
             };
             return Err(NotClosed::SeatMissing {
                 hall: Hall {
@@ -205,16 +217,15 @@ impl<H: House, A: Allocator + Copy, K: Keeper<A> + Drop> Hall<H, A, K> {
         rt: &R,
         receipts: &[Kept<A>],
         share: &mut Share<H>,
-        own: K::Own,
+        own: Q,
     ) -> Result<Turn, HallFault>
         requires part { 0 < share.old.parts }
-        requires known { IsKnownMessage (facts_of H.contents) (K.asks own).message }
+        requires known { IsKnownMessage (facts_of H.opening.contents) (K.asks own).message }
         ensures next { IfOk result (λ made.
-            IsNextOf H.contents receipts.now (received (K.asks own) made)) }
+            IsNextOf H.opening receipts.now (received (K.asks own) made)) }
         ensures share { OnOk result (share.new.amount ≡ share.old.amount + 1) }
         ensures parts { share.new.parts ≡ share.old.parts }
-        ensures estranged { (front : ℕ) → result ≡ Err (HallFault.Estranged front)
-            → IsStrangeTo H.contents receipts.now front }
+        ensures why { IfErr result (IsSubmitFault K.faults (IsStrangeTo H.opening receipts.now)) }
         ensures err { OnErr result (share.new ≡ share.old) }
     {
         self.shared.lock(rt).submit(receipts, share, own)

@@ -1,20 +1,25 @@
 //! A journal alone is a keeper.
+use crate::fault::KeeperFault;
 use crate::keeper::Keeper;
 use hd_catalogue::Catalogue;
-use hd_journal::{Ask, Fault, Journal, OwnedAsk, Turn, TurnRef};
+use hd_journal::{Ask, Journal, OwnedAsk, Turn, TurnRef};
 use std::alloc::{AllocError, Allocator};
 use std::sync::Arc;
 
-impl<A: Allocator + Copy> Keeper<A> for Journal<A> {
-    type Own = OwnedAsk<A>;
+impl<A: Allocator + Copy> Keeper<A, OwnedAsk<A>> for Journal<A> {
+    ghost use Rattle.std.specs.Prelude.{◌≡◌};
+    ghost use Rattle.hd_hall.specs.Openings.{fresh};
+    ghost use Rattle.hd_hall.specs.declared.fault.KeeperFault.TheVariants as keeper;
 
     ghost asks = { λ ask. ask };
 
-    ghost contents = { λ journal. journal.contents };
+    ghost opening = { λ journal. fresh journal.contents };
 
     ghost turns = { λ journal. journal.turns };
 
-    fn own(alloc: A, ask: &Ask<'_>) -> Result<Self::Own, AllocError> {
+    ghost faults = { λ fault. fault ≡ keeper.Memory };
+
+    fn own(alloc: A, ask: &Ask<'_>) -> Result<OwnedAsk<A>, AllocError> {
         ask.to_owned(alloc)
     }
 
@@ -30,7 +35,7 @@ impl<A: Allocator + Copy> Keeper<A> for Journal<A> {
         Journal::turn_at(self, at)
     }
 
-    fn take(&mut self, own: Self::Own) -> Result<Turn, Fault> {
-        Journal::take(self, own)
+    fn take(&mut self, own: OwnedAsk<A>) -> Result<Turn, KeeperFault> {
+        Ok(Journal::take(self, own)?)
     }
 }

@@ -1,49 +1,54 @@
 //! What keeps a hall's journal.
 
-ghost use Rattle.std.specs.Prelude.{◌≡◌, List, IfOk, OnErr, length, option_map};
+ghost use Rattle.std.specs.Prelude.{◌≡◌, List, IfErr, IfOk, OnErr, length, option_map};
 ghost use Rattle.std.specs.Arc.{arc_value};
 ghost use Rattle.hd_rules.specs.Journal.{Turn};
-ghost use Rattle.hd_catalogue.specs.Contents.{Contents, facts_of};
+ghost use Rattle.hd_catalogue.specs.Contents.{facts_of};
 ghost use Rattle.hd_journal.specs.Asks.{IsKnownMessage, SeatMessage, sent};
-ghost use Rattle.hd_journal.specs.Books.{IsLegalBook, turn_numbered};
+ghost use Rattle.hd_journal.specs.Books.{turn_numbered};
 ghost use Rattle.hd_journal.specs.Shown.{shown};
 ghost use Rattle.hd_hall.specs.Keepers.{IsAdded};
+ghost use Rattle.hd_hall.specs.Openings.{Opening, IsLegalFrom};
+ghost use Rattle.hd_hall.specs.declared.fault.KeeperFault.{KeeperFault};
 
+use crate::fault::KeeperFault;
 use hd_catalogue::Catalogue;
-use hd_journal::{Ask, Fault, Turn, TurnRef};
+use hd_journal::{Ask, Turn, TurnRef};
 use std::alloc::{AllocError, Allocator};
 use std::sync::Arc;
 
 /// What takes the turns of a legal journal, under a hall's lock: the journal alone, or whatever does more
 /// with each turn before it is answered.
-pub trait Keeper<A: Allocator> {
-    /// What it keeps of an ask. It is made before the lock is taken.
-    type Own: Drop;
-
+///
+/// `Q` is what it keeps of an ask, made before the lock is taken.
+pub trait Keeper<A: Allocator, Q: Drop> {
     /// What that asks.
-    ghost asks: { Self.Own → SeatMessage };
+    ghost asks: { Q → SeatMessage };
 
-    /// What its catalogue says.
-    ghost contents: { Self → Contents };
+    /// What its catalogue says, and the turns that it had when it became a keeper.
+    ghost opening: { Self → Opening };
 
-    /// The turns that it has come through, in order.
+    /// The turns that it has come through since, in order.
     ghost turns: { Self → List Turn };
+
+    /// The faults that it can give.
+    ghost faults: { KeeperFault → Type 0 };
 
     /// What it keeps of an ask.
     ///
     /// # Errors
     /// Where there is no memory for it.
-    fn own(alloc: A, ask: &Ask<'_>) -> Result<Self::Own, AllocError>
+    fn own(alloc: A, ask: &Ask<'_>) -> Result<Q, AllocError>
         ensures { IfOk result (λ own. asks own ≡ sent ask.now) };
 
     /// The catalogue.
     fn catalogue(&self) -> &Arc<Catalogue<A>, A>
-        ensures { arc_value result.now ≡ contents self.now };
+        ensures { arc_value result.now ≡ (opening self.now).contents };
 
-    /// How many turns there are.
+    /// How many turns there are, since it became a keeper.
     fn front(&self) -> usize
         ensures count { result ≡ length (turns self.now) }
-        ensures legal { IsLegalBook (contents self.now) (turns self.now) };
+        ensures legal { IsLegalFrom (opening self.now) (turns self.now) };
 
     /// The turn of a number, from 1, or `None` where there is none.
     fn turn_at(&self, at: usize) -> Option<TurnRef<'_>>
@@ -53,10 +58,11 @@ pub trait Keeper<A: Allocator> {
     ///
     /// # Errors
     /// There is no turn then.
-    fn take(&mut self, own: Self::Own) -> Result<Turn, Fault>
-        requires { IsKnownMessage (facts_of (contents self.old)) (asks own).message }
+    fn take(&mut self, own: Q) -> Result<Turn, KeeperFault>
+        requires { IsKnownMessage (facts_of (opening self.old).contents) (asks own).message }
         ensures turn { IfOk result (λ made. IsAdded (turns self.old) (turns self.new) (asks own) made) }
-        ensures legal { IsLegalBook (contents self.new) (turns self.new) }
+        ensures legal { IsLegalFrom (opening self.new) (turns self.new) }
+        ensures why { IfErr result faults }
         ensures err { OnErr result (turns self.new ≡ turns self.old) }
-        ensures same { contents self.new ≡ contents self.old };
+        ensures same { opening self.new ≡ opening self.old };
 }

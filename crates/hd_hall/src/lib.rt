@@ -14,7 +14,7 @@ mod receipt;
 mod seat;
 
 pub use crate::counter::Counter;
-pub use crate::fault::HallFault;
+pub use crate::fault::{HallFault, KeeperFault};
 pub use crate::hall::{Hall, NotClosed};
 pub use crate::house::House;
 pub use crate::keeper::Keeper;

@@ -4,9 +4,10 @@ ghost use Rattle.std.specs.Prelude.{◌≡◌, ◌≢◌, ◌+◌, ◌<◌, ◌�
 ghost use Rattle.std.specs.Prelude.{IfNone, OnOk, OnErr, OnSome, false, length, option_copied};
 ghost use Rattle.hd_catalogue.specs.Contents.{facts_of};
 ghost use Rattle.hd_journal.specs.Asks.{IsKnownMessage};
-ghost use Rattle.hd_journal.specs.Books.{IsLegalBook};
 ghost use Rattle.hd_hall.specs.Keepers.{IsAdded};
+ghost use Rattle.hd_hall.specs.Openings.{IsLegalFrom};
 ghost use Rattle.hd_hall.specs.Receipts.{HoldsLast, LacksLast, Stands, last_receipt};
+ghost use Rattle.hd_hall.specs.Submitting.{IsSubmitFault};
 
 use crate::fault::HallFault;
 use crate::house::House;
@@ -22,23 +23,24 @@ pub(crate) const SEATS: u32 = 4_294_967_295;
 
 /// The journal's keeper, the book of the ledger, the parts that no seat has, and the number of seats opened.
 #[derive(Drop)]
-pub(crate) struct Locked<H: House, A: Allocator, K: Keeper<A>> {
+pub(crate) struct Locked<H: House, A: Allocator, Q: Drop, K: Keeper<A, Q>> {
     pub(crate) keeper: K,
     pub(crate) book: Book<H>,
     pub(crate) rest: Share<H>,
     pub(crate) opened: u32,
     pub(crate) of: PhantomData<A>,
-    ghost ours: { K.contents keeper ≡ H.contents },
+    pub(crate) asks: PhantomData<Q>,
+    ghost ours: { K.opening keeper ≡ H.opening },
     ghost counted: { book.total ≡ length (K.turns keeper) },
     ghost given: { rest.parts + opened ≡ 4294967296 },
     ghost empty: { rest.amount ≡ 0 },
 }
 
-impl<H: House, A: Allocator + Copy, K: Keeper<A>> Locked<H, A, K> {
+impl<H: House, A: Allocator + Copy, Q: Drop, K: Keeper<A, Q>> Locked<H, A, Q, K> {
     /// A journal without turns, and all parts of the ledger.
-    pub(crate) fn new(keeper: K, blank: Blank) -> Locked<H, A, K>
+    pub(crate) fn new(keeper: K, blank: Blank) -> Locked<H, A, Q, K>
         requires turns { K.turns keeper ≡ [] }
-        requires contents { K.contents keeper ≡ H.contents }
+        requires opening { K.opening keeper ≡ H.opening }
         requires name { blank.name ≡ H.name }
         requires parts { (blank.parts ≡ H.parts) × (H.parts ≡ 4294967296) }
         ensures { result.keeper ≡ keeper }
@@ -50,6 +52,7 @@ impl<H: House, A: Allocator + Copy, K: Keeper<A>> Locked<H, A, K> {
             rest,
             opened: 0,
             of: PhantomData,
+            asks: PhantomData,
         }
     }
 
@@ -74,24 +77,25 @@ impl<H: House, A: Allocator + Copy, K: Keeper<A>> Locked<H, A, K> {
     /// receipts.
     ///
     /// # Errors
-    /// `Memory`, and `Estranged` where it lacks that receipt's turn. Journal and share are unchanged.
+    /// `Estranged` where it lacks that receipt's turn, and what its keeper gives. The turns and the share are
+    /// unchanged.
     pub(crate) fn submit(
         &mut self,
         receipts: &[Kept<A>],
         share: &mut Share<H>,
-        own: K::Own,
+        own: Q,
     ) -> Result<Turn, HallFault>
         requires part { 0 < share.old.parts }
-        requires known { IsKnownMessage (facts_of H.contents) (K.asks own).message }
-        ensures legal { IsLegalBook H.contents (K.turns self.new.keeper) }
+        requires known { IsKnownMessage (facts_of H.opening.contents) (K.asks own).message }
+        ensures legal { IsLegalFrom H.opening (K.turns self.new.keeper) }
         ensures turn { IfOk result (λ made.
             IsAdded (K.turns self.old.keeper) (K.turns self.new.keeper) (K.asks own) made) }
         ensures holds { OnOk result (HoldsLast (K.turns self.old.keeper) receipts.now) }
         ensures share { OnOk result (share.new.amount ≡ share.old.amount + 1) }
         ensures parts { share.new.parts ≡ share.old.parts }
-        ensures lacks { IfErr result (λ e. e ≢ HallFault.Memory →
-            (e ≡ HallFault.Estranged (length (K.turns self.old.keeper)))
-            × LacksLast (K.turns self.old.keeper) receipts.now) }
+        ensures why { IfErr result (IsSubmitFault K.faults (λ front.
+            (front ≡ length (K.turns self.old.keeper))
+            × LacksLast (K.turns self.old.keeper) receipts.now)) }
         ensures err { OnErr result
             ((K.turns self.new.keeper ≡ K.turns self.old.keeper) × (share.new ≡ share.old)) }
     {
@@ -108,7 +112,10 @@ impl<H: House, A: Allocator + Copy, K: Keeper<A>> Locked<H, A, K> {
 }
 
 /// Whether the turn of the last receipt, if there is one, stands in the journal.
-fn holds_last<A: Allocator + Copy, K: Keeper<A>>(keeper: &K, receipts: &[Kept<A>]) -> bool
+fn holds_last<A: Allocator + Copy, Q: Drop, K: Keeper<A, Q>>(
+    keeper: &K,
+    receipts: &[Kept<A>],
+) -> bool
     ensures yes { IsTrue result → HoldsLast (K.turns keeper.now) receipts.now }
     ensures no { result ≡ false → LacksLast (K.turns keeper.now) receipts.now }
 {
@@ -127,7 +134,10 @@ fn last_of<A: Allocator>(receipts: &[Kept<A>]) -> Option<&Kept<A>>
 }
 
 /// Whether the receipt's turn stands in the journal, at its number.
-pub(crate) fn stands<A: Allocator + Copy, K: Keeper<A>>(keeper: &K, receipt: &Kept<A>) -> bool
+pub(crate) fn stands<A: Allocator + Copy, Q: Drop, K: Keeper<A, Q>>(
+    keeper: &K,
+    receipt: &Kept<A>,
+) -> bool
     ensures { IsTrue result ↔ Stands (K.turns keeper.now) receipt.now }
 {
     match keeper.turn_at(receipt.number()) {

@@ -34,7 +34,7 @@ impl<H: House, A: Allocator> Model for Seat<H, A> {
       share = s.share.amount;
     } };
 
-    ghost invariant = { λ s. IsSeat H.contents (record {
+    ghost invariant = { λ s. IsSeat H.opening (record {
       number = s.number;
       receipts = s.receipts.items;
       parts = s.share.parts;
@@ -53,7 +53,7 @@ impl<H: House, A: Allocator> Seat<H, A> {
     /// The receipts of the turns that were made from it, in order.
     pub fn receipts(&self) -> &[Kept<A>]
         ensures receipts { result.now ≡ self.now.receipts }
-        ensures seat { IsSeat H.contents self.now }
+        ensures seat { IsSeat H.opening self.now }
     {
         self.receipts.as_slice()
     }

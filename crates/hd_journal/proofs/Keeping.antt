@@ -1,23 +1,18 @@
 -- A journal goes on by one turn.
-use Rattle.std.proofs.Common.{arith, ◌≡◌, refl, sym, ◌∙◌, ap, subst, ℕ, ◌+◌, ◌≤◌, ◌⊎◌, inl, inr}
+use Rattle.std.proofs.Common.{arith, ◌≡◌, refl, sym, ◌∙◌, ap, subst, ℕ, ◌+◌, ◌≤◌, inl, inr}
 use Rattle.std.proofs.Common.{List, [], ◌∷◌, ◌++◌, length, length-append, Option, Some, None, Result, Ok, Err, OnErr}
 use Rattle.hd_rules.specs.declared.turns.Asked.{Asked}
 use Rattle.hd_rules.specs.declared.turns.Asked.TheVariants as ask
 use Rattle.hd_rules.specs.declared.replies.TurnReply.{TurnReply}
 use Rattle.hd_rules.specs.Facts.{Facts, AreInRange}
 use Rattle.hd_rules.specs.Known.{IsKnown}
-use Rattle.hd_rules.specs.Run.{IsAmong}
-use Rattle.hd_rules.specs.Turns.{Message, Kept, State, Answered, repeated_of, repeated, answered_unless, with_kept, turn_of, start}
+use Rattle.hd_rules.specs.Turns.{Message, Kept, State, Answered, repeated_of, repeated, answered_unless, with_kept, turn_of}
 use Rattle.hd_rules.specs.Journal.{Turn, state_after}
-use Rattle.hd_rules.proofs.Journals.{legal_is_run, legal_joined, state_joined}
-use Rattle.hd_rules.proofs.Theorem.{headline}
-use Rattle.hd_rules.proofs.ReplyingTurns.{each_replies}
-use Rattle.hd_rules.proofs.FamiliarTurns.{known_journal}
-use Rattle.hd_rules.proofs.Splits.{among_either}
 use Rattle.hd_catalogue.specs.Contents.{Contents, facts_of}
 use Rattle.hd_footprint.specs.Meter.{Counts}
 use Rattle.hd_journal.specs.declared.turn.Turn.{Turn as OneTurn}
 use Rattle.hd_journal.specs.Asks.{asking}
+use Rattle.hd_journal.specs.Laws.{JournalLaws}
 use Rattle.hd_journal.specs.Running.{Running, IsCarriedOut, state_at, state_alone}
 use Rattle.hd_journal.specs.Telling.{Told, after_turn, kept_in, kept_by}
 use Rattle.hd_journal.specs.Working.{IsWork, OnlyRise}
@@ -102,27 +97,26 @@ pub answered_so : (turns items : List Turn) (r next : Running) (kept later : ℕ
 answered_so turns items r next kept later turn h =
     ap (λ (s : State). turn_of (facts_of r.contents) s turn.message) h.was.state ∙ h.answer
 
-pub state_goes : (turns items : List Turn) (r next : Running) (kept later : ℕ → Option Kept) (turn : Turn)
+pub state_goes : JournalLaws → (turns items : List Turn) (r next : Running) (kept later : ℕ → Option Kept) (turn : Turn)
     → Goes turns items r next kept later turn
     → state_after (facts_of r.contents) (turns ++ turn ∷ []) ≡ state_at next later
-state_goes turns items r next kept later turn h =
-    state_joined (facts_of r.contents) (start (facts_of r.contents)) turns (turn ∷ [])
+state_goes laws turns items r next kept later turn h =
+    (laws.goes_on (facts_of r.contents) turns turn).1
     ∙ ap (λ (a : Answered). a.state) (answered_so turns items r next kept later turn h)
 
 -- one message more
 known_more : (k : Facts) (turns : List Turn) (turn : Turn) → AskKnown k turns → IsKnown k turn.message.asked
     → AskKnown k (turns ++ turn ∷ [])
-known_more k turns turn all known one among = by_place (among_either one turns (turn ∷ []) among)
-  where
-    by_place : IsAmong one turns ⊎ IsAmong one (turn ∷ []) → IsKnown k one.message.asked
-    by_place (inl before) = all one before
-    by_place (inr (inl same)) = subst (λ (x : Turn). IsKnown k x.message.asked) (sym same) known
-    by_place (inr (inr none)) = absurd none
+known_more k [] turn all known one (inl same) = subst (λ (x : Turn). IsKnown k x.message.asked) (sym same) known
+known_more k [] turn all known one (inr none) = absurd none
+known_more k (first ∷ turns) turn all known one (inl same) = all one (inl same)
+known_more k (first ∷ turns) turn all known one (inr later) =
+    known_more k turns turn (λ x among. all x (inr among)) known one later
 
-kept_after : (turns items : List Turn) (r next : Running) (kept later : ℕ → Option Kept) (turn : Turn)
+kept_after : JournalLaws → (turns items : List Turn) (r next : Running) (kept later : ℕ → Option Kept) (turn : Turn)
     → Goes turns items r next kept later turn
     → IsKept (turns ++ turn ∷ []) (record { contents = r.contents; survivors = next.survivors; last = next.last }) later
-kept_after turns items r next kept later turn h =
+kept_after laws turns items r next kept later turn h =
     let k : Facts = facts_of r.contents in
     let goes : turn_of k (state_after k turns) turn.message ≡ record { reply = turn.reply; state = state_at next later } =
     answered_so turns items r next kept later turn h in
@@ -131,19 +125,19 @@ kept_after turns items r next kept later turn h =
     record {
       range = h.was.range;
       known = known_more k turns turn h.was.known h.known;
-      legal = legal_joined k (start k) turns (turn ∷ []) h.was.legal (ap (λ (a : Answered). a.reply) (sym goes), tt);
-      state = state_goes turns items r next kept later turn h
+      legal = (laws.goes_on k turns turn).0.1 (h.was.legal, ap (λ (a : Answered). a.reply) (sym goes));
+      state = state_goes laws turns items r next kept later turn h
           ∙ (λ j. state_at (record { contents = h.contents j; survivors = next.survivors; last = next.last }) later);
       last = omega (arith, length-append turns (turn ∷ []));
     }
 
-pub kept_on : (turns items : List Turn) (r next : Running) (kept later : ℕ → Option Kept) (turn : Turn)
+pub kept_on : JournalLaws → (turns items : List Turn) (r next : Running) (kept later : ℕ → Option Kept) (turn : Turn)
     → Goes turns items r next kept later turn → IsKept items next later
-kept_on turns items r next kept later turn h =
+kept_on laws turns items r next kept later turn h =
     let there : Contents → Running = λ x. record { contents = x; survivors = next.survivors; last = next.last } in
     subst (λ (xs : List Turn). IsKept xs next later) (sym h.items)
     (subst (λ (x : Contents). IsKept (turns ++ turn ∷ []) (there x) later) (sym h.contents)
-    (kept_after turns items r next kept later turn h))
+    (kept_after laws turns items r next kept later turn h))
 
 -- a journal without turns
 pub kept_at_start : (contents : Contents) (r : Running) (turns : List Turn) (places : List (Option ℕ))
@@ -163,20 +157,22 @@ kept_at_start contents r turns places range is none nowhere =
     (subst (λ (xs : List Turn). IsKept xs opening (kept_in xs places)) (sym none)
     (subst (λ (ps : List (Option ℕ)). IsKept [] opening (kept_in [] ps)) (sym nowhere) start_kept))
 
-pub legal_book : (turns : List Turn) (r : Running) (kept : ℕ → Option Kept) → IsKept turns r kept → IsLegalBook r.contents turns
-legal_book turns r kept is = record {
+-- what the laws say of what is kept
+pub legal_book : JournalLaws → (turns : List Turn) (r : Running) (kept : ℕ → Option Kept) → IsKept turns r kept
+    → IsLegalBook r.contents turns
+legal_book laws turns r kept is = record {
   legal = is.legal;
-  run = legal_is_run (facts_of r.contents) turns is.legal;
-  headline = headline (facts_of r.contents) turns is.legal;
-  replies = each_replies (facts_of r.contents) turns is.legal;
-  known = known_journal (facts_of r.contents) turns is.range is.legal is.known;
+  run = laws.run (facts_of r.contents) turns is.legal;
+  headline = laws.headline (facts_of r.contents) turns is.legal;
+  replies = laws.replies (facts_of r.contents) turns is.legal;
+  known = laws.known (facts_of r.contents) turns is.range is.legal is.known;
 }
 
 -- the same of a journal that is equal to its parts
-pub legal_there : (turns : List Turn) (r : Running) (kept : ℕ → Option Kept) (work : Counts) (book : Book)
+pub legal_there : JournalLaws → (turns : List Turn) (r : Running) (kept : ℕ → Option Kept) (work : Counts) (book : Book)
     → IsKept turns r kept → record { contents = r.contents; turns = turns; work = work } ≡ book → IsLegalBook book.contents book.turns
-legal_there turns r kept work book is same =
-    subst (λ (x : Book). IsLegalBook x.contents x.turns) same (legal_book turns r kept is)
+legal_there laws turns r kept work book is same =
+    subst (λ (x : Book). IsLegalBook x.contents x.turns) same (legal_book laws turns r kept is)
 
 -- the same at a list and what is kept that are equal to these
 pub kept_there : (turns more : List Turn) (r : Running) (kept later : ℕ → Option Kept)
@@ -230,15 +226,17 @@ goes_on was ready now r next turn old new h = record {
   answer = h.answer;
 }
 
-pub makes_kept : (was ready now : Told) (r next : Running) (turn : Turn) (old new : Counts) → Makes was ready now r next turn old new
+pub makes_kept : JournalLaws → (was ready now : Told) (r next : Running) (turn : Turn) (old new : Counts)
+    → Makes was ready now r next turn old new
     → IsKept now.turns next (kept_by now)
-makes_kept was ready now r next turn old new h =
-    kept_on ready.turns now.turns r next (kept_by ready) (kept_by now) turn (goes_on was ready now r next turn old new h)
+makes_kept laws was ready now r next turn old new h =
+    kept_on laws ready.turns now.turns r next (kept_by ready) (kept_by now) turn (goes_on was ready now r next turn old new h)
 
-adds_here : (was ready now : Told) (r next : Running) (turn : Turn) (old new : Counts) → Makes was ready now r next turn old new
+adds_here : JournalLaws → (was ready now : Told) (r next : Running) (turn : Turn) (old new : Counts)
+    → Makes was ready now r next turn old new
     → AddsTurn (book_at r ready.turns old) (book_at next now.turns new) turn.seat turn.message
     (record { at = length now.turns; reply = turn.reply })
-adds_here was ready now r next turn old new h =
+adds_here laws was ready now r next turn old new h =
     let k : Facts = facts_of r.contents in
     let on : Goes ready.turns now.turns r next (kept_by ready) (kept_by now) turn = goes_on was ready now r next turn old new h in
     let goes : turn_of k (state_after k ready.turns) turn.message ≡ record { reply = turn.reply; state = state_at next (kept_by now) } =
@@ -248,7 +246,7 @@ adds_here was ready now r next turn old new h =
       contents = h.contents;
       turns = h.turns ∙ (λ j. ready.turns ++ record { seat = turn.seat; message = turn.message; reply = told j } ∷ []);
       state = (λ j. state_after (facts_of (h.contents j)) (h.turns j))
-          ∙ state_goes ready.turns now.turns r next (kept_by ready) (kept_by now) turn on
+          ∙ state_goes laws ready.turns now.turns r next (kept_by ready) (kept_by now) turn on
           ∙ ap (λ (a : Answered). a.state) (sym goes);
       reply = told;
       number = refl;
@@ -257,13 +255,14 @@ adds_here was ready now r next turn old new h =
     }
 
 -- the turn was added to the journal, and this is told of it
-pub makes_turn : (was ready now : Told) (r next : Running) (turn : Turn) (old new : Counts) (book : Book) (made : OneTurn)
+pub makes_turn : JournalLaws → (was ready now : Told) (r next : Running) (turn : Turn) (old new : Counts)
+    (book : Book) (made : OneTurn)
     → Makes was ready now r next turn old new
     → book_at r was.turns old ≡ book
     → made ≡ record { at = length now.turns; reply = turn.reply }
     → AddsTurn book (book_at next now.turns new) turn.seat turn.message made
-makes_turn was ready now r next turn old new book made h same is =
+makes_turn laws was ready now r next turn old new book made h same is =
     let there : book_at r ready.turns old ≡ book = (λ j. book_at r (h.ready_turns j) old) ∙ same in
     subst (λ (x : Book). AddsTurn x (book_at next now.turns new) turn.seat turn.message made) there
     (subst (λ (x : OneTurn). AddsTurn (book_at r ready.turns old) (book_at next now.turns new) turn.seat turn.message x) (sym is)
-    (adds_here was ready now r next turn old new h))
+    (adds_here laws was ready now r next turn old new h))

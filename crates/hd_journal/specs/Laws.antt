@@ -1,8 +1,9 @@
--- What is known of cancellations.
+-- What is known of cancellations, and of legal journals.
 use Rattle.hd_rules.specs.Laws.{AtMostFourChanges, NumbersSplitARun, TakingBackLeadsThroughFitDesks}
 use Rattle.hd_rules.specs.Laws.{TheFirstDependentIsTheLeast}
 use Rattle.hd_rules.specs.Laws.{TheTargetIsTheNewest, UndoingIsTheRunWithout}
-use Rattle.hd_rules.specs.MachineLaws.{KnownMessagesGetKnownReplies}
+use Rattle.hd_rules.specs.MachineLaws.{ALegalJournalGoesOn, ALegalJournalIsTheRunOfItsSurvivors}
+use Rattle.hd_rules.specs.MachineLaws.{EachReplyIsToItsMessage, KnownMessagesGetKnownReplies, TheHeadline}
 use Rattle.hd_clash.specs.About.{AllRecordsAreAboutTheirCommands}
 use Rattle.hd_clash.specs.Records.{RecordsAreKnown, RecordsSplit}
 use Rattle.hd_clash.specs.Walk.{ShiftedRecordsAreThoseWithout, TheFirstClashIsTheFirstDependent}
@@ -23,3 +24,11 @@ pub record Laws : Type 0 where
   pub clash : TheFirstClashIsTheFirstDependent
   pub mended : ShiftedRecordsAreThoseWithout
   pub walks : WalksAreShort
+
+-- the rules' laws of legal journals, together
+pub record JournalLaws : Type 0 where
+  pub goes_on : ALegalJournalGoesOn
+  pub run : ALegalJournalIsTheRunOfItsSurvivors
+  pub headline : TheHeadline
+  pub replies : EachReplyIsToItsMessage
+  pub known : KnownMessagesGetKnownReplies

@@ -15,6 +15,7 @@ ghost use Rattle.hd_journal.specs.Shown.{shown};
 
 use crate::ask::{Ask, OwnedAsk};
 use crate::fault::Fault;
+use crate::laws::journal_laws;
 use crate::numbers::SeatNo;
 use crate::running::Running;
 use crate::told::Told;
@@ -65,6 +66,7 @@ impl<A: Allocator + Copy> Journal<A> {
         ensures new { result ≡ record { contents = contents desk; turns = []; work = meter } }
         ensures legal { IsLegalBook result.contents result.turns }
     {
+        journal_laws();
         prove!(0 < desk.catalogue().command_limit());
         Journal {
             alloc,
@@ -94,6 +96,7 @@ impl<A: Allocator + Copy> Journal<A> {
         ensures legal { IsLegalBook self.new.contents self.new.turns }
         ensures err { OnErr result (MakesNoTurn self.old self.new) }
     {
+        journal_laws();
         self.told.ready(ask.terminal())?;
         let repeated = self.told.repeated(&ask);
         if let Some(reply) = repeated {
@@ -170,6 +173,7 @@ impl<A: Allocator + Copy> Journal<A> {
     fn alloc(&self) -> A
         ensures { IsLegalBook self.now.contents self.now.turns }
     {
+        journal_laws();
         self.alloc
     }
 
@@ -185,6 +189,7 @@ impl<A: Allocator + Copy> Journal<A> {
         ensures count { result ≡ length self.now.turns }
         ensures legal { IsLegalBook self.now.contents self.now.turns }
     {
+        journal_laws();
         self.told.len()
     }
 
@@ -225,6 +230,7 @@ impl<A: Allocator + Copy> Journal<A> {
         ensures run { desk_of result.now ≡ run (facts self.now) (state self.now).survivors }
         ensures legal { IsLegalBook self.now.contents self.now.turns }
     {
+        journal_laws();
         self.running.desk()
     }
 

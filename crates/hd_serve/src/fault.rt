@@ -15,6 +15,9 @@ pub enum ServeFault {
     /// The journal isn't the one that the receipts of the connections are of.
     #[error("not closed")]
     NotClosed,
+    /// The keeper of the journal failed to write a turn. Those that were answered stay written.
+    #[error("the journal can't be written")]
+    Unwritten,
     /// Want of memory, or of a first thread.
     #[error("no memory")]
     Memory,

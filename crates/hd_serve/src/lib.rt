@@ -7,10 +7,11 @@ mod fault;
 mod options;
 mod places;
 mod serving;
+mod stop;
 mod summary;
 mod worker;
 
 pub use crate::fault::ServeFault;
 pub use crate::options::Options;
 pub use crate::serving::serve;
-pub use crate::summary::Summary;
+pub use crate::summary::{Summary, summary_of};

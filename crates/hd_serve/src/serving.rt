@@ -1,17 +1,16 @@
 //! Serving terminals over TCP.
 ghost use Rattle.std.specs.Prelude.{◌≡◌, ◌≤◌, [], IfOk};
-ghost use Rattle.hd_serve.specs.Summaries.{IsSummary};
+ghost use Rattle.hd_hall.specs.Openings.{IsLegalFrom};
 
 use crate::accepting::{Arrived, accept};
 use crate::fault::ServeFault;
 use crate::options::Options;
 use crate::places::Places;
-use crate::summary::{Summary, summary_of};
+use crate::stop::Stop;
 use crate::worker::Service;
 use crossbeam_channel::{Sender, bounded};
 use hd_attend::Gate;
-use hd_hall::{Hall, House};
-use hd_journal::Journal;
+use hd_hall::{Hall, House, Keeper};
 use std::alloc::Global;
 use std::marker::Brand;
 use std::net::TcpListener;
@@ -21,56 +20,74 @@ use std::thread;
 use std::thread::Threads;
 use std::time::Clock;
 
-/// Serves terminals over TCP, each connection as a session at a seat of its own in one hall round the journal,
-/// until so many connections have been served; then the hall is closed.
+/// Serves terminals over TCP, each connection as a session at a seat of its own in one hall round what keeps
+/// the journal, until so many connections have been served; then the hall is closed, and the keeper comes
+/// back. It may have turns from before; those that were made here are legal behind them.
 ///
 /// The workers are threads, started before the first connection is accepted. Where not all can be had, those
 /// that can do the work. Each serves one connection at a time, whose replies are sent at once. The gate is
 /// called before each turn, outside the hall's lock, with the numbers of the session and of its turn, both
-/// from 1. The present is what the clock tells, in the local time of the catalogue, and `00000101    000000`
-/// where it can't be read or its year lies outside 0000 to 9999.
+/// from 1. The present is what the clock tells, in the local time of the catalogue, and
+/// `00000101    000000` where it can't be read or its year lies outside 0000 to 9999.
 ///
 /// A connection makes room to keep its seat, and has a session and, last, a seat opened. Where one can't be
 /// had it is closed without a reply. A read or a write that fails ends that connection alone, as one does that
 /// waits longer than the idle time; the turns that it has made stay.
 ///
 /// # Errors
-/// `CannotListen` where a connection can't be accepted: those that run are served to their end, and the hall is
-/// closed. `NotClosed` where the hall doesn't close. `Memory` for want of memory at the start, or where no
-/// thread can be had.
-pub fn serve<R: Threads + Wait + Clock + Sync, G: Gate>(
+/// `CannotListen` where a connection can't be accepted: those that run are served to their end, and the hall
+/// is closed. `Unwritten` where the keeper fails to write a turn: no more connections are accepted, those that
+/// run end at their next turn or their end, and the hall is closed. `NotClosed` where the hall doesn't close.
+/// `Memory` for want of memory at the start, or where no thread can be had.
+pub fn serve<
+    R: Threads + Wait + Clock + Sync,
+    G: Gate,
+    Q: Drop + Send,
+    K: Keeper<Global, Q> + Drop + Send,
+>(
     rt: &R,
     alloc: Global,
     listener: TcpListener,
-    journal: Journal,
+    keeper: K,
     options: &Options,
     gate: &G,
-) -> Result<Summary, ServeFault>
-    requires turns { journal.turns ≡ [] }
+) -> Result<K, ServeFault>
+    requires turns { K.turns keeper ≡ [] }
     requires workers { (1 ≤ options.now.workers) × (options.now.workers ≤ 64) }
-    ensures { IfOk result (IsSummary journal.contents) }
+    ensures opening { IfOk result (λ closed. K.opening closed ≡ K.opening keeper) }
+    ensures legal { IfOk result (λ closed. IsLegalFrom (K.opening closed) (K.turns closed)) }
 {
     let blank = Blank::new(4_294_967_296);
-    serve_in::<Brand, R, G>(rt, alloc, &listener, journal, blank, options, gate)
+    serve_in::<Brand, R, G, Q, K>(rt, alloc, &listener, keeper, blank, options, gate)
 }
 
 /// The same in a hall of a house.
-fn serve_in<H: House + Send + Sync, R: Threads + Wait + Clock + Sync, G: Gate>(
+fn serve_in<
+    H: House + Send + Sync,
+    R: Threads + Wait + Clock + Sync,
+    G: Gate,
+    Q: Drop + Send,
+    K: Keeper<Global, Q> + Drop + Send,
+>(
     rt: &R,
     alloc: Global,
     listener: &TcpListener,
-    journal: Journal,
+    keeper: K,
     blank: Blank,
     options: &Options,
     gate: &G,
-) -> Result<Summary, ServeFault>
-    requires turns { journal.turns ≡ [] }
-    requires contents { journal.contents ≡ H.contents }
+) -> Result<K, ServeFault>
+    requires turns { K.turns keeper ≡ [] }
+    requires opening { K.opening keeper ≡ H.opening }
     requires name { blank.name ≡ H.name }
     requires parts { (blank.parts ≡ H.parts) × (H.parts ≡ 4294967296) }
-    ensures { IfOk result (IsSummary journal.contents) }
+    ensures opening { IfOk result (λ closed. K.opening closed ≡ K.opening keeper) }
+    ensures legal { IfOk result (λ closed. IsLegalFrom (K.opening closed) (K.turns closed)) }
 {
-    let hall = Hall::<H>::new(alloc, journal, blank)?;
+    let Ok(stop) = Stop::of(listener) else {
+        return Err(ServeFault::CannotListen);
+    };
+    let hall = Hall::<H, Global, Q, K>::new(alloc, keeper, blank)?;
     let places = Mutex::new(Places::new(alloc));
     let (to, from) = bounded(alloc, options.workers as usize)?;
     let service = Service {
@@ -80,20 +97,30 @@ fn serve_in<H: House + Send + Sync, R: Threads + Wait + Clock + Sync, G: Gate>(
         places: &places,
         from: &from,
         gate,
+        stop: &stop,
         idle: options.idle,
     };
     let served = serve_by(&service, listener, to, options);
     let seats = places.into_inner().into_seats()?;
-    let Ok(journal) = hall.close(seats) else {
+    let Ok(keeper) = hall.close(seats) else {
         return Err(ServeFault::NotClosed);
     };
     served?;
-    Ok(summary_of(&journal))
+    if stop.is_wanted(rt) {
+        return Err(ServeFault::Unwritten);
+    }
+    Ok(keeper)
 }
 
 /// Starts the workers, hands them the connections, and returns when all are served.
-fn serve_by<H: House + Send + Sync, R: Threads + Wait + Clock + Sync, G: Gate>(
-    service: &Service<'_, H, R, G>,
+fn serve_by<
+    H: House + Send + Sync,
+    R: Threads + Wait + Clock + Sync,
+    G: Gate,
+    Q: Drop + Send,
+    K: Keeper<Global, Q> + Drop + Send,
+>(
+    service: &Service<'_, H, R, G, Q, K>,
     listener: &TcpListener,
     to: Sender<Arrived>,
     options: &Options,
@@ -109,6 +136,6 @@ fn serve_by<H: House + Send + Sync, R: Threads + Wait + Clock + Sync, G: Gate>(
         if !has_worker {
             return Err(ServeFault::Memory);
         }
-        accept(service.rt, listener, to, options.connections)
+        accept(service.rt, listener, service.stop, to, options.connections)
     })
 }

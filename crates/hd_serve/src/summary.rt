@@ -13,8 +13,8 @@ pub struct Summary {
 }
 
 /// The numbers of a journal.
-pub(crate) fn summary_of(journal: &Journal) -> Summary
-    ensures { IsSummary journal.now.contents result }
+pub fn summary_of(journal: &Journal) -> Summary
+    ensures { IsSummary journal.now.contents journal.now.turns result }
 {
     prove!(journal.last() <= u64::MAX);
     Summary {

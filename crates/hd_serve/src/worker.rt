@@ -5,11 +5,12 @@ ghost use Rattle.hd_session.specs.Sessions.{new_session};
 use crate::accepting::Arrived;
 use crate::clock::present;
 use crate::places::{Held, Places};
+use crate::stop::Stop;
 use crossbeam_channel::Receiver;
-use hd_attend::{Gate, attend};
+use hd_attend::{AttendFault, Gate, attend};
 use hd_connection::Fallible;
-use hd_hall::{Hall, House, Seat};
-use hd_session::Session;
+use hd_hall::{Hall, House, Keeper, Seat};
+use hd_session::{Ended, Session};
 use std::alloc::Global;
 use std::io;
 use std::net::TcpStream;
@@ -18,18 +19,26 @@ use std::time::{Clock, Duration};
 
 /// What the workers of a server share.
 #[derive(Drop)]
-pub(crate) struct Service<'a, H: House, R, G: Gate> {
+pub(crate) struct Service<'a, H: House, R, G: Gate, Q: Drop, K: Keeper<Global, Q>> {
     pub(crate) rt: &'a R,
     pub(crate) alloc: Global,
-    pub(crate) hall: &'a Hall<H>,
+    pub(crate) hall: &'a Hall<H, Global, Q, K>,
     pub(crate) places: &'a Mutex<Places<H>>,
     pub(crate) from: &'a Receiver<Arrived>,
     pub(crate) gate: &'a G,
+    pub(crate) stop: &'a Stop,
     /// For how many seconds a connection may be idle; with 0 for ever.
     pub(crate) idle: u32,
 }
 
-impl<'a, H: House, R: Wait + Clock, G: Gate> Service<'a, H, R, G> {
+impl<'a, H: House, R: Wait + Clock, G: Gate, Q: Drop, K: Keeper<Global, Q> + Drop> Service<
+    'a,
+    H,
+    R,
+    G,
+    Q,
+    K,
+> {
     /// Serves connections, until no more can come.
     pub(crate) fn work(&self) {
         for _ in self.rt.forever() {
@@ -40,8 +49,8 @@ impl<'a, H: House, R: Wait + Clock, G: Gate> Service<'a, H, R, G> {
         }
     }
 
-    /// Serves a connection to its end, and keeps its seat. Where its options can't be set, or there is no room
-    /// to keep a seat, no session or no seat, nothing is read and nothing written.
+    /// Serves a connection to its end, and keeps its seat. Where its options can't be set, or there is no
+    /// room to keep a seat, no session or no seat, nothing is read and nothing written.
     fn welcome(&self, arrived: &Arrived) {
         if prepare(&arrived.stream, self.idle).is_err()
             || self.places.lock(self.rt).add().is_err()
@@ -58,7 +67,8 @@ impl<'a, H: House, R: Wait + Clock, G: Gate> Service<'a, H, R, G> {
         self.places.lock(self.rt).keep(held);
     }
 
-    /// The seat, when the connection has ended. Why it ended makes no difference to the others.
+    /// The seat, when the connection has ended. Why it ended makes no difference to the others, but where the
+    /// journal can't be written: then no more are served.
     fn attended(&self, arrived: &Arrived, mut state: Session, mut seat: Seat<H>) -> Held<H>
         requires seat { seat.parts ≡ 1 }
         requires state { state ≡ new_session }
@@ -67,7 +77,7 @@ impl<'a, H: House, R: Wait + Clock, G: Gate> Service<'a, H, R, G> {
         let now = || present(self.rt, offset);
         let mut reader = Fallible(&arrived.stream);
         let mut writer = Fallible(&arrived.stream);
-        let _ = attend(
+        let ended = attend(
             self.rt,
             self.alloc,
             &mut reader,
@@ -79,6 +89,9 @@ impl<'a, H: House, R: Wait + Clock, G: Gate> Service<'a, H, R, G> {
             &now,
             self.gate,
         );
+        if let Err(AttendFault::Ended(Ended::Unwritten)) = ended {
+            self.stop.want(self.rt);
+        }
         Held::new(seat)
     }
 }

@@ -22,7 +22,7 @@ use Rattle.hd_session.specs.Sessions.{AreHeard, Hearing, IsCause, IsFedAt}
 use Rattle.hd_session.specs.Standing.{IsAnswered, IsHeard, IsReadAndAnswered, Stands, line_with}
 use Rattle.hd_session.specs.Trailers.{last_after, written}
 use Rattle.hd_session.specs.declared.ended.Ended.{Ended}
-use Rattle.hd_session.specs.declared.ended.Ended.TheVariants.{TooLong, Memory, Estranged}
+use Rattle.hd_session.specs.declared.ended.Ended.TheVariants.{TooLong, Memory, Estranged, Unwritten}
 use Rattle.hd_session.proofs.Feeding.{end_of}
 use Rattle.hd_session.proofs.Strangers.{all_behind}
 
@@ -98,6 +98,8 @@ no_cause k faults room s earlier line Memory cause (inl none) = none-some Memory
 no_cause k faults room s earlier line Memory cause (inr long) = let other : Some Memory ≡ Some TooLong = long in cc
 no_cause k faults room s earlier line Estranged cause (inl none) = none-some Estranged (sym none)
 no_cause k faults room s earlier line Estranged cause (inr long) = let other : Some Estranged ≡ Some TooLong = long in cc
+no_cause k faults room s earlier line Unwritten cause (inl none) = none-some Unwritten (sym none)
+no_cause k faults room s earlier line Unwritten cause (inr long) = let other : Some Unwritten ≡ Some TooLong = long in cc
 
 module _ (asks : (k : Contents) (seat : ℕ) (now : Stamp) (login : Option Login) (line : Option (List ℕ)) (body : List ℕ)
     (says says' : Said) (text text' : List ℕ) (made made' : List Turn) (next next' : Option Login)

@@ -9,7 +9,7 @@ use Rattle.hd_field.specs.Streams.{Begun, after, after_return, lines_in}
 use Rattle.hd_exchange.specs.declared.fault.OfficeFault.{OfficeFault}
 use Rattle.hd_exchange.specs.declared.fault.OfficeFault.TheVariants as fault
 use Rattle.hd_session.specs.declared.ended.Ended.{Ended}
-use Rattle.hd_session.specs.declared.ended.Ended.TheVariants.{TooLong, Memory, Estranged}
+use Rattle.hd_session.specs.declared.ended.Ended.TheVariants.{TooLong, Memory, Estranged, Unwritten}
 use Rattle.hd_session.specs.Standing.{Stands, LineAsks}
 use Rattle.hd_session.specs.Sessions.{Answers, AreHeard, EndsAtLine, Feeds, Hearing, HearsAll, IsCause, IsFed, IsFedAt, reason_of}
 use Rattle.hd_session.proofs.Hearing.{heard_append}
@@ -49,12 +49,14 @@ module _ (k : Contents) (faults : OfficeFault → Type 0) where
   cause_later room left s more earlier all line Memory is fits (inl given) = inl given
   cause_later room left s more earlier all line Memory is fits (inr (some, full)) = inr (some, omega (arith, is, fits, full))
   cause_later room left s more earlier all line Estranged is fits given = given
+  cause_later room left s more earlier all line Unwritten is fits given = given
 
   -- a fault of the office
   pub cause_of : (room : ℕ) (s : Stands) (earlier : ℕ) (line : List ℕ) (f : OfficeFault) → faults f → LineAsks k s line
       → IsCause k faults room s earlier line (reason_of f)
   cause_of room s earlier line fault.Memory given asks = inl (given, asks)
   cause_of room s earlier line fault.Estranged given asks = (given, asks)
+  cause_of room s earlier line fault.Unwritten given asks = (given, asks)
 
 module _ (cuts : Cuts) (k : Contents) (seat : ℕ) (faults : OfficeFault → Type 0) (now : Stamp) where
   -- a piece that is heard whole, after another

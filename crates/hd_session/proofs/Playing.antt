@@ -11,8 +11,7 @@ use Rattle.hd_rules.specs.Journal.{Turn}
 use Rattle.hd_catalogue.specs.Contents.{Contents}
 use Rattle.hd_exchange.specs.declared.fault.OfficeFault.{OfficeFault}
 use Rattle.hd_exchange.specs.declared.fault.OfficeFault.TheVariants as fault
-use Rattle.hd_session.specs.declared.ended.Ended.TheVariants.{Estranged}
-use Rattle.hd_session.specs.Sessions.{AreFedTo, Feeds, Hearing, IsFed, Piece, new_session, stream}
+use Rattle.hd_session.specs.Sessions.{AreFedTo, Feeds, Hearing, IsFed, Piece, new_session, reason_of, stream}
 use Rattle.hd_session.specs.Scripts.{AreFed, Event, Plays, Step, events_of, pieces_of, session_at, text_of, turns_of, written}
 use Rattle.hd_session.proofs.Causes.{fed_other}
 use Rattle.hd_session.proofs.Feeding.{Cuts, IsSettled, fed_after_fed, less_room, nothing_fed_at, settled_at}
@@ -128,20 +127,20 @@ module _ (k : Contents) (seat : ℕ) (faults : OfficeFault → Type 0) where
       (written i events))
       new (hears_pieces steps ss ss' events i within fed))
 
-  -- no session ends as estranged where the office never is
-  pub none_estranged : (steps : List Step) (ss ss' : List Hearing) (events : List Event) → (faults fault.Estranged → ⊥)
-      → AreFed k seat faults steps ss events ss' → ((i : ℕ) → (session_at ss i).ended ≡ Some Estranged → ⊥)
-      → All (λ event. event.ended ≡ Some Estranged → ⊥) events × ((i : ℕ) → (session_at ss' i).ended ≡ Some Estranged → ⊥)
-  none_estranged [] ss ss' events never (none, same) before = rw (none, same) (λ i d within. absurd (omega (arith, within)), before)
-  none_estranged (step ∷ steps) ss ss' [] never none before = absurd none
-  none_estranged (step ∷ steps) ss ss' (event ∷ events) never first before =
-      let now_not : first.next.ended ≡ Some Estranged → ⊥ =
-      fed_other k seat faults never step.piece.now 0 step.piece.bytes event.made
+  -- no session ends by a fault that isn't want of memory and that its office can't give
+  pub none_ends_so : (f : OfficeFault) → ¬ (f ≡ fault.Memory) → ¬ faults f → (steps : List Step) (ss ss' : List Hearing) (events : List Event)
+      → AreFed k seat faults steps ss events ss' → ((i : ℕ) → (session_at ss i).ended ≡ Some (reason_of f) → ⊥)
+      → All (λ event. event.ended ≡ Some (reason_of f) → ⊥) events × ((i : ℕ) → (session_at ss' i).ended ≡ Some (reason_of f) → ⊥)
+  none_ends_so f other never [] ss ss' events (none, same) before = rw (none, same) (λ i d within. absurd (omega (arith, within)), before)
+  none_ends_so f other never (step ∷ steps) ss ss' [] none before = absurd none
+  none_ends_so f other never (step ∷ steps) ss ss' (event ∷ events) first before =
+      let now_not : first.next.ended ≡ Some (reason_of f) → ⊥ =
+      fed_other k seat faults f other never step.piece.now 0 step.piece.bytes event.made
       (session_at ss step.session) first.next event.text first.fed
       (before step.session) in
-      let rest = none_estranged steps (set ss step.session first.next) ss' events never first.rest
-      (each_goes_on (λ (h : Hearing). h.ended ≡ Some Estranged → ⊥) ss step.session first.next before now_not) in
-      (all_more (λ (e : Event). e.ended ≡ Some Estranged → ⊥) event events (λ same. now_not (sym first.ended ∙ same)) rest.0, rest.1)
+      let rest = none_ends_so f other never steps (set ss step.session first.next) ss' events first.rest
+      (each_goes_on (λ (h : Hearing). h.ended ≡ Some (reason_of f) → ⊥) ss step.session first.next before now_not) in
+      (all_more (λ (e : Event). e.ended ≡ Some (reason_of f) → ⊥) event events (λ same. now_not (sym first.ended ∙ same)) rest.0, rest.1)
 
 -- what is written to a session in some events, and in some more
 pub written_append : (i : ℕ) (events then : List Event) → written i (events ++ then) ≡ written i events ++ written i then

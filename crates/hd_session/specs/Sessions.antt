@@ -8,7 +8,7 @@ use Rattle.hd_field.specs.Streams.{Begun, opening, lines_in, after, after_return
 use Rattle.hd_exchange.specs.declared.fault.OfficeFault.{OfficeFault}
 use Rattle.hd_exchange.specs.declared.fault.OfficeFault.TheVariants as fault
 use Rattle.hd_session.specs.declared.ended.Ended.{Ended}
-use Rattle.hd_session.specs.declared.ended.Ended.TheVariants.{TooLong, Memory, Estranged}
+use Rattle.hd_session.specs.declared.ended.Ended.TheVariants.{TooLong, Memory, Estranged, Unwritten}
 use Rattle.hd_session.specs.Standing.{Stands, IsHeard, LineAsks, nowhere}
 
 -- A session, as contracts see it: what has come of its line, where it stands, and whether it has ended and
@@ -71,6 +71,7 @@ IsCause k faults room s earlier line TooLong = ⊥
 IsCause k faults room s earlier line Memory =
     (faults fault.Memory × LineAsks k s line) ⊎ (IsSomeLine line × (room < 2048 * (earlier + 1)))
 IsCause k faults room s earlier line Estranged = faults fault.Estranged × LineAsks k s line
+IsCause k faults room s earlier line Unwritten = faults fault.Unwritten × LineAsks k s line
 
 -- Sessions at a seat of a library, whose office can give these faults.
 module _ (k : Contents) (seat : ℕ) (faults : OfficeFault → Type 0) where
@@ -140,3 +141,4 @@ pub record Answers (k : Contents) (seat : ℕ) (now : Stamp) (lines : List (List
 abbrev pub reason_of : OfficeFault → Ended
 reason_of fault.Memory = Memory
 reason_of fault.Estranged = Estranged
+reason_of fault.Unwritten = Unwritten

@@ -13,6 +13,8 @@ pub enum Ended {
     Memory,
     /// The office's turns aren't those that the session saw.
     Estranged,
+    /// The office couldn't write a turn to where its turns outlive a stop.
+    Unwritten,
 }
 
 impl Ended {
@@ -23,6 +25,7 @@ impl Ended {
         match fault {
             OfficeFault::Memory => Ended::Memory,
             OfficeFault::Estranged => Ended::Estranged,
+            OfficeFault::Unwritten => Ended::Unwritten,
         }
     }
 }

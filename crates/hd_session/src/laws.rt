@@ -7,8 +7,8 @@ ghost use Rattle.hd_field.specs.Streams.{lines_in};
 ghost use Rattle.hd_session.specs.Endings.{EndsWell};
 ghost use Rattle.hd_session.specs.Scripts.{AreFed, Event, Step};
 ghost use Rattle.hd_session.specs.Scripts.{events_of, pieces_of, session_at, turns_of, written};
-ghost use Rattle.hd_session.specs.Sessions.{AreFedTo, Hearing, IsFed, Piece, new_session, stream};
-ghost use Rattle.hd_session.specs.declared.ended.Ended.TheVariants.{Estranged};
+ghost use Rattle.hd_session.specs.Sessions.{AreFedTo, Hearing, IsFed, Piece, new_session, reason_of, stream};
+ghost use Rattle.hd_exchange.specs.declared.fault.OfficeFault.{OfficeFault};
 ghost use Rattle.hd_exchange.specs.declared.fault.OfficeFault.TheVariants as fault;
 
 use hd_exchange::{Office, each_body_has_one_answer};
@@ -62,21 +62,22 @@ pub fn sessions_hear_their_streams<A: Allocator, O: Office<A>>()
     cuts_change_nothing();
 }
 
-/// Where an office never answers that it is estranged, as a journal alone never does, no session ends so.
-pub fn no_session_is_estranged<A: Allocator, O: Office<A>>()
+/// A fault that isn't want of memory, and that an office can't give, ends no session: so a journal alone,
+/// which is never estranged and writes nothing, ends none by these.
+pub fn no_session_ends_by_another_fault<A: Allocator, O: Office<A>>()
     ensures fed { (k : Contents) (seat : ℕ) (now : Stamp) (room : ℕ) (piece : List ℕ)
-        (made : List Turn) (h h' : Hearing) (text : List ℕ)
-        → ¬ O.faults fault.Estranged
+        (made : List Turn) (h h' : Hearing) (text : List ℕ) (what : OfficeFault)
+        → ¬ what ≡ fault.Memory → ¬ O.faults what
         → IsFed k seat O.faults now room h piece made h' text
-        → ¬ h.ended ≡ Some Estranged
-        → ¬ h'.ended ≡ Some Estranged }
+        → ¬ h.ended ≡ Some (reason_of what)
+        → ¬ h'.ended ≡ Some (reason_of what) }
     ensures script { (k : Contents) (seat : ℕ) (steps : List Step) (ss ss' : List Hearing)
-        (events : List Event)
-        → ¬ O.faults fault.Estranged
+        (events : List Event) (what : OfficeFault)
+        → ¬ what ≡ fault.Memory → ¬ O.faults what
         → AreFed k seat O.faults steps ss events ss'
-        → ((i : ℕ) → ¬ (session_at ss i).ended ≡ Some Estranged)
-        → All (λ event. ¬ event.ended ≡ Some Estranged) events
-        × ((i : ℕ) → ¬ (session_at ss' i).ended ≡ Some Estranged) }
+        → ((i : ℕ) → ¬ (session_at ss i).ended ≡ Some (reason_of what))
+        → All (λ event. ¬ event.ended ≡ Some (reason_of what)) events
+        × ((i : ℕ) → ¬ (session_at ss' i).ended ≡ Some (reason_of what)) }
 {}
 
 /// A script in which each session goes on, or is ended by a line too long, is determined by its pieces. Where

@@ -56,10 +56,10 @@ impl<A: Allocator + Copy> Session<A> {
     /// # Errors
     /// Why the session ended, at this piece or before. One that has ended does nothing more.
     ///
-    /// `TooLong` where a line comes to 1,025 bytes; the lines before it are answered. `Memory` and
-    /// `Estranged` at a line that asks something of an office that gives this fault, and `Memory` also where
-    /// `out` hasn't the room for the line's reply and can't grow. The lines before it are answered; it makes
-    /// no turn, and the session stands as before it.
+    /// `TooLong` where a line comes to 1,025 bytes; the lines before it are answered. `Memory`, `Estranged`
+    /// and `Unwritten` at a line that asks something of an office that gives this fault, and `Memory` also
+    /// where `out` hasn't the room for the line's reply and can't grow. The lines before it are answered; it
+    /// makes no turn, and the session stands as before it.
     pub fn feed<O: Office<A>>(
         &mut self,
         piece: &[u8],

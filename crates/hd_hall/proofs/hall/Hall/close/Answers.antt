@@ -1,6 +1,6 @@
 use Rattle.std.proofs.Common.{◌∙◌, subst}
-use Rattle.hd_catalogue.specs.Contents.{Contents}
 use Rattle.hd_hall.specs.Closings.{LacksReceipt}
+use Rattle.hd_hall.specs.Openings.{Opening}
 use Rattle.hd_hall.proofs.Lending.{written_back}
 use Rattle.hd_hall.proofs.hall.Hall.close.Goals as goal
 
@@ -18,7 +18,7 @@ returns-in-Some-clause-missing g c =
           (c.in-Some.ensures.same ∙ c.as_mut_slice.ensures.value),
       locked.ours,
       subst
-          (λ (k : Contents). LacksReceipt k (g.K.Keeper.turns locked.keeper) c.args.seats.items c.in-Some.number)
+          (λ (o : Opening). LacksReceipt o (g.K.Keeper.turns locked.keeper) c.args.seats.items c.in-Some.number)
           locked.ours lacks,
       rw (← c.as_mut_slice.ensures.value) c.in-Some.ensures.whole,
     )

@@ -17,12 +17,12 @@ left g c = record {
   share = c.take.new.share.amount;
 }
 
-is_seat : (g : Over) (c : After-push_reserved g) → IsSeat g.H.House.contents (left g c)
+is_seat : (g : Over) (c : After-push_reserved g) → IsSeat g.H.House.opening (left g c)
 is_seat g c =
     let made = c.in_ok-made.made in
     let given = received (g.K.Keeper.asks c.in_ok-own.own) made in
     let before = c.deref.ensures.value ∙ c.in_ok-reserve.ensures.items in
-    let next = subst (λ (rs : List Receipted). IsNextOf g.H.House.contents rs given) before c.in_ok-made.ensures.next in
+    let next = subst (λ (rs : List Receipted). IsNextOf g.H.House.opening rs given) before c.in_ok-made.ensures.next in
     let same = c.in_ok-own.ensures ∙ sym c.in_ok-copy.ensures.same in
     let number = ap (λ (s : SeatView). s.number) c.seat.view_is in
     let own = ap (λ (m : SeatMessage). m.seat) c.in_ok-copy.ensures.same ∙ (c.requires.seat ∙ sym number) in
@@ -34,7 +34,7 @@ is_seat g c =
       c.in_ok-made.ensures.share,
     )
     (seat-snoc _ _ (received c.in_ok-copy.copy made) (rw (← c.seat.view_is) at c.requires.part) c.seat.invariant
-    (subst (λ (m : SeatMessage). IsNextOf g.H.House.contents c.seat.inside.receipts.items (received m made)) same next) own)
+    (subst (λ (m : SeatMessage). IsNextOf g.H.House.opening c.seat.inside.receipts.items (received m made)) same next) own)
 
 pub invariant_of-seat-2 : goal.invariant_of-seat-2
 invariant_of-seat-2 g c = is_seat g (goal.at.invariant_of-seat-2 g c).After-push_reserved

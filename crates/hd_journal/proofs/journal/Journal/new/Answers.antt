@@ -18,4 +18,4 @@ returns-clause-legal g c =
     kept_at_start c.args.desk.copies.contents c.new.result c.new-2.result.turns c.new-2.result.places
     (subst (λ (x : Contents). AreInRange (facts_of x)) (c.deref.ensures ∙ c.catalogue.ensures) c.command_limit.ensures.facts)
     c.new.ensures c.new-2.ensures.turns c.new-2.ensures.places in
-    legal_book _ _ _ kept
+    legal_book c.journal_laws.ensures _ _ _ kept

@@ -14,7 +14,8 @@ use Rattle.hd_journal.proofs.journal.Journal.take.Goals as goal
 
 pub returns-in_err-ready-clause-legal : goal.returns-in_err-ready-clause-legal
 returns-in_err-ready-clause-legal g c =
-    legal_book _ _ _ (kept_there _ _ _ _ _ c.self.invariant c.ready.ensures.turns c.ready.ensures.kept)
+    legal_book c.journal_laws.ensures _ _ _
+    (kept_there _ _ _ _ _ c.self.invariant c.ready.ensures.turns c.ready.ensures.kept)
 
 pub returns-in_err-ready-clause-err : goal.returns-in_err-ready-clause-err
 returns-in_err-ready-clause-err g c =
@@ -24,7 +25,8 @@ returns-in_err-ready-clause-err g c =
 pub returns-in_err-reply-clause-legal : goal.returns-in_err-reply-clause-legal
 returns-in_err-reply-clause-legal g c =
     subst (λ (x : Running). IsLegalBook x.contents c.ready.new.self.turns) (sym c.in_err-reply.ensures.err)
-    (legal_book _ _ _ (kept_there _ _ _ _ _ c.self.invariant c.ready.ensures.turns c.ready.ensures.kept))
+    (legal_book c.journal_laws.ensures _ _ _
+    (kept_there _ _ _ _ _ c.self.invariant c.ready.ensures.turns c.ready.ensures.kept))
 
 pub returns-in_err-reply-clause-err : goal.returns-in_err-reply-clause-err
 returns-in_err-reply-clause-err g c =
@@ -78,30 +80,34 @@ anew g c =
 
 pub invariant_of-self-in-Some : goal.invariant_of-self-in-Some
 invariant_of-self-in-Some g c =
-    makes_kept _ _ _ _ _ _ _ _ (again g (goal.at.invariant_of-self-in-Some g c).After-add_repeat)
+    makes_kept c.journal_laws.ensures _ _ _ _ _ _ _ _
+    (again g (goal.at.invariant_of-self-in-Some g c).After-add_repeat)
 
 pub returns-in-Some-clause-turn : goal.returns-in-Some-clause-turn
 returns-in-Some-clause-turn g c =
     let adds = again g (goal.at.returns-in-Some-clause-turn g c).After-add_repeat in
-    makes_turn _ _ _ _ _ _ _ _ _ _ adds c.self.view_is
+    makes_turn c.journal_laws.ensures _ _ _ _ _ _ _ _ _ _ adds c.self.view_is
     (c.add_repeat.ensures.made
     ∙ ap (λ (x : Turn). record { at = length c.add_repeat.new.self.turns; reply = x.reply }) c.with_reply-again.ensures)
 
 pub returns-in-Some-clause-legal : goal.returns-in-Some-clause-legal
 returns-in-Some-clause-legal g c =
-    legal_book _ _ _ (makes_kept _ _ _ _ _ _ _ _ (again g (goal.at.returns-in-Some-clause-legal g c).After-add_repeat))
+    legal_book c.journal_laws.ensures _ _ _
+    (makes_kept c.journal_laws.ensures _ _ _ _ _ _ _ _ (again g (goal.at.returns-in-Some-clause-legal g c).After-add_repeat))
 
 pub invariant_of-self-2 : goal.invariant_of-self-2
 invariant_of-self-2 g c =
-    makes_kept _ _ _ _ _ _ _ _ (anew g (goal.at.invariant_of-self-2 g c).After-add)
+    makes_kept c.journal_laws.ensures _ _ _ _ _ _ _ _
+    (anew g (goal.at.invariant_of-self-2 g c).After-add)
 
 pub returns-clause-turn : goal.returns-clause-turn
 returns-clause-turn g c =
     let adds = anew g (goal.at.returns-clause-turn g c).After-add in
-    makes_turn _ _ _ _ _ _ _ _ _ _ adds c.self.view_is
+    makes_turn c.journal_laws.ensures _ _ _ _ _ _ _ _ _ _ adds c.self.view_is
     (c.add.ensures.made
     ∙ ap (λ (x : Turn). record { at = length c.add.new.self.turns; reply = x.reply }) c.with_reply-turn.ensures)
 
 pub returns-clause-legal : goal.returns-clause-legal
 returns-clause-legal g c =
-    legal_book _ _ _ (makes_kept _ _ _ _ _ _ _ _ (anew g (goal.at.returns-clause-legal g c).After-add))
+    legal_book c.journal_laws.ensures _ _ _
+    (makes_kept c.journal_laws.ensures _ _ _ _ _ _ _ _ (anew g (goal.at.returns-clause-legal g c).After-add))

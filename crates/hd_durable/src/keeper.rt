@@ -1,0 +1,93 @@
+//! A durable journal as what keeps a hall's journal.
+
+ghost use Rattle.std.specs.Prelude.{◌≡◌, ◌≤◌, [], drop, length};
+
+use crate::fault::DurableFault;
+use crate::journal::DurableJournal;
+use crate::table::TurnTable;
+use hd_catalogue::Catalogue;
+use hd_hall::{Keeper, KeeperFault};
+use hd_journal::{Ask, OwnedAsk, Turn, TurnRef};
+use std::alloc::{AllocError, Allocator, Global};
+use std::sync::Arc;
+
+/// A durable journal under a hall's lock. The hall counts the turns from here on.
+#[derive(Drop)]
+pub struct DurableKeeper<T: TurnTable, A: Allocator = Global> {
+    journal: DurableJournal<T, A>,
+    /// How many turns the journal had when it became a keeper.
+    begun: usize,
+    ghost within: { begun ≤ length journal.turns },
+}
+
+impl<T: TurnTable, A: Allocator + Copy> DurableKeeper<T, A> {
+    /// A keeper, which has come through no turns yet.
+    pub fn new(journal: DurableJournal<T, A>) -> DurableKeeper<T, A>
+        ensures journal { result.journal ≡ journal }
+        ensures begun { result.begun ≡ length journal.turns }
+        ensures none { drop result.begun result.journal.turns ≡ [] }
+    {
+        let begun = journal.front();
+        DurableKeeper { journal, begun }
+    }
+
+    /// The journal.
+    pub fn into_journal(self) -> DurableJournal<T, A>
+        ensures { result ≡ self.journal }
+    {
+        let DurableKeeper { journal, .. } = self;
+        journal
+    }
+}
+
+impl<T: TurnTable, A: Allocator + Copy> Keeper<A, OwnedAsk<A>> for DurableKeeper<T, A> {
+    ghost use Rattle.std.specs.Prelude.{drop, take};
+
+    ghost asks = { λ ask. ask };
+
+    ghost opening = { λ keeper. record {
+      contents = keeper.journal.contents;
+      begun = take keeper.begun keeper.journal.turns;
+    } };
+
+    ghost turns = { λ keeper. drop keeper.begun keeper.journal.turns };
+
+    ghost faults = { λ fault. Unit {0} };
+
+    fn own(alloc: A, ask: &Ask<'_>) -> Result<OwnedAsk<A>, AllocError> {
+        ask.to_owned(alloc)
+    }
+
+    fn catalogue(&self) -> &Arc<Catalogue<A>, A> {
+        self.journal.catalogue()
+    }
+
+    fn front(&self) -> usize {
+        self.journal.front() - self.begun
+    }
+
+    fn turn_at(&self, at: usize) -> Option<TurnRef<'_>> {
+        let front = self.journal.front();
+        if at == 0 || at > front - self.begun {
+            return None;
+        }
+        self.journal.turn_at(self.begun + at)
+    }
+
+    fn take(&mut self, own: OwnedAsk<A>) -> Result<Turn, KeeperFault> {
+        let turn = self.journal.take(own)?;
+        Ok(Turn {
+            at: turn.at - self.begun,
+            reply: turn.reply,
+        })
+    }
+}
+
+impl From<DurableFault> for KeeperFault {
+    fn from(fault: DurableFault) -> KeeperFault {
+        match fault {
+            DurableFault::Memory => KeeperFault::Memory,
+            DurableFault::Unwritten => KeeperFault::Unwritten,
+        }
+    }
+}

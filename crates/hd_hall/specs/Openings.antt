@@ -1,0 +1,18 @@
+-- What a hall is opened round.
+use Rattle.std.specs.Prelude.{List, [], ◌++◌}
+use Rattle.hd_rules.specs.Journal.{Turn}
+use Rattle.hd_catalogue.specs.Contents.{Contents}
+use Rattle.hd_journal.specs.Books.{IsLegalBook}
+
+-- what the library's catalogue says, and the turns that its journal has already
+pub record Opening : Type 0 where
+  pub contents : Contents
+  pub begun : List Turn
+
+-- a journal without turns
+abbrev pub fresh : Contents → Opening
+fresh contents = record { contents = contents; begun = [] }
+
+-- the journal has gone on by these turns, and all that it has are legal
+abbrev pub IsLegalFrom : Opening → List Turn → Type 0
+IsLegalFrom o turns = IsLegalBook o.contents (o.begun ++ turns)
