@@ -61,23 +61,9 @@ fn connect<S: Start>(
     }
 }
 
-/// Opens a journal, also one that a crash ended: it has the head and the turns that the files hold. A file
-/// with other tables is `NotAJournal`.
-pub fn restore<S: Start>(
-    rt: &HostRuntime,
-    path: &str,
-    start: S,
-) -> Result<Connection<FileStore<FileFrom<S>>>, Fault>
-    ensures { IfOk result (λ c. HasCleanDisk (file_state c) → (head : Head) (ks : List Kept)
-        → HoldsTurns (image_at S.Start) head ks → Holds (file_state c) head ks) }
-{
-    let mut conn = connect(rt, path, start)?;
-    check(&mut conn)?;
-    Ok(conn)
-}
-
-/// Opens a journal, or begins one where there is no file, an empty one, or one that a crash left before
-/// its tables were made. With the connection comes whether it was begun.
+/// Opens a journal, also one that a crash ended: it has the head and the turns that the files hold. Where
+/// there is no file, an empty one, or one that a crash left before its tables were made, it is begun; with the
+/// connection comes whether it was. A file with other tables is `NotAJournal`.
 pub fn open<S: Start>(
     rt: &HostRuntime,
     path: &str,

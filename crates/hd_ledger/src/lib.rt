@@ -12,7 +12,7 @@ mod stored;
 mod table;
 
 pub use crate::fault::Fault;
-pub use crate::file::{end, leave, open, restore};
+pub use crate::file::{end, leave, open};
 pub use crate::heading::{accept, catalogue};
 pub use crate::ledger::{append, append_all, begin, turns};
 pub use crate::row::{NamesRow, TurnRow};

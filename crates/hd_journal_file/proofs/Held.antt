@@ -1,0 +1,71 @@
+-- What a crash leaves of a file.
+use Rattle.std.proofs.Common.{◌≡◌, sym, ◌∙◌, ap, subst, ◌⊎◌, inl, inr, IsTrue, List, [], ◌∷◌, ◌++◌}
+use Rattle.sqlite.specs.State.{State}
+use Rattle.sqlite.specs.Effect.{Database}
+use Rattle.sqlite.specs.Tree.{Trees}
+use Rattle.hd_rules.specs.Turns.{start}
+use Rattle.hd_rules.specs.Journal.{Turn, IsLegal}
+use Rattle.hd_catalogue.specs.Contents.{Contents, facts_of}
+use Rattle.hd_ledger.specs.Kept.{Kept, Head}
+use Rattle.hd_ledger.specs.Tables.{Stores}
+use Rattle.hd_ledger.specs.Holds.{Holds}
+use Rattle.hd_journal_file.specs.Rows.{IsTurnRow, AreTurnRows}
+use Rattle.hd_journal_file.specs.Held.{HasTurns, LeavesTurns}
+use Rattle.hd_journal_file.proofs.Stored.{one_kept}
+use Rattle.hd_journal_file.proofs.Same.{OneMessage, same_turns, rows_more}
+
+-- what a crash leaves of an open database with nothing under way is what was committed
+abbrev pub Settles : State → Type 0
+Settles s = (db : Trees) → IsTrue s.is_open → s.may_leave db → db ≡ s.committed.trees
+
+-- legal turns whose rows a database stores are those of any other such list
+stored_turns : (one : OneMessage) (k : Contents) (turns left : List Turn) (head head' : Head) (rows rows' : List Kept)
+    (db : Trees) → IsLegal (facts_of k) turns → IsLegal (facts_of k) left → Stores head rows db → Stores head' rows' db
+    → AreTurnRows k turns rows → AreTurnRows k left rows' → left ≡ turns
+stored_turns one k turns left head head' rows rows' db legal legal' stores stores' are are' =
+    same_turns one k (start (facts_of k)) turns left rows legal legal' are
+    (subst (AreTurnRows k left) (one_kept (db 1) rows' rows stores'.turns stores.turns) are')
+
+pub left_is_held : (one : OneMessage) (s : State) (settles : Settles s) (k : Contents) (turns left : List Turn)
+    → HasTurns k s turns → LeavesTurns k s left → left ≡ turns
+left_is_held one s settles k turns left held leaves =
+    let trees : s.now.trees ≡ leaves.database =
+    sym (settles leaves.database held.keeps.is_open leaves.may ∙ ap (λ (d : Database). d.trees) held.keeps.settled)
+    in stored_turns one k turns left held.head leaves.kept.head held.rows leaves.kept.rows leaves.database held.legal
+    leaves.kept.legal (subst (Stores held.head held.rows) trees held.keeps.rows) leaves.kept.keeps held.are
+    leaves.kept.are
+
+-- a row more
+abbrev pub Adds : State → State → Kept → Type 0
+Adds old new row = (head : Head) (ks : List Kept) → Holds old head ks → Holds new head (ks ++ row ∷ [])
+
+-- a row more, or not
+abbrev pub MayAdd : State → State → Kept → Type 0
+MayAdd old new row =
+    (head : Head) (ks : List Kept) → Holds old head ks → (db : Trees) → new.may_leave db
+    → old.may_leave db ⊎ Stores head (ks ++ row ∷ []) db
+
+pub held_more : (old new : State) (row : Kept) → Adds old new row
+    → (k : Contents) (turns : List Turn) (turn : Turn) → IsTurnRow k turn row
+    → IsLegal (facts_of k) (turns ++ turn ∷ []) → HasTurns k old turns → HasTurns k new (turns ++ turn ∷ [])
+held_more old new row adds k turns turn is legal held =
+    record {
+      legal = legal;
+      head = held.head;
+      rows = held.rows ++ row ∷ [];
+      keeps = adds held.head held.rows held.keeps;
+      are = rows_more k turns held.rows turn row held.are is;
+    }
+
+pub left_either : (one : OneMessage) (old new : State) (row : Kept) (settles : Settles old) → MayAdd old new row
+    → (k : Contents) (turns left : List Turn) (turn : Turn) → IsTurnRow k turn row
+    → IsLegal (facts_of k) (turns ++ turn ∷ []) → HasTurns k old turns → LeavesTurns k new left
+    → (left ≡ turns) ⊎ (left ≡ turns ++ turn ∷ [])
+left_either one old new row settles may_add k turns left turn is legal held leaves =
+    elim (may_add held.head held.rows held.keeps leaves.database leaves.may) [
+      | inl was ↦ inl (left_is_held one old settles k turns left held
+          (record { database = leaves.database; may = was; kept = leaves.kept }))
+      | inr stores ↦ inr (stored_turns one k (turns ++ turn ∷ []) left held.head leaves.kept.head (held.rows ++ row ∷ [])
+          leaves.kept.rows leaves.database legal leaves.kept.legal stores leaves.kept.keeps
+          (rows_more k turns held.rows turn row held.are is) leaves.kept.are)
+    ]

@@ -1,0 +1,36 @@
+-- The row of a turn.
+use Rattle.std.proofs.Common.{◌≡◌, sym, ◌∙◌, subst, ℕ, List, [], Option, Some, None}
+use Rattle.hd_rules.specs.Turns.{Message}
+use Rattle.hd_rules.specs.Journal.{Turn}
+use Rattle.hd_catalogue.specs.Contents.{Contents}
+use Rattle.hd_turn_row.specs.Columns.{IsShown}
+use Rattle.hd_turn_row.specs.Days.{IsDayText}
+use Rattle.hd_turn_row.specs.Replies.{IsReplyText}
+use Rattle.hd_turn_row.specs.Rows.{IsRowOf, row_texts}
+use Rattle.hd_turn_row.specs.declared.row.Row.{Row}
+use Rattle.hd_ledger.specs.declared.row.TurnRow.{TurnRow}
+use Rattle.hd_ledger.specs.Rows.{kept}
+use Rattle.hd_journal_file.specs.Came.{ComesTo}
+use Rattle.hd_journal_file.specs.Rows.{IsTurnRow}
+use Rattle.hd_journal_file.specs.Told.{Tells}
+use Rattle.hd_journal_file.specs.declared.came.CameTo.{CameTo}
+
+-- the text of a day isn't empty
+pub some_day : (day : Option ℕ) (text : Option (List ℕ)) → IsShown IsDayText day text → ¬ (text ≡ Some [])
+some_day None None shown is = cc
+some_day None (Some text) shown is = absurd shown
+some_day (Some day) None shown is = absurd shown
+some_day (Some day) (Some text) shown is = let spelled = shown.spelled in cc
+
+-- what tells a turn's row, and what that came to, is the turn's row
+pub tells_turn : (k : Contents) (turn : Turn) (seat : ℕ) (message : Message) (row : Row) (came : CameTo) (told : TurnRow)
+    → seat ≡ turn.seat → message ≡ turn.message → IsRowOf k seat message (row_texts row) → ComesTo turn.reply came
+    → Tells row came told → IsTurnRow k turn (kept told)
+tells_turn k turn seat message row came told seat_is message_is is comes tells = record {
+  asked = subst (IsRowOf k turn.seat turn.message) (sym tells.asked)
+      (subst (λ (m : Message). IsRowOf k turn.seat m (row_texts row)) message_is
+      (subst (λ (s : ℕ). IsRowOf k s message (row_texts row)) seat_is is));
+  outcome = tells.outcome ∙ comes.outcome;
+  number = tells.number ∙ comes.number;
+  reply = subst (IsReplyText turn.reply) (sym tells.reply) comes.told;
+}

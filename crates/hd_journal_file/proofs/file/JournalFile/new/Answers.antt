@@ -1,0 +1,6 @@
+use Rattle.std.specs.Arc.{arc_value}
+use Rattle.hd_journal_file.proofs.file.JournalFile.new.Goals as goal
+
+pub returns-clause-settled : goal.returns-clause-settled
+returns-clause-settled g c turns left holds leaves =
+    c.a_crash_leaves_what_is_seen.ensures (arc_value c.args.catalogue) turns left (holds leaves.0) leaves.1

@@ -1,0 +1,19 @@
+use Rattle.std.proofs.Common.{List, take}
+use Rattle.sqlite.specs.State.{HasCleanDisk}
+use Rattle.sqlite.specs.Held.{state}
+use Rattle.hd_ledger.specs.Holds.{Holds}
+use Rattle.hd_ledger.specs.Kept.{Kept, Head}
+use Rattle.hd_journal_file.specs.Restored.{TakesRows}
+use Rattle.hd_journal_file.proofs.restoring.restore_turns.Given as goal
+
+-- some rows are taken, and with a clean disk the first ones
+abbrev pub invariant-loop-piece : goal.invariant-loop-piece
+invariant-loop-piece g l =
+    let old = state g.S.Store l.initial.conn in
+    let now = state g.S.Store l.conn in
+    record {
+      clean : HasCleanDisk now → HasCleanDisk old;
+      took : (rows : List Kept) × TakesRows l.initial.journal l.journal rows;
+      rows : HasCleanDisk now → (head : Head) (rows : List Kept) → Holds old head rows
+          → Holds now head rows × TakesRows l.initial.journal l.journal (take l.at rows);
+    }

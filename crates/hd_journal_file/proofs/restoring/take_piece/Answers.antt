@@ -1,0 +1,36 @@
+use Rattle.std.proofs.Common.{◌≡◌, refl, ◌∷◌, ◌+◌, sym, ap, subst, ◌∙◌, ℕ, List, [], map, take, drop, length, arith}
+use Rattle.std.proofs.lemmas.Bool.{eqb-true}
+use Rattle.std.proofs.lemmas.List.{length-map}
+use Rattle.hd_ledger.specs.Kept.{Kept, piece}
+use Rattle.hd_ledger.specs.Rows.{read_turn}
+use Rattle.hd_journal_file.specs.Restored.{TakesRows}
+use Rattle.hd_ledger.specs.declared.stored.StoredTurn.{StoredTurn}
+use Rattle.hd_journal_file.proofs.restoring.take_piece.Goals as goal
+
+no_items : (rows : List StoredTurn) → length rows ≡ 0 → rows ≡ []
+no_items [] is = refl
+no_items (row ∷ rows) is = absurd (omega arith)
+
+pub returns-then-is_empty-clause-rows : goal.returns-then-is_empty-clause-rows
+returns-then-is_empty-clause-rows g c clean head rows holds =
+    let read : map read_turn c.in-Ok.rows.items ≡ take piece (drop c.args.after rows) =
+    c.in-Ok.ensures.ok clean head rows holds in
+    let empty : length c.as_slice.result.now ≡ 0 =
+    c.as_slice.ensures.len ∙ eqb-true _ _ (sym c.is_empty.ensures ∙ c.if-is_empty.true) in
+    let none : c.as_slice.result.now ≡ [] = no_items c.as_slice.result.now empty in
+    let all : map read_turn c.as_slice.result.now ≡ take piece (drop c.args.after rows) =
+    ap (map read_turn) c.as_slice.ensures.value ∙ read in (
+      sym all ∙ ap (map read_turn) none,
+      subst (λ (ks : List Kept). TakesRows c.args.journal.now c.take_rows.new.journal ks) all c.in_ok-last.ensures.rows,
+    )
+
+pub returns-clause-rows : goal.returns-clause-rows
+returns-clause-rows g c clean head rows holds =
+    let read : map read_turn c.in-Ok.rows.items ≡ take piece (drop c.args.after rows) =
+    c.in-Ok.ensures.ok clean head rows holds in
+    let all : map read_turn c.as_slice.result.now ≡ take piece (drop c.args.after rows) =
+    ap (map read_turn) c.as_slice.ensures.value ∙ read in (
+      c.in_ok-last.ensures.number
+          ∙ ap (λ (n : ℕ). c.args.after + n) (sym (length-map c.as_slice.result.now read_turn) ∙ ap length all),
+      subst (λ (ks : List Kept). TakesRows c.args.journal.now c.take_rows.new.journal ks) all c.in_ok-last.ensures.rows,
+    )

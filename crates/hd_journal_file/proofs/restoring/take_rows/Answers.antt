@@ -1,0 +1,26 @@
+use Rattle.std.proofs.Common.{List, subst, arith, map, take}
+use Rattle.std.proofs.lemmas.List.{take_all}
+use Rattle.hd_ledger.specs.Kept.{Kept}
+use Rattle.hd_ledger.specs.Rows.{read_turn}
+use Rattle.hd_ledger.specs.declared.stored.StoredTurn.{StoredTurn}
+use Rattle.hd_journal_file.specs.Restored.{TakesRows}
+use Rattle.hd_journal_file.proofs.Retaken.{takes_none, takes_more, rows_front}
+use Rattle.hd_journal_file.proofs.restoring.take_rows.Goals as goal
+
+pub loop-row-init : goal.loop-row-init
+loop-row-init g c = record { number = omega arith; rows = takes_none c.args.journal.now }
+
+pub loop-row-preserved : goal.loop-row-preserved
+loop-row-preserved g c = record {
+  number = omega (arith, c.loop-row.invariant.number);
+  rows = subst (λ (rows : List Kept). TakesRows c.args.journal.now c.take_row.new.journal rows)
+      (rows_front c.args.rows.now c.loop-row.row-index c.row-item.result c.loop-row-test.true c.row-item.is)
+      (takes_more c.a_turn_more_is_kept_where_it_changes.ensures c.args.journal.now c.loop-row.journal
+      c.take_row.new.journal (map read_turn (take c.loop-row.row-index c.args.rows.now)) (read_turn c.row-item.result)
+      c.loop-row.invariant.rows c.in_ok-take_row.ensures);
+}
+
+pub returns-clause-rows : goal.returns-clause-rows
+returns-clause-rows g c =
+    subst (λ (rows : List StoredTurn). TakesRows c.args.journal.now c.loop-row.journal (map read_turn rows))
+    (take_all c.loop-row.row-index c.args.rows.now c.loop-row-test.false) c.loop-row.invariant.rows

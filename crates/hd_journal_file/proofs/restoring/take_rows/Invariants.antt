@@ -1,0 +1,12 @@
+use Rattle.std.proofs.Common.{◌≡◌, ◌+◌, map, take}
+use Rattle.hd_ledger.specs.Rows.{read_turn}
+use Rattle.hd_journal_file.specs.Restored.{TakesRows}
+use Rattle.hd_journal_file.proofs.restoring.take_rows.Given as goal
+
+-- the rows so far are taken
+abbrev pub invariant-loop-row : goal.invariant-loop-row
+invariant-loop-row g l =
+    record {
+      number : l.at ≡ l.after + l.row-index;
+      rows : TakesRows l.initial.journal l.journal (map read_turn (take l.row-index l.rows));
+    }

@@ -1,0 +1,46 @@
+-- What a journal's file holds, and what a stop may leave of it.
+use Rattle.std.specs.Prelude.{◌≡◌, Bool, false, List}
+use Rattle.sqlite.specs.Recovery.{Image}
+use Rattle.sqlite.specs.State.{State, HasCleanDisk}
+use Rattle.sqlite.specs.Tree.{Trees}
+use Rattle.hd_rules.specs.Journal.{Turn, IsLegal}
+use Rattle.hd_catalogue.specs.Contents.{Contents, facts_of}
+use Rattle.hd_ledger.specs.Kept.{Kept, Head}
+use Rattle.hd_ledger.specs.Tables.{Stores}
+use Rattle.hd_ledger.specs.Holds.{Holds}
+use Rattle.hd_ledger.specs.Crashes.{HoldsTurns}
+use Rattle.hd_journal_file.specs.Rows.{AreTurnRows}
+
+-- The turns are legal, and just their rows are kept, under some head.
+pub record AreKept (k : Contents) (turns : List Turn) (Keeps : Head → List Kept → Type 0) : Type 0 where
+  pub legal : IsLegal (facts_of k) turns
+  pub head : Head
+  pub rows : List Kept
+  pub keeps : Keeps head rows
+  pub are : AreTurnRows k turns rows
+
+module _ (k : Contents) (s : State) where
+  -- a connection sees just these turns, each committed
+  abbrev pub HasTurns : List Turn → Type 0
+  HasTurns turns = AreKept k turns (Holds s)
+
+  -- a crash may leave a database with just these turns
+  pub record LeavesTurns (left : List Turn) : Type 0 where
+    pub database : Trees
+    pub may : s.may_leave database
+    pub kept : AreKept k left (λ head rows. Stores head rows database)
+
+-- Without this nothing is claimed of a file: the disk has so far returned what was written to it, and a file
+-- that isn't new held a journal as it was opened.
+pub record IsReliable (image : Image) (is_new : Bool) (s : State) : Type 0 where
+  pub clean : HasCleanDisk s
+  pub found : is_new ≡ false → (head : Head) × (rows : List Kept) × HoldsTurns image head rows
+
+module _ (image : Image) (is_new : Bool) (k : Contents) (s : State) where
+  -- The file holds just these turns, each committed.
+  abbrev pub HoldsJournal : List Turn → Type 0
+  HoldsJournal turns = IsReliable image is_new s → HasTurns k s turns
+
+  -- A stop at this moment may leave just these turns in the file.
+  abbrev pub MayLeave : List Turn → Type 0
+  MayLeave left = IsReliable image is_new s × LeavesTurns k s left

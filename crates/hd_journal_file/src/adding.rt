@@ -1,0 +1,46 @@
+//! A row more, as a turn more.
+
+ghost use Rattle.std.specs.Prelude.{◌≡◌, ◌⊎◌, ◌++◌, ◌∷◌, [], List, OnErr, OnOk};
+ghost use Rattle.sqlite.specs.State.{HasCleanDisk};
+ghost use Rattle.sqlite.specs.Held.{state};
+ghost use Rattle.hd_catalogue.specs.Contents.{Contents, facts_of};
+ghost use Rattle.hd_rules.specs.Journal.{IsLegal, Turn};
+ghost use Rattle.hd_ledger.specs.Rows.{kept};
+ghost use Rattle.hd_journal_file.specs.Held.{HasTurns, LeavesTurns};
+ghost use Rattle.hd_journal_file.specs.Rows.{IsTurnRow};
+
+use hd_durable::NotCommitted;
+use hd_ledger::{Alter, Connection, TurnRow, append};
+use hd_turn_row::a_row_is_of_one_message;
+
+/// A crash leaves of a file what the connection sees.
+pub(crate) fn a_crash_leaves_what_is_seen<S: Alter>(_conn: &Connection<S>)
+    ensures { (k : Contents) (turns left : List Turn) → HasTurns k (state S.Store _conn.now) turns
+        → LeavesTurns k (state S.Store _conn.now) left → left ≡ turns }
+{
+    a_row_is_of_one_message();
+}
+
+/// Commits the row of a turn more.
+///
+/// # Errors
+/// Where it can't be written. A crash may then leave the turn or not.
+pub(crate) fn add<S: Alter>(conn: &mut Connection<S>, row: &TurnRow<'_>) -> Result<(), NotCommitted>
+    ensures clean { HasCleanDisk (state S.Store conn.new) → HasCleanDisk (state S.Store conn.old) }
+    ensures ok { HasCleanDisk (state S.Store conn.new) → OnOk result ((k : Contents) (turns : List Turn)
+        (turn : Turn) → IsTurnRow k turn (kept row.now) → IsLegal (facts_of k) (turns ++ turn ∷ [])
+        → HasTurns k (state S.Store conn.old) turns
+        → HasTurns k (state S.Store conn.new) (turns ++ turn ∷ [])) }
+    ensures settled { (k : Contents) (turns left : List Turn) → HasTurns k (state S.Store conn.new) turns
+        → LeavesTurns k (state S.Store conn.new) left → left ≡ turns }
+    ensures err { HasCleanDisk (state S.Store conn.new) → OnErr result ((k : Contents)
+        (turns left : List Turn) (turn : Turn) → IsTurnRow k turn (kept row.now)
+        → IsLegal (facts_of k) (turns ++ turn ∷ []) → HasTurns k (state S.Store conn.old) turns
+        → LeavesTurns k (state S.Store conn.new) left → (left ≡ turns) ⊎ (left ≡ turns ++ turn ∷ [])) }
+{
+    a_row_is_of_one_message();
+    match append(conn, row) {
+        Ok(()) => Ok(()),
+        Err(_) => Err(NotCommitted),
+    }
+}

@@ -1,0 +1,37 @@
+//! What a turn came to.
+
+ghost use Rattle.std.specs.Prelude.{IfOk};
+ghost use Rattle.hd_journal_file.specs.Came.{ComesTo};
+
+use hd_durable::NotCommitted;
+use hd_journal::TurnReply;
+use hd_turn_row::{number_of, outcome_of, reply_text};
+use std::alloc::Global;
+
+/// What a turn came to, in the columns of its row.
+#[derive(Drop)]
+pub(crate) struct CameTo {
+    /// How it went, in one word.
+    pub(crate) outcome: &'static str,
+    /// The number of the command that the reply names, where it names one.
+    pub(crate) number: Option<u32>,
+    /// The text of the reply.
+    pub(crate) reply: Vec<u8>,
+}
+
+/// What a turn with this reply came to.
+///
+/// # Errors
+/// Where there is no memory for it.
+pub(crate) fn came_to(alloc: Global, reply: &TurnReply) -> Result<CameTo, NotCommitted>
+    ensures { IfOk result (ComesTo reply.now) }
+{
+    match reply_text(alloc, reply) {
+        Ok(text) => Ok(CameTo {
+            outcome: outcome_of(reply),
+            number: number_of(reply),
+            reply: text,
+        }),
+        Err(_) => Err(NotCommitted),
+    }
+}

@@ -1,0 +1,88 @@
+//! The file of a journal.
+
+ghost use Rattle.std.specs.Prelude.{◌≡◌, List};
+ghost use Rattle.std.specs.Arc.{arc_value};
+ghost use Rattle.sqlite.specs.Held.{state};
+ghost use Rattle.sqlite.specs.WalFiles.{image_at};
+ghost use Rattle.hd_rules.specs.Journal.{Turn};
+ghost use Rattle.hd_journal_file.specs.Held.{HoldsJournal, MayLeave};
+
+use crate::adding::{a_crash_leaves_what_is_seen, add};
+use crate::came::came_to;
+use crate::telling::told;
+use hd_catalogue::Catalogue;
+use hd_durable::{NotCommitted, TurnTable};
+use hd_journal::TurnRef;
+use hd_ledger::{Alter, Connection, Start};
+use hd_turn_row::RowDays;
+use std::alloc::{Allocator, Global};
+use std::marker::PhantomData;
+use std::sync::Arc;
+
+/// A journal's SQLite file, in which each turn is a row that tells it by the names of a catalogue.
+///
+/// What is claimed of it rests on the disk, and on what it held as it was opened (`IsReliable` of the
+/// specification). `F` stands for that.
+#[derive(Drop)]
+pub struct JournalFile<S: Alter, F: Start, A: Allocator = Global> {
+    conn: Connection<S>,
+    catalogue: Arc<Catalogue<A>, A>,
+    /// Whether the journal was begun in it as it was opened.
+    is_new: bool,
+    /// Where the memory of a row comes from.
+    alloc: Global,
+    found: PhantomData<F>,
+}
+
+impl<S: Alter, F: Start, A: Allocator + Copy> JournalFile<S, F, A> {
+    /// The file that a connection has open. Its turns are told by this catalogue's names.
+    pub fn new(
+        alloc: Global,
+        conn: Connection<S>,
+        is_new: bool,
+        catalogue: Arc<Catalogue<A>, A>,
+    ) -> JournalFile<S, F, A>
+        ensures catalogue { arc_value result.catalogue ≡ arc_value catalogue }
+        ensures conn { result.conn ≡ conn }
+        ensures is_new { result.is_new ≡ is_new }
+        ensures settled { let of = HoldsJournal (image_at F.Start) is_new (arc_value catalogue) in
+            let leaves = MayLeave (image_at F.Start) is_new (arc_value catalogue) in
+            (turns left : List Turn) → of (state S.Store conn) turns → leaves (state S.Store conn) left
+            → left ≡ turns }
+    {
+        a_crash_leaves_what_is_seen(&conn);
+        JournalFile {
+            conn,
+            catalogue,
+            is_new,
+            alloc,
+            found: PhantomData,
+        }
+    }
+
+    /// The connection, to end it well.
+    pub fn into_connection(self) -> Connection<S>
+        ensures { result ≡ self.conn }
+    {
+        let JournalFile { conn, .. } = self;
+        conn
+    }
+}
+
+impl<S: Alter, F: Start, A: Allocator + Copy> TurnTable for JournalFile<S, F, A> {
+    ghost contents = { λ file. arc_value file.catalogue };
+
+    ghost holds = { λ file. HoldsJournal (image_at F.Start) file.is_new (arc_value file.catalogue)
+        (state S.Store file.conn) };
+
+    ghost leaves = { λ file. MayLeave (image_at F.Start) file.is_new (arc_value file.catalogue)
+        (state S.Store file.conn) };
+
+    fn commit(&mut self, turn: &TurnRef<'_>) -> Result<(), NotCommitted> {
+        a_crash_leaves_what_is_seen(&self.conn);
+        let came = came_to(self.alloc, &turn.reply)?;
+        let days = RowDays::of(&turn.asked);
+        let row = told(&self.catalogue, turn, &days, &came)?;
+        add(&mut self.conn, &row)
+    }
+}

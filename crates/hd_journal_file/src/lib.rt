@@ -1,0 +1,17 @@
+//! A journal's SQLite file as the table that a durable journal commits its changing turns to.
+//!
+//! Each turn is a row: what was asked, by the catalogue's names, and what that came to. A list of legal turns
+//! is told by its rows, since the turn machine determines each reply by the messages up to it.
+#![tactic(auto)]
+
+mod adding;
+mod came;
+mod fault;
+mod file;
+mod reading;
+mod restoring;
+mod telling;
+
+pub use crate::fault::{CameColumn, RestoreFault};
+pub use crate::file::JournalFile;
+pub use crate::restoring::restore_turns;

@@ -1,0 +1,134 @@
+//! A journal from the rows of its file.
+
+ghost use Rattle.std.specs.Prelude.{◌≡◌, ◌+◌, [], List, IfOk, OnOk, drop, length, map, take};
+ghost use Rattle.sqlite.specs.State.{HasCleanDisk};
+ghost use Rattle.sqlite.specs.Held.{state};
+ghost use Rattle.hd_journal.specs.Books.{IsLegalBook, facts};
+ghost use Rattle.hd_journal.specs.Changing.{changing};
+ghost use Rattle.hd_ledger.specs.Holds.{Holds};
+ghost use Rattle.hd_ledger.specs.Kept.{Head, Kept, piece};
+ghost use Rattle.hd_ledger.specs.Rows.{read_turn};
+ghost use Rattle.hd_journal_file.specs.Restored.{TakesPiece, TakesRow, TakesRows};
+ghost use Rattle.hd_journal_file.specs.Rows.{AreTurnRows};
+
+use crate::fault::RestoreFault;
+use crate::reading::{compare, own_ask};
+use hd_durable::a_turn_more_is_kept_where_it_changes;
+use hd_journal::Journal;
+use hd_ledger::{Alter, Connection, StoredTurn, turns};
+use std::alloc::{Allocator, Global};
+
+/// Takes the turn of a row again. `at` is the row's number.
+///
+/// # Errors
+/// `NoTurn`, `NoChange`, `Differs` and `Memory`.
+fn take_row<A: Allocator + Copy>(
+    journal: &mut Journal<A>,
+    alloc: A,
+    memory: Global,
+    kept: &StoredTurn,
+    at: u32,
+) -> Result<(), RestoreFault>
+    ensures { OnOk result (TakesRow journal.old journal.new (read_turn kept.now)) }
+{
+    let own = own_ask(journal.desk().catalogue(), alloc, kept, at)?;
+    if !journal.is_changing(&own) {
+        return Err(RestoreFault::NoChange { at });
+    }
+    match journal.take(own) {
+        Ok(turn) => compare(memory, &turn.reply, kept, at),
+        Err(_) => Err(RestoreFault::Memory),
+    }
+}
+
+/// Takes the turns of some rows again, and answers the number of the last; the first has the next after
+/// `after`.
+///
+/// # Errors
+/// As `take_row`, or `TooMany`.
+fn take_rows<A: Allocator + Copy>(
+    journal: &mut Journal<A>,
+    alloc: A,
+    memory: Global,
+    rows: &[StoredTurn],
+    after: u32,
+) -> Result<u32, RestoreFault>
+    ensures number { IfOk result (λ at. at ≡ after + length rows.now) }
+    ensures rows { OnOk result (TakesRows journal.old journal.new (map read_turn rows.now)) }
+{
+    a_turn_more_is_kept_where_it_changes();
+    let mut at = after;
+    for row in rows {
+        let Some(next) = at.checked_add(1) else {
+            return Err(RestoreFault::TooMany);
+        };
+        take_row(journal, alloc, memory, row, next)?;
+        at = next;
+    }
+    Ok(at)
+}
+
+/// Takes the next rows of a file again, at most 1,024 of them, and answers the number of the last, or `None`
+/// where there is none after `after`.
+///
+/// # Errors
+/// As `take_rows`, or `Unread`.
+fn take_piece<S: Alter, A: Allocator + Copy>(
+    conn: &mut Connection<S>,
+    memory: Global,
+    journal: &mut Journal<A>,
+    alloc: A,
+    after: u32,
+) -> Result<Option<u32>, RestoreFault>
+    ensures clean { HasCleanDisk (state S.Store conn.new) → HasCleanDisk (state S.Store conn.old) }
+    ensures took { OnOk result ((rows : List Kept) × TakesRows journal.old journal.new rows) }
+    ensures same { HasCleanDisk (state S.Store conn.new) → OnOk result ((head : Head) (rows : List Kept)
+        → Holds (state S.Store conn.old) head rows → Holds (state S.Store conn.new) head rows) }
+    ensures rows { HasCleanDisk (state S.Store conn.new) → IfOk result (λ last. (head : Head)
+        (rows : List Kept) → Holds (state S.Store conn.old) head rows
+        → TakesPiece journal.old journal.new (take piece (drop after rows)) after last) }
+{
+    let rows = match turns(conn, memory, after) {
+        Ok(rows) => rows,
+        Err(fault) => return Err(RestoreFault::Unread(fault)),
+    };
+    let last = take_rows(journal, alloc, memory, rows.as_slice(), after)?;
+    if rows.is_empty() {
+        Ok(None)
+    } else {
+        Ok(Some(last))
+    }
+}
+
+/// Takes all turns of a file again, in a journal that has none yet, of the catalogue by which they are told,
+/// and answers how many there are. Each row is then that of a turn, which changes something and comes to what
+/// the row says.
+///
+/// # Errors
+/// The first row that isn't such. The journal is to be dropped then.
+pub fn restore_turns<S: Alter, A: Allocator + Copy>(
+    conn: &mut Connection<S>,
+    memory: Global,
+    journal: &mut Journal<A>,
+    alloc: A,
+) -> Result<usize, RestoreFault>
+    requires { journal.old.turns ≡ [] }
+    ensures clean { HasCleanDisk (state S.Store conn.new) → HasCleanDisk (state S.Store conn.old) }
+    ensures rows { HasCleanDisk (state S.Store conn.new) → OnOk result ((head : Head) (rows : List Kept)
+        → Holds (state S.Store conn.old) head rows → Holds (state S.Store conn.new) head rows
+        × AreTurnRows journal.new.contents journal.new.turns rows) }
+    ensures number { IfOk result (λ number. number ≡ length journal.new.turns) }
+    ensures changing { OnOk result (changing (facts journal.new) journal.new.turns ≡ journal.new.turns) }
+    ensures contents { OnOk result (journal.new.contents ≡ journal.old.contents) }
+    ensures legal { OnOk result (IsLegalBook journal.new.contents journal.new.turns) }
+{
+    let mut at = 0;
+    for _piece in 0..u32::MAX {
+        let next = take_piece(conn, memory, journal, alloc, at)?;
+        match next {
+            Some(last) => at = last,
+            None => return Ok(journal.front()),
+        }
+    }
+    Err(RestoreFault::TooMany)
+}

@@ -1,0 +1,2 @@
+-- A journal's file, opened.
+pub mod Opening

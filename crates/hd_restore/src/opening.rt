@@ -1,0 +1,119 @@
+//! Opening a journal's file.
+
+ghost use Rattle.std.specs.Prelude.{◌≡◌, [], IfOk, List, OnOk};
+ghost use Rattle.sqlite.specs.Files.{file_state};
+ghost use Rattle.sqlite.specs.Held.{state};
+ghost use Rattle.sqlite.specs.State.{HasCleanDisk};
+ghost use Rattle.sqlite.specs.WalFiles.{image_at};
+ghost use Rattle.hd_journal.specs.Books.{IsLegalBook, facts};
+ghost use Rattle.hd_journal.specs.Changing.{changing};
+ghost use Rattle.hd_ledger.specs.Holds.{Holds};
+ghost use Rattle.hd_ledger.specs.Kept.{Head, Kept};
+ghost use Rattle.hd_journal_file.specs.Held.{IsReliable};
+ghost use Rattle.hd_journal_file.specs.Rows.{AreTurnRows};
+ghost use Rattle.hd_restore.specs.Opening.{AreFound, AreHeld};
+
+use crate::fault::OpenFault;
+use hd_durable::DurableJournal;
+use hd_journal::Journal;
+use hd_journal_file::{JournalFile, restore_turns};
+use hd_ledger::{Alter, Connection, FileFrom, FileStore, Start, accept, catalogue};
+use std::alloc::{AllocError, Global};
+use std::sync::Arc;
+
+/// Which catalogue a journal's file has to be of.
+#[derive(Clone, Copy)]
+pub struct Wanted<'a> {
+    /// The SHA-256 of the catalogue file.
+    pub digest: &'a [u8; 32],
+    /// Whether a file that was written with another catalogue is taken, where each of its turns comes to the
+    /// same with this one. It is then of this one.
+    pub is_other_accepted: bool,
+}
+
+/// Opens a journal's file, or begins one where there is none: a journal with the turns that the file holds,
+/// each taken again and compared, whose changing turns are committed to the file from now on.
+///
+/// `journal` has no turns, and its catalogue is the one that is wanted.
+///
+/// # Errors
+/// Each of `OpenFault`. The turns in the file stay as they were.
+pub fn open<S: Start>(
+    rt: &HostRuntime,
+    path: &str,
+    start: S,
+    wanted: &Wanted<'_>,
+    mut journal: Journal,
+) -> Result<DurableJournal<JournalFile<FileStore<FileFrom<S>>, S>>, OpenFault>
+    requires { journal.turns ≡ [] }
+    ensures contents { IfOk result (λ opened. opened.contents ≡ journal.contents) }
+    ensures found { IfOk result (λ opened. AreFound (image_at S.Start) opened.table.is_new
+        (file_state opened.table.conn) opened.contents opened.turns) }
+{
+    let alloc = rt.alloc();
+    let (mut conn, is_new) = hd_ledger::open(rt, path, start, wanted.digest)?;
+    if is_new {
+        return Ok(kept(alloc, conn, true, journal)?);
+    }
+    take_again(alloc, &mut conn, wanted, &mut journal)?;
+    Ok(kept(alloc, conn, false, journal)?)
+}
+
+/// Has a journal without turns take the turns of a file again, which is then of the catalogue that is wanted.
+fn take_again<S: Alter>(
+    alloc: Global,
+    conn: &mut Connection<S>,
+    wanted: &Wanted<'_>,
+    journal: &mut Journal,
+) -> Result<(), OpenFault>
+    requires { journal.old.turns ≡ [] }
+    ensures clean { HasCleanDisk (state S.Store conn.new) → HasCleanDisk (state S.Store conn.old) }
+    ensures held { HasCleanDisk (state S.Store conn.new) → OnOk result ((head : Head) (rows : List Kept)
+        → Holds (state S.Store conn.old) head rows
+        → (later : Head) × Holds (state S.Store conn.new) later rows
+        × AreTurnRows journal.new.contents journal.new.turns rows) }
+    ensures changing { OnOk result (changing (facts journal.new) journal.new.turns ≡ journal.new.turns) }
+    ensures contents { OnOk result (journal.new.contents ≡ journal.old.contents) }
+{
+    let is_same = is_of(conn, wanted.digest)?;
+    if !is_same && !wanted.is_other_accepted {
+        return Err(OpenFault::OtherCatalogue);
+    }
+    let _ = restore_turns(conn, alloc, journal, alloc)?;
+    if !is_same {
+        accept(conn, wanted.digest)?;
+    }
+    Ok(())
+}
+
+/// Whether a journal's file is of the catalogue file with this digest.
+fn is_of<S: Alter>(conn: &mut Connection<S>, digest: &[u8; 32]) -> Result<bool, OpenFault>
+    ensures clean { HasCleanDisk (state S.Store conn.new) → HasCleanDisk (state S.Store conn.old) }
+    ensures same { HasCleanDisk (state S.Store conn.new) → OnOk result ((head : Head) (rows : List Kept)
+        → Holds (state S.Store conn.old) head rows → Holds (state S.Store conn.new) head rows) }
+{
+    let heading = catalogue(conn)?;
+    Ok(heading.catalogue.as_slice() == digest.as_slice())
+}
+
+/// The journal whose turns the file holds, to commit to it what more changes.
+///
+/// # Errors
+/// Want of memory.
+fn kept<S: Start>(
+    alloc: Global,
+    conn: Connection<FileStore<FileFrom<S>>>,
+    is_new: bool,
+    journal: Journal,
+) -> Result<DurableJournal<JournalFile<FileStore<FileFrom<S>>, S>>, AllocError>
+    requires held { IsReliable (image_at S.Start) is_new (file_state conn)
+        → AreHeld (file_state conn) journal.contents journal.turns }
+    requires change { changing (facts journal) journal.turns ≡ journal.turns }
+    ensures contents { IfOk result (λ kept. kept.contents ≡ journal.contents) }
+    ensures turns { IfOk result (λ kept. kept.turns ≡ journal.turns) }
+    ensures file { IfOk result (λ kept. (kept.table.conn ≡ conn) × (kept.table.is_new ≡ is_new)) }
+{
+    let library = Arc::try_clone(journal.desk().catalogue())?;
+    let file = JournalFile::new(alloc, conn, is_new, library);
+    Ok(DurableJournal::new(journal, file))
+}
