@@ -16,21 +16,26 @@ pub(crate) struct Way {
 
 /// Whether a row is answered as it says, and counts the gaps that it says, where its lines come so.
 pub(crate) fn is_heard(rt: &HostRuntime, row: &Row, way: Way) -> Result<bool, AllocError> {
-    let alloc = rt.alloc();
-    let Some(mut terminals) = Terminals::open(rt, row)? else {
-        return Ok(false);
-    };
+    match Terminals::open(rt, row)? {
+        Some(mut terminals) => hear(rt.alloc(), &mut terminals, row, way),
+        None => Ok(false),
+    }
+}
+
+/// Sends the lines of a row, which come so, from its terminals before any line. Whether they are answered as
+/// it says, and the gaps counted.
+fn hear(alloc: Global, terminals: &mut Terminals, row: &Row, way: Way) -> Result<bool, AllocError> {
     let mut printed = Vec::new(alloc);
     for line in row.script().split(is_line_end) {
         if let Some(text) = after(line, b"> ") {
             let Some((session, message)) = of_session(text) else {
                 return Ok(false);
             };
-            send(alloc, &mut terminals, session, message, way)?;
-            print_outs(alloc, &terminals, session, &mut printed)?;
+            send(alloc, terminals, session, message, way)?;
+            print_outs(alloc, terminals, session, &mut printed)?;
         }
     }
-    Ok(is_answered(row.script(), printed.as_slice()) && are_gaps_counted(row.script(), &terminals))
+    Ok(is_answered(row.script(), printed.as_slice()) && are_gaps_counted(row.script(), terminals))
 }
 
 /// Sends a message of a session as a line that comes so.

@@ -3,11 +3,10 @@ ghost use Rattle.hd_session.specs.Standing.{IsKnownTo};
 
 use hd_catalogue::Catalogue;
 use hd_date::Stamp18;
-use hd_desk::{Desk, Meter};
+use hd_desk::Meter;
 use hd_journal::Journal;
 use hd_session::Session;
 use std::alloc::{AllocError, Allocator};
-use std::sync::Arc;
 
 /// A terminal in a session, alone at a journal, over memory of an allocator.
 #[derive(Drop)]
@@ -32,16 +31,15 @@ impl<A: Allocator + Copy> Lone<A> {
         let Ok(catalogue) = Catalogue::read(alloc, catalogue) else {
             return Ok(None);
         };
-        let catalogue = Arc::new(alloc, catalogue)?;
         let Ok(now) = hd_date::read(now, catalogue.offset()) else {
             return Ok(None);
         };
-        let desk = Desk::open(alloc, rt.alloc(), catalogue)?;
-        let journal = Journal::new(alloc, desk, Meter::new(rt));
+        let session = Session::new(alloc)?;
+        let journal = hd_open::open(alloc, rt.alloc(), Meter::new(rt), catalogue)?;
         Ok(Some(Lone {
             journal,
             now,
-            session: Session::new(alloc)?,
+            session,
             out: Vec::new(alloc),
         }))
     }

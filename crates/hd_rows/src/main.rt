@@ -1,7 +1,6 @@
-//! Plays rows of messages and replies through `replay` and through sessions whose lines are cut into pieces,
-//! and lines with damage through sessions; says of each whether it was answered as it is to be. Of
-//! cancellations it says whether the journal then keeps the records of one that never saw their targets, how
-//! much work two of them are, and whether they make few requests for memory.
+//! Plays rows of messages and replies through `replay` and through sessions whose lines are cut into pieces;
+//! says of each whether it was answered as it is to be. Of cancellations beside many held copies it says
+//! whether they make few requests for memory.
 //!
 //! A row is a script in `data/`: `catalogue FILE` and `now DATE` say what `replay` is given. `> LINE` is a
 //! line of its input; the lines that answer it stand under it: `< LINE` whole, `<~ SESSION PART` some reply
@@ -11,33 +10,22 @@
 #![tactic(auto)]
 
 mod answers;
-mod cancelling;
 mod catalogues;
 mod count;
 mod cuts;
-mod damage;
-mod damaging;
-mod drawing;
-mod exchanges;
 mod gaps;
 mod hearing;
 mod lone;
 mod memory;
-mod metering;
 mod names;
-mod renumbering;
 mod replaying;
 mod row;
 mod script;
-mod tally;
 mod terminals;
 mod ways;
 
-use crate::cancelling::cancel_rows;
 use crate::catalogues::read_catalogues;
-use crate::damaging::damage_rows;
 use crate::memory::cancel_with_little_memory;
-use crate::metering::meter_rows;
 use crate::names::ROWS;
 use crate::replaying::is_replayed;
 use crate::row::Row;
@@ -52,9 +40,6 @@ fn main(rt: HostRuntime) -> io::Result<()> {
     read_catalogues(&rt)?;
     replay_rows(&rt, rows.as_slice())?;
     hear_rows(&rt, rows.as_slice())?;
-    damage_rows(&rt, rows.as_slice())?;
-    cancel_rows(&rt, rows.as_slice())?;
-    meter_rows(&rt, rows.as_slice())?;
     cancel_with_little_memory(&rt)
 }
 

@@ -20,7 +20,7 @@ pub(crate) fn cancel_with_little_memory(rt: &HostRuntime) -> io::Result<()> {
     let refusing = Refusing::after(rt.alloc(), u64::MAX);
     let catalogue = catalogue(rt.alloc())?;
     match Lone::open(rt, &refusing, catalogue.as_bytes(), NOW)? {
-        Some(lone) => keep_and_cancel(rt, &refusing, lone),
+        Some(mut lone) => keep_and_cancel(rt, &refusing, &mut lone),
         None => println!(rt; "{TITLES} held copies: FAILED"),
     }
 }
@@ -30,16 +30,16 @@ pub(crate) fn cancel_with_little_memory(rt: &HostRuntime) -> io::Result<()> {
 fn keep_and_cancel<A: Allocator + Copy>(
     rt: &HostRuntime,
     refusing: &Refusing<Global>,
-    mut lone: Lone<A>,
+    lone: &mut Lone<A>,
 ) -> io::Result<()> {
     refusing.refuse_after(u64::MAX);
-    keep_copies(rt.alloc(), &mut lone)?;
+    keep_copies(rt.alloc(), lone)?;
     print_kept(rt, refusing.requests())?;
     let newest = b"11NN20260301    10000020260301    100000AOlib|AAp1|ABc200|AC|BIY|\r";
-    let is_newest_well = is_cancelled(refusing, &mut lone, newest, b"|AFCANCELLED 401|\r");
+    let is_newest_well = is_cancelled(refusing, lone, newest, b"|AFCANCELLED 401|\r");
     print_cancelled(rt, is_newest_well)?;
     let oldest = b"09N20260301    10000020260301    100000APnorth|AOlib|ABd|AC|BIY|\r";
-    let is_oldest_well = is_cancelled(refusing, &mut lone, oldest, b"|AFCANCELLED 1|\r");
+    let is_oldest_well = is_cancelled(refusing, lone, oldest, b"|AFCANCELLED 1|\r");
     print_cancelled(rt, is_oldest_well)
 }
 

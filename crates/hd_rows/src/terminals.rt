@@ -8,11 +8,10 @@ use crate::cuts::{Cut, pieces_of};
 use crate::row::Row;
 use hd_catalogue::Catalogue;
 use hd_date::Stamp18;
-use hd_desk::{Desk, Meter};
+use hd_desk::Meter;
 use hd_journal::Journal;
 use hd_session::{Session, script};
 use std::alloc::{AllocError, Global};
-use std::sync::Arc;
 
 /// How many terminals there are.
 pub(crate) const TERMINALS: usize = 9;
@@ -37,17 +36,17 @@ impl Terminals {
         let Ok(catalogue) = Catalogue::read(alloc, row.catalogue()) else {
             return Ok(None);
         };
-        let catalogue = Arc::new(alloc, catalogue)?;
         let Ok(now) = hd_date::read(row.now(), catalogue.offset()) else {
             return Ok(None);
         };
-        let desk = Desk::open(alloc, alloc, catalogue)?;
-        let journal = Journal::new(alloc, desk, Meter::new(rt));
+        let sessions = new_sessions(alloc)?;
+        let outs = empty_outs(alloc)?;
+        let journal = hd_open::open(alloc, alloc, Meter::new(rt), catalogue)?;
         Ok(Some(Terminals {
             journal,
             now,
-            sessions: new_sessions(alloc)?,
-            outs: empty_outs(alloc)?,
+            sessions,
+            outs,
         }))
     }
 
@@ -79,25 +78,6 @@ impl Terminals {
             Some(out) => out.as_slice(),
             None => b"",
         }
-    }
-
-    /// The journal.
-    pub(crate) fn journal(&self) -> &Journal {
-        &self.journal
-    }
-
-    /// How many commands survive.
-    pub(crate) fn survivors(&self) -> usize {
-        let mut count = 0_usize;
-        for _ in self.journal.survivors() {
-            count = count.saturating_add(1);
-        }
-        count
-    }
-
-    /// The last number that was given to a command.
-    pub(crate) fn last(&self) -> u64 {
-        self.journal.last()
     }
 
     /// Whether a session has ended.

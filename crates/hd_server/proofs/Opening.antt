@@ -17,7 +17,9 @@ new_known k n i at some = absurd (none-some at (sym (ap (λ (s : Hearing). s.sta
 
 -- and haven't ended
 pub new_of_office : (n : ℕ) → AreOfOffice (replicate n new_session)
-new_of_office n i estranged = none-some _ (sym (ap (λ (s : Hearing). s.ended) (new_at n i)) ∙ estranged)
+new_of_office n i =
+    let goes_on = ap (λ (s : Hearing). s.ended) (new_at n i) in
+    (λ estranged. none-some _ (sym goes_on ∙ estranged), λ unwritten. none-some _ (sym goes_on ∙ unwritten))
 
 -- one out more, with nothing in it
 pub empty_more : (outs : List (List ℕ)) → AreEmpty outs → AreEmpty (outs ++ [] ∷ [])

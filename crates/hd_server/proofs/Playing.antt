@@ -21,7 +21,7 @@ use Rattle.hd_server.specs.declared.fault.ServerFault.{ServerFault}
 use Rattle.hd_server.specs.declared.fault.ServerFault.TheVariants as fault
 use Rattle.hd_server.specs.Inputs.{AreLines, HasSession, Message, line_of}
 use Rattle.hd_server.specs.Printing.{ArePrinted, IsPrinted, Prints, end_text, printed}
-use Rattle.hd_server.specs.Replays.{AreEmpty, AreWellToLast, IsWell, PartReplayed, Progress, ReplayedOnto, ReplayedUpTo, Replays, faults}
+use Rattle.hd_server.specs.Replays.{AreEmpty, AreWellToLast, IsOfOffice, IsWell, PartReplayed, Progress, ReplayedOnto, ReplayedUpTo, Replays, faults}
 use Rattle.hd_server.proofs.Lining.{all_one}
 
 -- a buffer after a change to the whole of it
@@ -41,13 +41,12 @@ at_place [] i d within = absurd (omega (arith, within))
 at_place (s ∷ ss) zero d within = refl
 at_place (s ∷ ss) (suc i) d within = at_place ss i d (omega (arith, within))
 
--- a journal that lacks its last turn isn't one that wants memory
+-- a journal alone, which wants nothing but memory, is never estranged, and writes nothing
 pub estranged_is_no_memory : faults office.Estranged → ⊥
-estranged_is_no_memory same = let no : 0 ≡ 1 = ap number_of_fault (sym same) in absurd (omega (arith, no))
-  where
-    number_of_fault : OfficeFault → ℕ
-    number_of_fault office.Memory = 0
-    number_of_fault office.Estranged = 1
+estranged_is_no_memory same = let other : office.Estranged ≡ office.Memory = same in cc
+
+pub unwritten_is_no_memory : faults office.Unwritten → ⊥
+unwritten_is_no_memory same = let other : office.Unwritten ≡ office.Memory = same in cc
 
 -- One step is played: one event comes of it.
 pub record OneFed (step : Step) (ss : List Hearing) (events : List Event) (ss' : List Hearing) : Type 0 where
@@ -153,7 +152,7 @@ module _ (number : ℕ) (text bytes rest : List ℕ) (parts : List (List ℕ)) (
   -- what is put out of it, by how it ends
   pub line_put : (end : Result (Unit {0}) ServerFault) (out out' : List ℕ) → (after.contents ≡ before.contents) × (after.now ≡ before.now) →
       after.lines ≡ before.lines + 1
-      → (ended_so ≡ Some ended.Estranged → ⊥) → IfErr end (λ why. why ≡ fault.Memory) → OnOk end (EndsWell ended_so)
+      → IsOfOffice ended_so → IfErr end (λ why. why ≡ fault.Memory) → OnOk end (EndsWell ended_so)
       → Prints out out' (flat_map (printed number) parts ++ end_text number ended_so) end →
       ReplayedOnto before after (line_of message ∷ []) end out out'
   line_put (Ok done) out out' same counted office memory well prints =
@@ -161,11 +160,12 @@ module _ (number : ℕ) (text bytes rest : List ℕ) (parts : List (List ℕ)) (
   line_put (Err why) out out' same counted office memory well prints =
       (prints.0, subst (λ (f : ServerFault). ReplayedUpTo f before after (line_of message ∷ []) prints.0) (sym memory) part, prints.2)
     where
-      last : (end : Option Ended) → (end ≡ Some ended.Estranged → ⊥) → EndsWell end ⊎ (end ≡ Some ended.Memory)
+      last : (end : Option Ended) → IsOfOffice end → EndsWell end ⊎ (end ≡ Some ended.Memory)
       last None office = inl (inl refl)
       last (Some ended.TooLong) office = inl (inr refl)
       last (Some ended.Memory) office = inr refl
-      last (Some ended.Estranged) office = absurd (office refl)
+      last (Some ended.Estranged) office = absurd (office.0 refl)
+      last (Some ended.Unwritten) office = absurd (office.1 refl)
 
       part : PartReplayed before after (line_of message ∷ []) prints.0
       part = record {

@@ -1,6 +1,6 @@
 -- Replays: the lines of an input, answered in order.
 use Rattle.std.specs.Prelude.{◌≡◌, ◌≢◌, ◌⊎◌, ℕ, ◌+◌, ◌-◌, ⊤, List, [], ◌∷◌, ◌++◌, All, Some, Result, Ok}
-use Rattle.std.specs.Prelude.{Err, length, map, replicate, slice_index_or}
+use Rattle.std.specs.Prelude.{Err, Option, length, map, replicate, slice_index_or}
 use Rattle.hd_date.specs.Stamps.{Stamp}
 use Rattle.hd_rules.specs.Journal.{Turn}
 use Rattle.hd_catalogue.specs.Contents.{Contents}
@@ -10,6 +10,7 @@ use Rattle.hd_exchange.specs.declared.fault.OfficeFault.TheVariants as fault
 use Rattle.hd_session.specs.Endings.{EndsWell}
 use Rattle.hd_session.specs.Scripts.{AreFed, Event, Step, session_at, turns_of}
 use Rattle.hd_session.specs.Sessions.{Hearing, new_session}
+use Rattle.hd_session.specs.declared.ended.Ended.{Ended}
 use Rattle.hd_session.specs.declared.ended.Ended.TheVariants as ended
 use Rattle.hd_server.specs.declared.fault.ServerFault.{ServerFault}
 use Rattle.hd_server.specs.declared.fault.ServerFault.TheVariants.{Catalogue, BadNow, NoSession, InputTooLong}
@@ -122,9 +123,12 @@ ReplayedOnto before after lines end out out' =
 abbrev pub AreEmpty : List (List ℕ) → Type 0
 AreEmpty outs = (i : ℕ) → slice_index_or outs i [] ≡ []
 
--- no session is estranged from the journal
+-- no end that a journal alone doesn't give: as estranged, or for a turn that it couldn't write
+abbrev pub IsOfOffice : Option Ended → Type 0
+IsOfOffice end = (end ≢ Some ended.Estranged) × (end ≢ Some ended.Unwritten)
+
 abbrev pub AreOfOffice : List Hearing → Type 0
-AreOfOffice sessions = (i : ℕ) → (session_at sessions i).ended ≢ Some ended.Estranged
+AreOfOffice sessions = (i : ℕ) → IsOfOffice (session_at sessions i).ended
 
 -- what may be wrong with a line: it names no session, or memory is wanting
 abbrev pub IsOfLine : ServerFault → Type 0

@@ -3,6 +3,7 @@ ghost use Rattle.std.specs.Prelude.{◌≡◌, ◌≢◌, ◌+◌, ◌∷◌, []
 ghost use Rattle.std.specs.Prelude.{flat_map};
 ghost use Rattle.hd_server.specs.Inputs.{AreLines};
 ghost use Rattle.hd_server.specs.Printing.{Prints, end_text, printed};
+ghost use Rattle.hd_server.specs.Replays.{IsOfOffice};
 ghost use Rattle.hd_server.specs.declared.fault.ServerFault.TheVariants as fault;
 ghost use Rattle.hd_session.specs.Endings.{EndsWell};
 ghost use Rattle.hd_session.specs.declared.ended.Ended.TheVariants as ended;
@@ -22,7 +23,7 @@ pub(crate) fn print_answer<A: Allocator>(
     replies: &[u8],
     end: Option<Ended>,
 ) -> Result<(), ServerFault>
-    requires { end ≢ Some ended.Estranged }
+    requires { IsOfOffice end }
     ensures printed { (parts : List (List ℕ)) × (rest : List ℕ)
         × AreLines 13 replies.now parts rest
         × Prints out.old.items out.new.items (flat_map (printed session) parts ++ end_text session end)
@@ -45,7 +46,7 @@ fn print_end<A: Allocator>(
     session: usize,
     why: Ended,
 ) -> Result<(), ServerFault>
-    requires { why ≢ ended.Estranged }
+    requires { IsOfOffice (Some why) }
     ensures printed { Prints out.old.items out.new.items (end_text session (Some why)) result }
     ensures well { OnOk result (why ≡ ended.TooLong) }
     ensures memory { IfErr result (λ what. what ≡ fault.Memory) }
@@ -56,7 +57,7 @@ fn print_end<A: Allocator>(
             Ok(())
         }
         Ended::Memory => Err(ServerFault::Memory),
-        Ended::Estranged => unreachable!(),
+        Ended::Estranged | Ended::Unwritten => unreachable!(),
     }
 }
 

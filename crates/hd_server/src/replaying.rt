@@ -14,10 +14,8 @@ use crate::sessions::Sessions;
 use hd_catalogue::Catalogue;
 use hd_connection::{Input, Output, write_all};
 use hd_date::Stamp18;
-use hd_desk::{Desk, Meter};
-use hd_journal::Journal;
+use hd_desk::Meter;
 use std::alloc::{AllocError, Allocator};
-use std::sync::Arc;
 
 /// The most bytes that an input may have.
 const LONGEST_INPUT: usize = 16_777_216;
@@ -109,9 +107,7 @@ fn replay_over<A: Allocator + Copy, R: Input, W: Output>(
         }) result }
     ensures why { IfErr result (HasReason (R.fails from.new) (W.fails to.new)) }
 {
-    let catalogue = Arc::new(alloc, catalogue)?;
-    let desk = Desk::open(alloc, rt.alloc(), catalogue)?;
-    let journal = Journal::new(alloc, desk, Meter::new(rt));
+    let journal = hd_open::open(alloc, rt.alloc(), Meter::new(rt), catalogue)?;
     let mut sessions = Sessions::new(alloc, journal, now)?;
     answer_input(alloc, &mut sessions, from, to)
 }

@@ -13,7 +13,7 @@ use crate::prefix::{SESSIONS, session_of};
 use crate::printing::print_answer;
 use hd_date::Stamp18;
 use hd_journal::Journal;
-use hd_session::{Session, no_session_is_estranged, script};
+use hd_session::{Session, no_session_ends_by_another_fault, script};
 use memchr::memchr;
 use std::alloc::{AllocError, Allocator};
 use std::marker::Model;
@@ -177,7 +177,7 @@ fn play<A: Allocator + Copy>(
     ensures legal { IsLegalBook journal.old.contents journal.old.turns
         → IsLegalBook journal.new.contents journal.new.turns }
 {
-    no_session_is_estranged::<A, Journal<A>>();
+    no_session_ends_by_another_fault::<A, Journal<A>>();
     let _ = script::run(
         journal,
         now,

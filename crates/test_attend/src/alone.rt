@@ -8,10 +8,10 @@ use hd_session::Session;
 /// What comes of bytes that are fed to a session in one piece, at a journal alone. None for want of memory.
 pub(crate) fn feed_alone(rt: &HostRuntime, bytes: &[u8]) -> Option<Outcome> {
     let now = present()?;
-    let mut journal = journal(rt)?;
     let mut session = Session::new(rt.alloc()).ok()?;
+    let mut journal = Box::new(rt.alloc(), journal(rt)?).ok()?;
     let mut text = Vec::new(rt.alloc());
-    let end = match session.feed(bytes, &now, &mut journal, &mut text) {
+    let end = match session.feed(bytes, &now, &mut *journal, &mut text) {
         Ok(()) => Ok(()),
         Err(why) => Err(AttendFault::Ended(why)),
     };

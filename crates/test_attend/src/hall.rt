@@ -1,6 +1,7 @@
 //! A connection over memory, attended to at a hall.
 
 ghost use Rattle.std.specs.Prelude.{◌≡◌, []};
+ghost use Rattle.hd_hall.specs.Openings.{fresh};
 
 use crate::library::{journal, present};
 use crate::outcome::Outcome;
@@ -32,7 +33,7 @@ fn play_in<H: House, R: Wait>(
     wire: &Wire<'_>,
 ) -> Option<Outcome>
     requires journal { journal.turns ≡ [] }
-    requires contents { journal.contents ≡ H.contents }
+    requires opening { fresh journal.contents ≡ H.opening }
     requires name { blank.name ≡ H.name }
     requires parts { (blank.parts ≡ H.parts) × (H.parts ≡ 4294967296) }
 {
@@ -80,13 +81,13 @@ fn end_of<H: House, R: Wait, I: Input, W: Output>(
 }
 
 /// Closes a hall of one seat. None for want of memory, or where it doesn't close.
-fn close<H: House>(alloc: Global, hall: Hall<H>, seat: Seat<H>) -> Option<Journal>
+fn close<H: House>(alloc: Global, hall: Hall<H>, seat: Seat<H>) -> Option<Box<Journal>>
     requires parts { H.parts ≡ 4294967296 }
     requires part { seat.parts ≡ 1 }
 {
     let mut seats = Vec::new(alloc);
     seats.push(seat).ok()?;
-    hall.close(seats).ok()
+    Box::new(alloc, hall.close(seats).ok()?).ok()
 }
 
 /// A gate that lets each turn pass.

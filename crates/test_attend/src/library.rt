@@ -4,9 +4,8 @@ ghost use Rattle.std.specs.Prelude.{◌≡◌, [], IfSome};
 
 use hd_catalogue::Catalogue;
 use hd_date::{OffsetMinutes, Stamp18};
-use hd_desk::{Desk, Meter};
+use hd_desk::Meter;
 use hd_journal::Journal;
-use std::sync::Arc;
 
 /// Two terminals, three patrons, two titles and five copies.
 const CATALOGUE: &[u8] = b"H|1|lib|60|100
@@ -32,9 +31,7 @@ pub(crate) fn journal(rt: &HostRuntime) -> Option<Journal>
 {
     let alloc = rt.alloc();
     let catalogue = Catalogue::read(alloc, CATALOGUE).ok()?;
-    let catalogue = Arc::new(alloc, catalogue).ok()?;
-    let desk = Desk::open(alloc, alloc, catalogue).ok()?;
-    Some(Journal::new(alloc, desk, Meter::new(rt)))
+    hd_open::open(alloc, alloc, Meter::new(rt), catalogue).ok()
 }
 
 /// The present.

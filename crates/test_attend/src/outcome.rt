@@ -3,12 +3,13 @@
 use hd_attend::AttendFault;
 use hd_journal::{Journal, TurnRef};
 
-/// What comes of bytes: what is written, how it ends, and the journal with the turns that are made.
+/// What comes of bytes: what is written, how it ends, and the journal with the turns that are made, on the
+/// heap, so that it is let go by one function.
 #[derive(Drop)]
 pub(crate) struct Outcome {
     pub(crate) text: Vec<u8>,
     pub(crate) end: Result<(), AttendFault>,
-    pub(crate) journal: Journal,
+    pub(crate) journal: Box<Journal>,
 }
 
 impl Outcome {

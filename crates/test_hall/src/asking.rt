@@ -57,7 +57,7 @@ pub(crate) fn ask<H: House, R: Wait>(
     wish: &Wish,
 ) -> Option<TurnReply>
     requires part { seat.old.parts ≡ 1 }
-    requires known { IsOf H.contents wish.now }
+    requires known { IsOf H.opening.contents wish.now }
     ensures { seat.new.parts ≡ 1 }
 {
     let ask = Ask::new(seat.number(), wish.terminal, wish.asked, None);

@@ -28,11 +28,11 @@ pub(crate) fn two_terminals_clash<H: House + Send + Sync, R: Threads + Wait + Sy
     let (one, two) = join(
         rt,
         || -> Seat<H>
-            requires { (one.parts ≡ 1) × IsOf H.contents first × IsOf H.contents no_first }
+            requires { (one.parts ≡ 1) × IsOf H.opening.contents first × IsOf H.opening.contents no_first }
             ensures { result.parts ≡ 1 }
         { busy(rt, &hall, one, &first, &no_first) },
         || -> Seat<H>
-            requires { (two.parts ≡ 1) × IsOf H.contents second × IsOf H.contents no_second }
+            requires { (two.parts ≡ 1) × IsOf H.opening.contents second × IsOf H.opening.contents no_second }
             ensures { result.parts ≡ 1 }
         { busy(rt, &hall, two, &second, &no_second) },
     );
@@ -56,8 +56,8 @@ fn busy<H: House, R: Wait>(
     other: &Wish,
 ) -> Seat<H>
     requires part { seat.parts ≡ 1 }
-    requires one { IsOf H.contents wish.now }
-    requires other { IsOf H.contents other.now }
+    requires one { IsOf H.opening.contents wish.now }
+    requires other { IsOf H.opening.contents other.now }
     ensures { result.parts ≡ 1 }
 {
     for _ in 0..50 {

@@ -1,6 +1,7 @@
 //! Rows, and the halls that they are played at.
 
 ghost use Rattle.std.specs.Prelude.{◌≡◌, []};
+ghost use Rattle.hd_hall.specs.Openings.{fresh};
 
 use crate::clash::two_terminals_clash;
 use crate::rows::{out_of_order, seat_missing, two_seats};
@@ -54,7 +55,7 @@ fn play<H: House + Send + Sync, R: Threads + Wait + Sync>(
     row: Row,
 ) -> Option<Journal>
     requires journal { journal.turns ≡ [] }
-    requires contents { journal.contents ≡ H.contents }
+    requires opening { fresh journal.contents ≡ H.opening }
     requires name { blank.name ≡ H.name }
     requires parts { (blank.parts ≡ H.parts) × (H.parts ≡ 4294967296) }
 {

@@ -1,5 +1,6 @@
 //! Halls, each round a journal of its own.
 ghost use Rattle.std.specs.Prelude.{◌≡◌, []};
+ghost use Rattle.hd_hall.specs.Openings.{fresh};
 
 use crate::library::new_journal;
 use crate::submitting::two_seats;
@@ -59,7 +60,7 @@ fn try_at<H: House, R: Wait, A: Allocator + Copy>(
     passed: u64,
 ) -> Option<u64>
     requires journal { journal.turns ≡ [] }
-    requires contents { journal.contents ≡ H.contents }
+    requires opening { fresh journal.contents ≡ H.opening }
     requires name { blank.name ≡ H.name }
     requires parts { (blank.parts ≡ H.parts) × (H.parts ≡ 4294967296) }
 {

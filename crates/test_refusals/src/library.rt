@@ -54,7 +54,7 @@ pub(crate) fn present() -> Option<Stamp18> {
 /// The catalogue, read.
 pub(crate) fn shared_catalogue<'m>(memory: Memory<'m>) -> Option<SharedCatalogue<'m>> {
     let catalogue = Catalogue::read(memory, CATALOGUE).ok()?;
-    Arc::new(memory, catalogue).ok()
+    hd_open::share(memory, catalogue).ok()
 }
 
 /// A journal without turns.

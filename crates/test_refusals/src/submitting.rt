@@ -88,7 +88,7 @@ fn ask<H: House, R: Wait, A: Allocator + Copy>(
     line: &[u8],
 ) -> Option<Told>
     requires part { seat.old.parts ≡ 1 }
-    requires known { IsOf H.contents wish.now }
+    requires known { IsOf H.opening.contents wish.now }
     ensures { seat.new.parts ≡ 1 }
 {
     let receipts = seat.receipts().len();
@@ -119,7 +119,7 @@ fn submit<H: House, R: Wait, A: Allocator + Copy>(
     line: &[u8],
 ) -> Result<TurnReply, HallFault>
     requires part { seat.old.parts ≡ 1 }
-    requires known { IsOf H.contents wish.now }
+    requires known { IsOf H.opening.contents wish.now }
     ensures { seat.new.parts ≡ 1 }
 {
     let ask = Ask::new(seat.number(), wish.terminal, wish.asked, Some(line));

@@ -54,6 +54,6 @@ pub(crate) fn goes<R: Threads + Wait + Clock + Sync>(rt: &R, host: &HostRuntime)
         connections: 1,
         idle: 0,
     };
-    let played = play(rt, host.alloc(), opened, scale, &ByteByByte { host });
+    let played = play(rt, host, opened, scale, &ByteByByte { host });
     Some(is_well(&played, 2, 1))
 }

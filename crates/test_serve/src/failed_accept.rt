@@ -63,6 +63,6 @@ pub(crate) fn goes<R: Threads + Wait + Clock + Sync>(rt: &R, host: &HostRuntime)
         connections: 2,
         idle: 0,
     };
-    let (ended, is_played) = play(rt, host.alloc(), opened, scale, &row);
+    let (ended, is_played) = play(rt, host, opened, scale, &row);
     Some(is_played && ended == Err(ServeFault::CannotListen))
 }

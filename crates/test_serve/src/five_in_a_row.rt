@@ -84,6 +84,6 @@ pub(crate) fn goes<R: Threads + Wait + Clock + Sync>(rt: &R, host: &HostRuntime)
         connections: 5,
         idle: 0,
     };
-    let played = play(rt, host.alloc(), opened, scale, &FiveInARow);
+    let played = play(rt, host, opened, scale, &FiveInARow);
     Some(is_well(&played, 5, 1))
 }

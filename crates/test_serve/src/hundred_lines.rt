@@ -91,7 +91,7 @@ pub(crate) fn goes<R: Threads + Wait + Clock + Sync>(rt: &R, host: &HostRuntime)
         turns: AtomicUsize::new(0),
         is_in_order: AtomicBool::new(true),
     };
-    let played = play(rt, host.alloc(), opened, scale, &hundred);
+    let played = play(rt, host, opened, scale, &hundred);
     let is_counted = hundred.turns.load(Ordering::SeqCst) == TURNS_MADE;
     let is_in_order = hundred.is_in_order.load(Ordering::SeqCst);
     Some(is_well(&played, TURNS_MADE, 0) && is_counted && is_in_order)

@@ -82,6 +82,6 @@ pub(crate) fn goes<R: Threads + Wait + Clock + Sync>(rt: &R, host: &HostRuntime)
         is_called: AtomicBool::new(false),
         is_left: AtomicBool::new(false),
     };
-    let played = play(rt, host.alloc(), opened, scale, &idle);
+    let played = play(rt, host, opened, scale, &idle);
     Some(is_well(&played, 2, 1))
 }

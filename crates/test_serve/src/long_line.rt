@@ -66,6 +66,6 @@ pub(crate) fn goes<R: Threads + Wait + Clock + Sync>(rt: &R, host: &HostRuntime)
         idle: 0,
     };
     let alloc = host.alloc();
-    let played = play(rt, alloc, opened, scale, &LongLine { alloc });
+    let played = play(rt, host, opened, scale, &LongLine { alloc });
     Some(is_well(&played, 1, 0))
 }

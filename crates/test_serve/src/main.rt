@@ -7,6 +7,7 @@
 mod byte_by_byte;
 mod failed_accept;
 mod five_in_a_row;
+mod full_disk;
 mod hundred_lines;
 mod idle;
 mod library;
@@ -20,6 +21,7 @@ mod sixty_four;
 mod terminal;
 mod two_connections;
 mod unwritten_reply;
+mod unwritten_turn;
 mod waiting;
 
 use std::io;
@@ -35,6 +37,11 @@ fn main(rt: HostRuntime) -> io::Result<()> {
         &rt,
         "a reply that can't be written",
         unwritten_reply::goes(&rt, &rt),
+    )?;
+    tell(
+        &rt,
+        "a turn that can't be written",
+        unwritten_turn::goes(&rt, &rt),
     )?;
     tell(&rt, "a connection reset", reset::goes(&rt, &rt))?;
     tell(&rt, "byte by byte", byte_by_byte::goes(&rt, &rt))?;

@@ -112,6 +112,6 @@ pub(crate) fn goes<R: Threads + Wait + Clock + Sync>(rt: &R, host: &HostRuntime)
         connections: 1,
         idle: 0,
     };
-    let played = play(rt, host.alloc(), opened, scale, &Present { host });
+    let played = play(rt, host, opened, scale, &Present { host });
     Some(is_well(&played, 0, 0))
 }

@@ -50,6 +50,6 @@ pub(crate) fn goes<R: Threads + Wait + Clock + Sync>(rt: &R, host: &HostRuntime)
         connections: 2,
         idle: 0,
     };
-    let played = play(rt, host.alloc(), opened, scale, &Reset { host });
+    let played = play(rt, host, opened, scale, &Reset { host });
     Some(is_well(&played, 3, 2))
 }

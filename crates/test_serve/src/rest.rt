@@ -42,6 +42,6 @@ pub(crate) fn goes<R: Threads + Wait + Clock + Sync>(rt: &R, host: &HostRuntime)
         connections: 1,
         idle: 0,
     };
-    let played = play(rt, host.alloc(), opened, scale, &Rest);
+    let played = play(rt, host, opened, scale, &Rest);
     Some(is_well(&played, 1, 1))
 }

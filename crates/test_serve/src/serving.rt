@@ -1,12 +1,13 @@
 //! A server and its terminals, side by side.
 
-ghost use Rattle.std.specs.Prelude.{◌≡◌, ◌≤◌, [], IfSome};
+ghost use Rattle.std.specs.Prelude.{◌≡◌, ◌≤◌, []};
 
 use crate::library::journal;
 use crate::terminal::Terminal;
 use hd_attend::Gate;
+use hd_hall::Keeper;
 use hd_journal::Journal;
-use hd_serve::{Options, ServeFault, Summary, serve};
+use hd_serve::{Options, ServeFault, Summary, serve, summary_of};
 use std::alloc::Global;
 use std::net::{SocketAddr, TcpListener};
 use std::sync::Wait;
@@ -20,12 +21,11 @@ pub(crate) trait Row: Gate {
     fn play(&self, terminals: Vec<Terminal>) -> bool;
 }
 
-/// A port of the loopback, terminals that have connected, and a journal without turns.
+/// A port of the loopback, and terminals that have connected.
 #[derive(Drop)]
 pub(crate) struct Opened {
     pub(crate) listener: TcpListener,
     pub(crate) terminals: Vec<Terminal>,
-    journal: Journal,
 }
 
 /// How many serve and are served, and for how many idle seconds.
@@ -40,17 +40,13 @@ pub(crate) struct Scale {
 }
 
 /// Takes a port that the system gives, and has so many terminals connect. They wait there for the server.
-pub(crate) fn open(rt: &HostRuntime, count: u32) -> Option<Opened>
-    ensures { IfSome result (λ opened. opened.journal.turns ≡ []) }
-{
+pub(crate) fn open(rt: &HostRuntime, count: u32) -> Option<Opened> {
     let listener = TcpListener::bind(rt, "127.0.0.1:0").ok()?;
     let address = listener.local_addr().ok()?;
     let terminals = connected(rt, address, count)?;
-    let journal = journal(rt)?;
     Some(Opened {
         listener,
         terminals,
-        journal,
     })
 }
 
@@ -64,21 +60,54 @@ fn connected(rt: &HostRuntime, address: SocketAddr, count: u32) -> Option<Vec<Te
     Some(terminals)
 }
 
-/// Serves the terminals while they play the row: how the server ended, and whether all went as it is to.
+/// Serves the terminals, from a journal without turns, while they play the row: how the server ended, and
+/// whether all went as it is to.
 pub(crate) fn play<R: Threads + Wait + Clock + Sync, W: Row>(
     rt: &R,
-    alloc: Global,
+    host: &HostRuntime,
     opened: Opened,
     scale: Scale,
     row: &W,
 ) -> (Result<Summary, ServeFault>, bool)
-    requires turns { opened.journal.turns ≡ [] }
+    requires workers { (1 ≤ scale.workers) × (scale.workers ≤ 64) }
+{
+    match journal(host) {
+        Some(journal) => {
+            let (ended, is_played) = play_kept(rt, host.alloc(), opened, journal, scale, row);
+            (told(ended), is_played)
+        }
+        None => (Err(ServeFault::Memory), false),
+    }
+}
+
+/// What is told of how a server ended.
+fn told(ended: Result<Journal, ServeFault>) -> Result<Summary, ServeFault> {
+    match ended {
+        Ok(journal) => Ok(summary_of(&journal)),
+        Err(fault) => Err(fault),
+    }
+}
+
+/// The same from whatever keeps a journal without turns: what comes back.
+pub(crate) fn play_kept<
+    R: Threads + Wait + Clock + Sync,
+    W: Row,
+    Q: Drop + Send,
+    K: Keeper<Global, Q> + Drop + Send,
+>(
+    rt: &R,
+    alloc: Global,
+    opened: Opened,
+    keeper: K,
+    scale: Scale,
+    row: &W,
+) -> (Result<K, ServeFault>, bool)
+    requires turns { K.turns keeper ≡ [] }
     requires workers { (1 ≤ scale.workers) × (scale.workers ≤ 64) }
 {
     let Opened {
         listener,
         terminals,
-        journal,
     } = opened;
     let options = Options {
         workers: scale.workers,
@@ -87,10 +116,10 @@ pub(crate) fn play<R: Threads + Wait + Clock + Sync, W: Row>(
     };
     join(
         rt,
-        || -> Result<Summary, ServeFault>
-            requires turns { journal.turns ≡ [] }
+        || -> Result<K, ServeFault>
+            requires turns { K.turns keeper ≡ [] }
             requires workers { (1 ≤ options.workers) × (options.workers ≤ 64) }
-        { serve(rt, alloc, listener, journal, &options, row) },
+        { serve(rt, alloc, listener, keeper, &options, row) },
         || row.play(terminals),
     )
 }

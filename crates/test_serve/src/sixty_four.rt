@@ -50,6 +50,6 @@ pub(crate) fn goes<R: Threads + Wait + Clock + Sync>(rt: &R, host: &HostRuntime)
         connections: 64,
         idle: 0,
     };
-    let played = play(rt, host.alloc(), opened, scale, &SixtyFour);
+    let played = play(rt, host, opened, scale, &SixtyFour);
     Some(is_well(&played, 64, 0))
 }

@@ -160,7 +160,7 @@ pub(crate) fn goes<R: Threads + Wait + Clock + Sync>(rt: &R, host: &HostRuntime)
         idle: 0,
     };
     let meeting = Meeting::new(host, TURNS);
-    let played = play(rt, host.alloc(), opened, scale, &meeting);
+    let played = play(rt, host, opened, scale, &meeting);
     Some(is_well(&played, 2, 2) && meeting.has_met.load(Ordering::SeqCst))
 }
 
@@ -173,7 +173,7 @@ pub(crate) fn waits<R: Threads + Wait + Clock + Sync>(rt: &R, host: &HostRuntime
         idle: 0,
     };
     let meeting = Meeting::new(host, TURNS_IN_VAIN);
-    let (ended, is_met) = play(rt, host.alloc(), opened, scale, &meeting);
+    let (ended, is_met) = play(rt, host, opened, scale, &meeting);
     let is_held = meeting.held.load(Ordering::SeqCst) == 1;
     let has_met = meeting.has_met.load(Ordering::SeqCst);
     Some(ended.is_ok() && is_held && !is_met && !has_met)

@@ -68,6 +68,6 @@ pub(crate) fn goes<R: Threads + Wait + Clock + Sync>(rt: &R, host: &HostRuntime)
         is_called: AtomicBool::new(false),
         has_gone: AtomicBool::new(false),
     };
-    let played = play(rt, host.alloc(), opened, scale, &broken);
+    let played = play(rt, host, opened, scale, &broken);
     Some(is_well(&played, 2, 1))
 }

@@ -22,8 +22,8 @@ impl Heard {
 /// Feeds two pieces to a new session. None where there is none.
 pub(crate) fn hear(rt: &HostRuntime, first: &[u8], then: &[u8]) -> Option<Heard> {
     let now = hd_date::read(b"20260301    120000", OffsetMinutes::new(60)?).ok()?;
-    let mut office = Moved::new(rt)?;
     let mut session = Session::new(rt.alloc()).ok()?;
+    let mut office = Moved::new(rt)?;
     let mut text = Vec::new(rt.alloc());
     let _ = session.feed(first, &now, &mut office, &mut text);
     let end = session.feed(then, &now, &mut office, &mut text).err();

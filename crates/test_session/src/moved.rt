@@ -1,11 +1,10 @@
 //! An office that is estranged at its second turn.
 
 use hd_catalogue::Catalogue;
-use hd_desk::{Desk, Meter};
+use hd_desk::Meter;
 use hd_exchange::{Ask, Office, OfficeFault, SeatNo, Turn};
 use hd_journal::Journal;
 use std::alloc::Global;
-use std::sync::Arc;
 
 /// A terminal, a patron, a title and a copy.
 const CATALOGUE: &[u8] = b"H|1|lib|60|100
@@ -27,11 +26,8 @@ impl Moved {
     pub(crate) fn new(rt: &HostRuntime) -> Option<Moved> {
         let alloc = rt.alloc();
         let catalogue = Catalogue::read(alloc, CATALOGUE).ok()?;
-        let catalogue = Arc::new(alloc, catalogue).ok()?;
-        let desk = Desk::open(alloc, alloc, catalogue).ok()?;
-        Some(Moved {
-            journal: Journal::new(alloc, desk, Meter::new(rt)),
-        })
+        let journal = hd_open::open(alloc, alloc, Meter::new(rt), catalogue).ok()?;
+        Some(Moved { journal })
     }
 
     /// How many turns it has given.

@@ -1,13 +1,14 @@
 //! The hall, and its threads.
 
 ghost use Rattle.std.specs.Prelude.{◌≡◌, [], ◌<◌};
+ghost use Rattle.hd_hall.specs.Openings.{fresh};
 ghost use Rattle.time_hall.specs.Askers.{IsAskerOf};
 
 use crate::asker::Asker;
 use crate::spans::Spans;
 use crate::timed::Timed;
 use hd_hall::{Ask, Hall, House, Seat};
-use hd_journal::Journal;
+use hd_journal::{Journal, OwnedAsk};
 use std::alloc::Global;
 use std::marker::Brand;
 use std::sync::Wait;
@@ -19,7 +20,7 @@ use std::time::Clock;
 const SEATS: usize = 16;
 
 /// A hall whose journal is timed.
-type TimedHall<'r, H, R> = Hall<H, Global, Timed<'r, R>>;
+type TimedHall<'r, H, R> = Hall<H, Global, OwnedAsk<Global>, Timed<'r, R>>;
 
 /// Makes so many turns in a hall of this journal, whose house is picked here.
 pub(crate) fn work_in_picked<R: Threads + Wait + Clock + Sync>(
@@ -43,7 +44,7 @@ fn work_in<H: House + Send + Sync, R: Threads + Wait + Clock + Sync>(
     turns: usize,
 )
     requires journal { journal.turns ≡ [] }
-    requires contents { journal.contents ≡ H.contents }
+    requires opening { fresh journal.contents ≡ H.opening }
     requires name { blank.name ≡ H.name }
     requires parts { (blank.parts ≡ H.parts) × (H.parts ≡ 4294967296) }
 {
@@ -80,7 +81,7 @@ fn make_turns<'r, H: House, R: Wait + Clock>(
     turns: usize,
 )
     requires part { seat.parts ≡ 1 }
-    requires asker { IsAskerOf H.contents asker.now }
+    requires asker { IsAskerOf H.opening.contents asker.now }
 {
     for turn in 0..turns {
         make_turn(rt, hall, &mut seat, asker, turn);
@@ -96,7 +97,7 @@ fn make_turn<'r, H: House, R: Wait + Clock>(
     turn: usize,
 )
     requires part { seat.old.parts ≡ 1 }
-    requires asker { IsAskerOf H.contents asker.now }
+    requires asker { IsAskerOf H.opening.contents asker.now }
     ensures { seat.new.parts ≡ 1 }
 {
     let ask = Ask::new(seat.number(), asker.terminal, asker.asked(turn), None);

@@ -3,9 +3,8 @@
 ghost use Rattle.std.specs.Prelude.{◌≡◌, [], IfSome};
 
 use hd_catalogue::Catalogue;
-use hd_desk::{Desk, Meter};
+use hd_desk::Meter;
 use hd_journal::Journal;
-use std::sync::Arc;
 
 /// One terminal, four patrons, four titles and 16 copies.
 const CATALOGUE: &[u8] = b"H|1|lib|60|1000000
@@ -43,7 +42,5 @@ pub(crate) fn journal(rt: &HostRuntime) -> Option<Journal>
 {
     let alloc = rt.alloc();
     let catalogue = Catalogue::read(alloc, CATALOGUE).ok()?;
-    let catalogue = Arc::new(alloc, catalogue).ok()?;
-    let desk = Desk::open(alloc, alloc, catalogue).ok()?;
-    Some(Journal::new(alloc, desk, Meter::new(rt)))
+    hd_open::open(alloc, alloc, Meter::new(rt), catalogue).ok()
 }

@@ -4,8 +4,8 @@ ghost use Rattle.std.specs.Prelude.{◌≡◌};
 
 use crate::spans::Spans;
 use hd_catalogue::Catalogue;
-use hd_hall::{Ask, Keeper, TurnRef};
-use hd_journal::{Fault, Journal, OwnedAsk, Turn};
+use hd_hall::{Ask, Keeper, KeeperFault, TurnRef};
+use hd_journal::{Journal, OwnedAsk, Turn};
 use std::alloc::{AllocError, Global};
 use std::sync::Arc;
 use std::time::{Clock, Instant};
@@ -40,16 +40,19 @@ impl<'r, R: Clock> Timed<'r, R> {
     }
 }
 
-impl<'r, R: Clock> Keeper<Global> for Timed<'r, R> {
-    type Own = OwnedAsk<Global>;
+impl<'r, R: Clock> Keeper<Global, OwnedAsk<Global>> for Timed<'r, R> {
+    ghost use Rattle.hd_hall.specs.Openings.{fresh};
+    ghost use Rattle.hd_hall.specs.declared.fault.KeeperFault.TheVariants as keeper;
 
     ghost asks = { λ ask. ask };
 
-    ghost contents = { λ timed. timed.journal.contents };
+    ghost opening = { λ timed. fresh timed.journal.contents };
 
     ghost turns = { λ timed. timed.journal.turns };
 
-    fn own(alloc: Global, ask: &Ask<'_>) -> Result<Self::Own, AllocError> {
+    ghost faults = { λ fault. fault ≡ keeper.Memory };
+
+    fn own(alloc: Global, ask: &Ask<'_>) -> Result<OwnedAsk<Global>, AllocError> {
         ask.to_owned(alloc)
     }
 
@@ -65,10 +68,10 @@ impl<'r, R: Clock> Keeper<Global> for Timed<'r, R> {
         self.journal.turn_at(at)
     }
 
-    fn take(&mut self, own: Self::Own) -> Result<Turn, Fault> {
+    fn take(&mut self, own: OwnedAsk<Global>) -> Result<Turn, KeeperFault> {
         let since = Instant::now(self.clock).ok();
         let turn = self.journal.take(own);
         self.note(since);
-        turn
+        Ok(turn?)
     }
 }

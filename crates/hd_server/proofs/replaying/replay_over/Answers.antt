@@ -1,13 +1,12 @@
 use Rattle.std.proofs.Common.{◌≡◌, ◌∙◌, ap, inl, inr}
 use Rattle.hd_catalogue.specs.Contents.{Contents}
-use Rattle.hd_journal.specs.Books.{Book}
 use Rattle.hd_server.specs.Replays.{opening}
 use Rattle.std.proofs.KnownBytes.{Keeps-refl}
 use Rattle.hd_server.proofs.Ended.{for_memory}
 use Rattle.hd_server.proofs.replaying.replay_over.Goals as goal
 
-pub returns-in_err-catalogue-clause-replay : goal.returns-in_err-catalogue-clause-replay
-returns-in_err-catalogue-clause-replay g c = inl ((Keeps-refl _, Keeps-refl _), for_memory _ c.from_residual.ensures.0 c.from_residual.ensures.1)
+pub returns-in_err-journal-clause-replay : goal.returns-in_err-journal-clause-replay
+returns-in_err-journal-clause-replay g c = inl ((Keeps-refl _, Keeps-refl _), for_memory _ c.from_residual.ensures.0 c.from_residual.ensures.1)
 
 pub returns-in_err-sessions-clause-replay : goal.returns-in_err-sessions-clause-replay
 returns-in_err-sessions-clause-replay g c =
@@ -15,16 +14,10 @@ returns-in_err-sessions-clause-replay g c =
 
 pub returns-clause-replay : goal.returns-clause-replay
 returns-clause-replay g c =
-    let contents = ap (λ (b : Book). b.contents) c.new-journal.ensures.new ∙
-    (c.in_ok-desk.ensures.contents ∙ c.in_ok-catalogue.ensures.ok) in
     let first : c.in_ok-sessions.sessions ≡ opening c.args.catalogue c.args.now =
-    c.in_ok-sessions.ensures.new ∙ ap (λ (k : Contents). opening k c.args.now) contents in
+    c.in_ok-sessions.ensures.new ∙ ap (λ (k : Contents). opening k c.args.now) c.in_ok-journal.ensures.contents in
     inr (record {
       after = c.answer_input.new.sessions;
       reads = rw first at c.answer_input.ensures.reads;
       legal = c.answer_input.ensures.legal c.in_ok-sessions.ensures.legal;
     })
-
-pub returns-in_err-desk-clause-replay : goal.returns-in_err-desk-clause-replay
-returns-in_err-desk-clause-replay g c =
-    inl ((Keeps-refl _, Keeps-refl _), for_memory _ c.from_residual-in_err-desk.ensures.0 c.from_residual-in_err-desk.ensures.1)

@@ -3,7 +3,7 @@ use Rattle.std.proofs.lemmas.List.{length-map, map-set}
 use Rattle.hd_session.specs.Scripts.{session_at}
 use Rattle.hd_session.specs.Sessions.{Hearing}
 use Rattle.hd_server.specs.Inputs.{AreLines, line_of}
-use Rattle.hd_server.specs.Replays.{IsLegal, Progress, ReplayedOnto}
+use Rattle.hd_server.specs.Replays.{IsLegal, IsOfOffice, Progress, ReplayedOnto}
 use Rattle.hd_server.proofs.Playing.{at_place, emptied, line_put, said_at}
 use Rattle.hd_server.proofs.sessions.Sessions.feed.Goals as goal
 
@@ -19,6 +19,16 @@ invariant_of-self g c =
       c.play.ensures.known,
       c.play.ensures.office,
     )
+
+pub print_answer-printed-requires : goal.print_answer-printed-requires
+print_answer-printed-requires g c =
+    let one = c.requires.from_one in
+    let few = c.requires.number in
+    let sessions_then : length c.play.new.sessions.items ≡ 64 = sym c.play.new.sessions.ok.0 ∙ c.play.ensures.sizes.0 in
+    let end : c.ended-end.result ≡ (session_at c.play.new.sessions.items (c.args.number - 1)).ended =
+    c.ended-end.ensures ∙ ap (λ (h : Hearing). h.ended)
+    (c.index.ensures ∙ at_place c.play.new.sessions.items (c.args.number - 1) _ (omega (arith, one, few, sessions_then))) in
+    subst IsOfOffice (sym end) (c.play.ensures.office (c.args.number - 1))
 
 pub returns-clause-replayed : goal.returns-clause-replayed
 returns-clause-replayed g c text is =

@@ -1,0 +1,60 @@
+//! A journal whose keeper runs out of room to write.
+
+ghost use Rattle.std.specs.Prelude.{◌≡◌, [], ℕ};
+
+use hd_catalogue::Catalogue;
+use hd_hall::{Keeper, KeeperFault};
+use hd_journal::{Ask, Journal, OwnedAsk, Turn, TurnRef};
+use std::alloc::{AllocError, Global};
+use std::sync::Arc;
+
+/// A journal in memory whose keeper can write so many turns.
+#[derive(Drop)]
+pub(crate) struct FullDisk {
+    journal: Journal,
+    room: usize,
+}
+
+impl FullDisk {
+    /// Room for so many turns.
+    pub(crate) fn new(journal: Journal, room: usize) -> FullDisk
+        ensures { result.journal ≡ journal }
+    {
+        FullDisk { journal, room }
+    }
+}
+
+impl Keeper<Global, OwnedAsk<Global>> for FullDisk {
+    ghost use Rattle.hd_hall.specs.Openings.{fresh};
+
+    ghost asks = { λ ask. ask };
+
+    ghost opening = { λ disk. fresh disk.journal.contents };
+
+    ghost turns = { λ disk. disk.journal.turns };
+
+    ghost faults = { λ fault. Unit {0} };
+
+    fn own(alloc: Global, ask: &Ask<'_>) -> Result<OwnedAsk<Global>, AllocError> {
+        ask.to_owned(alloc)
+    }
+
+    fn catalogue(&self) -> &Arc<Catalogue> {
+        self.journal.desk().catalogue()
+    }
+
+    fn front(&self) -> usize {
+        self.journal.front()
+    }
+
+    fn turn_at(&self, at: usize) -> Option<TurnRef<'_>> {
+        self.journal.turn_at(at)
+    }
+
+    fn take(&mut self, ask: OwnedAsk<Global>) -> Result<Turn, KeeperFault> {
+        if self.journal.front() >= self.room {
+            return Err(KeeperFault::Unwritten);
+        }
+        Ok(self.journal.take(ask)?)
+    }
+}
