@@ -12,7 +12,6 @@ use std::marker::Model;
 /// What a catalogue file says, found by name or by number (docs/catalogue.md).
 ///
 /// The names of each kind are numbered from 0, in the order in which they first appear in the file.
-#[derive(Drop)]
 pub struct Catalogue<A: Allocator = Global> {
     pub(crate) settings: Settings,
     pub(crate) institution: Vec<u8, A>,
@@ -21,6 +20,21 @@ pub struct Catalogue<A: Allocator = Global> {
     pub(crate) patrons: Names<PatronFacts, A>,
     pub(crate) titles: Names<TitleFacts, A>,
     pub(crate) copies: Names<CopyFacts, A>,
+}
+
+// Written out, so that a caller's proof sees one call and not the drop of each field.
+impl<A: Allocator> Drop for Catalogue<A> {
+    fn drop(self) {
+        let Catalogue {
+            settings: _settings,
+            institution: _institution,
+            branches: _branches,
+            terminals: _terminals,
+            patrons: _patrons,
+            titles: _titles,
+            copies: _copies,
+        } = self;
+    }
 }
 
 impl<A: Allocator> Model for Catalogue<A> {

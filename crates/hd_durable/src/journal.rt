@@ -24,13 +24,24 @@ use std::sync::Arc;
 /// Whatever is asked, a stop at any moment leaves the changing turns of all that were answered, or of these
 /// and one more that nobody was answered (`left` of `take`). Where a turn can't be committed the journal
 /// shuts for good, and answers nothing more.
-#[derive(Drop)]
 pub struct DurableJournal<T: TurnTable, A: Allocator = Global> {
     journal: Journal<A>,
     table: T,
     /// How many turns were answered.
     answered: usize,
     is_shut: bool,
+}
+
+// Written out, so that a caller's proof sees one call and not the drop of each field.
+impl<T: TurnTable + Drop, A: Allocator> Drop for DurableJournal<T, A> {
+    fn drop(self) {
+        let DurableJournal {
+            journal: _journal,
+            table: _table,
+            answered: _answered,
+            is_shut: _is_shut,
+        } = self;
+    }
 }
 
 impl<T: TurnTable, A: Allocator> Model for DurableJournal<T, A> {
@@ -146,7 +157,12 @@ impl<T: TurnTable, A: Allocator + Copy> DurableJournal<T, A> {
     pub fn into_table(self) -> T
         ensures { result ≡ self.table }
     {
-        let DurableJournal { table, .. } = self;
+        let DurableJournal {
+            journal: _journal,
+            table,
+            answered: _answered,
+            is_shut: _is_shut,
+        } = self;
         table
     }
 }

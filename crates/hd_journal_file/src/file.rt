@@ -23,7 +23,6 @@ use std::sync::Arc;
 ///
 /// What is claimed of it rests on the disk, and on what it held as it was opened (`IsReliable` of the
 /// specification). `F` stands for that.
-#[derive(Drop)]
 pub struct JournalFile<S: Alter, F: Start, A: Allocator = Global> {
     conn: Connection<S>,
     catalogue: Arc<Catalogue<A>, A>,
@@ -32,6 +31,19 @@ pub struct JournalFile<S: Alter, F: Start, A: Allocator = Global> {
     /// Where the memory of a row comes from.
     alloc: Global,
     found: PhantomData<F>,
+}
+
+// Written out, so that a caller's proof sees one call and not the drop of each field.
+impl<S: Alter + Drop, F: Start, A: Allocator> Drop for JournalFile<S, F, A> {
+    fn drop(self) {
+        let JournalFile {
+            conn: _conn,
+            catalogue: _catalogue,
+            is_new: _is_new,
+            alloc: _alloc,
+            found: _found,
+        } = self;
+    }
 }
 
 impl<S: Alter, F: Start, A: Allocator + Copy> JournalFile<S, F, A> {
@@ -64,7 +76,13 @@ impl<S: Alter, F: Start, A: Allocator + Copy> JournalFile<S, F, A> {
     pub fn into_connection(self) -> Connection<S>
         ensures { result ≡ self.conn }
     {
-        let JournalFile { conn, .. } = self;
+        let JournalFile {
+            conn,
+            catalogue: _catalogue,
+            is_new: _is_new,
+            alloc: _alloc,
+            found: _found,
+        } = self;
         conn
     }
 }
