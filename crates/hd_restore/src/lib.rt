@@ -5,4 +5,4 @@ mod fault;
 mod opening;
 
 pub use crate::fault::OpenFault;
-pub use crate::opening::{Wanted, open};
+pub use crate::opening::{Wanted, open, open_over};

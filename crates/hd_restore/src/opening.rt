@@ -1,6 +1,6 @@
 //! Opening a journal's file.
 
-ghost use Rattle.std.specs.Prelude.{◌≡◌, [], IfOk, List, OnOk};
+ghost use Rattle.std.specs.Prelude.{◌≡◌, [], false, IfOk, IsTrue, List, OnOk};
 ghost use Rattle.sqlite.specs.Files.{file_state};
 ghost use Rattle.sqlite.specs.Held.{state};
 ghost use Rattle.sqlite.specs.State.{HasCleanDisk};
@@ -8,6 +8,7 @@ ghost use Rattle.sqlite.specs.WalFiles.{image_at};
 ghost use Rattle.hd_journal.specs.Books.{IsLegalBook, facts};
 ghost use Rattle.hd_journal.specs.Changing.{changing};
 ghost use Rattle.hd_ledger.specs.Holds.{Holds};
+ghost use Rattle.hd_ledger.specs.Crashes.{HoldsTurns};
 ghost use Rattle.hd_ledger.specs.Kept.{Head, Kept};
 ghost use Rattle.hd_journal_file.specs.Held.{IsReliable};
 ghost use Rattle.hd_journal_file.specs.Rows.{AreTurnRows};
@@ -43,15 +44,39 @@ pub fn open<S: Start>(
     path: &str,
     start: S,
     wanted: &Wanted<'_>,
-    mut journal: Journal,
+    journal: Journal,
 ) -> Result<DurableJournal<JournalFile<FileStore<FileFrom<S>>, S>>, OpenFault>
     requires { journal.turns ≡ [] }
     ensures contents { IfOk result (λ opened. opened.contents ≡ journal.contents) }
     ensures found { IfOk result (λ opened. AreFound (image_at S.Start) opened.table.is_new
         (file_state opened.table.conn) opened.contents opened.turns) }
 {
-    let alloc = rt.alloc();
-    let (mut conn, is_new) = hd_ledger::open(rt, path, start, wanted.digest)?;
+    let (conn, is_new) = hd_ledger::open(rt, path, start, wanted.digest)?;
+    open_over(rt.alloc(), conn, is_new, wanted, journal)
+}
+
+/// The same over a connection that is open: the journal was begun in it, and has no turns yet, or what the
+/// connection sees is what `F` stands for.
+///
+/// # Errors
+/// `File`, `OtherCatalogue`, `Turns` and `Memory`. The turns in the file stay as they were.
+pub fn open_over<S: Alter + Drop, F: Start>(
+    alloc: Global,
+    mut conn: Connection<S>,
+    is_new: bool,
+    wanted: &Wanted<'_>,
+    mut journal: Journal,
+) -> Result<DurableJournal<JournalFile<S, F>>, OpenFault>
+    requires empty { journal.turns ≡ [] }
+    requires begun { HasCleanDisk (state S.Store conn) → IsTrue is_new
+        → (head : Head) × Holds (state S.Store conn) head [] }
+    requires seen { HasCleanDisk (state S.Store conn) → is_new ≡ false → (head : Head) (rows : List Kept)
+        → HoldsTurns (image_at F.Start) head rows → Holds (state S.Store conn) head rows }
+    ensures contents { IfOk result (λ opened. opened.contents ≡ journal.contents) }
+    ensures found { IfOk result (λ opened. AreFound (image_at F.Start) opened.table.is_new
+        (state S.Store opened.table.conn) opened.contents opened.turns) }
+    ensures new { IfOk result (λ opened. IsTrue is_new → opened.turns ≡ []) }
+{
     if is_new {
         return Ok(kept(alloc, conn, true, journal)?);
     }
@@ -100,14 +125,14 @@ fn is_of<S: Alter>(conn: &mut Connection<S>, digest: &[u8; 32]) -> Result<bool, 
 ///
 /// # Errors
 /// Want of memory.
-fn kept<S: Start>(
+fn kept<S: Alter + Drop, F: Start>(
     alloc: Global,
-    conn: Connection<FileStore<FileFrom<S>>>,
+    conn: Connection<S>,
     is_new: bool,
     journal: Journal,
-) -> Result<DurableJournal<JournalFile<FileStore<FileFrom<S>>, S>>, AllocError>
-    requires held { IsReliable (image_at S.Start) is_new (file_state conn)
-        → AreHeld (file_state conn) journal.contents journal.turns }
+) -> Result<DurableJournal<JournalFile<S, F>>, AllocError>
+    requires held { IsReliable (image_at F.Start) is_new (state S.Store conn)
+        → AreHeld (state S.Store conn) journal.contents journal.turns }
     requires change { changing (facts journal) journal.turns ≡ journal.turns }
     ensures contents { IfOk result (λ kept. kept.contents ≡ journal.contents) }
     ensures turns { IfOk result (λ kept. kept.turns ≡ journal.turns) }

@@ -1,32 +1,8 @@
-use Rattle.std.proofs.Common.{◌≡◌, ◌∙◌, List, [], refl, sym, subst, true≢false}
-use Rattle.hd_rules.specs.Journal.{Turn}
-use Rattle.hd_journal_file.specs.Rows.{AreTurnRows}
 use Rattle.hd_restore.proofs.opening.open.Goals as goal
 
-pub kept-requires-clause-held : goal.kept-requires-clause-held
-kept-requires-clause-held g c reliable = record {
-  head = _;
-  rows = [];
-  holds = c.in_ok-conn.ensures.begun reliable.clean c.if-is_new.true;
-  are = subst (λ (turns : List Turn). AreTurnRows c.args.journal.contents turns []) (sym c.requires) tt;
-}
+pub open_over-requires-clause-begun : goal.open_over-requires-clause-begun
+open_over-requires-clause-begun g c clean new = (_, c.in_ok-conn.ensures.begun clean new)
 
-pub returns-then-is_new-clause-found : goal.returns-then-is_new-clause-found
-returns-then-is_new-clause-found g c clean old head rows found =
-    absurd (true≢false (sym c.in_ok-kept.ensures.file.1 ∙ old))
-
-pub kept-requires-2-clause-held : goal.kept-requires-2-clause-held
-kept-requires-2-clause-held g c reliable =
-    let found = reliable.found refl in
-    let early = c.take_again.ensures.clean reliable.clean in
-    let seen = c.in_ok-conn.ensures.restored early c.if-is_new.false found.0 found.1 found.2 in
-    let held = c.in_ok-take_again.ensures.held reliable.clean found.0 found.1 seen in
-    record { head = held.0; rows = found.1; holds = held.1; are = held.2 }
-
-pub returns-clause-found : goal.returns-clause-found
-returns-clause-found g c clean old head rows found =
-    let late = rw c.in_ok-kept-2.ensures.file.0 at clean in
-    let early = c.take_again.ensures.clean late in
-    let seen = c.in_ok-conn.ensures.restored early c.if-is_new.false head rows found in
-    let held = c.in_ok-take_again.ensures.held late head rows seen in
-    rw (c.in_ok-kept-2.ensures.contents, c.in_ok-kept-2.ensures.turns) held.2
+pub open_over-requires-clause-seen : goal.open_over-requires-clause-seen
+open_over-requires-clause-seen g c clean old head rows found =
+    c.in_ok-conn.ensures.restored clean old head rows found
