@@ -1,0 +1,46 @@
+//! The disks of a file and its log, in memory, and a crash of their machine.
+ghost use Rattle.std.specs.Prelude.{IsTrue, IfErr, IfOk};
+
+use hd_ledger::{Connection, FileStore, Files};
+use sqlite::Options;
+use sqlite_disk::{Crash, Fuse, Memory};
+use std::alloc::Global;
+
+/// A file and its log.
+pub(crate) type Disks = Files<Fuse<Memory>>;
+
+/// A connection to the database in them.
+pub(crate) type OnDisks = Connection<FileStore<Fuse<Memory>>>;
+
+/// The log is copied into the database file after few commits, so that stops fall there too.
+const OPTIONS: Options = Options {
+    cache_pages: 64,
+    spill_pages: 64,
+    checkpoint_frames: 8,
+    seed: 1,
+};
+
+/// Empty disks that stop after so many calls each.
+pub(crate) fn empty(alloc: Global, log_calls: u64, database_calls: u64) -> Disks {
+    Files {
+        log: Fuse::new(Memory::new(alloc), log_calls),
+        db: Fuse::new(Memory::new(alloc), database_calls),
+    }
+}
+
+/// The machine crashes and comes back: what wasn't synced is lost, and nothing stops the disks.
+pub(crate) fn crash(disks: &mut Disks) {
+    disks.log.crash();
+    disks.db.crash();
+}
+
+/// Opens the database in them. Where it can't be opened, the disks come back.
+pub(crate) fn open(alloc: Global, disks: Disks) -> Result<OnDisks, Disks> {
+    if !disks.may_be_used() {
+        return Err(disks);
+    }
+    match Connection::open_files(alloc, disks, OPTIONS) {
+        Ok(conn) => Ok(conn),
+        Err((_, left)) => Err(left.into_files()),
+    }
+}

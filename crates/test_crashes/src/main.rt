@@ -1,0 +1,38 @@
+//! Stops a journal's file at each call of its disks, and says of each row whether all that was answered came
+//! back.
+//!
+//! A row's turns are taken by a journal that is kept in a file in memory. The disk of its log, or that of its
+//! database, stops after so many calls: before the first, before the second, and so on until a run ends
+//! without a stop. Then the machine crashes and loses what wasn't synced; the file is opened again, and its
+//! turns are taken again. They have to be the first changing turns of the row, with all that were answered.
+#![tactic(auto)]
+
+mod disks;
+mod library;
+mod row;
+mod step;
+mod stopping;
+mod whole;
+
+use crate::row::{OFF_LINE_CHECKOUTS, REPEATS_AND_GAPS, Row};
+use crate::stopping::{Disk, calls};
+use std::io;
+
+fn main(rt: HostRuntime) -> io::Result<()> {
+    for row in [REPEATS_AND_GAPS, OFF_LINE_CHECKOUTS] {
+        print_calls(&rt, &row, Disk::Log)?;
+        print_calls(&rt, &row, Disk::Database)?;
+    }
+    Ok(())
+}
+
+/// Prints a row's name, how many calls one of the disks gets, and whether what was answered outlived a stop
+/// before each.
+fn print_calls(rt: &HostRuntime, row: &Row, disk: Disk) -> io::Result<()> {
+    let name = row.name;
+    let of = disk.name();
+    match calls(rt, row, disk) {
+        Some(calls) => println!(rt; "{name}: stopped before each of {calls} calls of the {of}: ok"),
+        None => println!(rt; "{name}: stops of the {of}: FAILED"),
+    }
+}

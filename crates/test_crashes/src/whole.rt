@@ -1,0 +1,82 @@
+//! A row whose turns are all taken.
+
+use crate::library::journal;
+use crate::step::Step;
+use hd_journal::{Ask, Journal, SeatNo, TurnRef};
+use hd_rules::{same_asked, same_turn_reply};
+use std::alloc::Global;
+
+/// The journal of a row without a file.
+#[derive(Drop)]
+pub(crate) struct Whole {
+    journal: Journal,
+    /// The numbers of its turns that change something, in their order.
+    changing: Vec<usize>,
+}
+
+impl Whole {
+    /// Takes the turns of a row.
+    pub(crate) fn of(rt: &HostRuntime, steps: &[Step]) -> Option<Whole> {
+        let mut whole = Whole {
+            journal: journal(rt)?,
+            changing: Vec::new(rt.alloc()),
+        };
+        for step in steps {
+            if take(rt.alloc(), &mut whole.journal, step)? {
+                whole.changing.push(whole.journal.front()).ok()?;
+            }
+        }
+        Some(whole)
+    }
+
+    /// How many of the first turns change something.
+    pub(crate) fn changing_in(&self, turns: usize) -> usize {
+        self.changing.iter().filter(|at| **at <= turns).count()
+    }
+
+    /// Whether a journal's turns are the first of those that change something.
+    pub(crate) fn begins_with(&self, journal: &Journal) -> bool {
+        let numbers = self.changing.as_slice();
+        for at in 1..=journal.front() {
+            let Some(number) = numbers.get(at - 1) else {
+                return false;
+            };
+            if !is_same_turn(journal, at, &self.journal, *number) {
+                return false;
+            }
+        }
+        true
+    }
+}
+
+/// Takes the turn of a step: whether it changes something.
+fn take(alloc: Global, journal: &mut Journal, step: &Step) -> Option<bool> {
+    let wish = step.wish(journal.desk().catalogue())?;
+    let ask = Ask::new(SeatNo::new(0), wish.terminal, wish.asked, step.line);
+    let own = ask.to_owned(alloc).ok()?;
+    let is_changing = journal.is_changing(&own);
+    match journal.take(own) {
+        Ok(_) => Some(is_changing),
+        Err(_) => None,
+    }
+}
+
+/// Whether the turn of a number in one journal is that of another number in the other.
+fn is_same_turn(one: &Journal, at: usize, other: &Journal, number: usize) -> bool {
+    let Some(first) = one.turn_at(at) else {
+        return false;
+    };
+    let Some(second) = other.turn_at(number) else {
+        return false;
+    };
+    is_same(&first, &second)
+}
+
+/// Whether two turns are the same.
+fn is_same(one: &TurnRef<'_>, other: &TurnRef<'_>) -> bool {
+    one.seat == other.seat
+        && one.terminal == other.terminal
+        && one.line == other.line
+        && same_asked(&one.asked, &other.asked)
+        && same_turn_reply(&one.reply, &other.reply)
+}
