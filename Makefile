@@ -1,5 +1,5 @@
 # The commands of the README. All need the Rattle kit's command rt on the path.
-.PHONY: help try run day hostile load install uninstall test
+.PHONY: help try run day hostile stops load install uninstall test
 
 PREFIX ?= /usr/local
 
@@ -9,10 +9,11 @@ help:
 	@echo 'make run        prove what changed, build holddesk, and answer the stored messages'
 	@echo 'make day        after make run: play a stored day through four connections of holddesk serve'
 	@echo 'make hostile    after make run: a day of hostile clients beside one that has to be answered'
+	@echo 'make stops      after make run: 50 times kill -9 of holddesk serve --journal, and nothing is lost'
 	@echo 'make load       after make run: turns a second beside a server that only echoes (four minutes; rustc)'
 	@echo 'make install    after make run: the program and its manual page, below PREFIX ($(PREFIX)) and DESTDIR'
 	@echo 'make uninstall  take them away again'
-	@echo 'make test       the gate: two days over TCP, every proof from nothing, wrong bodies, tests, stored runs'
+	@echo 'make test       the gate: three days over TCP, every proof from nothing, wrong bodies, tests, stored runs'
 
 STORED = replay --catalogue data/demonstration.catalogue --now '20260301    120000' < stdin
 
@@ -49,6 +50,10 @@ uninstall:
 hostile:
 	@python3 scripts/hostile_day.py
 
+# 50 stops by kill -9 of holddesk serve --journal, as make run has built it; the gate plays 5, without proofs.
+stops:
+	@python3 scripts/stop_day.py
+
 # How fast holddesk serve, as make run has built it, answers beside a server that only echoes: four minutes. Needs rustc
 # and Python 3. LOAD has other words for hd_load compare (bench/out/hd_load --help).
 LOAD =
@@ -69,11 +74,10 @@ bench/out/large.catalogue: scripts/make_library.py
 	@mkdir -p bench/out
 	@python3 $< --out $@
 
-# The gate: a stored day through four connections of the program, and a day of hostile clients, built without proofs
-# for them; a seat of one hall at another, which the types refuse; then every proof from nothing, the wrong bodies that
-# must be refused, the tests and the stored runs.
+# The gate: a stored day through four connections of the program, a day of hostile clients, and stops by kill -9, built
+# without proofs for them; a seat of one hall at another, which the types refuse; then every proof from nothing, the
+# wrong bodies that must be refused, the tests and the stored runs.
 test:
-	@python3 scripts/play_day.py --try
-	@python3 scripts/hostile_day.py --try
+	@python3 scripts/days.py
 	@python3 scripts/other_house.py
 	@rt ci

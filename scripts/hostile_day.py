@@ -2,16 +2,15 @@
 """Plays a day of hostile clients against holddesk serve, beside one honest terminal that has to be answered.
 
     python3 scripts/hostile_day.py [PROGRAM]
-    python3 scripts/hostile_day.py --try
 
-PROGRAM is crates/holddesk/out/holddesk where it isn't given; with --try it is built first without any proof, by rt try.
+PROGRAM is crates/holddesk/out/holddesk where it isn't given.
 The server has 8 workers, and drops a connection that is idle for 2 seconds. 56 hostile connections come at once and
 hold all workers but the honest terminal's: some send nothing, half a line, a megabyte without an end, bytes by chance,
 a login and a reset, a turn and a reset, or many lines whose replies they never read. Then 8 that send nothing take all
 workers, and the honest terminal has to connect anew. It makes 1,000 turns in all, whose replies are compared byte for
 byte, each within the idle limit and a second. At last the server has to end by itself, with the turns and survivors
-that were made. Takes at most a minute, or two without proofs, whose checks are slow, beside the building. Needs nothing
-but Python 3 (and rt, for --try). Status 0: all is well.
+that were made. Takes at most a minute, or two with the checks of a program
+without proofs. Needs nothing but Python 3. Status 0: all is well.
 """
 
 import os
@@ -25,8 +24,6 @@ import sys
 import tempfile
 import threading
 import time
-
-from play_day import BUILDING, FOLDER, free_port, listening
 
 HERE = os.path.dirname(os.path.abspath(__file__))
 TOP = os.path.dirname(HERE)
@@ -311,7 +308,7 @@ def words_of_serve(catalogue, port, connections):
             "--idle", str(IDLE), "--connections", str(connections)]
 
 
-def day_at(server, port, seconds=SECONDS):
+def day_at(server, port, seconds=2 * SECONDS):
     """Plays the day at a server that listens, and looks at how it ends."""
     signal.alarm(seconds)
     honest, hostile = play(port)
@@ -335,27 +332,11 @@ def served(program, catalogue):
             server.wait()
 
 
-def tried(catalogue):
-    """Builds the program without proofs, starts its server, and plays the day. One connection more only looks whether
-    it listens."""
-    port = free_port()
-    server = subprocess.Popen(
-        ["rt", "try", "--seconds", str(BUILDING), "--", *words_of_serve(catalogue, port, CONNECTIONS + 1)],
-        cwd=FOLDER, stdin=subprocess.DEVNULL, stdout=subprocess.PIPE, stderr=subprocess.PIPE)
-    try:
-        listening(server, port).close()
-        day_at(server, port, 2 * SECONDS)
-    finally:
-        if server.poll() is None:
-            server.terminate()
-
-
 def too_long(*_):
     raise Trouble("the day takes too long")
 
 
 def main():
-    is_tried = sys.argv[1:] == ["--try"]
     program = sys.argv[1] if len(sys.argv) > 1 else os.path.join(TOP, "crates", "holddesk", "out", "holddesk")
     signal.signal(signal.SIGALRM, too_long)
     with tempfile.TemporaryDirectory() as folder, open(CATALOGUE, encoding="ascii") as file:
@@ -364,10 +345,7 @@ def main():
         with open(catalogue, "w", encoding="ascii") as made:
             made.write(header.rsplit("|", 1)[0] + "|1000000\n" + rest)
         try:
-            if is_tried:
-                tried(catalogue)
-            else:
-                served(program, catalogue)
+            served(program, catalogue)
         except (Trouble, OSError) as trouble:
             print("hostile_day:", trouble, file=sys.stderr)
             sys.exit(1)

@@ -2,12 +2,10 @@
 """Plays a stored day through four connections to holddesk serve, and compares the replies byte for byte.
 
     python3 scripts/play_day.py [PROGRAM]
-    python3 scripts/play_day.py --try
 
 PROGRAM is crates/holddesk/out/holddesk where it isn't given. The server is started on a port of the loopback that the
-system gives, and ends by itself after four connections. The same day is played through holddesk replay first. With
---try the program is built first without any proof, by rt try, and the day is played once, two of the connections byte
-by byte. Needs nothing but Python 3 (and rt, for --try). Status 0: all is as it is stored.
+system gives, and ends by itself after four connections. The same day is played through holddesk replay first. Needs
+nothing but Python 3. Status 0: all is as it is stored.
 """
 
 import os
@@ -15,7 +13,6 @@ import re
 import socket
 import subprocess
 import sys
-import time
 
 HERE = os.path.dirname(os.path.abspath(__file__))
 TOP = os.path.dirname(HERE)
@@ -24,7 +21,6 @@ CATALOGUE = os.path.join(FOLDER, "data", "demonstration.catalogue")
 SESSIONS = 4
 CLOSED = b"closed: 11 turns, 3 survivors\n"
 SECONDS = 60
-BUILDING = 600  # seconds to build the program without proofs
 
 
 def stored(name):
@@ -107,51 +103,7 @@ def served(program, messages, replies, cut):
             server.kill()
 
 
-def free_port():
-    """A port of the loopback that nobody listens on."""
-    with socket.socket() as listener:
-        listener.bind(("127.0.0.1", 0))
-        return listener.getsockname()[1]
-
-
-def listening(server, port):
-    """Waits until the server that is being built listens."""
-    end = time.monotonic() + BUILDING
-    while time.monotonic() < end and server.poll() is None:
-        try:
-            return socket.create_connection(("127.0.0.1", port), SECONDS)
-        except OSError:
-            time.sleep(0.5)
-    server.kill()
-    fail("it doesn't listen: %r" % (server.communicate(timeout=SECONDS),))
-
-
-def tried(messages, replies):
-    """Builds the program without proofs, starts its server, and plays the day once."""
-    port = free_port()
-    server = subprocess.Popen(
-        ["rt", "try", "--seconds", str(BUILDING), "--", "serve", "--catalogue",
-         os.path.relpath(CATALOGUE, FOLDER), "--listen", "127.0.0.1:%d" % port, "--workers", str(SESSIONS),
-         "--connections", str(SESSIONS), "--idle", str(SECONDS)],
-        cwd=FOLDER, stdin=subprocess.DEVNULL, stdout=subprocess.PIPE, stderr=subprocess.PIPE)
-    try:
-        connections = {1: listening(server, port)}
-        for number in range(2, SESSIONS + 1):
-            connections[number] = socket.create_connection(("127.0.0.1", port), SECONDS)
-        play(connections, messages, replies, {3, 4})
-        out, told = server.communicate(timeout=SECONDS)
-        if (server.returncode, out) != (0, CLOSED):
-            fail("it ends with %d, %r and %r" % (server.returncode, out, told))
-    finally:
-        if server.poll() is None:
-            server.terminate()
-    print("play_day: %d replies through %d connections, built without proofs" % (len(replies), SESSIONS))
-
-
 def main():
-    if sys.argv[1:] == ["--try"]:
-        tried(stored("day.messages"), stored("day.replies"))
-        return
     program = sys.argv[1] if len(sys.argv) > 1 else os.path.join(FOLDER, "out", "holddesk")
     messages, replies = stored("day.messages"), stored("day.replies")
     wanted = b"".join(b"%d %s\n" % reply for reply in replies)

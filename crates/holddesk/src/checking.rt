@@ -1,18 +1,16 @@
 //! What `check` tells of a library.
 
 use crate::fault::Fault;
+use crate::library::read_file;
 use hd_catalogue::{Catalogue, TitleNo};
-use std::io::{IsTerminal, Write};
-use std::{fs, io};
+use std::io::{self, IsTerminal, Write};
 
 /// From how many bytes on a catalogue file takes so long that a terminal is told of it.
 const LONG_FILE: usize = 10_000_000;
 
 /// Tells what a catalogue file says, or why it is refused. A terminal is told before a long file is read.
 pub(crate) fn check(rt: &HostRuntime, path: &str) -> Result<(), Fault> {
-    let Ok(file) = fs::read(rt, path) else {
-        return Err(Fault::CannotReadCatalogue);
-    };
+    let file = read_file(rt, path)?;
     if file.len() > LONG_FILE && rt.stderr().is_terminal() {
         eprintln!(rt; "checking {} MB", file.len() / 1_000_000)?;
     }

@@ -1,6 +1,7 @@
 //! Why the program stops.
 
 use hd_catalogue::CatFault;
+use hd_restore::OpenFault;
 use hd_serve::ServeFault;
 use hd_server::ServerFault;
 use std::alloc::{AllocError, AllocFailed};
@@ -16,12 +17,18 @@ pub(crate) enum Fault {
     /// The catalogue file is refused.
     #[error("catalogue {0}")]
     Catalogue(CatFault),
+    /// The catalogue file isn't UTF-8, as its names in a journal's file have to be.
+    #[error("a journal's file holds names in UTF-8, and the catalogue isn't")]
+    CatalogueIsNoText,
     /// What the program tells can't be written.
     #[error("cannot write")]
     CannotWrite,
     /// Want of memory before the first connection, or for what `check` tells.
     #[error("no memory")]
     Memory,
+    /// A journal's file can't be opened or ended.
+    #[error("{0}")]
+    Journal(OpenFault),
     /// A replay stopped.
     #[error("{0}")]
     Replay(ServerFault),
@@ -33,6 +40,18 @@ pub(crate) enum Fault {
 impl From<CatFault> for Fault {
     fn from(fault: CatFault) -> Fault {
         Fault::Catalogue(fault)
+    }
+}
+
+impl From<OpenFault> for Fault {
+    fn from(fault: OpenFault) -> Fault {
+        Fault::Journal(fault)
+    }
+}
+
+impl From<hd_ledger::Fault> for Fault {
+    fn from(fault: hd_ledger::Fault) -> Fault {
+        Fault::Journal(OpenFault::File(fault))
     }
 }
 

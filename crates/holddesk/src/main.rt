@@ -4,18 +4,28 @@
 mod checking;
 mod counted;
 mod fault;
+mod journal_checking;
+mod journal_texts;
+mod keeping;
+mod library;
 mod serving;
+mod serving_kept;
 mod texts;
 mod words;
 
 use crate::checking::check;
 use crate::fault::Fault;
+use crate::journal_checking::check_journal;
+use crate::journal_texts::VIEWS;
+use crate::library::read_file;
 use crate::serving::{run, start};
+use crate::serving_kept::run_kept;
 use crate::words::{Order, Replay, parse};
 use hd_connection::Fallible;
+use hd_ledger::{Unknown, Wary};
 use hd_server::replay;
+use std::io::{self, Write};
 use std::process::ExitCode;
-use std::{fs, io};
 
 /// The exit status of a fault, which is printed as one line on standard error.
 const FAULT: u8 = 1;
@@ -36,10 +46,16 @@ fn main(rt: HostRuntime) -> io::Result<ExitCode> {
     let ended = match order {
         Order::Check(order) => check(&rt, order.catalogue),
         Order::Replay(order) => answer(&rt, &order),
-        Order::Serve(order) => match start(&rt, &order) {
-            Ok(started) => run(&rt, alloc, started, &order),
-            Err(fault) => Err(fault),
+        Order::Serve(order) => match order.keeping() {
+            None => match start(&rt, &order) {
+                Ok(started) => run(&rt, alloc, started, &order),
+                Err(fault) => Err(fault),
+            },
+            Some(keeping) if order.is_wary => run_kept(&rt, &rt, Wary, &keeping, &order),
+            Some(keeping) => run_kept(&rt, &rt, Unknown, &keeping, &order),
         },
+        Order::JournalCheck(keeping) => check_journal(&rt, &keeping),
+        Order::JournalViews => print_views(&rt),
     };
     match ended {
         Ok(()) => Ok(ExitCode::SUCCESS),
@@ -52,12 +68,16 @@ fn main(rt: HostRuntime) -> io::Result<ExitCode> {
 
 /// Answers the messages of the standard input.
 fn answer(rt: &HostRuntime, order: &Replay<'_>) -> Result<(), Fault> {
-    let Ok(file) = fs::read(rt, order.catalogue) else {
-        return Err(Fault::CannotReadCatalogue);
-    };
+    let file = read_file(rt, order.catalogue)?;
     let now = order.now.as_bytes();
     let mut from = Fallible(rt.stdin());
     let mut to = Fallible(rt.stdout());
     replay(rt, file.as_slice(), now, &mut from, &mut to)?;
+    Ok(())
+}
+
+/// Prints the views of a journal's file.
+fn print_views(rt: &HostRuntime) -> Result<(), Fault> {
+    rt.stdout().write_all(VIEWS.as_bytes())?;
     Ok(())
 }

@@ -3,18 +3,20 @@ ghost use Rattle.std.specs.Prelude.{◌≡◌, [], IfOk};
 
 use crate::counted::Counted;
 use crate::fault::Fault;
+use crate::library::read_file;
 use crate::words::Serve;
 use hd_attend::Gate;
 use hd_catalogue::Catalogue;
-use hd_desk::{Desk, Meter};
+use hd_desk::Meter;
+use hd_hall::Keeper;
 use hd_journal::Journal;
-use hd_serve::{Options, ServeFault, serve};
+use hd_serve::{Options, ServeFault, Summary, serve, summary_of};
 use std::alloc::Global;
+use std::io;
 use std::net::{SocketAddr, TcpListener};
-use std::sync::{Arc, Wait};
+use std::sync::Wait;
 use std::thread::Threads;
 use std::time::Clock;
-use std::{fs, io};
 
 /// A gate that holds nobody.
 struct OpenGate;
@@ -34,32 +36,41 @@ pub(crate) struct Started {
 pub(crate) fn start(rt: &HostRuntime, order: &Serve<'_>) -> Result<Started, Fault>
     ensures { IfOk result (λ started. started.journal.turns ≡ []) }
 {
-    let Ok(file) = fs::read(rt, order.catalogue) else {
-        return Err(Fault::CannotReadCatalogue);
-    };
+    let file = read_file(rt, order.catalogue)?;
     let catalogue = Catalogue::read(rt.alloc(), file.as_slice())?;
     drop(file);
+    let listener = listen(rt, order, &catalogue)?;
+    let alloc = rt.alloc();
+    let journal = hd_open::open(alloc, alloc, Meter::new(rt), catalogue)?;
+    Ok(Started { listener, journal })
+}
+
+/// Says on standard error how many turns the journal has, and takes the port.
+fn listen_at(
+    rt: &HostRuntime,
+    order: &Serve<'_>,
+    turns: usize,
+    catalogue: &Catalogue,
+) -> Result<TcpListener, Fault> {
+    let turns = Counted::of(turns, "turn", "turns");
+    eprintln!(rt; "the journal has {turns}")?;
+    listen(rt, order, catalogue)
+}
+
+/// Takes the port, and says on standard error where the server listens and what its catalogue has.
+fn listen(
+    rt: &HostRuntime,
+    order: &Serve<'_>,
+    catalogue: &Catalogue,
+) -> Result<TcpListener, Fault> {
     let Ok(address) = order.listen.parse::<SocketAddr>() else {
         return Err(Fault::Serve(ServeFault::CannotListen));
     };
     let Ok(listener) = TcpListener::bind(rt, address) else {
         return Err(Fault::Serve(ServeFault::CannotListen));
     };
-    tell_start(rt, &listener, order.workers, &catalogue)?;
-    let journal = journal_of(rt.alloc(), Meter::new(rt), catalogue)?;
-    Ok(Started { listener, journal })
-}
-
-/// A journal without turns, over a library's catalogue.
-///
-/// An error is want of memory.
-fn journal_of(alloc: Global, meter: Meter, catalogue: Catalogue) -> Result<Journal, Fault>
-    ensures turns { IfOk result (λ journal. journal.turns ≡ []) }
-    ensures contents { IfOk result (λ journal. journal.contents ≡ catalogue) }
-{
-    let catalogue = Arc::new(alloc, catalogue)?;
-    let desk = Desk::open(alloc, alloc, catalogue)?;
-    Ok(Journal::new(alloc, desk, meter))
+    tell_start(rt, &listener, order.workers, catalogue)?;
+    Ok(listener)
 }
 
 /// Says on standard error where the server listens and what its catalogue has.
@@ -82,7 +93,7 @@ fn tell_start<R: Eprint>(
     )
 }
 
-/// Serves terminals as the words of the command line say, and tells how it ended.
+/// Serves terminals as the words of the command line say, and tells how it ended. The journal is in memory.
 pub(crate) fn run<R: Threads + Wait + Clock + Sync + Print>(
     rt: &R,
     alloc: Global,
@@ -91,16 +102,46 @@ pub(crate) fn run<R: Threads + Wait + Clock + Sync + Print>(
 ) -> Result<(), Fault>
     requires { started.journal.turns ≡ [] }
 {
+    let Started { listener, journal } = started;
+    let summary = summary_of(&serve_by(rt, alloc, listener, journal, order)?);
+    tell_end(rt, &summary)?;
+    Ok(())
+}
+
+/// Says how many turns the journal has, takes the port, and serves terminals.
+pub(crate) fn serve_at<
+    R: Threads + Wait + Clock + Sync,
+    Q: Drop + Send,
+    K: Keeper<Global, Q> + Drop + Send,
+>(rt: &R, host: &HostRuntime, turns: usize, keeper: K, order: &Serve<'_>) -> Result<K, Fault>
+    requires { K.turns keeper ≡ [] }
+{
+    let listener = listen_at(host, order, turns, keeper.catalogue())?;
+    Ok(serve_by(rt, host.alloc(), listener, keeper, order)?)
+}
+
+/// Serves terminals as the words of the command line say.
+fn serve_by<R: Threads + Wait + Clock + Sync, Q: Drop + Send, K: Keeper<Global, Q> + Drop + Send>(
+    rt: &R,
+    alloc: Global,
+    listener: TcpListener,
+    keeper: K,
+    order: &Serve<'_>,
+) -> Result<K, ServeFault>
+    requires { K.turns keeper ≡ [] }
+{
     let options = Options {
         workers: order.workers.clamp(1, 64),
         connections: order.connections,
         idle: order.idle,
     };
-    let Started { listener, journal } = started;
-    let summary = serve(rt, alloc, listener, journal, &options, &OpenGate)?;
+    serve(rt, alloc, listener, keeper, &options, &OpenGate)
+}
+
+/// Tells how serving ended.
+pub(crate) fn tell_end<R: Print>(rt: &R, summary: &Summary) -> io::Result<()> {
     println!(rt;
         "closed: {} turns, {} survivors",
         summary.turns, summary.survivors
-    )?;
-    Ok(())
+    )
 }

@@ -77,7 +77,9 @@ Each connection is a session: SIP2 messages, each ended by a carriage return, ar
 connections share one desk. `holddesk replay --help` says what a session may ask.
 
 When the port is bound, a line on standard error says so, with the port that the system gave where 0 was
-asked for. The desk is kept in memory, and a stop loses it: the next start begins with the catalogue.";
+asked for. The desk is kept in memory, and a stop loses it: the next start begins with the catalogue. With
+--journal each turn that changes something is written to that file before it is answered, and the next start
+goes on where the last one stopped; `holddesk journal --help` says what else there is for such a file.";
 
 /// An example of `serve`, and its exit statuses.
 pub(crate) const SERVE_EXAMPLE: &str =

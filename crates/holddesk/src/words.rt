@@ -1,5 +1,10 @@
 //! The words of the command line.
 
+use crate::journal_texts::{
+    JOURNAL_ABOUT, JOURNAL_CHECK, JOURNAL_CHECK_ABOUT, JOURNAL_CHECK_EXAMPLE, JOURNAL_VIEWS,
+    JOURNAL_VIEWS_ABOUT, JOURNAL_VIEWS_EXAMPLE,
+};
+use crate::keeping::Keeping;
 use crate::texts::{
     ABOUT, CHECK, CHECK_ABOUT, CHECK_EXAMPLE, REPLAY, REPLAY_ABOUT, REPLAY_EXAMPLE, SERVE,
     SERVE_ABOUT, SERVE_EXAMPLE, VERSION,
@@ -16,6 +21,10 @@ pub(crate) enum Order<'a> {
     Replay(Replay<'a>),
     /// To serve terminals.
     Serve(Serve<'a>),
+    /// To check a journal's file.
+    JournalCheck(Keeping<'a>),
+    /// To print views of a journal's file.
+    JournalViews,
 }
 
 /// What `check` is asked to do.
@@ -47,6 +56,24 @@ pub(crate) struct Serve<'a> {
     pub(crate) connections: u32,
     /// After how many idle seconds a connection is dropped; 0: never.
     pub(crate) idle: u32,
+    /// The path of the file that the journal is kept in, if it is.
+    pub(crate) journal: Option<&'a str>,
+    /// Whether each turn is synced twice there.
+    pub(crate) is_wary: bool,
+    /// Whether a journal that was written with another catalogue is accepted.
+    pub(crate) is_other_accepted: bool,
+}
+
+impl<'a> Serve<'a> {
+    /// How the journal is kept in a file, if it is.
+    pub(crate) fn keeping(&self) -> Option<Keeping<'a>> {
+        let journal = self.journal?;
+        Some(Keeping {
+            catalogue: self.catalogue,
+            journal,
+            is_other_accepted: self.is_other_accepted,
+        })
+    }
 }
 
 /// Reads the words of the command line.
@@ -60,10 +87,17 @@ pub(crate) fn parse<'a>(alloc: Global, words: &'a [String]) -> Result<Order<'a>,
         .arg_required_else_help(true)
         .subcommand(check_command(alloc)?)?
         .subcommand(replay_command(alloc)?)?
-        .subcommand(serve_command(alloc)?)?;
+        .subcommand(serve_command(alloc)?)?
+        .subcommand(journal_command(alloc)?)?;
     let matches = command.try_get_matches_from(words)?;
     if let Some(found) = matches.subcommand_matches("check") {
         return Ok(Order::Check(check_of(found)));
+    }
+    if let Some(found) = matches.subcommand_matches("journal") {
+        return Ok(match found.subcommand_matches("check") {
+            Some(found) => Order::JournalCheck(keeping_of(found)),
+            None => Order::JournalViews,
+        });
     }
     Ok(match matches.subcommand_matches("serve") {
         Some(found) => Order::Serve(serve_of(found)),
@@ -125,6 +159,11 @@ fn serve_command<'a>(alloc: Global) -> Result<Command<'a>, AllocError> {
         .action(ArgAction::Set)
         .value_parser(value_parser!(u32).range(0..86_401))
         .default_value("600");
+    let wary = Arg::new(alloc, "journal-wary")
+        .long("journal-wary")
+        .help("Sync the journal's file twice a turn, for disks that may tear a write")
+        .action(ArgAction::SetTrue)
+        .requires_arg("journal")?;
     Command::new(alloc, "serve")
         .about(SERVE_ABOUT)
         .long_about(SERVE)
@@ -133,7 +172,50 @@ fn serve_command<'a>(alloc: Global) -> Result<Command<'a>, AllocError> {
         .arg(listen)?
         .arg(workers)?
         .arg(connections)?
-        .arg(idle)
+        .arg(idle)?
+        .arg(journal(alloc))?
+        .arg(wary)?
+        .arg(accept_catalogue(alloc).requires_arg("journal")?)
+}
+
+/// The words of `journal`.
+fn journal_command<'a>(alloc: Global) -> Result<Command<'a>, AllocError> {
+    let check = Command::new(alloc, "check")
+        .about(JOURNAL_CHECK_ABOUT)
+        .long_about(JOURNAL_CHECK)
+        .after_help(JOURNAL_CHECK_EXAMPLE)
+        .arg(catalogue(alloc))?
+        .arg(journal(alloc).required(true))?
+        .arg(accept_catalogue(alloc))?;
+    let views = Command::new(alloc, "views")
+        .about(JOURNAL_VIEWS_ABOUT)
+        .long_about(JOURNAL_VIEWS)
+        .after_help(JOURNAL_VIEWS_EXAMPLE);
+    Command::new(alloc, "journal")
+        .about(JOURNAL_ABOUT)
+        .subcommand_required(true)
+        .arg_required_else_help(true)
+        .subcommand(check)?
+        .subcommand(views)
+}
+
+/// The option of the journal's file.
+fn journal<'a>(alloc: Global) -> Arg<'a> {
+    Arg::new(alloc, "journal")
+        .long("journal")
+        .value_name("FILE")
+        .help("The SQLite file of the journal, which outlives a stop")
+        .action(ArgAction::Set)
+}
+
+/// The option that accepts another catalogue.
+fn accept_catalogue<'a>(alloc: Global) -> Arg<'a> {
+    Arg::new(alloc, "accept-catalogue")
+        .long("accept-catalogue")
+        .help(
+            "Accept a journal of another catalogue, where each turn is answered the same with this one",
+        )
+        .action(ArgAction::SetTrue)
 }
 
 /// The option of the catalogue file.
@@ -171,5 +253,17 @@ fn serve_of<'a>(found: &ArgMatches<'a>) -> Serve<'a> {
         workers: found.get_one::<u32>("workers").unwrap_or(1),
         connections: found.get_one::<u32>("connections").unwrap_or(0),
         idle: found.get_one::<u32>("idle").unwrap_or(600),
+        journal: found.get_str("journal"),
+        is_wary: found.get_flag("journal-wary"),
+        is_other_accepted: found.get_flag("accept-catalogue"),
+    }
+}
+
+/// Which journal `journal check` is asked for by what was found.
+fn keeping_of<'a>(found: &ArgMatches<'a>) -> Keeping<'a> {
+    Keeping {
+        catalogue: found.get_str("catalogue").unwrap_or(""),
+        journal: found.get_str("journal").unwrap_or(""),
+        is_other_accepted: found.get_flag("accept-catalogue"),
     }
 }

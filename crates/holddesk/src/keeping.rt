@@ -1,0 +1,62 @@
+//! A journal that is kept in a file.
+
+use crate::fault::Fault;
+use crate::library::read_file;
+use hd_catalogue::Catalogue;
+use hd_desk::Meter;
+use hd_durable::DurableJournal;
+use hd_journal_file::JournalFile;
+use hd_ledger::{FileFrom, FileStore, Start, end};
+use hd_restore::{Wanted, open};
+use sha2::{Digest, Sha256};
+use std::io::IsTerminal;
+
+/// A journal whose changing turns are committed to a file before they are answered.
+pub(crate) type KeptJournal<S> = DurableJournal<JournalFile<FileStore<FileFrom<S>>, S>>;
+
+/// In which file a journal is kept, and what is accepted of it.
+#[derive(Clone, Copy)]
+pub(crate) struct Keeping<'a> {
+    /// The path of the catalogue file.
+    pub(crate) catalogue: &'a str,
+    /// The path of the journal's file.
+    pub(crate) journal: &'a str,
+    /// Whether a journal that was written with another catalogue is accepted, where each of its turns is
+    /// answered the same with this one.
+    pub(crate) is_other_accepted: bool,
+}
+
+/// Opens a journal's file, or begins one where there is none. Each turn that it holds is taken again and
+/// compared. A terminal is told before that.
+pub(crate) fn open_kept<S: Start>(
+    rt: &HostRuntime,
+    start: S,
+    keeping: &Keeping<'_>,
+) -> Result<KeptJournal<S>, Fault> {
+    let file = read_file(rt, keeping.catalogue)?;
+    let digest = Sha256::digest(file.as_slice());
+    let is_text = str::from_utf8(file.as_slice()).is_ok();
+    let catalogue = Catalogue::read(rt.alloc(), file.as_slice())?;
+    drop(file);
+    if !is_text {
+        return Err(Fault::CatalogueIsNoText);
+    }
+    if rt.stderr().is_terminal() {
+        eprintln!(rt; "taking the journal's turns again")?;
+    }
+    let wanted = Wanted {
+        digest: &digest,
+        is_other_accepted: keeping.is_other_accepted,
+    };
+    let alloc = rt.alloc();
+    let journal = hd_open::open(alloc, alloc, Meter::new(rt), catalogue)?;
+    Ok(open(rt, keeping.journal, start, &wanted, journal)?)
+}
+
+/// Ends a journal's file well: all its turns are then in the database file alone.
+pub(crate) fn close_kept<S: Start>(journal: KeptJournal<S>) -> Result<(), Fault> {
+    match end(journal.into_table().into_connection()) {
+        Ok(_) => Ok(()),
+        Err(fault) => Err(Fault::from(fault)),
+    }
+}
