@@ -122,7 +122,7 @@ def rows(folder, size):
     yield ("the same with local priority, no hold of %d at the branch" % len(elsewhere), local, lent + elsewhere, few,
            len(few))
 
-    shelf, places = Library(folder, "shelf", 1, of(100_000), of(200_000)), of(100_000)
+    shelf, places = Library(folder, "shelf", 1, of(50_000), of(100_000)), of(50_000)
     stand = [checkout(p, p) for p in range(1, places + 1)] + [hold(places + p, 1) for p in range(1, places + 1)]
     stand += [checkin(c) for c in range(1, places + 1)]
     yield ("a checkout from a hold shelf of %d places, from the first on" % places, shelf, stand,

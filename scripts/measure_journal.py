@@ -13,7 +13,6 @@ import argparse
 import contextlib
 import os
 import re
-import resource
 import sqlite3
 import subprocess
 import sys
@@ -76,12 +75,14 @@ def measure_restart(program, catalogue, folder, turns):
         with contextlib.closing(sqlite3.connect(path)) as connection:
             rows = connection.execute("SELECT count(*) FROM turn").fetchone()[0]
     begun = time.monotonic()
-    subprocess.run([program, "journal", "check", "--catalogue", catalogue, "--journal", path],
-                   stdout=subprocess.DEVNULL, check=True)
+    check = subprocess.Popen([program, "journal", "check", "--catalogue", catalogue, "--journal", path],
+                             stdout=subprocess.DEVNULL)
+    _, status, used = os.wait4(check.pid, 0)
     taken = time.monotonic() - begun
-    memory = resource.getrusage(resource.RUSAGE_CHILDREN).ru_maxrss
+    if status:
+        sys.exit("measure_journal: journal check ends with %d" % status)
     print("| %d turns taken again | %.2f s |" % (rows, taken))
-    print("| the largest that a process had until then | %d MB |" % (memory // 1024))
+    print("| the memory of that | %d MB |" % (used.ru_maxrss // 1024))
     print("| the file, a turn | %d bytes |" % (os.path.getsize(path) // rows))
 
 
