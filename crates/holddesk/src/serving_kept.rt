@@ -27,8 +27,9 @@ pub(crate) fn run_kept<R: Threads + Wait + Clock + Sync + Print, S: Start + Send
     end_kept(rt, served)
 }
 
-/// Serves terminals with a journal on these disks. That it may be sent to another thread is told a part of its
-/// type at a time, here of the disks and below of what stands on them: of the whole it is too much at once.
+/// Serves terminals with a journal on these disks. That it may be sent to another thread is told a part of
+/// its type at a time, here of the disks and below of what stands on them: of the whole it is too much at
+/// once.
 fn serve_from_disks<R: Threads + Wait + Clock + Sync, D: Disk + Drop + Send, F: Start + Send>(
     rt: &R,
     host: &HostRuntime,
