@@ -1,8 +1,8 @@
 //! The same bytes without a connection.
 
-use crate::library::{journal, present};
 use crate::outcome::Outcome;
 use hd_attend::AttendFault;
+use hd_demonstration::{journal, present};
 use hd_session::Session;
 
 /// What comes of bytes that are fed to a session in one piece, at a journal alone. None for want of memory.

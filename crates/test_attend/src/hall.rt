@@ -3,11 +3,11 @@
 ghost use Rattle.std.specs.Prelude.{◌≡◌, []};
 ghost use Rattle.hd_hall.specs.Openings.{fresh};
 
-use crate::library::{journal, present};
 use crate::outcome::Outcome;
 use crate::wire::{Incoming, TAKEN, Wire};
 use hd_attend::{AttendFault, Gate, attend};
 use hd_connection::{Fallible, Input, Output};
+use hd_demonstration::{journal, present};
 use hd_failing::FailingWriter;
 use hd_hall::{Hall, House, Seat};
 use hd_journal::Journal;

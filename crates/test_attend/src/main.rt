@@ -12,7 +12,6 @@ mod damage;
 mod ends;
 mod failing;
 mod hall;
-mod library;
 mod lines;
 mod outcome;
 mod wire;

@@ -8,7 +8,6 @@
 #![tactic(auto)]
 
 mod disks;
-mod library;
 mod row;
 mod step;
 mod stopping;

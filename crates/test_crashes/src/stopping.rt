@@ -7,10 +7,10 @@ ghost use Rattle.hd_ledger.specs.Holds.{Holds};
 ghost use Rattle.hd_ledger.specs.Kept.{Head, Kept};
 
 use crate::disks::{Disks, OnDisks, crash, empty, open};
-use crate::library::journal;
 use crate::row::Row;
 use crate::step::Step;
 use crate::whole::Whole;
+use hd_demonstration::journal;
 use hd_durable::{DurableJournal, TurnTable};
 use hd_journal::{Ask, Journal, SeatNo};
 use hd_journal_file::restore_turns;

@@ -1,7 +1,7 @@
 //! A row whose turns are all taken.
 
-use crate::library::journal;
 use crate::step::Step;
+use hd_demonstration::journal;
 use hd_journal::{Ask, Journal, SeatNo, TurnRef};
 use hd_rules::{same_asked, same_turn_reply};
 use std::alloc::Global;

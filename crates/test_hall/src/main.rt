@@ -8,14 +8,13 @@
 mod asking;
 mod clash;
 mod comparing;
-mod library;
 mod row;
 mod rows;
 mod wish;
 
 use crate::comparing::is_as_fresh;
-use crate::library::journal;
 use crate::row::{Row, play_picked};
+use hd_demonstration::journal;
 use hd_journal::Journal;
 use std::io;
 

@@ -1,9 +1,10 @@
 //! Rows through sessions.
 use crate::comparing::are_alike;
-use crate::library::{Memory, new_journal, present};
+use crate::library::{Memory, new_journal};
 use crate::row::{LOGGED_IN, LOGIN, Row, returns_in, split_behind};
 use crate::terminal::Terminal;
 use hd_date::Stamp18;
+use hd_demonstration::present;
 use hd_journal::Journal;
 use hd_refusing::Refusing;
 use hd_session::Ended;

@@ -2,7 +2,7 @@
 ghost use Rattle.std.specs.Prelude.{◌≡◌, [], IfSome};
 
 use hd_catalogue::Catalogue;
-use hd_date::{OffsetMinutes, Stamp18};
+use hd_demonstration::CATALOGUE;
 use hd_desk::{Desk, Meter};
 use hd_journal::Journal;
 use hd_refusing::Refusing;
@@ -15,24 +15,6 @@ pub(crate) type Memory<'m> = &'m Refusing<Global>;
 /// A catalogue that many may hold.
 pub(crate) type SharedCatalogue<'m> = Arc<Catalogue<Memory<'m>>, Memory<'m>>;
 
-/// Two terminals, three patrons, two titles and five copies.
-pub(crate) const CATALOGUE: &[u8] = b"H|1|lib|60|100
-B|north
-B|south
-S|t1|pw|north
-S|t2|pw|south
-P|p1|3
-P|p2|3
-P|p3|1
-T|ta|21|1
-T|tb|14|0
-C|a1|ta|north
-C|a2|ta|north
-C|a3|ta|south
-C|b1|tb|north
-C|b2|tb|north
-";
-
 /// Its copies.
 pub(crate) const COPIES: [&[u8]; 5] = [b"a1", b"a2", b"a3", b"b1", b"b2"];
 
@@ -41,15 +23,6 @@ pub(crate) const TITLES: [&[u8]; 2] = [b"ta", b"tb"];
 
 /// Its patrons.
 pub(crate) const PATRONS: [&[u8]; 3] = [b"p1", b"p2", b"p3"];
-
-/// The present.
-pub(crate) const NOW: &[u8] = b"20260301    120000";
-
-/// The present, read.
-pub(crate) fn present() -> Option<Stamp18> {
-    let offset = OffsetMinutes::new(60)?;
-    hd_date::read(NOW, offset).ok()
-}
 
 /// The catalogue, read.
 pub(crate) fn shared_catalogue<'m>(memory: Memory<'m>) -> Option<SharedCatalogue<'m>> {

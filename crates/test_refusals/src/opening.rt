@@ -1,7 +1,7 @@
 //! A catalogue that is read, and a desk that is opened.
 
-use crate::library::CATALOGUE;
 use hd_catalogue::{CatFault, Catalogue, Cause};
+use hd_demonstration::CATALOGUE;
 use hd_desk::Desk;
 use hd_refusing::Refusing;
 use std::alloc::AllocError;

@@ -1,8 +1,8 @@
 //! Rows through `replay`.
 
-use crate::library::{CATALOGUE, NOW};
 use crate::row::{Row, replay_lines};
 use hd_catalogue::{CatFault, Cause};
+use hd_demonstration::{CATALOGUE, NOW};
 use hd_refusing::Refusing;
 use hd_server::{ServerFault, replay_in};
 

@@ -2,8 +2,8 @@
 ghost use Rattle.std.specs.Prelude.{◌≡◌, IfSome};
 ghost use Rattle.test_refusals.specs.Wishes.{IsOf};
 
-use crate::library::present;
 use hd_catalogue::Catalogue;
+use hd_demonstration::present;
 use hd_rules::{Action, Asked, Command, HoldKind, TerminalNo};
 use std::alloc::Allocator;
 

@@ -10,7 +10,6 @@ mod five_in_a_row;
 mod full_disk;
 mod hundred_lines;
 mod idle;
-mod library;
 mod lines;
 mod long_line;
 mod present;

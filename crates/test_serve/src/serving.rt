@@ -2,9 +2,9 @@
 
 ghost use Rattle.std.specs.Prelude.{◌≡◌, ◌≤◌, []};
 
-use crate::library::journal;
 use crate::terminal::Terminal;
 use hd_attend::Gate;
+use hd_demonstration::journal;
 use hd_hall::Keeper;
 use hd_journal::Journal;
 use hd_serve::{Options, ServeFault, Summary, serve, summary_of};

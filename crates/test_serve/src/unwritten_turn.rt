@@ -1,11 +1,11 @@
 //! A turn that can't be written.
 
 use crate::full_disk::FullDisk;
-use crate::library::journal;
 use crate::lines::{HELD_1_FIRST, HOLD_1, HOLD_2, ITEM, LOGGED_IN, LOGIN_1, LOGIN_2};
 use crate::serving::{Row, Scale, open, play_kept, two};
 use crate::terminal::Terminal;
 use hd_attend::Gate;
+use hd_demonstration::journal;
 use hd_serve::ServeFault;
 use std::sync::Wait;
 use std::thread::Threads;
