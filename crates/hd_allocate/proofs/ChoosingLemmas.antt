@@ -10,7 +10,8 @@ use Rattle.hd_rules.specs.declared.holds.HoldKind.{HoldKind}
 use Rattle.hd_rules.specs.declared.holds.HoldKind.TheVariants.{Any, One, AtBranch}
 use Rattle.hd_rules.specs.Facts.{Facts}
 use Rattle.hd_rules.specs.Desk.{Desk}
-use Rattle.hd_rules.specs.Choose.{admits, may_have, candidate, is_local, precedes, earlier, choice, FirstCandidate}
+use Rattle.hd_rules.specs.Choose.{admits, may_have, candidate, is_local, precedes, FirstCandidate}
+use Rattle.hd_rules.specs.Find.{earlier, choice}
 use Rattle.hd_rules.specs.Laws.{ChoiceIsTheFirstCandidate}
 use Rattle.hd_queue.specs.Holds.{hold_of, IsInOrder, HasPatronsOnce}
 use Rattle.hd_queue.specs.Waiting.{is_any, is_at_branch, names, waits_for_any, waits_for, waits_at}
@@ -230,7 +231,7 @@ first_is_choice law k d holds copy b day o ordered at first =
     (same_test copy.priority b (wants copy.copy copy.home day) (may_have k copy.copy day) holds o
     (wants_may_have k copy.copy copy.home day at.home) first)
     (subst (λ (t : Bool). IsFirst t b (may_have k copy.copy day) holds (choice k d copy.copy b day)) at.priority
-    (first_here k d holds copy b day (choice k d copy.copy b day) at (law k d copy.copy b day)))
+    (first_here k d holds copy b day (choice k d copy.copy b day) at (law.first k d copy.copy b day)))
 
 no_copy : (c home : ℕ) (copy : Option ℕ) (kind : HoldKind) (pickup : ℕ) (open_ : Bool) →
     ((is_none copy && is_any kind && open_) || (is_none copy && names c kind && open_) ||

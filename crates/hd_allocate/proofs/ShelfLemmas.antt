@@ -5,8 +5,9 @@ use Rattle.std.specs.Ordering.{nat_cmp}
 use Rattle.std.specs.FinMap.{FinMap, get}
 use Rattle.hd_rules.specs.Facts.{Facts}
 use Rattle.hd_rules.specs.Desk.{Desk}
-use Rattle.hd_rules.specs.Choose.{place, stands_at}
-use Rattle.hd_rules.specs.Laws.{TheLeastFreePlaceIsOne}
+use Rattle.hd_rules.specs.Find.{place}
+use Rattle.hd_rules.specs.Choose.{stands_at}
+use Rattle.hd_rules.specs.Laws.{PlaceIsTheLeastFree}
 use Rattle.hd_shelf.specs.Shelf.{LeastFree}
 use Rattle.hd_allocate.specs.Settling.{IsShelfOf}
 
@@ -14,7 +15,7 @@ some_number : (o : Option ℕ) → IsSome o → (n : ℕ) × (o ≡ Some n)
 some_number None is = absurd (let no : ⊥ = cc in no)
 some_number (Some n) is = (n, refl)
 
-pub least_is_place : TheLeastFreePlaceIsOne → (k : Facts) (d : Desk) (b f : ℕ) (copies : FinMap nat_cmp ℕ) → IsShelfOf k d b copies
+pub least_is_place : PlaceIsTheLeastFree → (k : Facts) (d : Desk) (b f : ℕ) (copies : FinMap nat_cmp ℕ) → IsShelfOf k d b copies
     → LeastFree copies f → place k d b ≡ f
 least_is_place law k d b f copies shelf is = sym ((law k d b f).0 (record { from_one = is.from_one; free = free; least = least }))
   where

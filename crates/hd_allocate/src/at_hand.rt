@@ -11,7 +11,7 @@ use crate::informant::Informant;
 use crate::settled::Settled;
 use crate::settling::settle_copy;
 use hd_queue::QueueView;
-use hd_rules::{BranchNo, CopyNo, Day, Hold, PatronNo, the_least_free_place_is_one};
+use hd_rules::{BranchNo, CopyNo, Day, Hold, PatronNo, place_is_the_least_free};
 use hd_shelf::Places;
 use std::alloc::Allocator;
 
@@ -30,7 +30,7 @@ pub fn settle<A: Allocator>(
     ensures { (k : Facts) (d : Desk) → IsAt k d queue.now copy.now → IsShelfOf k d at places.now.copies
         → Settles k d copy.now at day result }
 {
-    the_least_free_place_is_one();
+    place_is_the_least_free();
     let mut hand = AtHand {
         queue,
         copy,

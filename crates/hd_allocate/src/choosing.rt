@@ -3,7 +3,8 @@ ghost use Rattle.std.specs.Prelude.{◌≡◌, IfSome};
 ghost use Rattle.std.specs.Option.{option_copied};
 ghost use Rattle.hd_rules.specs.Facts.{Facts};
 ghost use Rattle.hd_rules.specs.Desk.{Desk};
-ghost use Rattle.hd_rules.specs.Choose.{choice, earlier, has_expired, is_local, precedes};
+ghost use Rattle.hd_rules.specs.Find.{choice, earlier};
+ghost use Rattle.hd_rules.specs.Choose.{has_expired, is_local, precedes};
 ghost use Rattle.hd_allocate.specs.Choosing.{front, IsAt, Waits};
 
 use crate::facts::CopyFacts;

@@ -8,7 +8,7 @@ ghost use Rattle.hd_rules.specs.Facts.{Facts};
 ghost use Rattle.hd_rules.specs.Settle.{allot, keep, place_at as has_place_at, sent_home};
 ghost use Rattle.hd_rules.specs.Settle.{sent_to as on_the_way_to, settle, settle_tied, tied_to as kept_for};
 ghost use Rattle.hd_rules.specs.Settle.{with_copy as having_copy};
-ghost use Rattle.hd_allocate.specs.Settling.{changes_of};
+ghost use Rattle.hd_allocate.specs.Settling.{hold_changes};
 
 use crate::informant::Informant;
 use crate::settled::{Allotment, Settled};
@@ -30,7 +30,7 @@ pub fn settle_copy<I: Informant>(
     ensures settled { (k : Facts) (d : Desk) → I.is_at (I.source informant.old) k d
         → (rest : CopyState → List Change → Plan)
         → I.ending informant.old k d (settle k copy branch day old.now (kept_for old.now) rest)
-        ≡ I.ending informant.new k d (rest result.state (changes_of k copy result.gets)) }
+        ≡ I.ending informant.new k d (rest result.state (hold_changes k copy result.gets)) }
 {
     match tied_to(old) {
         Some(patron) => {
@@ -59,7 +59,7 @@ fn settle_tied<I: Informant>(
     ensures settled { (k : Facts) (d : Desk) → I.is_at (I.source informant.old) k d
         → (rest : CopyState → List Change → Plan)
         → I.ending informant.old k d (settle_tied k copy branch old.now held.now rest)
-        ≡ I.ending informant.new k d (rest result.state (changes_of k copy result.gets)) }
+        ≡ I.ending informant.new k d (rest result.state (hold_changes k copy result.gets)) }
 {
     let state = match held {
         Some(hold) => keep_for(informant, branch, hold, place_at(branch, old)),
@@ -85,7 +85,7 @@ pub fn allot_copy<I: Informant>(
     ensures settled { (k : Facts) (d : Desk) → I.is_at (I.source informant.old) k d
         → (rest : CopyState → List Change → Plan)
         → I.ending informant.old k d (allot k copy branch place chosen.now rest)
-        ≡ I.ending informant.new k d (rest result.state (changes_of k copy result.gets)) }
+        ≡ I.ending informant.new k d (rest result.state (hold_changes k copy result.gets)) }
 {
     match chosen {
         Some(hold) => {

@@ -14,7 +14,7 @@ use Rattle.hd_connection.specs.Streams.{IsCutShort, Streams}
 use Rattle.hd_exchange.specs.declared.fault.OfficeFault.{OfficeFault}
 use Rattle.hd_session.specs.Sessions.{Feeds, Hearing, Piece, stream}
 use Rattle.hd_session.specs.declared.ended.Ended.{Ended}
-use Rattle.hd_attend.specs.Attending.{Attends, End, IsRead, IsWritten, Leaves}
+use Rattle.hd_attend.specs.Attending.{Attends, End, IsReadPiece, IsWritten, Leaves}
 use Rattle.hd_attend.specs.declared.fault.AttendFault.{AttendFault}
 use Rattle.hd_attend.specs.declared.fault.AttendFault.TheVariants as fault
 use Rattle.hd_attend.proofs.Feeding.{fed_once, fed_then, piece_at, went_on}
@@ -29,7 +29,7 @@ nothing_left (Ok done) = refl
 nothing_left (Err fault) = tt
 
 -- what one clock may tell, another may
-told : (Now Tells : Stamp → Type 0) → ((now : Stamp) → Now now → Tells now) → (piece : Piece) → IsRead Now piece → IsRead Tells piece
+told : (Now Tells : Stamp → Type 0) → ((now : Stamp) → Now now → Tells now) → (piece : Piece) → IsReadPiece Now piece → IsReadPiece Tells piece
 told Now Tells tells piece read = record { some = read.some; short = read.short; present = tells piece.now read.present }
 
 -- a beginning of what stands behind a text
@@ -68,10 +68,10 @@ module _ (k : Contents) (seat : ℕ) (faults : OfficeFault → Type 0) where
         → Attends k seat faults (λ present. present ≡ now) (streams (Some bytes) (Some []) to to') h h' turns turns' end
     attends_piece to to' end sent put some short empty is written wrote leaves =
         let all : fed.text ≡ sent = sym (is ∙ (fed.out_is ∙ ap (λ (o : List ℕ). o ++ fed.text) empty)) in
-        let is_read : IsRead (λ present. present ≡ now) (piece_at now bytes) = record { some = some; short = short; present = refl } in
+        let is_read : IsReadPiece (λ present. present ≡ now) (piece_at now bytes) = record { some = some; short = short; present = refl } in
         record {
           pieces = piece_at now bytes ∷ [];
-          are_read = All-cons (IsRead (λ present. present ≡ now)) (piece_at now bytes) [] is_read (All-nil _);
+          are_read = All-cons (IsReadPiece (λ present. present ≡ now)) (piece_at now bytes) [] is_read (All-nil _);
           read = sym (append-nil (bytes ++ []) ∙ append-nil bytes);
           all = nothing_left end;
           made = fed.made;
@@ -153,8 +153,8 @@ module _ (k : Contents) (seat : ℕ) (faults : OfficeFault → Type 0) where
           flat_map-append (λ (piece : Piece). piece.bytes) far.pieces next.pieces in
           record {
             pieces = far.pieces ++ next.pieces;
-            are_read = All-append (IsRead Tells) far.pieces next.pieces far.are_read
-                (All-weaker (IsRead Now) (IsRead Tells) (told Now Tells tells) next.pieces next.are_read);
+            are_read = All-append (IsReadPiece Tells) far.pieces next.pieces far.are_read
+                (All-weaker (IsReadPiece Now) (IsReadPiece Tells) (told Now Tells tells) next.pieces next.are_read);
             read = subst (λ (all : List ℕ). Consumes from from'' all)
                 (ap (λ (b : List ℕ). stream far.pieces ++ b) whole ∙ sym two)
                 (Consumes-trans from from' from'' (stream far.pieces) bytes far.read read);

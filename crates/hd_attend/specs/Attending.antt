@@ -16,7 +16,7 @@ abbrev pub End : Type 0
 End = Result (Unit {0}) AttendFault
 
 -- A piece as it is read: of 1 to 512 bytes, at a present that the clock may tell.
-pub record IsRead (Tells : Stamp → Type 0) (piece : Piece) : Type 0 where
+pub record IsReadPiece (Tells : Stamp → Type 0) (piece : Piece) : Type 0 where
   pub some : 0 < length piece.bytes
   pub short : length piece.bytes ≤ 512
   pub present : Tells piece.now
@@ -39,7 +39,7 @@ Leaves end before after = after ≡ before
 pub record Attends (k : Contents) (seat : ℕ) (faults : OfficeFault → Type 0) (Tells : Stamp → Type 0)
     (bytes : Streams) (h h' : Hearing) (turns turns' : List Turn) (end : End) : Type 0 where
   pub pieces : List Piece
-  pub are_read : All (IsRead Tells) pieces
+  pub are_read : All (IsReadPiece Tells) pieces
   pub read : Consumes bytes.from bytes.from' (stream pieces)
   pub all : OnOk end (IsAtEnd bytes.from')
   pub made : List Turn

@@ -4,7 +4,7 @@ use Rattle.std.proofs.Common.{inl, inr, arith, append_assoc, append-nil, length-
 use Rattle.std.specs.Prelude.{fold}
 use Rattle.hd_catalogue.specs.Contents.{Contents}
 use Rattle.hd_catalogue.specs.Files.{EachPasses, IsAccepted, IsFirstBad, cause_of, contents_of}
-use Rattle.hd_catalogue.specs.Lines.{begun, header_cause, line_cause, with_line}
+use Rattle.hd_catalogue.specs.Lines.{first_contents, header_cause, line_cause, with_line}
 use Rattle.hd_catalogue.specs.Reading.{Names}
 use Rattle.hd_catalogue.specs.declared.cause.CatFault.{CatFault}
 use Rattle.hd_catalogue.specs.declared.cause.Cause.{Cause}
@@ -77,7 +77,7 @@ follows_reading first done (line ∷ more) n k r count says passes f = elim f [
   | inl next ↦
       let here : cause_of (first ∷ done) line ≡ None = subst (λ c. line_cause c line ≡ None) says next.0 in
       let pushed : with_line k line ≡ contents_of first (done ++ line ∷ []) =
-      ap (λ c. with_line c line) says ∙ sym (fold-push with_line (begun first) done line) in
+      ap (λ c. with_line c line) says ∙ sym (fold-push with_line (first_contents first) done line) in
       let whole : (done ++ line ∷ []) ++ more ≡ done ++ line ∷ more = append_assoc done (line ∷ []) more in
       subst (λ ls. IsReading (first ∷ ls) r) whole
       (follows_reading first (done ++ line ∷ []) more (n + 1) (with_line k line) r (omega (arith, length-append done (line ∷ []))) pushed
@@ -97,7 +97,7 @@ follows_reading first done (line ∷ more) n k r count says passes f = elim f [
 
 -- the first line passes
 pub begun_reading : (first : List ℕ) (ls : List (List ℕ)) (all : List (List ℕ)) (k : Contents) (r : Result Contents CatFault)
-    → all ≡ first ∷ ls → header_cause first ≡ None → k ≡ begun first →
+    → all ≡ first ∷ ls → header_cause first ≡ None → k ≡ first_contents first →
     Follows 2 ls k r → IsReading all r
 begun_reading first ls all k r whole none says f =
     subst (λ all. IsReading all r) (sym whole)

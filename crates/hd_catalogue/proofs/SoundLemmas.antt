@@ -3,7 +3,7 @@ use Rattle.std.proofs.Common.{◌≡◌, ℕ, zero, suc, ◌<◌, ◌≤◌, ◌
 use Rattle.std.proofs.Common.{length-append, Result, Ok, Err, OnOk, is_err, false, Option, Some, IfSome}
 use Rattle.hd_rules.specs.declared.limits.TheConstants.{MOST_BRANCHES, MOST_COMMANDS, MOST_COPIES, MOST_LOANS, MOST_LOAN_DAYS, MOST_PATRONS}
 use Rattle.hd_rules.specs.declared.limits.TheConstants.{MOST_RENEWALS, MOST_TERMINALS, MOST_TITLES}
-use Rattle.hd_catalogue.specs.Contents.{Contents, IsSound, branch_of, facts_of, known, without_names}
+use Rattle.hd_catalogue.specs.Contents.{Contents, IsSound, branch_of, facts_of, fact_of, without_names}
 use Rattle.hd_catalogue.specs.Terminal.{Terminal}
 use Rattle.hd_catalogue.specs.declared.facts.BranchFacts.{BranchFacts}
 use Rattle.hd_catalogue.specs.declared.facts.CopyFacts.{CopyFacts}
@@ -13,8 +13,8 @@ use Rattle.hd_catalogue.specs.declared.facts.TitleFacts.{TitleFacts}
 
 -- of a list with one more name each old number is known as before, and the new one by the new facts
 known-push : {F V : Type 0} (fact : F → V) (none : V) (names : List (List ℕ × F)) (e : List ℕ × F) (i : ℕ) → i < length (names ++ e ∷ []) →
-    ((i < length names) × (known fact none (names ++ e ∷ []) i ≡ known fact none names i))
-    ⊎ (known fact none (names ++ e ∷ []) i ≡ fact e.1)
+    ((i < length names) × (fact_of fact none (names ++ e ∷ []) i ≡ fact_of fact none names i))
+    ⊎ (fact_of fact none (names ++ e ∷ []) i ≡ fact e.1)
 known-push fact none [] e zero h = inr refl
 known-push fact none [] e (suc i) h = absurd (omega arith)
 known-push fact none (x ∷ xs) e zero h = inl (omega arith, refl)
@@ -23,8 +23,8 @@ known-push fact none (x ∷ xs) e (suc i) h =
 
 -- what holds of each is kept, where it holds of the new one
 each-push : {F V : Type 0} (fact : F → V) (none : V) (P : V → Type 0) (names : List (List ℕ × F)) (e : List ℕ × F) →
-    ((i : ℕ) → i < length names → P (known fact none names i)) → P (fact e.1) → (i : ℕ) → i < length (names ++ e ∷ [])
-    → P (known fact none (names ++ e ∷ []) i)
+    ((i : ℕ) → i < length names → P (fact_of fact none names i)) → P (fact e.1) → (i : ℕ) → i < length (names ++ e ∷ [])
+    → P (fact_of fact none (names ++ e ∷ []) i)
 each-push fact none P names e all new i h = elim (known-push fact none names e i h) [
   | inl old ↦ subst P (sym old.1) (all i old.0)
   | inr is ↦ subst P (sym is) new

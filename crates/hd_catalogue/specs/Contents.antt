@@ -36,8 +36,8 @@ without_names settings institution =
     }
 
 -- what is known of the name with a number, and else a value that stands for nothing
-abbrev pub known : {F V : Type 0} → (F → V) → V → List (List ℕ × F) → ℕ → V
-known fact none names number = option_map_or fact (facts_at names number) none
+abbrev pub fact_of : {F V : Type 0} → (F → V) → V → List (List ℕ × F) → ℕ → V
+fact_of fact none names number = option_map_or fact (facts_at names number) none
 
 -- The facts of a catalogue, by number: the one view of it that the rules of the desk have.
 unfoldable pub facts_of : Contents → Facts
@@ -47,18 +47,18 @@ facts_of k = record {
   titles = length k.titles;
   copies = length k.copies;
   patrons = length k.patrons;
-  home = known (λ copy. copy.home) 0 k.copies;
-  title_of = known (λ copy. copy.title) 0 k.copies;
-  loan_days = known (λ title. title.loan_days) 0 k.titles;
-  renewals = known (λ title. title.renewals) 0 k.titles;
-  loan_limit = known (λ patron. patron.loan_limit) 0 k.patrons;
-  priority = known (λ title. title.local_priority) false k.titles;
+  home = fact_of (λ copy. copy.home) 0 k.copies;
+  title_of = fact_of (λ copy. copy.title) 0 k.copies;
+  loan_days = fact_of (λ title. title.loan_days) 0 k.titles;
+  renewals = fact_of (λ title. title.renewals) 0 k.titles;
+  loan_limit = fact_of (λ patron. patron.loan_limit) 0 k.patrons;
+  priority = fact_of (λ title. title.local_priority) false k.titles;
   command_limit = k.settings.command_limit;
 }
 
 -- the branch of a terminal
 unfoldable pub branch_of : Contents → ℕ → ℕ
-branch_of k = known (λ terminal. terminal.branch) 0 k.terminals
+branch_of k = fact_of (λ terminal. terminal.branch) 0 k.terminals
 
 -- the number of a name, None where there is no such name of its kind
 unfoldable pub branch_number : Contents → List ℕ → Option ℕ

@@ -2,7 +2,7 @@
 use Rattle.std.specs.Prelude.{◌≡◌, ℕ, ◌+◌, ◌⊎◌, Option, None, Some, List, [], ◌∷◌, ◌++◌, fold, length}
 use Rattle.std.specs.Str.Lines.{lines}
 use Rattle.hd_catalogue.specs.Contents.{Contents}
-use Rattle.hd_catalogue.specs.Lines.{begun, header_cause, line_cause, with_line}
+use Rattle.hd_catalogue.specs.Lines.{first_contents, header_cause, line_cause, with_line}
 use Rattle.hd_catalogue.specs.declared.cause.CatFault.{CatFault}
 use Rattle.hd_catalogue.specs.declared.cause.Cause.{Cause}
 use Rattle.hd_catalogue.specs.declared.cause.Cause.TheVariants.{Memory}
@@ -14,7 +14,7 @@ lines_of (byte ∷ bytes) = lines (byte ∷ bytes)
 
 -- what a first line and those after it say, one after another
 abbrev pub contents_of : List ℕ → List (List ℕ) → Contents
-contents_of first more = fold with_line (begun first) more
+contents_of first more = fold with_line (first_contents first) more
 
 -- why a line is refused after the lines before it, None where it passes
 abbrev pub cause_of : List (List ℕ) → List ℕ → Option Cause

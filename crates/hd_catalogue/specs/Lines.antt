@@ -6,8 +6,8 @@ use Rattle.hd_catalogue.specs.Names.{number_of}
 use Rattle.hd_rules.specs.declared.limits.TheConstants.{MOST_BRANCHES, MOST_TERMINALS, MOST_TITLES}
 use Rattle.hd_rules.specs.declared.limits.TheConstants.{MOST_COPIES, MOST_PATRONS, MOST_LOAN_DAYS}
 use Rattle.hd_rules.specs.declared.limits.TheConstants.{MOST_RENEWALS, MOST_LOANS}
-use Rattle.hd_catalogue.specs.Text.{as_one, as_two, as_three, as_four, is_command_limit, is_local, is_long}
-use Rattle.hd_catalogue.specs.Text.{is_name, is_number_to, is_offset, is_priority, offset_of, value_of}
+use Rattle.hd_catalogue.specs.Text.{as_one, as_two, as_three, as_four, is_command_limit, says_local, is_long}
+use Rattle.hd_catalogue.specs.Text.{is_name, is_number_to, is_offset, is_priority, offset_of, number_written}
 use Rattle.hd_catalogue.specs.Text.{values_of}
 use Rattle.hd_catalogue.specs.Contents.{Contents, without_names}
 use Rattle.hd_catalogue.specs.Terminal.{Terminal}
@@ -57,7 +57,7 @@ patron_cause long k (Some (name, loans)) = first_cause
     (name_cause k.patrons name true MOST_PATRONS)
 
 abbrev pub patron_facts : List ℕ → PatronFacts
-patron_facts loans = record { loan_limit = value_of loans }
+patron_facts loans = record { loan_limit = number_written loans }
 
 abbrev pub with_patron : Contents → Option (List ℕ × List ℕ) → Contents
 with_patron k None = k
@@ -82,7 +82,11 @@ title_cause long k (Some (name, days, renewals, priority)) = first_cause
 
 abbrev pub title_facts : List ℕ → List ℕ → List ℕ → TitleFacts
 title_facts days renewals priority =
-    record { loan_days = value_of days; renewals = value_of renewals; local_priority = is_local priority }
+    record {
+      loan_days = number_written days;
+      renewals = number_written renewals;
+      local_priority = says_local priority;
+    }
 
 abbrev pub with_title : Contents → Option (List ℕ × List ℕ × List ℕ × List ℕ) → Contents
 with_title k None = k
@@ -123,9 +127,9 @@ abbrev pub copy_facts : Contents → List ℕ → List ℕ → CopyFacts
 copy_facts k title home =
     record { title = unwrap_or (number_of k.titles title) 0; home = unwrap_or (number_of k.branches home) 0 }
 
-abbrev pub with_copy : Contents → Option (List ℕ × List ℕ × List ℕ) → Contents
-with_copy k None = k
-with_copy k (Some (name, title, home)) =
+abbrev pub with_copy_line : Contents → Option (List ℕ × List ℕ × List ℕ) → Contents
+with_copy_line k None = k
+with_copy_line k (Some (name, title, home)) =
     record k { copies = k.copies ++ (name, copy_facts k title home) ∷ [] }
 
 -- a line after the first, by its values: the letter of its kind comes first
@@ -146,7 +150,7 @@ with_values k (kind ∷ values) =
     else if bytes_eq kind (codes "S") then with_terminal k (as_three values)
     else if bytes_eq kind (codes "P") then with_patron k (as_two values)
     else if bytes_eq kind (codes "T") then with_title k (title_values k.settings.version values)
-    else if bytes_eq kind (codes "C") then with_copy k (as_three values)
+    else if bytes_eq kind (codes "C") then with_copy_line k (as_three values)
     else k
 
 -- why a line after the first is refused, None where it passes
@@ -196,7 +200,7 @@ settings_of heading =
     record {
       version = heading.version;
       offset = offset_of heading.offset;
-      command_limit = value_of heading.limit;
+      command_limit = number_written heading.limit;
     }
 
 -- where the first line is no heading, nothing is said
@@ -209,5 +213,5 @@ unfoldable pub header_cause : List ℕ → Option Cause
 header_cause line = heading_cause (is_long line) (heading_of (values_of line))
 
 -- what a catalogue says after its first line
-unfoldable pub begun : List ℕ → Contents
-begun line = begun_by (heading_of (values_of line))
+unfoldable pub first_contents : List ℕ → Contents
+first_contents line = begun_by (heading_of (values_of line))

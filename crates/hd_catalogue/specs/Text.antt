@@ -43,8 +43,8 @@ abbrev pub is_digit : ℕ → Bool
 is_digit byte = nat_le 48 byte && nat_le byte 57
 
 -- the number that decimal digits write
-abbrev pub value_of : List ℕ → ℕ
-value_of digits = fold (λ n digit. 10 * n + (digit - 48)) 0 digits
+abbrev pub number_written : List ℕ → ℕ
+number_written digits = fold (λ n digit. 10 * n + (digit - 48)) 0 digits
 
 -- one to nine digits without a leading zero
 abbrev pub is_decimal : List ℕ → Bool
@@ -53,41 +53,44 @@ is_decimal digits =
     && (nat_le (length digits) 9 && ((length digits == 1) || not (slice_index digits 0 == 48)))
 
 abbrev pub number_of_digits : List ℕ → Option ℕ
-number_of_digits digits = if is_decimal digits then Some (value_of digits) else None
+number_of_digits digits = if is_decimal digits then Some (number_written digits) else None
 
 -- a number from 0 to a limit
 abbrev pub is_number_to : ℕ → List ℕ → Bool
-is_number_to most digits = is_decimal digits && nat_le (value_of digits) most
+is_number_to most digits = is_decimal digits && nat_le (number_written digits) most
 
 abbrev pub number_to : ℕ → List ℕ → Option ℕ
-number_to most digits = if is_number_to most digits then Some (value_of digits) else None
+number_to most digits = if is_number_to most digits then Some (number_written digits) else None
 
 -- minutes from -1,439 to 1,439, a minus only before a number other than 0
 unfoldable pub is_offset : List ℕ → Bool
 is_offset bytes =
-    if slice_index bytes 0 == 45 then is_number_to 1439 (drop 1 bytes) && not (value_of (drop 1 bytes) == 0)
+    if slice_index bytes 0 == 45
+    then is_number_to 1439 (drop 1 bytes) && not (number_written (drop 1 bytes) == 0)
     else is_number_to 1439 bytes
 
 unfoldable pub offset_of : List ℕ → ℤ
 offset_of bytes =
-    if slice_index bytes 0 == 45 then neg_ℤ (pos (value_of (drop 1 bytes))) else pos (value_of bytes)
+    if slice_index bytes 0 == 45
+    then neg_ℤ (pos (number_written (drop 1 bytes)))
+    else pos (number_written bytes)
 
 abbrev pub offset_to : List ℕ → Option ℤ
 offset_to bytes = if is_offset bytes then Some (offset_of bytes) else None
 
 -- a limit of commands: 1 to the greatest
 unfoldable pub is_command_limit : List ℕ → Bool
-is_command_limit bytes = is_number_to MOST_COMMANDS bytes && not (value_of bytes == 0)
+is_command_limit bytes = is_number_to MOST_COMMANDS bytes && not (number_written bytes == 0)
 
 abbrev pub command_limit_to : List ℕ → Option ℕ
-command_limit_to bytes = if is_command_limit bytes then Some (value_of bytes) else None
+command_limit_to bytes = if is_command_limit bytes then Some (number_written bytes) else None
 
 -- a priority: L for local, N for none
-abbrev pub is_local : List ℕ → Bool
-is_local value = bytes_eq value (codes "L")
+abbrev pub says_local : List ℕ → Bool
+says_local value = bytes_eq value (codes "L")
 
 abbrev pub is_priority : List ℕ → Bool
-is_priority value = is_local value || bytes_eq value (codes "N")
+is_priority value = says_local value || bytes_eq value (codes "N")
 
 -- whether a value is just this letter
 abbrev pub is_letter : ℕ → List ℕ → Bool

@@ -6,7 +6,8 @@ ghost use Rattle.hd_rules.specs.declared.limits.TheConstants.{MOST_LOANS, MOST_L
 ghost use Rattle.hd_catalogue.specs.Text.{as_one, as_three, as_two, is_number_to};
 ghost use Rattle.hd_catalogue.specs.Lines.{are_known, are_names, branch_cause, copy_cause, copy_facts};
 ghost use Rattle.hd_catalogue.specs.Lines.{name_cause, patron_cause, patron_facts, terminal_cause};
-ghost use Rattle.hd_catalogue.specs.Lines.{title_cause, title_facts, title_values, with_branch, with_copy};
+ghost use Rattle.hd_catalogue.specs.Lines.{title_cause, title_facts, title_values, with_branch};
+ghost use Rattle.hd_catalogue.specs.Lines.{with_copy_line};
 ghost use Rattle.hd_catalogue.specs.Lines.{with_patron, with_terminal, with_title};
 ghost use Rattle.hd_catalogue.specs.Reading.{Reads};
 
@@ -237,7 +238,7 @@ impl<A: Allocator + Copy> Catalogue<A> {
         values: Values<'_>,
     ) -> Result<(), Cause>
         ensures { Reads (copy_cause long self.old (as_three values.entry))
-            (with_copy self.old (as_three values.entry)) self.new result }
+            (with_copy_line self.old (as_three values.entry)) self.new result }
     {
         let Some((name, title, home)) = values.three() else {
             return Err(Cause::Fields);

@@ -1,7 +1,7 @@
 //! Reads a catalogue file.
 ghost use Rattle.std.specs.Prelude.{IfErr, IfOk};
 ghost use Rattle.hd_catalogue.specs.Files.{IsAccepted, IsFirstBad, lines_of};
-ghost use Rattle.hd_catalogue.specs.Lines.{begun, header_cause, line_cause, values_cause, with_line};
+ghost use Rattle.hd_catalogue.specs.Lines.{first_contents, header_cause, line_cause, values_cause, with_line};
 ghost use Rattle.hd_catalogue.specs.Lines.{with_values};
 ghost use Rattle.hd_catalogue.specs.Reading.{Begins, Reads};
 
@@ -43,9 +43,9 @@ impl<A: Allocator + Copy> Catalogue<A> {
     }
 
     /// The catalogue that a first line begins.
-    #[tactic(auto, unfolding(crate::specs::Lines::header_cause, crate::specs::Lines::begun))]
+    #[tactic(auto, unfolding(crate::specs::Lines::header_cause, crate::specs::Lines::first_contents))]
     fn begin(alloc: A, line: &[u8]) -> Result<Catalogue<A>, Cause>
-        ensures { Begins (header_cause line.now) (begun line.now) result }
+        ensures { Begins (header_cause line.now) (first_contents line.now) result }
     {
         let Some(heading) = read_heading(Values::of(line)) else {
             return Err(Cause::Header);

@@ -2,7 +2,7 @@
 ghost use Rattle.std.specs.Prelude.{◌≡◌, ◌≤◌, IfSome};
 ghost use Rattle.hd_rules.specs.declared.limits.TheConstants.{MOST_COMMANDS};
 ghost use Rattle.std.specs.List.{list_all};
-ghost use Rattle.hd_catalogue.specs.Text.{command_limit_to, is_letter, is_local, is_long, is_name};
+ghost use Rattle.hd_catalogue.specs.Text.{command_limit_to, is_letter, says_local, is_long, is_name};
 ghost use Rattle.hd_catalogue.specs.Text.{is_name_byte, is_priority, number_of_digits, number_to, offset_to};
 
 use hd_date::OffsetMinutes;
@@ -116,7 +116,7 @@ pub(crate) fn command_limit(bytes: &[u8]) -> Option<u64>
 
 /// Whether a title's priority is local.
 pub(crate) fn is_local(priority: &[u8]) -> bool
-    ensures { result ≡ is_local priority.now }
+    ensures { result ≡ says_local priority.now }
 {
     priority == b"L".as_slice()
 }

@@ -96,7 +96,7 @@ records_about rules k d n (s ∷ ss) (r ∷ rs) sound rising are = (
 
 pub all_records_about : Rules → (k : Facts) (ss : List Survivor) (rs : List Record) → Rising 1 ss → AreRecords k (opening k) ss rs
     → EachIsAbout k rs
-all_records_about rules k ss rs rising are = records_about rules k (opening k) 1 ss rs (rules.runs k 1 [] tt) rising are
+all_records_about rules k ss rs rising are = records_about rules k (opening k) 1 ss rs (rules.commands.runs k 1 [] tt) rising are
 
 -- shifting keeps the questions
 shifted_about : (P : Question → Type 0) (k : Facts) (cs : List Change) (fs : List Finding)

@@ -21,7 +21,7 @@ use Rattle.hd_rules.specs.Choose.{has_expired}
 use Rattle.hd_rules.specs.Ask.{Plan, Ask, Refuse, Accept, AnswerTo, answer, asks}
 use Rattle.hd_rules.specs.Settle.{tied_to, place_at, keep, allot, settle_tied, settle}
 use Rattle.hd_rules.specs.Step.{accept, due_day, last_day, lend, lend_held, lend_from_shelf, cannot_renew, renew_loan, checkout_at}
-use Rattle.hd_rules.specs.Step.{off_line_at, checkin, add, release, delete_with, delete, changed, change_to, change, renew_at, plan_of}
+use Rattle.hd_rules.specs.Step.{off_line_at, checkin, add, release, delete_with, delete, changed_hold, change_to, change, renew_at, plan_of}
 use Rattle.hd_rules.specs.Step.{plan}
 use Rattle.hd_rules.specs.Run.{IsAmong}
 
@@ -192,7 +192,7 @@ change_asks : (P : Question → Type 0) (k : Facts) (d : Desk) (n t p : ℕ) (ki
     (old : Option Hold) → OfTitle P t → Asked P k d (change k n t p kind pickup expiry day old)
 change_asks P k d n t p kind pickup expiry day None of = refused
 change_asks P k d n t p kind pickup expiry day (Some h) of =
-    change_to_asks P k d n t p expiry day h (changed kind pickup expiry h) h.copy of
+    change_to_asks P k d n t p expiry day h (changed_hold kind pickup expiry h) h.copy of
 
 -- the hold that the answer tells of
 its_copy : (P : Question → Type 0) (k : Facts) (o old : Option Hold) → o ≡ old → OfItsCopy P k o → OfItsCopy P k old

@@ -90,19 +90,19 @@ module _ (rules : Rules) (k : Facts) where
       → DifferBy done.changes (after done.changes d) d
   differ_made d s done are is = record {
     elsewhere = λ y apart. after_elsewhere done.changes d y apart;
-    each = each_made d d done.changes are (λ c among. (rules.written k d s.number s.command done is c among).1);
+    each = each_made d d done.changes are (λ c among. (rules.answers.written k d s.number s.command done is c among).1);
   }
 
   differ_ended : (d e : Desk) (cs : List Change) (s : Survivor) → DifferBy cs d e → outcome_of k e s ≡ outcome_of k d s
       → (r : Result Done Refusal) → outcome_of k d s ≡ r → DifferBy cs (changed_by r d) (changed_by r e)
   differ_ended d e cs s h same (Err r) is = h
   differ_ended d e cs s h same (Ok done) is = differ_after d e cs done.changes h (λ g among.
-      (rules.written k d s.number s.command done is g among).1 ∙ sym (rules.written k e s.number s.command done (same ∙ is) g among).1)
+      (rules.answers.written k d s.number s.command done is g among).1 ∙ sym (rules.answers.written k e s.number s.command done (same ∙ is) g among).1)
 
   -- after a command that is answered alike at two desks they differ as before
   pub differ_on : (d e : Desk) (cs : List Change) (s : Survivor) → DifferBy cs d e → AnsweredAlike k d e (plan k s.number s.command)
       → DifferBy cs (step k d s) (step k e s)
   differ_on d e cs s h alike =
-      let same : outcome_of k d s ≡ outcome_of k e s = (rules.step k d e s.number s.command alike).0 in
+      let same : outcome_of k d s ≡ outcome_of k e s = (rules.answers.alike k d e s.number s.command alike).0 in
       subst (λ (r : Result Done Refusal). DifferBy cs (step k d s) (changed_by r e)) same
       (differ_ended d e cs s h (sym same) (outcome_of k d s) refl)

@@ -65,7 +65,7 @@ step_known : Rules → (k : Facts) (d : Desk) (s : Survivor) → AreInRange k �
 step_known rules k d s range known fine = by_outcome (outcome_of k d s) refl
   where
     by_outcome : (r : Result Done Refusal) → outcome_of k d s ≡ r → IsKnownDesk k (changed_by r d)
-    by_outcome (Ok done) is = after_known k d done.changes known (rules.known k d s.number s.command done range known fine is).changes
+    by_outcome (Ok done) is = after_known k d done.changes known (rules.commands.known k d s.number s.command done range known fine is).changes
     by_outcome (Err r) is = known
 
 each_small : (k : Facts) (d : Desk) (qs : List Question) → AreInRange k → EachIsSmall (findings k d qs)
@@ -75,7 +75,7 @@ each_small k d (q ∷ qs) range = (counts_small k d q range, each_small k d qs r
 record_known : Rules → (k : Facts) (d : Desk) (s : Survivor) (r : Record) → AreInRange k → IsKnownDesk k d → IsKnownAction k s.command.action
     → IsRecordAt k d s r → IsKnownRecord k r
 record_known rules k d s r range desk known is = record {
-  cells = done_known k (record { changes = r.changes; reply = r.reply }) (rules.known k d s.number s.command _ range desk known is.done);
+  cells = done_known k (record { changes = r.changes; reply = r.reply }) (rules.commands.known k d s.number s.command _ range desk known is.done);
   questions = subst (EachQuestionIsKnown k) (sym is.findings) (known_asks k d s.number s.command range desk known);
   counts = subst EachIsSmall (sym is.findings) (each_small k d (asks k d (plan k s.number s.command)) range);
 }

@@ -4,7 +4,7 @@ use Rattle.std.proofs.Math.Nat.{min-le_left}
 use Rattle.hd_rules.specs.declared.cells.Change.{Change}
 use Rattle.hd_rules.specs.declared.questions.Finding.{Finding}
 use Rattle.hd_rules.specs.Facts.{Facts}
-use Rattle.hd_footprint.specs.Meter.{Counts, add}
+use Rattle.hd_footprint.specs.Meter.{Counts, with_one_more}
 use Rattle.hd_footprint.specs.declared.count.Count.TheVariants.{Compared}
 use Rattle.hd_clash.specs.Clash.{clashes}
 use Rattle.hd_clash.specs.Work.{with_comparisons, clash_work, AtMostFourEach}
@@ -19,8 +19,8 @@ record AtMost (n : ℕ) (old new : Counts) : Type 0 where
 with_few : (n : ℕ) (counts : Counts) → AtMost n counts (with_comparisons n counts)
 with_few zero counts = record { compared = omega arith; steps = refl; written = refl; looks = refl }
 with_few (suc n) counts =
-    let rest : AtMost n (add counts Compared) (with_comparisons n (add counts Compared)) = with_few n (add counts Compared) in
-    let one : (add counts Compared).compared ≤ counts.compared + 1 = min-le_left (counts.compared + 1) _ in
+    let rest : AtMost n (with_one_more counts Compared) (with_comparisons n (with_one_more counts Compared)) = with_few n (with_one_more counts Compared) in
+    let one : (with_one_more counts Compared).compared ≤ counts.compared + 1 = min-le_left (counts.compared + 1) _ in
     record { compared = omega (arith, rest.compared, one); steps = rest.steps; written = rest.written; looks = rest.looks }
 
 pub few : (k : Facts) (cs : List Change) (fs : List Finding) (counts : Counts) → length cs ≤ 4

@@ -3,14 +3,14 @@ use Rattle.std.specs.Prelude.{◌≡◌, ℕ, zero, suc, ◌+◌, ◌*◌, ◌�
 use Rattle.hd_rules.specs.declared.cells.Change.{Change}
 use Rattle.hd_rules.specs.declared.questions.Finding.{Finding}
 use Rattle.hd_rules.specs.Facts.{Facts}
-use Rattle.hd_footprint.specs.Meter.{Counts, add}
+use Rattle.hd_footprint.specs.Meter.{Counts, with_one_more}
 use Rattle.hd_footprint.specs.declared.count.Count.TheVariants.{Compared}
 use Rattle.hd_clash.specs.Clash.{clashes}
 
 -- the counts after so many more comparisons
 abbrev pub with_comparisons : ℕ → Counts → Counts
 with_comparisons zero counts = counts
-with_comparisons (suc n) counts = with_comparisons n (add counts Compared)
+with_comparisons (suc n) counts = with_comparisons n (with_one_more counts Compared)
 
 -- each finding, up to the first that clashes, is compared with each of the changes
 abbrev pub clash_work : Facts → List Change → List Finding → Counts → Counts

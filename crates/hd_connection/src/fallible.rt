@@ -5,8 +5,8 @@ use crate::input::{Input, ReadFailed, read_patiently};
 use crate::output::{Output, WriteFailed, write_patiently};
 use std::io::{self, Read, Write};
 
-/// A reader or a writer that may fail at any time, for any reason: a file, a socket, or one that isn't known. A call
-/// that is interrupted is tried again, up to 16 times in a row.
+/// A reader or a writer that may fail at any time, for any reason: a file, a socket, or one that isn't known.
+/// A call that is interrupted is tried again, up to 16 times in a row.
 #[derive(Drop)]
 pub struct Fallible<T>(pub T);
 

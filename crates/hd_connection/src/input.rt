@@ -34,8 +34,8 @@ impl Input for &[u8] {
     }
 }
 
-/// Reads once, as `read_some` does, from any reader: a call that is interrupted is tried again, up to 16 times in
-/// a row.
+/// Reads once, as `read_some` does, from any reader: a call that is interrupted is tried again, up to 16
+/// times in a row.
 ///
 /// # Errors
 /// Where the read fails, or is interrupted once more. It takes no byte then.

@@ -1,4 +1,5 @@
-//! The two ends of a connection: reading some bytes, and writing all of some. Each end says when a call can fail.
+//! The two ends of a connection: reading some bytes, and writing all of some. Each end says when a call can
+//! fail.
 #![tactic(auto)]
 
 mod fallible;

@@ -79,8 +79,8 @@ pub fn write_all<W: Output>(to: &mut W, bytes: &[u8]) -> Result<(), WriteFailed>
     Ok(())
 }
 
-/// Writes once, as `write_some` does, to any writer: a call that is interrupted is tried again, up to 16 times in
-/// a row.
+/// Writes once, as `write_some` does, to any writer: a call that is interrupted is tried again, up to 16
+/// times in a row.
 ///
 /// # Errors
 /// Where the write fails, takes no byte, or is interrupted once more. Nothing is written then.

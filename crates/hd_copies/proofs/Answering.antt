@@ -13,15 +13,16 @@ use Rattle.hd_rules.specs.declared.copies.CopyState.{CopyState}
 use Rattle.hd_rules.specs.declared.copies.CopyState.TheVariants.{Shelf, OnLoan, OnHoldShelf, InTransit}
 use Rattle.hd_rules.specs.Facts.{Facts}
 use Rattle.hd_rules.specs.Desk.{Desk}
-use Rattle.hd_rules.specs.Choose.{admits, count_below, is_lent_to, is_on_shelf, loans, on_shelf, place, stands_at}
-use Rattle.hd_rules.specs.Laws.{TheLeastFreePlaceIsOne}
+use Rattle.hd_rules.specs.Choose.{admits, count_below, is_lent_to, is_on_shelf, loans, on_shelf, stands_at}
+use Rattle.hd_rules.specs.Find.{place}
+use Rattle.hd_rules.specs.Laws.{PlaceIsTheLeastFree}
 use Rattle.hd_shelf.specs.Shelf.{LeastFree as IsLeast}
 use Rattle.hd_loans.specs.Counts.{is_loan_to, loans_of}
 use Rattle.hd_lemmas.proofs.Counts.{one, count_below-changed, count_below-none, count_below-same}
 use Rattle.hd_stock.specs.Counts.{of_home, of_title}
 use Rattle.hd_copies.specs.IndexesValue.{IndexesValue}
 use Rattle.hd_copies.specs.Standing.{AreStates, stands_ready, state_in}
-use Rattle.hd_copies.specs.Indexing.{copy_at, is_placed, is_shelved, loan_of, no_shelf, shelved}
+use Rattle.hd_copies.specs.Indexing.{copy_at, is_placed, is_on_open_shelf, loan_of, no_shelf, shelf_count}
 use Rattle.hd_copies.specs.Keeping.{AreKept}
 use Rattle.hd_copies.proofs.Moving.{found_in}
 use Rattle.hd_copies.proofs.Indexed.{placed_in}
@@ -48,11 +49,11 @@ loans-are k states x d p count kept e is = is ∙ ap (count_below (λ c. is_loan
 
 -- the copies on open shelves
 pub shelved-are : (k : Facts) (states : List CopyState) (d : Desk) (t : ℕ) (kind : HoldKind) (pickup : ℕ) → AreStates k states →
-    d.copy ≡ state_in states → shelved k (slice_get states) t kind pickup ≡ on_shelf k d t kind pickup
+    d.copy ≡ state_in states → shelf_count k (slice_get states) t kind pickup ≡ on_shelf k d t kind pickup
 shelved-are k states d t kind pickup fit e =
     count_below-same (λ n. ((k.title_of n) == t) && (admits k kind pickup n && is_on_shelf (d.copy n)))
     (is_counted k (slice_get states) t kind pickup) k.copies
-    (λ n l. ap (λ (o : Option CopyState). ((k.title_of n) == t) && (admits k kind pickup n && is_shelved o)) (at_desk k states d fit e n l))
+    (λ n l. ap (λ (o : Option CopyState). ((k.title_of n) == t) && (admits k kind pickup n && is_on_open_shelf o)) (at_desk k states d fit e n l))
 
 -- those of a title
 pub title-is : (k : Facts) (states : List CopyState) (x : IndexesValue) (d : Desk) (t pickup count : ℕ) → AreKept k states x →
@@ -94,7 +95,7 @@ some_number None is = absurd (let no : ⊥ = cc in no)
 some_number (Some n) is = (n, refl)
 
 -- the least free place
-pub least-is : TheLeastFreePlaceIsOne → (k : Facts) (states : List CopyState) (x : IndexesValue) (d : Desk) (b f : ℕ) →
+pub least-is : PlaceIsTheLeastFree → (k : Facts) (states : List CopyState) (x : IndexesValue) (d : Desk) (b f : ℕ) →
     AreKept k states x → b < k.branches → d.copy ≡ state_in states → IsLeast (get_or x.shelves b no_shelf).copies f → f ≡ place k d b
 least-is law k states x d b f kept l e is = (law k d b f).0 (record { from_one = is.from_one; free = free; least = least })
   where

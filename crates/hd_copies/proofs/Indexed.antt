@@ -22,10 +22,10 @@ use Rattle.hd_loans.specs.LoansValue.{LoansValue}
 use Rattle.hd_lemmas.proofs.Counts.{count_below-free, count_below-some}
 use Rattle.hd_transit.specs.TransitsValue.{TransitsValue}
 use Rattle.hd_stock.specs.StockValue.{StockValue}
-use Rattle.hd_stock.specs.Counts.{HasOneMore, KeepsEntries, of_home, of_title}
+use Rattle.hd_stock.specs.Counts.{HasOneCopyMore, KeepsEntries, of_home, of_title}
 use Rattle.hd_copies.specs.IndexesValue.{IndexesValue}
 use Rattle.hd_copies.specs.Standing.{AreStates, state_in}
-use Rattle.hd_copies.specs.Indexing.{AreLoans, AreTransits, AreShelves, IsIndexed, all_but, copy_at, is_placed, is_shelved, loan_of}
+use Rattle.hd_copies.specs.Indexing.{AreLoans, AreTransits, AreShelves, IsIndexed, all_but, copy_at, is_placed, is_on_open_shelf, loan_of}
 use Rattle.hd_copies.specs.Indexing.{no_shelf, rooms_in, transit_of}
 use Rattle.hd_copies.proofs.Moving.{Moves, alike, but_here, but_there, found_in, map-in, map-out, state_at}
 use Rattle.hd_copies.proofs.Shelves.{shelves-alike, shelves-in, shelves-out}
@@ -47,7 +47,7 @@ no_and false b = refl
 module _ (k : Facts) (f g : ℕ → Option CopyState) (c : ℕ) (x : IndexesValue) (indexed : IsIndexed k f x) where
   -- a copy leaves its open shelf
   pub shelf-out : (b : ℕ) (stock : StockValue) → Moves c f g (Some (Shelf b)) None → c < k.copies →
-      HasOneMore x.stock stock (k.title_of c) (k.home c) → KeepsEntries x.stock stock →
+      HasOneCopyMore x.stock stock (k.title_of c) (k.home c) → KeepsEntries x.stock stock →
       IsIndexed k g (record { loans = x.loans; transits = x.transits; shelves = x.shelves; stock = stock })
   shelf-out b stock moves l less keeps = record {
     loans = loans-alike k f g x.loans (alike loan_of c f g _ _ moves refl) indexed.loans;
@@ -58,7 +58,7 @@ module _ (k : Facts) (f g : ℕ → Option CopyState) (c : ℕ) (x : IndexesValu
 
   -- and comes to one
   pub shelf-in : (b : ℕ) (stock : StockValue) → Moves c f g None (Some (Shelf b)) → c < k.copies →
-      HasOneMore stock x.stock (k.title_of c) (k.home c) → KeepsEntries x.stock stock →
+      HasOneCopyMore stock x.stock (k.title_of c) (k.home c) → KeepsEntries x.stock stock →
       IsIndexed k g (record { loans = x.loans; transits = x.transits; shelves = x.shelves; stock = stock })
   shelf-in b stock moves l more keeps = record {
     loans = loans-alike k f g x.loans (alike loan_of c f g _ _ moves refl) indexed.loans;
@@ -79,7 +79,7 @@ module _ (k : Facts) (f g : ℕ → Option CopyState) (c : ℕ) (x : IndexesValu
     };
     transits = transits-alike k f g x.transits (alike transit_of c f g _ _ moves refl) indexed.transits;
     shelves = shelves-alike k f g x.shelves (λ b p. alike (is_placed b p) c f g _ _ moves refl) indexed.shelves;
-    stock = stock-alike k f g x.stock (alike is_shelved c f g _ _ moves refl) indexed.stock;
+    stock = stock-alike k f g x.stock (alike is_on_open_shelf c f g _ _ moves refl) indexed.stock;
   }
 
   -- and begins
@@ -94,7 +94,7 @@ module _ (k : Facts) (f g : ℕ → Option CopyState) (c : ℕ) (x : IndexesValu
     };
     transits = transits-alike k f g x.transits (alike transit_of c f g _ _ moves refl) indexed.transits;
     shelves = shelves-alike k f g x.shelves (λ b p. alike (is_placed b p) c f g _ _ moves refl) indexed.shelves;
-    stock = stock-alike k f g x.stock (alike is_shelved c f g _ _ moves refl) indexed.stock;
+    stock = stock-alike k f g x.stock (alike is_on_open_shelf c f g _ _ moves refl) indexed.stock;
   }
 
   -- a transit ends
@@ -108,7 +108,7 @@ module _ (k : Facts) (f g : ℕ → Option CopyState) (c : ℕ) (x : IndexesValu
       transit = λ n. ap (λ (m : _). get m n) out ∙ map-out transit_of x.transits.transits c f g _ _ moves refl indexed.transits.transit n;
     };
     shelves = shelves-alike k f g x.shelves (λ b p. alike (is_placed b p) c f g _ _ moves refl) indexed.shelves;
-    stock = stock-alike k f g x.stock (alike is_shelved c f g _ _ moves refl) indexed.stock;
+    stock = stock-alike k f g x.stock (alike is_on_open_shelf c f g _ _ moves refl) indexed.stock;
   }
 
   -- and begins
@@ -122,7 +122,7 @@ module _ (k : Facts) (f g : ℕ → Option CopyState) (c : ℕ) (x : IndexesValu
       transit = λ n. ap (λ (m : _). get m n) into ∙ map-in transit_of x.transits.transits c f g _ _ v moves refl indexed.transits.transit n;
     };
     shelves = shelves-alike k f g x.shelves (λ b p. alike (is_placed b p) c f g _ _ moves refl) indexed.shelves;
-    stock = stock-alike k f g x.stock (alike is_shelved c f g _ _ moves refl) indexed.stock;
+    stock = stock-alike k f g x.stock (alike is_on_open_shelf c f g _ _ moves refl) indexed.stock;
   }
 
   -- a copy leaves its hold shelf
@@ -133,7 +133,7 @@ module _ (k : Facts) (f g : ℕ → Option CopyState) (c : ℕ) (x : IndexesValu
     loans = loans-alike k f g x.loans (alike loan_of c f g _ _ moves refl) indexed.loans;
     transits = transits-alike k f g x.transits (alike transit_of c f g _ _ moves refl) indexed.transits;
     shelves = shelves-out k f g c w x.shelves s moves indexed.shelves known out;
-    stock = stock-alike k f g x.stock (alike is_shelved c f g _ _ moves refl) indexed.stock;
+    stock = stock-alike k f g x.stock (alike is_on_open_shelf c f g _ _ moves refl) indexed.stock;
   }
 
   -- and comes to one
@@ -144,12 +144,12 @@ module _ (k : Facts) (f g : ℕ → Option CopyState) (c : ℕ) (x : IndexesValu
     loans = loans-alike k f g x.loans (alike loan_of c f g _ _ moves refl) indexed.loans;
     transits = transits-alike k f g x.transits (alike transit_of c f g _ _ moves refl) indexed.transits;
     shelves = shelves-in k f g c w x.shelves s moves indexed.shelves known free into;
-    stock = stock-alike k f g x.stock (alike is_shelved c f g _ _ moves refl) indexed.stock;
+    stock = stock-alike k f g x.stock (alike is_on_open_shelf c f g _ _ moves refl) indexed.stock;
   }
 
   uncounted : (kind : HoldKind) (pickup : ℕ) → f c ≡ None → is_counted k f (k.title_of c) kind pickup c ≡ false
   uncounted kind pickup none =
-      ap (λ (o : Option CopyState). ((k.title_of c) == (k.title_of c)) && (admits k kind pickup c && is_shelved o)) none
+      ap (λ (o : Option CopyState). ((k.title_of c) == (k.title_of c)) && (admits k kind pickup c && is_on_open_shelf o)) none
       ∙ no_and ((k.title_of c) == (k.title_of c)) (admits k kind pickup c)
 
   -- a copy that is on no open shelf isn't counted, so there is room for one more

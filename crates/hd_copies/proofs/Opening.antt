@@ -17,7 +17,7 @@ use Rattle.hd_lemmas.proofs.Counts.{one, count_below-same}
 use Rattle.hd_transit.specs.TransitsValue.{TransitsValue}
 use Rattle.hd_stock.specs.StockValue.{StockValue}
 use Rattle.hd_stock.specs.Counts.{HasEntry, of_home, of_title}
-use Rattle.hd_copies.specs.Indexing.{AreLoans, AreTransits, AreShelves, IsStock, copy_at, each_at_home, is_placed, is_shelved, loan_of}
+use Rattle.hd_copies.specs.Indexing.{AreLoans, AreTransits, AreShelves, IsStock, copy_at, each_at_home, is_placed, is_on_open_shelf, loan_of}
 use Rattle.hd_copies.specs.Indexing.{transit_of}
 use Rattle.hd_copies.proofs.Counting.{is_counted}
 
@@ -96,10 +96,10 @@ pub stock-home : (k : Facts) (stock : StockValue) (n : ℕ) → n ≡ k.copies �
 stock-home k stock n all titles homes entries = record {
   title = λ t pickup. titles t ∙ ap (count_below (λ c. (k.title_of c) == t)) all
       ∙ sym (count_below-same (λ c. (k.title_of c) == t) (is_counted k (each_at_home k) t Any pickup) k.copies
-      (λ c l. ap (λ (o : Option CopyState). ((k.title_of c) == t) && is_shelved o) (at_home k c l) ∙ and_all ((k.title_of c) == t)));
+      (λ c l. ap (λ (o : Option CopyState). ((k.title_of c) == t) && is_on_open_shelf o) (at_home k c l) ∙ and_all ((k.title_of c) == t)));
   home = λ t b. homes t b ∙ ap (count_below (λ c. ((k.title_of c) == t) && ((k.home c) == b))) all
       ∙ sym (count_below-same (λ c. ((k.title_of c) == t) && ((k.home c) == b)) (is_counted k (each_at_home k) t AtBranch b) k.copies
-      (λ c l. ap (λ (o : Option CopyState). ((k.title_of c) == t) && (((k.home c) == b) && is_shelved o)) (at_home k c l)
+      (λ c l. ap (λ (o : Option CopyState). ((k.title_of c) == t) && (((k.home c) == b) && is_on_open_shelf o)) (at_home k c l)
       ∙ and_both ((k.title_of c) == t) ((k.home c) == b)));
   entry = λ c l. entries c (omega (arith, all));
 }

@@ -15,7 +15,7 @@ use Rattle.hd_rules.specs.Choose.{stands_at}
 use Rattle.hd_rules.specs.Known.{IsKnownState}
 use Rattle.hd_rules.specs.Sound.{PlacesFit}
 use Rattle.hd_catalogue.specs.declared.facts.CopyFacts.{CopyFacts}
-use Rattle.hd_catalogue.specs.Contents.{Contents, facts_of, known}
+use Rattle.hd_catalogue.specs.Contents.{Contents, facts_of, fact_of}
 use Rattle.hd_copies.specs.Indexing.{each_at_home}
 use Rattle.hd_copies.specs.Standing.{IsAlone, IsWelcome, AreStates, AreAtHome, state_in}
 
@@ -74,13 +74,13 @@ places-put k f c v fit welcome = record {
 
 pub states-put : (k : Facts) (states : List CopyState) (i c : ℕ) (v : CopyState) → AreStates k states → i ≡ c → c < k.copies →
     IsKnownState k v → IsWelcome k (state_in states) c v → AreStates k (set states i v)
-states-put k states i c v is at l known welcome =
+states-put k states i c v is at l fact_of welcome =
     let there : c < length states = omega (arith, is.copies) in
     let e : (λ x. cond (c == x) v (state_in states x)) ≡ state_in (set states i v) = sym (state_in-set states i c v at there) in
     record {
       copies = length-set states i v ∙ is.copies;
       known = subst (λ (f : ℕ → CopyState). (x : ℕ) → x < k.copies → IsKnownState k (f x)) e
-          (known-put k (state_in states) c v is.known known);
+          (known-put k (state_in states) c v is.known fact_of);
       places = subst (PlacesFit k) e (places-put k (state_in states) c v is.places welcome);
     }
 
@@ -91,7 +91,7 @@ state_past states c l = get_or_past states c (Shelf 0) l
 not_there : (v : CopyState) (b : ℕ) (s : HoldPlace) → v ≡ Shelf b → v ≡ OnHoldShelf s → ⊥
 not_there v b s e is = cc
 
-pub home_past : (copies : List (List ℕ × CopyFacts)) (c : ℕ) → length copies ≤ c → known (λ (copy : CopyFacts). copy.home) 0 copies c ≡ 0
+pub home_past : (copies : List (List ℕ × CopyFacts)) (c : ℕ) → length copies ≤ c → fact_of (λ (copy : CopyFacts). copy.home) 0 copies c ≡ 0
 home_past copies c l = rw (slice_get_past copies c l) refl
 
 -- each copy that there is, and no other one, stands where its home is
@@ -100,7 +100,7 @@ pub standing-home : (k : Contents) (states : List CopyState) → AreAtHome (fact
 unfolding facts_of
 standing-home k states home = λ i. λ c. each c i
   where
-    each : (c : ℕ) → state_in states c ≡ Shelf (known (λ (copy : CopyFacts). copy.home) 0 k.copies c)
+    each : (c : ℕ) → state_in states c ≡ Shelf (fact_of (λ (copy : CopyFacts). copy.home) 0 k.copies c)
     each c = elim (cases_lt c (length k.copies)) [
       | inl below ↦ home.home c below
       | inr above ↦ state_past states c (omega (arith, home.copies)) ∙ ap Shelf (sym (home_past k.copies c above))

@@ -47,14 +47,15 @@ is_placed b place None = false
 is_placed b place (Some state) = stands_at b place state
 
 -- on an open shelf
-abbrev pub is_shelved : Option CopyState → Bool
-is_shelved None = false
-is_shelved (Some state) = is_on_shelf state
+abbrev pub is_on_open_shelf : Option CopyState → Bool
+is_on_open_shelf None = false
+is_on_open_shelf (Some state) = is_on_shelf state
 
 -- how many copies of the title stand on open shelves that such a hold admits
-abbrev pub shelved : Facts → (ℕ → Option CopyState) → ℕ → HoldKind → ℕ → ℕ
-shelved k copies title kind pickup =
-    count_below (λ n. ((k.title_of n) == title) && (admits k kind pickup n && is_shelved (copies n))) k.copies
+abbrev pub shelf_count : Facts → (ℕ → Option CopyState) → ℕ → HoldKind → ℕ → ℕ
+shelf_count k copies title kind pickup =
+    count_below (λ n.
+    ((k.title_of n) == title) && (admits k kind pickup n && is_on_open_shelf (copies n))) k.copies
 
 -- exactly the loans of these copies
 pub record AreLoans (k : Facts) (copies : ℕ → Option CopyState) (loans : LoansValue) : Type 0 where
@@ -88,8 +89,8 @@ pub record AreShelves (k : Facts) (copies : ℕ → Option CopyState) (shelves :
 
 -- the counts of the copies on open shelves, with an entry for each copy of the catalogue
 pub record IsStock (k : Facts) (copies : ℕ → Option CopyState) (stock : StockValue) : Type 0 where
-  pub title : (t pickup : ℕ) → of_title stock t ≡ shelved k copies t Any pickup
-  pub home : (t b : ℕ) → of_home stock t b ≡ shelved k copies t AtBranch b
+  pub title : (t pickup : ℕ) → of_title stock t ≡ shelf_count k copies t Any pickup
+  pub home : (t b : ℕ) → of_home stock t b ≡ shelf_count k copies t AtBranch b
   pub entry : (c : ℕ) → c < k.copies → HasEntry stock (k.title_of c) (k.home c)
 
 -- each copy that is somewhere is found there, and no other is

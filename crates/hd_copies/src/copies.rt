@@ -7,7 +7,8 @@ ghost use Rattle.hd_rules.specs.declared.copies.CopyState.{CopyState};
 ghost use Rattle.hd_rules.specs.declared.copies.CopyState.TheVariants.{Shelf};
 ghost use Rattle.hd_rules.specs.Desk.{Desk};
 ghost use Rattle.hd_rules.specs.Facts.{AreInRange};
-ghost use Rattle.hd_rules.specs.Choose.{loans, on_shelf, place};
+ghost use Rattle.hd_rules.specs.Choose.{loans, on_shelf};
+ghost use Rattle.hd_rules.specs.Find.{place};
 ghost use Rattle.hd_rules.specs.Known.{IsKnownState};
 ghost use Rattle.hd_rules.specs.Sound.{PlacesFit};
 ghost use Rattle.hd_catalogue.specs.Contents.{facts_of};
@@ -16,9 +17,7 @@ ghost use Rattle.hd_copies.specs.Standing.{stands_ready};
 
 use crate::indexes::Indexes;
 use hd_catalogue::Catalogue;
-use hd_rules::{
-    BranchNo, CopyNo, CopyState, HoldKind, PatronNo, TitleNo, the_least_free_place_is_one,
-};
+use hd_rules::{BranchNo, CopyNo, CopyState, HoldKind, PatronNo, TitleNo, place_is_the_least_free};
 use std::alloc::{AllocError, Allocator, Global};
 use std::marker::Model;
 use std::sync::Arc;
@@ -140,7 +139,7 @@ impl<A: Allocator + Copy> Copies<A> {
         requires { branch < (facts self.now).branches }
         ensures { (d : Desk) → d.copy ≡ standing self.now → result ≡ place (facts self.now) d branch }
     {
-        the_least_free_place_is_one();
+        place_is_the_least_free();
         self.indexes.shelves[branch.number() as usize].least_free()
     }
 

@@ -15,7 +15,7 @@ use Rattle.jiff_core.proofs.DateLemmas.{epoch_day_injective}
 use Rattle.hd_date.specs.Days.{IsCalendarDay, IsPrinted, date_text, four_digits, two_digits}
 use Rattle.hd_date.specs.Faults.{IsFirstFault}
 use Rattle.hd_date.specs.Stamps.{IsDigit, IsFormed, IsInYears, IsLocal, IsMoment, IsStamp, Prints, Stamp, States}
-use Rattle.hd_date.specs.Stamps.{decimal, local_moment, minute_of_day, minutes, spelled, time_digits}
+use Rattle.hd_date.specs.Stamps.{decimal, local_moment, minute_of_day, minutes, numbers_in, time_digits}
 use Rattle.hd_date.specs.declared.fault.DateFault.{DateFault}
 use Rattle.hd_date.specs.declared.fault.DateFault.TheVariants.{Length, Digits, Zone, Calendar, Range}
 use Rattle.hd_date.specs.declared.zone.Zone.{Zone as TheZone}
@@ -66,7 +66,7 @@ same_moment text offset y z a b minute p q =
 pub same_stamp : (text : List ℕ) (offset : ℤ) (s t : Stamp) → IsStamp text offset s → IsStamp text offset t → s ≡ t
 same_stamp text offset s t p q =
     let e : pos (minutes s.day s.minute) ≡ pos (minutes t.day t.minute) =
-    p.moment ∙ same_moment text offset p.zone q.zone p.number q.number (minute_of_day (spelled text)) p.states q.states ∙ sym q.moment in
+    p.moment ∙ same_moment text offset p.zone q.zone p.number q.number (minute_of_day (numbers_in text)) p.states q.states ∙ sym q.moment in
     let day : s.day ≡ t.day = minutes_day _ _ _ _ p.minute q.minute e in
     let minute : s.minute ≡ t.minute = minutes_minute _ _ _ _ p.minute q.minute e in
     let second : s.second ≡ t.second = p.second ∙ sym q.second in
@@ -82,8 +82,8 @@ no_fault text offset s Digits p h = h.1 p.states.formed.digits
 no_fault text offset s Zone p h = none_some (sym h.2 ∙ p.states.formed.stated)
 no_fault text offset s Calendar p h = h.unreal (p.states.shows.real, p.states.time)
 no_fault text offset s Range p h =
-    let e : pos (minutes s.day s.minute) ≡ local_moment h.number (minute_of_day (spelled text)) h.zone offset =
-    p.moment ∙ same_moment text offset p.zone h.zone p.number h.number (minute_of_day (spelled text)) p.states h.states in
+    let e : pos (minutes s.day s.minute) ≡ local_moment h.number (minute_of_day (numbers_in text)) h.zone offset =
+    p.moment ∙ same_moment text offset p.zone h.zone p.number h.number (minute_of_day (numbers_in text)) p.states h.states in
     h.outside (subst IsInYears e (omega (arith, signed_arith), omega (arith, signed_arith, p.day, p.minute)))
 
 -- a text has one first fault
@@ -269,7 +269,7 @@ joined_parts text size l = rw (← blanks text l) (simp append_assoc (in_parts t
 -- a text in local time is what is printed of a stamp that it shows
 pub own_print : (text : List ℕ) (offset : ℤ) (s : Stamp) → IsLocal text → IsStamp text offset s → Prints s text
 own_print text offset s l p =
-    let n = spelled text in
+    let n = numbers_in text in
     let zone : p.zone ≡ Local = same_some (sym p.states.formed.stated ∙ l) in
     let e : pos (minutes s.day s.minute) ≡ pos (minutes p.number (minute_of_day n)) +ℤ pos 0 =
     p.moment ∙ ap (λ z. local_moment p.number (minute_of_day n) z offset) zone in

@@ -11,8 +11,8 @@ first_day = 719_528
 abbrev pub seconds : ℕ → ℕ → ℕ → ℕ
 seconds day minute second = 60 * minutes day minute + second
 
--- A clock tells how many seconds have gone since 1 January 1970, 00:00, of universal time, and local time is so
--- many minutes later: the local moment, in seconds from the first moment of the year 0.
+-- A clock tells how many seconds have gone since 1 January 1970, 00:00, of universal time, and local time is
+-- so many minutes later: the local moment, in seconds from the first moment of the year 0.
 abbrev pub local_second : ℤ → ℤ → ℤ
 local_second told offset = told +ℤ pos (seconds first_day 0 0) +ℤ offset *ℤ pos 60
 
@@ -30,8 +30,8 @@ pub record IsStampAt (told offset : ℤ) (stamp : Stamp) : Type 0 where
 abbrev pub first_stamp : Stamp
 first_stamp = record { day = 0; minute = 0; second = 0 }
 
--- The present where a clock tells this, or tells nothing: its moment's stamp, and the first moment of the year 0
--- where it has none in the years 0000 to 9999.
+-- The present where a clock tells this, or tells nothing: its moment's stamp, and the first moment of the
+-- year 0 where it has none in the years 0000 to 9999.
 abbrev pub IsPresent : Option ℕ → ℤ → Stamp → Type 0
 IsPresent None offset stamp = stamp ≡ first_stamp
 IsPresent (Some told) offset stamp =

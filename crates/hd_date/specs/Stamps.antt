@@ -27,8 +27,8 @@ abbrev pub decimal : List ℕ → ℕ
 decimal digits = fold (λ n byte. 10 * n + (byte - 48)) 0 digits
 
 -- the numbers that stand in a text of 18 bytes
-abbrev pub spelled : List ℕ → Numbers
-spelled text = record {
+abbrev pub numbers_in : List ℕ → Numbers
+numbers_in text = record {
   year = decimal (slice_range text 0 4);
   month = decimal (slice_range text 4 6);
   day = decimal (slice_range text 6 8);
@@ -95,8 +95,8 @@ pub record IsFormed (text : List ℕ) (zone : Zone) : Type 0 where
 -- The text states a real day of the calendar, by its number, and a time of day, in a zone.
 pub record States (text : List ℕ) (zone : Zone) (number : ℕ) : Type 0 where
   pub formed : IsFormed text zone
-  pub shows : IsCalendarDay (spelled text).year (spelled text).month (spelled text).day number
-  pub time : IsTime (spelled text)
+  pub shows : IsCalendarDay (numbers_in text).year (numbers_in text).month (numbers_in text).day number
+  pub time : IsTime (numbers_in text)
 
 -- The text shows this local moment.
 pub record IsStamp (text : List ℕ) (offset : ℤ) (stamp : Stamp) : Type 0 where
@@ -104,23 +104,23 @@ pub record IsStamp (text : List ℕ) (offset : ℤ) (stamp : Stamp) : Type 0 whe
   pub number : ℕ
   pub states : States text zone number
   pub moment : pos (minutes stamp.day stamp.minute)
-      ≡ local_moment number (minute_of_day (spelled text)) zone offset
+      ≡ local_moment number (minute_of_day (numbers_in text)) zone offset
   pub day : stamp.day < end_of_days
   pub minute : stamp.minute < 1440
-  pub second : stamp.second ≡ (spelled text).second
+  pub second : stamp.second ≡ (numbers_in text).second
 
 -- The text is well formed, and its day isn't on the calendar or its time is none of a day.
 pub record IsUnreal (text : List ℕ) : Type 0 where
   pub zone : Zone
   pub formed : IsFormed text zone
-  pub unreal : ¬ (IsDate (spelled text) × IsTime (spelled text))
+  pub unreal : ¬ (IsDate (numbers_in text) × IsTime (numbers_in text))
 
 -- The text states a real day and time, and its local moment lies outside the years 0000 to 9999.
 pub record IsOutOfRange (text : List ℕ) (offset : ℤ) : Type 0 where
   pub zone : Zone
   pub number : ℕ
   pub states : States text zone number
-  pub outside : ¬ IsInYears (local_moment number (minute_of_day (spelled text)) zone offset)
+  pub outside : ¬ IsInYears (local_moment number (minute_of_day (numbers_in text)) zone offset)
 
 -- the digits of a moment's time
 abbrev pub time_digits : Stamp → List ℕ

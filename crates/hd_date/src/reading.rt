@@ -4,7 +4,7 @@ ghost use Rattle.std.specs.Option.{SomeIff};
 ghost use Rattle.hd_date.specs.Days.{IsCalendarDay};
 ghost use Rattle.hd_date.specs.Faults.{IsFirstFault};
 ghost use Rattle.hd_date.specs.Stamps.{HasDigits, IsDate, IsInLocalForm, IsOwnPrint, IsStamp, IsTime};
-ghost use Rattle.hd_date.specs.Stamps.{minute_of_day, shift, spelled, zone_of};
+ghost use Rattle.hd_date.specs.Stamps.{minute_of_day, shift, numbers_in, zone_of};
 
 use crate::calendar::day_of;
 use crate::day::Day;
@@ -63,7 +63,7 @@ pub fn local_text(text: &[u8]) -> Option<&[u8; 18]>
 
 /// The numbers of a text, if all but its zone are digits.
 fn numbers(text: &[u8; 18]) -> Option<Numbers>
-    ensures value { IfSome result (λ numbers. numbers ≡ spelled text.now) }
+    ensures value { IfSome result (λ numbers. numbers ≡ numbers_in text.now) }
     ensures digits { IfSome result (λ numbers. HasDigits text.now) }
     ensures year { IfSome result (λ numbers. numbers.year < 10000) }
     ensures month { IfSome result (λ numbers. numbers.month < 100) }

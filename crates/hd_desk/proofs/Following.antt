@@ -6,7 +6,8 @@ use Rattle.hd_rules.specs.Facts.{Facts}
 use Rattle.hd_rules.specs.Desk.{Desk}
 use Rattle.hd_rules.specs.Ask.{Plan, Ask, Refuse, Accept, answer, outcome, asks}
 use Rattle.hd_rules.specs.Known.{IsKnownQuestion}
-use Rattle.hd_rules.specs.Record.{findings, note}
+use Rattle.hd_rules.specs.Record.{findings}
+use Rattle.hd_rules.specs.Notes.{note}
 use Rattle.hd_rules.specs.declared.questions.Finding.{Finding}
 use Rattle.hd_desk.specs.Asking.{ending, asked_of, AreKnownQuestions}
 

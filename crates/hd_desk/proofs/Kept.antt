@@ -14,9 +14,9 @@ use Rattle.hd_catalogue.specs.Contents.{Contents, facts_of}
 use Rattle.hd_copies.specs.CopiesValue.{CopiesValue}
 use Rattle.hd_copies.specs.Standing.{standing}
 use Rattle.hd_holds.specs.HoldsValue.{HoldsValue}
-use Rattle.hd_holds.specs.Held.{held}
+use Rattle.hd_holds.specs.Held.{patron_hold}
 use Rattle.hd_desk.specs.DeskValue.{DeskValue}
-use Rattle.hd_desk.specs.Desks.{IsKept, contents, desk_of, facts}
+use Rattle.hd_desk.specs.Desks.{IsKeptDesk, contents, desk_of, facts}
 
 -- a desk that is sound at a number is sound at each greater one
 pub sound-later : (k : Facts) (n m : ℕ) (d : Desk) → n ≤ m → Sound k n d → Sound k m d
@@ -38,7 +38,7 @@ sound-opening k n = record {
   tie = record { tied = λ t p c b h. absurd h; has = λ p c b h. absurd h };
 }
 
-pub kept-opening : (k : Facts) → AreInRange k → IsKept k (opening k)
+pub kept-opening : (k : Facts) → AreInRange k → IsKeptDesk k (opening k)
 kept-opening k range = record {
   range = range;
   known = record { copies = λ c in_c. range.home c in_c; holds = λ t p in_t in_p. tt };
@@ -68,10 +68,10 @@ pub put-copy-is : (d : DeskValue) (new : CopiesValue) (c : ℕ) (s : CopyState) 
     standing new ≡ (λ x. cond (c == x) s (standing d.copies x)) →
     desk_of (record { copies = new; holds = d.holds }) ≡ put (desk_of d) (CopyCell c) (CopyHas s)
 unfolding desk_of
-put-copy-is d new c s is = λ i. record { copy = is i; hold = held d.holds }
+put-copy-is d new c s is = λ i. record { copy = is i; hold = patron_hold d.holds }
 
 pub put-hold-is : (d : DeskValue) (new : HoldsValue) (t p : ℕ) (o : Option Hold) →
-    held new ≡ (λ u q. cond ((t == u) && (p == q)) o (held d.holds u q)) →
+    patron_hold new ≡ (λ u q. cond ((t == u) && (p == q)) o (patron_hold d.holds u q)) →
     desk_of (record { copies = d.copies; holds = new }) ≡ put (desk_of d) (HoldCell t p) (HoldHas o)
 unfolding desk_of
 put-hold-is d new t p o is = λ i. record { copy = standing d.copies; hold = is i }
@@ -90,9 +90,9 @@ known-put k d (CopyCell c) (HoldHas o) is known = known
 known-put k d (HoldCell t p) (CopyHas s) is known = known
 
 pub kept-put : (d e : DeskValue) (cell : Cell) (v : Value) → contents e ≡ contents d → desk_of e ≡ put (desk_of d) cell v →
-    IsKnownValue (facts d) v → IsFit (facts d) (put (desk_of d) cell v) → IsKept (facts d) (desk_of d) → IsKept (facts e) (desk_of e)
+    IsKnownValue (facts d) v → IsFit (facts d) (put (desk_of d) cell v) → IsKeptDesk (facts d) (desk_of d) → IsKeptDesk (facts e) (desk_of e)
 kept-put d e cell v same desk known fit kept =
-    let here : IsKept (facts d) (put (desk_of d) cell v) =
+    let here : IsKeptDesk (facts d) (put (desk_of d) cell v) =
     record { range = kept.range; known = known-put (facts d) (desk_of d) cell v known kept.known; fit = fit } in
-    subst (λ (x : Desk). IsKept (facts e) x) (sym desk)
-    (subst (λ (x : Contents). IsKept (facts_of x) (put (desk_of d) cell v)) (sym same) here)
+    subst (λ (x : Desk). IsKeptDesk (facts e) x) (sym desk)
+    (subst (λ (x : Contents). IsKeptDesk (facts_of x) (put (desk_of d) cell v)) (sym same) here)

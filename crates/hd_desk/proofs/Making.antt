@@ -18,13 +18,13 @@ use Rattle.hd_rules.specs.Same.{real_changes, same_value}
 use Rattle.hd_rules.specs.Sound.{IsFit, EachOnIsFit}
 use Rattle.hd_catalogue.specs.Contents.{Contents, facts_of}
 use Rattle.hd_copies.specs.Standing.{standing, IsWelcome}
-use Rattle.hd_holds.specs.Held.{held, IsWelcome as IsWelcomeHold}
-use Rattle.hd_footprint.specs.Meter.{Counts, add}
+use Rattle.hd_holds.specs.Held.{patron_hold, IsWelcome as IsWelcomeHold}
+use Rattle.hd_footprint.specs.Meter.{Counts, with_one_more}
 use Rattle.hd_footprint.specs.declared.count.Count.TheVariants.{Written}
 use Rattle.hd_desk.specs.DeskValue.{DeskValue}
 use Rattle.hd_desk.specs.Desks.{contents, desk_of, facts}
-use Rattle.hd_inverse.specs.Cells.{AreApart, AreKnown, HaveRoom, MayHave}
-use Rattle.hd_inverse.specs.Work.{written}
+use Rattle.hd_inverse.specs.Cells.{AreApart, AreKnownChanges, HaveRoom, MayHave}
+use Rattle.hd_inverse.specs.Work.{after_writes}
 use Rattle.hd_desk.specs.Cells.{HasRoomFor}
 use Rattle.hd_desk.specs.Rooms.{fewer}
 use Rattle.hd_desk.proofs.Writing.{copy-welcome, hold-welcome, drop_at, two-cells}
@@ -39,7 +39,7 @@ put-copy d cell v c s is_cell is_value known fit =
     (subst (λ (x : Cell). IsFit (facts d) (put (desk_of d) x v)) is_cell fit))
 
 pub put-hold : (d : DeskValue) (cell : Cell) (v : Value) (t p : ℕ) (o : Option Hold) → cell ≡ HoldCell t p → v ≡ HoldHas o →
-    IsFit (facts d) (put (desk_of d) cell v) → IsWelcomeHold (held d.holds) t p o
+    IsFit (facts d) (put (desk_of d) cell v) → IsWelcomeHold (patron_hold d.holds) t p o
 unfolding desk_of
 put-hold d cell v t p o is_cell is_value fit =
     hold-welcome (facts d) (desk_of d) t p o
@@ -76,13 +76,13 @@ room-from d n (c ∷ cs) (suc i) room = room-from d n cs i room.2
 pub record Making (d : DeskValue) (m : Counts) (cs : List Change) (i : ℕ) (now : DeskValue) (meter : Counts) : Type 0 where
   pub rest : after (drop i cs) (desk_of now) ≡ after cs (desk_of d)
   pub same : contents now ≡ contents d
-  pub known : AreKnown (facts d) (drop i cs)
+  pub known : AreKnownChanges (facts d) (drop i cs)
   pub apart : AreApart (drop i cs)
   pub room : HaveRoom (HasRoomFor now) (length (drop i cs)) (drop i cs)
   pub fit : EachOnIsFit (facts d) (drop i cs) (desk_of now)
-  pub counted : written (length (drop i cs)) meter ≡ written (length cs) m
+  pub counted : after_writes (length (drop i cs)) meter ≡ after_writes (length cs) m
 
-pub making-start : (d : DeskValue) (m : Counts) (cs : List Change) → AreKnown (facts d) cs → AreApart cs →
+pub making-start : (d : DeskValue) (m : Counts) (cs : List Change) → AreKnownChanges (facts d) cs → AreApart cs →
     HaveRoom (HasRoomFor d) (length cs) cs → EachOnIsFit (facts d) cs (desk_of d) → Making d m cs 0 d m
 making-start d m cs known apart room fit =
     record { rest = refl; same = refl; known = known; apart = apart; room = room; fit = fit; counted = refl }
@@ -97,7 +97,7 @@ pub making-next : (d : DeskValue) (m : Counts) (cs : List Change) (i : ℕ) (now
     Making d m cs i now meter → i < length cs → c ≡ get_or cs i c → Next now c
 making-next d m cs i now meter c making below is =
     let at : drop i cs ≡ c ∷ drop (i + 1) cs = drop_at cs i c below is in
-    let known : AreKnown (facts d) (c ∷ drop (i + 1) cs) = subst (AreKnown (facts d)) at making.known in
+    let known : AreKnownChanges (facts d) (c ∷ drop (i + 1) cs) = subst (AreKnownChanges (facts d)) at making.known in
     let room : HaveRoom (HasRoomFor now) (length (c ∷ drop (i + 1) cs)) (c ∷ drop (i + 1) cs) =
     subst (λ (xs : List Change). HaveRoom (HasRoomFor now) (length xs) xs) at making.room in
     let fit : EachOnIsFit (facts d) (c ∷ drop (i + 1) cs) (desk_of now) =
@@ -113,11 +113,11 @@ pub making-on : (d : DeskValue) (m : Counts) (cs : List Change) (i : ℕ) (now :
     (raised : Counts) → Making d m cs i now meter → i < length cs → c ≡ get_or cs i c → desk_of next ≡ put (desk_of now) c.cell c.new →
     contents next ≡ contents now →
     ((x : Cell) (v : Value) (n : ℕ) → same_cell c.cell x ≡ false → HasRoomFor now x v (n + 1) → HasRoomFor next x v n) →
-    raised ≡ add meter Written → Making d m cs (i + 1) next raised
+    raised ≡ with_one_more meter Written → Making d m cs (i + 1) next raised
 making-on d m cs i now meter c next raised making below is desk same room_on counts =
     let rest : List Change = drop (i + 1) cs in
     let at : drop i cs ≡ c ∷ rest = drop_at cs i c below is in
-    let known : AreKnown (facts d) (c ∷ rest) = subst (AreKnown (facts d)) at making.known in
+    let known : AreKnownChanges (facts d) (c ∷ rest) = subst (AreKnownChanges (facts d)) at making.known in
     let apart : AreApart (c ∷ rest) = subst AreApart at making.apart in
     let room : HaveRoom (HasRoomFor now) (length (c ∷ rest)) (c ∷ rest) =
     subst (λ (xs : List Change). HaveRoom (HasRoomFor now) (length xs) xs) at making.room in
@@ -132,13 +132,13 @@ making-on d m cs i now meter c next raised making below is desk same room_on cou
       room = room-left now next (length rest) c.cell rest room_on apart.0
           (subst (λ (n : ℕ). HaveRoom (HasRoomFor now) n rest) more room.2);
       fit = subst (EachOnIsFit (facts d) rest) (sym desk) fit.1;
-      counted = ap (written (length rest)) counts ∙ ap (λ (xs : List Change). written (length xs) meter) (sym at) ∙ making.counted;
+      counted = ap (after_writes (length rest)) counts ∙ ap (λ (xs : List Change). after_writes (length xs) meter) (sym at) ∙ making.counted;
     }
 
 pub record Made (d : DeskValue) (m : Counts) (cs : List Change) (now : DeskValue) (meter : Counts) : Type 0 where
   pub desk : desk_of now ≡ after cs (desk_of d)
   pub same : contents now ≡ contents d
-  pub counted : meter ≡ written (length cs) m
+  pub counted : meter ≡ after_writes (length cs) m
 
 pub making-end : (d : DeskValue) (m : Counts) (cs : List Change) (i : ℕ) (now : DeskValue) (meter : Counts) → Making d m cs i now meter →
     length cs ≤ i → Made d m cs now meter
@@ -147,18 +147,18 @@ making-end d m cs i now meter making past =
     record {
       desk = ap (λ (xs : List Change). after xs (desk_of now)) (sym none) ∙ making.rest;
       same = making.same;
-      counted = ap (λ (xs : List Change). written (length xs) meter) (sym none) ∙ making.counted;
+      counted = ap (λ (xs : List Change). after_writes (length xs) meter) (sym none) ∙ making.counted;
     }
 
 -- How far room was made.
 pub record Readying (d : DeskValue) (cs : List Change) (i : ℕ) (now : DeskValue) : Type 0 where
   pub desk : desk_of now ≡ desk_of d
   pub same : contents now ≡ contents d
-  pub known : AreKnown (facts now) (drop i cs)
+  pub known : AreKnownChanges (facts now) (drop i cs)
   pub room : HaveRoom (HasRoomFor now) (length cs) (take i cs)
   pub kept : (x : Cell) (v : Value) (n : ℕ) → HasRoomFor d x v n → HasRoomFor now x v n
 
-pub readying-start : (d : DeskValue) (cs : List Change) → AreKnown (facts d) cs → Readying d cs 0 d
+pub readying-start : (d : DeskValue) (cs : List Change) → AreKnownChanges (facts d) cs → Readying d cs 0 d
 readying-start d cs known = record { desk = refl; same = refl; known = known; room = tt; kept = λ x v n room. room }
 
 pub record NextRoom (now : DeskValue) (c : Change) : Type 0 where
@@ -168,7 +168,7 @@ pub record NextRoom (now : DeskValue) (c : Change) : Type 0 where
 pub readying-next : (d : DeskValue) (cs : List Change) (i : ℕ) (now : DeskValue) (c : Change) → Readying d cs i now → i < length cs →
     c ≡ get_or cs i c → NextRoom now c
 readying-next d cs i now c readying below is =
-    let known : AreKnown (facts now) (c ∷ drop (i + 1) cs) = subst (AreKnown (facts now)) (drop_at cs i c below is) readying.known in
+    let known : AreKnownChanges (facts now) (c ∷ drop (i + 1) cs) = subst (AreKnownChanges (facts now)) (drop_at cs i c below is) readying.known in
     record { old = known.0; new = known.1 }
 
 -- a call that makes room
@@ -184,12 +184,12 @@ pub readying-on : (d : DeskValue) (cs : List Change) (i : ℕ) (now : DeskValue)
     i < length cs → c ≡ get_or cs i c → Roomier now half → Roomier half next → HasRoomFor half c.cell c.old (length cs) →
     HasRoomFor next c.cell c.new (length cs) → Readying d cs (i + 1) next
 readying-on d cs i now c half next readying below is one two old new =
-    let known : AreKnown (facts now) (c ∷ drop (i + 1) cs) = subst (AreKnown (facts now)) (drop_at cs i c below is) readying.known in
+    let known : AreKnownChanges (facts now) (c ∷ drop (i + 1) cs) = subst (AreKnownChanges (facts now)) (drop_at cs i c below is) readying.known in
     let more : take (i + 1) cs ≡ take i cs ++ c ∷ [] = take_more cs i c below ∙ ap (λ (x : Change). take i cs ++ x ∷ []) (sym is) in
     record {
       desk = two.desk ∙ one.desk ∙ readying.desk;
       same = two.same ∙ one.same ∙ readying.same;
-      known = subst (λ (x : Contents). AreKnown (facts_of x) (drop (i + 1) cs)) (sym (two.same ∙ one.same)) known.2;
+      known = subst (λ (x : Contents). AreKnownChanges (facts_of x) (drop (i + 1) cs)) (sym (two.same ∙ one.same)) known.2;
       room = subst (HaveRoom (HasRoomFor next) (length cs)) (sym more)
           (room-more next (length cs) (take i cs) c
           (room-on now next (length cs) (take i cs) (λ x v n room. two.kept x v n (one.kept x v n room)) readying.room)

@@ -19,7 +19,8 @@ use Rattle.hd_rules.specs.Facts.{Facts, AreInRange}
 use Rattle.hd_rules.specs.Desk.{Desk, after, opening}
 use Rattle.hd_rules.specs.Ask.{Plan, Done, outcome, asks}
 use Rattle.hd_rules.specs.Known.{IsKnownAction, IsKnownDesk, IsKnownHeld, IsKnownQuestion}
-use Rattle.hd_rules.specs.Record.{findings, note}
+use Rattle.hd_rules.specs.Record.{findings}
+use Rattle.hd_rules.specs.Notes.{note}
 use Rattle.hd_rules.specs.Run.{AreChanges}
 use Rattle.hd_rules.specs.Sound.{IsFit, Sound, EachOnIsFit}
 use Rattle.hd_rules.specs.Step.{plan}
@@ -29,17 +30,17 @@ use Rattle.hd_queue.specs.Holds.{hold_of}
 use Rattle.hd_copies.specs.CopiesValue.{CopiesValue}
 use Rattle.hd_copies.specs.Standing.{standing}
 use Rattle.hd_holds.specs.HoldsValue.{HoldsValue}
-use Rattle.hd_holds.specs.Held.{held, AreOfPatrons, AreKnown as AreKnownHolds}
+use Rattle.hd_holds.specs.Held.{patron_hold, AreOfPatrons, AreKnown as AreKnownHolds}
 use Rattle.hd_allocate.specs.Choosing.{AreOfPatrons as AreAllOfPatrons, IsAt, Waits}
 use Rattle.hd_allocate.specs.declared.facts.CopyFacts.{CopyFacts}
 use Rattle.hd_rules.specs.declared.cells.Change.{Change}
 use Rattle.hd_desk.specs.Asking.{InquiryValue, ending_of, asked_of, AreKnownQuestions}
-use Rattle.hd_inverse.specs.Cells.{AreApart, AreKnown, HaveRoom}
+use Rattle.hd_inverse.specs.Cells.{AreApart, AreKnownChanges, HaveRoom}
 use Rattle.hd_desk.specs.declared.refused.Refused.TheVariants.{Memory}
-use Rattle.hd_desk.specs.Cells.{HasRoomFor, IsShort}
-use Rattle.hd_desk.specs.Laws.{Laws}
+use Rattle.hd_desk.specs.Cells.{HasRoomFor, IsShortOfRoom}
+use Rattle.hd_desk.specs.Laws.{CommandLaws}
 use Rattle.hd_desk.specs.DeskValue.{DeskValue}
-use Rattle.hd_desk.specs.Desks.{IsKept, contents, desk_of, facts}
+use Rattle.hd_desk.specs.Desks.{IsKeptDesk, contents, desk_of, facts}
 use Rattle.hd_desk.proofs.Following.{ending_is, findings_more, asked_more, known_more}
 use Rattle.hd_desk.proofs.Writing.{are-known, are-apart}
 
@@ -81,13 +82,13 @@ keep-more k d fs q n new goes are known is noted =
 
 -- the opening desk
 pub desk-opening : (copies : CopiesValue) (holds : HoldsValue) (k : Facts) → standing copies ≡ (λ c. Shelf (k.home c)) →
-    held holds ≡ (λ t p. None) → desk_of (record { copies = copies; holds = holds }) ≡ opening k
+    patron_hold holds ≡ (λ t p. None) → desk_of (record { copies = copies; holds = holds }) ≡ opening k
 unfolding desk_of
 desk-opening copies holds k at_home none = λ i. record { copy = at_home i; hold = none i }
 
 -- and what stays true of it
 pub desk-opened : (copies : CopiesValue) (holds : HoldsValue) (x : Contents) → copies.contents ≡ x →
-    standing copies ≡ (λ c. Shelf ((facts_of x).home c)) → held holds ≡ (λ t p. None) →
+    standing copies ≡ (λ c. Shelf ((facts_of x).home c)) → patron_hold holds ≡ (λ t p. None) →
     desk_of (record { copies = copies; holds = holds }) ≡ opening (facts_of copies.contents)
 desk-opened copies holds x same at_home none =
     desk-opening copies holds (facts_of copies.contents)
@@ -100,12 +101,12 @@ all-of-patrons n (h ∷ hs) all = (all.0, all-of-patrons n hs all.1)
 -- a queue as the one of a copy's title
 pub is-at : (d : DeskValue) (h : HoldsValue) (holds : List Hold) (copy : CopyFacts) (t : ℕ) → h ≡ d.holds → h.contents ≡ d.copies.contents →
     t ≡ (facts d).title_of copy.copy → copy.home ≡ (facts d).home copy.copy → copy.priority ≡ (facts d).priority t →
-    ((p : ℕ) → held h t p ≡ hold_of holds p) → AreOfPatrons (facts_of h.contents).patrons holds → IsAt (facts d) (desk_of d) holds copy
+    ((p : ℕ) → patron_hold h t p ≡ hold_of holds p) → AreOfPatrons (facts_of h.contents).patrons holds → IsAt (facts d) (desk_of d) holds copy
 unfolding desk_of
 is-at d h holds copy t same contents title home priority each patrons = record {
   home = sym home;
   priority = ap (facts d).priority (sym title) ∙ sym priority;
-  queue = λ p. sym (λ i. held (same i) (title i) p) ∙ each p;
+  queue = λ p. sym (λ i. patron_hold (same i) (title i) p) ∙ each p;
   patrons = all-of-patrons (facts d).patrons holds (subst (λ x. AreOfPatrons (facts_of x).patrons holds) contents patrons);
 }
 
@@ -124,20 +125,20 @@ chosen-known k holds (Some b) o is waits known =
 
 -- an accepted command's changes can be made
 pub record CanBeMade (k : Facts) (d : Desk) (n : ℕ) (done : Done) : Type 0 where
-  pub known : AreKnown k done.changes
+  pub known : AreKnownChanges k done.changes
   pub apart : AreApart done.changes
   pub fit : EachOnIsFit k done.changes d
   pub sound : Sound k (n + 1) (after done.changes d)
 
-pub can-be-made : Laws → (k : Facts) (d : Desk) (n : ℕ) (command : Command) (done : Done) → AreInRange k → IsKnownDesk k d →
+pub can-be-made : CommandLaws → (k : Facts) (d : Desk) (n : ℕ) (command : Command) (done : Done) → AreInRange k → IsKnownDesk k d →
     IsFit k d → IsKnownAction k command.action → Sound k n d → outcome k d (plan k n command) ≡ Ok done → CanBeMade k d n done
 can-be-made laws k d n command done range desk is_fit action sound is =
-    let fit : EachOnIsFit k done.changes d = laws.fit k d n command done sound is in
-    let after_it : AreChanges done.changes × Sound k (n + 1) (after done.changes d) = laws.sound k d n command done sound is in
+    let fit : EachOnIsFit k done.changes d = laws.commands.fit k d n command done sound is in
+    let after_it : AreChanges done.changes × Sound k (n + 1) (after done.changes d) = laws.commands.sound k d n command done sound is in
     record {
       known = are-known k d d done.changes desk is_fit after_it.0 (record {
-        known = (laws.known k d n command done range desk action is).changes;
-        old = λ c among. (laws.asked k d n command done is c among).1;
+        known = (laws.commands.known k d n command done range desk action is).changes;
+        old = λ c among. (laws.answers.written k d n command done is c among).1;
       }) fit;
       apart = are-apart done.changes after_it.0;
       fit = fit;
@@ -153,9 +154,9 @@ pub record Planned (d : DeskValue) (n : ℕ) (command : Command) (done : Done) (
   pub asks : asked ≡ asks (facts d) (desk_of d) (plan (facts d) n command)
   pub can : CanBeMade (facts d) (desk_of d) n done
 
-pub planned : Laws → (d : DeskValue) (n : ℕ) (command : Command) (q : InquiryValue) (r : Result Done Refusal)
+pub planned : CommandLaws → (d : DeskValue) (n : ℕ) (command : Command) (q : InquiryValue) (r : Result Done Refusal)
     (asked : List Question) (accepted done : Done) → q ≡ record { desk = d; asked = [] } → (r, asked) ≡ ending_of q (plan (facts q.desk) n command) →
-    r ≡ Ok accepted → done ≡ accepted → IsKept (facts d) (desk_of d) → IsKnownAction (facts d) command.action →
+    r ≡ Ok accepted → done ≡ accepted → IsKeptDesk (facts d) (desk_of d) → IsKnownAction (facts d) command.action →
     Sound (facts d) n (desk_of d) → Planned d n command done asked
 planned laws d n command q r asked accepted done start ends is same kept action sound =
     let f : Followed (facts d) (desk_of d) (plan (facts d) n command) r asked = followed d n command q r asked start ends in
@@ -168,15 +169,15 @@ planned laws d n command q r asked accepted done start ends is same kept action 
 
 -- once there is room for them
 pub record MayMake (e : DeskValue) (cs : List Change) : Type 0 where
-  pub known : AreKnown (facts e) cs
+  pub known : AreKnownChanges (facts e) cs
   pub apart : AreApart cs
   pub fit : EachOnIsFit (facts e) cs (desk_of e)
 
 pub may-make : (d e : DeskValue) (n : ℕ) (done : Done) (cs : List Change) → CanBeMade (facts d) (desk_of d) n done →
     contents e ≡ contents d → desk_of e ≡ desk_of d → cs ≡ done.changes → MayMake e cs
 may-make d e n done cs can same desk are = record {
-  known = subst (λ (xs : List Change). AreKnown (facts e) xs) (sym are)
-      (subst (λ x. AreKnown (facts_of x) done.changes) (sym same) can.known);
+  known = subst (λ (xs : List Change). AreKnownChanges (facts e) xs) (sym are)
+      (subst (λ x. AreKnownChanges (facts_of x) done.changes) (sym same) can.known);
   apart = subst AreApart (sym are) can.apart;
   fit = subst (λ (xs : List Change). EachOnIsFit (facts e) xs (desk_of e)) (sym are)
       (subst (λ (x : Desk). EachOnIsFit (facts e) done.changes x) (sym desk)
@@ -195,19 +196,19 @@ left-sound d e f n done cs can same desk are same_there made =
 -- a copy's view
 pub item-so : (d : DeskValue) (h : HoldsValue) (copy t : ℕ) (state : CopyState) (n : ℕ) → h ≡ d.holds → h.contents ≡ d.copies.contents →
     state ≡ (desk_of d).copy copy → t ≡ (facts d).title_of copy →
-    n ≡ count_below (λ p. is_some (held h t p)) (facts_of h.contents).patrons →
+    n ≡ count_below (λ p. is_some (patron_hold h t p)) (facts_of h.contents).patrons →
     record { state = state; holds = n } ≡ item_view (facts d) (desk_of d) copy
 unfolding desk_of
 item-so d h copy t state n same contents is title count = λ i. record {
   state = is i;
-  holds = (count ∙ (λ j. count_below (λ p. is_some (held (same j) (title j) p)) (facts_of (contents j)).patrons)) i;
+  holds = (count ∙ (λ j. count_below (λ p. is_some (patron_hold (same j) (title j) p)) (facts_of (contents j)).patrons)) i;
 }
 
 -- there was too little room
 pub was-short : {T E : Type 0} → (d : DeskValue) (o : Result Done Refusal) (done : Done) (cs : List Change) (r : Result T E) (b : Bool) →
     o ≡ Ok done → cs ≡ done.changes → b ≡ is_err r → b ≡ true → OnErr r (HaveRoom (HasRoomFor d) (length cs) cs → ⊥) →
-    IsShort d o (Err Memory)
+    IsShortOfRoom d o (Err Memory)
 was-short d o done cs (Ok x) b is are test on full = let t : true ≡ false = sym on ∙ test in cc
 was-short d o done cs (Err x) b is are test on full =
-    subst (λ (x : Result Done Refusal). IsShort d x (Err Memory)) (sym is)
+    subst (λ (x : Result Done Refusal). IsShortOfRoom d x (Err Memory)) (sym is)
     (subst (λ (xs : List Change). HaveRoom (HasRoomFor d) (length xs) xs → ⊥) are full)

@@ -10,16 +10,16 @@ use Rattle.hd_rules.specs.declared.cells.Value.TheVariants.{Copy as CopyHas, Hol
 use Rattle.hd_rules.specs.declared.cells.Change.{Change}
 use Rattle.hd_rules.specs.declared.commands.Command.{Command}
 use Rattle.hd_rules.specs.Facts.{Facts}
-use Rattle.hd_rules.specs.Desk.{Desk, after, put, same_cell, undone, value}
+use Rattle.hd_rules.specs.Desk.{Desk, after, put, same_cell, take_back, value}
 use Rattle.hd_rules.specs.Ask.{Done, outcome}
 use Rattle.hd_rules.specs.Run.{AreChanges, Elsewhere, Fits, IsAmong}
 use Rattle.hd_rules.specs.Sound.{EachBackIsFit, EachOnIsFit, IsFit, Sound}
 use Rattle.hd_rules.specs.Step.{plan}
 use Rattle.hd_catalogue.specs.Contents.{Contents, facts_of}
-use Rattle.hd_inverse.specs.Cells.{AreKnown, CanBeUndone}
+use Rattle.hd_inverse.specs.Cells.{AreKnownChanges, CanBeUndone}
 use Rattle.hd_desk.specs.DeskValue.{DeskValue}
 use Rattle.hd_desk.specs.Desks.{contents, desk_of, facts}
-use Rattle.hd_desk.specs.Laws.{Laws}
+use Rattle.hd_desk.specs.Laws.{CommandLaws}
 use Rattle.hd_desk.proofs.Writing.{are-apart, two-cells}
 
 copy-is : (a b : CopyState) → CopyHas a ≡ CopyHas b → a ≡ b
@@ -85,7 +85,7 @@ from-next d x v (c ∷ cs) apart from =
     (put-other d x v c.cell (two-cells c.cell x apart.0) ∙ from.0, from-next d x v cs apart.1 from.1)
 
 -- made one after another and taken back, the last one first, they leave the desk as it was
-back-where : (d : Desk) (cs : List Change) → AreChanges cs → AreFrom d cs → undone cs (after cs d) ≡ d
+back-where : (d : Desk) (cs : List Change) → AreChanges cs → AreFrom d cs → take_back cs (after cs d) ≡ d
 back-where d [] are from = refl
 back-where d (c ∷ cs) are from =
     ap (λ (e : Desk). put e c.cell c.old) (back-where (put d c.cell c.new) cs are.3 (from-next d c.cell c.new cs are.2 from.1))
@@ -101,22 +101,22 @@ back-fit k d (c ∷ cs) are from fit on = (
 )
 
 -- from the desk that they lead to
-back-again : Laws → (k : Facts) (d : Desk) (n : ℕ) (command : Command) (done : Done) → Sound k n d →
-    outcome k d (plan k n command) ≡ Ok done → AreKnown k done.changes → CanBeUndone k d (after done.changes d) done.changes
+back-again : CommandLaws → (k : Facts) (d : Desk) (n : ℕ) (command : Command) (done : Done) → Sound k n d →
+    outcome k d (plan k n command) ≡ Ok done → AreKnownChanges k done.changes → CanBeUndone k d (after done.changes d) done.changes
 back-again laws k d n command done sound is known =
     let is_fit : IsFit k d = record { named = sound.holds.named; stamps = sound.holds.apart; places = sound.places } in
-    let are : AreChanges done.changes = (laws.sound k d n command done sound is).0 in
-    let from : AreFrom d done.changes = are-from d done.changes (λ c among. (laws.asked k d n command done is c among).1) in
+    let are : AreChanges done.changes = (laws.commands.sound k d n command done sound is).0 in
+    let from : AreFrom d done.changes = are-from d done.changes (λ c among. (laws.answers.written k d n command done is c among).1) in
     record {
       known = known;
       apart = are-apart done.changes are;
-      fit = back-fit k d done.changes are from is_fit (laws.fit k d n command done sound is);
+      fit = back-fit k d done.changes are from is_fit (laws.commands.fit k d n command done sound is);
       before = back-where d done.changes are from;
     }
 
 -- the same of a desk that is kept
-pub taken-back : Laws → (d e : DeskValue) (n : ℕ) (command : Command) (done : Done) → Sound (facts d) n (desk_of d) →
-    outcome (facts d) (desk_of d) (plan (facts d) n command) ≡ Ok done → AreKnown (facts d) done.changes →
+pub taken-back : CommandLaws → (d e : DeskValue) (n : ℕ) (command : Command) (done : Done) → Sound (facts d) n (desk_of d) →
+    outcome (facts d) (desk_of d) (plan (facts d) n command) ≡ Ok done → AreKnownChanges (facts d) done.changes →
     contents e ≡ contents d → desk_of e ≡ after done.changes (desk_of d) →
     CanBeUndone (facts e) (desk_of d) (desk_of e) done.changes
 taken-back laws d e n command done sound is known same made =

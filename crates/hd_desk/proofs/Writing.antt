@@ -21,7 +21,7 @@ use Rattle.hd_rules.specs.Same.{same_value}
 use Rattle.hd_rules.specs.Laws.{TestsAreExact}
 use Rattle.hd_copies.specs.Standing.{IsWelcome}
 use Rattle.hd_holds.specs.Held.{IsWelcome as IsWelcomeHold}
-use Rattle.hd_inverse.specs.Cells.{AreApart, AreKnown, IsFromOne, MayHave}
+use Rattle.hd_inverse.specs.Cells.{AreApart, AreKnownChanges, IsFromOne, MayHave}
 
 -- what is put in a copy's cell is there
 here : (c : ℕ) (s v : CopyState) → cond (c == c) s v ≡ s
@@ -117,7 +117,7 @@ pub record Begin (k : Facts) (start : Desk) (cs : List Change) : Type 0 where
   pub old : (c : Change) → IsAmong c cs → value start c.cell ≡ c.old
 
 pub are-known : (k : Facts) (start d : Desk) (cs : List Change) → IsKnownDesk k start → IsFit k start → AreChanges cs →
-    Begin k start cs → EachOnIsFit k cs d → AreKnown k cs
+    Begin k start cs → EachOnIsFit k cs d → AreKnownChanges k cs
 are-known k start d [] desk fit are begin on = tt
 are-known k start d (c ∷ cs) desk fit are begin on =
     let first : IsKnownCell k c.cell × IsKnownValue k c.new = begin.known c (inl refl) in (

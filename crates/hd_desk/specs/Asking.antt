@@ -34,9 +34,9 @@ abbrev pub ending_of : InquiryValue → Plan → Result Done Refusal × List Que
 ending_of q plan = ending (facts q.desk) (desk_of q.desk) plan q.asked
 
 -- a change, or none, as a list
-abbrev pub listed : Option Change → List Change
-listed None = []
-listed (Some change) = change ∷ []
+abbrev pub as_list : Option Change → List Change
+as_list None = []
+as_list (Some change) = change ∷ []
 
 -- questions about things of the catalogue
 abbrev pub AreKnownQuestions : Facts → List Question → Type 0

@@ -15,7 +15,7 @@ use Rattle.hd_desk.specs.DoneValue.{DoneValue}
 use Rattle.hd_desk.specs.declared.refused.Refused.{Refused}
 use Rattle.hd_desk.specs.declared.refused.Refused.TheVariants.{Rule, Memory}
 use Rattle.hd_inverse.specs.Cells.{HaveRoom}
-pub use Rattle.hd_inverse.specs.Work.{written}
+pub use Rattle.hd_inverse.specs.Work.{after_writes}
 
 -- room for that many more holds of the title, or for a copy where it goes; the end of a hold needs none
 abbrev pub IsReadyFor : DeskValue → Cell → Value → ℕ → Type 0
@@ -30,8 +30,8 @@ abbrev pub HasRoomFor : DeskValue → Cell → Value → ℕ → Type 0
 HasRoomFor d cell v more = value (desk_of d) cell ≢ v → IsReadyFor d cell v more
 
 -- memory is wanting only where there is too little room for what the command changes
-abbrev pub IsShort : DeskValue → Result Done Refusal → Result DoneValue Refused → Type 0
-IsShort d (Ok done) (Err Memory) = HaveRoom (HasRoomFor d) (length done.changes) done.changes → ⊥
-IsShort d (Ok done) (Err (Rule refusal)) = Unit {0}
-IsShort d (Ok done) (Ok told) = Unit {0}
-IsShort d (Err refusal) result = Unit {0}
+abbrev pub IsShortOfRoom : DeskValue → Result Done Refusal → Result DoneValue Refused → Type 0
+IsShortOfRoom d (Ok done) (Err Memory) = HaveRoom (HasRoomFor d) (length done.changes) done.changes → ⊥
+IsShortOfRoom d (Ok done) (Err (Rule refusal)) = Unit {0}
+IsShortOfRoom d (Ok done) (Ok told) = Unit {0}
+IsShortOfRoom d (Err refusal) result = Unit {0}

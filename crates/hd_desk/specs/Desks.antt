@@ -10,7 +10,7 @@ use Rattle.hd_rules.specs.Sound.{IsFit}
 use Rattle.hd_rules.specs.Step.{plan, due_day, last_day}
 use Rattle.hd_catalogue.specs.Contents.{Contents, facts_of}
 use Rattle.hd_copies.specs.Standing.{standing}
-use Rattle.hd_holds.specs.Held.{held}
+use Rattle.hd_holds.specs.Held.{patron_hold}
 use Rattle.hd_desk.specs.DeskValue.{DeskValue}
 
 -- what its catalogue says
@@ -22,11 +22,11 @@ facts d = facts_of d.copies.contents
 
 -- where each copy is, and each patron's hold of each title
 unfoldable pub desk_of : DeskValue → Desk
-desk_of d = record { copy = standing d.copies; hold = held d.holds }
+desk_of d = record { copy = standing d.copies; hold = patron_hold d.holds }
 
 -- What stays true of a desk: its catalogue keeps to the limits, its cells name things of the catalogue, and
 -- it is fit.
-pub record IsKept (k : Facts) (d : Desk) : Type 0 where
+pub record IsKeptDesk (k : Facts) (d : Desk) : Type 0 where
   pub range : AreInRange k
   pub known : IsKnownDesk k d
   pub fit : IsFit k d

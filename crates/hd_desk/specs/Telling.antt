@@ -7,7 +7,7 @@ use Rattle.hd_desk.specs.declared.refused.Refused.TheVariants.{Rule, Memory}
 use Rattle.hd_desk.specs.DoneValue.{DoneValue, done_of}
 
 -- Exactly the outcome; only what the rules accept can want memory.
-abbrev pub IsTold : Result Done Refusal → Result DoneValue Refused → Type 0
-IsTold outcome (Ok done) = outcome ≡ Ok (done_of done)
-IsTold outcome (Err (Rule refusal)) = outcome ≡ Err refusal
-IsTold outcome (Err Memory) = IsOk outcome
+abbrev pub IsItsOutcome : Result Done Refusal → Result DoneValue Refused → Type 0
+IsItsOutcome outcome (Ok done) = outcome ≡ Ok (done_of done)
+IsItsOutcome outcome (Err (Rule refusal)) = outcome ≡ Err refusal
+IsItsOutcome outcome (Err Memory) = IsOk outcome

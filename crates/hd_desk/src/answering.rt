@@ -2,9 +2,10 @@
 #![tactic(auto, unfolding(crate::specs::Desks::desk_of))]
 
 ghost use Rattle.std.specs.Prelude.{◌≡◌, ◌<◌};
-ghost use Rattle.hd_rules.specs.Ask.{told};
+ghost use Rattle.hd_rules.specs.Notes.{told_answer};
 ghost use Rattle.hd_desk.specs.Asking.{IsQueueOf};
-ghost use Rattle.hd_rules.specs.Choose.{choice, loans, on_shelf, place, position};
+ghost use Rattle.hd_rules.specs.Find.{choice, place};
+ghost use Rattle.hd_rules.specs.Choose.{loans, on_shelf, position};
 ghost use Rattle.hd_rules.specs.Known.{IsKnownHeld, IsKnownQuestion};
 ghost use Rattle.hd_desk.specs.Desks.{desk_of, facts};
 
@@ -20,7 +21,7 @@ impl<A: Allocator + Copy> Desk<A> {
     /// The answer to a question about what the desk's catalogue names. It takes no memory.
     pub fn answer(&self, question: &Question) -> Answer
         requires { IsKnownQuestion (facts self.now) question.now }
-        ensures { result ≡ told (facts self.now) (desk_of self.now) question.now }
+        ensures { result ≡ told_answer (facts self.now) (desk_of self.now) question.now }
     {
         match question {
             Question::Value(Cell::Copy(copy)) => Answer::Value(Value::Copy(self.copy(*copy))),

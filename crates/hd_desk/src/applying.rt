@@ -8,14 +8,14 @@ ghost use Rattle.hd_rules.specs.Known.{IsKnownAction};
 ghost use Rattle.hd_rules.specs.Record.{findings};
 ghost use Rattle.hd_rules.specs.Sound.{Sound};
 ghost use Rattle.hd_rules.specs.Step.{plan};
-ghost use Rattle.hd_footprint.specs.Meter.{add};
+ghost use Rattle.hd_footprint.specs.Meter.{with_one_more};
 ghost use Rattle.hd_footprint.specs.declared.count.Count.TheVariants.{Step};
 ghost use Rattle.hd_desk.specs.Asking.{ending_of};
 ghost use Rattle.hd_inverse.specs.Cells.{CanBeUndone};
-ghost use Rattle.hd_inverse.specs.Work.{written};
-ghost use Rattle.hd_desk.specs.Cells.{IsShort};
+ghost use Rattle.hd_inverse.specs.Work.{after_writes};
+ghost use Rattle.hd_desk.specs.Cells.{IsShortOfRoom};
 ghost use Rattle.hd_desk.specs.Desks.{contents, desk_of, facts, outcome_at};
-ghost use Rattle.hd_desk.specs.Telling.{IsTold};
+ghost use Rattle.hd_desk.specs.Telling.{IsItsOutcome};
 
 use crate::accepted::Accepted;
 use crate::desk::Desk;
@@ -46,21 +46,21 @@ impl<A: Allocator + Copy> Desk<A> {
     ) -> Result<Done, Refused>
         requires known { IsKnownAction (facts self.old) command.now.action }
         requires sound { Sound (facts self.old) number (desk_of self.old) }
-        ensures outcome { IsTold (outcome_at self.old number command.now) result }
+        ensures outcome { IsItsOutcome (outcome_at self.old number command.now) result }
         ensures findings { IfOk result (λ done. done.findings
             ≡ findings (facts self.old) (desk_of self.old)
             (asks (facts self.old) (desk_of self.old) (plan (facts self.old) number command.now))) }
         ensures after { IfOk result (λ done. desk_of self.new ≡ after done.changes (desk_of self.old)) }
-        ensures full { IsShort self.old (outcome_at self.old number command.now) result }
+        ensures full { IsShortOfRoom self.old (outcome_at self.old number command.now) result }
         ensures back { IfOk result (λ done. CanBeUndone (facts self.new) (desk_of self.old)
             (desk_of self.new) done.changes) }
         ensures unchanged { OnErr result (desk_of self.new ≡ desk_of self.old) }
         ensures contents { contents self.new ≡ contents self.old }
         ensures sound { Sound (facts self.new) (number + 1) (desk_of self.new) }
         ensures later { (n : ℕ) → number < n → Sound (facts self.new) n (desk_of self.new) }
-        ensures step { OnErr result (meter.new ≡ add meter.old Step) }
+        ensures step { OnErr result (meter.new ≡ with_one_more meter.old Step) }
         ensures written { IfOk result (λ done. meter.new
-            ≡ written (length done.changes) (add meter.old Step)) }
+            ≡ after_writes (length done.changes) (with_one_more meter.old Step)) }
     {
         laws();
         meter.add(Count::Step);

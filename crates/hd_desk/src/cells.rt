@@ -9,8 +9,8 @@ ghost use Rattle.hd_rules.specs.Known.{IsKnownCell};
 ghost use Rattle.hd_rules.specs.Same.{same_value};
 ghost use Rattle.hd_rules.specs.Sound.{EachOnIsFit, IsFit};
 ghost use Rattle.hd_footprint.specs.Meter.{Counts};
-ghost use Rattle.hd_inverse.specs.Cells.{AreApart, AreKnown, HaveRoom, MayHave};
-ghost use Rattle.hd_inverse.specs.Work.{written};
+ghost use Rattle.hd_inverse.specs.Cells.{AreApart, AreKnownChanges, HaveRoom, MayHave};
+ghost use Rattle.hd_inverse.specs.Work.{after_writes};
 ghost use Rattle.hd_desk.specs.Desks.{contents, desk_of, facts};
 ghost use Rattle.hd_desk.specs.Cells.{HasRoomFor, IsReadyFor};
 ghost use Rattle.hd_desk.specs.Rooms.{fewer};
@@ -96,13 +96,13 @@ impl<A: Allocator + Copy> Desk<A> {
 
     /// Makes the changes, one after another. It takes no memory.
     pub(crate) fn make(&mut self, changes: &[Change], meter: &mut Meter)
-        requires known { AreKnown (facts self.old) changes.now }
+        requires known { AreKnownChanges (facts self.old) changes.now }
         requires apart { AreApart changes.now }
         requires room { HaveRoom (HasRoomFor self.old) (length changes.now) changes.now }
         requires fit { EachOnIsFit (facts self.old) changes.now (desk_of self.old) }
         ensures desk { desk_of self.new ≡ after changes.now (desk_of self.old) }
         ensures contents { contents self.new ≡ contents self.old }
-        ensures meter { meter.new ≡ written (length changes.now) meter.old }
+        ensures meter { meter.new ≡ after_writes (length changes.now) meter.old }
     {
         for change in changes {
             self.put(change.cell, change.new);

@@ -8,7 +8,7 @@ ghost use Rattle.hd_rules.specs.Known.{IsKnownHeld, IsKnownState};
 ghost use Rattle.hd_rules.specs.Sound.{Sound};
 ghost use Rattle.hd_rules.specs.Turns.{item_view};
 ghost use Rattle.hd_catalogue.specs.Contents.{facts_of};
-ghost use Rattle.hd_desk.specs.Desks.{IsKept, contents, desk_of, facts};
+ghost use Rattle.hd_desk.specs.Desks.{IsKeptDesk, contents, desk_of, facts};
 
 use hd_catalogue::Catalogue;
 use hd_copies::Copies;
@@ -43,14 +43,14 @@ impl<A: Allocator> Model for Desk<A> {
     ghost use Rattle.std.specs.Prelude.{◌≡◌};
     ghost use Rattle.hd_catalogue.specs.Contents.{facts_of};
     ghost use Rattle.hd_desk.specs.DeskValue.{DeskValue};
-    ghost use Rattle.hd_desk.specs.Desks.{IsKept, desk_of};
+    ghost use Rattle.hd_desk.specs.Desks.{IsKeptDesk, desk_of};
 
     ghost Value = { DeskValue };
 
     ghost view = { λ d. record { copies = d.copies; holds = d.holds } };
 
     ghost invariant = { λ d. (d.holds.contents ≡ d.copies.contents)
-        × IsKept (facts_of d.copies.contents) (desk_of (record { copies = d.copies; holds = d.holds })) };
+        × IsKeptDesk (facts_of d.copies.contents) (desk_of (record { copies = d.copies; holds = d.holds })) };
 }
 
 impl<A: Allocator + Copy> Desk<A> {
@@ -90,7 +90,7 @@ impl<A: Allocator + Copy> Desk<A> {
         requires { copy < (facts self.now).copies }
         ensures state { result ≡ (desk_of self.now).copy copy }
         ensures known { IsKnownState (facts self.now) result }
-        ensures kept { IsKept (facts self.now) (desk_of self.now) }
+        ensures kept { IsKeptDesk (facts self.now) (desk_of self.now) }
     {
         self.copies.get(copy)
     }
@@ -101,7 +101,7 @@ impl<A: Allocator + Copy> Desk<A> {
         requires { title < (facts self.now).titles }
         ensures held { result ≡ (desk_of self.now).hold title patron }
         ensures known { IsKnownHeld (facts self.now) result }
-        ensures kept { IsKept (facts self.now) (desk_of self.now) }
+        ensures kept { IsKeptDesk (facts self.now) (desk_of self.now) }
     {
         self.holds.get(title, patron)
     }

@@ -6,9 +6,10 @@ ghost use Rattle.hd_rules.specs.declared.cells.Change.{Change};
 ghost use Rattle.hd_rules.specs.declared.replies.Reply.TheVariants.{Held};
 ghost use Rattle.hd_rules.specs.Ask.{Plan};
 ghost use Rattle.hd_rules.specs.Known.{IsKnownHeld, IsKnownState};
-ghost use Rattle.hd_rules.specs.Step.{add, change, change_to, changed as as_changed, delete, delete_with};
+ghost use Rattle.hd_rules.specs.Step.{add, change, change_to, changed_hold as as_changed, delete};
+ghost use Rattle.hd_rules.specs.Step.{delete_with};
 ghost use Rattle.hd_rules.specs.Step.{release};
-ghost use Rattle.hd_desk.specs.Asking.{ending_of, listed};
+ghost use Rattle.hd_desk.specs.Asking.{ending_of, as_list};
 ghost use Rattle.hd_desk.specs.Desks.{facts};
 
 use crate::accepted::{Accepted, copy_becomes, hold_becomes};
@@ -108,7 +109,7 @@ impl<'a, A: Allocator + Copy> Inquiry<'a, A> {
         ensures desk { self.new.desk ≡ self.old.desk }
         ensures released { (rest : List Change → Plan)
             → ending_of self.old (release (facts self.old.desk) copy day old.now rest)
-            ≡ ending_of self.new (rest (listed result.copy ++ listed result.gets)) }
+            ≡ ending_of self.new (rest (as_list result.copy ++ as_list result.gets)) }
         ensures both { result.copy ≡ None → result.gets ≡ None }
     {
         match old {

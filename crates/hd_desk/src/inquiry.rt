@@ -8,12 +8,14 @@ ghost use Rattle.hd_rules.specs.declared.cells.Cell.TheVariants.{Copy as CopyCel
 ghost use Rattle.hd_rules.specs.declared.cells.Value.TheVariants.{Copy as CopyHas, Hold as HoldHas};
 ghost use Rattle.hd_rules.specs.declared.questions.Noted.TheVariants as noted;
 ghost use Rattle.hd_rules.specs.Ask.{answer};
-ghost use Rattle.hd_rules.specs.Choose.{choice, loans, on_shelf, place, position};
+ghost use Rattle.hd_rules.specs.Find.{choice, place};
+ghost use Rattle.hd_rules.specs.Choose.{loans, on_shelf, position};
 ghost use Rattle.hd_rules.specs.Known.{IsKnownHeld, IsKnownState};
-ghost use Rattle.hd_rules.specs.Record.{findings, note};
+ghost use Rattle.hd_rules.specs.Record.{findings};
+ghost use Rattle.hd_rules.specs.Notes.{note};
 ghost use Rattle.hd_rules.specs.Known.{IsKnownQuestion};
 ghost use Rattle.hd_desk.specs.Asking.{AreKnownQuestions};
-ghost use Rattle.hd_desk.specs.Desks.{IsKept, desk_of, facts};
+ghost use Rattle.hd_desk.specs.Desks.{IsKeptDesk, desk_of, facts};
 
 use crate::desk::Desk;
 use hd_footprint::Findings;
@@ -52,7 +54,7 @@ impl<'a, A: Allocator + Copy> Inquiry<'a, A> {
     /// Nothing is asked yet.
     pub(crate) fn new(desk: &'a Desk<A>) -> Inquiry<'a, A>
         ensures start { result ≡ record { desk = desk.now; asked = [] } }
-        ensures kept { IsKept (facts desk.now) (desk_of desk.now) }
+        ensures kept { IsKeptDesk (facts desk.now) (desk_of desk.now) }
     {
         Inquiry {
             desk,

@@ -6,7 +6,7 @@ ghost use Rattle.hd_rules.specs.declared.copies.CopyState.TheVariants.{OnLoan as
 ghost use Rattle.hd_rules.specs.Ask.{Plan};
 ghost use Rattle.hd_rules.specs.Settle.{hold_becomes as change_of_hold};
 ghost use Rattle.hd_rules.specs.Step.{cannot_renew, checkout_at, due_day, is_wanted, lend, lend_from_shelf};
-ghost use Rattle.hd_rules.specs.Step.{lend_held, lent, renew_at, renew_loan};
+ghost use Rattle.hd_rules.specs.Step.{lend_held, make_loan, renew_at, renew_loan};
 ghost use Rattle.hd_desk.specs.Asking.{ending_of};
 ghost use Rattle.hd_desk.specs.Desks.{facts};
 
@@ -150,7 +150,7 @@ impl<'a, A: Allocator + Copy> Inquiry<'a, A> {
         requires due { due ≡ due_day (facts self.now.desk) message.now.copy message.now.day }
         requires few { length ends.now ≤ 1 }
         ensures { (result, self.now.asked)
-            ≡ ending_of self.now (lent (facts self.now.desk) message.now.number message.now.patron
+            ≡ ending_of self.now (make_loan (facts self.now.desk) message.now.number message.now.patron
             message.now.copy message.now.day old.now ends.now) }
     {
         let loan = CopyState::OnLoan(Loan {

@@ -4,8 +4,8 @@
 ghost use Rattle.std.specs.Prelude.{◌≡◌, ◌<◌, ◌≤◌, ◌∷◌, ◌++◌, [], ℕ, length};
 ghost use Rattle.hd_rules.specs.Facts.{Facts};
 ghost use Rattle.hd_rules.specs.Choose.{admits};
-ghost use Rattle.hd_rules.specs.Step.{ended, ends_with, freed, lend_off_line, off_line};
-ghost use Rattle.hd_desk.specs.Asking.{ending_of, listed};
+ghost use Rattle.hd_rules.specs.Step.{end_of_hold, ends_with, release_of_hold, lend_off_line, off_line};
+ghost use Rattle.hd_desk.specs.Asking.{ending_of, as_list};
 ghost use Rattle.hd_desk.specs.Desks.{facts};
 
 use crate::accepted::{Accepted, copy_becomes, hold_becomes};
@@ -55,7 +55,7 @@ impl<'a, A: Allocator + Copy> Inquiry<'a, A> {
     ) -> Option<Change>
         requires copy { copy < (facts self.now.desk).copies }
         requires title { title ≡ (facts self.now.desk).title_of copy }
-        ensures { listed result ≡ ended (facts self.now.desk) copy patron held.now }
+        ensures { as_list result ≡ end_of_hold (facts self.now.desk) copy patron held.now }
     {
         match held {
             Some(hold) if self.ends_with(copy, hold) => {
@@ -94,7 +94,7 @@ impl<'a, A: Allocator + Copy> Inquiry<'a, A> {
         requires copy { copy < (facts self.now.desk).copies }
         ensures { (result, self.now.asked)
             ≡ ending_of self.now (lend_off_line (facts self.now.desk) number patron copy due old.now
-            (listed ended.now ++ listed freed.now)) }
+            (as_list ended.now ++ as_list freed.now)) }
     {
         let loan = CopyState::OnLoan(Loan {
             patron,
@@ -119,7 +119,7 @@ impl<'a, A: Allocator + Copy> Inquiry<'a, A> {
 /// The hold that the loan takes the copy from, which keeps its place in the queue.
 fn freed(title: TitleNo, patron: PatronNo, held: &Option<Hold>) -> Option<Change>
     ensures { (k : Facts) (copy : ℕ) → k.title_of copy ≡ title
-        → listed result ≡ freed k copy patron held.now }
+        → as_list result ≡ release_of_hold k copy patron held.now }
 {
     let hold = held.as_ref()?;
     Some(hold_becomes(title, patron, held, &Some(with_copy(None, hold))))

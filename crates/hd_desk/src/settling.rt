@@ -3,8 +3,8 @@
 #![tactic(auto)]
 
 ghost use Rattle.std.specs.Prelude.{◌≡◌, ◌<◌};
-ghost use Rattle.hd_allocate.specs.Settling.{changes_of};
-ghost use Rattle.hd_desk.specs.Asking.{listed};
+ghost use Rattle.hd_allocate.specs.Settling.{hold_changes};
+ghost use Rattle.hd_desk.specs.Asking.{as_list};
 ghost use Rattle.hd_desk.specs.Desks.{facts};
 
 use crate::accepted::hold_becomes;
@@ -56,7 +56,7 @@ impl<'a, A: Allocator + Copy> Inquiry<'a, A> {
     /// The change of the hold that gets the copy, if one does.
     pub(crate) fn change_of(&self, copy: CopyNo, gets: &Option<Allotment>) -> Option<Change>
         requires { copy < (facts self.now.desk).copies }
-        ensures { listed result ≡ changes_of (facts self.now.desk) copy gets.now }
+        ensures { as_list result ≡ hold_changes (facts self.now.desk) copy gets.now }
     {
         let gets = gets.as_ref()?;
         let title = self.desk.title_of(copy);

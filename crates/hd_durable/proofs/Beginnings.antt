@@ -1,7 +1,8 @@
 -- The changing turns of a beginning, and of what comes after it.
 use Rattle.std.proofs.Common.{◌≡◌, refl, ap, Bool, true, false, if◌then◌else◌, List, [], ◌∷◌, ◌++◌}
 use Rattle.hd_rules.specs.Facts.{Facts}
-use Rattle.hd_rules.specs.Turns.{State, turn_of}
+use Rattle.hd_rules.specs.Turns.{State}
+use Rattle.hd_rules.specs.Machine.{turn_of}
 use Rattle.hd_rules.specs.Journal.{Turn, state_from}
 use Rattle.hd_journal.specs.Changing.{is_changing, changing_from}
 

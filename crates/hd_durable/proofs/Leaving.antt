@@ -5,7 +5,8 @@ use Rattle.hd_rules.specs.declared.turns.Asked.{Asked}
 use Rattle.hd_rules.specs.declared.replies.TurnReply.{TurnReply}
 use Rattle.hd_rules.specs.declared.turns.Asked.TheVariants as ask
 use Rattle.hd_rules.specs.Facts.{Facts}
-use Rattle.hd_rules.specs.Turns.{Message, State, repeated, answered_new, answered_unless, turn_of}
+use Rattle.hd_rules.specs.Turns.{Message, State}
+use Rattle.hd_rules.specs.Machine.{reply_again, answered_new, answered_unless, turn_of}
 use Rattle.hd_rules.specs.Journal.{Turn, state_from, IsLegalFrom}
 use Rattle.hd_journal.specs.Asks.{is_query}
 use Rattle.hd_journal.specs.Changing.{is_changing, changing_from}
@@ -23,7 +24,7 @@ leaves_unless k s m (Some reply) is = refl
 leaves_unless k s m None is = leaves_new k s m m.asked is
 
 pub leaves : (k : Facts) (s : State) (m : Message) → is_changing s m ≡ false → (turn_of k s m).state ≡ s
-leaves k s m is = leaves_unless k s m (repeated s m) is
+leaves k s m is = leaves_unless k s m (reply_again s m) is
 
 pub state_changing : (k : Facts) (s : State) (turns : List Turn)
     → state_from k s (changing_from k s turns) ≡ state_from k s turns

@@ -1,7 +1,8 @@
 -- What is proved of the turns that change something.
 use Rattle.std.specs.Prelude.{◌≡◌, ◌≤◌, false, if◌then◌else◌, List, [], ◌∷◌, ◌++◌, length}
 use Rattle.hd_rules.specs.Facts.{Facts}
-use Rattle.hd_rules.specs.Turns.{Message, State, turn_of}
+use Rattle.hd_rules.specs.Turns.{Message, State}
+use Rattle.hd_rules.specs.Machine.{turn_of}
 use Rattle.hd_rules.specs.Journal.{Turn, IsLegal, state_after}
 use Rattle.hd_journal.specs.Changing.{is_changing, changing_from, changing}
 use Rattle.hd_durable.specs.Durable.{IsLeft}

@@ -5,10 +5,10 @@ ghost use Rattle.std.specs.Prelude.{option_map, take};
 ghost use Rattle.std.specs.Arc.{arc_value};
 ghost use Rattle.hd_catalogue.specs.Contents.{facts_of};
 ghost use Rattle.hd_rules.specs.Journal.{IsLegal, Turn as TurnValue};
-ghost use Rattle.hd_journal.specs.Asks.{IsKnownMessage, replied};
+ghost use Rattle.hd_journal.specs.Asks.{IsKnownMessage, turn_with_reply};
 ghost use Rattle.hd_journal.specs.Books.{IsLegalBook, facts, turn_numbered};
 ghost use Rattle.hd_journal.specs.Changing.{changing};
-ghost use Rattle.hd_journal.specs.Shown.{shown};
+ghost use Rattle.hd_journal.specs.Shown.{turn_shown};
 ghost use Rattle.hd_durable.specs.Durable.{IsLeft};
 
 use crate::fault::DurableFault;
@@ -89,7 +89,7 @@ impl<T: TurnTable, A: Allocator + Copy> DurableJournal<T, A> {
     pub fn take(&mut self, ask: OwnedAsk<A>) -> Result<Turn, DurableFault>
         requires { IsKnownMessage (facts_of self.old.contents) ask.message }
         ensures turn { IfOk result (λ made.
-            self.new.turns ≡ self.old.turns ++ replied ask made.reply ∷ []) }
+            self.new.turns ≡ self.old.turns ++ turn_with_reply ask made.reply ∷ []) }
         ensures number { IfOk result (λ made. made.at ≡ length self.new.turns) }
         ensures committed { OnOk result ((left : List TurnValue) → T.leaves self.new.table left
             → left ≡ changing (facts_of self.new.contents) self.new.turns) }
@@ -136,7 +136,7 @@ impl<T: TurnTable, A: Allocator + Copy> DurableJournal<T, A> {
 
     /// The turn of a number, from 1, or `None` where none was answered.
     pub fn turn_at(&self, at: usize) -> Option<TurnRef<'_>>
-        ensures { option_map shown result ≡ turn_numbered self.now.turns at }
+        ensures { option_map turn_shown result ≡ turn_numbered self.now.turns at }
     {
         if at > self.answered {
             return None;

@@ -4,7 +4,7 @@ ghost use Rattle.std.specs.Prelude.{◌≡◌, ◌⊎◌, ◌++◌, ◌∷◌, [
 ghost use Rattle.hd_rules.specs.Journal.{IsLegal, Turn};
 ghost use Rattle.hd_catalogue.specs.Contents.{Contents, facts_of};
 ghost use Rattle.hd_journal.specs.Asks.{IsKnownMessage};
-ghost use Rattle.hd_journal.specs.Shown.{shown};
+ghost use Rattle.hd_journal.specs.Shown.{turn_shown};
 
 use hd_journal::TurnRef;
 
@@ -29,15 +29,15 @@ pub trait TurnTable {
     /// # Errors
     /// Where it can't be written. A stop may then leave the turn or not, and the table is to be used no more.
     fn commit(&mut self, turn: &TurnRef<'_>) -> Result<(), NotCommitted>
-        requires { IsKnownMessage (facts_of (contents self.old)) (shown turn.now).message }
+        requires { IsKnownMessage (facts_of (contents self.old)) (turn_shown turn.now).message }
         ensures ok { OnOk result ((turns : List Turn)
-            → IsLegal (facts_of (contents self.old)) (turns ++ shown turn.now ∷ [])
-            → holds self.old turns → holds self.new (turns ++ shown turn.now ∷ [])) }
+            → IsLegal (facts_of (contents self.old)) (turns ++ turn_shown turn.now ∷ [])
+            → holds self.old turns → holds self.new (turns ++ turn_shown turn.now ∷ [])) }
         ensures settled { OnOk result ((turns left : List Turn) → holds self.new turns
             → leaves self.new left → left ≡ turns) }
         ensures err { OnErr result ((turns left : List Turn)
-            → IsLegal (facts_of (contents self.old)) (turns ++ shown turn.now ∷ [])
+            → IsLegal (facts_of (contents self.old)) (turns ++ turn_shown turn.now ∷ [])
             → holds self.old turns → leaves self.new left
-            → (left ≡ turns) ⊎ (left ≡ turns ++ shown turn.now ∷ [])) }
+            → (left ≡ turns) ⊎ (left ≡ turns ++ turn_shown turn.now ∷ [])) }
         ensures contents { contents self.new ≡ contents self.old };
 }

@@ -9,9 +9,9 @@ use Rattle.hd_rules.specs.declared.replies.TurnReply.{TurnReply}
 use Rattle.hd_rules.specs.declared.replies.TurnReply.TheVariants.{Refused}
 use Rattle.hd_rules.specs.declared.turns.Asked.{Asked}
 use Rattle.hd_catalogue.specs.Contents.{Contents}
-use Rattle.hd_journal.specs.Asks.{replied, sent}
+use Rattle.hd_journal.specs.Asks.{turn_with_reply, message_of}
 use Rattle.hd_journal.specs.declared.ask.Ask.{Ask}
-use Rattle.hd_exchange.specs.Answers.{IsAnswer, IsAnswerTo, IsDeskAnswer, IsTold, asked_in}
+use Rattle.hd_exchange.specs.Answers.{IsAnswer, IsAnswerTo, IsDeskAnswer, IsAnsweredSo, asked_in}
 use Rattle.hd_exchange.specs.Arrivals.{Arrival}
 use Rattle.hd_exchange.specs.Asks.{kind_of}
 use Rattle.hd_exchange.specs.Messages.{IsBodyOf}
@@ -25,7 +25,7 @@ module _ (k seen : Contents) (message : DeskMessage) (reply : Reply) (here : see
   -- by the reply to what it asked
   pub answered : (ask : Ask) (asked : Asked) (told : TurnReply) → asked ≡ ask.asked → message.asks ≡ Ok ask
       → kind_of ask.asked ≡ message.kind → IsReply seen (kind_of asked) message.repeated (Ok asked) told reply
-      → IsDeskAnswer k message (reply_text reply) (replied (sent ask) told ∷ [])
+      → IsDeskAnswer k message (reply_text reply) (turn_with_reply (message_of ask) told ∷ [])
   answered ask asked told same is kind says =
       let at : IsReply k (kind_of asked) message.repeated (Ok asked) told reply =
       subst (λ (c : Contents). IsReply c (kind_of asked) message.repeated (Ok asked) told reply) here says in
@@ -35,7 +35,7 @@ module _ (k seen : Contents) (message : DeskMessage) (reply : Reply) (here : see
       subst (λ kind. IsReply k kind message.repeated (Ok ask.asked) told reply) kind of_ask in
       record {
         told = told;
-        turn = subst (λ (asks : Result Ask Refusal). IsTold asks told (replied (sent ask) told ∷ [])) (sym is) refl;
+        turn = subst (λ (asks : Result Ask Refusal). IsAnsweredSo asks told (turn_with_reply (message_of ask) told ∷ [])) (sym is) refl;
         reply = reply;
         says =
             subst (λ (asks : Result Ask Refusal). IsReply k message.kind message.repeated (asked_in asks) told reply)
@@ -49,7 +49,7 @@ module _ (k seen : Contents) (message : DeskMessage) (reply : Reply) (here : see
       → IsDeskAnswer k message (reply_text reply) []
   refused refusal is says = record {
     told = Refused refusal;
-    turn = subst (λ (asks : Result Ask Refusal). IsTold asks (Refused refusal) []) (sym is) (refl, refl);
+    turn = subst (λ (asks : Result Ask Refusal). IsAnsweredSo asks (Refused refusal) []) (sym is) (refl, refl);
     reply = reply;
     says =
         subst (λ (c : Contents). IsReply c message.kind message.repeated (asked_in message.asks) (Refused refusal) reply)

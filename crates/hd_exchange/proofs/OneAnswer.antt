@@ -19,9 +19,9 @@ use Rattle.hd_rules.specs.declared.replies.TurnReply.{TurnReply}
 use Rattle.hd_rules.specs.declared.replies.TurnReply.TheVariants.{Refused}
 use Rattle.hd_rules.specs.declared.turns.Asked.{Asked}
 use Rattle.hd_catalogue.specs.Contents.{Contents}
-use Rattle.hd_journal.specs.Asks.{SeatMessage, replied}
+use Rattle.hd_journal.specs.Asks.{SeatMessage, turn_with_reply}
 use Rattle.hd_journal.specs.declared.ask.Ask.{Ask}
-use Rattle.hd_exchange.specs.Answers.{IsAnswer, IsAnswerTo, IsDeskAnswer, IsTold, SaysStatus, asked_in, login_after, login_text}
+use Rattle.hd_exchange.specs.Answers.{IsAnswer, IsAnswerTo, IsDeskAnswer, IsAnsweredSo, SaysStatus, asked_in, login_after, login_answer_text}
 use Rattle.hd_exchange.specs.Arrivals.{Arrival, ask_of}
 use Rattle.hd_exchange.specs.Dates.{AreDatesOf, IsReadAs as IsDate, IsReadIfAny, IsStatedAs, PrintsDate}
 use Rattle.hd_exchange.specs.Messages.{IsAskedAs, IsMessageOf, IsMessageRead, IsRequestAs, IsUnreadableAs, Stated, asked_by}
@@ -47,13 +47,13 @@ AreOne made made' says says' text text' next next' =
 abbrev IsToldSo : Arrival → Result Asked Refusal → TurnReply → List Turn → Type 0
 IsToldSo arrival (Err refusal) told made = (told ≡ Refused refusal) × (made ≡ [])
 IsToldSo arrival (Ok asked) told made =
-    (at : LoggedIn) × (arrival.login ≡ Some at) × (made ≡ replied (ask_of arrival at asked) told ∷ [])
+    (at : LoggedIn) × (arrival.login ≡ Some at) × (made ≡ turn_with_reply (ask_of arrival at asked) told ∷ [])
 
 told_so : (arrival : Arrival) (asked : Result Asked Refusal) (asks : Result Ask Refusal) (told : TurnReply) (made : List Turn)
-    → IsAskedAs arrival asked asks → IsTold asks told made → IsToldSo arrival asked told made
+    → IsAskedAs arrival asked asks → IsAnsweredSo asks told made → IsToldSo arrival asked told made
 told_so arrival (Err refusal) (Err first) told made is turn = (turn.0 ∙ ap Refused is, turn.1)
 told_so arrival (Ok asked) (Ok ask) told made is turn =
-    (is.0, is.1, turn ∙ ap (λ (m : SeatMessage). replied m told ∷ []) is.2)
+    (is.0, is.1, turn ∙ ap (λ (m : SeatMessage). turn_with_reply m told ∷ []) is.2)
 told_so arrival (Err refusal) (Ok ask) told made none turn = absurd none
 told_so arrival (Ok asked) (Err first) told made none turn = absurd none
 
@@ -79,7 +79,7 @@ one_told arrival (Err refusal) told told' made made' p q =
 one_told arrival (Ok asked) told told' made made' p q =
     let at : p.0 ≡ q.0 = same_Some _ _ (sym p.1 ∙ q.1) in (
       ap (λ (t : List Turn). messages_of t) p.2
-          ∙ (ap (λ (l : LoggedIn). messages_of (replied (ask_of arrival l asked) told ∷ [])) at
+          ∙ (ap (λ (l : LoggedIn). messages_of (turn_with_reply (ask_of arrival l asked) told ∷ [])) at
           ∙ ap (λ (t : List Turn). messages_of t) (sym q.2)),
       λ same. ap (λ (t : List Turn). first_told told t) (sym p.2 ∙ (same ∙ q.2)),
     )
@@ -141,7 +141,7 @@ module _ (print_one : (stamp : Stamp) (text other : List ℕ) → Prints stamp t
       -- what a message that comes to this is answered
       abbrev IsAnswered : Arrival → Gist → Said → List ℕ → List Turn → Option LoggedIn → Type 0
       IsAnswered arrival (Taken taken) says text made next =
-          (says ≡ said.Reply) × (text ≡ login_text taken) × (made ≡ []) × (next ≡ login_after login taken)
+          (says ≡ said.Reply) × (text ≡ login_answer_text taken) × (made ≡ []) × (next ≡ login_after login taken)
       IsAnswered arrival Reported says text made next = (says ≡ said.Reply) × SaysStatus k now text × (made ≡ []) × (next ≡ login)
       IsAnswered arrival Repeats says text made next = (says ≡ said.LastReply) × (text ≡ []) × (made ≡ []) × (next ≡ login)
       IsAnswered arrival Unknown says text made next = (says ≡ said.SendAgain) × (text ≡ []) × (made ≡ []) × (next ≡ login)
@@ -156,7 +156,7 @@ module _ (print_one : (stamp : Stamp) (text other : List ℕ) → Prints stamp t
             → IsAnswerTo k now login (OfMessage.Session (own.Login taken)) says text made next
             → IsAnswered arrival (Taken named) says text made next
         taken_so taken named is a =
-            (a.0, a.1 ∙ ap (λ (t : Option LoggedIn). login_text t) is, a.2, a.3 ∙ ap (λ (t : Option LoggedIn). login_after login t) is)
+            (a.0, a.1 ∙ ap (λ (t : Option LoggedIn). login_answer_text t) is, a.2, a.3 ∙ ap (λ (t : Option LoggedIn). login_after login t) is)
 
         of_request : (request : Request) (message : Message) → IsRequestAs k arrival request message
             → IsAnswerTo k now login message says text made next → IsAnswered arrival (gist k request) says text made next

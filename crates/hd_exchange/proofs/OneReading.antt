@@ -5,7 +5,7 @@ use Rattle.std.proofs.lemmas.Option.{same_Some}
 use Rattle.std.specs.Option.{option_copied}
 use Rattle.std.specs.Str.{bytes_eq}
 use Rattle.hd_message.specs.Hold.{AreWishes, AreWishesOf, has_wishes}
-use Rattle.hd_message.specs.Reading.{IsMessage, IsRequest, IsUnreadable, IsUnreadableMessage, States}
+use Rattle.hd_message.specs.Reading.{IsMessage, IsRequest, IsUnreadable, IsUnreadableMessage, StatesRequest}
 use Rattle.hd_message.specs.Table.{code_of, fields_part, fixed_part, fixed_width}
 use Rattle.hd_message.specs.declared.kind.DeskKind.{DeskKind}
 use Rattle.hd_message.specs.declared.kind.DeskKind.TheVariants as Desks
@@ -60,7 +60,7 @@ number_of (Item request) = 6
 number_of Resend = 7
 number_of Unsupported = 8
 
-numbered : (code fixed part : List ℕ) (request : Request) → States code fixed part request → number code ≡ number_of request
+numbered : (code fixed part : List ℕ) (request : Request) → StatesRequest code fixed part request → number code ≡ number_of request
 unfolding number
 numbered code fixed part (Login request) h = ap number h.0
 numbered code fixed part Status h = ap number h
@@ -168,7 +168,7 @@ module _ (k : Contents) where
   gist_read (Err unreadable) = unread unreadable
 
   -- two requests that one text states
-  one_stated : (code fixed part : List ℕ) (a b : Request) → number_of a ≡ number_of b → States code fixed part a → States code fixed part b
+  one_stated : (code fixed part : List ℕ) (a b : Request) → number_of a ≡ number_of b → StatesRequest code fixed part a → StatesRequest code fixed part b
       → gist a ≡ gist b
   one_stated code fixed part (Login a) (Login b) same (at, p) (there, q) =
       let clear : a.clear ≡ b.clear = p.clear ∙ sym q.clear in
@@ -225,10 +225,10 @@ module _ (k : Contents) where
       width_is body a p ∙ (ap (λ (c : List ℕ). width c) code ∙ sym (width_is body b q)) in
       let fixed : fixed_part p.kind body ≡ fixed_part q.kind body = ap (λ (n : ℕ). take n body) wide in
       let part : fields_part p.kind body ≡ fields_part q.kind body = ap (λ (n : ℕ). drop n body) wide in
-      let states : States (code_of p.kind) (fixed_part p.kind body) (fields_part p.kind body) b =
-      subst (λ (c : List ℕ). States c (fixed_part p.kind body) (fields_part p.kind body) b) (sym code)
-      (subst (λ (f : List ℕ). States (code_of q.kind) f (fields_part p.kind body) b) (sym fixed)
-      (subst (λ (t : List ℕ). States (code_of q.kind) (fixed_part q.kind body) t b) (sym part) q.states)) in
+      let states : StatesRequest (code_of p.kind) (fixed_part p.kind body) (fields_part p.kind body) b =
+      subst (λ (c : List ℕ). StatesRequest c (fixed_part p.kind body) (fields_part p.kind body) b) (sym code)
+      (subst (λ (f : List ℕ). StatesRequest (code_of q.kind) f (fields_part p.kind body) b) (sym fixed)
+      (subst (λ (t : List ℕ). StatesRequest (code_of q.kind) (fixed_part q.kind body) t b) (sym part) q.states)) in
       let here = numbered (code_of p.kind) (fixed_part p.kind body) (fields_part p.kind body) a p.states in
       let there = numbered (code_of p.kind) (fixed_part p.kind body) (fields_part p.kind body) b states in
       one_stated (code_of p.kind) (fixed_part p.kind body) (fields_part p.kind body) a b (sym here ∙ there) p.states states

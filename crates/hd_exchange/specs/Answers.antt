@@ -11,7 +11,7 @@ use Rattle.hd_rules.specs.declared.replies.TurnReply.{TurnReply}
 use Rattle.hd_rules.specs.declared.replies.TurnReply.TheVariants.{Refused}
 use Rattle.hd_rules.specs.declared.turns.Asked.{Asked}
 use Rattle.hd_catalogue.specs.Contents.{Contents}
-use Rattle.hd_journal.specs.Asks.{replied, sent}
+use Rattle.hd_journal.specs.Asks.{turn_with_reply, message_of}
 use Rattle.hd_journal.specs.declared.ask.Ask.{Ask}
 use Rattle.hd_exchange.specs.Arrivals.{Arrival}
 use Rattle.hd_exchange.specs.Messages.{IsBodyOf}
@@ -27,9 +27,9 @@ use Rattle.hd_exchange.specs.declared.said.Said.TheVariants as said
 
 -- what a message is told, and the turns that this makes: what is refused beforehand makes none, and all else
 -- one
-abbrev pub IsTold : Result Ask Refusal → TurnReply → List Turn → Type 0
-IsTold (Err refusal) told made = (told ≡ Refused refusal) × (made ≡ [])
-IsTold (Ok ask) told made = made ≡ replied (sent ask) told ∷ []
+abbrev pub IsAnsweredSo : Result Ask Refusal → TurnReply → List Turn → Type 0
+IsAnsweredSo (Err refusal) told made = (told ≡ Refused refusal) × (made ≡ [])
+IsAnsweredSo (Ok ask) told made = made ≡ turn_with_reply (message_of ask) told ∷ []
 
 -- what it asks, without the seat, the terminal and the line
 abbrev pub asked_in : Result Ask Refusal → Result Asked Refusal
@@ -41,14 +41,14 @@ asked_in (Err refusal) = Err refusal
 pub record IsDeskAnswer (k : Contents) (message : DeskMessage) (text : List ℕ) (made : List Turn)
     : Type 0 where
   pub told : TurnReply
-  pub turn : IsTold message.asks told made
+  pub turn : IsAnsweredSo message.asks told made
   pub reply : Reply
   pub says : IsReply k message.kind message.repeated (asked_in message.asks) told reply
   pub spelled : text ≡ reply_text reply
 
 -- the text of the reply to a login: whether it is taken
-abbrev pub login_text : Option LoggedIn → List ℕ
-login_text made = reply_text (reply.Login (record { taken = is_some made }))
+abbrev pub login_answer_text : Option LoggedIn → List ℕ
+login_answer_text made = reply_text (reply.Login (record { taken = is_some made }))
 
 -- as whom the session is then logged in: as before where the login isn't taken
 abbrev pub login_after : Option LoggedIn → Option LoggedIn → Option LoggedIn
@@ -76,7 +76,7 @@ login_alone login _ = login
 
 -- and the text of its reply, where it has one
 abbrev pub IsTextAlone : Contents → Stamp → SessionMessage → List ℕ → Type 0
-IsTextAlone k now (Login taken) text = text ≡ login_text taken
+IsTextAlone k now (Login taken) text = text ≡ login_answer_text taken
 IsTextAlone k now Status text = SaysStatus k now text
 IsTextAlone k now _ text = text ≡ []
 

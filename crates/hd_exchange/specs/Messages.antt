@@ -24,7 +24,7 @@ use Rattle.hd_rules.specs.declared.replies.Refusal.{Refusal}
 use Rattle.hd_rules.specs.declared.replies.Refusal.TheVariants as refusal
 use Rattle.hd_rules.specs.declared.turns.Asked.{Asked}
 use Rattle.hd_catalogue.specs.Contents.{Contents, terminal_number}
-use Rattle.hd_journal.specs.Asks.{IsKnownMessage as IsKnownAsk, sent}
+use Rattle.hd_journal.specs.Asks.{IsKnownMessage as IsKnownAsk, message_of}
 use Rattle.hd_journal.specs.declared.ask.Ask.{Ask}
 use Rattle.hd_exchange.specs.Arrivals.{Arrival, IsKnownLogin, ask_of, login_of}
 use Rattle.hd_exchange.specs.Asks.{checkin_asks, checkout_asks, item_asks, kind_of, need, renew_asks}
@@ -140,7 +140,7 @@ asked_by login stated dates = need login refusal.NotLoggedIn (λ at. stated.asks
 abbrev pub IsAskedAs : Arrival → Result Asked Refusal → Result Ask Refusal → Type 0
 IsAskedAs arrival (Err refusal) (Err first) = first ≡ refusal
 IsAskedAs arrival (Ok asked) (Ok ask) =
-    (at : LoggedIn) × (arrival.login ≡ Some at) × (sent ask ≡ ask_of arrival at asked)
+    (at : LoggedIn) × (arrival.login ≡ Some at) × (message_of ask ≡ ask_of arrival at asked)
 IsAskedAs _ _ _ = ⊥
 
 -- The message is one that states this: what its reply repeats of it, and what it asks, or its first refusal.
@@ -163,7 +163,7 @@ bytes_repeated r =
 -- An ask of a message of this kind: it is one of this seat, and all that it names is the catalogue's.
 pub record IsAskAt (k : Facts) (seat : ℕ) (kind : DeskKind) (ask : Ask) : Type 0 where
   pub of_kind : kind_of ask.asked ≡ kind
-  pub known : IsKnownAsk k (sent ask).message
+  pub known : IsKnownAsk k (message_of ask).message
   pub at_seat : ask.seat ≡ seat
 
 -- the terminal that a login names: one with encrypted values names none
@@ -227,6 +227,6 @@ IsKnownOwn k (own.Login made) = ForSome made (IsKnownLogin k)
 IsKnownOwn k _ = ⊤
 
 -- what a message names is the catalogue's
-abbrev pub IsKnownMessage : Facts → ℕ → Message → Type 0
-IsKnownMessage k seat (OfMessage.Session message) = IsKnownOwn k message
-IsKnownMessage k seat (OfMessage.Desk message) = IsAskable k seat message
+abbrev pub NamesKnownThings : Facts → ℕ → Message → Type 0
+NamesKnownThings k seat (OfMessage.Session message) = IsKnownOwn k message
+NamesKnownThings k seat (OfMessage.Desk message) = IsAskable k seat message

@@ -2,7 +2,7 @@
 ghost use Rattle.std.specs.Prelude.{◌≡◌, ◌≤◌, [], length};
 ghost use Rattle.std.specs.Option.{option_copied, unwrap_or};
 ghost use Rattle.hd_catalogue.specs.Contents.{facts_of};
-ghost use Rattle.hd_message.specs.Lengths.{IsDate, IsName, IsReturnShort};
+ghost use Rattle.hd_message.specs.Lengths.{IsPrintedDate, IsName, IsReturnShort};
 ghost use Rattle.hd_rules.specs.Known.{IsKnownState};
 ghost use Rattle.hd_exchange.specs.CheckinReplies.{IsWhereabouts};
 ghost use Rattle.hd_exchange.specs.Messages.{bytes_repeated};
@@ -25,7 +25,7 @@ pub(crate) fn checkin_reply<'a, A: Allocator + Copy>(
     ensures outcome { result.outcome ≡ outcome.entry }
 
     // It prints a date, the institution's name, and no more of the message than it repeats.
-    ensures short { IsDate result.date.now
+    ensures short { IsPrintedDate result.date.now
         × IsName result.institution.now
         × (length result.copy.now ≤ bytes_repeated repeated.now) }
 {

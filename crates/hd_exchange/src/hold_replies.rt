@@ -1,7 +1,7 @@
 //! The replies to hold messages.
 ghost use Rattle.std.specs.Prelude.{◌≡◌, ◌≤◌, ◌+◌, [], length};
 ghost use Rattle.std.specs.Option.{option_copied, unwrap_or};
-ghost use Rattle.hd_message.specs.Lengths.{IsDate, IsName, bytes_of};
+ghost use Rattle.hd_message.specs.Lengths.{IsPrintedDate, IsName, bytes_of};
 ghost use Rattle.hd_exchange.specs.Messages.{bytes_repeated};
 
 use crate::repeated::Repeated;
@@ -23,7 +23,7 @@ pub(crate) fn hold_reply<'a, A: Allocator + Copy>(
 
     // It prints a date, the institution's name, and with the message's title no more of the message than it
     // repeats.
-    ensures short { IsDate result.date.now
+    ensures short { IsPrintedDate result.date.now
         × IsName result.institution.now
         × (length result.patron.now + bytes_of (option_copied result.copy)
         + bytes_of (option_copied repeated.now.title) ≤ bytes_repeated repeated.now) }

@@ -1,7 +1,7 @@
 //! What a message comes with.
 ghost use Rattle.std.specs.Prelude.{◌≡◌, option_map};
 ghost use Rattle.hd_exchange.specs.Arrivals.{ask_of};
-ghost use Rattle.hd_journal.specs.Asks.{sent};
+ghost use Rattle.hd_journal.specs.Asks.{message_of};
 
 use crate::login::Login;
 use hd_date::Stamp18;
@@ -76,7 +76,7 @@ impl<'a> Incoming<'a> {
 
     /// What a terminal asks by the message.
     pub(crate) fn ask(&self, login: &Login, asked: Asked) -> Ask<'a>
-        ensures { sent result ≡ ask_of self.now login.now asked }
+        ensures { message_of result ≡ ask_of self.now login.now asked }
     {
         Ask::new(self.seat, login.terminal, asked, self.line)
     }

@@ -2,7 +2,7 @@
 ghost use Rattle.std.specs.Prelude.{◌≡◌, ◌<◌, ◌≤◌, [], Ok, length};
 ghost use Rattle.std.specs.Option.{option_copied, unwrap_or};
 ghost use Rattle.hd_catalogue.specs.Contents.{facts_of};
-ghost use Rattle.hd_message.specs.Lengths.{IsCopyShort, IsDate, IsItemShort};
+ghost use Rattle.hd_message.specs.Lengths.{IsCopyShort, IsPrintedDate, IsItemShort};
 ghost use Rattle.hd_rules.specs.Known.{IsKnownState};
 ghost use Rattle.hd_rules.specs.declared.replies.TurnReply.TheVariants as turn;
 ghost use Rattle.hd_rules.specs.declared.turns.Asked.TheVariants as ask;
@@ -22,7 +22,7 @@ pub(crate) fn item_reply<'a>(repeated: &'a Repeated<'a>, outcome: ItemOutcome<'a
     ensures outcome { result.outcome ≡ outcome.entry }
 
     // It prints a date, and no more of the message than it repeats.
-    ensures short { IsDate result.date.now × (length result.copy.now ≤ bytes_repeated repeated.now) }
+    ensures short { IsPrintedDate result.date.now × (length result.copy.now ≤ bytes_repeated repeated.now) }
 {
     ItemReply {
         date: &repeated.date,

@@ -1,10 +1,10 @@
 //! One message of a terminal, from the body of its line to the text of its reply, over any office that takes
 //! its turn.
 //!
-//! `messages` reads it. One that asks nothing of the desk is answered `alone`. Of another `requests` make what
-//! it asks, by its `dates` and its `names`, as `checkouts`, `checkins`, `holds`, `renewals` or `items` say;
-//! `desk` makes its turn at an `office`. `replies` says what came of it, where it was `accepted`, or took
-//! something back (`cancellations`), or was refused (`refusals`); and `writing` appends the text. The
+//! `messages` reads it. One that asks nothing of the desk is answered `alone`. Of another `requests` make
+//! what it asks, by its `dates` and its `names`, as `checkouts`, `checkins`, `holds`, `renewals` or `items`
+//! say; `desk` makes its turn at an `office`. `replies` says what came of it, where it was `accepted`, or
+//! took something back (`cancellations`), or was refused (`refusals`); and `writing` appends the text. The
 //! definitions stand in `specs/`, in the order that `specs/Lib.antt` tells.
 #![tactic(auto)]
 

@@ -1,7 +1,7 @@
 //! The replies to checkouts and to renewals.
 ghost use Rattle.std.specs.Prelude.{◌≡◌, ◌≤◌, ◌+◌, [], length};
 ghost use Rattle.std.specs.Option.{option_copied, unwrap_or};
-ghost use Rattle.hd_message.specs.Lengths.{IsDate, IsName};
+ghost use Rattle.hd_message.specs.Lengths.{IsPrintedDate, IsName};
 ghost use Rattle.hd_exchange.specs.Messages.{bytes_repeated};
 
 use crate::repeated::Repeated;
@@ -22,7 +22,7 @@ pub(crate) fn loan_reply<'a, A: Allocator + Copy>(
     ensures outcome { result.outcome ≡ outcome.entry }
 
     // It prints a date, the institution's name, and no more of the message than it repeats.
-    ensures short { IsDate result.date.now
+    ensures short { IsPrintedDate result.date.now
         × IsName result.institution.now
         × (length result.patron.now + length result.copy.now ≤ bytes_repeated repeated.now) }
 {

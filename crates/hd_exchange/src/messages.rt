@@ -4,7 +4,7 @@ ghost use Rattle.std.specs.Option.{ForSome};
 ghost use Rattle.hd_message.specs.Repeated.{repeated_bytes};
 ghost use Rattle.hd_catalogue.specs.Contents.{facts_of};
 ghost use Rattle.hd_exchange.specs.Arrivals.{IsKnownLogin};
-ghost use Rattle.hd_exchange.specs.Messages.{IsBodyOf, IsKnownMessage, IsRequestAs};
+ghost use Rattle.hd_exchange.specs.Messages.{IsBodyOf, NamesKnownThings, IsRequestAs};
 
 use crate::checkins::checkin_values;
 use crate::checkouts::checkout_values;
@@ -29,7 +29,7 @@ pub(crate) fn message_of<'a, A: Allocator + Copy>(
     requires login { ForSome incoming.now.login (IsKnownLogin (facts_of catalogue.now)) }
     requires short { length body.now ≤ 1024 }
     ensures message { IsBodyOf catalogue.now incoming.now body.now result }
-    ensures known { IsKnownMessage (facts_of catalogue.now) incoming.now.seat result }
+    ensures known { NamesKnownThings (facts_of catalogue.now) incoming.now.seat result }
 {
     repeated_values_fit_their_body();
     match read(body) {
@@ -51,7 +51,7 @@ fn message_read<'a, A: Allocator + Copy>(
     requires login { ForSome incoming.now.login (IsKnownLogin (facts_of catalogue.now)) }
     requires short { repeated_bytes request.now ≤ 1024 }
     ensures message { IsRequestAs catalogue.now incoming.now request.now result }
-    ensures known { IsKnownMessage (facts_of catalogue.now) incoming.now.seat result }
+    ensures known { NamesKnownThings (facts_of catalogue.now) incoming.now.seat result }
 {
     match request {
         Request::Login(request) => {

@@ -4,7 +4,7 @@ ghost use Rattle.hd_rules.specs.Journal.{Turn};
 ghost use Rattle.hd_rules.specs.Known.{IsKnownTurnReply};
 ghost use Rattle.hd_rules.specs.Replies.{IsReplyTo};
 ghost use Rattle.hd_catalogue.specs.Contents.{facts_of};
-ghost use Rattle.hd_journal.specs.Asks.{IsKnownMessage, replied, sent};
+ghost use Rattle.hd_journal.specs.Asks.{IsKnownMessage, turn_with_reply, message_of};
 ghost use Rattle.hd_exchange.specs.declared.fault.OfficeFault.{OfficeFault};
 ghost use Rattle.hd_exchange.specs.Offices.{Keeps};
 
@@ -42,9 +42,9 @@ pub trait Office<A: Allocator> {
     /// Its reply is one to what was asked and names things of the catalogue. At a fault there is no turn.
     fn turn(&mut self, ask: &Ask<'_>) -> Result<Turn, OfficeFault>
         requires seat { ask.now.seat ≡ (keeps self.old).seat }
-        requires known { IsKnownMessage (facts_of (keeps self.old).contents) (sent ask.now).message }
+        requires known { IsKnownMessage (facts_of (keeps self.old).contents) (message_of ask.now).message }
         ensures turn { IfOk result (λ made.
-            turns self.new ≡ turns self.old ++ replied (sent ask.now) made.reply ∷ []) }
+            turns self.new ≡ turns self.old ++ turn_with_reply (message_of ask.now) made.reply ∷ []) }
         ensures reply { IfOk result (λ made. IsReplyTo ask.now.asked made.reply) }
         ensures names { IfOk result (λ made.
             IsKnownTurnReply (facts_of (keeps self.old).contents) made.reply) }

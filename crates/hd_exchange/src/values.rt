@@ -1,8 +1,8 @@
 //! The values of a message that are read and repeated.
 use hd_message::DeskKind;
 
-/// The values of a message that asks something of the desk, as far as they are read, or repeated, the same way
-/// in all such messages.
+/// The values of a message that asks something of the desk, as far as they are read, or repeated, the same
+/// way in all such messages.
 #[derive(Clone, Copy)]
 pub(crate) struct Values<'a> {
     /// What kind of message it is.

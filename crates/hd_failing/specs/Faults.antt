@@ -12,17 +12,17 @@ HasFault (fault.FailsAt call) number = call ≡ number
 HasFault (fault.InterruptedAt call times) number = (call ≤ number) × (number < call + times)
 
 -- how the calls fail that do
-abbrev pub kind_of : Fault → ErrorKind
-kind_of (fault.InterruptedAt call times) = Interrupted
-kind_of fault = Other
+abbrev pub fault_kind : Fault → ErrorKind
+fault_kind (fault.InterruptedAt call times) = Interrupted
+fault_kind fault = Other
 
 -- the number of the next call: at the greatest one it stays
-abbrev pub next_number : ℕ → ℕ
-next_number number = min (number + 1) (2 ^ 64 - 1)
+abbrev pub next_call : ℕ → ℕ
+next_call number = min (number + 1) (2 ^ 64 - 1)
 
 -- A reader: the bytes that it has left, how many it gives at a call at most, which calls fail, and how many
 -- there were.
-pub record Reading : Type 0 where
+pub record ReaderState : Type 0 where
   pub rest : List ℕ
   pub piece : ℕ
   pub fault : Fault

@@ -1,7 +1,7 @@
 //! The calls of a reader or a writer.
 ghost use Rattle.std.specs.Prelude.{◌≡◌, IfErr, OnErr, OnOk};
 ghost use Rattle.std.specs.IoError.{error_kind};
-ghost use Rattle.hd_failing.specs.Faults.{HasFault, kind_of, next_number};
+ghost use Rattle.hd_failing.specs.Faults.{HasFault, fault_kind, next_call};
 
 use crate::fault::Fault;
 use std::io;
@@ -28,9 +28,9 @@ impl Calls {
     /// # Errors
     /// Where it is one that fails.
     pub(crate) fn call(&mut self) -> io::Result<()>
-        ensures counted { self.new ≡ record { count = next_number self.old.count; fault = self.old.fault } }
+        ensures counted { self.new ≡ record { count = next_call self.old.count; fault = self.old.fault } }
         ensures fails { OnErr result (HasFault self.old.fault self.old.count) }
-        ensures kind { IfErr result (λ error. error_kind error ≡ kind_of self.old.fault) }
+        ensures kind { IfErr result (λ error. error_kind error ≡ fault_kind self.old.fault) }
         ensures well { OnOk result (¬ HasFault self.old.fault self.old.count) }
     {
         let number = self.count;

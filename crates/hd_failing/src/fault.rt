@@ -1,6 +1,6 @@
 //! Which calls fail.
 ghost use Rattle.std.specs.Prelude.{◌≡◌, IfNone, IfSome};
-ghost use Rattle.hd_failing.specs.Faults.{HasFault, kind_of};
+ghost use Rattle.hd_failing.specs.Faults.{HasFault, fault_kind};
 
 use std::io::ErrorKind;
 
@@ -18,7 +18,7 @@ pub enum Fault {
 impl Fault {
     /// How the call of this number fails, if it does.
     pub(crate) fn kind_at(&self, number: usize) -> Option<ErrorKind>
-        ensures fails { IfSome result (λ kind. HasFault self.now number × (kind ≡ kind_of self.now)) }
+        ensures fails { IfSome result (λ kind. HasFault self.now number × (kind ≡ fault_kind self.now)) }
         ensures well { IfNone result (¬ HasFault self.now number) }
     {
         match *self {

@@ -1,8 +1,8 @@
-//! A reader and a writer for tests: they give and take bytes in small pieces, fail at the call that they are told
-//! to, and count their calls.
+//! A reader and a writer for tests: they give and take bytes in small pieces, fail at the call that they are
+//! told to, and count their calls.
 //!
-//! They show how a program bears a read or a write that fails, at each of its calls, and one that is interrupted.
-//! They aren't part of the product.
+//! They show how a program bears a read or a write that fails, at each of its calls, and one that is
+//! interrupted. They aren't part of the product.
 #![tactic(auto)]
 
 mod calls;

@@ -3,7 +3,7 @@ ghost use Rattle.std.specs.Prelude.{◌≡◌, ⊤, Some, IfErr, OnErr, OnOk, If
 ghost use Rattle.std.specs.Io.{ReadsAtMost};
 ghost use Rattle.std.specs.Io.KnownBytes.{ReadConsumes};
 ghost use Rattle.std.specs.IoError.{error_kind};
-ghost use Rattle.hd_failing.specs.Faults.{HasFault, kind_of, next_number};
+ghost use Rattle.hd_failing.specs.Faults.{HasFault, fault_kind, next_call};
 
 use crate::calls::Calls;
 use crate::fault::Fault;
@@ -21,9 +21,9 @@ pub struct FailingReader<'a> {
 
 impl<'a> Model for FailingReader<'a> {
     ghost use Rattle.std.specs.Prelude.{◌<◌};
-    ghost use Rattle.hd_failing.specs.Faults.{Reading};
+    ghost use Rattle.hd_failing.specs.Faults.{ReaderState};
 
-    ghost Value = { Reading };
+    ghost Value = { ReaderState };
 
     ghost view = { λ reader. record {
       rest = reader.rest.now;
@@ -62,12 +62,12 @@ impl Read for FailingReader<'_> {
         ensures bound { ReadsAtMost result piece.new }
         ensures bytes { ReadConsumes (Some self.old.rest) (Some self.new.rest) result piece.new }
         ensures fails { OnErr result (HasFault self.old.fault self.old.calls) }
-        ensures kind { IfErr result (λ error. error_kind error ≡ kind_of self.old.fault) }
+        ensures kind { IfErr result (λ error. error_kind error ≡ fault_kind self.old.fault) }
         ensures count { IfOk result (λ count. count
             ≡ min (length self.old.rest) (min (length piece.old) self.old.piece)) }
         ensures well { OnOk result (¬ HasFault self.old.fault self.old.calls) }
         ensures same { (self.new.piece ≡ self.old.piece) × (self.new.fault ≡ self.old.fault) }
-        ensures counted { self.new.calls ≡ next_number self.old.calls }
+        ensures counted { self.new.calls ≡ next_call self.old.calls }
     {
         self.calls.call()?;
         let room = piece.len().min(self.piece);

@@ -3,7 +3,7 @@ ghost use Rattle.std.specs.Prelude.{◌≡◌, ◌-◌, ◌^◌, ⊤, [], Some, 
 ghost use Rattle.std.specs.Io.{WritesAtMost};
 ghost use Rattle.std.specs.Io.KnownBytes.{Keeps, WriteAppends};
 ghost use Rattle.std.specs.IoError.{error_kind};
-ghost use Rattle.hd_failing.specs.Faults.{HasFault, kind_of, next_number};
+ghost use Rattle.hd_failing.specs.Faults.{HasFault, fault_kind, next_call};
 
 use crate::calls::Calls;
 use crate::fault::Fault;
@@ -15,8 +15,8 @@ use std::marker::Model;
 /// How many bytes a writer has room for.
 pub const ROOM: usize = 16_384;
 
-/// Takes bytes, up to `ROOM` of them, but at the calls that fail. A call that fails takes no byte. Where it is
-/// full it takes none either, and says so.
+/// Takes bytes, up to `ROOM` of them, but at the calls that fail. A call that fails takes no byte. Where it
+/// is full it takes none either, and says so.
 #[derive(Drop)]
 pub struct FailingWriter {
     written: ArrayVec<u8, ROOM>,
@@ -78,12 +78,12 @@ impl Write for FailingWriter {
         ensures bound { WritesAtMost result bytes.now }
         ensures bytes { WriteAppends (Some self.old.written) (Some self.new.written) result bytes.now }
         ensures fails { OnErr result (HasFault self.old.fault self.old.calls) }
-        ensures kind { IfErr result (λ error. error_kind error ≡ kind_of self.old.fault) }
+        ensures kind { IfErr result (λ error. error_kind error ≡ fault_kind self.old.fault) }
         ensures count { IfOk result (λ count. count
             ≡ min (16384 - length self.old.written) (min (length bytes.now) self.old.piece)) }
         ensures well { OnOk result (¬ HasFault self.old.fault self.old.calls) }
         ensures same { (self.new.piece ≡ self.old.piece) × (self.new.fault ≡ self.old.fault) }
-        ensures counted { self.new.calls ≡ next_number self.old.calls }
+        ensures counted { self.new.calls ≡ next_call self.old.calls }
     {
         self.calls.call()?;
         let length = bytes.len().min(self.piece);

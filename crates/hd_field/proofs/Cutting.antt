@@ -5,7 +5,7 @@ use Rattle.std.proofs.Common.{ap₂, true≢false, ◌<◌}
 use Rattle.std.proofs.lemmas.List.{take_all}
 use Rattle.std.proofs.lemmas.List.Elements.{Contains-append_right}
 use Rattle.std.proofs.lemmas.Bool.Decides.{nat_tests}
-use Rattle.hd_field.specs.Streams.{Begun, after, after_return, lines_in, with_byte, without_feeds}
+use Rattle.hd_field.specs.Streams.{Begun, begun_after, after_return, lines_in, with_byte, without_feeds}
 
 abbrev pub begun_so : Bool → List ℕ → Bool → Begun
 begun_so fresh text too_long = record { fresh = fresh; text = text; too_long = too_long }
@@ -15,36 +15,36 @@ pub no_lines_after : (fresh : Bool) (text bytes : List ℕ) → lines_in (begun_
 no_lines_after fresh text [] = refl
 no_lines_after fresh text (byte ∷ bytes) = refl
 
-pub nothing_after : (fresh : Bool) (text bytes : List ℕ) → after (begun_so fresh text true) bytes ≡ begun_so fresh text true
+pub nothing_after : (fresh : Bool) (text bytes : List ℕ) → begun_after (begun_so fresh text true) bytes ≡ begun_so fresh text true
 nothing_after fresh text [] = refl
 nothing_after fresh text (byte ∷ bytes) = refl
 
 -- the lines of a text that is cut in two
 pub lines_append : (fresh : Bool) (text : List ℕ) (too_long : Bool) (xs ys : List ℕ)
     → lines_in (begun_so fresh text too_long) (xs ++ ys) ≡ lines_in (begun_so fresh text too_long) xs
-    ++ lines_in (after (begun_so fresh text too_long) xs) ys
+    ++ lines_in (begun_after (begun_so fresh text too_long) xs) ys
 lines_append fresh text too_long [] ys = refl
 lines_append fresh text true (byte ∷ bytes) ys = sym (no_lines_after fresh text ys)
 lines_append fresh text false (byte ∷ bytes) ys =
     let next = with_byte (begun_so fresh text false) byte in
     elim (byte == 13) as
     (λ t. (if t then text ∷ lines_in after_return (bytes ++ ys) else lines_in next (bytes ++ ys))
-    ≡ (if t then text ∷ lines_in after_return bytes else lines_in next bytes) ++ lines_in (if t then after after_return bytes
-    else after next bytes) ys) [
+    ≡ (if t then text ∷ lines_in after_return bytes else lines_in next bytes) ++ lines_in (if t then begun_after after_return bytes
+    else begun_after next bytes) ys) [
       | true ↦ ap (λ (lines : List (List ℕ)). text ∷ lines) (lines_append true [] false bytes ys)
       | false ↦ lines_append next.fresh next.text next.too_long bytes ys
     ]
 
 -- what has come after it
 pub after_append : (fresh : Bool) (text : List ℕ) (too_long : Bool) (xs ys : List ℕ)
-    → after (begun_so fresh text too_long) (xs ++ ys) ≡ after (after (begun_so fresh text too_long) xs) ys
+    → begun_after (begun_so fresh text too_long) (xs ++ ys) ≡ begun_after (begun_after (begun_so fresh text too_long) xs) ys
 after_append fresh text too_long [] ys = refl
 after_append fresh text true (byte ∷ bytes) ys = sym (nothing_after fresh text ys)
 after_append fresh text false (byte ∷ bytes) ys =
     let next = with_byte (begun_so fresh text false) byte in
     elim (byte == 13) as
-    (λ t. (if t then after after_return (bytes ++ ys) else after next (bytes ++ ys)) ≡ after (if t then after after_return bytes
-    else after next bytes) ys) [
+    (λ t. (if t then begun_after after_return (bytes ++ ys) else begun_after next (bytes ++ ys)) ≡ begun_after (if t then begun_after after_return bytes
+    else begun_after next bytes) ys) [
       | true ↦ after_append true [] false bytes ys
       | false ↦ after_append next.fresh next.text next.too_long bytes ys
     ]
@@ -71,7 +71,7 @@ no_line_ends fresh text false (byte ∷ bytes) none =
 
 -- a line that has begun goes on, up to 1,024 bytes
 pub goes_on : (room : ℕ) (text bytes : List ℕ) → length text + room ≡ 1024 → (Contains bytes 13 → ⊥)
-    → after (begun_so false text false) bytes ≡ begun_so false (text ++ take room bytes) (nat_lt room (length bytes))
+    → begun_after (begun_so false text false) bytes ≡ begun_so false (text ++ take room bytes) (nat_lt room (length bytes))
 goes_on zero text [] fits none =
     let whole : nat_lt zero (length {A = ℕ} []) ≡ false = grind (arith, nat_tests) in
     rw (whole) (ap (λ (t : List ℕ). begun_so false t false) (sym (append-nil text)))
@@ -105,22 +105,22 @@ none_behind_feeds (byte ∷ bytes) none =
 
 -- behind a carriage return, line feeds alone leave the line as it is
 pub feeds_alone : (text bytes : List ℕ) → (Contains bytes 13 → ⊥) → (length (without_feeds bytes) == 0) ≡ true
-    → after (begun_so true text false) bytes ≡ begun_so true text false
+    → begun_after (begun_so true text false) bytes ≡ begun_so true text false
 feeds_alone text [] none alone = refl
 feeds_alone text (byte ∷ bytes) none alone =
     elim (byte == 10) as (λ t. (byte == 10) ≡ t → (length (if t then without_feeds bytes else byte ∷ bytes) == 0) ≡ true
-    → after (begun_so true text false) (byte ∷ bytes) ≡ begun_so true text false) [
+    → begun_after (begun_so true text false) (byte ∷ bytes) ≡ begun_so true text false) [
       | true ↦ λ feed is. rw (other_first byte bytes none, feed) (feeds_alone text bytes (none_later byte bytes none) is)
       | false ↦ λ feed is. let none : suc (length bytes) ≡ 0 = eqb-true _ _ is in absurd (omega (arith, none))
     ] refl alone
 
 -- and before others they are passed over
 pub feeds_passed : (text bytes : List ℕ) → (Contains bytes 13 → ⊥) → (length (without_feeds bytes) == 0) ≡ false
-    → after (begun_so true text false) bytes ≡ after (begun_so false text false) (without_feeds bytes)
+    → begun_after (begun_so true text false) bytes ≡ begun_after (begun_so false text false) (without_feeds bytes)
 feeds_passed text [] none some = absurd (true≢false some)
 feeds_passed text (byte ∷ bytes) none some =
     elim (byte == 10) as (λ t. (byte == 10) ≡ t → (length (if t then without_feeds bytes else byte ∷ bytes) == 0) ≡ false
-    → after (begun_so true text false) (byte ∷ bytes) ≡ after (begun_so false text false) (if t then without_feeds bytes
+    → begun_after (begun_so true text false) (byte ∷ bytes) ≡ begun_after (begun_so false text false) (if t then without_feeds bytes
     else byte ∷ bytes)) [
       | true ↦ λ feed others. rw (other_first byte bytes none, feed) (feeds_passed text bytes (none_later byte bytes none) others)
       | false ↦ λ feed others. rw (feed) refl
@@ -129,13 +129,13 @@ feeds_passed text (byte ∷ bytes) none some =
 -- a line goes on with all of the bytes where they fit
 pub fits_whole : (begun : Begun) (bytes text : List ℕ) → begun.fresh ≡ false → begun.too_long ≡ false → length begun.text ≤ 1024
     → (Contains bytes 13 → ⊥) → length bytes ≤ 1024 - length begun.text
-    → text ≡ begun.text ++ bytes → begun_so begun.fresh text begun.too_long ≡ after begun bytes
+    → text ≡ begun.text ++ bytes → begun_so begun.fresh text begun.too_long ≡ begun_after begun bytes
 fits_whole begun bytes text fresh short within none fits longer =
     let room = 1024 - length begun.text in
     let same : begun ≡ begun_so false begun.text false = ap₂ (λ (f l : Bool). begun_so f begun.text l) fresh short in
     let over : nat_lt room (length bytes) ≡ false = grind (arith, nat_tests) in
-    let new : after begun bytes ≡ begun_so false (begun.text ++ bytes) false =
-    ap (λ (b : Begun). after b bytes) same
+    let new : begun_after begun bytes ≡ begun_so false (begun.text ++ bytes) false =
+    ap (λ (b : Begun). begun_after b bytes) same
     ∙ (goes_on room begun.text bytes (omega arith) none
     ∙ ap₂ (λ (t : List ℕ) (l : Bool). begun_so false (begun.text ++ t) l) (take_all room bytes fits) over) in
     ap₂ (λ (f l : Bool). begun_so f text l) fresh short ∙ (ap (λ (t : List ℕ). begun_so false t false) longer ∙ sym new)
@@ -143,13 +143,13 @@ fits_whole begun bytes text fresh short within none fits longer =
 -- and with the first of them where they don't
 pub fits_first : (begun : Begun) (bytes text : List ℕ) → begun.fresh ≡ false → begun.too_long ≡ false → length begun.text ≤ 1024
     → (Contains bytes 13 → ⊥) → 1024 - length begun.text < length bytes
-    → text ≡ begun.text ++ take (1024 - length begun.text) bytes → begun_so begun.fresh text true ≡ after begun bytes
+    → text ≡ begun.text ++ take (1024 - length begun.text) bytes → begun_so begun.fresh text true ≡ begun_after begun bytes
 fits_first begun bytes text fresh short within none more longer =
     let room = 1024 - length begun.text in
     let same : begun ≡ begun_so false begun.text false = ap₂ (λ (f l : Bool). begun_so f begun.text l) fresh short in
     let over : nat_lt room (length bytes) ≡ true = grind (arith, nat_tests) in
-    let new : after begun bytes ≡ begun_so false (begun.text ++ take room bytes) true =
-    ap (λ (b : Begun). after b bytes) same
+    let new : begun_after begun bytes ≡ begun_so false (begun.text ++ take room bytes) true =
+    ap (λ (b : Begun). begun_after b bytes) same
     ∙ (goes_on room begun.text bytes (omega arith) none ∙ ap (λ (l : Bool). begun_so false (begun.text ++ take room bytes) l) over) in
     ap₂ (λ (f : Bool) (t : List ℕ). begun_so f t true) fresh longer ∙ sym new
 
@@ -158,35 +158,35 @@ pub behind_return : (begun : Begun) → begun.fresh ≡ true → begun.too_long 
 behind_return begun fresh short = ap₂ (λ (f l : Bool). begun_so f begun.text l) fresh short
 
 -- nothing is heard of a stream whose line is too long
-pub nothing_heard : (begun : Begun) (bytes : List ℕ) → begun.too_long ≡ true → (lines_in begun bytes ≡ []) × (begun ≡ after begun bytes)
+pub nothing_heard : (begun : Begun) (bytes : List ℕ) → begun.too_long ≡ true → (lines_in begun bytes ≡ []) × (begun ≡ begun_after begun bytes)
 nothing_heard begun bytes long =
     let same : begun ≡ begun_so begun.fresh begun.text true = ap (λ (l : Bool). begun_so begun.fresh begun.text l) long in (
       ap (λ (b : Begun). lines_in b bytes) same ∙ no_lines_after begun.fresh begun.text bytes,
       same
-          ∙ sym (ap (λ (b : Begun). after b bytes) same ∙ nothing_after begun.fresh begun.text bytes),
+          ∙ sym (ap (λ (b : Begun). begun_after b bytes) same ∙ nothing_after begun.fresh begun.text bytes),
     )
 
 -- a line ends where a carriage return comes and it isn't too long
 pub line_ends : (begun next : Begun) (bytes front rest : List ℕ) → bytes ≡ front ++ 13 ∷ rest → (Contains front 13 → ⊥)
-    → next ≡ after begun front → next.too_long ≡ false
-    → (lines_in begun bytes ≡ next.text ∷ lines_in after_return rest) × (after begun bytes ≡ after after_return rest)
+    → next ≡ begun_after begun front → next.too_long ≡ false
+    → (lines_in begun bytes ≡ next.text ∷ lines_in after_return rest) × (begun_after begun bytes ≡ begun_after after_return rest)
 line_ends begun next bytes front rest split none is short =
     let here : next ≡ begun_so next.fresh next.text false = ap (λ (l : Bool). begun_so next.fresh next.text l) short in (
       ap (lines_in begun) split
           ∙ (lines_append begun.fresh begun.text begun.too_long front (13 ∷ rest)
           ∙ rw (no_line_ends begun.fresh begun.text begun.too_long front none, ← is, here) refl),
-      ap (after begun) split ∙ (after_append begun.fresh begun.text begun.too_long front (13 ∷ rest) ∙ rw (← is, here) refl),
+      ap (begun_after begun) split ∙ (after_append begun.fresh begun.text begun.too_long front (13 ∷ rest) ∙ rw (← is, here) refl),
     )
 
 -- and none where it has grown too long before
 pub line_breaks : (begun next : Begun) (bytes front rest : List ℕ) → bytes ≡ front ++ 13 ∷ rest → (Contains front 13 → ⊥)
-    → next ≡ after begun front → next.too_long ≡ true
-    → (lines_in begun bytes ≡ []) × (next ≡ after begun bytes)
+    → next ≡ begun_after begun front → next.too_long ≡ true
+    → (lines_in begun bytes ≡ []) × (next ≡ begun_after begun bytes)
 line_breaks begun next bytes front rest split none is long =
     let dead = nothing_heard next (13 ∷ rest) long in (
       ap (lines_in begun) split
           ∙ (lines_append begun.fresh begun.text begun.too_long front (13 ∷ rest)
           ∙ rw (no_line_ends begun.fresh begun.text begun.too_long front none, ← is) dead.0),
-      dead.1 ∙ (ap (λ (b : Begun). after b (13 ∷ rest)) is
-          ∙ (sym (after_append begun.fresh begun.text begun.too_long front (13 ∷ rest)) ∙ sym (ap (after begun) split))),
+      dead.1 ∙ (ap (λ (b : Begun). begun_after b (13 ∷ rest)) is
+          ∙ (sym (after_append begun.fresh begun.text begun.too_long front (13 ∷ rest)) ∙ sym (ap (begun_after begun) split))),
     )

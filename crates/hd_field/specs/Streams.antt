@@ -10,8 +10,8 @@ pub record Begun : Type 0 where
   pub too_long : Bool
 
 -- at the start of a stream
-abbrev pub opening : Begun
-opening = record { fresh = false; text = []; too_long = false }
+abbrev pub stream_start : Begun
+stream_start = record { fresh = false; text = []; too_long = false }
 
 -- after a carriage return (13)
 abbrev pub after_return : Begun
@@ -38,12 +38,12 @@ lines_in begun (byte ∷ bytes) =
     else lines_in (with_byte begun byte) bytes
 
 -- what has come of a line after them
-abbrev pub after : Begun → List ℕ → Begun
-after begun [] = begun
-after begun (byte ∷ bytes) =
+abbrev pub begun_after : Begun → List ℕ → Begun
+begun_after begun [] = begun
+begun_after begun (byte ∷ bytes) =
     if begun.too_long then begun
-    else if byte == 13 then after after_return bytes
-    else after (with_byte begun byte) bytes
+    else if byte == 13 then begun_after after_return bytes
+    else begun_after (with_byte begun byte) bytes
 
 -- bytes without the line feeds at their beginning
 abbrev pub without_feeds : List ℕ → List ℕ

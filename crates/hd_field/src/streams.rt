@@ -2,7 +2,7 @@
 ghost use Rattle.std.specs.Prelude.{◌≡◌, ◌<◌, ◌≤◌, ◌∷◌, [], Bool, false, IfNone, IfOk, IfSome, Contains};
 ghost use Rattle.std.specs.Prelude.{drop, length};
 ghost use Rattle.hd_field.specs.declared.stream.TheConstants.{CARRIAGE_RETURN};
-ghost use Rattle.hd_field.specs.Streams.{opening, after, after_return, lines_in};
+ghost use Rattle.hd_field.specs.Streams.{stream_start, begun_after, after_return, lines_in};
 
 use crate::feeds::without_feeds;
 use crate::split::line;
@@ -40,7 +40,7 @@ impl<A: Allocator> Stream<A> {
     /// # Errors
     /// An error is want of memory.
     pub fn new(alloc: A) -> Result<Stream<A>, AllocError>
-        ensures { IfOk result (λ stream. stream ≡ opening) }
+        ensures { IfOk result (λ stream. stream ≡ stream_start) }
     {
         let text = Vec::with_capacity(alloc, LONGEST_LINE)?;
         Ok(Stream {
@@ -58,11 +58,11 @@ impl<A: Allocator> Stream<A> {
             (λ used. lines_in self.old piece.now
             ≡ self.new.text ∷ lines_in after_return (drop used piece.now)) }
         ensures rest { IfSome result
-            (λ used. after self.old piece.now ≡ after after_return (drop used piece.now)) }
+            (λ used. begun_after self.old piece.now ≡ begun_after after_return (drop used piece.now)) }
         ensures used { IfSome result (λ used. (0 < used) × (used ≤ length piece.now)) }
         ensures short { IfSome result (λ used. length self.new.text ≤ 1024) }
         ensures no_line { IfNone result (lines_in self.old piece.now ≡ []) }
-        ensures all { IfNone result (self.new ≡ after self.old piece.now) }
+        ensures all { IfNone result (self.new ≡ begun_after self.old piece.now) }
     {
         if self.too_long {
             return None;
@@ -109,7 +109,7 @@ impl<A: Allocator> Stream<A> {
     fn push(&mut self, bytes: &[u8])
         requires plain { ¬ Contains bytes.now CARRIAGE_RETURN }
         requires short { self.old.too_long ≡ false }
-        ensures { self.new ≡ after self.old bytes.now }
+        ensures { self.new ≡ begun_after self.old bytes.now }
     {
         if !self.fresh {
             self.extend(bytes);
@@ -127,7 +127,7 @@ impl<A: Allocator> Stream<A> {
         requires plain { ¬ Contains bytes.now CARRIAGE_RETURN }
         requires begun { self.old.fresh ≡ false }
         requires short { self.old.too_long ≡ false }
-        ensures { self.new ≡ after self.old bytes.now }
+        ensures { self.new ≡ begun_after self.old bytes.now }
     {
         let room = LONGEST_LINE - self.text.as_slice().len();
         if bytes.len() <= room {

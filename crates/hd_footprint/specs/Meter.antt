@@ -11,8 +11,8 @@ pub record Counts : Type 0 where
   pub compared : ℕ
 
 -- one more, up to the greatest value of a count
-abbrev pub raised : ℕ → ℕ
-raised n = min (n + 1) (2 ^ 64 - 1)
+abbrev pub one_higher : ℕ → ℕ
+one_higher n = min (n + 1) (2 ^ 64 - 1)
 
 -- how often something was counted
 abbrev pub count_of : Counts → Count → ℕ
@@ -22,8 +22,8 @@ count_of counts Look = counts.looks
 count_of counts Compared = counts.compared
 
 -- the counts with this one raised
-abbrev pub add : Counts → Count → Counts
-add counts Step = record counts { steps = raised counts.steps }
-add counts Written = record counts { written = raised counts.written }
-add counts Look = record counts { looks = raised counts.looks }
-add counts Compared = record counts { compared = raised counts.compared }
+abbrev pub with_one_more : Counts → Count → Counts
+with_one_more counts Step = record counts { steps = one_higher counts.steps }
+with_one_more counts Written = record counts { written = one_higher counts.written }
+with_one_more counts Look = record counts { looks = one_higher counts.looks }
+with_one_more counts Compared = record counts { compared = one_higher counts.compared }

@@ -1,6 +1,6 @@
 //! A meter of work.
 ghost use Rattle.std.specs.Prelude.{◌≡◌};
-ghost use Rattle.hd_footprint.specs.Meter.{count_of, add};
+ghost use Rattle.hd_footprint.specs.Meter.{count_of, with_one_more};
 
 use crate::count::Count;
 use std::marker::Model;
@@ -44,7 +44,7 @@ impl Meter {
 
     /// Raises a count by one. At the greatest value of a `u64` it stays.
     pub fn add(&mut self, what: Count)
-        ensures { self.new ≡ add self.old what }
+        ensures { self.new ≡ with_one_more self.old what }
     {
         match what {
             Count::Step => self.steps = self.steps.saturating_add(1),

@@ -3,7 +3,7 @@ use Rattle.std.proofs.Common.{◌≡◌, ℕ, ◌+◌, ◌*◌, ◌/◌, ◌%◌
 use Rattle.std.specs.Char.{digit_value}
 use Rattle.std.specs.Str.Parse.{AllDigits, digits_value}
 use Rattle.std.proofs.lemmas.Grind.{common_steps}
-use Rattle.hd_guard.specs.Check.{IsRight, check_number, four_digits, upper_digit}
+use Rattle.hd_guard.specs.Check.{IsRight, check_number, four_hex_digits, upper_digit}
 
 -- the two's complement is right
 pub complement_is_right : (bytes : List ℕ) → IsRight bytes (check_number bytes)
@@ -22,7 +22,7 @@ by_values : (a b c d w x y z : ℕ) → digit_value a ≡ w → digit_value b �
 by_values a b c d w x y z ha hb hc hd = rw (ha, hb, hc, hd) (omega arith)
 
 -- four digits write their number
-pub four_write : (n : ℕ) → n < 65536 → n ≡ digits_value 16 (four_digits n)
+pub four_write : (n : ℕ) → n < 65536 → n ≡ digits_value 16 (four_hex_digits n)
 four_write n h =
     let high : n / 4096 < 16 = omega arith in
     let written =
@@ -33,7 +33,7 @@ four_write n h =
     number ∙ sym written
 
 -- each of the four is a digit
-pub four_are_digits : (n : ℕ) → n < 65536 → AllDigits 16 (four_digits n)
+pub four_are_digits : (n : ℕ) → n < 65536 → AllDigits 16 (four_hex_digits n)
 four_are_digits n h = (
   small_upper (n / 4096) (omega arith),
   (small_upper (n / 256 % 16) (omega arith), (small_upper (n / 16 % 16) (omega arith), (small_upper (n % 16) (omega arith), tt))),

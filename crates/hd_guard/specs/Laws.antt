@@ -3,7 +3,7 @@ use Rattle.std.specs.Prelude.{◌≡◌, ◌↔◌, ℕ, ◌<◌, List, ◌++◌
 use Rattle.hd_guard.specs.Check.{IsRight, check_number}
 use Rattle.hd_guard.specs.Reading.{IsGuarded, Reading}
 use Rattle.hd_guard.specs.Sequence.{EndsInSequence, sequence}
-use Rattle.hd_guard.specs.Trailer.{IsChecked, sealed}
+use Rattle.hd_guard.specs.Trailer.{IsChecked, with_trailer}
 
 -- just one number of 16 bits is right for some bytes
 abbrev pub OneNumberIsRight : Type 0
@@ -16,12 +16,13 @@ OneNumberIsRight =
 abbrev pub SealedIsReadBack : Type 0
 SealedIsReadBack =
     (body : List ℕ) (seq : Option ℕ) → IfSome seq (λ d. d < 10)
-    → IsChecked (sealed body seq) body seq ↔ IfNone seq (¬ EndsInSequence body)
+    → IsChecked (with_trailer body seq) body seq ↔ IfNone seq (¬ EndsInSequence body)
 
 -- A body that ends in the text of a digit and is sealed with none is read as the rest of it, with that digit.
 abbrev pub OwnDigitIsRead : Type 0
 OwnDigitIsRead =
-    (front : List ℕ) (d : ℕ) → d < 10 → IsChecked (sealed (front ++ sequence (Some d)) None) front (Some d)
+    (front : List ℕ) (d : ℕ) → d < 10 →
+    IsChecked (with_trailer (front ++ sequence (Some d)) None) front (Some d)
 
 -- Of one line one reading holds: one kind, one body and one digit.
 abbrev pub OneReadingHolds : Type 0

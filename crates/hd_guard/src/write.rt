@@ -1,7 +1,7 @@
 //! Writing a trailer.
 ghost use Rattle.std.specs.Prelude.{◌≡◌, ◌+◌, ◌<◌, ◌≤◌, ◌++◌, IfNone, IfSome, OnOk, OnErr, drop, vec_len};
 ghost use Rattle.std.specs.Prelude.{vec_capacity};
-ghost use Rattle.hd_guard.specs.Check.{four_digits, upper_digit};
+ghost use Rattle.hd_guard.specs.Check.{four_hex_digits, upper_digit};
 ghost use Rattle.hd_guard.specs.Sequence.{EndsInSequence, sequence};
 ghost use Rattle.hd_guard.specs.Trailer.{EndsRight, IsChecked, trailer_len, trailer_text};
 
@@ -80,7 +80,7 @@ fn put_sequence<A: Allocator>(out: &mut Vec<u8, A>, seq: Option<Seq>)
 /// Adds a number in four hexadecimal digits, for which there is room.
 fn put_number<A: Allocator>(out: &mut Vec<u8, A>, number: u16)
     requires { vec_len out.old + 4 ≤ vec_capacity out.old }
-    ensures text { out.new.items ≡ out.old.items ++ four_digits number }
+    ensures text { out.new.items ≡ out.old.items ++ four_hex_digits number }
     ensures capacity { vec_capacity out.old ≤ vec_capacity out.new }
 {
     let digits = [

@@ -5,7 +5,7 @@ use Rattle.std.specs.List.Sorted.{IsPermutation}
 use Rattle.std.proofs.lemmas.List.Sorted.{IsPermutation-refl, IsPermutation-sym, IsPermutation-cons, IsPermutation-trans}
 use Rattle.std.proofs.lemmas.List.Sorted.{IsPermutation-remove, Contains-permutation, length_permutation}
 use Rattle.hd_rules.specs.Journal.{Turn}
-use Rattle.hd_hall.specs.Receipts.{Receipted, numbered}
+use Rattle.hd_hall.specs.Receipts.{Receipted, with_numbers}
 
 abbrev pub receipt_of : ℕ → Turn → Receipted
 receipt_of n t = record { number = n; turn = t }
@@ -20,7 +20,7 @@ abbrev pub Covers : ℕ → List Turn → List Receipted → Type 0
 Covers n ts rs = (k m : ℕ) (t : Turn) → slice_get ts k ≡ Some t → m ≡ n + k + 1 → Contains rs (receipt_of m t)
 
 pub covers_permutes : (n : ℕ) (ts : List Turn) (rs : List Receipted) → length rs ≡ length ts → Covers n ts rs
-    → IsPermutation (numbered n ts) rs
+    → IsPermutation (with_numbers n ts) rs
 covers_permutes n [] [] len covers = IsPermutation-refl []
 covers_permutes n [] (r ∷ rs) len covers = absurd (omega arith)
 covers_permutes n (t ∷ ts) rs len covers =
@@ -32,5 +32,5 @@ covers_permutes n (t ∷ ts) rs len covers =
     let rest = covers_permutes (n + 1) ts (remove rs i) (omega arith)
     (λ k m u is eq. behind x (receipt_of m u) (remove rs i) (λ same. absurd (omega arith))
     (Contains-permutation rs (x ∷ remove rs i) (receipt_of m u) out (covers (suc k) m u is (omega arith)))) in
-    IsPermutation-trans (numbered n (t ∷ ts)) (x ∷ remove rs i) rs (IsPermutation-cons x (numbered (n + 1) ts) (remove rs i) rest)
+    IsPermutation-trans (with_numbers n (t ∷ ts)) (x ∷ remove rs i) rs (IsPermutation-cons x (with_numbers (n + 1) ts) (remove rs i) rest)
     (IsPermutation-sym rs (x ∷ remove rs i) out)

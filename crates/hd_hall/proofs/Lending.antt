@@ -6,7 +6,7 @@ use Rattle.std.proofs.lemmas.Option.{slice_get-get_or}
 use Rattle.std.proofs.lemmas.List.Elements.{Contains-append_left, Contains-append_right, Contains-append_cases}
 use Rattle.std.specs.List.{Contains}
 use Rattle.hd_hall.specs.Receipts.{Receipted}
-use Rattle.hd_hall.specs.Seats.{SeatView, IsWhole, lent, held, EachSeat, shares, all_receipts}
+use Rattle.hd_hall.specs.Seats.{SeatView, IsWhole, without_part, with_part, EachSeat, shares, all_receipts}
 
 -- f of the first k, and the others as they are
 abbrev pub map_first : (SeatView → SeatView) → ℕ → List SeatView → List SeatView
@@ -77,21 +77,21 @@ whole_counts (x ∷ xs) each =
     let rest = whole_counts xs (λ k s is. each (suc k) s is) in
     omega (arith, length-append x.receipts (all_receipts xs))
 
-pub lent_receipts : (xs : List SeatView) → all_receipts (map lent xs) ≡ all_receipts xs
+pub lent_receipts : (xs : List SeatView) → all_receipts (map without_part xs) ≡ all_receipts xs
 lent_receipts [] = refl
 lent_receipts (x ∷ xs) = ap (λ (ys : List Receipted). x.receipts ++ ys) (lent_receipts xs)
 
-pub lent_parts : (xs : List SeatView) → EachSeat (map lent xs) (λ s. s.parts ≡ 0)
+pub lent_parts : (xs : List SeatView) → EachSeat (map without_part xs) (λ s. s.parts ≡ 0)
 lent_parts [] k s is = cc
-lent_parts (x ∷ xs) zero s is = let e : lent x ≡ s = cc in rw (← e) refl
+lent_parts (x ∷ xs) zero s is = let e : without_part x ≡ s = cc in rw (← e) refl
 lent_parts (x ∷ xs) (suc k) s is = lent_parts xs k s is
 
 -- what lent its parts and has them again is as before
-pub held_again : (xs : List SeatView) → EachSeat xs IsWhole → EachSeat xs (λ s. s.parts ≡ 1) → map held (map lent xs) ≡ xs
+pub held_again : (xs : List SeatView) → EachSeat xs IsWhole → EachSeat xs (λ s. s.parts ≡ 1) → map with_part (map without_part xs) ≡ xs
 held_again [] whole one = refl
 held_again (x ∷ xs) whole one =
     let rest = held_again xs (λ k s is. whole (suc k) s is) (λ k s is. one (suc k) s is) in
-    let here : held (lent x) ≡ x = rw (← (whole 0 x refl).counted, ← one 0 x refl) refl in
+    let here : with_part (without_part x) ≡ x = rw (← (whole 0 x refl).counted, ← one 0 x refl) refl in
     cc
 
 -- what holds of the seat read at i holds of the seat that stands there

@@ -10,8 +10,8 @@ use Rattle.std.proofs.lemmas.List.Sorted.{IsPermutation-refl, IsPermutation-cons
 use Rattle.std.proofs.lemmas.List.Sorted.{Contains-permutation, length_permutation}
 use Rattle.hd_rules.specs.Journal.{Turn}
 use Rattle.hd_hall.specs.Closings.{AreThere}
-use Rattle.hd_hall.specs.Receipts.{Receipted, Stands, numbered}
-use Rattle.hd_hall.specs.Seats.{SeatView, AreOf, EachSeat, IsWhole, RiseAbove, all_receipts, lent, shares}
+use Rattle.hd_hall.specs.Receipts.{Receipted, StandsAt, with_numbers}
+use Rattle.hd_hall.specs.Seats.{SeatView, AreOfSeat, EachSeat, IsWhole, RiseAbove, all_receipts, without_part, shares}
 use Rattle.hd_hall.proofs.Lending.{whole_counts}
 
 -- no two are the same
@@ -58,7 +58,7 @@ rise_differ n [] up = tt
 rise_differ n (x ∷ xs) up = ((λ has. let h = rise_over x.number xs x up.1 has in absurd (omega arith)), rise_differ x.number xs up.1)
 
 -- each of a seat's receipts is its own
-pub own_each : (seat : ℕ) (rs : List Receipted) (r : Receipted) → AreOf seat rs → Contains rs r → r.turn.seat ≡ seat
+pub own_each : (seat : ℕ) (rs : List Receipted) (r : Receipted) → AreOfSeat seat rs → Contains rs r → r.turn.seat ≡ seat
 own_each seat [] r own (k, h, is) = absurd (omega arith)
 own_each seat (x ∷ xs) r own (zero, h, is) = subst (λ (y : Receipted). y.turn.seat ≡ seat) is own.0
 own_each seat (x ∷ xs) r own (suc k, h, is) = own_each seat xs r own.1 (k, omega arith, is)
@@ -86,39 +86,39 @@ there_differ turns n (s ∷ ss) there whole =
     absurd (omega arith))
 
 pub there_stands : (turns : List Turn) (n : ℕ) (ss : List SeatView) (r : Receipted) → AreThere turns n ss → Contains (all_receipts ss) r
-    → Stands turns r
+    → StandsAt turns r
 there_stands turns n [] r there (k, h, is) = absurd (omega arith)
 there_stands turns n (s ∷ ss) r there has =
     elim (Contains-append_cases s.receipts (all_receipts ss) r has) [
-      | inl p ↦ All-contains (Stands turns) s.receipts r there.1 p
+      | inl p ↦ All-contains (StandsAt turns) s.receipts r there.1 p
       | inr q ↦ there_stands turns s.number ss r there.2 q
     ]
 
 -- what stands at a number is among the numbered turns
 pub numbered_has : (n : ℕ) (ts : List Turn) (k m : ℕ) (t : Turn) → slice_get ts k ≡ Some t → m ≡ n + k + 1
-    → Contains (numbered n ts) (record { number = m; turn = t })
+    → Contains (with_numbers n ts) (record { number = m; turn = t })
 numbered_has n [] k m t is eq = absurd (let e : slice_get [] k ≡ Some t = is in cc)
 numbered_has n (x ∷ xs) zero m t is eq =
     let same : x ≡ t = cc in
     let number : n + 1 ≡ m = omega arith in
     (0, omega arith, λ j. record { number = number j; turn = same j })
 numbered_has n (x ∷ xs) (suc k) m t is eq =
-    Contains-append_right (record { number = n + 1; turn = x } ∷ []) (numbered (n + 1) xs) (record { number = m; turn = t })
+    Contains-append_right (record { number = n + 1; turn = x } ∷ []) (with_numbers (n + 1) xs) (record { number = m; turn = t })
     (numbered_has (n + 1) xs k m t is (omega arith))
 
-pub length-numbered : (n : ℕ) (ts : List Turn) → length (numbered n ts) ≡ length ts
+pub length-numbered : (n : ℕ) (ts : List Turn) → length (with_numbers n ts) ≡ length ts
 length-numbered n [] = refl
 length-numbered n (t ∷ ts) = let h = length-numbered (n + 1) ts in omega arith
 
 -- a seat that lends its part has its number and its receipts
-pub lent_there : (turns : List Turn) (n : ℕ) (ss : List SeatView) → AreThere turns n (map lent ss) → AreThere turns n ss
+pub lent_there : (turns : List Turn) (n : ℕ) (ss : List SeatView) → AreThere turns n (map without_part ss) → AreThere turns n ss
 lent_there turns n [] there = tt
 lent_there turns n (s ∷ ss) there = (there.0, there.1, lent_there turns s.number ss there.2)
 
 pub there_permutes : (turns : List Turn) (ss : List SeatView) → AreThere turns 0 ss → EachSeat ss IsWhole → length turns ≡ shares ss
-    → IsPermutation (numbered 0 turns) (all_receipts ss)
+    → IsPermutation (with_numbers 0 turns) (all_receipts ss)
 there_permutes turns ss there whole counted =
-    differ_permutes (all_receipts ss) (numbered 0 turns) (there_differ turns 0 ss there whole)
+    differ_permutes (all_receipts ss) (with_numbers 0 turns) (there_differ turns 0 ss there whole)
     (λ r has.
     let stands = there_stands turns 0 ss r there has in
     let low = stands.0 in
@@ -127,7 +127,7 @@ there_permutes turns ss there whole counted =
 
 -- a seat that comes above n and whose receipts stand, and those behind it
 pub there_more : (turns : List Turn) (n : ℕ) (ss : List SeatView) (i : ℕ) (s : SeatView) → i < length ss → s ≡ get_or ss i s
-    → n < s.number → All (Stands turns) s.receipts
+    → n < s.number → All (StandsAt turns) s.receipts
     → AreThere turns s.number (drop (i + 1) ss) → AreThere turns n (drop i ss)
 there_more turns n ss i s within is above stand rest =
     let P : SeatView → Type 0 = λ x. AreThere turns n (x ∷ drop (i + 1) ss) in

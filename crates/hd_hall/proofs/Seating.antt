@@ -6,11 +6,11 @@ use Rattle.std.proofs.lemmas.List.{take-append-le}
 use Rattle.std.proofs.lemmas.Option.{slice_get_within}
 use Rattle.hd_rules.specs.Journal.{Turn}
 use Rattle.hd_hall.specs.Openings.{Opening}
-use Rattle.hd_hall.specs.Receipts.{Receipted, IsLast, Stands, last_receipt}
-use Rattle.hd_hall.specs.Seats.{SeatView, IsSeat, AreOf, RiseAbove}
+use Rattle.hd_hall.specs.Receipts.{Receipted, IsLast, StandsAt, last_receipt}
+use Rattle.hd_hall.specs.Seats.{SeatView, IsSeat, AreOfSeat, RiseAbove}
 use Rattle.hd_hall.specs.Submitting.{AreNext, IsNextOf}
 
-pub own-snoc : (seat : ℕ) (rs : List Receipted) (r : Receipted) → AreOf seat rs → r.turn.seat ≡ seat → AreOf seat (rs ++ r ∷ [])
+pub own-snoc : (seat : ℕ) (rs : List Receipted) (r : Receipted) → AreOfSeat seat rs → r.turn.seat ≡ seat → AreOfSeat seat (rs ++ r ∷ [])
 own-snoc seat [] r own is = (is, tt)
 own-snoc seat (x ∷ xs) r own is = (own.0, own-snoc seat xs r own.1 is)
 
@@ -47,7 +47,7 @@ last_is [] = refl
 last_is (x ∷ xs) = last_read (x ∷ xs) (length (x ∷ xs) - 1) (omega arith)
 
 -- a receipt whose turn stands in the list has a number within it
-pub stands_within : (turns : List Turn) (p : Receipted) → Stands turns p → p.number ≤ length turns
+pub stands_within : (turns : List Turn) (p : Receipted) → StandsAt turns p → p.number ≤ length turns
 stands_within turns p h = let first = h.0 in let k = slice_get_within turns (p.number - 1) p.turn h.1 in omega arith
 
 below_or_at : (n m : ℕ) → n < m + 1 → (n < m) ⊎ (n ≡ m)

@@ -1,7 +1,7 @@
 -- What a keeper's turn adds, and what a hall tells of its faults.
 use Rattle.std.specs.Prelude.{◌≡◌, List, [], ◌∷◌, ◌++◌, length}
 use Rattle.hd_rules.specs.Journal.{Turn}
-use Rattle.hd_journal.specs.Asks.{SeatMessage, replied}
+use Rattle.hd_journal.specs.Asks.{SeatMessage, turn_with_reply}
 use Rattle.hd_journal.specs.declared.turn.Turn.{Turn as Made}
 use Rattle.hd_hall.specs.declared.fault.HallFault.{HallFault}
 use Rattle.hd_hall.specs.declared.fault.HallFault.TheVariants as hall
@@ -11,7 +11,7 @@ use Rattle.hd_hall.specs.declared.fault.KeeperFault.TheVariants as keeper
 -- One turn was added, behind all others: what was asked, with the reply that was made. It has the number of
 -- turns that there are then.
 pub record IsAdded (before after : List Turn) (ask : SeatMessage) (made : Made) : Type 0 where
-  pub turns : after ≡ before ++ replied ask made.reply ∷ []
+  pub turns : after ≡ before ++ turn_with_reply ask made.reply ∷ []
   pub number : made.at ≡ length after
 
 -- the fault of a hall whose keeper has this one

@@ -14,5 +14,5 @@ abbrev pub fresh : Contents → Opening
 fresh contents = record { contents = contents; begun = [] }
 
 -- the journal has gone on by these turns, and all that it has are legal
-abbrev pub IsLegalFrom : Opening → List Turn → Type 0
-IsLegalFrom o turns = IsLegalBook o.contents (o.begun ++ turns)
+abbrev pub IsLegalSince : Opening → List Turn → Type 0
+IsLegalSince o turns = IsLegalBook o.contents (o.begun ++ turns)

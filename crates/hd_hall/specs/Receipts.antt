@@ -1,8 +1,8 @@
 -- Receipts, and where their turns stand.
 use Rattle.std.specs.Prelude.{◌≡◌, ℕ, ◌+◌, ◌-◌, ◌<◌, List, [], ◌∷◌, Option, Some, None, slice_get}
 use Rattle.hd_rules.specs.Journal.{Turn}
-use Rattle.hd_journal.specs.Asks.{SeatMessage, replied}
-use Rattle.hd_journal.specs.Shown.{shown}
+use Rattle.hd_journal.specs.Asks.{SeatMessage, turn_with_reply}
+use Rattle.hd_journal.specs.Shown.{turn_shown}
 use Rattle.hd_journal.specs.declared.turn.Turn.{Turn as Made}
 use Rattle.hd_hall.specs.declared.receipt.Receipt.{Receipt}
 
@@ -12,21 +12,21 @@ pub record Receipted : Type 0 where
   pub turn : Turn
 
 -- a receipt that is given, with the bytes that its line lends
-abbrev pub told : Receipt → Receipted
-told receipt = record { number = receipt.number; turn = shown receipt.turn }
+abbrev pub receipt_shown : Receipt → Receipted
+receipt_shown receipt = record { number = receipt.number; turn = turn_shown receipt.turn }
 
 -- the receipt of the turn that was made of what was asked
-abbrev pub received : SeatMessage → Made → Receipted
-received ask made = record { number = made.at; turn = replied ask made.reply }
+abbrev pub receipt_of : SeatMessage → Made → Receipted
+receipt_of ask made = record { number = made.at; turn = turn_with_reply ask made.reply }
 
 -- the turns with their numbers, from n + 1
-abbrev pub numbered : ℕ → List Turn → List Receipted
-numbered n [] = []
-numbered n (t ∷ ts) = record { number = n + 1; turn = t } ∷ numbered (n + 1) ts
+abbrev pub with_numbers : ℕ → List Turn → List Receipted
+with_numbers n [] = []
+with_numbers n (t ∷ ts) = record { number = n + 1; turn = t } ∷ with_numbers (n + 1) ts
 
 -- the receipt's turn stands in the list, at its number
-abbrev pub Stands : List Turn → Receipted → Type 0
-Stands turns r = (0 < r.number) × (slice_get turns (r.number - 1) ≡ Some r.turn)
+abbrev pub StandsAt : List Turn → Receipted → Type 0
+StandsAt turns r = (0 < r.number) × (slice_get turns (r.number - 1) ≡ Some r.turn)
 
 abbrev pub last_receipt : List Receipted → Option Receipted
 last_receipt [] = None
@@ -38,8 +38,8 @@ IsLast receipts r = last_receipt receipts ≡ Some r
 
 -- the turn of the last receipt, if there is one, stands in the list
 abbrev pub HoldsLast : List Turn → List Receipted → Type 0
-HoldsLast turns receipts = (r : Receipted) → IsLast receipts r → Stands turns r
+HoldsLast turns receipts = (r : Receipted) → IsLast receipts r → StandsAt turns r
 
 -- there is a last receipt, and its turn doesn't stand in the list
 abbrev pub LacksLast : List Turn → List Receipted → Type 0
-LacksLast turns receipts = (r : Receipted) × IsLast receipts r × (Stands turns r → ⊥)
+LacksLast turns receipts = (r : Receipted) × IsLast receipts r × (StandsAt turns r → ⊥)

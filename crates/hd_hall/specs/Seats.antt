@@ -14,9 +14,9 @@ pub record SeatView : Type 0 where
   pub share : ℕ
 
 -- the receipts are of this seat
-abbrev pub AreOf : ℕ → List Receipted → Type 0
-AreOf seat [] = Unit {0}
-AreOf seat (r ∷ rs) = (r.turn.seat ≡ seat) × AreOf seat rs
+abbrev pub AreOfSeat : ℕ → List Receipted → Type 0
+AreOfSeat seat [] = Unit {0}
+AreOfSeat seat (r ∷ rs) = (r.turn.seat ≡ seat) × AreOfSeat seat rs
 
 -- the numbers rise, from above n
 abbrev pub RiseAbove : ℕ → List Receipted → Type 0
@@ -26,7 +26,7 @@ RiseAbove n (r ∷ rs) = (n < r.number) × RiseAbove r.number rs
 -- A seat's receipts are its own and in order, each told as the next of those before it. With its part it has
 -- one share for each, without it none.
 pub record IsSeat (o : Opening) (s : SeatView) : Type 0 where
-  pub own : AreOf s.number s.receipts
+  pub own : AreOfSeat s.number s.receipts
   pub in_order : RiseAbove 0 s.receipts
   pub counted : s.parts ≡ 1 → s.share ≡ length s.receipts
   pub lent : s.parts ≡ 0 → s.share ≡ 0
@@ -34,17 +34,17 @@ pub record IsSeat (o : Opening) (s : SeatView) : Type 0 where
 
 -- the same of a seat that has its part
 pub record IsWhole (s : SeatView) : Type 0 where
-  pub own : AreOf s.number s.receipts
+  pub own : AreOfSeat s.number s.receipts
   pub in_order : RiseAbove 0 s.receipts
   pub counted : s.share ≡ length s.receipts
 
 -- the seat while it lends its part
-abbrev pub lent : SeatView → SeatView
-lent s = record { number = s.number; receipts = s.receipts; parts = 0; share = 0 }
+abbrev pub without_part : SeatView → SeatView
+without_part s = record { number = s.number; receipts = s.receipts; parts = 0; share = 0 }
 
 -- the seat with its part
-abbrev pub held : SeatView → SeatView
-held s = record { number = s.number; receipts = s.receipts; parts = 1; share = length s.receipts }
+abbrev pub with_part : SeatView → SeatView
+with_part s = record { number = s.number; receipts = s.receipts; parts = 1; share = length s.receipts }
 
 -- the seat with one receipt more
 abbrev pub with_receipt : SeatView → Receipted → SeatView

@@ -1,7 +1,7 @@
 -- What a seat is told: its receipts, or that the journal isn't the one that it came from.
 use Rattle.std.specs.Prelude.{◌≡◌, ℕ, ◌+◌, List, [], ◌∷◌, ◌++◌, Some, length, slice_get, take}
 use Rattle.hd_rules.specs.Journal.{Turn}
-use Rattle.hd_hall.specs.Openings.{Opening, IsLegalFrom}
+use Rattle.hd_hall.specs.Openings.{Opening, IsLegalSince}
 use Rattle.hd_hall.specs.Receipts.{Receipted, HoldsLast, LacksLast}
 use Rattle.hd_hall.specs.declared.fault.HallFault.{HallFault}
 use Rattle.hd_hall.specs.declared.fault.HallFault.TheVariants as hall
@@ -13,7 +13,7 @@ use Rattle.hd_hall.specs.declared.fault.KeeperFault.TheVariants as keeper
 -- on.
 pub record IsNextOf (o : Opening) (receipts : List Receipted) (r : Receipted) : Type 0 where
   pub before : List Turn
-  pub legal : IsLegalFrom o (before ++ r.turn ∷ [])
+  pub legal : IsLegalSince o (before ++ r.turn ∷ [])
   pub number : r.number ≡ length before + 1
   pub holds : HoldsLast before receipts
 
@@ -25,7 +25,7 @@ AreNext o receipts =
 -- A legal journal of the catalogue, with so many turns since, lacks the seat's last turn.
 pub record IsStrangeTo (o : Opening) (receipts : List Receipted) (front : ℕ) : Type 0 where
   pub turns : List Turn
-  pub legal : IsLegalFrom o turns
+  pub legal : IsLegalSince o turns
   pub counted : length turns ≡ front
   pub lacks : LacksLast turns receipts
 

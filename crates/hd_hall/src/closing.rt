@@ -5,10 +5,10 @@ ghost use Rattle.std.specs.Prelude.{false, length, map, slice_get};
 ghost use Rattle.std.specs.List.{All, Contains};
 ghost use Rattle.hd_rules.specs.Journal.{Turn};
 ghost use Rattle.hd_journal.specs.Books.{turn_numbered};
-ghost use Rattle.hd_journal.specs.Shown.{shown};
+ghost use Rattle.hd_journal.specs.Shown.{turn_shown};
 ghost use Rattle.hd_hall.specs.Closings.{AreThere, AreTurnsOf, IsLacking, LacksReceipt};
-ghost use Rattle.hd_hall.specs.Receipts.{Stands};
-ghost use Rattle.hd_hall.specs.Seats.{EachSeat, IsWhole, all_receipts, held, lent, shares};
+ghost use Rattle.hd_hall.specs.Receipts.{StandsAt};
+ghost use Rattle.hd_hall.specs.Seats.{EachSeat, IsWhole, all_receipts, with_part, without_part, shares};
 
 use crate::house::House;
 use crate::keeper::Keeper;
@@ -57,7 +57,7 @@ fn gather<H: House, A: Allocator>(all: &mut Share<H>, seats: &mut [Seat<H, A>])
     requires { EachSeat seats.old (λ s. s.parts ≡ 1) }
     ensures parts { all.new.parts ≡ all.old.parts + length seats.old }
     ensures amount { all.new.amount ≡ all.old.amount + shares seats.old }
-    ensures lent { seats.new ≡ map lent seats.old }
+    ensures lent { seats.new ≡ map without_part seats.old }
     ensures whole { EachSeat seats.old IsWhole }
 {
     for seat in seats.iter_mut() {
@@ -70,7 +70,7 @@ fn give_back<H: House, A: Allocator>(all: &mut Share<H>, seats: &mut [Seat<H, A>
     requires lent { EachSeat seats.old (λ s. s.parts ≡ 0) }
     requires parts { length seats.old < all.old.parts }
     requires amount { length (all_receipts seats.old) ≤ all.old.amount }
-    ensures { seats.new ≡ map held seats.old }
+    ensures { seats.new ≡ map with_part seats.old }
 {
     for seat in seats.iter_mut() {
         seat.take_back(all);
@@ -101,7 +101,7 @@ fn all_stand<A: Allocator + Copy, Q: Drop, K: Keeper<A, Q>>(
     keeper: &K,
     receipts: &[Kept<A>],
 ) -> bool
-    ensures { IsTrue result ↔ All (Stands (K.turns keeper.now)) receipts.now }
+    ensures { IsTrue result ↔ All (StandsAt (K.turns keeper.now)) receipts.now }
 {
     for receipt in receipts {
         if !stands(keeper, receipt) {
@@ -155,7 +155,7 @@ fn has_receipt<H: House, A: Allocator>(
     turn: &TurnRef<'_>,
 ) -> bool
     ensures { IsTrue result
-        ↔ Contains (all_receipts seats.now) (record { number = number; turn = shown turn.now }) }
+        ↔ Contains (all_receipts seats.now) (record { number = number; turn = turn_shown turn.now }) }
 {
     for seat in seats {
         if holds(seat.receipts(), number, turn) {
@@ -168,7 +168,7 @@ fn has_receipt<H: House, A: Allocator>(
 /// Whether one of these is the turn's receipt.
 fn holds<A: Allocator>(receipts: &[Kept<A>], number: usize, turn: &TurnRef<'_>) -> bool
     ensures { IsTrue result
-        ↔ Contains receipts.now (record { number = number; turn = shown turn.now }) }
+        ↔ Contains receipts.now (record { number = number; turn = turn_shown turn.now }) }
 {
     for receipt in receipts {
         if receipt.is_of(number, turn) {

@@ -2,8 +2,8 @@
 
 ghost use Rattle.std.specs.Prelude.{◌≡◌, IfErr, IfOk, OnErr};
 ghost use Rattle.hd_catalogue.specs.Contents.{facts_of};
-ghost use Rattle.hd_journal.specs.Asks.{IsKnownMessage, sent};
-ghost use Rattle.hd_hall.specs.Receipts.{received};
+ghost use Rattle.hd_journal.specs.Asks.{IsKnownMessage, message_of};
+ghost use Rattle.hd_hall.specs.Receipts.{receipt_of};
 ghost use Rattle.hd_hall.specs.Seats.{with_receipt};
 ghost use Rattle.hd_hall.specs.Counters.{IsCounterFault};
 ghost use Rattle.hd_hall.specs.Submitting.{AreNext, IsNextOf, IsStrangeTo};
@@ -68,11 +68,11 @@ impl<'a, H: House, R: Wait, A: Allocator + Copy, Q: Drop, K: Keeper<A, Q> + Drop
     /// `Unwritten` only where the hall's keeper can give that, and `Memory` else. The seat is unchanged.
     pub fn submit(&mut self, ask: &Ask<'_>) -> Result<Turn, OfficeFault>
         requires seat { ask.now.seat ≡ self.old.seat.now.number }
-        requires known { IsKnownMessage (facts_of H.opening.contents) (sent ask.now).message }
+        requires known { IsKnownMessage (facts_of H.opening.contents) (message_of ask.now).message }
         ensures next { IfOk result (λ made.
-            IsNextOf H.opening self.old.seat.now.receipts (received (sent ask.now) made)) }
+            IsNextOf H.opening self.old.seat.now.receipts (receipt_of (message_of ask.now) made)) }
         ensures kept { IfOk result (λ made.
-            self.new.seat.now ≡ with_receipt self.old.seat.now (received (sent ask.now) made)) }
+            self.new.seat.now ≡ with_receipt self.old.seat.now (receipt_of (message_of ask.now) made)) }
         ensures all { AreNext H.opening self.new.seat.now.receipts }
         ensures why { IfErr result
             (IsCounterFault K.faults (IsStrangeTo H.opening self.old.seat.now.receipts)) }

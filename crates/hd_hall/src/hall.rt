@@ -3,9 +3,9 @@
 ghost use Rattle.std.specs.Prelude.{◌≡◌, ◌+◌, ◌<◌, [], ℕ, Err, IfOk, IfErr, IfSome, OnOk, OnErr};
 ghost use Rattle.std.specs.Arc.{arc_value};
 ghost use Rattle.hd_catalogue.specs.Contents.{facts_of};
-ghost use Rattle.hd_journal.specs.Asks.{IsKnownMessage, replied, sent};
+ghost use Rattle.hd_journal.specs.Asks.{IsKnownMessage, turn_with_reply, message_of};
 ghost use Rattle.hd_hall.specs.Closings.{AreTurnsOf};
-ghost use Rattle.hd_hall.specs.Receipts.{received, told};
+ghost use Rattle.hd_hall.specs.Receipts.{receipt_of, receipt_shown};
 ghost use Rattle.hd_hall.specs.Seats.{EachSeat, IsWhole, with_receipt};
 ghost use Rattle.hd_hall.specs.Submitting.{AreNext, IsNextOf, IsStrangeTo, IsSubmitFault};
 
@@ -28,7 +28,6 @@ use std::sync::{Arc, Mutex, Wait};
 ///
 /// Under the lock are the journal's keeper, the book of the ledger, the parts that no seat has and the number
 /// of seats opened. The journal is always legal.
-#[derive(Drop)]
 pub struct Hall<
     H: House,
     A: Allocator = Global,
@@ -39,6 +38,17 @@ pub struct Hall<
     pub(crate) catalogue: Arc<Catalogue<A>, A>,
     pub(crate) shared: Mutex<Locked<H, A, Q, K>>,
     ghost ours: { arc_value catalogue ≡ H.opening.contents },
+}
+
+// Written out, so that a caller's proof sees one call and not the drop of each field.
+impl<H: House, A: Allocator, Q: Drop, K: Keeper<A, Q> + Drop> Drop for Hall<H, A, Q, K> {
+    fn drop(self) {
+        let Hall {
+            alloc: _alloc,
+            catalogue: _catalogue,
+            shared: _shared,
+        } = self;
+    }
 }
 
 /// Why a hall did not close. The seats come back as they were.
@@ -129,20 +139,20 @@ impl<H: House, A: Allocator + Copy, Q: Drop, K: Keeper<A, Q> + Drop> Hall<H, A, 
     ) -> Result<Receipt<'l>, HallFault>
         requires part { seat.old.parts ≡ 1 }
         requires seat { ask.now.seat ≡ seat.old.number }
-        requires known { IsKnownMessage (facts_of H.opening.contents) (sent ask.now).message }
+        requires known { IsKnownMessage (facts_of H.opening.contents) (message_of ask.now).message }
         ensures turn { IfOk result (λ receipt.
-            (told receipt).turn ≡ replied (sent ask.now) receipt.turn.reply) }
-        ensures next { IfOk result (λ receipt. IsNextOf H.opening seat.old.receipts (told receipt)) }
-        ensures kept { IfOk result (λ receipt. seat.new ≡ with_receipt seat.old (told receipt)) }
+            (receipt_shown receipt).turn ≡ turn_with_reply (message_of ask.now) receipt.turn.reply) }
+        ensures next { IfOk result (λ receipt. IsNextOf H.opening seat.old.receipts (receipt_shown receipt)) }
+        ensures kept { IfOk result (λ receipt. seat.new ≡ with_receipt seat.old (receipt_shown receipt)) }
         ensures all { AreNext H.opening seat.new.receipts }
         ensures why { IfErr result
             (IsSubmitFault K.faults (IsStrangeTo H.opening seat.old.receipts)) }
         ensures err { OnErr result (seat.new ≡ seat.old) }
     {
         let Seat {
+            number: _number,
             receipts,
             share,
-            ..
         } = seat;
         receipts.reserve(1)?;
         let copy = ask.to_owned(self.alloc)?;
@@ -222,7 +232,7 @@ impl<H: House, A: Allocator + Copy, Q: Drop, K: Keeper<A, Q> + Drop> Hall<H, A, 
         requires part { 0 < share.old.parts }
         requires known { IsKnownMessage (facts_of H.opening.contents) (K.asks own).message }
         ensures next { IfOk result (λ made.
-            IsNextOf H.opening receipts.now (received (K.asks own) made)) }
+            IsNextOf H.opening receipts.now (receipt_of (K.asks own) made)) }
         ensures share { OnOk result (share.new.amount ≡ share.old.amount + 1) }
         ensures parts { share.new.parts ≡ share.old.parts }
         ensures why { IfErr result (IsSubmitFault K.faults (IsStrangeTo H.opening receipts.now)) }

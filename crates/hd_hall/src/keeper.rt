@@ -4,11 +4,11 @@ ghost use Rattle.std.specs.Prelude.{◌≡◌, List, IfErr, IfOk, OnErr, length,
 ghost use Rattle.std.specs.Arc.{arc_value};
 ghost use Rattle.hd_rules.specs.Journal.{Turn};
 ghost use Rattle.hd_catalogue.specs.Contents.{facts_of};
-ghost use Rattle.hd_journal.specs.Asks.{IsKnownMessage, SeatMessage, sent};
+ghost use Rattle.hd_journal.specs.Asks.{IsKnownMessage, SeatMessage, message_of};
 ghost use Rattle.hd_journal.specs.Books.{turn_numbered};
-ghost use Rattle.hd_journal.specs.Shown.{shown};
+ghost use Rattle.hd_journal.specs.Shown.{turn_shown};
 ghost use Rattle.hd_hall.specs.Keepers.{IsAdded};
-ghost use Rattle.hd_hall.specs.Openings.{Opening, IsLegalFrom};
+ghost use Rattle.hd_hall.specs.Openings.{Opening, IsLegalSince};
 ghost use Rattle.hd_hall.specs.declared.fault.KeeperFault.{KeeperFault};
 
 use crate::fault::KeeperFault;
@@ -39,7 +39,7 @@ pub trait Keeper<A: Allocator, Q: Drop> {
     /// # Errors
     /// Where there is no memory for it.
     fn own(alloc: A, ask: &Ask<'_>) -> Result<Q, AllocError>
-        ensures { IfOk result (λ own. asks own ≡ sent ask.now) };
+        ensures { IfOk result (λ own. asks own ≡ message_of ask.now) };
 
     /// The catalogue.
     fn catalogue(&self) -> &Arc<Catalogue<A>, A>
@@ -48,11 +48,11 @@ pub trait Keeper<A: Allocator, Q: Drop> {
     /// How many turns there are, since it became a keeper.
     fn front(&self) -> usize
         ensures count { result ≡ length (turns self.now) }
-        ensures legal { IsLegalFrom (opening self.now) (turns self.now) };
+        ensures legal { IsLegalSince (opening self.now) (turns self.now) };
 
     /// The turn of a number, from 1, or `None` where there is none.
     fn turn_at(&self, at: usize) -> Option<TurnRef<'_>>
-        ensures { option_map shown result ≡ turn_numbered (turns self.now) at };
+        ensures { option_map turn_shown result ≡ turn_numbered (turns self.now) at };
 
     /// One turn: what a terminal of a seat asks. What it names, and the terminal, are of the catalogue.
     ///
@@ -61,7 +61,7 @@ pub trait Keeper<A: Allocator, Q: Drop> {
     fn take(&mut self, own: Q) -> Result<Turn, KeeperFault>
         requires { IsKnownMessage (facts_of (opening self.old).contents) (asks own).message }
         ensures turn { IfOk result (λ made. IsAdded (turns self.old) (turns self.new) (asks own) made) }
-        ensures legal { IsLegalFrom (opening self.new) (turns self.new) }
+        ensures legal { IsLegalSince (opening self.new) (turns self.new) }
         ensures why { IfErr result faults }
         ensures err { OnErr result (turns self.new ≡ turns self.old) }
         ensures same { opening self.new ≡ opening self.old };

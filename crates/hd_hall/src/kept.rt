@@ -1,8 +1,8 @@
 //! Receipts, as a seat keeps them.
 
 ghost use Rattle.std.specs.Prelude.{◌≡◌, ◌↔◌, IsTrue};
-ghost use Rattle.hd_journal.specs.Shown.{shown};
-ghost use Rattle.hd_hall.specs.Receipts.{received};
+ghost use Rattle.hd_journal.specs.Shown.{turn_shown};
+ghost use Rattle.hd_hall.specs.Receipts.{receipt_of};
 
 use hd_journal::{Entry, OwnedAsk, Turn, TurnRef};
 use std::alloc::Allocator;
@@ -26,7 +26,7 @@ impl<A: Allocator> Model for Kept<A> {
 impl<A: Allocator> Kept<A> {
     /// The receipt of the turn that was made of this.
     pub(crate) fn new(ask: OwnedAsk<A>, made: &Turn) -> Kept<A>
-        ensures { result ≡ received ask made.now }
+        ensures { result ≡ receipt_of ask made.now }
     {
         Kept {
             number: made.at,
@@ -43,14 +43,14 @@ impl<A: Allocator> Kept<A> {
 
     /// The turn, with its line lent.
     pub fn turn(&self) -> TurnRef<'_>
-        ensures { shown result ≡ self.now.turn }
+        ensures { turn_shown result ≡ self.now.turn }
     {
         self.turn.show()
     }
 
     /// Whether it is of this turn, with this number: the same seat, terminal, question, line and reply.
     pub(crate) fn is_of(&self, number: usize, turn: &TurnRef<'_>) -> bool
-        ensures { IsTrue result ↔ (self.now ≡ record { number = number; turn = shown turn.now }) }
+        ensures { IsTrue result ↔ (self.now ≡ record { number = number; turn = turn_shown turn.now }) }
     {
         number == self.number && self.turn.is_of(turn)
     }

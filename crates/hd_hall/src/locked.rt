@@ -5,8 +5,8 @@ ghost use Rattle.std.specs.Prelude.{IfNone, OnOk, OnErr, OnSome, false, length, 
 ghost use Rattle.hd_catalogue.specs.Contents.{facts_of};
 ghost use Rattle.hd_journal.specs.Asks.{IsKnownMessage};
 ghost use Rattle.hd_hall.specs.Keepers.{IsAdded};
-ghost use Rattle.hd_hall.specs.Openings.{IsLegalFrom};
-ghost use Rattle.hd_hall.specs.Receipts.{HoldsLast, LacksLast, Stands, last_receipt};
+ghost use Rattle.hd_hall.specs.Openings.{IsLegalSince};
+ghost use Rattle.hd_hall.specs.Receipts.{HoldsLast, LacksLast, StandsAt, last_receipt};
 ghost use Rattle.hd_hall.specs.Submitting.{IsSubmitFault};
 
 use crate::fault::HallFault;
@@ -87,7 +87,7 @@ impl<H: House, A: Allocator + Copy, Q: Drop, K: Keeper<A, Q>> Locked<H, A, Q, K>
     ) -> Result<Turn, HallFault>
         requires part { 0 < share.old.parts }
         requires known { IsKnownMessage (facts_of H.opening.contents) (K.asks own).message }
-        ensures legal { IsLegalFrom H.opening (K.turns self.new.keeper) }
+        ensures legal { IsLegalSince H.opening (K.turns self.new.keeper) }
         ensures turn { IfOk result (λ made.
             IsAdded (K.turns self.old.keeper) (K.turns self.new.keeper) (K.asks own) made) }
         ensures holds { OnOk result (HoldsLast (K.turns self.old.keeper) receipts.now) }
@@ -138,7 +138,7 @@ pub(crate) fn stands<A: Allocator + Copy, Q: Drop, K: Keeper<A, Q>>(
     keeper: &K,
     receipt: &Kept<A>,
 ) -> bool
-    ensures { IsTrue result ↔ Stands (K.turns keeper.now) receipt.now }
+    ensures { IsTrue result ↔ StandsAt (K.turns keeper.now) receipt.now }
 {
     match keeper.turn_at(receipt.number()) {
         Some(turn) => receipt.is_of(receipt.number(), &turn),

@@ -1,7 +1,7 @@
 //! Seats.
 
 ghost use Rattle.std.specs.Prelude.{◌≡◌, ◌+◌, ◌<◌, ◌≤◌, length};
-ghost use Rattle.hd_hall.specs.Seats.{lent, held, IsSeat, IsWhole};
+ghost use Rattle.hd_hall.specs.Seats.{without_part, with_part, IsSeat, IsWhole};
 
 use crate::house::House;
 use crate::kept::Kept;
@@ -15,11 +15,21 @@ use std::sync::ledger::Share;
 ///
 /// Its receipts are its own, in the order of the journal, and its share of what the ledger counts is their
 /// number.
-#[derive(Drop)]
 pub struct Seat<H: House, A: Allocator = Global> {
     pub(crate) number: SeatNo,
     pub(crate) receipts: Vec<Kept<A>, A>,
     pub(crate) share: Share<H>,
+}
+
+// Written out, so that a caller's proof sees one call and not the drop of each field.
+impl<H: House, A: Allocator> Drop for Seat<H, A> {
+    fn drop(self) {
+        let Seat {
+            number: _number,
+            receipts: _receipts,
+            share: _share,
+        } = self;
+    }
 }
 
 impl<H: House, A: Allocator> Model for Seat<H, A> {
@@ -62,7 +72,7 @@ impl<H: House, A: Allocator> Seat<H, A> {
     pub(crate) fn lend(&mut self, all: &mut Share<H>)
         requires { self.old.parts ≡ 1 }
         ensures whole { IsWhole self.old }
-        ensures lent { self.new ≡ lent self.old }
+        ensures lent { self.new ≡ without_part self.old }
         ensures parts { all.new.parts ≡ all.old.parts + 1 }
         ensures amount { all.new.amount ≡ all.old.amount + self.old.share }
     {
@@ -75,7 +85,7 @@ impl<H: House, A: Allocator> Seat<H, A> {
         requires lent { self.old.parts ≡ 0 }
         requires parts { 1 < all.old.parts }
         requires amount { length self.old.receipts ≤ all.old.amount }
-        ensures held { self.new ≡ held self.old }
+        ensures held { self.new ≡ with_part self.old }
         ensures parts { all.new.parts + 1 ≡ all.old.parts }
         ensures amount { all.new.amount + length self.old.receipts ≡ all.old.amount }
     {

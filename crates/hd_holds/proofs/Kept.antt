@@ -9,7 +9,7 @@ use Rattle.hd_catalogue.specs.Contents.{Contents, facts_of}
 use Rattle.hd_queue.specs.Holds.{hold_of}
 use Rattle.hd_queue.specs.QueueValue.{QueueValue}
 use Rattle.hd_holds.specs.HoldsValue.{HoldsValue}
-use Rattle.hd_holds.specs.Held.{IsQueue, facts, held, no_queue, queue_of, room_of}
+use Rattle.hd_holds.specs.Held.{IsQueue, facts, patron_hold, no_queue, queue_of, room_of}
 use Rattle.hd_holds.specs.Places.{HasOneMore, IsPlaced, queues_at}
 use Rattle.hd_holds.proofs.Queues.{Reads, held-ready, queue_of-set, reads-within, written}
 use Rattle.hd_holds.proofs.Placed.{place_of, placed-added, placed-written, queue-none, queue-own, queues-added, queues-written, titles-places}
@@ -49,7 +49,7 @@ module _ {v w : HoldsValue} {t : ℕ} {q : QueueValue} (reads : Reads v w t q) w
 
 -- what making room for more of a title's holds comes to
 pub record IsReady {T E : Type 0} (o : Result T E) (old new : HoldsValue) (t more : ℕ) : Type 0 where
-  pub held : held new ≡ held old
+  pub held : patron_hold new ≡ patron_hold old
   pub contents : new.contents ≡ old.contents
   pub ok : OnOk o (more ≤ room_of new t)
   pub err : OnErr o (new ≡ old)
@@ -60,7 +60,7 @@ pub ready-written : {T E : Type 0} (o : Result T E) {v w : HoldsValue} {t : ℕ}
     (new : HoldsValue) (more : ℕ) (r : QueueValue) → new ≡ written v t r → r.holds ≡ q.holds → OnOk o (more ≤ r.room) → OnErr o (r ≡ q) → OnErr o (q.room < more) → q.room ≤ r.room →
     IsReady o w new t more
 ready-written (Ok x) {v} reads new more r is holds ok err full room = record {
-  held = ap held is ∙ held-ready reads r holds;
+  held = ap patron_hold is ∙ held-ready reads r holds;
   contents = ap (λ (x : HoldsValue). x.contents) is ∙ ap (λ (x : HoldsValue). x.contents) reads.same;
   ok = rw (is, room-new reads r) ok;
   err = tt;
@@ -68,7 +68,7 @@ ready-written (Ok x) {v} reads new more r is holds ok err full room = record {
   room = λ u. rw is (omega (arith, room-kept reads r 0 u (omega arith)));
 }
 ready-written (Err e) {v} {w} {t} reads new more r is holds ok err full room = record {
-  held = ap held is ∙ held-ready reads r holds;
+  held = ap patron_hold is ∙ held-ready reads r holds;
   contents = ap (λ (x : HoldsValue). x.contents) is ∙ ap (λ (x : HoldsValue). x.contents) reads.same;
   ok = tt;
   err = is ∙ ap (written v t) err ∙ written-same reads;
@@ -78,8 +78,8 @@ ready-written (Err e) {v} {w} {t} reads new more r is holds ok err full room = r
 
 -- a title without a queue has no hold, and no room for one
 pub held-none : {v w : HoldsValue} {t : ℕ} → Reads v w t no_queue → (p : ℕ) (o : Option Hold) → ((x : Hold) → o ≡ Some x → 0 < room_of w t) →
-    held w ≡ (λ u n. cond ((t == u) && (p == n)) o (held w u n))
-unfolding held
+    patron_hold w ≡ (λ u n. cond ((t == u) && (p == n)) o (patron_hold w u n))
+unfolding patron_hold
 held-none {v} {w} {t} reads p None room = λ j u n. each u n j
   where
     none : (n : ℕ) → hold_of (queue_of w.queues t).holds n ≡ None

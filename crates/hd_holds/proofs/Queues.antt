@@ -13,7 +13,7 @@ use Rattle.hd_rules.specs.Choose.{count_below, is_before, position}
 use Rattle.hd_queue.specs.Holds.{HasNoStamp, count_before, hold_of, without}
 use Rattle.hd_queue.specs.QueueValue.{QueueValue}
 use Rattle.hd_holds.specs.HoldsValue.{HoldsValue}
-use Rattle.hd_holds.specs.Held.{AreQueues, IsQueue, IsWelcome, facts, held, queue_of, with_held}
+use Rattle.hd_holds.specs.Held.{AreQueues, IsQueue, IsWelcome, facts, patron_hold, queue_of, with_held}
 use Rattle.hd_holds.proofs.Counts.{count-all, count-holds, count-le}
 use Rattle.hd_queue.specs.Laws.{QueuesStayInOrder}
 use Rattle.hd_holds.proofs.Lists.{hold-named, hold_of-with_held, known-held, known-patrons, no_stamp-without, queue-with_held, stamps-apart}
@@ -21,8 +21,8 @@ use Rattle.hd_holds.proofs.Lists.{hold-named, hold_of-with_held, known-held, kno
 pub queue-empty : (k : Facts) (hs : List Hold) → hs ≡ [] → IsQueue k hs
 queue-empty k hs e = rw e record { ordered = tt; once = tt; known = tt }
 
-pub held-empty : (v : HoldsValue) → ((t : ℕ) → (queue_of v.queues t).holds ≡ []) → held v ≡ (λ t p. None)
-unfolding held
+pub held-empty : (v : HoldsValue) → ((t : ℕ) → (queue_of v.queues t).holds ≡ []) → patron_hold v ≡ (λ t p. None)
+unfolding patron_hold
 held-empty v none = λ i t p. hold_of (none t i) p
 
 -- the queues after one of them is written
@@ -47,8 +47,8 @@ queues-set k qs i q l all is = record {
 
 -- what is held after a queue is written that has a patron's hold otherwise, and is otherwise the title's
 pub held-set : (v e : HoldsValue) (i : ℕ) (q : QueueValue) (p : ℕ) (o : Option Hold) → e.queues ≡ set v.queues i q → i < length v.queues →
-    ((n : ℕ) → hold_of q.holds n ≡ cond (p == n) o (held v i n)) → held e ≡ (λ t n. cond ((i == t) && (p == n)) o (held v t n))
-unfolding held
+    ((n : ℕ) → hold_of q.holds n ≡ cond (p == n) o (patron_hold v i n)) → patron_hold e ≡ (λ t n. cond ((i == t) && (p == n)) o (patron_hold v t n))
+unfolding patron_hold
 held-set v e i q p o queues l holds = λ j t n. all t n j
   where
     one : (b : Bool) (t n : ℕ) → (i == t) ≡ b → hold_of (cond b q (queue_of v.queues t)).holds n
@@ -62,8 +62,8 @@ held-set v e i q p o queues l holds = λ j t n. all t n j
 
 -- the holds are as they were
 pub held-same : (v e : HoldsValue) (i : ℕ) (q : QueueValue) → e.queues ≡ set v.queues i q → i < length v.queues →
-    q.holds ≡ (queue_of v.queues i).holds → held e ≡ held v
-unfolding held
+    q.holds ≡ (queue_of v.queues i).holds → patron_hold e ≡ patron_hold v
+unfolding patron_hold
 held-same v e i q queues l holds = λ j t n. hold_of (all t j) n
   where
     one : (b : Bool) (t : ℕ) → (i == t) ≡ b → (cond b q (queue_of v.queues t)).holds ≡ (queue_of v.queues t).holds
@@ -75,37 +75,37 @@ held-same v e i q queues l holds = λ j t n. hold_of (all t j) n
         ∙ ap (λ (r : QueueValue). r.holds) (queue_of-set v.queues i q t l) ∙ one (i == t) t refl
 
 -- a welcome hold is the patron's own, and its stamp is not in the title's queue beside the patron's
-welcome-own : (v : HoldsValue) (t p : ℕ) (o : Option Hold) → IsWelcome (held v) t p o → (h : Hold) → o ≡ Some h → h.patron ≡ p
+welcome-own : (v : HoldsValue) (t p : ℕ) (o : Option Hold) → IsWelcome (patron_hold v) t p o → (h : Hold) → o ≡ Some h → h.patron ≡ p
 welcome-own v t p None fit h is = cc
 welcome-own v t p (Some x) fit h is = let same : x ≡ h = cc in ap (λ (y : Hold). y.patron) (sym same) ∙ fit.0
 
-welcome-stamp : QueuesStayInOrder → (v : HoldsValue) (t p : ℕ) (o : Option Hold) → IsQueue (facts v) (queue_of v.queues t).holds → IsWelcome (held v) t p o →
+welcome-stamp : QueuesStayInOrder → (v : HoldsValue) (t p : ℕ) (o : Option Hold) → IsQueue (facts v) (queue_of v.queues t).holds → IsWelcome (patron_hold v) t p o →
     (h : Hold) → o ≡ Some h → HasNoStamp h.stamp (without (queue_of v.queues t).holds p)
-unfolding held
+unfolding patron_hold
 welcome-stamp law v t p None is fit h e = cc
 welcome-stamp law v t p (Some x) is fit h e =
     let same : x ≡ h = cc in
     rw (← same) (no_stamp-without law x.stamp (queue_of v.queues t).holds p is.once fit.1)
 
 -- the answers from a queue
-pub position-queue : (v : HoldsValue) (t stamp : ℕ) → IsQueue (facts v) (queue_of v.queues t).holds → (d : Desk) → d.hold ≡ held v →
+pub position-queue : (v : HoldsValue) (t stamp : ℕ) → IsQueue (facts v) (queue_of v.queues t).holds → (d : Desk) → d.hold ≡ patron_hold v →
     count_before (queue_of v.queues t).holds stamp + 1 ≡ position (facts v) d t stamp
-unfolding held
+unfolding patron_hold
 position-queue v t stamp is d same =
     sym (ap (λ (n : ℕ). n + 1) (ap (λ (h : ℕ → ℕ → Option Hold). count_below (λ n. is_before stamp (h t n)) (facts v).patrons) same
     ∙ count-holds (is_before stamp) refl (queue_of v.queues t).holds (facts v).patrons is.once
     (known-patrons (facts v) (queue_of v.queues t).holds is.known)))
 
 pub count-queue : (v : HoldsValue) (t : ℕ) → IsQueue (facts v) (queue_of v.queues t).holds →
-    length (queue_of v.queues t).holds ≡ count_below (λ p. is_some (held v t p)) (facts v).patrons
-unfolding held
+    length (queue_of v.queues t).holds ≡ count_below (λ p. is_some (patron_hold v t p)) (facts v).patrons
+unfolding patron_hold
 count-queue v t is =
     sym (count-holds is_some refl (queue_of v.queues t).holds (facts v).patrons is.once
     (known-patrons (facts v) (queue_of v.queues t).holds is.known) ∙ count-all (queue_of v.queues t).holds)
 
 pub few-holds : (v : HoldsValue) (t : ℕ) → IsQueue (facts v) (queue_of v.queues t).holds →
     length (queue_of v.queues t).holds ≤ (facts v).patrons
-few-holds v t is = rw (count-queue v t is) (count-le (λ p. is_some (held v t p)) (facts v).patrons)
+few-holds v t is = rw (count-queue v t is) (count-le (λ p. is_some (patron_hold v t p)) (facts v).patrons)
 
 -- the queue of a title, of holds v that are w
 pub record Reads (v w : HoldsValue) (t : ℕ) (q : QueueValue) : Type 0 where
@@ -123,17 +123,17 @@ module _ {v w : HoldsValue} {t : ℕ} {q : QueueValue} (reads : Reads v w t q) w
   reads-within = rw (reads.all.titles, reads.same) reads.within
 
   -- more room alone
-  pub held-ready : (r : QueueValue) → r.holds ≡ q.holds → held (written v t r) ≡ held w
+  pub held-ready : (r : QueueValue) → r.holds ≡ q.holds → patron_hold (written v t r) ≡ patron_hold w
   held-ready r holds =
       held-same v (written v t r) t r refl reads-within (holds ∙ ap (λ (x : QueueValue). x.holds) reads.read)
-      ∙ ap held reads.same
+      ∙ ap patron_hold reads.same
 
   pub queue-ready : (r : QueueValue) → r.holds ≡ q.holds → IsQueue (facts v) r.holds
   queue-ready r holds = rw (holds, reads.read) (reads.all.queue t)
 
   -- a patron's hold becomes another, or none
-  module _ (law : QueuesStayInOrder) (p : ℕ) (o : Option Hold) (fit : IsWelcome (held w) t p o) where
-    welcome-read : IsWelcome (held v) t p o
+  module _ (law : QueuesStayInOrder) (p : ℕ) (o : Option Hold) (fit : IsWelcome (patron_hold w) t p o) where
+    welcome-read : IsWelcome (patron_hold v) t p o
     welcome-read = rw reads.same fit
 
     pub stamp-put : (h : Hold) → o ≡ Some h → HasNoStamp h.stamp (without q.holds p)
@@ -148,24 +148,24 @@ module _ {v w : HoldsValue} {t : ℕ} {q : QueueValue} (reads : Reads v w t q) w
         rw holds (queue-with_held law (facts v) q.holds p o is (rw reads.same known) own stamp-put)
 
     pub held-put : (r : QueueValue) → r.holds ≡ with_held q.holds p o →
-        held (written v t r) ≡ (λ u n. cond ((t == u) && (p == n)) o (held w u n))
-    unfolding held
+        patron_hold (written v t r) ≡ (λ u n. cond ((t == u) && (p == n)) o (patron_hold w u n))
+    unfolding patron_hold
     held-put r holds =
-        let each : (n : ℕ) → hold_of r.holds n ≡ cond (p == n) o (held v t n) = λ n.
+        let each : (n : ℕ) → hold_of r.holds n ≡ cond (p == n) o (patron_hold v t n) = λ n.
         ap (λ (hs : List Hold). hold_of hs n) (holds ∙ ap (λ (x : QueueValue). with_held x.holds p o) reads.read)
         ∙ hold_of-with_held law (queue_of v.queues t).holds p n o own in
         held-set v (written v t r) t r p o refl reads-within each
-        ∙ (λ j u n. cond ((t == u) && (p == n)) o (held (reads.same j) u n))
+        ∙ (λ j u n. cond ((t == u) && (p == n)) o (patron_hold (reads.same j) u n))
 
 -- holds of queues are fit
-pub held-named : (v : HoldsValue) → AreNamed (held v)
-unfolding held
+pub held-named : (v : HoldsValue) → AreNamed (patron_hold v)
+unfolding patron_hold
 held-named v = λ t p h is. hold-named (queue_of v.queues t).holds p h is
 
-pub held-apart : (v : HoldsValue) → AreQueues (facts v) v.queues → StampsApart (held v)
-unfolding held
+pub held-apart : (v : HoldsValue) → AreQueues (facts v) v.queues → StampsApart (patron_hold v)
+unfolding patron_hold
 held-apart v all = λ t p q g h one two same. stamps-apart (queue_of v.queues t).holds (all.queue t).ordered p q g h one two same
 
-pub held-known : (v : HoldsValue) → AreQueues (facts v) v.queues → (t p : ℕ) → IsKnownHeld (facts v) (held v t p)
-unfolding held
+pub held-known : (v : HoldsValue) → AreQueues (facts v) v.queues → (t p : ℕ) → IsKnownHeld (facts v) (patron_hold v t p)
+unfolding patron_hold
 held-known v all t p = known-held (facts v) (queue_of v.queues t).holds p (all.queue t).known

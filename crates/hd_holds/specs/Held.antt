@@ -21,8 +21,8 @@ abbrev pub queue_of : List QueueValue → ℕ → QueueValue
 queue_of queues title = get_or queues title no_queue
 
 -- the patron's hold of the title, if any
-unfoldable pub held : HoldsValue → ℕ → ℕ → Option Hold
-held v title patron = hold_of (queue_of v.queues title).holds patron
+unfoldable pub patron_hold : HoldsValue → ℕ → ℕ → Option Hold
+patron_hold v title patron = hold_of (queue_of v.queues title).holds patron
 
 -- how many more holds of the title there is room for
 unfoldable pub room_of : HoldsValue → ℕ → ℕ

@@ -1,5 +1,5 @@
 //! Holds, a queue for each title.
-#![tactic(auto, unfolding(crate::specs::Held::held, crate::specs::Held::room_of))]
+#![tactic(auto, unfolding(crate::specs::Held::patron_hold, crate::specs::Held::room_of))]
 
 ghost use Rattle.std.specs.Prelude.{[], ◌≡◌, ◌+◌, ◌<◌, ◌≤◌, ◌==◌, ◌&&◌, ℕ, if◌then◌else◌, IfOk, None, OnErr};
 ghost use Rattle.std.specs.Prelude.{◌^◌, OnOk, Option, is_some, length, slice_set};
@@ -10,7 +10,8 @@ ghost use Rattle.hd_rules.specs.Desk.{Desk};
 ghost use Rattle.hd_rules.specs.Known.{IsKnownHeld};
 ghost use Rattle.hd_rules.specs.Sound.{AreNamed, StampsApart};
 ghost use Rattle.hd_queue.specs.Holds.{HasNoStamp, HasPatronsOnce, IsInOrder, hold_of, without};
-ghost use Rattle.hd_holds.specs.Held.{AreKnown, AreOfPatrons, AreQueues, IsQueue, IsWelcome, facts, held};
+ghost use Rattle.hd_holds.specs.Held.{AreKnown, AreOfPatrons, AreQueues, IsQueue, IsWelcome, facts};
+ghost use Rattle.hd_holds.specs.Held.{patron_hold};
 ghost use Rattle.hd_holds.specs.Held.{queue_of, room_of, with_held};
 ghost use Rattle.hd_holds.specs.Places.{HasOneMore};
 
@@ -54,7 +55,7 @@ impl<A: Allocator + Copy> Holds<A> {
     /// No holds of any title of the catalogue.
     pub fn open(alloc: A, catalogue: Arc<Catalogue<A>, A>) -> Result<Holds<A>, AllocError>
         ensures contents { IfOk result (λ made. made.contents ≡ arc_value catalogue) }
-        ensures none { IfOk result (λ made. held made ≡ (λ t p. None)) }
+        ensures none { IfOk result (λ made. patron_hold made ≡ (λ t p. None)) }
     {
         let places = vec![in alloc; 0; catalogue.titles()]?;
         let mut queues = Vec::new(alloc);
@@ -71,10 +72,10 @@ impl<A: Allocator + Copy> Holds<A> {
     /// Holds stand under their own patrons, and no two of a title have one stamp.
     pub fn get(&self, title: TitleNo, patron: PatronNo) -> Option<Hold>
         requires { title < (facts self.now).titles }
-        ensures held { result ≡ held self.now title patron }
+        ensures held { result ≡ patron_hold self.now title patron }
         ensures known { IsKnownHeld (facts self.now) result }
-        ensures named { AreNamed (held self.now) }
-        ensures apart { StampsApart (held self.now) }
+        ensures named { AreNamed (patron_hold self.now) }
+        ensures apart { StampsApart (patron_hold self.now) }
     {
         self.queue(title).hold_of(patron)
     }
@@ -84,7 +85,7 @@ impl<A: Allocator + Copy> Holds<A> {
     /// Want of memory changes nothing, and comes only where there was less room.
     pub fn ready(&mut self, title: TitleNo, more: usize) -> Result<(), AllocError>
         requires { title < (facts self.old).titles }
-        ensures held { held self.new ≡ held self.old }
+        ensures held { patron_hold self.new ≡ patron_hold self.old }
         ensures contents { self.new.contents ≡ self.old.contents }
         ensures ok { OnOk result (more ≤ room_of self.new title) }
         ensures err { OnErr result (self.new ≡ self.old) }
@@ -111,9 +112,9 @@ impl<A: Allocator + Copy> Holds<A> {
         requires patron { patron < (facts self.old).patrons }
         requires known { IsKnownHeld (facts self.old) new.now }
         requires room { ForSome new.now (λ hold. 0 < room_of self.old title) }
-        requires fit { IsWelcome (held self.old) title patron new.now }
-        ensures held { held self.new
-            ≡ (λ t p. if (title == t) && (patron == p) then new.now else held self.old t p) }
+        requires fit { IsWelcome (patron_hold self.old) title patron new.now }
+        ensures held { patron_hold self.new
+            ≡ (λ t p. if (title == t) && (patron == p) then new.now else patron_hold self.old t p) }
         ensures contents { self.new.contents ≡ self.old.contents }
         ensures room { (t : ℕ) → room_of self.old t ≤ room_of self.new t + 1 }
     {
@@ -128,7 +129,7 @@ impl<A: Allocator + Copy> Holds<A> {
     /// The position that a hold with this stamp has in the title's queue, from 1.
     pub fn position(&self, title: TitleNo, stamp: u64) -> u64
         requires { title < (facts self.now).titles }
-        ensures { (d : Desk) → d.hold ≡ held self.now
+        ensures { (d : Desk) → d.hold ≡ patron_hold self.now
             → result ≡ position (facts self.now) d title stamp }
     {
         self.queue(title).count_before(stamp) as u64 + 1
@@ -138,7 +139,7 @@ impl<A: Allocator + Copy> Holds<A> {
     pub fn count(&self, title: TitleNo) -> u32
         requires { title < (facts self.now).titles }
         ensures { result
-            ≡ count_below (λ p. is_some (held self.now title p)) (facts self.now).patrons }
+            ≡ count_below (λ p. is_some (patron_hold self.now title p)) (facts self.now).patrons }
     {
         self.queue(title).len() as u32
     }
@@ -146,7 +147,7 @@ impl<A: Allocator + Copy> Holds<A> {
     /// The title's queue. The stamps rise, and no patron has two holds.
     pub fn view(&self, title: TitleNo) -> QueueView<'_>
         requires { title < (facts self.now).titles }
-        ensures holds { (p : ℕ) → held self.now title p ≡ hold_of result p }
+        ensures holds { (p : ℕ) → patron_hold self.now title p ≡ hold_of result p }
         ensures ordered { IsInOrder result }
         ensures once { HasPatronsOnce result }
         ensures patrons { AreOfPatrons (facts self.now).patrons result }

@@ -4,7 +4,7 @@ use Rattle.std.proofs.Common.{get_or, set, refl, ap, subst, ◌∙◌, arith, su
 use Rattle.std.proofs.lemmas.List.{map-append, take_more_set}
 use Rattle.std.specs.List.{AllByRecursion}
 use Rattle.hd_index.specs.Rising.{IsRising}
-use Rattle.hd_index.specs.Union.{AreLists, IsBehindFirst, IsNotBelow, least_first, union, union_with}
+use Rattle.hd_index.specs.Union.{AreUnionLists, IsBehindFirst, IsNotBelow, least_first, union, union_with}
 use Rattle.hd_index.proofs.UnionLemmas.{AreAbove, joined_first, least_is, least_some, union_above, weaker}
 
 above_list : (h n : ℕ) (ns : List ℕ) → h < n → IsRising ns → IsNotBelow n ns → AreAbove h ns
@@ -19,10 +19,10 @@ above_each h n (ns ∷ lists) less up low =
 
 -- what is known of a union whose first list begins with a number below the others
 pub record IsAhead (h count n : ℕ) (old new : List (List ℕ)) : Type 0 where
-  pub lists : AreLists count n new
+  pub lists : AreUnionLists count n new
   pub steps : union old ≡ h ∷ union new
 
-pub ahead : {X : Type 0} (now : X → List ℕ) (count n h : ℕ) (v d : X) (xs : List X) → AreLists count n (map now (take count xs))
+pub ahead : {X : Type 0} (now : X → List ℕ) (count n h : ℕ) (v d : X) (xs : List X) → AreUnionLists count n (map now (take count xs))
     → 0 < length xs → now (get_or xs 0 d) ≡ h ∷ now v → h < n
     → IsAhead h count n (map now (take count xs)) (map now (take count (set xs 0 v)))
 ahead now count n h v d [] are some first less = absurd (omega (arith, some))
@@ -62,8 +62,8 @@ each_more [] ns up rising = (rising, tt)
 each_more (ms ∷ lists) ns up rising = (up.0, each_more lists ns up.1 rising)
 
 -- a list more, of which no bound is known
-pub one_more : {X : Type 0} (now : X → List ℕ) (count n : ℕ) (v : X) (xs : List X) → AreLists count n (map now (take count xs))
-    → count < 12 → count < length xs → IsRising (now v) → AreLists (count + 1) 0 (map now (take (count + 1) (set xs count v)))
+pub one_more : {X : Type 0} (now : X → List ℕ) (count n : ℕ) (v : X) (xs : List X) → AreUnionLists count n (map now (take count xs))
+    → count < 12 → count < length xs → IsRising (now v) → AreUnionLists (count + 1) 0 (map now (take (count + 1) (set xs count v)))
 one_more now count n v xs are few room rising =
     let is : map now (take (count + 1) (set xs count v)) ≡ map now (take count xs) ++ now v ∷ [] =
     ap (map now) (take_more_set xs count v room) ∙ map-append now (take count xs) (v ∷ []) in

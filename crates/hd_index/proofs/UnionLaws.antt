@@ -4,7 +4,7 @@ use Rattle.std.proofs.lemmas.Bool.{cases_Bool}
 use Rattle.std.proofs.lemmas.Bool.Decides.{nat_tests}
 use Rattle.std.specs.List.{filter, list_any}
 use Rattle.hd_index.specs.Rising.{IsRising, above}
-use Rattle.hd_index.specs.Union.{UnionsAboveAreFilters, UnionsAreFilters, has, joined, union, union_with}
+use Rattle.hd_index.specs.Union.{UnionsAboveAreFilters, UnionsAreFilters, has, put_in_place, union, union_with}
 use Rattle.hd_index.proofs.RisingLemmas.{all_filter, rising_filter}
 use Rattle.hd_index.proofs.UnionLemmas.{front, joined_above, union_front, weaker}
 
@@ -50,7 +50,7 @@ pub are_filters_above : UnionsAboveAreFilters
 are_filters_above n ns tests up =
     ap union (parts_above n ns tests) ∙ are_filters (above n ns) tests (rising_filter (λ m. nat_lt n m) ns up)
 
-joined_rising : (n : ℕ) (ms : List ℕ) → IsRising ms → IsRising (joined n ms)
+joined_rising : (n : ℕ) (ms : List ℕ) → IsRising ms → IsRising (put_in_place n ms)
 joined_rising n [] up = (tt, tt)
 joined_rising n (m ∷ ms) up = elim (cases_Bool (nat_lt n m)) [
   | inl e ↦
@@ -86,7 +86,7 @@ grouped : (a b c : Bool) → (a || (b || c)) ≡ ((a || b) || c)
 grouped false b c = refl
 grouped true b c = refl
 
-joined_has : (n k : ℕ) (ms : List ℕ) → has n (joined k ms) ≡ ((k == n) || has n ms)
+joined_has : (n k : ℕ) (ms : List ℕ) → has n (put_in_place k ms) ≡ ((k == n) || has n ms)
 joined_has n k [] = refl
 joined_has n k (m ∷ ms) = elim (cases_Bool (nat_lt k m)) [
   | inl e ↦ rw e

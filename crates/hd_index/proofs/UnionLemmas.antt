@@ -5,13 +5,13 @@ use Rattle.std.proofs.lemmas.Bool.{cases_Bool}
 use Rattle.std.proofs.lemmas.Bool.Decides.{nat_tests}
 use Rattle.std.specs.List.{AllByRecursion, list_any}
 use Rattle.hd_index.specs.Rising.{IsRising}
-use Rattle.hd_index.specs.Union.{IsNotBelow, joined, least_first, past, union, union_with}
+use Rattle.hd_index.specs.Union.{IsNotBelow, put_in_place, least_first, past, union, union_with}
 
 -- each number of the list is above this one
 abbrev pub AreAbove : ℕ → List ℕ → Type 0
 AreAbove n ns = AllByRecursion (λ m. n < m) ns
 
-pub joined_above : (h n : ℕ) (ms : List ℕ) → h < n → AreAbove h ms → AreAbove h (joined n ms)
+pub joined_above : (h n : ℕ) (ms : List ℕ) → h < n → AreAbove h ms → AreAbove h (put_in_place n ms)
 joined_above h n [] l all = (l, tt)
 joined_above h n (m ∷ ms) l all = elim (cases_Bool (nat_lt n m)) [
   | inl e ↦ rw e (l, all)
@@ -25,20 +25,20 @@ pub union_above : (h : ℕ) (ns ms : List ℕ) → AreAbove h ns → AreAbove h 
 union_above h [] ms low all = all
 union_above h (n ∷ ns) ms low all = joined_above h n (union_with ns ms) low.0 (union_above h ns ms low.1 all)
 
-pub joined_first : (h : ℕ) (ms : List ℕ) → AreAbove h ms → joined h ms ≡ h ∷ ms
+pub joined_first : (h : ℕ) (ms : List ℕ) → AreAbove h ms → put_in_place h ms ≡ h ∷ ms
 joined_first h [] all = refl
 joined_first h (m ∷ ms) all =
     let less = all.0 in
     let e : nat_lt h m ≡ true = grind (arith, nat_tests) in
     rw e
 
-joined_same : (h : ℕ) (ms : List ℕ) → joined h (h ∷ ms) ≡ h ∷ ms
+joined_same : (h : ℕ) (ms : List ℕ) → put_in_place h (h ∷ ms) ≡ h ∷ ms
 joined_same h ms =
     let e : nat_lt h h ≡ false = grind (arith, nat_tests) in
     let f : (h == h) ≡ true = grind (arith, nat_tests) in
     rw (e, f)
 
-joined_behind : (h n : ℕ) (ms : List ℕ) → h < n → joined n (h ∷ ms) ≡ h ∷ joined n ms
+joined_behind : (h n : ℕ) (ms : List ℕ) → h < n → put_in_place n (h ∷ ms) ≡ h ∷ put_in_place n ms
 joined_behind h n ms l =
     let e : nat_lt n h ≡ false = grind (arith, nat_tests) in
     let f : (n == h) ≡ false = grind (arith, nat_tests) in
@@ -46,7 +46,7 @@ joined_behind h n ms l =
 
 union_behind : (h : ℕ) (ns ms : List ℕ) → AreAbove h ns → union_with ns (h ∷ ms) ≡ h ∷ union_with ns ms
 union_behind h [] ms low = refl
-union_behind h (n ∷ ns) ms low = ap (joined n) (union_behind h ns ms low.1) ∙ joined_behind h n (union_with ns ms) low.0
+union_behind h (n ∷ ns) ms low = ap (put_in_place n) (union_behind h ns ms low.1) ∙ joined_behind h n (union_with ns ms) low.0
 
 -- a list with a number before it, or without
 abbrev pub front : Bool → ℕ → List ℕ → List ℕ
@@ -58,7 +58,7 @@ pub union_front : (a b : Bool) (h : ℕ) (ns ms : List ℕ) → AreAbove h ns �
 union_front false false h ns ms low all = refl
 union_front false true h ns ms low all = union_behind h ns ms low
 union_front true false h ns ms low all = joined_first h (union_with ns ms) (union_above h ns ms low all)
-union_front true true h ns ms low all = ap (joined h) (union_behind h ns ms low) ∙ joined_same h (union_with ns ms)
+union_front true true h ns ms low all = ap (put_in_place h) (union_behind h ns ms low) ∙ joined_same h (union_with ns ms)
 
 -- the list begins with the number
 abbrev pub begins : ℕ → List ℕ → Bool

@@ -5,14 +5,15 @@ use Rattle.std.specs.List.{AllByRecursion, filter, list_any}
 use Rattle.hd_index.specs.Rising.{IsRising, above}
 
 -- a number put at its place in a rising list, where it isn't there yet
-abbrev pub joined : ℕ → List ℕ → List ℕ
-joined n [] = n ∷ []
-joined n (m ∷ ms) = if nat_lt n m then n ∷ (m ∷ ms) else if n == m then m ∷ ms else m ∷ joined n ms
+abbrev pub put_in_place : ℕ → List ℕ → List ℕ
+put_in_place n [] = n ∷ []
+put_in_place n (m ∷ ms) =
+    if nat_lt n m then n ∷ (m ∷ ms) else if n == m then m ∷ ms else m ∷ put_in_place n ms
 
 -- the numbers of one list put into another
 abbrev pub union_with : List ℕ → List ℕ → List ℕ
 union_with [] ms = ms
-union_with (n ∷ ns) ms = joined n (union_with ns ms)
+union_with (n ∷ ns) ms = put_in_place n (union_with ns ms)
 
 -- the numbers of all the lists, rising, each once
 abbrev pub union : List (List ℕ) → List ℕ
@@ -50,7 +51,7 @@ IsBehindFirst n [] = n ≡ 0
 IsBehindFirst n (ns ∷ lists) = AllByRecursion (IsNotBelow n) lists
 
 -- lists of a union: at most twelve, each rises, and those behind the first begin with no number below one
-pub record AreLists (count others : ℕ) (lists : List (List ℕ)) : Type 0 where
+pub record AreUnionLists (count others : ℕ) (lists : List (List ℕ)) : Type 0 where
   pub few : count ≤ 12
   pub rising : AllByRecursion IsRising lists
   pub behind : IsBehindFirst others lists

@@ -20,13 +20,13 @@ pub struct Union<'a> {
 
 impl<'a> Model for Union<'a> {
     ghost use Rattle.std.specs.Prelude.{List, ℕ, map, take};
-    ghost use Rattle.hd_index.specs.Union.{AreLists};
+    ghost use Rattle.hd_index.specs.Union.{AreUnionLists};
 
     ghost Value = { List (List ℕ) };
 
     ghost view = { λ u. map (λ list. list.now) (take u.count u.lists) };
 
-    ghost invariant = { λ u. AreLists u.count u.others (map (λ list. list.now) (take u.count u.lists)) };
+    ghost invariant = { λ u. AreUnionLists u.count u.others (map (λ list. list.now) (take u.count u.lists)) };
 }
 
 impl<'a> Union<'a> {

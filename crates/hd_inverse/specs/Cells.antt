@@ -6,7 +6,7 @@ use Rattle.hd_rules.specs.declared.cells.Value.{Value}
 use Rattle.hd_rules.specs.declared.cells.Value.TheVariants.{Copy as CopyHas, Hold as HoldHas}
 use Rattle.hd_rules.specs.declared.cells.Change.{Change}
 use Rattle.hd_rules.specs.Facts.{Facts}
-use Rattle.hd_rules.specs.Desk.{Desk, undone}
+use Rattle.hd_rules.specs.Desk.{Desk, take_back}
 use Rattle.hd_rules.specs.Known.{IsKnownCell, IsKnownValue}
 use Rattle.hd_rules.specs.Run.{Elsewhere, Fits}
 use Rattle.hd_rules.specs.Sound.{EachBackIsFit}
@@ -27,9 +27,9 @@ pub record MayHave (k : Facts) (x : Cell) (v : Value) : Type 0 where
   pub from_one : IsFromOne v
 
 -- each of the changes is from such a value of its cell to another
-abbrev pub AreKnown : Facts → List Change → Type 0
-AreKnown k [] = Unit {0}
-AreKnown k (c ∷ cs) = MayHave k c.cell c.old × MayHave k c.cell c.new × AreKnown k cs
+abbrev pub AreKnownChanges : Facts → List Change → Type 0
+AreKnownChanges k [] = Unit {0}
+AreKnownChanges k (c ∷ cs) = MayHave k c.cell c.old × MayHave k c.cell c.new × AreKnownChanges k cs
 
 -- the changes are of distinct cells
 abbrev pub AreApart : List Change → Type 0
@@ -44,7 +44,7 @@ HaveRoom has_room more (c ∷ cs) =
 
 -- the changes led from the first desk to the second, and can be taken back there
 pub record CanBeUndone (k : Facts) (d e : Desk) (changes : List Change) : Type 0 where
-  pub known : AreKnown k changes
+  pub known : AreKnownChanges k changes
   pub apart : AreApart changes
   pub fit : EachBackIsFit k changes e
-  pub before : undone changes e ≡ d
+  pub before : take_back changes e ≡ d

@@ -1,9 +1,9 @@
 -- Writes, counted.
 use Rattle.std.specs.Prelude.{ℕ, zero, suc}
-use Rattle.hd_footprint.specs.Meter.{Counts, add}
+use Rattle.hd_footprint.specs.Meter.{Counts, with_one_more}
 use Rattle.hd_footprint.specs.declared.count.Count.TheVariants.{Written}
 
 -- the counts after so many writes
-abbrev pub written : ℕ → Counts → Counts
-written zero counts = counts
-written (suc n) counts = written n (add counts Written)
+abbrev pub after_writes : ℕ → Counts → Counts
+after_writes zero counts = counts
+after_writes (suc n) counts = after_writes n (with_one_more counts Written)

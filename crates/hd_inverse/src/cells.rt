@@ -6,7 +6,7 @@ ghost use Rattle.hd_rules.specs.Desk.{Desk, put as with_value, same_cell, value 
 ghost use Rattle.hd_rules.specs.Sound.{IsFit};
 ghost use Rattle.hd_catalogue.specs.Contents.{Contents, facts_of};
 ghost use Rattle.hd_rules.specs.Known.{IsKnownCell};
-ghost use Rattle.hd_inverse.specs.Cells.{AreKnown, HaveRoom, MayHave};
+ghost use Rattle.hd_inverse.specs.Cells.{AreKnownChanges, HaveRoom, MayHave};
 
 use hd_rules::{Cell, Change, Value};
 use std::alloc::AllocError;
@@ -35,7 +35,7 @@ pub trait Cells {
     /// Answers `AllocError` where there is no memory for it, which it never does where there is such room. No
     /// cell is changed by it, and no room is given up.
     fn ready(&mut self, changes: &[Change]) -> Result<(), AllocError>
-        requires { AreKnown (facts_of (contents self.old)) changes.now }
+        requires { AreKnownChanges (facts_of (contents self.old)) changes.now }
         ensures desk { desk self.new ≡ desk self.old }
         ensures contents { contents self.new ≡ contents self.old }
         ensures ok { OnOk result (HaveRoom (has_room self.new) (length changes.now) changes.now) }

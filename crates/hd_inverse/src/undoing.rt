@@ -1,10 +1,10 @@
 //! Taking changes back.
 ghost use Rattle.std.specs.Prelude.{◌≡◌, OnErr, OnOk, length};
-ghost use Rattle.hd_rules.specs.Desk.{undone};
+ghost use Rattle.hd_rules.specs.Desk.{take_back};
 ghost use Rattle.hd_rules.specs.Sound.{EachBackIsFit};
 ghost use Rattle.hd_catalogue.specs.Contents.{facts_of};
-ghost use Rattle.hd_inverse.specs.Cells.{AreApart, AreKnown, HaveRoom};
-ghost use Rattle.hd_inverse.specs.Work.{written};
+ghost use Rattle.hd_inverse.specs.Cells.{AreApart, AreKnownChanges, HaveRoom};
+ghost use Rattle.hd_inverse.specs.Work.{after_writes};
 
 use crate::cells::Cells;
 use hd_footprint::{Count, Meter};
@@ -21,14 +21,14 @@ pub fn undo<C: Cells>(
     changes: &[Change],
     meter: &mut Meter,
 ) -> Result<(), AllocError>
-    requires known { AreKnown (facts_of (C.contents cells.old)) changes.now }
+    requires known { AreKnownChanges (facts_of (C.contents cells.old)) changes.now }
     requires apart { AreApart changes.now }
     requires fit { EachBackIsFit (facts_of (C.contents cells.old)) changes.now (C.desk cells.old) }
-    ensures ok { OnOk result (C.desk cells.new ≡ undone changes.now (C.desk cells.old)) }
+    ensures ok { OnOk result (C.desk cells.new ≡ take_back changes.now (C.desk cells.old)) }
     ensures err { OnErr result (C.desk cells.new ≡ C.desk cells.old) }
     ensures full { OnErr result (HaveRoom (C.has_room cells.old) (length changes.now) changes.now → ⊥) }
     ensures contents { C.contents cells.new ≡ C.contents cells.old }
-    ensures counted { OnOk result (meter.new ≡ written (length changes.now) meter.old) }
+    ensures counted { OnOk result (meter.new ≡ after_writes (length changes.now) meter.old) }
     ensures uncounted { OnErr result (meter.new ≡ meter.old) }
 {
     cells.ready(changes)?;
@@ -38,13 +38,13 @@ pub fn undo<C: Cells>(
 
 /// Puts the old values back, where there is room for each.
 fn put_back<C: Cells>(cells: &mut C, changes: &[Change], meter: &mut Meter)
-    requires known { AreKnown (facts_of (C.contents cells.old)) changes.now }
+    requires known { AreKnownChanges (facts_of (C.contents cells.old)) changes.now }
     requires apart { AreApart changes.now }
     requires room { HaveRoom (C.has_room cells.old) (length changes.now) changes.now }
     requires fit { EachBackIsFit (facts_of (C.contents cells.old)) changes.now (C.desk cells.old) }
-    ensures desk { C.desk cells.new ≡ undone changes.now (C.desk cells.old) }
+    ensures desk { C.desk cells.new ≡ take_back changes.now (C.desk cells.old) }
     ensures contents { C.contents cells.new ≡ C.contents cells.old }
-    ensures counted { meter.new ≡ written (length changes.now) meter.old }
+    ensures counted { meter.new ≡ after_writes (length changes.now) meter.old }
 {
     for change in changes.iter().rev() {
         cells.put(change.cell, change.old);

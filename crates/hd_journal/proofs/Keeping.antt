@@ -6,7 +6,8 @@ use Rattle.hd_rules.specs.declared.turns.Asked.TheVariants as ask
 use Rattle.hd_rules.specs.declared.replies.TurnReply.{TurnReply}
 use Rattle.hd_rules.specs.Facts.{Facts, AreInRange}
 use Rattle.hd_rules.specs.Known.{IsKnown}
-use Rattle.hd_rules.specs.Turns.{Message, Kept, State, Answered, repeated_of, repeated, answered_unless, with_kept, turn_of}
+use Rattle.hd_rules.specs.Turns.{Message, Kept, State, Answered}
+use Rattle.hd_rules.specs.Machine.{kept_reply, reply_again, answered_unless, with_kept, turn_of}
 use Rattle.hd_rules.specs.Journal.{Turn, state_after}
 use Rattle.hd_catalogue.specs.Contents.{Contents, facts_of}
 use Rattle.hd_footprint.specs.Meter.{Counts}
@@ -20,7 +21,7 @@ use Rattle.hd_journal.specs.Books.{Book, AddsTurn, IsLegalBook, MakesNoTurn, Ask
 
 -- the answer to a repeat
 pub repeat_answer : (r : Running) (kept : ℕ → Option Kept) (m : Message) (reply : TurnReply)
-    → Some reply ≡ repeated_of (kept m.terminal) m.asked m.line
+    → Some reply ≡ kept_reply (kept m.terminal) m.asked m.line
     → turn_of (facts_of r.contents) (state_at r kept) m ≡ record { reply = reply; state = state_at r kept }
 repeat_answer r kept m reply is = ap (answered_unless (facts_of r.contents) (state_at r kept) m) (sym is)
 
@@ -29,7 +30,7 @@ turn_with seat terminal asked line reply = record { seat = seat; message = askin
 
 -- the answer to another message
 new_answer : (r next : Running) (kept : ℕ → Option Kept) (seat terminal : ℕ) (asked : Asked) (line : Option (List ℕ)) (reply : TurnReply)
-    → None ≡ repeated_of (kept terminal) asked line
+    → None ≡ kept_reply (kept terminal) asked line
     → IsCarriedOut r terminal asked reply next
     → turn_of (facts_of r.contents) (state_at r kept) (asking terminal asked line)
     ≡ record { reply = reply; state = state_at next (after_turn (turn_with seat terminal asked line reply) kept) }
@@ -44,7 +45,7 @@ new_answer r next kept seat terminal (ask.Item copy) line reply new is =
     ∙ (λ j. record { reply = sym is.0 j; state = state_at (sym is.1 j) kept })
 
 pub carried_answer : (r next : Running) (kept : ℕ → Option Kept) (turn : Turn)
-    → None ≡ repeated_of (kept turn.message.terminal) turn.message.asked turn.message.line
+    → None ≡ kept_reply (kept turn.message.terminal) turn.message.asked turn.message.line
     → IsCarriedOut r turn.message.terminal turn.message.asked turn.reply next
     → turn_of (facts_of r.contents) (state_at r kept) turn.message
     ≡ record { reply = turn.reply; state = state_at next (after_turn turn kept) }
@@ -59,8 +60,8 @@ still_work k s terminal (ask.Cancel what) reply work = refl
 still_work k s terminal (ask.Item copy) reply work = refl
 
 pub repeat_work : (r : Running) (kept : ℕ → Option Kept) (m : Message) (reply : TurnReply) (work : Counts)
-    → Some reply ≡ repeated_of (kept m.terminal) m.asked m.line
-    → IsWork (facts_of r.contents) (state_at r kept) m.terminal m.asked (repeated (state_at r kept) m) work work
+    → Some reply ≡ kept_reply (kept m.terminal) m.asked m.line
+    → IsWork (facts_of r.contents) (state_at r kept) m.terminal m.asked (reply_again (state_at r kept) m) work work
 repeat_work r kept m reply work is =
     subst (λ (again : Option TurnReply). IsWork (facts_of r.contents) (state_at r kept) m.terminal m.asked again work work) is
     (still_work (facts_of r.contents) (state_at r kept) m.terminal m.asked reply work)
@@ -74,9 +75,9 @@ work_beside r kept terminal (ask.Cancel what) old new is = is
 work_beside r kept terminal (ask.Item copy) old new is = is
 
 pub carried_work : (r : Running) (kept : ℕ → Option Kept) (m : Message) (old new : Counts)
-    → None ≡ repeated_of (kept m.terminal) m.asked m.line
+    → None ≡ kept_reply (kept m.terminal) m.asked m.line
     → IsWork (facts_of r.contents) (state_alone r) m.terminal m.asked None old new
-    → IsWork (facts_of r.contents) (state_at r kept) m.terminal m.asked (repeated (state_at r kept) m) old new
+    → IsWork (facts_of r.contents) (state_at r kept) m.terminal m.asked (reply_again (state_at r kept) m) old new
 carried_work r kept m old new none is =
     subst (λ (again : Option TurnReply). IsWork (facts_of r.contents) (state_at r kept) m.terminal m.asked again old new) none
     (work_beside r kept m.terminal m.asked old new is)
@@ -101,7 +102,7 @@ pub state_goes : JournalLaws → (turns items : List Turn) (r next : Running) (k
     → Goes turns items r next kept later turn
     → state_after (facts_of r.contents) (turns ++ turn ∷ []) ≡ state_at next later
 state_goes laws turns items r next kept later turn h =
-    (laws.goes_on (facts_of r.contents) turns turn).1
+    (laws.legal.goes_on (facts_of r.contents) turns turn).1
     ∙ ap (λ (a : Answered). a.state) (answered_so turns items r next kept later turn h)
 
 -- one message more
@@ -125,7 +126,7 @@ kept_after laws turns items r next kept later turn h =
     record {
       range = h.was.range;
       known = known_more k turns turn h.was.known h.known;
-      legal = (laws.goes_on k turns turn).0.1 (h.was.legal, ap (λ (a : Answered). a.reply) (sym goes));
+      legal = (laws.legal.goes_on k turns turn).0.1 (h.was.legal, ap (λ (a : Answered). a.reply) (sym goes));
       state = state_goes laws turns items r next kept later turn h
           ∙ (λ j. state_at (record { contents = h.contents j; survivors = next.survivors; last = next.last }) later);
       last = omega (arith, length-append turns (turn ∷ []));
@@ -162,10 +163,10 @@ pub legal_book : JournalLaws → (turns : List Turn) (r : Running) (kept : ℕ �
     → IsLegalBook r.contents turns
 legal_book laws turns r kept is = record {
   legal = is.legal;
-  run = laws.run (facts_of r.contents) turns is.legal;
+  run = laws.journals.run (facts_of r.contents) turns is.legal;
   headline = laws.headline (facts_of r.contents) turns is.legal;
-  replies = laws.replies (facts_of r.contents) turns is.legal;
-  known = laws.known (facts_of r.contents) turns is.range is.legal is.known;
+  replies = laws.journals.replies (facts_of r.contents) turns is.legal;
+  known = laws.journals.known (facts_of r.contents) turns is.range is.legal is.known;
 }
 
 -- the same of a journal that is equal to its parts
@@ -213,7 +214,7 @@ pub record Makes (was ready now : Told) (r next : Running) (turn : Turn) (old ne
   pub answer : turn_of (facts_of r.contents) (state_at r (kept_by ready)) turn.message
       ≡ record { reply = turn.reply; state = state_at next (kept_by now) }
   pub work : IsWork (facts_of r.contents) (state_at r (kept_by ready)) turn.message.terminal turn.message.asked
-      (repeated (state_at r (kept_by ready)) turn.message) old new
+      (reply_again (state_at r (kept_by ready)) turn.message) old new
 
 goes_on : (was ready now : Told) (r next : Running) (turn : Turn) (old new : Counts) → Makes was ready now r next turn old new
     → Goes ready.turns now.turns r next (kept_by ready) (kept_by now) turn
@@ -250,7 +251,7 @@ adds_here laws was ready now r next turn old new h =
           ∙ ap (λ (a : Answered). a.state) (sym goes);
       reply = told;
       number = refl;
-      work = subst (λ (s : State). IsWork k s turn.message.terminal turn.message.asked (repeated s turn.message) old new)
+      work = subst (λ (s : State). IsWork k s turn.message.terminal turn.message.asked (reply_again s turn.message) old new)
           (sym on.was.state) h.work;
     }
 

@@ -11,7 +11,7 @@ use Rattle.hd_rules.specs.Record.{Record, IsRecordAt}
 use Rattle.hd_rules.specs.Run.{IsAmong, Rising, run}
 use Rattle.hd_clash.specs.Records.{AreRecords}
 use Rattle.hd_records.specs.Survivors.{record_of, survivor_of, survivors_of}
-use Rattle.hd_journal.specs.Laws.{Laws}
+use Rattle.hd_journal.specs.Laws.{CancellationLaws}
 use Rattle.hd_journal.specs.Stored.{AreStored, IsRecordOf}
 use Rattle.hd_journal.proofs.Stored.{among_middle}
 
@@ -50,7 +50,7 @@ told n (x ∷ xs) = by_test (x.number == n) refl (told n xs)
     by_test true is rest = record { older = []; newer = xs; split = refl; number = equal x.number n is }
     by_test false is rest = more n x xs (record_of n xs) is rest
 
-kept_so : (laws : Laws) (k : Facts) (rs : List Record) (n : ℕ) (o : Option Record) → AreStored k rs → Rising 1 (survivors_of rs)
+kept_so : (laws : CancellationLaws) (k : Facts) (rs : List Record) (n : ℕ) (o : Option Record) → AreStored k rs → Rising 1 (survivors_of rs)
     → Told n rs o → IsRecordOf k (survivors_of rs) n o
 kept_so laws k rs n None stored rising none = none
 kept_so laws k rs n (Some r) stored rising one =
@@ -64,13 +64,13 @@ kept_so laws k rs n (Some r) stored rising one =
     let here : IsRecordAt k (run k older) (survivor_of r) r =
     ((laws.split k (opening k) older (survivor_of r ∷ newer) one.older (r ∷ one.newer) (length-map one.older survivor_of)).0 whole).1.0 in
     let first : before r.number (survivors_of rs) ≡ older =
-    ap (before r.number) split ∙ (laws.numbers older (survivor_of r) newer (subst (Rising 1) split rising)).0 in (
+    ap (before r.number) split ∙ (laws.target.split older (survivor_of r) newer (subst (Rising 1) split rising)).0 in (
       survivor_of r,
       subst (IsAmong (survivor_of r)) (sym split) (among_middle older (survivor_of r) newer),
       one.number,
       subst (λ (ss : List Survivor). IsRecordAt k (run k ss) (survivor_of r) r) (sym first) here,
     )
 
-pub record_is : (laws : Laws) (k : Facts) (rs : List Record) (n : ℕ) → AreStored k rs → Rising 1 (survivors_of rs)
+pub record_is : (laws : CancellationLaws) (k : Facts) (rs : List Record) (n : ℕ) → AreStored k rs → Rising 1 (survivors_of rs)
     → IsRecordOf k (survivors_of rs) n (record_of n rs)
 record_is laws k rs n stored rising = kept_so laws k rs n (record_of n rs) stored rising (told n rs)

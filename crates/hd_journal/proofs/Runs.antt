@@ -3,7 +3,7 @@ use Rattle.std.proofs.Common.{arith, ◌≡◌, refl, sym, ◌∙◌, ap, subst,
 use Rattle.hd_rules.specs.declared.commands.Survivor.{Survivor}
 use Rattle.hd_rules.specs.Facts.{Facts}
 use Rattle.hd_rules.specs.Desk.{Desk, opening}
-use Rattle.hd_rules.specs.Laws.{EveryDeskIsSound}
+use Rattle.hd_rules.specs.Laws.{CommandsKeepDesksSound}
 use Rattle.hd_rules.specs.Run.{step, run, run_from, Rising, next_number}
 use Rattle.hd_rules.specs.Sound.{Sound}
 use Rattle.hd_journal.specs.Running.{IsKnownSurvivor, AllKnownSurvivors, MayRun}
@@ -29,10 +29,10 @@ sound_later k n m d le sound = record {
   tie = sound.tie;
 }
 
-pub sound_below : EveryDeskIsSound → (k : Facts) (xs : List Survivor) (n : ℕ) (d : Desk) → d ≡ run k xs → Rising 1 xs
+pub sound_below : CommandsKeepDesksSound → (k : Facts) (xs : List Survivor) (n : ℕ) (d : Desk) → d ≡ run k xs → Rising 1 xs
     → next_number 1 xs ≤ n → Sound k n d
 sound_below law k xs n d is rising next =
-    subst (Sound k n) (sym is) (sound_later k (next_number 1 xs) n (run k xs) next (law k 1 xs rising))
+    subst (Sound k n) (sym is) (sound_later k (next_number 1 xs) n (run k xs) next (law.runs k 1 xs rising))
 
 -- numbers that rise, from a smaller one on
 rising_later : (n m : ℕ) (xs : List Survivor) → n ≤ m → Rising m xs → Rising n xs

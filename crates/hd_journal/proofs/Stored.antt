@@ -8,8 +8,9 @@ use Rattle.hd_rules.specs.declared.commands.Survivor.{Survivor}
 use Rattle.hd_rules.specs.declared.questions.Question.{Question}
 use Rattle.hd_rules.specs.Ask.{Done, asks}
 use Rattle.hd_rules.specs.Facts.{Facts, AreInRange}
-use Rattle.hd_rules.specs.Desk.{Desk, opening, undone}
-use Rattle.hd_rules.specs.Depends.{before, less, first_dependent, NoneDepends}
+use Rattle.hd_rules.specs.Desk.{Desk, opening, take_back}
+use Rattle.hd_rules.specs.Depends.{before, less, NoneDepends}
+use Rattle.hd_rules.specs.Searches.{first_dependent}
 use Rattle.hd_rules.specs.Known.{IsKnownDesk}
 use Rattle.hd_rules.specs.Laws.{IsAcceptedIn}
 use Rattle.hd_rules.specs.Record.{Record, IsRecordAt, findings}
@@ -19,12 +20,12 @@ use Rattle.hd_rules.specs.Step.{plan}
 use Rattle.hd_clash.specs.Clash.{first_clash}
 use Rattle.hd_clash.specs.Records.{AreRecords, EachCommandIsKnown, EachRecordIsKnown}
 use Rattle.hd_clash.specs.Shift.{shift_records}
-use Rattle.hd_clash.specs.Walk.{Kept}
-use Rattle.hd_inverse.specs.Cells.{AreApart, AreKnown}
+use Rattle.hd_clash.specs.Walk.{KeptRun}
+use Rattle.hd_inverse.specs.Cells.{AreApart, AreKnownChanges}
 use Rattle.hd_records.specs.Looks.{questions_of}
-use Rattle.hd_records.specs.RecordsValue.{AreListed, AreOf, RecordsValue}
+use Rattle.hd_records.specs.RecordsValue.{AreListed, AreOfCatalogue, RecordsValue}
 use Rattle.hd_records.specs.Survivors.{survivor_of, survivors_of, changes_in, changes_of, newer, older, record_of}
-use Rattle.hd_journal.specs.Laws.{Laws}
+use Rattle.hd_journal.specs.Laws.{CancellationLaws}
 use Rattle.hd_journal.specs.Running.{AllKnownSurvivors, MayRun}
 use Rattle.hd_journal.specs.Stored.{AreStored, EachCanBeUndone}
 use Rattle.hd_journal.specs.Working.{questions_from}
@@ -79,10 +80,10 @@ commands_known k [] all = tt
 commands_known k (s ∷ ss) all = (all.0, commands_known k ss all.1)
 
 -- each record is of things of the catalogue
-pub stored_known : (laws : Laws) (k : Facts) (rs : List Record) → AreInRange k → AllKnownSurvivors k (survivors_of rs) → AreStored k rs
+pub stored_known : (laws : CancellationLaws) (k : Facts) (rs : List Record) → AreInRange k → AllKnownSurvivors k (survivors_of rs) → AreStored k rs
     → EachRecordIsKnown k rs
 stored_known laws k rs range known stored =
-    let desk : IsKnownDesk k (opening k) = (laws.replies k [] range tt (λ turn among. absurd among)).desk in
+    let desk : IsKnownDesk k (opening k) = (laws.journals.known k [] range tt (λ turn among. absurd among)).desk in
     laws.known k (opening k) (survivors_of rs) rs range desk (commands_known k (survivors_of rs) known) stored.are
 
 -- the records older than a place, the one there, and the newer ones
@@ -92,7 +93,7 @@ pub record Parts (k : Facts) (rs : List Record) (n : ℕ) (r : Record) : Type 0 
   pub one : IsRecordAt k (run k (survivors_of (older n rs))) (survivor_of r) r
   pub after : AreRecords k (step k (run k (survivors_of (older n rs))) (survivor_of r)) (survivors_of (newer n rs)) (newer n rs)
 
-pub parts_at : (laws : Laws) (k : Facts) (rs : List Record) (n : ℕ) (r : Record) → IsAt rs n r → AreStored k rs → Parts k rs n r
+pub parts_at : (laws : CancellationLaws) (k : Facts) (rs : List Record) (n : ℕ) (r : Record) → IsAt rs n r → AreStored k rs → Parts k rs n r
 parts_at laws k rs n r at stored =
     let whole : AreRecords k (opening k) (survivors_of (older n rs) ++ survivor_of r ∷ survivors_of (newer n rs))
     (older n rs ++ r ∷ newer n rs) =
@@ -105,9 +106,9 @@ parts_at laws k rs n r at stored =
     record { at = at; before = both.0; one = both.1.0; after = both.1.1 }
 
 -- what a clash is told of
-pub kept_at : (laws : Laws) (k : Facts) (rs : List Record) (n : ℕ) (r : Record) → Parts k rs n r → Rising 1 (survivors_of rs)
+pub kept_at : (laws : CancellationLaws) (k : Facts) (rs : List Record) (n : ℕ) (r : Record) → Parts k rs n r → Rising 1 (survivors_of rs)
     → EachRecordIsKnown k rs
-    → Kept k (survivors_of (older n rs)) (survivor_of r) (survivors_of (newer n rs)) (done_of_record r) (newer n rs)
+    → KeptRun k (survivors_of (older n rs)) (survivor_of r) (survivors_of (newer n rs)) (done_of_record r) (newer n rs)
 kept_at laws k rs n r parts rising known = record {
   rising = subst (Rising 1) (survivors_split rs n r parts.at) rising;
   accepted = parts.one.done;
@@ -116,7 +117,7 @@ kept_at laws k rs n r parts rising known = record {
 }
 
 -- the first clash is the first dependent
-pub first_is : (laws : Laws) (k : Facts) (rs : List Record) (n : ℕ) (r : Record) → Parts k rs n r → Rising 1 (survivors_of rs)
+pub first_is : (laws : CancellationLaws) (k : Facts) (rs : List Record) (n : ℕ) (r : Record) → Parts k rs n r → Rising 1 (survivors_of rs)
     → EachRecordIsKnown k rs
     → first_clash k (changes_of n rs) (newer n rs)
     ≡ first_dependent k (survivors_of rs) (survivor_of r) (survivors_of (newer n rs))
@@ -137,7 +138,7 @@ pub record CanGo (k : Facts) (rs : List Record) (n : ℕ) (r : Record) : Type 0 
   pub none : NoneDepends k (survivors_of rs) (survivor_of r)
   pub less_is : less r.number (survivors_of rs) ≡ survivors_of (older n rs) ++ survivors_of (newer n rs)
 
-pub can_go : (laws : Laws) (k : Facts) (rs : List Record) (n : ℕ) (r : Record) → Parts k rs n r → Rising 1 (survivors_of rs)
+pub can_go : (laws : CancellationLaws) (k : Facts) (rs : List Record) (n : ℕ) (r : Record) → Parts k rs n r → Rising 1 (survivors_of rs)
     → EachRecordIsKnown k rs → first_clash k (changes_of n rs) (newer n rs) ≡ None → CanGo k rs n r
 can_go laws k rs n r parts rising known clash =
     let older : List Survivor = survivors_of (older n rs) in
@@ -145,10 +146,10 @@ can_go laws k rs n r parts rising known clash =
     let s : Survivor = survivor_of r in
     let split : survivors_of rs ≡ older ++ s ∷ newer = survivors_split rs n r parts.at in
     let up : Rising 1 (older ++ s ∷ newer) = subst (Rising 1) split rising in
-    let numbers = laws.numbers older s newer up in
+    let numbers = laws.target.split older s newer up in
     let first : first_dependent k (older ++ s ∷ newer) s newer ≡ None =
     ap (λ (ss : List Survivor). first_dependent k ss s newer) (sym split) ∙ sym (first_is laws k rs n r parts rising known) ∙ clash in
-    let none : NoneDepends k (older ++ s ∷ newer) s = rw first at (laws.dependent k older s newer up) in
+    let none : NoneDepends k (older ++ s ∷ newer) s = rw first at (laws.dependent.least k older s newer up) in
     record {
       accepted = record {
         rising = rising;
@@ -162,17 +163,17 @@ can_go laws k rs n r parts rising known clash =
     }
 
 -- its changes taken back
-pub undone_is : (laws : Laws) (k : Facts) (rs : List Record) (n : ℕ) (r : Record) → CanGo k rs n r
-    → undone r.changes (run k (survivors_of rs)) ≡ run k (survivors_of (older n rs) ++ survivors_of (newer n rs))
+pub undone_is : (laws : CancellationLaws) (k : Facts) (rs : List Record) (n : ℕ) (r : Record) → CanGo k rs n r
+    → take_back r.changes (run k (survivors_of rs)) ≡ run k (survivors_of (older n rs) ++ survivors_of (newer n rs))
 undone_is laws k rs n r goes =
-    laws.undone k (survivors_of rs) (survivor_of r) (done_of_record r) goes.accepted goes.none ∙ ap (run k) goes.less_is
+    laws.undoing.run_without k (survivors_of rs) (survivor_of r) (done_of_record r) goes.accepted goes.none ∙ ap (run k) goes.less_is
 
-pub each_back : (laws : Laws) (k : Facts) (rs : List Record) (n : ℕ) (r : Record) → CanGo k rs n r
+pub each_back : (laws : CancellationLaws) (k : Facts) (rs : List Record) (n : ℕ) (r : Record) → CanGo k rs n r
     → EachBackIsFit k r.changes (run k (survivors_of rs))
-each_back laws k rs n r goes = laws.fit k (survivors_of rs) (survivor_of r) (done_of_record r) goes.accepted goes.none
+each_back laws k rs n r goes = laws.undoing.fit k (survivors_of rs) (survivor_of r) (done_of_record r) goes.accepted goes.none
 
 pub undoable_at : (k : Facts) (rs : List Record) (n : ℕ) (r : Record) → IsAt rs n r → AreStored k rs
-    → AreKnown k r.changes × AreApart r.changes
+    → AreKnownChanges k r.changes × AreApart r.changes
 undoable_at k rs n r at stored =
     let here = undoable_rest k (older n rs) (r ∷ newer n rs)
     (subst (EachCanBeUndone k) at.split stored.undoable) in (here.0, here.1)
@@ -187,7 +188,7 @@ left_survivors k rs n =
     survivors_joined (older n rs) (shift_records k (changes_of n rs) (newer n rs))
     ∙ ap (λ (ss : List Survivor). survivors_of (older n rs) ++ ss) (survivors_mended k (changes_of n rs) (newer n rs))
 
-pub left_stored : (laws : Laws) (k : Facts) (rs : List Record) (n : ℕ) (r : Record) → Parts k rs n r → Rising 1 (survivors_of rs)
+pub left_stored : (laws : CancellationLaws) (k : Facts) (rs : List Record) (n : ℕ) (r : Record) → Parts k rs n r → Rising 1 (survivors_of rs)
     → EachRecordIsKnown k rs → AreStored k rs → first_clash k (changes_of n rs) (newer n rs) ≡ None → AreStored k (left_at k rs n)
 left_stored laws k rs n r parts rising known stored clash =
     let cs : List Change = changes_of n rs in
@@ -211,8 +212,8 @@ left_stored laws k rs n r parts rising known stored clash =
     }
 
 -- one record more
-pub stored_more : (laws : Laws) (k : Facts) (rs more : List Record) (r : Record) → AreStored k rs
-    → IsRecordAt k (run k (survivors_of rs)) (survivor_of r) r → AreKnown k r.changes → AreApart r.changes
+pub stored_more : (laws : CancellationLaws) (k : Facts) (rs more : List Record) (r : Record) → AreStored k rs
+    → IsRecordAt k (run k (survivors_of rs)) (survivor_of r) r → AreKnownChanges k r.changes → AreApart r.changes
     → more ≡ rs ++ r ∷ [] → AreStored k more
 stored_more laws k rs more r stored one known apart is =
     subst (AreStored k) (sym is) (record {
@@ -240,8 +241,8 @@ questions_are k d [] (r ∷ rs) are = absurd are
 questions_are k d (s ∷ ss) [] are = absurd are
 
 -- the records that are stored and listed
-pub stored_of : (laws : Laws) (k : Facts) (value : RecordsValue) → AreInRange k → MayRun k (survivors_of value.records)
-    → AreStored k value.records → AreListed k value → AreOf k value
+pub stored_of : (laws : CancellationLaws) (k : Facts) (value : RecordsValue) → AreInRange k → MayRun k (survivors_of value.records)
+    → AreStored k value.records → AreListed k value → AreOfCatalogue k value
 stored_of laws k value range may stored listed = record {
   commands = commands_known k (survivors_of value.records) may.known;
   known = stored_known laws k value.records range may.known stored;

@@ -8,7 +8,7 @@ use Rattle.hd_rules.specs.Facts.{Facts}
 use Rattle.hd_rules.specs.Desk.{Desk, after}
 use Rattle.hd_rules.specs.Ask.{Done}
 use Rattle.hd_rules.specs.Run.{run, outcome_of, changed_by, step, next_number}
-use Rattle.hd_rules.specs.Turns.{answered_command}
+use Rattle.hd_rules.specs.Machine.{answered_command}
 use Rattle.hd_catalogue.specs.Contents.{Contents, facts_of}
 use Rattle.hd_journal.specs.Running.{Running, IsRunning, IsKnownSurvivor, Submitted, state_at}
 use Rattle.hd_journal.proofs.Runs.{run_more, may_run_last}

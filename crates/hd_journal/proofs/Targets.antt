@@ -6,9 +6,10 @@ use Rattle.hd_rules.specs.declared.commands.Cancel.{Cancel}
 use Rattle.hd_rules.specs.declared.commands.Survivor.{Survivor}
 use Rattle.hd_rules.specs.Record.{Record}
 use Rattle.hd_rules.specs.Run.{Rising}
-use Rattle.hd_rules.specs.Target.{IsTarget, Split, target}
+use Rattle.hd_rules.specs.Target.{IsTarget, Split}
+use Rattle.hd_rules.specs.Searches.{target}
 use Rattle.hd_records.specs.Survivors.{newer, older, record_of, survivor_of, survivors_of, target_of}
-use Rattle.hd_journal.specs.Laws.{Laws}
+use Rattle.hd_journal.specs.Laws.{CancellationLaws}
 use Rattle.hd_journal.proofs.Stored.{IsAt}
 
 -- records above a number, and records below it
@@ -111,14 +112,14 @@ no_number n is = subst (λ (o : Option ℕ). IsNumber o) is tt
     IsNumber None = ⊥
     IsNumber (Some x) = Unit {0}
 
-pub aimed : (laws : Laws) (terminal : ℕ) (what : Cancel) (rs : List Record) (n : ℕ) → Rising 1 (survivors_of rs)
+pub aimed : (laws : CancellationLaws) (terminal : ℕ) (what : Cancel) (rs : List Record) (n : ℕ) → Rising 1 (survivors_of rs)
     → Some n ≡ target_of terminal what rs → Aimed terminal what rs n
 aimed laws terminal what rs n rising is = by_target (target terminal what (survivors_of rs)) refl
   where
     by_target : (o : Option Split) → target terminal what (survivors_of rs) ≡ o → Aimed terminal what rs n
     by_target None found = absurd (no_number n (is ∙ ap (option_map (λ (at : Split). at.survivor.number)) found))
     by_target (Some at) found =
-        let parts : IsTarget terminal what (survivors_of rs) at = ((laws.target terminal what (survivors_of rs)).0 at).0 found in
+        let parts : IsTarget terminal what (survivors_of rs) at = (laws.target.found terminal what (survivors_of rs) at).0 found in
         let number : at.survivor.number ≡ n =
         sym (some_number n at.survivor.number (is ∙ ap (option_map (λ (x : Split). x.survivor.number)) found)) in
         let there : Cut 1 n rs at.older at.survivor at.newer = cut 1 n rs at.older at.survivor at.newer rising parts.split number in

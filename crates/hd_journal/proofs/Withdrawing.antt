@@ -10,22 +10,24 @@ use Rattle.hd_rules.specs.Facts.{Facts, AreInRange}
 use Rattle.hd_rules.specs.Desk.{Desk}
 use Rattle.hd_rules.specs.Record.{Record}
 use Rattle.hd_rules.specs.Run.{outcome_of, run, Rising, next_number}
-use Rattle.hd_rules.specs.Depends.{first_dependent}
-use Rattle.hd_rules.specs.Target.{Split, target}
-use Rattle.hd_rules.specs.Turns.{Kept, answered_cancel, answered_target}
+use Rattle.hd_rules.specs.Searches.{first_dependent}
+use Rattle.hd_rules.specs.Target.{Split}
+use Rattle.hd_rules.specs.Searches.{target}
+use Rattle.hd_rules.specs.Turns.{Kept}
+use Rattle.hd_rules.specs.Machine.{answered_cancel, answered_target}
 use Rattle.hd_catalogue.specs.Contents.{Contents, facts_of}
 use Rattle.hd_footprint.specs.Meter.{Counts}
-use Rattle.hd_inverse.specs.Work.{written}
+use Rattle.hd_inverse.specs.Work.{after_writes}
 use Rattle.hd_clash.specs.About.{touches}
 use Rattle.hd_clash.specs.Clash.{first_clash}
 use Rattle.hd_clash.specs.Records.{EachRecordIsKnown}
-use Rattle.hd_records.specs.Looks.{looked, questions_of}
-use Rattle.hd_records.specs.RecordsValue.{AreListed, AreOf, RecordsValue}
+use Rattle.hd_records.specs.Looks.{after_looks, questions_of}
+use Rattle.hd_records.specs.RecordsValue.{AreListed, AreOfCatalogue, RecordsValue}
 use Rattle.hd_records.specs.Survivors.{survivor_of, survivors_of, changes_of, newer, older, target_of}
-use Rattle.hd_journal.specs.Laws.{Laws}
+use Rattle.hd_journal.specs.Laws.{CancellationLaws}
 use Rattle.hd_journal.specs.Running.{Running, IsRunning, MayRun, Withdrawn, state_at}
 use Rattle.hd_journal.specs.Stored.{AreStored}
-use Rattle.hd_journal.specs.Working.{IsCancellation, IsDecidedSo, IsDecision, cells_of}
+use Rattle.hd_journal.specs.Working.{IsCancellationWork, IsDecidedSo, IsDecision, cells_of}
 use Rattle.hd_journal.proofs.Runs.{may_run_without, rising_at}
 use Rattle.hd_journal.proofs.Stored.{Parts, changes_there, done_of_record, first_is, parts_at, stored_of}
 use Rattle.hd_journal.proofs.Targets.{Aimed, aimed}
@@ -50,7 +52,7 @@ pub record Aiming (k : Facts) (terminal : ℕ) (what : Cancel) (value : RecordsV
   pub number : aim.number ≡ i
   pub parts : Parts k value.records i aim
   pub rising : Rising 1 (survivors_of value.records)
-  pub of : AreOf k value
+  pub of : AreOfCatalogue k value
   pub stored : AreStored k value.records
   pub few : length (changes_of i value.records) ≤ 4
   pub is_target : target terminal what (survivors_of value.records) ≡ Some (split_of value.records i aim)
@@ -65,7 +67,7 @@ Keeps contents d value =
     × AreStored (facts_of contents) value.records
     × AreListed (facts_of contents) value
 
-pub aiming : (laws : Laws) (contents : Contents) (d : Desk) (value : RecordsValue) (terminal : ℕ) (what : Cancel) (i : ℕ) (lent : Contents)
+pub aiming : (laws : CancellationLaws) (contents : Contents) (d : Desk) (value : RecordsValue) (terminal : ℕ) (what : Cancel) (i : ℕ) (lent : Contents)
     → lent ≡ contents → AreInRange (facts_of lent) → Keeps contents d value
     → Some i ≡ target_of terminal what value.records → Aiming (facts_of contents) terminal what value i
 aiming laws contents d value terminal what i lent same range is found =
@@ -82,7 +84,7 @@ aiming laws contents d value terminal what i lent same range is found =
       stored = is.1;
       few =
           subst (λ (cs : List Change). length cs ≤ 4) (sym (changes_there rs i target.aim target.at))
-          (laws.few k (run k (survivors_of (older i rs))) target.aim.number target.aim.command (done_of_record target.aim) parts.one.done);
+          (laws.commands.few k (run k (survivors_of (older i rs))) target.aim.number target.aim.command (done_of_record target.aim) parts.one.done);
       is_target = target.is_target;
     }
 
@@ -92,7 +94,7 @@ pub clash_there : (lent contents : Contents) (changes : List Change) (rs : List 
 clash_there lent contents changes rs o same is =
     ap (λ (x : Contents). first_clash (facts_of x) changes rs) (sym same) ∙ sym is
 
-decided : (laws : Laws) (r : Running) (terminal : ℕ) (what : Cancel) (rs : List Record) (i : ℕ) (aim : Record) (o : Option ℕ)
+decided : (laws : CancellationLaws) (r : Running) (terminal : ℕ) (what : Cancel) (rs : List Record) (i : ℕ) (aim : Record) (o : Option ℕ)
     (kept : ℕ → Option Kept) → Aims r terminal what rs i aim → Parts (facts_of r.contents) rs i aim → Rising 1 (survivors_of rs)
     → EachRecordIsKnown (facts_of r.contents) rs
     → first_clash (facts_of r.contents) (changes_of i rs) (newer i rs) ≡ o
@@ -105,14 +107,14 @@ decided laws r terminal what rs i aim o kept aims parts rising known is =
     (ap (λ (ss : List Survivor). first_dependent k ss (survivor_of aim) (survivors_of (newer i rs))) aims.same
     ∙ sym (first_is laws k rs i aim parts rising known) ∙ is)
 
-pub withdrawn_depends : (laws : Laws) (r : Running) (terminal : ℕ) (what : Cancel) (rs : List Record) (i : ℕ) (aim : Record) (n : ℕ)
+pub withdrawn_depends : (laws : CancellationLaws) (r : Running) (terminal : ℕ) (what : Cancel) (rs : List Record) (i : ℕ) (aim : Record) (n : ℕ)
     → Aims r terminal what rs i aim → Parts (facts_of r.contents) rs i aim → Rising 1 (survivors_of rs)
     → EachRecordIsKnown (facts_of r.contents) rs → first_clash (facts_of r.contents) (changes_of i rs) (newer i rs) ≡ Some n
     → Withdrawn r terminal what (Refused (refusal.Depends n)) r
 withdrawn_depends laws r terminal what rs i aim n aims parts rising known is kept =
     decided laws r terminal what rs i aim (Some n) kept aims parts rising known is
 
-pub withdrawn_stands : (laws : Laws) (r : Running) (terminal : ℕ) (what : Cancel) (rs : List Record) (i : ℕ) (aim : Record)
+pub withdrawn_stands : (laws : CancellationLaws) (r : Running) (terminal : ℕ) (what : Cancel) (rs : List Record) (i : ℕ) (aim : Record)
     (contents : Contents) (items : List Survivor)
     → Aims r terminal what rs i aim → Parts (facts_of r.contents) rs i aim → Rising 1 (survivors_of rs)
     → EachRecordIsKnown (facts_of r.contents) rs → first_clash (facts_of r.contents) (changes_of i rs) (newer i rs) ≡ None
@@ -126,24 +128,24 @@ withdrawn_stands laws r terminal what rs i aim contents items aims parts rising 
     })
 
 -- the work, where a later one depends on the target, and where none does
-pub work_depends : (laws : Laws) (k : Facts) (survivors : List Survivor) (o : Option Split) (rs : List Record) (i : ℕ) (aim : Record)
+pub work_depends : (laws : CancellationLaws) (k : Facts) (survivors : List Survivor) (o : Option Split) (rs : List Record) (i : ℕ) (aim : Record)
     (n : ℕ) (P : Record → Bool) (old mid new : Counts)
     → survivors ≡ survivors_of rs → o ≡ Some (split_of rs i aim) → Parts k rs i aim → Rising 1 (survivors_of rs) → EachRecordIsKnown k rs
-    → first_clash k (changes_of i rs) (newer i rs) ≡ Some n → Compares k P rs i old mid new → IsCancellation k survivors o old new
+    → first_clash k (changes_of i rs) (newer i rs) ≡ Some n → Compares k P rs i old mid new → IsCancellationWork k survivors o old new
 work_depends laws k survivors o rs i aim n P old mid new same found parts rising known is h =
     let first : first_dependent k survivors (survivor_of aim) (survivors_of (newer i rs)) ≡ Some n =
     ap (λ (ss : List Survivor). first_dependent k ss (survivor_of aim) (survivors_of (newer i rs))) same
     ∙ sym (first_is laws k rs i aim parts rising known) ∙ is in
-    subst (λ (x : Option Split). IsCancellation k survivors x old new) (sym found)
+    subst (λ (x : Option Split). IsCancellationWork k survivors x old new) (sym found)
     (subst (λ (x : Option ℕ). IsDecidedSo k (split_of rs i aim) x old new) (sym first)
     (in_words k rs i 0 aim 2 old new parts (compares laws k P rs i old mid new h)))
 
-pub work_stands : (laws : Laws) (k : Facts) (survivors : List Survivor) (o : Option Split) (rs : List Record) (i : ℕ) (aim : Record)
+pub work_stands : (laws : CancellationLaws) (k : Facts) (survivors : List Survivor) (o : Option Split) (rs : List Record) (i : ℕ) (aim : Record)
     (P : Record → Bool) (old mid compared back new : Counts)
     → survivors ≡ survivors_of rs → o ≡ Some (split_of rs i aim) → Parts k rs i aim → Rising 1 (survivors_of rs) → EachRecordIsKnown k rs
     → first_clash k (changes_of i rs) (newer i rs) ≡ None → Compares k P rs i old mid compared
-    → back ≡ written (length aim.changes) compared
-    → new ≡ looked (length (filter (touches k (changes_of i rs)) (newer i rs))) back → IsCancellation k survivors o old new
+    → back ≡ after_writes (length aim.changes) compared
+    → new ≡ after_looks (length (filter (touches k (changes_of i rs)) (newer i rs))) back → IsCancellationWork k survivors o old new
 work_stands laws k survivors o rs i aim P old mid compared back new same found parts rising known is h writes looks =
     let first : first_dependent k survivors (survivor_of aim) (survivors_of (newer i rs)) ≡ None =
     ap (λ (ss : List Survivor). first_dependent k ss (survivor_of aim) (survivors_of (newer i rs))) same
@@ -152,7 +154,7 @@ work_stands laws k survivors o rs i aim P old mid compared back new same found p
     takes_back laws (touches k (changes_of i rs)) rs i (length aim.changes) (questions_of (newer i rs)) old compared back new
     (compares laws k P rs i old mid compared h)
     writes looks in
-    subst (λ (x : Option Split). IsCancellation k survivors x old new) (sym found)
+    subst (λ (x : Option Split). IsCancellationWork k survivors x old new) (sym found)
     (subst (λ (x : Option ℕ). IsDecidedSo k (split_of rs i aim) x old new) (sym first)
     (in_words k rs i (cells_of (outcome_of k (run k (survivors_of (older i rs))) (survivor_of aim))) aim 3 old new parts
     (subst (λ (n : ℕ). IsDecision n (3 * length (newer i rs) + 1) (questions_of (newer i rs)) old new)

@@ -8,30 +8,30 @@ use Rattle.hd_rules.specs.declared.questions.Finding.{Finding}
 use Rattle.hd_rules.specs.Facts.{Facts}
 use Rattle.hd_rules.specs.Record.{Record}
 use Rattle.hd_rules.specs.Run.{outcome_of, run, step}
-use Rattle.hd_footprint.specs.Meter.{Counts, add, raised}
+use Rattle.hd_footprint.specs.Meter.{Counts, with_one_more, one_higher}
 use Rattle.hd_footprint.specs.declared.count.Count.TheVariants.{Look, Compared, Written}
-use Rattle.hd_inverse.specs.Work.{written}
+use Rattle.hd_inverse.specs.Work.{after_writes}
 use Rattle.hd_clash.specs.About.{touches}
 use Rattle.hd_clash.specs.Clash.{clashes, some_clash}
 use Rattle.hd_clash.specs.Work.{clash_work, with_comparisons}
-use Rattle.hd_records.specs.Looks.{IsWalk, looked, looks_to, questions_of, walked}
+use Rattle.hd_records.specs.Looks.{IsWalk, after_looks, looks_to, questions_of, after_walk}
 use Rattle.hd_records.specs.Survivors.{survivor_of, survivors_of, changes_of, newer, older}
-use Rattle.hd_journal.specs.Laws.{Laws}
+use Rattle.hd_journal.specs.Laws.{CancellationLaws}
 use Rattle.hd_journal.specs.Working.{IsDecision, OnlyRise, cells_of, questions_from}
 use Rattle.hd_journal.proofs.Raising.{rise_none, rise_on}
 use Rattle.hd_journal.proofs.Stored.{Parts, questions_are}
 
 -- looks only rise
-pub rise_looked : (n : ℕ) (counts : Counts) → OnlyRise counts (looked n counts)
+pub rise_looked : (n : ℕ) (counts : Counts) → OnlyRise counts (after_looks n counts)
 rise_looked zero counts = rise_none counts counts refl
-rise_looked (suc n) counts = rise_on counts (add counts Look) (looked n (add counts Look)) (Look ∷ [], refl)
-    (rise_looked n (add counts Look))
+rise_looked (suc n) counts = rise_on counts (with_one_more counts Look) (after_looks n (with_one_more counts Look)) (Look ∷ [], refl)
+    (rise_looked n (with_one_more counts Look))
 
 rise_comparisons : (n : ℕ) (counts : Counts) → OnlyRise counts (with_comparisons n counts)
 rise_comparisons zero counts = rise_none counts counts refl
 rise_comparisons (suc n) counts =
-    rise_on counts (add counts Compared) (with_comparisons n (add counts Compared)) (Compared ∷ [], refl)
-    (rise_comparisons n (add counts Compared))
+    rise_on counts (with_one_more counts Compared) (with_comparisons n (with_one_more counts Compared)) (Compared ∷ [], refl)
+    (rise_comparisons n (with_one_more counts Compared))
 
 rise_clash : (k : Facts) (changes : List Change) (fs : List Finding) (counts : Counts) → OnlyRise counts (clash_work k changes fs counts)
 rise_clash k changes [] counts = rise_none counts counts refl
@@ -45,20 +45,20 @@ rise_clash k changes (f ∷ fs) counts =
     by_test true rest = rise_comparisons (length changes) counts
     by_test false rest = rise_on counts next (clash_work k changes fs next) (rise_comparisons (length changes) counts) rest
 
-pub rise_walked : (k : Facts) (changes : List Change) (rs : List Record) (counts : Counts) → OnlyRise counts (walked k changes rs counts)
+pub rise_walked : (k : Facts) (changes : List Change) (rs : List Record) (counts : Counts) → OnlyRise counts (after_walk k changes rs counts)
 rise_walked k changes [] counts = rise_none counts counts refl
 rise_walked k changes (r ∷ rs) counts =
-    by_test (some_clash k changes r.findings) (rise_walked k changes rs (clash_work k changes r.findings (add counts Look)))
+    by_test (some_clash k changes r.findings) (rise_walked k changes rs (clash_work k changes r.findings (with_one_more counts Look)))
   where
     next : Counts
-    next = clash_work k changes r.findings (add counts Look)
+    next = clash_work k changes r.findings (with_one_more counts Look)
 
     here : OnlyRise counts next
-    here = rise_on counts (add counts Look) next (Look ∷ [], refl) (rise_clash k changes r.findings (add counts Look))
+    here = rise_on counts (with_one_more counts Look) next (Look ∷ [], refl) (rise_clash k changes r.findings (with_one_more counts Look))
 
-    by_test : (b : Bool) → OnlyRise next (walked k changes rs next) → OnlyRise counts (cond b next (walked k changes rs next))
+    by_test : (b : Bool) → OnlyRise next (after_walk k changes rs next) → OnlyRise counts (cond b next (after_walk k changes rs next))
     by_test true rest = here
-    by_test false rest = rise_on counts next (walked k changes rs next) here rest
+    by_test false rest = rise_on counts next (after_walk k changes rs next) here rest
 
 -- part of some records
 fewer : (P : Record → Bool) (rs : List Record) → length (filter P rs) ≤ length rs
@@ -93,11 +93,11 @@ fewer_questions P (x ∷ xs) = by_test (P x) (fewer_questions P xs)
     by_test false rest = omega (arith, rest)
 
 -- without a target, each record of its title is looked at
-pub no_target : (laws : Laws) (P : Record → Bool) (rs : List Record) (old new : Counts) → new ≡ looked (looks_to None (filter P rs)) old
+pub no_target : (laws : CancellationLaws) (P : Record → Bool) (rs : List Record) (old new : Counts) → new ≡ after_looks (looks_to None (filter P rs)) old
     → IsDecision 0 (length (survivors_of rs)) 0 old new
 no_target laws P rs old new is =
     let n : ℕ = length (filter P rs) in
-    let walk : IsWalk n 0 old (looked n old) = laws.walks.looks n old in
+    let walk : IsWalk n 0 old (after_looks n old) = laws.walks.looks n old in
     let most : n ≤ length rs = fewer P rs in
     subst (λ (x : Counts). IsDecision 0 (length (survivors_of rs)) 0 old x) (sym is) (record {
       steps = walk.steps;
@@ -109,17 +109,17 @@ no_target laws P rs old new is =
 -- found among some of the records, and compared with those of the later ones that the changes touch
 pub record Compares (k : Facts) (P : Record → Bool) (rs : List Record) (i : ℕ) (old mid new : Counts) : Type 0 where
   pub few : length (changes_of i rs) ≤ 4
-  pub found : mid ≡ looked (looks_to (Some i) (filter P rs)) old
-  pub compared : new ≡ walked k (changes_of i rs) (filter (touches k (changes_of i rs)) (newer i rs)) mid
+  pub found : mid ≡ after_looks (looks_to (Some i) (filter P rs)) old
+  pub compared : new ≡ after_walk k (changes_of i rs) (filter (touches k (changes_of i rs)) (newer i rs)) mid
 
-pub compares : (laws : Laws) (k : Facts) (P : Record → Bool) (rs : List Record) (i : ℕ) (old mid new : Counts)
+pub compares : (laws : CancellationLaws) (k : Facts) (P : Record → Bool) (rs : List Record) (i : ℕ) (old mid new : Counts)
     → Compares k P rs i old mid new → IsDecision 0 (2 * length (newer i rs) + 1) (questions_of (newer i rs)) old new
 compares laws k P rs i old mid new h =
     let cs : List Change = changes_of i rs in
     let ts : List Record = filter (touches k cs) (newer i rs) in
     let all : ℕ = length (newer i (filter P rs)) + 1 in
-    let find : IsWalk all 0 old (looked all old) = laws.walks.looks all old in
-    let walk : IsWalk (length ts) (questions_of ts) mid (walked k cs ts mid) = laws.walks.walk k cs ts mid h.few in
+    let find : IsWalk all 0 old (after_looks all old) = laws.walks.looks all old in
+    let walk : IsWalk (length ts) (questions_of ts) mid (after_walk k cs ts mid) = laws.walks.walk k cs ts mid h.few in
     let first : IsWalk all 0 old mid = subst (λ (x : Counts). IsWalk all 0 old x) (sym h.found) find in
     let then : IsWalk (length ts) (questions_of ts) mid new =
     subst (λ (x : Counts). IsWalk (length ts) (questions_of ts) mid x) (sym h.compared) walk in
@@ -147,20 +147,20 @@ record Writes (n : ℕ) (old new : Counts) : Type 0 where
   looks : new.looks ≡ old.looks
   compared : new.compared ≡ old.compared
 
-writes_alone : (n : ℕ) (old : Counts) → Writes n old (written n old)
+writes_alone : (n : ℕ) (old : Counts) → Writes n old (after_writes n old)
 writes_alone zero old = record { steps = refl; looks = refl; compared = refl }
 writes_alone (suc n) old =
-    let rest : Writes n (add old Written) (written n (add old Written)) = writes_alone n (add old Written) in
+    let rest : Writes n (with_one_more old Written) (after_writes n (with_one_more old Written)) = writes_alone n (with_one_more old Written) in
     record { steps = rest.steps; looks = rest.looks; compared = rest.compared }
 
-writes_alike : (n : ℕ) (one other : Counts) → one.written ≡ other.written → (written n one).written ≡ (written n other).written
+writes_alike : (n : ℕ) (one other : Counts) → one.written ≡ other.written → (after_writes n one).written ≡ (after_writes n other).written
 writes_alike zero one other is = is
-writes_alike (suc n) one other is = writes_alike n (add one Written) (add other Written) (ap raised is)
+writes_alike (suc n) one other is = writes_alike n (with_one_more one Written) (with_one_more other Written) (ap one_higher is)
 
 -- written back, and mended
-pub takes_back : (laws : Laws) (P : Record → Bool) (rs : List Record) (i n questions : ℕ) (old compared back new : Counts)
-    → IsDecision 0 (2 * length (newer i rs) + 1) questions old compared → back ≡ written n compared
-    → new ≡ looked (length (filter P (newer i rs))) back → IsDecision n (3 * length (newer i rs) + 1) questions old new
+pub takes_back : (laws : CancellationLaws) (P : Record → Bool) (rs : List Record) (i n questions : ℕ) (old compared back new : Counts)
+    → IsDecision 0 (2 * length (newer i rs) + 1) questions old compared → back ≡ after_writes n compared
+    → new ≡ after_looks (length (filter P (newer i rs))) back → IsDecision n (3 * length (newer i rs) + 1) questions old new
 takes_back laws P rs i n questions old compared back new was writes looks =
     let met : ℕ = length (filter P (newer i rs)) in
     let most : met ≤ length (newer i rs) = fewer P (newer i rs) in

@@ -24,15 +24,15 @@ kept_line (ask.Command command) line = line
 kept_line (ask.Cancel what) line = line
 
 -- what is asked, with the bytes that its line lends
-abbrev pub sent : Ask → SeatMessage
-sent ask = record {
+abbrev pub message_of : Ask → SeatMessage
+message_of ask = record {
   seat = ask.seat;
   message = asking ask.terminal ask.asked (option_map (λ bytes. bytes.now) ask.line);
 }
 
 -- the turn of what is asked, with its reply
-abbrev pub replied : SeatMessage → TurnReply → Turn
-replied ask reply = record { seat = ask.seat; message = ask.message; reply = reply }
+abbrev pub turn_with_reply : SeatMessage → TurnReply → Turn
+turn_with_reply ask reply = record { seat = ask.seat; message = ask.message; reply = reply }
 
 -- whether it asks for no change
 abbrev pub is_query : Asked → Bool

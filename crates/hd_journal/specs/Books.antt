@@ -2,7 +2,8 @@
 use Rattle.std.specs.Prelude.{◌≡◌, ℕ, zero, suc, ◌≤◌, Option, None, List, [], ◌∷◌, ◌++◌, length, slice_get}
 use Rattle.hd_rules.specs.Facts.{Facts, AreInRange}
 use Rattle.hd_rules.specs.Known.{IsKnown, IsKnownJournal}
-use Rattle.hd_rules.specs.Turns.{Message, Kept, State, Answered, repeated, turn_of}
+use Rattle.hd_rules.specs.Turns.{Message, Kept, State, Answered}
+use Rattle.hd_rules.specs.Machine.{reply_again, turn_of}
 use Rattle.hd_rules.specs.Journal.{Turn, state_after, IsLegal, IsRunOfSurvivors}
 use Rattle.hd_rules.specs.Headline.{Headline}
 use Rattle.hd_rules.specs.Replies.{IsReplyTo}
@@ -28,12 +29,13 @@ abbrev pub state : Book → State
 state book = state_after (facts book) book.turns
 
 -- what the machine answers a message after the turns, and the state that this leaves
-abbrev pub answer : Book → Message → Answered
-answer book message = turn_of (facts book) (state book) message
+abbrev pub machine_answer : Book → Message → Answered
+machine_answer book message = turn_of (facts book) (state book) message
 
 -- the next turn: a seat's message, with the machine's reply
 abbrev pub next_turn : Book → ℕ → Message → Turn
-next_turn book seat message = record { seat = seat; message = message; reply = (answer book message).reply }
+next_turn book seat message =
+    record { seat = seat; message = message; reply = (machine_answer book message).reply }
 
 -- the turn of a number, from 1
 abbrev pub turn_numbered : List Turn → ℕ → Option Turn
@@ -45,10 +47,10 @@ turn_numbered turns (suc n) = slice_get turns n
 pub record AddsTurn (old new : Book) (seat : ℕ) (message : Message) (made : Made) : Type 0 where
   pub contents : new.contents ≡ old.contents
   pub turns : new.turns ≡ old.turns ++ next_turn old seat message ∷ []
-  pub work : IsWork (facts old) (state old) message.terminal message.asked (repeated (state old) message)
+  pub work : IsWork (facts old) (state old) message.terminal message.asked (reply_again (state old) message)
       old.work new.work
-  pub state : state new ≡ (answer old message).state
-  pub reply : made.reply ≡ (answer old message).reply
+  pub state : state new ≡ (machine_answer old message).state
+  pub reply : made.reply ≡ (machine_answer old message).reply
   pub number : made.at ≡ length new.turns
 
 -- No turn was made: catalogue and turns stay. Work that was begun stays counted.

@@ -1,13 +1,14 @@
 -- The turns of a journal that change something.
 use Rattle.std.specs.Prelude.{Bool, ◌&&◌, not, if◌then◌else◌, is_none, List, [], ◌∷◌}
 use Rattle.hd_rules.specs.Facts.{Facts}
-use Rattle.hd_rules.specs.Turns.{Message, State, start, repeated, turn_of}
+use Rattle.hd_rules.specs.Turns.{Message, State, start}
+use Rattle.hd_rules.specs.Machine.{reply_again, turn_of}
 use Rattle.hd_rules.specs.Journal.{Turn}
 use Rattle.hd_journal.specs.Asks.{is_query}
 
 -- neither a query, nor answered already
 abbrev pub is_changing : State → Message → Bool
-is_changing s m = not (is_query m.asked) && is_none (repeated s m)
+is_changing s m = not (is_query m.asked) && is_none (reply_again s m)
 
 module _ (k : Facts) where
   -- of turns from a state, those that change something

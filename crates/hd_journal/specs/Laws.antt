@@ -1,23 +1,19 @@
 -- What is known of cancellations, and of legal journals.
-use Rattle.hd_rules.specs.Laws.{AtMostFourChanges, NumbersSplitARun, TakingBackLeadsThroughFitDesks}
-use Rattle.hd_rules.specs.Laws.{TheFirstDependentIsTheLeast}
+use Rattle.hd_rules.specs.Laws.{ALegalJournalIsTheRunOfItsSurvivors, CommandsKeepDesksSound}
+use Rattle.hd_rules.specs.Laws.{LegalJournalsGoOn, TheFirstDependentIsTheLeast, TheHeadline}
 use Rattle.hd_rules.specs.Laws.{TheTargetIsTheNewest, UndoingIsTheRunWithout}
-use Rattle.hd_rules.specs.MachineLaws.{ALegalJournalGoesOn, ALegalJournalIsTheRunOfItsSurvivors}
-use Rattle.hd_rules.specs.MachineLaws.{EachReplyIsToItsMessage, KnownMessagesGetKnownReplies, TheHeadline}
 use Rattle.hd_clash.specs.About.{AllRecordsAreAboutTheirCommands}
 use Rattle.hd_clash.specs.Records.{RecordsAreKnown, RecordsSplit}
 use Rattle.hd_clash.specs.Walk.{ShiftedRecordsAreThoseWithout, TheFirstClashIsTheFirstDependent}
 use Rattle.hd_records.specs.Looks.{WalksAreShort}
 
 -- laws of the rules, of clashes and of records, together
-pub record Laws : Type 0 where
+pub record CancellationLaws : Type 0 where
   pub target : TheTargetIsTheNewest
-  pub numbers : NumbersSplitARun
-  pub few : AtMostFourChanges
+  pub commands : CommandsKeepDesksSound
   pub dependent : TheFirstDependentIsTheLeast
-  pub undone : UndoingIsTheRunWithout
-  pub fit : TakingBackLeadsThroughFitDesks
-  pub replies : KnownMessagesGetKnownReplies
+  pub undoing : UndoingIsTheRunWithout
+  pub journals : ALegalJournalIsTheRunOfItsSurvivors
   pub split : RecordsSplit
   pub known : RecordsAreKnown
   pub about : AllRecordsAreAboutTheirCommands
@@ -27,8 +23,6 @@ pub record Laws : Type 0 where
 
 -- the rules' laws of legal journals, together
 pub record JournalLaws : Type 0 where
-  pub goes_on : ALegalJournalGoesOn
-  pub run : ALegalJournalIsTheRunOfItsSurvivors
+  pub legal : LegalJournalsGoOn
+  pub journals : ALegalJournalIsTheRunOfItsSurvivors
   pub headline : TheHeadline
-  pub replies : EachReplyIsToItsMessage
-  pub known : KnownMessagesGetKnownReplies

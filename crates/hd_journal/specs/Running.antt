@@ -8,11 +8,12 @@ use Rattle.hd_rules.specs.Run.{run, outcome_of, Rising, next_number}
 use Rattle.hd_rules.specs.declared.commands.Cancel.{Cancel}
 use Rattle.hd_rules.specs.declared.commands.Command.{Command}
 use Rattle.hd_rules.specs.declared.replies.TurnReply.{TurnReply}
-use Rattle.hd_rules.specs.Target.{target}
+use Rattle.hd_rules.specs.Searches.{target}
 use Rattle.hd_rules.specs.declared.replies.TurnReply.TheVariants.{Item}
 use Rattle.hd_rules.specs.declared.turns.Asked.{Asked}
 use Rattle.hd_rules.specs.declared.turns.Asked.TheVariants as ask
-use Rattle.hd_rules.specs.Turns.{Kept, State, item_view, next_survivor, answered_command, answered_cancel}
+use Rattle.hd_rules.specs.Turns.{Kept, State, item_view, next_survivor}
+use Rattle.hd_rules.specs.Machine.{answered_command, answered_cancel}
 use Rattle.hd_catalogue.specs.Contents.{Contents, facts_of}
 
 -- the survivors and the last number given, over a catalogue

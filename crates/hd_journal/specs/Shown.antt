@@ -4,8 +4,8 @@ use Rattle.hd_rules.specs.Journal.{Turn}
 use Rattle.hd_journal.specs.declared.turn.TurnRef.{TurnRef}
 
 -- with the bytes that its line lends
-abbrev pub shown : TurnRef → Turn
-shown turn = record {
+abbrev pub turn_shown : TurnRef → Turn
+turn_shown turn = record {
   seat = turn.seat;
   message = record {
     terminal = turn.terminal;

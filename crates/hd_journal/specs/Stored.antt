@@ -6,13 +6,13 @@ use Rattle.hd_rules.specs.Desk.{opening}
 use Rattle.hd_rules.specs.Run.{IsAmong}
 use Rattle.hd_rules.specs.Record.{Record, IsRecord}
 use Rattle.hd_clash.specs.Records.{AreRecords}
-use Rattle.hd_inverse.specs.Cells.{AreApart, AreKnown}
+use Rattle.hd_inverse.specs.Cells.{AreApart, AreKnownChanges}
 use Rattle.hd_records.specs.Survivors.{survivors_of}
 
 -- the changes of each can be taken back
 abbrev pub EachCanBeUndone : Facts → List Record → Type 0
 EachCanBeUndone k [] = Unit {0}
-EachCanBeUndone k (r ∷ rs) = AreKnown k r.changes × AreApart r.changes × EachCanBeUndone k rs
+EachCanBeUndone k (r ∷ rs) = AreKnownChanges k r.changes × AreApart r.changes × EachCanBeUndone k rs
 
 -- each is the record of its survivor, in the run of those before it
 pub record AreStored (k : Facts) (records : List Record) : Type 0 where

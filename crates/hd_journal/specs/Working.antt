@@ -6,23 +6,24 @@ use Rattle.hd_rules.specs.declared.replies.TurnReply.{TurnReply}
 use Rattle.hd_rules.specs.declared.turns.Asked.{Asked}
 use Rattle.hd_rules.specs.declared.turns.Asked.TheVariants as ask
 use Rattle.hd_rules.specs.Ask.{Done, asks}
-use Rattle.hd_rules.specs.Depends.{first_dependent}
+use Rattle.hd_rules.specs.Searches.{first_dependent}
 use Rattle.hd_rules.specs.Desk.{Desk}
 use Rattle.hd_rules.specs.Step.{plan}
-use Rattle.hd_rules.specs.Target.{Split, target}
+use Rattle.hd_rules.specs.Target.{Split}
+use Rattle.hd_rules.specs.Searches.{target}
 use Rattle.hd_rules.specs.Facts.{Facts}
 use Rattle.hd_rules.specs.Run.{outcome_of, run, step}
 use Rattle.hd_rules.specs.declared.commands.Survivor.{Survivor}
 use Rattle.hd_rules.specs.Turns.{State, next_survivor}
-use Rattle.hd_footprint.specs.Meter.{Counts, add}
+use Rattle.hd_footprint.specs.Meter.{Counts, with_one_more}
 use Rattle.hd_footprint.specs.declared.count.Count.{Count}
 use Rattle.hd_footprint.specs.declared.count.Count.TheVariants.{Step}
-use Rattle.hd_inverse.specs.Work.{written}
+use Rattle.hd_inverse.specs.Work.{after_writes}
 
 -- the counts after these were counted, in order
 abbrev pub all_added : List Count → Counts → Counts
 all_added [] counts = counts
-all_added (what ∷ rest) counts = all_added rest (add counts what)
+all_added (what ∷ rest) counts = all_added rest (with_one_more counts what)
 
 -- The counts only rose: some things were counted, or none. No count falls.
 abbrev pub OnlyRise : Counts → Counts → Type 0
@@ -31,14 +32,14 @@ OnlyRise old new = (counted : List Count) × (new ≡ all_added counted old)
 -- the counts after a command that ended so: one step, and where it is accepted one cell written for each of
 -- its changes
 abbrev pub command_work : Result Done Refusal → Counts → Counts
-command_work (Ok done) old = written (length done.changes) (add old Step)
-command_work (Err refusal) old = add old Step
+command_work (Ok done) old = after_writes (length done.changes) (with_one_more old Step)
+command_work (Err refusal) old = with_one_more old Step
 
 -- no command is carried out; so many cells are written, at most so many records are looked at, and at most
 -- four answers are compared for each of so many questions
 pub record IsDecision (cells records questions : ℕ) (old new : Counts) : Type 0 where
   pub steps : new.steps ≡ old.steps
-  pub written : new.written ≡ (written cells old).written
+  pub written : new.written ≡ (after_writes cells old).written
   pub looks : new.looks ≤ old.looks + records
   pub compared : new.compared ≤ old.compared + 4 * questions
 
@@ -66,9 +67,9 @@ IsDecidedSo k at None old new =
     (later_questions k at) old new
 
 -- the work of a cancellation: without a target at most one look for each survivor
-abbrev pub IsCancellation : Facts → List Survivor → Option Split → Counts → Counts → Type 0
-IsCancellation k survivors None old new = IsDecision 0 (length survivors) 0 old new
-IsCancellation k survivors (Some at) old new =
+abbrev pub IsCancellationWork : Facts → List Survivor → Option Split → Counts → Counts → Type 0
+IsCancellationWork k survivors None old new = IsDecision 0 (length survivors) 0 old new
+IsCancellationWork k survivors (Some at) old new =
     IsDecidedSo k at (first_dependent k survivors at.survivor at.newer) old new
 
 -- The work of a message, where it is a repeat or is none. A query and a repeat raise nothing.
@@ -79,4 +80,4 @@ IsWork k s terminal (ask.Command command) None old new =
     new ≡ command_work (outcome_of k s.desk (next_survivor s terminal command)) old
 IsWork k s terminal (ask.Cancel what) (Some reply) old new = new ≡ old
 IsWork k s terminal (ask.Cancel what) None old new =
-    IsCancellation k s.survivors (target terminal what s.survivors) old new
+    IsCancellationWork k s.survivors (target terminal what s.survivors) old new

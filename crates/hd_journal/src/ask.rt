@@ -1,8 +1,8 @@
 //! What is asked in one turn.
 
 ghost use Rattle.std.specs.Prelude.{◌≡◌, None, IfOk, IsOk, option_map};
-ghost use Rattle.hd_journal.specs.Asks.{asking, is_query, kept_line, replied, sent};
-ghost use Rattle.hd_journal.specs.Shown.{shown};
+ghost use Rattle.hd_journal.specs.Asks.{asking, is_query, kept_line, turn_with_reply, message_of};
+ghost use Rattle.hd_journal.specs.Shown.{turn_shown};
 
 use crate::entry::Entry;
 use crate::line::{Line, copied, lent};
@@ -27,7 +27,7 @@ impl<'a> Ask<'a> {
     /// What this terminal of this seat asks. `line` is the whole line of a message that carried a sequence
     /// number.
     pub fn new(seat: SeatNo, terminal: TerminalNo, asked: Asked, line: Option<&'a [u8]>) -> Ask<'a>
-        ensures { sent result
+        ensures { message_of result
             ≡ record {
               seat = seat;
               message = asking terminal asked
@@ -72,7 +72,7 @@ impl<'a> Ask<'a> {
     /// # Errors
     /// Where there is no memory for the line. Without a line none is wanted.
     pub fn to_owned<A: Allocator>(&self, alloc: A) -> Result<OwnedAsk<A>, AllocError>
-        ensures same { IfOk result (λ own. own ≡ sent self.now) }
+        ensures same { IfOk result (λ own. own ≡ message_of self.now) }
         ensures no_line { self.now.line ≡ None → IsOk result }
     {
         let line = copied(alloc, self.line)?;
@@ -86,7 +86,7 @@ impl<'a> Ask<'a> {
 
     /// The turn of this, with its reply. It lends the asker's own line.
     pub fn with_reply(&self, reply: TurnReply) -> TurnRef<'a>
-        ensures { shown result ≡ replied (sent self.now) reply }
+        ensures { turn_shown result ≡ turn_with_reply (message_of self.now) reply }
     {
         TurnRef {
             seat: self.seat,
@@ -121,7 +121,7 @@ impl<A: Allocator> Model for OwnedAsk<A> {
 impl<A: Allocator> OwnedAsk<A> {
     /// The turn of this, with its reply. Nothing is copied.
     pub fn with_reply(self, reply: TurnReply) -> Entry<A>
-        ensures { result ≡ replied self reply }
+        ensures { result ≡ turn_with_reply self reply }
     {
         Entry { ask: self, reply }
     }

@@ -1,9 +1,10 @@
 //! Turns as values.
 
 ghost use Rattle.std.specs.Prelude.{◌≡◌, ◌↔◌, Some, IsTrue};
-ghost use Rattle.hd_rules.specs.Turns.{kept_of, repeated_of};
+ghost use Rattle.hd_rules.specs.Turns.{kept_of};
+ghost use Rattle.hd_rules.specs.Machine.{kept_reply};
 ghost use Rattle.hd_journal.specs.Asks.{is_query};
-ghost use Rattle.hd_journal.specs.Shown.{shown};
+ghost use Rattle.hd_journal.specs.Shown.{turn_shown};
 
 use crate::ask::OwnedAsk;
 use crate::line::{same_line, same_lines};
@@ -33,7 +34,7 @@ impl<A: Allocator> Model for Entry<A> {
 impl<A: Allocator> Entry<A> {
     /// The turn, with its line lent.
     pub fn show(&self) -> TurnRef<'_>
-        ensures { shown result ≡ self.now }
+        ensures { turn_shown result ≡ self.now }
     {
         TurnRef {
             seat: self.ask.seat,
@@ -46,7 +47,7 @@ impl<A: Allocator> Entry<A> {
 
     /// Whether this is that turn: the same seat, terminal, question, line and reply.
     pub fn is_of(&self, turn: &TurnRef<'_>) -> bool
-        ensures { IsTrue result ↔ (shown turn.now ≡ self.now) }
+        ensures { IsTrue result ↔ (turn_shown turn.now ≡ self.now) }
     {
         self.ask.seat == turn.seat
             && self.ask.terminal == turn.terminal
@@ -65,7 +66,7 @@ impl<A: Allocator> Entry<A> {
     /// The reply that it was told, where it asked this with this line.
     pub(crate) fn answered(&self, asked: &Asked, line: &[u8]) -> Option<TurnReply>
         ensures { result
-            ≡ repeated_of (kept_of self.now.message.line self.now.message.asked self.now.reply)
+            ≡ kept_reply (kept_of self.now.message.line self.now.message.asked self.now.reply)
             asked.now (Some line.now) }
     {
         let kept = self.ask.line()?;

@@ -2,16 +2,16 @@
 
 ghost use Rattle.std.specs.Prelude.{◌≡◌, ◌<◌, [], None, IfOk, OnErr, length, option_map};
 ghost use Rattle.hd_catalogue.specs.Contents.{facts_of};
-ghost use Rattle.hd_records.specs.Shown.{shown as shown_record};
+ghost use Rattle.hd_records.specs.Shown.{record_shown as shown_record};
 ghost use Rattle.hd_journal.specs.Stored.{IsRecordOf};
 ghost use Rattle.hd_rules.specs.Desk.{opening};
 ghost use Rattle.hd_rules.specs.Known.{IsKnownAction, IsKnownCancel};
 ghost use Rattle.hd_rules.specs.Run.{run};
 ghost use Rattle.hd_desk.specs.Desks.{contents, desk_of};
-ghost use Rattle.hd_journal.specs.Asks.{IsKnownMessage, asking, sent};
+ghost use Rattle.hd_journal.specs.Asks.{IsKnownMessage, asking, message_of};
 ghost use Rattle.hd_journal.specs.Books.{AddsTurn, IsLegalBook, MakesNoTurn, facts, state, turn_numbered};
 ghost use Rattle.hd_journal.specs.Changing.{is_changing};
-ghost use Rattle.hd_journal.specs.Shown.{shown};
+ghost use Rattle.hd_journal.specs.Shown.{turn_shown};
 
 use crate::ask::{Ask, OwnedAsk};
 use crate::fault::Fault;
@@ -121,8 +121,9 @@ impl<A: Allocator + Copy> Journal<A> {
 
     /// One turn: what a terminal of a seat asks, of which the journal makes its own copy. As `take`.
     pub fn take_copy(&mut self, ask: &Ask<'_>) -> Result<Turn, Fault>
-        requires { IsKnownMessage (facts self.old) (sent ask.now).message }
-        ensures turn { IfOk result (AddsTurn self.old self.new (sent ask.now).seat (sent ask.now).message) }
+        requires { IsKnownMessage (facts self.old) (message_of ask.now).message }
+        ensures turn { IfOk result (AddsTurn self.old self.new (message_of ask.now).seat
+            (message_of ask.now).message) }
         ensures legal { IsLegalBook self.new.contents self.new.turns }
         ensures err { OnErr result (MakesNoTurn self.old self.new) }
     {
@@ -206,7 +207,7 @@ impl<A: Allocator + Copy> Journal<A> {
 
     /// The turn of a number, from 1, or `None` where there is none.
     pub fn turn_at(&self, at: usize) -> Option<TurnRef<'_>>
-        ensures { option_map shown result ≡ turn_numbered self.now.turns at }
+        ensures { option_map turn_shown result ≡ turn_numbered self.now.turns at }
     {
         self.told.turn(at.checked_sub(1)?)
     }

@@ -1,6 +1,6 @@
 //! What is known of cancellations, and of legal journals.
 
-ghost use Rattle.hd_journal.specs.Laws.{JournalLaws, Laws};
+ghost use Rattle.hd_journal.specs.Laws.{JournalLaws, CancellationLaws};
 
 use hd_clash::{
     records_are_about_their_commands, records_are_known, records_split,
@@ -8,23 +8,20 @@ use hd_clash::{
 };
 use hd_records::walks_are_short;
 use hd_rules::{
-    a_legal_journal_goes_on, a_legal_journal_is_the_run_of_its_survivors, at_most_four_changes,
-    each_reply_is_to_its_message, headline, known_messages_get_known_replies, numbers_split_a_run,
-    taking_back_leads_through_fit_desks, the_first_dependent_is_the_least,
-    the_target_is_the_newest, undoing_is_the_run_without,
+    a_legal_journal_is_the_run_of_its_survivors, commands_keep_desks_sound, headline,
+    legal_journals_go_on, the_first_dependent_is_the_least, the_target_is_the_newest,
+    undoing_is_the_run_without,
 };
 
 /// The laws that a cancellation rests on. It does nothing.
 pub(crate) fn laws()
-    ensures { Laws }
+    ensures { CancellationLaws }
 {
     the_target_is_the_newest();
-    numbers_split_a_run();
-    at_most_four_changes();
+    commands_keep_desks_sound();
     the_first_dependent_is_the_least();
     undoing_is_the_run_without();
-    taking_back_leads_through_fit_desks();
-    known_messages_get_known_replies();
+    a_legal_journal_is_the_run_of_its_survivors();
     records_split();
     records_are_known();
     records_are_about_their_commands();
@@ -37,9 +34,7 @@ pub(crate) fn laws()
 pub(crate) fn journal_laws()
     ensures { JournalLaws }
 {
-    a_legal_journal_goes_on();
+    legal_journals_go_on();
     a_legal_journal_is_the_run_of_its_survivors();
     headline();
-    each_reply_is_to_its_message();
-    known_messages_get_known_replies();
 }

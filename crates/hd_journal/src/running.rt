@@ -5,22 +5,20 @@ ghost use Rattle.hd_catalogue.specs.Contents.{facts_of};
 ghost use Rattle.hd_rules.specs.Desk.{opening};
 ghost use Rattle.hd_rules.specs.Known.{IsKnown, IsKnownAction, IsKnownCancel};
 ghost use Rattle.hd_rules.specs.Run.{outcome_of, run};
-ghost use Rattle.hd_rules.specs.Target.{target};
+ghost use Rattle.hd_rules.specs.Searches.{target};
 ghost use Rattle.hd_rules.specs.Turns.{Kept, item_view, next_survivor};
 ghost use Rattle.hd_desk.specs.Desks.{contents, desk_of, facts};
 ghost use Rattle.hd_journal.specs.Running.{IsCarriedOut, Submitted, Withdrawn, state_alone};
-ghost use Rattle.hd_records.specs.Shown.{shown};
+ghost use Rattle.hd_records.specs.Shown.{record_shown};
 ghost use Rattle.hd_journal.specs.Stored.{IsRecordOf};
-ghost use Rattle.hd_journal.specs.Working.{IsCancellation, IsWork, OnlyRise, command_work};
+ghost use Rattle.hd_journal.specs.Working.{IsCancellationWork, IsWork, OnlyRise, command_work};
 
 use crate::ask::OwnedAsk;
 use crate::laws::laws;
 use hd_desk::{Desk, Done, Meter, Refused};
 use hd_inverse::undo;
 use hd_records::{RecordRef, Records, StoredRecord, Survivors};
-use hd_rules::{
-    Asked, Cancel, Command, CopyNo, Refusal, Survivor, TerminalNo, TurnReply, every_desk_is_sound,
-};
+use hd_rules::{Asked, Cancel, Command, CopyNo, Refusal, Survivor, TerminalNo, TurnReply};
 use std::alloc::{AllocError, Allocator};
 use std::marker::Model;
 
@@ -88,7 +86,7 @@ impl<A: Allocator + Copy> Running<A> {
     /// The record of the survivor of a number, or `None` where there is none.
     pub(crate) fn record(&self, number: u64) -> Option<RecordRef<'_>>
         ensures { IsRecordOf (facts_of self.now.contents) self.now.survivors number
-            (option_map shown result) }
+            (option_map record_shown result) }
     {
         laws();
         self.records.get(number)
@@ -156,7 +154,6 @@ impl<A: Allocator + Copy> Running<A> {
         ensures err { OnErr result (self.new ≡ self.old) }
     {
         laws();
-        every_desk_is_sound();
         self.records.ready(self.desk.catalogue(), command)?;
         let number = self.records.last() + 1;
         match self.desk.apply(number, command, meter) {
@@ -186,7 +183,7 @@ impl<A: Allocator + Copy> Running<A> {
     ) -> Result<TurnReply, AllocError>
         requires { IsKnownCancel (facts_of self.old.contents) what.now }
         ensures cancelled { IfOk result (λ reply. Withdrawn self.old terminal what.now reply self.new) }
-        ensures work { IfOk result (λ _. IsCancellation (facts_of self.old.contents) self.old.survivors
+        ensures work { IfOk result (λ _. IsCancellationWork (facts_of self.old.contents) self.old.survivors
             (target terminal what.now self.old.survivors) meter.old meter.new) }
         ensures rise { OnErr result (OnlyRise meter.old meter.new) }
         ensures contents { self.new.contents ≡ self.old.contents }

@@ -2,8 +2,8 @@
 
 ghost use Rattle.std.specs.Prelude.{◌≡◌, ◌<◌, ◌+◌, ◌^◌, ◌++◌, ◌∷◌, [], OnOk};
 ghost use Rattle.std.specs.Prelude.{length, option_map, slice_get};
-ghost use Rattle.hd_rules.specs.Turns.{repeated_of};
-ghost use Rattle.hd_journal.specs.Shown.{shown};
+ghost use Rattle.hd_rules.specs.Machine.{kept_reply};
+ghost use Rattle.hd_journal.specs.Shown.{turn_shown};
 ghost use Rattle.hd_journal.specs.Telling.{after_turn, kept_by, with_turn};
 
 use crate::ask::OwnedAsk;
@@ -57,7 +57,7 @@ impl<A: Allocator + Copy> Told<A> {
 
     /// The turn at a place, from 0, or `None` where there is none.
     pub(crate) fn turn(&self, place: usize) -> Option<TurnRef<'_>>
-        ensures { option_map shown result ≡ slice_get self.now.turns place }
+        ensures { option_map turn_shown result ≡ slice_get self.now.turns place }
     {
         let turn = self.turns.get(place)?;
         Some(turn.show())
@@ -78,7 +78,7 @@ impl<A: Allocator + Copy> Told<A> {
     /// The reply to a message that equals what is kept of its terminal's last.
     pub(crate) fn repeated(&self, ask: &OwnedAsk<A>) -> Option<TurnReply>
         ensures { result
-            ≡ repeated_of (kept_by self.now ask.now.message.terminal)
+            ≡ kept_reply (kept_by self.now ask.now.message.terminal)
             ask.now.message.asked ask.now.message.line }
     {
         let line = ask.line()?;

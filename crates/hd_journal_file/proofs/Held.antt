@@ -6,7 +6,7 @@ use Rattle.sqlite.specs.Tree.{Trees}
 use Rattle.hd_rules.specs.Turns.{start}
 use Rattle.hd_rules.specs.Journal.{Turn, IsLegal}
 use Rattle.hd_catalogue.specs.Contents.{Contents, facts_of}
-use Rattle.hd_ledger.specs.Kept.{Kept, Head}
+use Rattle.hd_ledger.specs.Kept.{KeptTurn, Head}
 use Rattle.hd_ledger.specs.Tables.{Stores}
 use Rattle.hd_ledger.specs.Holds.{Holds}
 use Rattle.hd_journal_file.specs.Rows.{IsTurnRow, AreTurnRows}
@@ -19,7 +19,7 @@ abbrev pub Settles : State → Type 0
 Settles s = (db : Trees) → IsTrue s.is_open → s.may_leave db → db ≡ s.committed.trees
 
 -- legal turns whose rows a database stores are those of any other such list
-stored_turns : (one : OneMessage) (k : Contents) (turns left : List Turn) (head head' : Head) (rows rows' : List Kept)
+stored_turns : (one : OneMessage) (k : Contents) (turns left : List Turn) (head head' : Head) (rows rows' : List KeptTurn)
     (db : Trees) → IsLegal (facts_of k) turns → IsLegal (facts_of k) left → Stores head rows db → Stores head' rows' db
     → AreTurnRows k turns rows → AreTurnRows k left rows' → left ≡ turns
 stored_turns one k turns left head head' rows rows' db legal legal' stores stores' are are' =
@@ -36,16 +36,16 @@ left_is_held one s settles k turns left held leaves =
     leaves.kept.are
 
 -- a row more
-abbrev pub Adds : State → State → Kept → Type 0
-Adds old new row = (head : Head) (ks : List Kept) → Holds old head ks → Holds new head (ks ++ row ∷ [])
+abbrev pub Adds : State → State → KeptTurn → Type 0
+Adds old new row = (head : Head) (ks : List KeptTurn) → Holds old head ks → Holds new head (ks ++ row ∷ [])
 
 -- a row more, or not
-abbrev pub MayAdd : State → State → Kept → Type 0
+abbrev pub MayAdd : State → State → KeptTurn → Type 0
 MayAdd old new row =
-    (head : Head) (ks : List Kept) → Holds old head ks → (db : Trees) → new.may_leave db
+    (head : Head) (ks : List KeptTurn) → Holds old head ks → (db : Trees) → new.may_leave db
     → old.may_leave db ⊎ Stores head (ks ++ row ∷ []) db
 
-pub held_more : (old new : State) (row : Kept) → Adds old new row
+pub held_more : (old new : State) (row : KeptTurn) → Adds old new row
     → (k : Contents) (turns : List Turn) (turn : Turn) → IsTurnRow k turn row
     → IsLegal (facts_of k) (turns ++ turn ∷ []) → HasTurns k old turns → HasTurns k new (turns ++ turn ∷ [])
 held_more old new row adds k turns turn is legal held =
@@ -57,7 +57,7 @@ held_more old new row adds k turns turn is legal held =
       are = rows_more k turns held.rows turn row held.are is;
     }
 
-pub left_either : (one : OneMessage) (old new : State) (row : Kept) (settles : Settles old) → MayAdd old new row
+pub left_either : (one : OneMessage) (old new : State) (row : KeptTurn) (settles : Settles old) → MayAdd old new row
     → (k : Contents) (turns left : List Turn) (turn : Turn) → IsTurnRow k turn row
     → IsLegal (facts_of k) (turns ++ turn ∷ []) → HasTurns k old turns → LeavesTurns k new left
     → (left ≡ turns) ⊎ (left ≡ turns ++ turn ∷ [])

@@ -7,22 +7,22 @@ use Rattle.hd_rules.specs.Journal.{Turn}
 use Rattle.hd_rules.specs.declared.replies.TurnReply.{TurnReply}
 use Rattle.hd_catalogue.specs.Contents.{Contents, facts_of}
 use Rattle.hd_journal.specs.declared.turn.Turn.{Turn as Made}
-use Rattle.hd_journal.specs.Books.{Book, AddsTurn, next_turn, answer, facts, state}
+use Rattle.hd_journal.specs.Books.{Book, AddsTurn, next_turn, machine_answer, facts, state}
 use Rattle.hd_journal.specs.Changing.{is_changing, changing}
 use Rattle.hd_durable.specs.Laws.{ATurnMoreIsKeptWhereItChanges}
 use Rattle.hd_turn_row.specs.Rows.{IsRowOf}
-use Rattle.hd_ledger.specs.Kept.{Kept, piece}
+use Rattle.hd_ledger.specs.Kept.{KeptTurn, piece}
 use Rattle.hd_ledger.specs.Rows.{read_turn}
 use Rattle.hd_ledger.specs.declared.stored.StoredTurn.{StoredTurn}
 use Rattle.hd_journal_file.specs.Rows.{texts, IsTurnRow, AreTurnRows}
 use Rattle.hd_journal_file.specs.Restored.{CameToRow, TakesPiece, TakesRow, TakesRows}
 use Rattle.hd_journal_file.proofs.Same.{rows_more}
 
-pub takes_row : (old new : Book) (seat : ℕ) (message : Message) (made : Made) (k : Contents) (row : Kept)
+pub takes_row : (old new : Book) (seat : ℕ) (message : Message) (made : Made) (k : Contents) (row : KeptTurn)
     → AddsTurn old new seat message made → k ≡ old.contents → IsRowOf k seat message (texts row)
     → is_changing (state old) message ≡ true → CameToRow made.reply row → TakesRow old new row
 takes_row old new seat message made k row adds same is changes came =
-    let said : CameToRow (answer old message).reply row = subst (λ (r : TurnReply). CameToRow r row) adds.reply came
+    let said : CameToRow (machine_answer old message).reply row = subst (λ (r : TurnReply). CameToRow r row) adds.reply came
     in record {
       contents = adds.contents;
       turn = next_turn old seat message;
@@ -47,7 +47,7 @@ takes_none old = record {
 }
 
 -- one more
-pub takes_more : (law : ATurnMoreIsKeptWhereItChanges) (old mid new : Book) (rows : List Kept) (row : Kept)
+pub takes_more : (law : ATurnMoreIsKeptWhereItChanges) (old mid new : Book) (rows : List KeptTurn) (row : KeptTurn)
     → TakesRows old mid rows → TakesRow mid new row → TakesRows old new (rows ++ row ∷ [])
 takes_more law old mid new rows row some one =
     let kept : changing (facts mid) (mid.turns ++ one.turn ∷ []) ≡ changing (facts mid) mid.turns ++ one.turn ∷ [] =
@@ -71,14 +71,14 @@ rows_front rows i item low is =
     ap (λ (x : StoredTurn). map read_turn (take i rows) ++ read_turn x ∷ []) is ∙ sym (map_more read_turn rows i item low)
 
 -- some more
-rows_join : (k : Contents) (ts us : List Turn) (xs ys : List Kept) → AreTurnRows k ts xs → AreTurnRows k us ys
+rows_join : (k : Contents) (ts us : List Turn) (xs ys : List KeptTurn) → AreTurnRows k ts xs → AreTurnRows k us ys
     → AreTurnRows k (ts ++ us) (xs ++ ys)
 rows_join k [] us [] ys are are' = are'
 rows_join k [] us (x ∷ xs) ys are are' = absurd are
 rows_join k (t ∷ ts) us [] ys are are' = absurd are
 rows_join k (t ∷ ts) us (x ∷ xs) ys are are' = (are.0, rows_join k ts us xs ys are.1 are')
 
-pub takes_then : (old mid new : Book) (rows more : List Kept) → TakesRows old mid rows → TakesRows mid new more
+pub takes_then : (old mid new : Book) (rows more : List KeptTurn) → TakesRows old mid rows → TakesRows mid new more
     → TakesRows old new (rows ++ more)
 takes_then old mid new rows more some next = record {
   contents = next.contents ∙ some.contents;
@@ -90,7 +90,7 @@ takes_then old mid new rows more some next = record {
 }
 
 -- the rows of a journal that had no turn
-pub all_rows : (old new : Book) (rows : List Kept) → old.turns ≡ [] → TakesRows old new rows
+pub all_rows : (old new : Book) (rows : List KeptTurn) → old.turns ≡ [] → TakesRows old new rows
     → AreTurnRows new.contents new.turns rows
 all_rows old new rows none took =
     subst (λ (c : Contents). AreTurnRows c new.turns rows) (sym took.contents)
@@ -98,45 +98,45 @@ all_rows old new rows none took =
     (sym (took.turns ∙ ap (λ (ts : List Turn). ts ++ took.made) none)) took.are)
 
 -- all of them change something
-pub all_change : (old new : Book) (rows : List Kept) → old.turns ≡ [] → TakesRows old new rows
+pub all_change : (old new : Book) (rows : List KeptTurn) → old.turns ≡ [] → TakesRows old new rows
     → changing (facts new) new.turns ≡ new.turns
 all_change old new rows none took =
     took.changes (ap (changing (facts old)) none ∙ sym none)
 
 -- a piece is joined to what was before
-pub piece_joined : (a b : ℕ) (xs : List Kept)
+pub piece_joined : (a b : ℕ) (xs : List KeptTurn)
     → take a xs ++ take b (drop a xs) ≡ take (a + length (take b (drop a xs))) xs
 piece_joined a b xs =
     let more : ℕ = length (take b (drop a xs))
     in let whole : take more (drop a xs) ≡ take b (drop a xs) =
     ap (λ (n : ℕ). take n (drop a xs)) (length-take b (drop a xs)) ∙ take_min b (drop a xs)
-    in ap (λ (l : List Kept). take a xs ++ l) (sym (drop-take a more xs ∙ whole))
-    ∙ ap (λ (l : List Kept). l ++ drop a (take (a + more) xs)) (sym (take-take a (a + more) xs (omega arith)))
+    in ap (λ (l : List KeptTurn). take a xs ++ l) (sym (drop-take a more xs ∙ whole))
+    ∙ ap (λ (l : List KeptTurn). l ++ drop a (take (a + more) xs)) (sym (take-take a (a + more) xs (omega arith)))
     ∙ take-append-drop a (take (a + more) xs)
 
-none_of : (n : ℕ) (ys : List Kept) → take (suc n) ys ≡ [] → ys ≡ []
+none_of : (n : ℕ) (ys : List KeptTurn) → take (suc n) ys ≡ [] → ys ≡ []
 none_of n [] is = refl
 none_of n (y ∷ ys) is = cc
 
-none_left : (ys : List Kept) → take piece ys ≡ [] → ys ≡ []
+none_left : (ys : List KeptTurn) → take piece ys ≡ [] → ys ≡ []
 unfolding piece
 none_left ys is = none_of 1023 ys is
 
 -- after the last
-pub all_taken : (a : ℕ) (xs : List Kept) → take piece (drop a xs) ≡ [] → take a xs ≡ xs
+pub all_taken : (a : ℕ) (xs : List KeptTurn) → take piece (drop a xs) ≡ [] → take a xs ≡ xs
 all_taken a xs is =
-    sym (append-nil (take a xs)) ∙ ap (λ (l : List Kept). take a xs ++ l) (sym (none_left (drop a xs) is))
+    sym (append-nil (take a xs)) ∙ ap (λ (l : List KeptTurn). take a xs ++ l) (sym (none_left (drop a xs) is))
     ∙ take-append-drop a xs
 
-pub piece_taken : (old mid new : Book) (rows : List Kept) (at last : ℕ) → TakesRows old mid (take at rows)
+pub piece_taken : (old mid new : Book) (rows : List KeptTurn) (at last : ℕ) → TakesRows old mid (take at rows)
     → TakesPiece mid new (take piece (drop at rows)) at (Some last) → TakesRows old new (take last rows)
 piece_taken old mid new rows at last some next =
     subst (TakesRows old new) (piece_joined at piece rows ∙ ap (λ (n : ℕ). take n rows) (sym next.0))
     (takes_then old mid new (take at rows) (take piece (drop at rows)) some next.1)
 
-pub last_taken : (old mid new : Book) (rows : List Kept) (at : ℕ) → TakesRows old mid (take at rows)
+pub last_taken : (old mid new : Book) (rows : List KeptTurn) (at : ℕ) → TakesRows old mid (take at rows)
     → TakesPiece mid new (take piece (drop at rows)) at None → TakesRows old new rows
 last_taken old mid new rows at some next =
     subst (TakesRows old new)
-    (ap (λ (l : List Kept). take at rows ++ l) next.0 ∙ append-nil (take at rows) ∙ all_taken at rows next.0)
+    (ap (λ (l : List KeptTurn). take at rows ++ l) next.0 ∙ append-nil (take at rows) ∙ all_taken at rows next.0)
     (takes_then old mid new (take at rows) (take piece (drop at rows)) some next.1)

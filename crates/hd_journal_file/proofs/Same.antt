@@ -1,11 +1,12 @@
 -- Legal turns are told by their rows.
 use Rattle.std.proofs.Common.{◌≡◌, refl, sym, ◌∙◌, ap, subst, List, [], ◌∷◌, ◌++◌, ℕ}
-use Rattle.hd_rules.specs.Turns.{Message, State, turn_of}
+use Rattle.hd_rules.specs.Turns.{Message, State}
+use Rattle.hd_rules.specs.Machine.{turn_of}
 use Rattle.hd_rules.specs.Journal.{Turn, IsLegalFrom}
 use Rattle.hd_rules.specs.declared.replies.TurnReply.{TurnReply}
 use Rattle.hd_catalogue.specs.Contents.{Contents, facts_of}
 use Rattle.hd_turn_row.specs.Rows.{RowTexts, IsRowOf}
-use Rattle.hd_ledger.specs.Kept.{Kept}
+use Rattle.hd_ledger.specs.Kept.{KeptTurn}
 use Rattle.hd_journal_file.specs.Rows.{texts, IsTurnRow, AreTurnRows}
 
 -- a row is that of one message
@@ -18,7 +19,7 @@ abbrev turn_with : ℕ → Message → TurnReply → Turn
 turn_with seat message reply = record { seat = seat; message = message; reply = reply }
 
 -- after the same state
-same_turn : (one : OneMessage) (k : Contents) (s : State) (turn left : Turn) (row : Kept)
+same_turn : (one : OneMessage) (k : Contents) (s : State) (turn left : Turn) (row : KeptTurn)
     → turn.reply ≡ (turn_of (facts_of k) s turn.message).reply → left.reply ≡ (turn_of (facts_of k) s left.message).reply
     → IsTurnRow k turn row → IsTurnRow k left row → left ≡ turn
 same_turn one k s turn left row is is' told told' =
@@ -30,7 +31,7 @@ same_turn one k s turn left row is is' told told' =
     ∙ ap (λ (m : Message). turn_with turn.seat m left.reply) both.1
     ∙ ap (λ (reply : TurnReply). turn_with turn.seat turn.message reply) reply
 
-pub same_turns : (one : OneMessage) (k : Contents) (s : State) (turns left : List Turn) (rows : List Kept)
+pub same_turns : (one : OneMessage) (k : Contents) (s : State) (turns left : List Turn) (rows : List KeptTurn)
     → IsLegalFrom (facts_of k) s turns → IsLegalFrom (facts_of k) s left
     → AreTurnRows k turns rows → AreTurnRows k left rows → left ≡ turns
 same_turns one k s [] [] rows legal legal' are are' = refl
@@ -48,7 +49,7 @@ same_turns one k s (t ∷ ts) (u ∷ us) (row ∷ rows) legal legal' are are' =
     in ap (λ (x : Turn). x ∷ us) first ∙ ap (λ (xs : List Turn). t ∷ xs) rest
 
 -- a row more
-pub rows_more : (k : Contents) (turns : List Turn) (rows : List Kept) (turn : Turn) (row : Kept)
+pub rows_more : (k : Contents) (turns : List Turn) (rows : List KeptTurn) (turn : Turn) (row : KeptTurn)
     → AreTurnRows k turns rows → IsTurnRow k turn row → AreTurnRows k (turns ++ turn ∷ []) (rows ++ row ∷ [])
 rows_more k [] [] turn row are is = (is, tt)
 rows_more k [] (r ∷ rs) turn row are is = absurd are

@@ -4,8 +4,8 @@ use Rattle.sqlite.specs.declared.types.Value.{Value}
 use Rattle.sqlite.specs.declared.types.Value.TheVariants.{Int, Text, Blob}
 use Rattle.sqlite.specs.Order.{Row}
 use Rattle.sqlite.specs.Values.{or_null}
-use Rattle.hd_ledger.specs.Kept.{Kept, cells, number_cell}
-use Rattle.hd_ledger.specs.Tables.{stored, stored_from}
+use Rattle.hd_ledger.specs.Kept.{KeptTurn, cells, number_cell}
+use Rattle.hd_ledger.specs.Tables.{row_of_turn, stored_from}
 
 abbrev text_in : Value → List ℕ
 text_in (Text t) = t
@@ -44,7 +44,7 @@ number_back None = refl
 number_back (Some n) = refl
 
 -- what a stored row keeps of a turn
-abbrev unstored : Row → Kept
+abbrev unstored : Row → KeptTurn
 unstored (at ∷ none ∷ seat ∷ terminal ∷ day ∷ act ∷ patron ∷ copy ∷ title ∷ branch ∷ admits ∷ until ∷ line
     ∷ outcome ∷ number ∷ reply ∷ more) =
     record {
@@ -85,16 +85,16 @@ unstored _ =
       reply = [];
     }
 
-unstored_back : (at : ℕ) (k : Kept) → unstored (stored at k) ≡ k
+unstored_back : (at : ℕ) (k : KeptTurn) → unstored (row_of_turn at k) ≡ k
 unfolding cells
 unstored_back at k = simp (text_back, blob_back, number_back)
 
-all_back : (at : ℕ) (ks : List Kept) → map unstored (stored_from at ks) ≡ ks
+all_back : (at : ℕ) (ks : List KeptTurn) → map unstored (stored_from at ks) ≡ ks
 all_back at [] = refl
 all_back at (k ∷ ks) =
-    ap (λ (x : Kept). x ∷ map unstored (stored_from (at + 1) ks)) (unstored_back at k)
-    ∙ ap (λ (xs : List Kept). k ∷ xs) (all_back (at + 1) ks)
+    ap (λ (x : KeptTurn). x ∷ map unstored (stored_from (at + 1) ks)) (unstored_back at k)
+    ∙ ap (λ (xs : List KeptTurn). k ∷ xs) (all_back (at + 1) ks)
 
 -- the same rows keep the same
-pub one_kept : (rows : List Row) (ks ks' : List Kept) → rows ≡ stored_from 1 ks → rows ≡ stored_from 1 ks' → ks ≡ ks'
+pub one_kept : (rows : List Row) (ks ks' : List KeptTurn) → rows ≡ stored_from 1 ks → rows ≡ stored_from 1 ks' → ks ≡ ks'
 one_kept rows ks ks' is is' = sym (all_back 1 ks) ∙ ap (map unstored) (sym is ∙ is') ∙ all_back 1 ks'

@@ -9,10 +9,10 @@ use Rattle.hd_turn_row.specs.Replies.{IsReplyText}
 use Rattle.hd_turn_row.specs.Rows.{IsRowOf, row_texts}
 use Rattle.hd_turn_row.specs.declared.row.Row.{Row}
 use Rattle.hd_ledger.specs.declared.row.TurnRow.{TurnRow}
-use Rattle.hd_ledger.specs.Rows.{kept}
+use Rattle.hd_ledger.specs.Rows.{turn_of_row}
 use Rattle.hd_journal_file.specs.Came.{ComesTo}
 use Rattle.hd_journal_file.specs.Rows.{IsTurnRow}
-use Rattle.hd_journal_file.specs.Told.{Tells}
+use Rattle.hd_journal_file.specs.Told.{TellsTurn}
 use Rattle.hd_journal_file.specs.declared.came.CameTo.{CameTo}
 
 -- the text of a day isn't empty
@@ -25,7 +25,7 @@ some_day (Some day) (Some text) shown is = let spelled = shown.spelled in cc
 -- what tells a turn's row, and what that came to, is the turn's row
 pub tells_turn : (k : Contents) (turn : Turn) (seat : ℕ) (message : Message) (row : Row) (came : CameTo) (told : TurnRow)
     → seat ≡ turn.seat → message ≡ turn.message → IsRowOf k seat message (row_texts row) → ComesTo turn.reply came
-    → Tells row came told → IsTurnRow k turn (kept told)
+    → TellsTurn row came told → IsTurnRow k turn (turn_of_row told)
 tells_turn k turn seat message row came told seat_is message_is is comes tells = record {
   asked = subst (IsRowOf k turn.seat turn.message) (sym tells.asked)
       (subst (λ (m : Message). IsRowOf k turn.seat m (row_texts row)) message_is

@@ -5,36 +5,36 @@ use Rattle.sqlite.specs.State.{State, HasCleanDisk}
 use Rattle.sqlite.specs.Tree.{Trees}
 use Rattle.hd_rules.specs.Journal.{Turn, IsLegal}
 use Rattle.hd_catalogue.specs.Contents.{Contents, facts_of}
-use Rattle.hd_ledger.specs.Kept.{Kept, Head}
+use Rattle.hd_ledger.specs.Kept.{KeptTurn, Head}
 use Rattle.hd_ledger.specs.Tables.{Stores}
 use Rattle.hd_ledger.specs.Holds.{Holds}
 use Rattle.hd_ledger.specs.Crashes.{HoldsTurns}
 use Rattle.hd_journal_file.specs.Rows.{AreTurnRows}
 
 -- The turns are legal, and just their rows are kept, under some head.
-pub record AreKept (k : Contents) (turns : List Turn) (Keeps : Head → List Kept → Type 0) : Type 0 where
+pub record AreInFile (k : Contents) (turns : List Turn) (Keeps : Head → List KeptTurn → Type 0) : Type 0 where
   pub legal : IsLegal (facts_of k) turns
   pub head : Head
-  pub rows : List Kept
+  pub rows : List KeptTurn
   pub keeps : Keeps head rows
   pub are : AreTurnRows k turns rows
 
 module _ (k : Contents) (s : State) where
   -- a connection sees just these turns, each committed
   abbrev pub HasTurns : List Turn → Type 0
-  HasTurns turns = AreKept k turns (Holds s)
+  HasTurns turns = AreInFile k turns (Holds s)
 
   -- a crash may leave a database with just these turns
   pub record LeavesTurns (left : List Turn) : Type 0 where
     pub database : Trees
     pub may : s.may_leave database
-    pub kept : AreKept k left (λ head rows. Stores head rows database)
+    pub kept : AreInFile k left (λ head rows. Stores head rows database)
 
 -- Without this nothing is claimed of a file: the disk has so far returned what was written to it, and a file
 -- that isn't new held a journal as it was opened.
 pub record IsReliable (image : Image) (is_new : Bool) (s : State) : Type 0 where
   pub clean : HasCleanDisk s
-  pub found : is_new ≡ false → (head : Head) × (rows : List Kept) × HoldsTurns image head rows
+  pub found : is_new ≡ false → (head : Head) × (rows : List KeptTurn) × HoldsTurns image head rows
 
 module _ (image : Image) (is_new : Bool) (k : Contents) (s : State) where
   -- The file holds just these turns, each committed.

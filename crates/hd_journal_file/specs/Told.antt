@@ -7,7 +7,7 @@ use Rattle.hd_turn_row.specs.Rows.{row_texts}
 use Rattle.hd_ledger.specs.declared.row.NamesRow.{NamesRow}
 use Rattle.hd_ledger.specs.declared.row.TurnRow.{TurnRow}
 use Rattle.hd_ledger.specs.Kept.{Named}
-use Rattle.hd_ledger.specs.Rows.{named, kept}
+use Rattle.hd_ledger.specs.Rows.{names_of_row, turn_of_row}
 use Rattle.hd_journal_file.specs.Rows.{texts}
 use Rattle.hd_journal_file.specs.declared.came.CameTo.{CameTo}
 
@@ -24,11 +24,11 @@ names_in asked = record {
 }
 
 abbrev pub TellsNames : AskedColumns → NamesRow → Type 0
-TellsNames asked row = named row ≡ names_in asked
+TellsNames asked row = names_of_row row ≡ names_in asked
 
 -- It tells what a row tells, and what that came to.
-pub record Tells (row : Row) (came : CameTo) (turn : TurnRow) : Type 0 where
-  pub asked : texts (kept turn) ≡ row_texts row
-  pub outcome : (kept turn).outcome ≡ came.outcome.now
-  pub number : (kept turn).number ≡ came.number
-  pub reply : (kept turn).reply ≡ came.reply.items
+pub record TellsTurn (row : Row) (came : CameTo) (turn : TurnRow) : Type 0 where
+  pub asked : texts (turn_of_row turn) ≡ row_texts row
+  pub outcome : (turn_of_row turn).outcome ≡ came.outcome.now
+  pub number : (turn_of_row turn).number ≡ came.number
+  pub reply : (turn_of_row turn).reply ≡ came.reply.items

@@ -5,7 +5,7 @@ ghost use Rattle.sqlite.specs.State.{HasCleanDisk};
 ghost use Rattle.sqlite.specs.Held.{state};
 ghost use Rattle.hd_catalogue.specs.Contents.{Contents, facts_of};
 ghost use Rattle.hd_rules.specs.Journal.{IsLegal, Turn};
-ghost use Rattle.hd_ledger.specs.Rows.{kept};
+ghost use Rattle.hd_ledger.specs.Rows.{turn_of_row};
 ghost use Rattle.hd_journal_file.specs.Held.{HasTurns, LeavesTurns};
 ghost use Rattle.hd_journal_file.specs.Rows.{IsTurnRow};
 
@@ -28,13 +28,13 @@ pub(crate) fn a_crash_leaves_what_is_seen<S: Alter>(_conn: &Connection<S>)
 pub(crate) fn add<S: Alter>(conn: &mut Connection<S>, row: &TurnRow<'_>) -> Result<(), NotCommitted>
     ensures clean { HasCleanDisk (state S.Store conn.new) → HasCleanDisk (state S.Store conn.old) }
     ensures ok { HasCleanDisk (state S.Store conn.new) → OnOk result ((k : Contents) (turns : List Turn)
-        (turn : Turn) → IsTurnRow k turn (kept row.now) → IsLegal (facts_of k) (turns ++ turn ∷ [])
+        (turn : Turn) → IsTurnRow k turn (turn_of_row row.now) → IsLegal (facts_of k) (turns ++ turn ∷ [])
         → HasTurns k (state S.Store conn.old) turns
         → HasTurns k (state S.Store conn.new) (turns ++ turn ∷ [])) }
     ensures settled { (k : Contents) (turns left : List Turn) → HasTurns k (state S.Store conn.new) turns
         → LeavesTurns k (state S.Store conn.new) left → left ≡ turns }
     ensures err { HasCleanDisk (state S.Store conn.new) → OnErr result ((k : Contents)
-        (turns left : List Turn) (turn : Turn) → IsTurnRow k turn (kept row.now)
+        (turns left : List Turn) (turn : Turn) → IsTurnRow k turn (turn_of_row row.now)
         → IsLegal (facts_of k) (turns ++ turn ∷ []) → HasTurns k (state S.Store conn.old) turns
         → LeavesTurns k (state S.Store conn.new) left → (left ≡ turns) ⊎ (left ≡ turns ++ turn ∷ [])) }
 {

@@ -6,7 +6,7 @@ ghost use Rattle.sqlite.specs.Held.{state};
 ghost use Rattle.hd_journal.specs.Books.{IsLegalBook, facts};
 ghost use Rattle.hd_journal.specs.Changing.{changing};
 ghost use Rattle.hd_ledger.specs.Holds.{Holds};
-ghost use Rattle.hd_ledger.specs.Kept.{Head, Kept, piece};
+ghost use Rattle.hd_ledger.specs.Kept.{Head, KeptTurn, piece};
 ghost use Rattle.hd_ledger.specs.Rows.{read_turn};
 ghost use Rattle.hd_journal_file.specs.Restored.{TakesPiece, TakesRow, TakesRows};
 ghost use Rattle.hd_journal_file.specs.Rows.{AreTurnRows};
@@ -81,11 +81,11 @@ fn take_piece<S: Alter, A: Allocator + Copy>(
     after: u32,
 ) -> Result<Option<u32>, RestoreFault>
     ensures clean { HasCleanDisk (state S.Store conn.new) → HasCleanDisk (state S.Store conn.old) }
-    ensures took { OnOk result ((rows : List Kept) × TakesRows journal.old journal.new rows) }
-    ensures same { HasCleanDisk (state S.Store conn.new) → OnOk result ((head : Head) (rows : List Kept)
+    ensures took { OnOk result ((rows : List KeptTurn) × TakesRows journal.old journal.new rows) }
+    ensures same { HasCleanDisk (state S.Store conn.new) → OnOk result ((head : Head) (rows : List KeptTurn)
         → Holds (state S.Store conn.old) head rows → Holds (state S.Store conn.new) head rows) }
     ensures rows { HasCleanDisk (state S.Store conn.new) → IfOk result (λ last. (head : Head)
-        (rows : List Kept) → Holds (state S.Store conn.old) head rows
+        (rows : List KeptTurn) → Holds (state S.Store conn.old) head rows
         → TakesPiece journal.old journal.new (take piece (drop after rows)) after last) }
 {
     let rows = match turns(conn, memory, after) {
@@ -114,7 +114,7 @@ pub fn restore_turns<S: Alter, A: Allocator + Copy>(
 ) -> Result<usize, RestoreFault>
     requires { journal.old.turns ≡ [] }
     ensures clean { HasCleanDisk (state S.Store conn.new) → HasCleanDisk (state S.Store conn.old) }
-    ensures rows { HasCleanDisk (state S.Store conn.new) → OnOk result ((head : Head) (rows : List Kept)
+    ensures rows { HasCleanDisk (state S.Store conn.new) → OnOk result ((head : Head) (rows : List KeptTurn)
         → Holds (state S.Store conn.old) head rows → Holds (state S.Store conn.new) head rows
         × AreTurnRows journal.new.contents journal.new.turns rows) }
     ensures number { IfOk result (λ number. number ≡ length journal.new.turns) }

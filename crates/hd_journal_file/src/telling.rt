@@ -4,12 +4,12 @@ ghost use Rattle.std.specs.Prelude.{◌≡◌, [], IfOk, Some, option_map};
 ghost use Rattle.std.specs.Option.{option_copied};
 ghost use Rattle.hd_catalogue.specs.Contents.{facts_of};
 ghost use Rattle.hd_journal.specs.Asks.{IsKnownMessage};
-ghost use Rattle.hd_journal.specs.Shown.{shown};
+ghost use Rattle.hd_journal.specs.Shown.{turn_shown};
 ghost use Rattle.hd_turn_row.specs.Rows.{AreDaysOfAsked, message_of, row_texts};
-ghost use Rattle.hd_ledger.specs.Rows.{kept};
+ghost use Rattle.hd_ledger.specs.Rows.{turn_of_row};
 ghost use Rattle.hd_journal_file.specs.Came.{ComesTo};
 ghost use Rattle.hd_journal_file.specs.Rows.{IsTurnRow, day_of, texts};
-ghost use Rattle.hd_journal_file.specs.Told.{Tells, TellsNames};
+ghost use Rattle.hd_journal_file.specs.Told.{TellsTurn, TellsNames};
 
 use crate::came::CameTo;
 use hd_catalogue::Catalogue;
@@ -29,10 +29,10 @@ pub(crate) fn told<'a, 't: 'a, A: Allocator + Copy>(
     days: &'a RowDays,
     came: &'a CameTo,
 ) -> Result<TurnRow<'a>, NotCommitted>
-    requires known { IsKnownMessage (facts_of catalogue.now) (shown turn.now).message }
+    requires known { IsKnownMessage (facts_of catalogue.now) (turn_shown turn.now).message }
     requires days { AreDaysOfAsked turn.now.asked days.now }
     requires came { ComesTo turn.now.reply came.now }
-    ensures { IfOk result (λ row. IsTurnRow catalogue.now (shown turn.now) (kept row)) }
+    ensures { IfOk result (λ row. IsTurnRow catalogue.now (turn_shown turn.now) (turn_of_row row)) }
 {
     let ask = ask_of(turn);
     let Some(row) = row_of(catalogue, &ask, days) else {
@@ -43,8 +43,8 @@ pub(crate) fn told<'a, 't: 'a, A: Allocator + Copy>(
 
 /// What a turn asked.
 fn ask_of<'a, 't: 'a>(turn: &TurnRef<'t>) -> RowAsk<'a>
-    ensures seat { result.seat ≡ (shown turn.now).seat }
-    ensures message { message_of result ≡ (shown turn.now).message }
+    ensures seat { result.seat ≡ (turn_shown turn.now).seat }
+    ensures message { message_of result ≡ (turn_shown turn.now).message }
 {
     let line: Option<&'a [u8]> = match turn.line {
         Some(line) => Some(line),
@@ -64,7 +64,7 @@ fn ask_of<'a, 't: 'a>(turn: &TurnRef<'t>) -> RowAsk<'a>
 /// Where a text isn't UTF-8.
 fn row_with<'a>(row: &Row<'a>, came: &'a CameTo) -> Result<TurnRow<'a>, NotCommitted>
     requires { ¬ (option_copied row.now.asked.day ≡ Some []) }
-    ensures { IfOk result (Tells row.now came.now) }
+    ensures { IfOk result (TellsTurn row.now came.now) }
 {
     let terminal = text(row.terminal)?;
     let day = day_text(row.asked.day)?;

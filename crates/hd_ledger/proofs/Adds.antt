@@ -8,19 +8,19 @@ use Rattle.sqlite.specs.Effect.{Database}
 use Rattle.sqlite.specs.declared.error.Error.{Error}
 use Rattle.sqlite.specs.State.{State, mode_of, Executes, CommitsBy, MayCommit, text_of}
 use Rattle.sqlite.proofs.Callers.{IsPlain, command_of, statement_of, runs_as}
-use Rattle.hd_ledger.specs.Kept.{Kept, Head, cells}
+use Rattle.hd_ledger.specs.Kept.{KeptTurn, Head, cells}
 use Rattle.hd_ledger.specs.Tables.{journal_schema, Stores}
-use Rattle.hd_ledger.specs.Holds.{Holds, Has}
+use Rattle.hd_ledger.specs.Holds.{Holds, SeesTurns}
 use Rattle.hd_ledger.proofs.InsertTexts.{insert_turn_text, insert_turn_is, insert_turn_plain, insert_turn}
 use Rattle.hd_ledger.proofs.Steps.{does_add}
 
 -- under the schema that the state has
-changes : (old : State) (k : Kept) (text : List ℕ) (tally : Tally) (after : Database) → old.now.schema ≡ journal_schema → Does old.step_limit (mode_of old) (cells k) old.now text None insert_turn (Ok (tally, after))
+changes : (old : State) (k : KeptTurn) (text : List ℕ) (tally : Tally) (after : Database) → old.now.schema ≡ journal_schema → Does old.step_limit (mode_of old) (cells k) old.now text None insert_turn (Ok (tally, after))
     → Does old.step_limit (mode_of old) (cells k) (record old.now { schema = journal_schema }) text None insert_turn (Ok (tally, after))
 changes old k text tally after schema does = subst (λ s. Does old.step_limit (mode_of old) (cells k) (record old.now { schema = s }) text None insert_turn (Ok (tally, after))) schema does
 
-pub adds : (old new : State) (k : Kept) (given : Row) (r : Result ℕ Error) → given ≡ cells k → Executes insert_turn_text given old new r
-    → (h : Head) (ks : List Kept) → Holds old h ks → OnOk r (Holds new h (ks ++ k ∷ []))
+pub adds : (old new : State) (k : KeptTurn) (given : Row) (r : Result ℕ Error) → given ≡ cells k → Executes insert_turn_text given old new r
+    → (h : Head) (ks : List KeptTurn) → Holds old h ks → OnOk r (Holds new h (ks ++ k ∷ []))
 adds old new k given (Err x) is ran h ks holds = tt
 adds old new k given (Ok count) is ran h ks holds =
     let ran_so = subst (λ row. Executes insert_turn_text row old new (Ok count)) is ran in
@@ -29,8 +29,8 @@ adds old new k given (Ok count) is ran h ks holds =
     let done = does_add old h k ks text w.tally new.now holds.rows (changes old k text w.tally new.now holds.schema w.changed) in
     record { schema = done.0; rows = done.1; settled = rw holds.outside at w.shown.committed_is; outside = w.shown.mode ∙ holds.outside; is_open = w.shown.is_open }
 
-pub puts : (old new : State) (k : Kept) (given : Row) (r : Result ℕ Error) → given ≡ cells k → (h : Head) (ks : List Kept) → Has old h ks → Executes insert_turn_text given old new r
-    → OnOk r (Has new h (ks ++ k ∷ []))
+pub puts : (old new : State) (k : KeptTurn) (given : Row) (r : Result ℕ Error) → given ≡ cells k → (h : Head) (ks : List KeptTurn) → SeesTurns old h ks → Executes insert_turn_text given old new r
+    → OnOk r (SeesTurns new h (ks ++ k ∷ []))
 puts old new k given (Err x) is h ks has ran = tt
 puts old new k given (Ok count) is h ks has ran =
     let ran_so = subst (λ row. Executes insert_turn_text row old new (Ok count)) is ran in
@@ -40,7 +40,7 @@ puts old new k given (Ok count) is h ks has ran =
     record { schema = done.0; rows = done.1; inside = w.shown.mode ∙ has.inside; is_open = w.shown.is_open }
 
 -- what the insertion commits has the turn at the end
-pub commits : (old : State) (k : Kept) (given : Row) (h : Head) (ks : List Kept) (db : Trees) → given ≡ cells k → Holds old h ks → CommitsBy insert_turn_text given old db → Stores h (ks ++ k ∷ []) db
+pub commits : (old : State) (k : KeptTurn) (given : Row) (h : Head) (ks : List KeptTurn) (db : Trees) → given ≡ cells k → Holds old h ks → CommitsBy insert_turn_text given old db → Stores h (ks ++ k ∷ []) db
 unfolding CommitsBy
 commits old k given h ks db is holds may_commit =
     let it = subst (λ row. CommitsBy insert_turn_text row old db) is may_commit in
@@ -55,5 +55,5 @@ commits old k given h ks db is holds may_commit =
     ]
 
 -- what is committed is what each crash leaves
-pub lasting : (new : State) (h : Head) (ks : List Kept) (db : Trees) → Holds new h ks → db ≡ new.committed.trees → Stores h ks db
+pub lasting : (new : State) (h : Head) (ks : List KeptTurn) (db : Trees) → Holds new h ks → db ≡ new.committed.trees → Stores h ks db
 lasting new h ks db holds is = subst (Stores h ks) (sym (is ∙ ap (λ (d : Database). d.trees) holds.settled)) holds.rows

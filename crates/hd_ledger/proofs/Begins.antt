@@ -11,9 +11,9 @@ use Rattle.sqlite.specs.Effect.{Database}
 use Rattle.sqlite.specs.declared.error.Error.{Error}
 use Rattle.sqlite.specs.State.{State, mode_of, Writes, Executes}
 use Rattle.sqlite.proofs.Callers.{statement_of, runs_as}
-use Rattle.hd_ledger.specs.Kept.{begun}
+use Rattle.hd_ledger.specs.Kept.{new_head}
 use Rattle.hd_ledger.specs.Tables.{journal_table, turn_table, journal_schema, head_schema, no_schema}
-use Rattle.hd_ledger.specs.Holds.{Has, HasNothing, HasFirst, HasTables}
+use Rattle.hd_ledger.specs.Holds.{SeesTurns, HasNothing, HasFirst, HasTables}
 use Rattle.hd_ledger.proofs.CreateTexts.{create_journal_text, create_journal_is, create_journal_plain, create_turn_text, create_turn_is, create_turn_plain}
 use Rattle.hd_ledger.proofs.InsertTexts.{insert_journal_text, insert_journal_is, insert_journal_plain, insert_head}
 use Rattle.hd_ledger.proofs.Steps.{went, same_value, does_begin}
@@ -59,7 +59,7 @@ creates_turn old new (Ok count) has h =
       is_open = w.shown.is_open;
     }
 
-pub puts_head : (old new : State) (digest : List ℕ) (r : Result ℕ Error) → HasTables old → Executes insert_journal_text (Blob digest ∷ []) old new r → OnOk r (Has new (begun digest) [])
+pub puts_head : (old new : State) (digest : List ℕ) (r : Result ℕ Error) → HasTables old → Executes insert_journal_text (Blob digest ∷ []) old new r → OnOk r (SeesTurns new (new_head digest) [])
 puts_head old new digest (Err e) has h = tt
 puts_head old new digest (Ok count) has h =
     let w = runs_as insert_journal_text (Blob digest ∷ []) old new journal_schema has.schema insert_head insert_journal_is insert_journal_plain count h in

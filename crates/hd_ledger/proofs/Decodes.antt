@@ -6,7 +6,7 @@ use Rattle.sqlite.specs.declared.types.Value.TheVariants.{Null, Int, Text, Blob}
 use Rattle.sqlite.specs.Order.{Row, column}
 use Rattle.sqlite.specs.Values.{or_null}
 use Rattle.sqlite.specs.State.{State}
-use Rattle.hd_ledger.specs.Kept.{Named, Kept, Head, cells, number_cell}
+use Rattle.hd_ledger.specs.Kept.{Named, KeptTurn, Head, cells, number_cell}
 use Rattle.hd_ledger.specs.Holds.{Holds}
 
 pub text_back : {X : Type 0} (f : X → List ℕ) (x : Option X) (o : Option (List ℕ)) (v : Value) → v ≡ or_null Text o → MatchOption x (v ≡ Null) (λ s. (v ≢ Null) × (v ≡ Text (f s)))
@@ -39,7 +39,7 @@ pub the_number : (m n : ℕ) → Int (pos n) ≡ Int (pos m) → m ≡ n
 the_number m n e = cc
 
 -- the cells of a turn, one by one
-module _ (row : Row) (k : Kept) (is : row ≡ cells k) where
+module _ (row : Row) (k : KeptTurn) (is : row ≡ cells k) where
   pub seat_at : column row 0 ≡ Int (pos k.seat)
   unfolding cells
   seat_at = ap (λ (r : Row). column r 0) is
@@ -100,21 +100,21 @@ pub named_is : (m : Named) (act : List ℕ) (patron copy title branch admits unt
     → ◌≡◌ {A = Named} (record { act = act; patron = patron; copy = copy; title = title; branch = branch; admits = admits; until = until }) m
 named_is m act patron copy title branch admits until a p c t b d u = rw (a, p, c, t, b, d, u)
 
-pub kept_is : (k : Kept) (seat : ℕ) (terminal day : List ℕ) (asked : Named) (line : Option (List ℕ)) (outcome : List ℕ) (number : Option ℕ) (reply : List ℕ)
+pub kept_is : (k : KeptTurn) (seat : ℕ) (terminal day : List ℕ) (asked : Named) (line : Option (List ℕ)) (outcome : List ℕ) (number : Option ℕ) (reply : List ℕ)
     → seat ≡ k.seat → terminal ≡ k.terminal → day ≡ k.day → asked ≡ k.asked → line ≡ k.line → outcome ≡ k.outcome → number ≡ k.number → reply ≡ k.reply
-    → ◌≡◌ {A = Kept} (record { seat = seat; terminal = terminal; day = day; asked = asked; line = line; outcome = outcome; number = number; reply = reply }) k
+    → ◌≡◌ {A = KeptTurn} (record { seat = seat; terminal = terminal; day = day; asked = asked; line = line; outcome = outcome; number = number; reply = reply }) k
 kept_is k seat terminal day asked line outcome number reply s t d a l o n r = rw (s, t, d, a, l, o, n, r)
 
 -- ---- a list of rows
 
-turn_at : (ks : List Kept) (i : ℕ) (other : Row) → i < length ks → (k : Kept) × (take (suc i) ks ≡ take i ks ++ k ∷ []) × (get_or (map cells ks) i other ≡ cells k)
+turn_at : (ks : List KeptTurn) (i : ℕ) (other : Row) → i < length ks → (k : KeptTurn) × (take (suc i) ks ≡ take i ks ++ k ∷ []) × (get_or (map cells ks) i other ≡ cells k)
 turn_at [] i other low = absurd (omega arith)
 turn_at (x ∷ ks) zero other low = (x, refl, refl)
 turn_at (x ∷ ks) (suc i) other low = let r = turn_at ks i other (omega arith) in (r.0, ap (λ l. x ∷ l) r.1, r.2)
 
 -- one row more is read
-pub read_more : {T : Type 0} (read : T → Kept) (rows : List Row) (ks : List Kept) (i : ℕ) (row : Row) (t : T) (done : List T) → i < length rows → row ≡ get_or rows i row → rows ≡ map cells ks
-    → ((k : Kept) → row ≡ cells k → read t ≡ k) → map read done ≡ take i ks → map read (done ++ t ∷ []) ≡ take (i + 1) ks
+pub read_more : {T : Type 0} (read : T → KeptTurn) (rows : List Row) (ks : List KeptTurn) (i : ℕ) (row : Row) (t : T) (done : List T) → i < length rows → row ≡ get_or rows i row → rows ≡ map cells ks
+    → ((k : KeptTurn) → row ≡ cells k → read t ≡ k) → map read done ≡ take i ks → map read (done ++ t ∷ []) ≡ take (i + 1) ks
 read_more read rows ks i row t done low at is turn so =
     let len : length rows ≡ length ks = ap length is ∙ length-map ks cells in
     let found = turn_at ks i row (omega arith) in
@@ -123,7 +123,7 @@ read_more read rows ks i row t done low at is turn so =
     map-append read done (t ∷ []) ∙ rw (so, e, add-one) (sym found.1)
 
 -- what is read of the rows that a journal has
-pub read_rows : {T E : Type 0} (turns : T → List Kept) (rows : List Row) (r : Result T E) (s : State) (f : List Kept → List Kept) → ((h : Head) (ks : List Kept) → Holds s h ks → rows ≡ map cells (f ks))
-    → IfOk r (λ t. (ks : List Kept) → rows ≡ map cells ks → turns t ≡ ks) → IfOk r (λ t. (h : Head) (ks : List Kept) → Holds s h ks → turns t ≡ f ks)
+pub read_rows : {T E : Type 0} (turns : T → List KeptTurn) (rows : List Row) (r : Result T E) (s : State) (f : List KeptTurn → List KeptTurn) → ((h : Head) (ks : List KeptTurn) → Holds s h ks → rows ≡ map cells (f ks))
+    → IfOk r (λ t. (ks : List KeptTurn) → rows ≡ map cells ks → turns t ≡ ks) → IfOk r (λ t. (h : Head) (ks : List KeptTurn) → Holds s h ks → turns t ≡ f ks)
 read_rows turns rows (Ok t) s f found read = λ h ks holds. read (f ks) (found h ks holds)
 read_rows turns rows (Err e) s f found read = tt

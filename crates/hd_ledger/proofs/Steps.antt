@@ -11,8 +11,8 @@ use Rattle.sqlite.specs.Effect.{Database}
 use Rattle.sqlite.specs.State.{State, mode_of}
 use Rattle.sqlite.proofs.Callers.{one_step}
 use Rattle.sqlite_sql.specs.Term.{eval_all}
-use Rattle.hd_ledger.specs.Kept.{Kept, Head, begun, cells}
-use Rattle.hd_ledger.specs.Tables.{journal_table, turn_table, journal_schema, stored, stored_from, headed, Stores}
+use Rattle.hd_ledger.specs.Kept.{KeptTurn, Head, new_head, cells}
+use Rattle.hd_ledger.specs.Tables.{journal_table, turn_table, journal_schema, row_of_turn, stored_from, head_row, Stores}
 use Rattle.hd_ledger.proofs.InsertTexts.{turn_terms, insert_turn, insert_head}
 use Rattle.hd_ledger.proofs.Order.{cmp_less}
 use Rattle.hd_ledger.proofs.Values.{cast_null, cast_int, cast_turn}
@@ -32,23 +32,23 @@ pub zero_is_not_one : ◌≢◌ {A = ℕ} 0 1
 zero_is_not_one e = absurd (omega arith)
 
 -- the number of the next turn
-pub next_from : (at : ℕ) (ks : List Kept) → fold (λ _ r. id_in (rowid r) +ℤ pos 1) (pos at) (stored_from at ks) ≡ pos (at + length ks)
+pub next_from : (at : ℕ) (ks : List KeptTurn) → fold (λ _ r. id_in (rowid r) +ℤ pos 1) (pos at) (stored_from at ks) ≡ pos (at + length ks)
 next_from at [] = ap pos (omega arith)
 next_from at (k ∷ ks) = next_from (at + 1) ks ∙ ap pos (omega arith)
 
-pub put_last : (at n : ℕ) (k : Kept) (ks : List Kept) → n ≡ at + length ks → put_row (stored n k) (stored_from at ks) ≡ stored_from at (ks ++ k ∷ [])
+pub put_last : (at n : ℕ) (k : KeptTurn) (ks : List KeptTurn) → n ≡ at + length ks → put_row (row_of_turn n k) (stored_from at ks) ≡ stored_from at (ks ++ k ∷ [])
 put_last at n k [] is = let same : n ≡ at = omega arith in rw same
 put_last at n k (x ∷ ks) is =
     let less = cmp_less at n (omega arith) in
-    rw less (ap (λ l. stored at x ∷ l) (put_last (at + 1) n k ks (omega arith)))
+    rw less (ap (λ l. row_of_turn at x ∷ l) (put_last (at + 1) n k ks (omega arith)))
 
 -- a statement's row, put behind the turns
-added : (db : Trees) (k : Kept) (ks : List Kept) (row : Row) → row ≡ Null ∷ Null ∷ cells k → db 1 ≡ stored_from 1 ks
+added : (db : Trees) (k : KeptTurn) (ks : List KeptTurn) (row : Row) → row ≡ Null ∷ Null ∷ cells k → db 1 ≡ stored_from 1 ks
     → put_all (db 1) (numbered Chosen (db 1) (row ∷ [])) ≡ stored_from 1 (ks ++ k ∷ [])
 added db k ks row is rows = rw (is, rows, next_from 1 ks) (put_last 1 (1 + length ks) k ks refl)
 
 -- an insertion puts the turn at the end
-pub does_add : (s : State) (h : Head) (k : Kept) (ks : List Kept) (text : List ℕ) (tally : Tally) (after : Database) → Stores h ks s.now.trees
+pub does_add : (s : State) (h : Head) (k : KeptTurn) (ks : List KeptTurn) (text : List ℕ) (tally : Tally) (after : Database) → Stores h ks s.now.trees
     → Does s.step_limit (mode_of s) (cells k) (record s.now { schema = journal_schema }) text None insert_turn (Ok (tally, after))
     → (after.schema ≡ journal_schema) × Stores h (ks ++ k ∷ []) after.trees
 does_add s h k ks text tally after has does =
@@ -74,7 +74,7 @@ does_add s h k ks text tally after has does =
 -- the first insertion makes the head
 pub does_begin : (s : State) (digest : List ℕ) (text : List ℕ) (tally : Tally) (after : Database) → s.now.trees 0 ≡ [] → s.now.trees 1 ≡ []
     → Does s.step_limit (mode_of s) (Blob digest ∷ []) (record s.now { schema = journal_schema }) text None insert_head (Ok (tally, after))
-    → (after.schema ≡ journal_schema) × Stores (begun digest) [] after.trees
+    → (after.schema ≡ journal_schema) × Stores (new_head digest) [] after.trees
 does_begin s digest text tally after none turns does =
     let db = s.now.trees in
     let done = went does in
@@ -85,7 +85,7 @@ does_begin s digest text tally after none turns does =
     let trees : done.0.trees ≡ written.0 = ap (λ (it : Written). it.trees) (same_value counted.2) ∙ same_value counted.1 in
     let all : after.trees ≡ written.0 = ap (λ (d : Database). d.trees) now ∙ trees in
     let step = one_step journal_schema _ db written.0 (edit_of db journal_table [] Chosen 0 given.0) refl written.1 in
-    let edit : edited db (edit_of db journal_table [] Chosen 0 given.0) ≡ headed (begun digest) ∷ [] =
+    let edit : edited db (edit_of db journal_table [] Chosen 0 given.0) ≡ head_row (new_head digest) ∷ [] =
     ap (λ rows. edited db (edit_of db journal_table [] Chosen 0 rows)) given.1.1 ∙ rw (none, cast_null, cast_int 1) in (
       ap (λ (d : Database). d.schema) now,
       record {

@@ -8,7 +8,7 @@ use Rattle.sqlite.specs.Kind.TheVariants.{Integer, Text}
 use Rattle.sqlite.specs.Cast.{cast}
 use Rattle.sqlite_rules.specs.Cast.{cast_row}
 use Rattle.sqlite_sql.specs.Term.{eval_all}
-use Rattle.hd_ledger.specs.Kept.{Kept, cells, number_cell}
+use Rattle.hd_ledger.specs.Kept.{KeptTurn, cells, number_cell}
 use Rattle.hd_ledger.specs.Tables.{turn_table}
 use Rattle.hd_ledger.proofs.InsertTexts.{turn_terms}
 
@@ -33,13 +33,13 @@ cast_words None = refl
 cast_words (Some t) = refl
 
 -- the row of a turn before it has its number
-pub cast_turn : (k : Kept) → cast_row turn_table (eval_all turn_terms (cells k ∷ [])) ≡ Null ∷ Null ∷ cells k
+pub cast_turn : (k : KeptTurn) → cast_row turn_table (eval_all turn_terms (cells k ∷ [])) ≡ Null ∷ Null ∷ cells k
 unfolding cells
 cast_turn k =
     rw (cast_null, cast_int k.seat, cast_words k.asked.patron, cast_words k.asked.copy, cast_words k.asked.title, cast_words k.asked.branch, cast_words k.asked.admits, cast_words k.asked.until, cast_number k.number)
 
 -- the values of a turn, each known by itself
-pub cells_are : (k : Kept) (seat : Value) (terminal day act : List ℕ) (patron copy title branch admits until line : Value) (outcome : List ℕ) (number : Value)
+pub cells_are : (k : KeptTurn) (seat : Value) (terminal day act : List ℕ) (patron copy title branch admits until line : Value) (outcome : List ℕ) (number : Value)
     → seat ≡ Int (pos k.seat) → terminal ≡ k.terminal → day ≡ k.day → act ≡ k.asked.act → patron ≡ or_null Words k.asked.patron → copy ≡ or_null Words k.asked.copy
     → title ≡ or_null Words k.asked.title → branch ≡ or_null Words k.asked.branch → admits ≡ or_null Words k.asked.admits → until ≡ or_null Words k.asked.until
     → line ≡ or_null Bytes k.line → outcome ≡ k.outcome → number ≡ or_null number_cell k.number

@@ -3,14 +3,14 @@ use Rattle.std.specs.Prelude.{List, []}
 use Rattle.sqlite.specs.Recovery.{Image}
 use Rattle.sqlite.specs.Tree.{Trees}
 use Rattle.sqlite.specs.Files.{HoldsDatabase}
-use Rattle.hd_ledger.specs.Kept.{Kept, Head}
+use Rattle.hd_ledger.specs.Kept.{KeptTurn, Head}
 use Rattle.hd_ledger.specs.Tables.{Stores}
 
 -- the two files hold a database, with this head and just these turns
-abbrev pub HoldsTurns : Image → Head → List Kept → Type 0
+abbrev pub HoldsTurns : Image → Head → List KeptTurn → Type 0
 HoldsTurns left h ks = ∥ ((db : Trees) × HoldsDatabase left db × Stores h ks db) ∥₁
 
 -- and so does the database file with no log
-pub record HoldsTurnsAlone (left : Image) (h : Head) (ks : List Kept) : Type 0 where
+pub record HoldsTurnsAlone (left : Image) (h : Head) (ks : List KeptTurn) : Type 0 where
   pub both : HoldsTurns left h ks
   pub alone : HoldsTurns (record left { log = [] }) h ks

@@ -1,11 +1,11 @@
 -- What a connection to a journal sees.
 use Rattle.std.specs.Prelude.{◌≡◌, true, false, List, [], IsTrue}
 use Rattle.sqlite.specs.State.{State}
-use Rattle.hd_ledger.specs.Kept.{Kept, Head}
+use Rattle.hd_ledger.specs.Kept.{KeptTurn, Head}
 use Rattle.hd_ledger.specs.Tables.{journal_schema, head_schema, no_schema, Stores}
 
 -- it has this head and just these turns, all committed
-pub record Holds (s : State) (h : Head) (ks : List Kept) : Type 0 where
+pub record Holds (s : State) (h : Head) (ks : List KeptTurn) : Type 0 where
   pub schema : s.now.schema ≡ journal_schema
   pub rows : Stores h ks s.now.trees
   pub settled : s.committed ≡ s.now
@@ -13,7 +13,7 @@ pub record Holds (s : State) (h : Head) (ks : List Kept) : Type 0 where
   pub is_open : IsTrue s.is_open
 
 -- a transaction sees this head and just these turns
-pub record Has (s : State) (h : Head) (ks : List Kept) : Type 0 where
+pub record SeesTurns (s : State) (h : Head) (ks : List KeptTurn) : Type 0 where
   pub schema : s.now.schema ≡ journal_schema
   pub rows : Stores h ks s.now.trees
   pub inside : s.in_transaction ≡ true

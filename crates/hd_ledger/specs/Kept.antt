@@ -16,7 +16,7 @@ pub record Named : Type 0 where
   pub until : Option (List ℕ)
 
 -- a turn
-pub record Kept : Type 0 where
+pub record KeptTurn : Type 0 where
   pub seat : ℕ
   pub terminal : List ℕ
   pub day : List ℕ
@@ -32,14 +32,14 @@ pub record Head : Type 0 where
   pub catalogue : List ℕ
 
 -- the format that is written
-abbrev pub begun : List ℕ → Head
-begun digest = record { format = 1; catalogue = digest }
+abbrev pub new_head : List ℕ → Head
+new_head digest = record { format = 1; catalogue = digest }
 
 abbrev pub number_cell : ℕ → Value
 number_cell n = Int (pos n)
 
 -- the values of a turn, in the order of their columns
-unfoldable pub cells : Kept → Row
+unfoldable pub cells : KeptTurn → Row
 cells k =
     Int (pos k.seat) ∷ Text k.terminal ∷ Text k.day ∷ Text k.asked.act ∷ or_null Text k.asked.patron
     ∷ or_null Text k.asked.copy

@@ -5,10 +5,10 @@ use Rattle.hd_ledger.specs.declared.row.TurnRow.{TurnRow}
 use Rattle.hd_ledger.specs.declared.stored.StoredNames.{StoredNames}
 use Rattle.hd_ledger.specs.declared.stored.StoredTurn.{StoredTurn}
 use Rattle.hd_ledger.specs.declared.stored.Heading.{Heading}
-use Rattle.hd_ledger.specs.Kept.{Named, Kept, Head}
+use Rattle.hd_ledger.specs.Kept.{Named, KeptTurn, Head}
 
-abbrev pub named : NamesRow → Named
-named n = record {
+abbrev pub names_of_row : NamesRow → Named
+names_of_row n = record {
   act = n.act.now;
   patron = option_map (λ t. t.now) n.patron;
   copy = option_map (λ t. t.now) n.copy;
@@ -18,12 +18,12 @@ named n = record {
   until = option_map (λ t. t.now) n.until;
 }
 
-abbrev pub kept : TurnRow → Kept
-kept r = record {
+abbrev pub turn_of_row : TurnRow → KeptTurn
+turn_of_row r = record {
   seat = r.seat;
   terminal = r.terminal.now;
   day = r.day.now;
-  asked = named r.asked;
+  asked = names_of_row r.asked;
   line = option_map (λ b. b.now) r.line;
   outcome = r.outcome.now;
   number = r.number;
@@ -41,7 +41,7 @@ read_names n = record {
   until = option_map string_bytes n.until;
 }
 
-abbrev pub read_turn : StoredTurn → Kept
+abbrev pub read_turn : StoredTurn → KeptTurn
 read_turn t = record {
   seat = t.seat;
   terminal = string_bytes t.terminal;

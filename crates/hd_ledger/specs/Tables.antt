@@ -9,15 +9,23 @@ use Rattle.sqlite.specs.Schema.{Schema}
 use Rattle.sqlite.specs.Kind.{Kind}
 use Rattle.sqlite.specs.Kind.TheVariants.{Integer, Text, Blob}
 use Rattle.sqlite.specs.Tree.{Trees}
-use Rattle.hd_ledger.specs.Kept.{Kept, Head, cells, head_cells}
+use Rattle.hd_ledger.specs.Kept.{KeptTurn, Head, cells, head_cells}
 
 -- a column of a STRICT table
 abbrev pub strict : List ℕ → Kind → Bool → Column
-strict name kind not_null = record { name = name; kind = kind; is_strict = true; not_null = not_null; default = Null; collation = Binary }
+strict name kind not_null =
+    record {
+      name = name;
+      kind = kind;
+      is_strict = true;
+      not_null = not_null;
+      default = Null;
+      collation = Binary;
+    }
 
 -- a table whose first column is its INTEGER PRIMARY KEY, and which has no other rule
-abbrev pub keyed : List ℕ → ℕ → List Column → Table
-keyed name tree columns = record {
+abbrev pub table_by_number : List ℕ → ℕ → List Column → Table
+table_by_number name tree columns = record {
   name = name;
   tree = tree;
   columns = columns;
@@ -60,10 +68,10 @@ abbrev pub turn_columns : List Column
 turn_columns = who_columns ++ (what_columns ++ (bound_columns ++ answer_columns))
 
 abbrev pub journal_table : Table
-journal_table = keyed (codes "journal") 0 journal_columns
+journal_table = table_by_number (codes "journal") 0 journal_columns
 
 abbrev pub turn_table : Table
-turn_table = keyed (codes "turn") 1 turn_columns
+turn_table = table_by_number (codes "turn") 1 turn_columns
 
 abbrev pub journal_schema : Schema
 journal_schema = record { tables = journal_table ∷ turn_table ∷ []; indexes = []; views = [] }
@@ -76,19 +84,19 @@ abbrev pub no_schema : Schema
 no_schema = record { tables = []; indexes = []; views = [] }
 
 -- the row of a turn with this number
-abbrev pub stored : ℕ → Kept → Row
-stored at k = Int (pos at) ∷ Null ∷ cells k
+abbrev pub row_of_turn : ℕ → KeptTurn → Row
+row_of_turn at k = Int (pos at) ∷ Null ∷ cells k
 
 -- the rows of turns that are numbered in order from this number
-abbrev pub stored_from : ℕ → List Kept → List Row
+abbrev pub stored_from : ℕ → List KeptTurn → List Row
 stored_from at [] = []
-stored_from at (k ∷ ks) = stored at k ∷ stored_from (at + 1) ks
+stored_from at (k ∷ ks) = row_of_turn at k ∷ stored_from (at + 1) ks
 
 -- the one row of the other table
-abbrev pub headed : Head → Row
-headed h = Int (pos 1) ∷ Null ∷ head_cells h
+abbrev pub head_row : Head → Row
+head_row h = Int (pos 1) ∷ Null ∷ head_cells h
 
 -- a database's trees have this head and just these turns
-pub record Stores (h : Head) (ks : List Kept) (db : Trees) : Type 0 where
-  pub head : db 0 ≡ headed h ∷ []
+pub record Stores (h : Head) (ks : List KeptTurn) (db : Trees) : Type 0 where
+  pub head : db 0 ≡ head_row h ∷ []
   pub turns : db 1 ≡ stored_from 1 ks

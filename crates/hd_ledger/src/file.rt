@@ -9,7 +9,7 @@ ghost use Rattle.sqlite.specs.WalFiles.{image_at};
 ghost use Rattle.sqlite.specs.Recovery.{Image};
 ghost use Rattle.sqlite_store.specs.FileStore.{state as store_state, view};
 ghost use Rattle.sqlite_trees.specs.View.{IsClean};
-ghost use Rattle.hd_ledger.specs.Kept.{Kept, Head, begun};
+ghost use Rattle.hd_ledger.specs.Kept.{KeptTurn, Head, new_head};
 ghost use Rattle.hd_ledger.specs.Tables.{journal_schema};
 ghost use Rattle.hd_ledger.specs.Holds.{Holds};
 ghost use Rattle.hd_ledger.specs.Crashes.{HoldsTurns, HoldsTurnsAlone};
@@ -24,7 +24,7 @@ use sqlite_disk::Disk;
 /// Lets a journal go, with what is in the log left there. Whatever a crash leaves of the files, then or
 /// before, holds the journal's head and just its turns.
 pub fn leave<D: Disk + Drop>(conn: Connection<FileStore<D>>) -> FileStore<D>
-    ensures { IsClean (view result) → (head : Head) (ks : List Kept) → Holds (file_state conn) head ks
+    ensures { IsClean (view result) → (head : Head) (ks : List KeptTurn) → Holds (file_state conn) head ks
         → (left : Image) → (store_state result).may_leave left → HoldsTurns left head ks }
 {
     conn.into_store()
@@ -32,7 +32,7 @@ pub fn leave<D: Disk + Drop>(conn: Connection<FileStore<D>>) -> FileStore<D>
 
 /// Ends a journal well: its turns are then in the database file alone, also after a crash.
 pub fn end<D: Disk + Drop>(conn: Connection<FileStore<D>>) -> Result<Files<D>, Fault>
-    ensures { IfOk result (λ files. AreClean D.Disk files.log files.db → (head : Head) (ks : List Kept)
+    ensures { IfOk result (λ files. AreClean D.Disk files.log files.db → (head : Head) (ks : List KeptTurn)
         → Holds (file_state conn) head ks → (left : Image) → outcomes D.Disk files.log files.db left
         → HoldsTurnsAlone left head ks) }
 {
@@ -50,7 +50,7 @@ fn connect<S: Start>(
     path: &str,
     start: S,
 ) -> Result<Connection<FileStore<FileFrom<S>>>, Fault>
-    ensures found { IfOk result (λ c. HasCleanDisk (file_state c) → (head : Head) (ks : List Kept)
+    ensures found { IfOk result (λ c. HasCleanDisk (file_state c) → (head : Head) (ks : List KeptTurn)
         → HoldsTurns (image_at S.Start) head ks → (file_state c).now.schema ≡ journal_schema
         → Holds (file_state c) head ks) }
     ensures outside { IfOk result (λ c. (file_state c).in_transaction ≡ false) }
@@ -62,8 +62,8 @@ fn connect<S: Start>(
 }
 
 /// Opens a journal, also one that a crash ended: it has the head and the turns that the files hold. Where
-/// there is no file, an empty one, or one that a crash left before its tables were made, it is begun; with the
-/// connection comes whether it was. A file with other tables is `NotAJournal`.
+/// there is no file, an empty one, or one that a crash left before its tables were made, it is begun; with
+/// the connection comes whether it was. A file with other tables is `NotAJournal`.
 pub fn open<S: Start>(
     rt: &HostRuntime,
     path: &str,
@@ -71,9 +71,9 @@ pub fn open<S: Start>(
     digest: &[u8; 32],
 ) -> Result<(Connection<FileStore<FileFrom<S>>>, bool), Fault>
     ensures begun { IfOk result (λ r. HasCleanDisk (file_state r.0) → IsTrue r.1 → Holds (file_state r.0)
-        (begun digest.now) []) }
+        (new_head digest.now) []) }
     ensures restored { IfOk result (λ r. HasCleanDisk (file_state r.0) → r.1 ≡ false → (head : Head)
-        (ks : List Kept) → HoldsTurns (image_at S.Start) head ks → Holds (file_state r.0) head ks) }
+        (ks : List KeptTurn) → HoldsTurns (image_at S.Start) head ks → Holds (file_state r.0) head ks) }
 {
     let mut conn = connect(rt, path, start)?;
     if is_blank(conn.schema()) {

@@ -4,7 +4,7 @@ ghost use Rattle.std.specs.Prelude.{◌≡◌, ◌⊎◌, ◌∷◌, [], List, I
 ghost use Rattle.sqlite.specs.State.{HasCleanDisk};
 ghost use Rattle.sqlite.specs.Held.{state};
 ghost use Rattle.sqlite.specs.Tree.{Trees};
-ghost use Rattle.hd_ledger.specs.Kept.{Kept, Head, head_cells};
+ghost use Rattle.hd_ledger.specs.Kept.{KeptTurn, Head, head_cells};
 ghost use Rattle.hd_ledger.specs.Tables.{Stores, journal_schema};
 ghost use Rattle.hd_ledger.specs.Holds.{Holds};
 ghost use Rattle.hd_ledger.specs.Rows.{read_head};
@@ -25,11 +25,11 @@ const UPDATE_HEAD: &str = "UPDATE journal SET catalogue = ?1";
 
 fn head_rows<S: Alter>(conn: &mut Connection<S>) -> Result<Vec<Row>, Error>
     ensures clean { HasCleanDisk (state S.Store conn.new) → HasCleanDisk (state S.Store conn.old) }
-    ensures ok { HasCleanDisk (state S.Store conn.new) → IfOk result (λ rows. (head : Head) (ks : List Kept)
-        → Holds (state S.Store conn.old) head ks → rows.items ≡ head_cells head ∷ []) }
-    ensures same { HasCleanDisk (state S.Store conn.new) → OnOk result ((head : Head) (ks : List Kept)
+    ensures ok { HasCleanDisk (state S.Store conn.new) → IfOk result (λ rows. (head : Head)
+        (ks : List KeptTurn) → Holds (state S.Store conn.old) head ks → rows.items ≡ head_cells head ∷ []) }
+    ensures same { HasCleanDisk (state S.Store conn.new) → OnOk result ((head : Head) (ks : List KeptTurn)
         → Holds (state S.Store conn.old) head ks → Holds (state S.Store conn.new) head ks) }
-    ensures crash { HasCleanDisk (state S.Store conn.new) → (head : Head) (ks : List Kept)
+    ensures crash { HasCleanDisk (state S.Store conn.new) → (head : Head) (ks : List KeptTurn)
         → Holds (state S.Store conn.old) head ks → (db : Trees) → (state S.Store conn.new).may_leave db
         → (state S.Store conn.old).may_leave db }
 {
@@ -52,11 +52,11 @@ fn head_among(rows: &[Row]) -> Result<Heading, Fault>
 /// The format of the journal, and the digest of its catalogue file.
 pub fn catalogue<S: Alter>(conn: &mut Connection<S>) -> Result<Heading, Fault>
     ensures clean { HasCleanDisk (state S.Store conn.new) → HasCleanDisk (state S.Store conn.old) }
-    ensures ok { HasCleanDisk (state S.Store conn.new) → IfOk result (λ h. (head : Head) (ks : List Kept)
+    ensures ok { HasCleanDisk (state S.Store conn.new) → IfOk result (λ h. (head : Head) (ks : List KeptTurn)
         → Holds (state S.Store conn.old) head ks → read_head h ≡ head) }
-    ensures same { HasCleanDisk (state S.Store conn.new) → OnOk result ((head : Head) (ks : List Kept)
+    ensures same { HasCleanDisk (state S.Store conn.new) → OnOk result ((head : Head) (ks : List KeptTurn)
         → Holds (state S.Store conn.old) head ks → Holds (state S.Store conn.new) head ks) }
-    ensures crash { HasCleanDisk (state S.Store conn.new) → (head : Head) (ks : List Kept)
+    ensures crash { HasCleanDisk (state S.Store conn.new) → (head : Head) (ks : List KeptTurn)
         → Holds (state S.Store conn.old) head ks → (db : Trees) → (state S.Store conn.new).may_leave db
         → (state S.Store conn.old).may_leave db }
     ensures fault { IfErr result IsReadingFault }
@@ -71,13 +71,13 @@ pub fn catalogue<S: Alter>(conn: &mut Connection<S>) -> Result<Heading, Fault>
 /// Commits the digest of another catalogue file, that the turns are to be read by from now on.
 pub fn accept<S: Alter>(conn: &mut Connection<S>, digest: &[u8; 32]) -> Result<(), Fault>
     ensures clean { HasCleanDisk (state S.Store conn.new) → HasCleanDisk (state S.Store conn.old) }
-    ensures ok { HasCleanDisk (state S.Store conn.new) → OnOk result ((head : Head) (ks : List Kept)
+    ensures ok { HasCleanDisk (state S.Store conn.new) → OnOk result ((head : Head) (ks : List KeptTurn)
         → Holds (state S.Store conn.old) head ks → Holds (state S.Store conn.new)
         (record head { catalogue = digest.now }) ks) }
-    ensures crash { HasCleanDisk (state S.Store conn.new) → (head : Head) (ks : List Kept)
+    ensures crash { HasCleanDisk (state S.Store conn.new) → (head : Head) (ks : List KeptTurn)
         → Holds (state S.Store conn.old) head ks → (db : Trees) → (state S.Store conn.new).may_leave db
         → (state S.Store conn.old).may_leave db ⊎ Stores (record head { catalogue = digest.now }) ks db }
-    ensures durable { HasCleanDisk (state S.Store conn.new) → OnOk result ((head : Head) (ks : List Kept)
+    ensures durable { HasCleanDisk (state S.Store conn.new) → OnOk result ((head : Head) (ks : List KeptTurn)
         → Holds (state S.Store conn.old) head ks → (db : Trees) → (state S.Store conn.new).may_leave db
         → Stores (record head { catalogue = digest.now }) ks db) }
     ensures fault { IfErr result IsWritingFault }
@@ -92,7 +92,7 @@ pub fn accept<S: Alter>(conn: &mut Connection<S>, digest: &[u8; 32]) -> Result<(
 pub(crate) fn check<S: Alter>(conn: &mut Connection<S>) -> Result<(), Fault>
     ensures clean { HasCleanDisk (state S.Store conn.new) → HasCleanDisk (state S.Store conn.old) }
     ensures schema { OnOk result ((state S.Store conn.old).now.schema ≡ journal_schema) }
-    ensures same { HasCleanDisk (state S.Store conn.new) → OnOk result ((head : Head) (ks : List Kept)
+    ensures same { HasCleanDisk (state S.Store conn.new) → OnOk result ((head : Head) (ks : List KeptTurn)
         → Holds (state S.Store conn.old) head ks → Holds (state S.Store conn.new) head ks) }
 {
     if !is_journal(conn.schema()) {

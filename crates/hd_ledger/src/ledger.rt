@@ -4,10 +4,10 @@ ghost use Rattle.std.specs.Prelude.{◌≡◌, ◌⊎◌, ◌∷◌, ◌++◌, [
 ghost use Rattle.sqlite.specs.State.{HasCleanDisk};
 ghost use Rattle.sqlite.specs.Held.{state};
 ghost use Rattle.sqlite.specs.Tree.{Trees};
-ghost use Rattle.hd_ledger.specs.Kept.{Kept, Head, begun, piece};
+ghost use Rattle.hd_ledger.specs.Kept.{KeptTurn, Head, new_head, piece};
 ghost use Rattle.hd_ledger.specs.Tables.{Stores, no_schema};
 ghost use Rattle.hd_ledger.specs.Holds.{Holds};
-ghost use Rattle.hd_ledger.specs.Rows.{kept, read_turn};
+ghost use Rattle.hd_ledger.specs.Rows.{turn_of_row, read_turn};
 ghost use Rattle.hd_ledger.specs.Faults.{IsWritingFault, IsReadingFault};
 
 use crate::fault::Fault;
@@ -24,12 +24,12 @@ use std::alloc::Global;
 pub fn begin<S: Alter>(conn: &mut Connection<S>, digest: &[u8; 32]) -> Result<(), Fault>
     ensures clean { HasCleanDisk (state S.Store conn.new) → HasCleanDisk (state S.Store conn.old) }
     ensures ok { HasCleanDisk (state S.Store conn.new) → OnOk result (Holds (state S.Store conn.new)
-        (begun digest.now) []) }
+        (new_head digest.now) []) }
     ensures crash { HasCleanDisk (state S.Store conn.new) → (db : Trees)
         → (state S.Store conn.new).may_leave db → (state S.Store conn.old).may_leave db
-        ⊎ Stores (begun digest.now) [] db }
+        ⊎ Stores (new_head digest.now) [] db }
     ensures durable { HasCleanDisk (state S.Store conn.new) → OnOk result ((db : Trees)
-        → (state S.Store conn.new).may_leave db → Stores (begun digest.now) [] db) }
+        → (state S.Store conn.new).may_leave db → Stores (new_head digest.now) [] db) }
     ensures fault { IfErr result (λ f. (f ≡ Fault.NotAJournal) ⊎ IsWritingFault f) }
 {
     if !conn.is_autocommit() {
@@ -49,10 +49,10 @@ fn begin_blank<S: Alter>(conn: &mut Connection<S>, digest: &[u8; 32]) -> Result<
     requires blank { (state S.Store conn.old).now.schema ≡ no_schema }
     ensures clean { HasCleanDisk (state S.Store conn.new) → HasCleanDisk (state S.Store conn.old) }
     ensures ok { HasCleanDisk (state S.Store conn.new) → OnOk result (Holds (state S.Store conn.new)
-        (begun digest.now) []) }
+        (new_head digest.now) []) }
     ensures crash { HasCleanDisk (state S.Store conn.new) → (db : Trees)
         → (state S.Store conn.new).may_leave db → (state S.Store conn.old).may_leave db
-        ⊎ Stores (begun digest.now) [] db }
+        ⊎ Stores (new_head digest.now) [] db }
 {
     let mut tx = conn.transaction();
     fill(&mut tx, digest)?;
@@ -62,15 +62,15 @@ fn begin_blank<S: Alter>(conn: &mut Connection<S>, digest: &[u8; 32]) -> Result<
 /// Commits one turn more. Where it fails, the file holds the turns before or these and the new one.
 pub fn append<S: Alter>(conn: &mut Connection<S>, row: &TurnRow<'_>) -> Result<(), Fault>
     ensures clean { HasCleanDisk (state S.Store conn.new) → HasCleanDisk (state S.Store conn.old) }
-    ensures ok { HasCleanDisk (state S.Store conn.new) → OnOk result ((head : Head) (ks : List Kept)
-        → Holds (state S.Store conn.old) head ks → Holds (state S.Store conn.new) head (ks ++ kept row.now
-        ∷ [])) }
-    ensures crash { HasCleanDisk (state S.Store conn.new) → (head : Head) (ks : List Kept)
+    ensures ok { HasCleanDisk (state S.Store conn.new) → OnOk result ((head : Head) (ks : List KeptTurn)
+        → Holds (state S.Store conn.old) head ks
+        → Holds (state S.Store conn.new) head (ks ++ turn_of_row row.now ∷ [])) }
+    ensures crash { HasCleanDisk (state S.Store conn.new) → (head : Head) (ks : List KeptTurn)
         → Holds (state S.Store conn.old) head ks → (db : Trees) → (state S.Store conn.new).may_leave db
-        → (state S.Store conn.old).may_leave db ⊎ Stores head (ks ++ kept row.now ∷ []) db }
-    ensures durable { HasCleanDisk (state S.Store conn.new) → OnOk result ((head : Head) (ks : List Kept)
+        → (state S.Store conn.old).may_leave db ⊎ Stores head (ks ++ turn_of_row row.now ∷ []) db }
+    ensures durable { HasCleanDisk (state S.Store conn.new) → OnOk result ((head : Head) (ks : List KeptTurn)
         → Holds (state S.Store conn.old) head ks → (db : Trees) → (state S.Store conn.new).may_leave db
-        → Stores head (ks ++ kept row.now ∷ []) db) }
+        → Stores head (ks ++ turn_of_row row.now ∷ []) db) }
     ensures fault { IfErr result IsWritingFault }
 {
     let values = cells(row);
@@ -83,15 +83,15 @@ pub fn append<S: Alter>(conn: &mut Connection<S>, row: &TurnRow<'_>) -> Result<(
 /// Commits some turns more, all of them or none.
 pub fn append_all<S: Alter>(conn: &mut Connection<S>, rows: &[TurnRow<'_>]) -> Result<(), Fault>
     ensures clean { HasCleanDisk (state S.Store conn.new) → HasCleanDisk (state S.Store conn.old) }
-    ensures ok { HasCleanDisk (state S.Store conn.new) → OnOk result ((head : Head) (ks : List Kept)
+    ensures ok { HasCleanDisk (state S.Store conn.new) → OnOk result ((head : Head) (ks : List KeptTurn)
         → Holds (state S.Store conn.old) head ks
-        → Holds (state S.Store conn.new) head (ks ++ map kept rows.now)) }
-    ensures crash { HasCleanDisk (state S.Store conn.new) → (head : Head) (ks : List Kept)
+        → Holds (state S.Store conn.new) head (ks ++ map turn_of_row rows.now)) }
+    ensures crash { HasCleanDisk (state S.Store conn.new) → (head : Head) (ks : List KeptTurn)
         → Holds (state S.Store conn.old) head ks → (db : Trees) → (state S.Store conn.new).may_leave db
-        → (state S.Store conn.old).may_leave db ⊎ Stores head (ks ++ map kept rows.now) db }
-    ensures durable { HasCleanDisk (state S.Store conn.new) → OnOk result ((head : Head) (ks : List Kept)
+        → (state S.Store conn.old).may_leave db ⊎ Stores head (ks ++ map turn_of_row rows.now) db }
+    ensures durable { HasCleanDisk (state S.Store conn.new) → OnOk result ((head : Head) (ks : List KeptTurn)
         → Holds (state S.Store conn.old) head ks → (db : Trees) → (state S.Store conn.new).may_leave db
-        → Stores head (ks ++ map kept rows.now) db) }
+        → Stores head (ks ++ map turn_of_row rows.now) db) }
     ensures fault { IfErr result IsWritingFault }
 {
     if !conn.is_autocommit() {
@@ -106,12 +106,12 @@ pub fn append_all<S: Alter>(conn: &mut Connection<S>, rows: &[TurnRow<'_>]) -> R
 fn put_all<S: Alter>(conn: &mut Connection<S>, rows: &[TurnRow<'_>]) -> Result<(), Error>
     requires { conn.old.in_transaction ≡ false }
     ensures clean { HasCleanDisk (state S.Store conn.new) → HasCleanDisk (state S.Store conn.old) }
-    ensures ok { HasCleanDisk (state S.Store conn.new) → OnOk result ((head : Head) (ks : List Kept)
+    ensures ok { HasCleanDisk (state S.Store conn.new) → OnOk result ((head : Head) (ks : List KeptTurn)
         → Holds (state S.Store conn.old) head ks
-        → Holds (state S.Store conn.new) head (ks ++ map kept rows.now)) }
-    ensures crash { HasCleanDisk (state S.Store conn.new) → (head : Head) (ks : List Kept)
+        → Holds (state S.Store conn.new) head (ks ++ map turn_of_row rows.now)) }
+    ensures crash { HasCleanDisk (state S.Store conn.new) → (head : Head) (ks : List KeptTurn)
         → Holds (state S.Store conn.old) head ks → (db : Trees) → (state S.Store conn.new).may_leave db
-        → (state S.Store conn.old).may_leave db ⊎ Stores head (ks ++ map kept rows.now) db }
+        → (state S.Store conn.old).may_leave db ⊎ Stores head (ks ++ map turn_of_row rows.now) db }
 {
     let mut batch = conn.transaction();
     for row in rows {
@@ -127,11 +127,12 @@ pub fn turns<S: Alter>(
     after: u32,
 ) -> Result<Vec<StoredTurn>, Fault>
     ensures clean { HasCleanDisk (state S.Store conn.new) → HasCleanDisk (state S.Store conn.old) }
-    ensures ok { HasCleanDisk (state S.Store conn.new) → IfOk result (λ rows. (head : Head) (ks : List Kept)
-        → Holds (state S.Store conn.old) head ks → map read_turn rows.items ≡ take piece (drop after ks)) }
-    ensures same { HasCleanDisk (state S.Store conn.new) → OnOk result ((head : Head) (ks : List Kept)
+    ensures ok { HasCleanDisk (state S.Store conn.new) → IfOk result (λ rows. (head : Head)
+        (ks : List KeptTurn) → Holds (state S.Store conn.old) head ks → map read_turn rows.items
+        ≡ take piece (drop after ks)) }
+    ensures same { HasCleanDisk (state S.Store conn.new) → OnOk result ((head : Head) (ks : List KeptTurn)
         → Holds (state S.Store conn.old) head ks → Holds (state S.Store conn.new) head ks) }
-    ensures crash { HasCleanDisk (state S.Store conn.new) → (head : Head) (ks : List Kept)
+    ensures crash { HasCleanDisk (state S.Store conn.new) → (head : Head) (ks : List KeptTurn)
         → Holds (state S.Store conn.old) head ks → (db : Trees) → (state S.Store conn.new).may_leave db
         → (state S.Store conn.old).may_leave db }
     ensures fault { IfErr result IsReadingFault }

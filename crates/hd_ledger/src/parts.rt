@@ -3,9 +3,9 @@
 ghost use Rattle.std.specs.Prelude.{◌≡◌, ◌∷◌, ◌++◌, [], List, OnOk};
 ghost use Rattle.sqlite.specs.State.{HasCleanDisk, Survives};
 ghost use Rattle.sqlite.specs.Held.{state};
-ghost use Rattle.hd_ledger.specs.Kept.{Kept, Head, begun};
-ghost use Rattle.hd_ledger.specs.Holds.{Has, HasNothing, HasFirst, HasTables};
-ghost use Rattle.hd_ledger.specs.Rows.{kept};
+ghost use Rattle.hd_ledger.specs.Kept.{KeptTurn, Head, new_head};
+ghost use Rattle.hd_ledger.specs.Holds.{SeesTurns, HasNothing, HasFirst, HasTables};
+ghost use Rattle.hd_ledger.specs.Rows.{turn_of_row};
 
 use crate::row::{TurnRow, cells};
 use sqlite::types::ValueRef;
@@ -49,8 +49,8 @@ fn create_turn<S: Alter>(tx: &mut Transaction<'_, S>) -> Result<(), Error>
 fn put_head<S: Alter>(tx: &mut Transaction<'_, S>, digest: &[u8; 32]) -> Result<(), Error>
     ensures same_reference { tx.new.conn.ghost_name ≡ tx.old.conn.ghost_name }
     ensures ok { HasCleanDisk (state S.Store tx.new.conn.now)
-        → OnOk result (HasTables (state S.Store tx.old.conn.now) → Has (state S.Store tx.new.conn.now)
-        (begun digest.now) []) }
+        → OnOk result (HasTables (state S.Store tx.old.conn.now) → SeesTurns (state S.Store tx.new.conn.now)
+        (new_head digest.now) []) }
     ensures survives { Survives (state S.Store tx.old.conn.now) (state S.Store tx.new.conn.now) (λ _. ⊥) }
 {
     tx.execute(INSERT_JOURNAL, &[ValueRef::Blob(digest)])?;
@@ -61,8 +61,8 @@ fn put_head<S: Alter>(tx: &mut Transaction<'_, S>, digest: &[u8; 32]) -> Result<
 pub(crate) fn fill<S: Alter>(tx: &mut Transaction<'_, S>, digest: &[u8; 32]) -> Result<(), Error>
     ensures same_reference { tx.new.conn.ghost_name ≡ tx.old.conn.ghost_name }
     ensures ok { HasCleanDisk (state S.Store tx.new.conn.now)
-        → OnOk result (HasNothing (state S.Store tx.old.conn.now) → Has (state S.Store tx.new.conn.now)
-        (begun digest.now) []) }
+        → OnOk result (HasNothing (state S.Store tx.old.conn.now) → SeesTurns (state S.Store tx.new.conn.now)
+        (new_head digest.now) []) }
     ensures survives { Survives (state S.Store tx.old.conn.now) (state S.Store tx.new.conn.now) (λ _. ⊥) }
 {
     create_journal(tx)?;
@@ -73,9 +73,9 @@ pub(crate) fn fill<S: Alter>(tx: &mut Transaction<'_, S>, digest: &[u8; 32]) -> 
 /// Puts one turn more.
 pub(crate) fn put<S: Alter>(tx: &mut Transaction<'_, S>, row: &TurnRow<'_>) -> Result<(), Error>
     ensures same_reference { tx.new.conn.ghost_name ≡ tx.old.conn.ghost_name }
-    ensures ok { HasCleanDisk (state S.Store tx.new.conn.now) → OnOk result ((head : Head) (ks : List Kept)
-        → Has (state S.Store tx.old.conn.now) head ks
-        → Has (state S.Store tx.new.conn.now) head (ks ++ kept row.now ∷ [])) }
+    ensures ok { HasCleanDisk (state S.Store tx.new.conn.now) → OnOk result ((head : Head)
+        (ks : List KeptTurn) → SeesTurns (state S.Store tx.old.conn.now) head ks
+        → SeesTurns (state S.Store tx.new.conn.now) head (ks ++ turn_of_row row.now ∷ [])) }
     ensures survives { Survives (state S.Store tx.old.conn.now) (state S.Store tx.new.conn.now) (λ _. ⊥) }
 {
     let values = cells(row);

@@ -6,7 +6,7 @@ ghost use Rattle.sqlite.specs.Held.{state};
 ghost use Rattle.sqlite.specs.Tree.{Trees};
 ghost use Rattle.sqlite.specs.Values.{bound_value};
 ghost use Rattle.sqlite_value.specs.Value.{owned};
-ghost use Rattle.hd_ledger.specs.Kept.{Kept, Head, cells, number_cell, piece};
+ghost use Rattle.hd_ledger.specs.Kept.{KeptTurn, Head, cells, number_cell, piece};
 ghost use Rattle.hd_ledger.specs.Holds.{Holds};
 ghost use Rattle.hd_ledger.specs.Rows.{read_turn};
 
@@ -31,11 +31,12 @@ fn last_after(after: u32) -> ValueRef<'static>
 
 fn rows_after<S: Alter>(conn: &mut Connection<S>, after: u32) -> Result<Vec<Row>, Error>
     ensures clean { HasCleanDisk (state S.Store conn.new) → HasCleanDisk (state S.Store conn.old) }
-    ensures ok { HasCleanDisk (state S.Store conn.new) → IfOk result (λ rows. (head : Head) (ks : List Kept)
-        → Holds (state S.Store conn.old) head ks → rows.items ≡ map cells (take piece (drop after ks))) }
-    ensures same { HasCleanDisk (state S.Store conn.new) → OnOk result ((head : Head) (ks : List Kept)
+    ensures ok { HasCleanDisk (state S.Store conn.new) → IfOk result (λ rows. (head : Head)
+        (ks : List KeptTurn) → Holds (state S.Store conn.old) head ks → rows.items
+        ≡ map cells (take piece (drop after ks))) }
+    ensures same { HasCleanDisk (state S.Store conn.new) → OnOk result ((head : Head) (ks : List KeptTurn)
         → Holds (state S.Store conn.old) head ks → Holds (state S.Store conn.new) head ks) }
-    ensures crash { HasCleanDisk (state S.Store conn.new) → (head : Head) (ks : List Kept)
+    ensures crash { HasCleanDisk (state S.Store conn.new) → (head : Head) (ks : List KeptTurn)
         → Holds (state S.Store conn.old) head ks → (db : Trees) → (state S.Store conn.new).may_leave db
         → (state S.Store conn.old).may_leave db }
 {
@@ -43,7 +44,7 @@ fn rows_after<S: Alter>(conn: &mut Connection<S>, after: u32) -> Result<Vec<Row>
 }
 
 fn read_all(alloc: Global, rows: &[Row]) -> Result<Vec<StoredTurn>, Error>
-    ensures { IfOk result (λ turns. (ks : List Kept) → rows.now ≡ map cells ks
+    ensures { IfOk result (λ turns. (ks : List KeptTurn) → rows.now ≡ map cells ks
         → map read_turn turns.items ≡ ks) }
 {
     let mut turns = Vec::with_capacity(alloc, rows.len())?;
@@ -60,11 +61,12 @@ pub(crate) fn turns_after<S: Alter>(
     after: u32,
 ) -> Result<Vec<StoredTurn>, Error>
     ensures clean { HasCleanDisk (state S.Store conn.new) → HasCleanDisk (state S.Store conn.old) }
-    ensures ok { HasCleanDisk (state S.Store conn.new) → IfOk result (λ turns. (head : Head) (ks : List Kept)
-        → Holds (state S.Store conn.old) head ks → map read_turn turns.items ≡ take piece (drop after ks)) }
-    ensures same { HasCleanDisk (state S.Store conn.new) → OnOk result ((head : Head) (ks : List Kept)
+    ensures ok { HasCleanDisk (state S.Store conn.new) → IfOk result (λ turns. (head : Head)
+        (ks : List KeptTurn) → Holds (state S.Store conn.old) head ks → map read_turn turns.items
+        ≡ take piece (drop after ks)) }
+    ensures same { HasCleanDisk (state S.Store conn.new) → OnOk result ((head : Head) (ks : List KeptTurn)
         → Holds (state S.Store conn.old) head ks → Holds (state S.Store conn.new) head ks) }
-    ensures crash { HasCleanDisk (state S.Store conn.new) → (head : Head) (ks : List Kept)
+    ensures crash { HasCleanDisk (state S.Store conn.new) → (head : Head) (ks : List KeptTurn)
         → Holds (state S.Store conn.old) head ks → (db : Trees) → (state S.Store conn.new).may_leave db
         → (state S.Store conn.old).may_leave db }
 {

@@ -5,7 +5,7 @@ ghost use Rattle.sqlite.specs.declared.types.Value.TheVariants.{Text as Words, B
 ghost use Rattle.sqlite.specs.Values.{bound, bound_value, or_null};
 ghost use Rattle.sqlite_value.specs.Value.{owned};
 ghost use Rattle.hd_ledger.specs.Kept.{cells, number_cell};
-ghost use Rattle.hd_ledger.specs.Rows.{kept};
+ghost use Rattle.hd_ledger.specs.Rows.{turn_of_row};
 
 use sqlite::types::ValueRef;
 
@@ -85,7 +85,7 @@ fn number_or_null(number: Option<u32>) -> ValueRef<'static>
 
 /// The values of a turn, in the order of their columns.
 pub(crate) fn cells<'a>(row: &TurnRow<'a>) -> [ValueRef<'a>; 14]
-    ensures { bound result ≡ cells (kept row.now) }
+    ensures { bound result ≡ cells (turn_of_row row.now) }
 {
     let asked = row.asked;
     [

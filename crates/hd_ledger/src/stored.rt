@@ -1,7 +1,7 @@
 //! A turn and a journal's head as they are read.
 
 ghost use Rattle.std.specs.Prelude.{◌≡◌, IfOk};
-ghost use Rattle.hd_ledger.specs.Kept.{Kept, Head, cells, head_cells};
+ghost use Rattle.hd_ledger.specs.Kept.{KeptTurn, Head, cells, head_cells};
 ghost use Rattle.hd_ledger.specs.Rows.{read_names, read_turn, read_head};
 
 use sqlite::{Error, Row};
@@ -56,7 +56,7 @@ pub struct Heading {
 }
 
 fn names_in(row: &Row) -> Result<StoredNames, Error>
-    ensures { IfOk result (λ n. (k : Kept) → row.now ≡ cells k → read_names n ≡ k.asked) }
+    ensures { IfOk result (λ n. (k : KeptTurn) → row.now ≡ cells k → read_names n ≡ k.asked) }
 {
     let act: String = row.get(3)?;
     let patron: Option<String> = row.get(4)?;
@@ -78,7 +78,7 @@ fn names_in(row: &Row) -> Result<StoredNames, Error>
 
 /// The turn that a row of the table of turns shows.
 pub(crate) fn turn_in(row: &Row) -> Result<StoredTurn, Error>
-    ensures { IfOk result (λ t. (k : Kept) → row.now ≡ cells k → read_turn t ≡ k) }
+    ensures { IfOk result (λ t. (k : KeptTurn) → row.now ≡ cells k → read_turn t ≡ k) }
 {
     let seat: u32 = row.get(0)?;
     let terminal: String = row.get(1)?;

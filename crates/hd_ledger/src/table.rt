@@ -1,7 +1,7 @@
 //! Whether a database has a journal's tables and nothing else, or no table yet.
 
 ghost use Rattle.std.specs.Prelude.{◌≡◌, IsTrue};
-ghost use Rattle.hd_ledger.specs.Tables.{strict, keyed, journal_columns, who_columns, what_columns};
+ghost use Rattle.hd_ledger.specs.Tables.{strict, table_by_number, journal_columns, who_columns, what_columns};
 ghost use Rattle.hd_ledger.specs.Tables.{bound_columns, answer_columns, turn_columns, journal_table};
 ghost use Rattle.hd_ledger.specs.Tables.{turn_table, journal_schema, no_schema};
 
@@ -125,7 +125,7 @@ fn are_turn_columns(columns: &[Column]) -> bool
 
 /// Whether the table has its first column as its key, and no other rule.
 fn is_keyed(table: &Table, name: &[u8], tree: u32) -> bool
-    ensures { IsTrue result → table.now ≡ keyed name.now tree table.now.columns }
+    ensures { IsTrue result → table.now ≡ table_by_number name.now tree table.now.columns }
 {
     table.name.as_slice() == name
         && table.tree == tree

@@ -9,7 +9,7 @@ use Rattle.std.specs.Ordering.{nat_cmp}
 use Rattle.std.specs.FinMap.{FinMap, get, insert, remove, empty, get-empty}
 use Rattle.hd_lemmas.proofs.Maps.{get-insert_number, get-remove_number}
 use Rattle.hd_rules.specs.declared.copies.Loan.{Loan}
-use Rattle.hd_loans.specs.Counts.{is_loan_to, loans_of, AreCounts}
+use Rattle.hd_loans.specs.Counts.{is_loan_to, loans_of, AreLoanCounts}
 use Rattle.hd_lemmas.proofs.Counts.{one, count_below-same, count_below-changed, count_below-none, count_below-some, count_below-free}
 
 -- a loan changes the answer for its copy alone
@@ -57,14 +57,14 @@ set_count cs i p v w l same other = elim (cases_Bool (p == i)) [
 ]
 
 -- without loans each count is 0
-pub AreCounts-empty : (n : ℕ) (cs : List ℕ) → n < 2 ^ 32 → ((p : ℕ) → p < length cs → get_or cs p 0 ≡ 0) → AreCounts empty n cs
+pub AreCounts-empty : (n : ℕ) (cs : List ℕ) → n < 2 ^ 32 → ((p : ℕ) → p < length cs → get_or cs p 0 ≡ 0) → AreLoanCounts empty n cs
 AreCounts-empty n cs few zeros = record {
   each = λ p l. zeros p l ∙ sym (count_below-none (λ c. is_loan_to p (get empty c)) n (λ k m. ap (is_loan_to p) (get-empty nat_cmp k)));
   within = λ copy loan e. absurd (let none = get-empty {X = Loan} nat_cmp copy in cc);
   few = few;
 }
 
-lend_each : (m : FinMap nat_cmp Loan) (n k v : ℕ) (cs : List ℕ) (loan : Loan) → AreCounts m n cs → get m k ≡ None → k < n →
+lend_each : (m : FinMap nat_cmp Loan) (n k v : ℕ) (cs : List ℕ) (loan : Loan) → AreLoanCounts m n cs → get m k ≡ None → k < n →
     loan.patron < length cs → v ≡ get_or cs loan.patron 0 + 1 → (p : ℕ) → p < length cs →
     get_or (set cs loan.patron v) p 0 ≡ loans_of (insert m k loan) n p
 lend_each m n k v cs loan a none kn pl e p l =
@@ -75,7 +75,7 @@ lend_each m n k v cs loan a none kn pl e p l =
     grind (arith, nat_tests, more, had, same, e, at))
     (λ apart. grind (arith, nat_tests, more, had, apart))
 
-lend_within : (m : FinMap nat_cmp Loan) (n k : ℕ) (cs : List ℕ) (loan : Loan) → AreCounts m n cs → k < n → loan.patron < length cs →
+lend_within : (m : FinMap nat_cmp Loan) (n k : ℕ) (cs : List ℕ) (loan : Loan) → AreLoanCounts m n cs → k < n → loan.patron < length cs →
     (copy : ℕ) (other : Loan) → get (insert m k loan) copy ≡ Some other → (copy < n) × (other.patron < length cs)
 lend_within m n k cs loan a kn pl copy other s = elim (cases_Bool (copy == k)) [
   | inl e ↦
@@ -84,7 +84,7 @@ lend_within m n k cs loan a kn pl copy other s = elim (cases_Bool (copy == k)) [
   | inr e ↦ a.within copy other (sym (get-insert_number m k loan copy ∙ rw e) ∙ s)
 ]
 
-end_each : (m : FinMap nat_cmp Loan) (n k v : ℕ) (cs : List ℕ) (loan : Loan) → AreCounts m n cs → get m k ≡ Some loan →
+end_each : (m : FinMap nat_cmp Loan) (n k v : ℕ) (cs : List ℕ) (loan : Loan) → AreLoanCounts m n cs → get m k ≡ Some loan →
     v + 1 ≡ get_or cs loan.patron 0 → (p : ℕ) → p < length cs → get_or (set cs loan.patron v) p 0 ≡ loans_of (remove m k) n p
 end_each m n k v cs loan a some e p l =
     let less : loans_of (remove m k) n p + one (loan.patron == p) ≡ loans_of m n p =
@@ -95,7 +95,7 @@ end_each m n k v cs loan a some e p l =
     grind (arith, nat_tests, less, had, same, e, at))
     (λ apart. grind (arith, nat_tests, less, had, apart))
 
-end_within : (m : FinMap nat_cmp Loan) (n k : ℕ) (cs : List ℕ) → AreCounts m n cs → (copy : ℕ) (other : Loan) →
+end_within : (m : FinMap nat_cmp Loan) (n k : ℕ) (cs : List ℕ) → AreLoanCounts m n cs → (copy : ℕ) (other : Loan) →
     get (remove m k) copy ≡ Some other → (copy < n) × (other.patron < length cs)
 end_within m n k cs a copy other s = elim (cases_Bool (copy == k)) [
   | inl e ↦ absurd (let none : get (remove m k) copy ≡ None = get-remove_number m k copy ∙ rw e in cc)
@@ -112,8 +112,8 @@ replace_alike m k p loan other some same c = elim (cases_Bool (c == k)) [
 ]
 
 -- a copy is lent, and its patron's number is one more
-pub AreCounts-lend : (m : FinMap nat_cmp Loan) (n k v : ℕ) (cs : List ℕ) (loan : Loan) → AreCounts m n cs → get m k ≡ None → k < n →
-    loan.patron < length cs → v ≡ get_or cs loan.patron 0 + 1 → AreCounts (insert m k loan) n (set cs loan.patron v)
+pub AreCounts-lend : (m : FinMap nat_cmp Loan) (n k v : ℕ) (cs : List ℕ) (loan : Loan) → AreLoanCounts m n cs → get m k ≡ None → k < n →
+    loan.patron < length cs → v ≡ get_or cs loan.patron 0 + 1 → AreLoanCounts (insert m k loan) n (set cs loan.patron v)
 AreCounts-lend m n k v cs loan a none kn pl e = record {
   each = λ p l. lend_each m n k v cs loan a none kn pl e p (rw length-set at l);
   within = λ copy other s. rw length-set (lend_within m n k cs loan a kn pl copy other s);
@@ -121,8 +121,8 @@ AreCounts-lend m n k v cs loan a none kn pl e = record {
 }
 
 -- a loan ends, and its patron's number is one less
-pub AreCounts-end : (m : FinMap nat_cmp Loan) (n k v : ℕ) (cs : List ℕ) (loan : Loan) → AreCounts m n cs → get m k ≡ Some loan →
-    v + 1 ≡ get_or cs loan.patron 0 → AreCounts (remove m k) n (set cs loan.patron v)
+pub AreCounts-end : (m : FinMap nat_cmp Loan) (n k v : ℕ) (cs : List ℕ) (loan : Loan) → AreLoanCounts m n cs → get m k ≡ Some loan →
+    v + 1 ≡ get_or cs loan.patron 0 → AreLoanCounts (remove m k) n (set cs loan.patron v)
 AreCounts-end m n k v cs loan a some e = record {
   each = λ p l. end_each m n k v cs loan a some e p (rw length-set at l);
   within = λ copy other s. rw length-set (end_within m n k cs a copy other s);
@@ -130,8 +130,8 @@ AreCounts-end m n k v cs loan a some e = record {
 }
 
 -- another loan of the copy to the same patron
-pub AreCounts-replace : (m : FinMap nat_cmp Loan) (n k : ℕ) (cs : List ℕ) (loan other : Loan) → AreCounts m n cs → get m k ≡ Some loan →
-    other.patron ≡ loan.patron → AreCounts (insert m k other) n cs
+pub AreCounts-replace : (m : FinMap nat_cmp Loan) (n k : ℕ) (cs : List ℕ) (loan other : Loan) → AreLoanCounts m n cs → get m k ≡ Some loan →
+    other.patron ≡ loan.patron → AreLoanCounts (insert m k other) n cs
 AreCounts-replace m n k cs loan other a some same = record {
   each = λ p l. a.each p l ∙ sym (count_below-same (λ c. is_loan_to p (get m c)) (λ c. is_loan_to p (get (insert m k other) c)) n
       (λ c _. replace_alike m k p loan other some same c));
@@ -140,7 +140,7 @@ AreCounts-replace m n k cs loan other a some same = record {
 }
 
 -- a patron with a loan is counted once at least
-pub counted : (m : FinMap nat_cmp Loan) (n k : ℕ) (cs : List ℕ) (loan : Loan) → AreCounts m n cs → get m k ≡ Some loan →
+pub counted : (m : FinMap nat_cmp Loan) (n k : ℕ) (cs : List ℕ) (loan : Loan) → AreLoanCounts m n cs → get m k ≡ Some loan →
     1 ≤ get_or cs loan.patron 0
 counted m n k cs loan a some =
     let lent : is_loan_to loan.patron (get m k) ≡ true = ap (is_loan_to loan.patron) some ∙ grind (arith, nat_tests)
@@ -148,7 +148,7 @@ counted m n k cs loan a some =
     in omega (arith, one, a.each loan.patron (a.within k loan some).1)
 
 -- while a copy is not on loan, no patron has as many loans as there are copies
-pub not_all : (m : FinMap nat_cmp Loan) (n k p : ℕ) (cs : List ℕ) → AreCounts m n cs → get m k ≡ None → k < n → p < length cs →
+pub not_all : (m : FinMap nat_cmp Loan) (n k p : ℕ) (cs : List ℕ) → AreLoanCounts m n cs → get m k ≡ None → k < n → p < length cs →
     get_or cs p 0 < n
 not_all m n k p cs a none kn pl =
     let fewer : loans_of m n p < n = count_below-free (λ c. is_loan_to p (get m c)) n k kn (ap (is_loan_to p) none)
@@ -159,6 +159,6 @@ not_lent None p n l h = refl
 not_lent (Some loan) p n l h = grind (arith, nat_tests, h loan refl)
 
 -- patrons above all that have room have no loans
-pub loans_of-past : (m : FinMap nat_cmp Loan) (n : ℕ) (cs : List ℕ) (p : ℕ) → AreCounts m n cs → length cs ≤ p → loans_of m n p ≡ 0
+pub loans_of-past : (m : FinMap nat_cmp Loan) (n : ℕ) (cs : List ℕ) (p : ℕ) → AreLoanCounts m n cs → length cs ≤ p → loans_of m n p ≡ 0
 loans_of-past m n cs p a l =
     count_below-none (λ c. is_loan_to p (get m c)) n (λ c _. not_lent (get m c) p (length cs) l (λ loan e. (a.within c loan e).1))

@@ -21,7 +21,7 @@ AreBelow loans copies patrons = (copy : ℕ) (loan : Loan) → map.get loans cop
     (copy < copies) × (loan.patron < patrons)
 
 -- the numbers kept for the patrons are those of their loans
-pub record AreCounts (loans : map.FinMap nat_cmp Loan) (copies : ℕ) (counts : List ℕ) : Type 0 where
+pub record AreLoanCounts (loans : map.FinMap nat_cmp Loan) (copies : ℕ) (counts : List ℕ) : Type 0 where
   pub each : (patron : ℕ) → patron < length counts → slice_index counts patron ≡ loans_of loans copies patron
   pub within : AreBelow loans copies (length counts)
   pub few : copies < 2 ^ 32
@@ -36,6 +36,6 @@ abbrev pub renewed_loan : Loan → ℕ → Loan
 renewed_loan loan due = record { patron = loan.patron; due = due; renewals = loan.renewals + 1 }
 
 -- the loans with that of a copy renewed
-abbrev pub renewed : map.FinMap nat_cmp Loan → ℕ → ℕ → map.FinMap nat_cmp Loan
-renewed loans copy due =
+abbrev pub with_renewal : map.FinMap nat_cmp Loan → ℕ → ℕ → map.FinMap nat_cmp Loan
+with_renewal loans copy due =
     elim (map.get loans copy) [ None ↦ loans | Some loan ↦ map.insert loans copy (renewed_loan loan due) ]

@@ -1,7 +1,7 @@
 //! Loans by copy, and their number by patron.
 ghost use Rattle.std.specs.Prelude.{◌≡◌, ◌<◌, None, IfOk};
 ghost use Rattle.std.specs.FinMap as map;
-ghost use Rattle.hd_loans.specs.Counts.{loans_of, AreBelow, renewed, IsRenewable};
+ghost use Rattle.hd_loans.specs.Counts.{loans_of, AreBelow, with_renewal, IsRenewable};
 
 use hd_rules::{CopyNo, Day, Loan, PatronNo};
 use hd_table::Table;
@@ -20,7 +20,7 @@ pub struct Loans<A: Allocator = Global> {
 impl<A: Allocator> Model for Loans<A> {
     ghost use Rattle.std.specs.Prelude.{vec_len};
     ghost use Rattle.hd_loans.specs.LoansValue.{LoansValue, loans_code};
-    ghost use Rattle.hd_loans.specs.Counts.{AreCounts};
+    ghost use Rattle.hd_loans.specs.Counts.{AreLoanCounts};
 
     ghost Value = { LoansValue };
 
@@ -32,7 +32,7 @@ impl<A: Allocator> Model for Loans<A> {
       patrons = vec_len l.counts;
     } };
 
-    ghost invariant = { λ l. AreCounts l.table.entries l.table.size l.counts.items };
+    ghost invariant = { λ l. AreLoanCounts l.table.entries l.table.size l.counts.items };
 }
 
 impl<A: Allocator + Copy> Loans<A> {
@@ -81,7 +81,7 @@ impl<A: Allocator> Loans<A> {
     /// Gives the loan of a copy a new due day, and counts the renewal (docs/desk-rules.md, "Renew").
     pub fn renew(&mut self, copy: CopyNo, due: Day)
         requires lent { IsRenewable (map.get self.old.loans copy) }
-        ensures loans { self.new.loans ≡ renewed self.old.loans copy due }
+        ensures loans { self.new.loans ≡ with_renewal self.old.loans copy due }
         ensures copies { self.new.copies ≡ self.old.copies }
         ensures patrons { self.new.patrons ≡ self.old.patrons }
     {

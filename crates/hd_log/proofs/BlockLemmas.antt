@@ -4,34 +4,34 @@ use Rattle.std.proofs.Common.{◌^◌, refl, ap, length-set, sym, ◌∙◌, ari
 use Rattle.std.proofs.Math.Nat.{mul-suc, mul-le-mul_left}
 use Rattle.std.proofs.lemmas.List.{append-nil}
 use Rattle.std.proofs.lemmas.Option.{slice_get_past}
-use Rattle.hd_log.specs.Blocks.{joined, AreFilled, AreBlocks}
+use Rattle.hd_log.specs.Blocks.{all_items, AreFilled, AreBlocks}
 
 -- no more items than there is room for
 pub joined_within : {X : Type 0} (size : ℕ) (blocks : List (List X)) → AreFilled size blocks
-    → length (joined blocks) ≤ size * length blocks
+    → length (all_items blocks) ≤ size * length blocks
 joined_within size [] filled = omega arith
 joined_within size (block ∷ []) filled = omega (arith, length-append block [], mul-suc size 0)
 joined_within size (block ∷ next ∷ blocks) filled =
     omega (
       arith,
-      length-append block (next ++ joined blocks),
+      length-append block (next ++ all_items blocks),
       mul-suc size (suc (length blocks)),
       joined_within size (next ∷ blocks) filled.1,
     )
 
 -- where all are full, an empty block may stand behind them
 pub filled-begun : {X : Type 0} (size : ℕ) (blocks : List (List X)) → AreFilled size blocks
-    → size * length blocks ≤ length (joined blocks) → AreFilled size (blocks ++ [] ∷ [])
+    → size * length blocks ≤ length (all_items blocks) → AreFilled size (blocks ++ [] ∷ [])
 filled-begun size [] filled full = omega arith
 filled-begun size (block ∷ []) filled full = (omega (arith, length-append block [], mul-suc size 0), omega arith)
 filled-begun size (block ∷ next ∷ blocks) filled full = (
   filled.0,
   filled-begun size (next ∷ blocks) filled.1
-      (omega (arith, length-append block (next ++ joined blocks), mul-suc size (suc (length blocks)))),
+      (omega (arith, length-append block (next ++ all_items blocks), mul-suc size (suc (length blocks)))),
 )
 
 -- and the list is the same
-pub joined-begun : {X : Type 0} (blocks : List (List X)) → joined (blocks ++ [] ∷ []) ≡ joined blocks
+pub joined-begun : {X : Type 0} (blocks : List (List X)) → all_items (blocks ++ [] ∷ []) ≡ all_items blocks
 joined-begun [] = refl
 joined-begun (block ∷ blocks) = ap (λ xs. block ++ xs) (joined-begun blocks)
 
@@ -54,15 +54,15 @@ blocks_begun size count blocks are full fits =
 -- the place behind the last item is one of this block, and there is room
 pub record IsBehind {X : Type 0} (size number : ℕ) (blocks : List (List X)) : Type 0 where
   pub filled : AreFilled size blocks
-  pub from : size * number ≤ length (joined blocks)
-  pub below : length (joined blocks) < size * suc number
-  pub room : length (joined blocks) < size * length blocks
+  pub from : size * number ≤ length (all_items blocks)
+  pub below : length (all_items blocks) < size * suc number
+  pub room : length (all_items blocks) < size * length blocks
 
 -- the same of the blocks behind a first one
 behind_rest : {X : Type 0} (size number : ℕ) (block next : List X) (blocks : List (List X))
     → IsBehind size (suc number) (block ∷ next ∷ blocks) → IsBehind size number (next ∷ blocks)
 behind_rest size number block next blocks h =
-    let joins = length-append block (next ++ joined blocks) in
+    let joins = length-append block (next ++ all_items blocks) in
     let first : length block ≡ size = h.filled.0 in
     record {
       filled = h.filled.1;
@@ -80,7 +80,7 @@ not_first : {X : Type 0} (size : ℕ) (block next : List X) (blocks : List (List
     → IsBehind size 0 (block ∷ next ∷ blocks) → ⊥
 not_first size block next blocks h =
     let first : length block ≡ size = h.filled.0 in
-    omega (arith, length-append block (next ++ joined blocks), mul-suc size 0)
+    omega (arith, length-append block (next ++ all_items blocks), mul-suc size 0)
 
 -- no room without blocks
 not_none : {X : Type 0} (size number : ℕ) → IsBehind {X = X} size number [] → ⊥
@@ -107,14 +107,14 @@ behind_room size (suc number) (block ∷ next ∷ blocks) d h =
 
 -- an item more in that block is one behind the list
 pub joined-pushed : {X : Type 0} (size number : ℕ) (blocks : List (List X)) (d : List X) (item : X) → IsBehind size number blocks
-    → joined (set blocks number (get_or blocks number d ++ item ∷ [])) ≡ joined blocks ++ item ∷ []
+    → all_items (set blocks number (get_or blocks number d ++ item ∷ [])) ≡ all_items blocks ++ item ∷ []
 joined-pushed {X} size number [] d item h = absurd (not_none {X = X} size number h)
 joined-pushed size zero (block ∷ []) d item h = append-nil (block ++ item ∷ []) ∙ ap (λ xs. xs ++ item ∷ []) (sym (append-nil block))
 joined-pushed size (suc number) (block ∷ []) d item h = absurd (not_beyond size number block h)
 joined-pushed size zero (block ∷ next ∷ blocks) d item h = absurd (not_first size block next blocks h)
 joined-pushed size (suc number) (block ∷ next ∷ blocks) d item h =
     ap (λ xs. block ++ xs) (joined-pushed size number (next ∷ blocks) d item (behind_rest size number block next blocks h))
-    ∙ sym (append_assoc block (next ++ joined blocks) (item ∷ []))
+    ∙ sym (append_assoc block (next ++ all_items blocks) (item ∷ []))
 
 -- behind a full block
 filled-set : {X : Type 0} (size number : ℕ) (block next now : List X) (blocks : List (List X)) → length block ≡ size
@@ -139,7 +139,7 @@ pub blocks_pushed : {X : Type 0} (size count number : ℕ) (blocks : List (List 
     → IsBehind size number blocks → AreBlocks size (count + 1) (set blocks number (get_or blocks number d ++ item ∷ []))
 blocks_pushed size count number blocks d item are behind = record {
   filled = filled-pushed size number blocks d item behind;
-  counted = omega (arith, are.counted, ap length (joined-pushed size number blocks d item behind), length-append (joined blocks) (item ∷ []));
+  counted = omega (arith, are.counted, ap length (joined-pushed size number blocks d item behind), length-append (all_items blocks) (item ∷ []));
   room = rw length-set are.room;
 }
 
@@ -158,7 +158,7 @@ slice_get-right (x ∷ xs) ys at (suc further) is = slice_get-right xs ys at fur
 -- a place of a block
 pub slice_get-joined : {X : Type 0} (size number at place : ℕ) (blocks : List (List X)) (d : List X) → AreFilled size blocks
     → at < size → number < length blocks → place ≡ size * number + at
-    → slice_get (joined blocks) place ≡ slice_get (get_or blocks number d) at
+    → slice_get (all_items blocks) place ≡ slice_get (get_or blocks number d) at
 slice_get-joined size number at place [] d filled low within is = absurd (omega arith)
 slice_get-joined size zero at place (block ∷ []) d filled low within is =
     let same : place ≡ at = omega arith in
@@ -167,14 +167,14 @@ slice_get-joined size (suc number) at place (block ∷ []) d filled low within i
 slice_get-joined size zero at place (block ∷ next ∷ blocks) d filled low within is =
     let same : place ≡ at = omega arith in
     let first : length block ≡ size = filled.0 in
-    slice_get-left block (next ++ joined blocks) place (omega arith) ∙ ap (slice_get block) same
+    slice_get-left block (next ++ all_items blocks) place (omega arith) ∙ ap (slice_get block) same
 slice_get-joined size (suc number) at place (block ∷ next ∷ blocks) d filled low within is =
     let first : length block ≡ size = filled.0 in
-    slice_get-right block (next ++ joined blocks) (size * number + at) place (omega (arith, mul-suc size number))
+    slice_get-right block (next ++ all_items blocks) (size * number + at) place (omega (arith, mul-suc size number))
     ∙ slice_get-joined size number at (size * number + at) (next ∷ blocks) d filled.1 low (omega arith) refl
 
 -- a place of a block that isn't there
 pub slice_get-beyond : {X : Type 0} (size number at place : ℕ) (blocks : List (List X)) → AreFilled size blocks
-    → length blocks ≤ number → place ≡ size * number + at → slice_get (joined blocks) place ≡ None
+    → length blocks ≤ number → place ≡ size * number + at → slice_get (all_items blocks) place ≡ None
 slice_get-beyond size number at place blocks filled past is =
-    slice_get_past (joined blocks) place (omega (arith, joined_within size blocks filled, mul-le-mul_left size past))
+    slice_get_past (all_items blocks) place (omega (arith, joined_within size blocks filled, mul-le-mul_left size past))

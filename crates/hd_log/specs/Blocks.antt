@@ -2,9 +2,9 @@
 use Rattle.std.specs.Prelude.{◌≡◌, ℕ, ◌*◌, ◌≤◌, ◌<◌, ◌^◌, List, [], ◌∷◌, ◌++◌, length}
 
 -- the items of the blocks, one block behind the other
-abbrev pub joined : {X : Type 0} → List (List X) → List X
-joined [] = []
-joined (block ∷ blocks) = block ++ joined blocks
+abbrev pub all_items : {X : Type 0} → List (List X) → List X
+all_items [] = []
+all_items (block ∷ blocks) = block ++ all_items blocks
 
 -- each block has as many items as it has room for, but for the last, which has no more
 abbrev pub AreFilled : {X : Type 0} → ℕ → List (List X) → Type 0
@@ -16,5 +16,5 @@ AreFilled size (block ∷ next ∷ blocks) = (length block ≡ size) × AreFille
 -- number of 64 bits.
 pub record AreBlocks {X : Type 0} (size count : ℕ) (blocks : List (List X)) : Type 0 where
   pub filled : AreFilled size blocks
-  pub counted : count ≡ length (joined blocks)
+  pub counted : count ≡ length (all_items blocks)
   pub room : size * length blocks < 2 ^ 64

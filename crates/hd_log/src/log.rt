@@ -19,13 +19,13 @@ pub struct Log<T, A: Allocator = Global> {
 impl<T, A: Allocator> Model for Log<T, A> {
     ghost use Rattle.std.specs.Prelude.{◌*◌, length};
     ghost use Rattle.hd_log.specs.declared.block.TheConstants.{BLOCK};
-    ghost use Rattle.hd_log.specs.Blocks.{AreBlocks, joined};
+    ghost use Rattle.hd_log.specs.Blocks.{AreBlocks, all_items};
     ghost use Rattle.hd_log.specs.LogValue.{LogValue};
 
     ghost Value = { LogValue T };
 
     ghost view = { λ log. record {
-      items = joined log.blocks.items;
+      items = all_items log.blocks.items;
       room = BLOCK * length log.blocks.items;
     } };
 

@@ -10,7 +10,7 @@ use Rattle.hd_message.specs.HoldReplies.{hold_layout}
 use Rattle.hd_message.specs.ItemReplies.{branch_field, item_layout, loan_field, status_code}
 use Rattle.hd_message.specs.LoanReplies.{checkout_front, loan_layout, renew_front}
 use Rattle.hd_rules.specs.RefusalTexts.{refusal_text}
-use Rattle.hd_message.specs.Lengths.{HasNumber, IsBounded, IsCheckinShort, IsLoanShort, IsCopyShort, IsDate, IsHoldShort, IsItemShort}
+use Rattle.hd_message.specs.Lengths.{HasNumber, IsBounded, IsCheckinShort, IsLoanShort, IsCopyShort, IsPrintedDate, IsHoldShort, IsItemShort}
 use Rattle.hd_message.specs.Lengths.{IsName, IsNumber, IsReturnShort, bytes_of, title_bytes}
 use Rattle.hd_rules.specs.declared.replies.Refusal.{Refusal}
 use Rattle.hd_rules.specs.declared.replies.Refusal.TheVariants.{NotLoggedIn, Unreadable, BadDate, UnknownPatron, UnknownItem, UnknownTitle}
@@ -113,7 +113,7 @@ renew_front_length (OfLoan.Cancelled title number) = refl
 renew_front_length (OfLoan.Refused refusal) = refl
 
 loan_length : (front : List ℕ) (reply : LoanReply) (outcome : LoanOutcome) → length front ≡ 6 →
-    IsDate reply.date.now → IsName reply.institution.now → IsLoanShort outcome →
+    IsPrintedDate reply.date.now → IsName reply.institution.now → IsLoanShort outcome →
     length reply.patron.now + length reply.copy.now ≤ 1024 → length (concat (loan_layout front reply outcome)) ≤ 2038
 loan_length front reply (OfLoan.Lent renewed title due) six date name short values =
     simp length-append (omega (arith, six, date, name, short, values))
@@ -122,7 +122,7 @@ loan_length front reply (OfLoan.Cancelled title number) six date name short valu
 loan_length front reply (OfLoan.Refused refusal) six date name short values =
     simp length-append (omega (arith, six, refusal_length refusal short, date, name, values))
 
-checkin_length : (reply : CheckinReply) (outcome : CheckinOutcome) → IsDate reply.date.now → IsName reply.institution.now →
+checkin_length : (reply : CheckinReply) (outcome : CheckinOutcome) → IsPrintedDate reply.date.now → IsName reply.institution.now →
     IsCheckinShort outcome →
     length reply.copy.now ≤ 1024 → length (concat (checkin_layout reply outcome)) ≤ 2038
 checkin_length reply (OfCheckin.Returned home title whereabouts) date name short values =
@@ -141,7 +141,7 @@ checkin_length reply (OfCheckin.Cancelled home title number) date name short val
 checkin_length reply (OfCheckin.Refused refusal) date name short values =
     simp length-append (omega (arith, refusal_length refusal short, date, name, values))
 
-hold_length : (reply : HoldReply) (outcome : HoldOutcome) → IsDate reply.date.now → IsName reply.institution.now → IsHoldShort outcome →
+hold_length : (reply : HoldReply) (outcome : HoldOutcome) → IsPrintedDate reply.date.now → IsName reply.institution.now → IsHoldShort outcome →
     length reply.patron.now + bytes_of (option_copied reply.copy) + title_bytes outcome ≤ 1024 →
     length (concat (hold_layout reply outcome)) ≤ 2038
 hold_length reply (OfHold.Held available expiry position pickup title) date name short values =
@@ -169,7 +169,7 @@ hold_length reply (OfHold.Refused title refusal) date name short values =
     let own = optional_length 65 74 (option_copied title) in
     simp length-append (omega (arith, refusal_length refusal short, copy, own, date, name, values))
 
-item_length : (reply : ItemReply) (outcome : ItemOutcome) → IsDate reply.date.now → IsItemShort outcome →
+item_length : (reply : ItemReply) (outcome : ItemOutcome) → IsPrintedDate reply.date.now → IsItemShort outcome →
     length reply.copy.now ≤ 1024 → length (concat (item_layout reply outcome)) ≤ 2038
 item_length reply (OfItem.Found holds title home circulation) date short values =
     simp length-append (omega (

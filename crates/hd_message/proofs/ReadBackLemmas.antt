@@ -4,7 +4,7 @@ use Rattle.std.proofs.Common.{length, take, drop, refl, sym, ap, subst, ◌∙�
 use Rattle.std.specs.Str.{bytes_eq}
 use Rattle.hd_field.specs.Fields.{width_of}
 use Rattle.hd_message.specs.Grammar.{AreWritable, IsGiven, Written, cancel, has_bar, optional, value_of}
-use Rattle.hd_message.specs.Reading.{IsMessage, States, is_incomplete}
+use Rattle.hd_message.specs.Reading.{IsMessage, StatesRequest, is_incomplete}
 use Rattle.hd_message.specs.Table.{code_of, fields_part, fixed_part, fixed_width}
 use Rattle.hd_message.specs.Values.{is_yes, unless_empty}
 use Rattle.hd_message.specs.declared.kind.Kind.{Kind}
@@ -60,7 +60,7 @@ not_less m n h = grind arith
 -- a message is its fixed part and its fields
 pub message_of : (kind : Kind) (fixed part : List ℕ) (request : Request) → length fixed ≡ fixed_width kind →
     take 2 (fixed ++ part) ≡ code_of kind →
-    is_incomplete kind fixed part ≡ false → States (code_of kind) fixed part request → IsMessage (fixed ++ part) request
+    is_incomplete kind fixed part ≡ false → StatesRequest (code_of kind) fixed part request → IsMessage (fixed ++ part) request
 message_of kind fixed part request width code complete states =
     let front = take_fixed (fixed_width kind) fixed part width in
     let back = drop_fixed (fixed_width kind) fixed part width in
@@ -73,23 +73,23 @@ message_of kind fixed part request width code complete states =
           ∙ ap (λ f. is_incomplete kind f (fields_part kind (fixed ++ part))) front
           ∙ ap (λ p. is_incomplete kind fixed p) back
           ∙ complete;
-      states = subst (λ f. States (code_of kind) f (fields_part kind (fixed ++ part)) request) (sym front)
-          (subst (λ p. States (code_of kind) fixed p request) (sym back) states);
+      states = subst (λ f. StatesRequest (code_of kind) f (fields_part kind (fixed ++ part)) request) (sym front)
+          (subst (λ p. StatesRequest (code_of kind) fixed p request) (sym back) states);
     }
 
 -- and states the request that it is read as
 pub states_of : (kind : Kind) (fixed part : List ℕ) (request : Request) → length fixed ≡ fixed_width kind →
     take 2 (fixed ++ part) ≡ code_of kind →
-    IsMessage (fixed ++ part) request → States (code_of kind) fixed part request
+    IsMessage (fixed ++ part) request → StatesRequest (code_of kind) fixed part request
 states_of kind fixed part request width code message =
     let same : message.kind ≡ kind = one_kind message.kind kind (sym message.code ∙ code) in
     let front = take_fixed (fixed_width kind) fixed part width in
     let back = drop_fixed (fixed_width kind) fixed part width in
     let body = fixed ++ part in
-    let stated : States (code_of kind) (fixed_part kind body) (fields_part kind body) request =
-    subst (λ k. States (code_of k) (fixed_part k body) (fields_part k body) request) same message.states in
-    subst (λ p. States (code_of kind) fixed p request) back
-    (subst (λ f. States (code_of kind) f (fields_part kind body) request) front stated)
+    let stated : StatesRequest (code_of kind) (fixed_part kind body) (fields_part kind body) request =
+    subst (λ k. StatesRequest (code_of k) (fixed_part k body) (fields_part k body) request) same message.states in
+    subst (λ p. StatesRequest (code_of kind) fixed p request) back
+    (subst (λ f. StatesRequest (code_of kind) f (fields_part kind body) request) front stated)
 
 -- the kind of message that a request is
 abbrev pub kind_of : Request → Kind
@@ -103,7 +103,7 @@ kind_of (Item request) = Kinds.Desk Desks.Item
 kind_of Resend = Kinds.Resend
 kind_of Unsupported = Kinds.Resend
 
-code_stated : (code fixed part : List ℕ) (request : Request) → States code fixed part request → code ≡ code_of (kind_of request)
+code_stated : (code fixed part : List ℕ) (request : Request) → StatesRequest code fixed part request → code ≡ code_of (kind_of request)
 code_stated code fixed part (Login request) h = h.0
 code_stated code fixed part Status h = h
 code_stated code fixed part (Checkout request) h = h.0
@@ -115,7 +115,7 @@ code_stated code fixed part Resend h = h
 code_stated code fixed part Unsupported h = absurd h
 
 -- a message of a kind is read as a request of that kind
-pub kind_stated : (kind : Kind) (fixed part : List ℕ) (request : Request) → States (code_of kind) fixed part request →
+pub kind_stated : (kind : Kind) (fixed part : List ℕ) (request : Request) → StatesRequest (code_of kind) fixed part request →
     kind ≡ kind_of request
 kind_stated kind fixed part request h = one_kind kind (kind_of request) (code_stated (code_of kind) fixed part request h)
 

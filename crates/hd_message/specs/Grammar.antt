@@ -42,8 +42,8 @@ AreWritable [] = ⊤
 AreWritable (field ∷ fields) = IsWritable field × AreWritable fields
 
 -- a date has 18 bytes
-abbrev pub IsDate : List ℕ → Type 0
-IsDate date = length date ≡ 18
+abbrev pub IsDateText : List ℕ → Type 0
+IsDateText date = length date ≡ 18
 
 -- a field that is left out where it has no value
 abbrev pub optional : List ℕ → Option (List ℕ) → List Written

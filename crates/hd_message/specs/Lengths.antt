@@ -25,8 +25,8 @@ abbrev pub IsName : List ℕ → Type 0
 IsName name = (1 ≤ length name) × (length name ≤ 60)
 
 -- a printed date
-abbrev pub IsDate : List ℕ → Type 0
-IsDate date = length date ≡ 18
+abbrev pub IsPrintedDate : List ℕ → Type 0
+IsPrintedDate date = length date ≡ 18
 
 -- a number of 64 bits
 abbrev pub IsNumber : ℕ → Type 0
@@ -92,20 +92,21 @@ IsItemShort (OfItem.Refused refusal) = HasNumber refusal
 -- a reply prints names of the catalogue, dates, numbers, and at most 1,024 bytes of the message's values
 abbrev pub IsShort : Reply → Type 0
 IsShort (Login reply) = ⊤
-IsShort (Status reply) = IsDate reply.date.now × IsName reply.institution.now
+IsShort (Status reply) = IsPrintedDate reply.date.now × IsName reply.institution.now
 IsShort (Checkout reply) =
-    IsDate reply.date.now × IsName reply.institution.now × IsLoanShort reply.outcome
+    IsPrintedDate reply.date.now × IsName reply.institution.now × IsLoanShort reply.outcome
     × (length reply.patron.now + length reply.copy.now ≤ 1024)
 IsShort (Checkin reply) =
-    IsDate reply.date.now × IsName reply.institution.now × IsCheckinShort reply.outcome
+    IsPrintedDate reply.date.now × IsName reply.institution.now × IsCheckinShort reply.outcome
     × (length reply.copy.now ≤ 1024)
 IsShort (Hold reply) =
-    IsDate reply.date.now × IsName reply.institution.now × IsHoldShort reply.outcome
+    IsPrintedDate reply.date.now × IsName reply.institution.now × IsHoldShort reply.outcome
     × (length reply.patron.now + bytes_of (option_copied reply.copy) + title_bytes reply.outcome ≤ 1024)
 IsShort (Renew reply) =
-    IsDate reply.date.now × IsName reply.institution.now × IsLoanShort reply.outcome
+    IsPrintedDate reply.date.now × IsName reply.institution.now × IsLoanShort reply.outcome
     × (length reply.patron.now + length reply.copy.now ≤ 1024)
-IsShort (Item reply) = IsDate reply.date.now × IsItemShort reply.outcome × (length reply.copy.now ≤ 1024)
+IsShort (Item reply) =
+    IsPrintedDate reply.date.now × IsItemShort reply.outcome × (length reply.copy.now ≤ 1024)
 IsShort RequestScResend = ⊤
 
 -- such a reply has at most 2,038 bytes: with trailer and carriage return at most 2,048

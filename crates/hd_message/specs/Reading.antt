@@ -31,23 +31,23 @@ is_unreadable kind body =
     || is_incomplete kind (fixed_part kind body) (fields_part kind body)
 
 -- a code, a fixed part with it and the fields state this request
-abbrev pub States : List ℕ → List ℕ → List ℕ → Request → Type 0
-States code fixed part (Login login) = (code ≡ codes "93") × IsLogin fixed part login
-States code fixed part Status = code ≡ codes "99"
-States code fixed part (Checkout checkout) = (code ≡ codes "11") × IsCheckout fixed part checkout
-States code fixed part (Checkin checkin) = (code ≡ codes "09") × IsCheckin fixed part checkin
-States code fixed part (Hold hold) = (code ≡ codes "15") × IsHold fixed part hold
-States code fixed part (Renew renew) = (code ≡ codes "29") × IsRenew fixed part renew
-States code fixed part (Item item) = (code ≡ codes "17") × IsItem fixed part item
-States code fixed part Resend = code ≡ codes "97"
-States code fixed part Unsupported = ⊥
+abbrev pub StatesRequest : List ℕ → List ℕ → List ℕ → Request → Type 0
+StatesRequest code fixed part (Login login) = (code ≡ codes "93") × IsLogin fixed part login
+StatesRequest code fixed part Status = code ≡ codes "99"
+StatesRequest code fixed part (Checkout checkout) = (code ≡ codes "11") × IsCheckout fixed part checkout
+StatesRequest code fixed part (Checkin checkin) = (code ≡ codes "09") × IsCheckin fixed part checkin
+StatesRequest code fixed part (Hold hold) = (code ≡ codes "15") × IsHold fixed part hold
+StatesRequest code fixed part (Renew renew) = (code ≡ codes "29") × IsRenew fixed part renew
+StatesRequest code fixed part (Item item) = (code ≡ codes "17") × IsItem fixed part item
+StatesRequest code fixed part Resend = code ≡ codes "97"
+StatesRequest code fixed part Unsupported = ⊥
 
 -- The body is a readable message of some kind, and states the request.
 pub record IsMessage (body : List ℕ) (request : Request) : Type 0 where
   pub kind : Kind
   pub code : take 2 body ≡ code_of kind
   pub readable : is_unreadable kind body ≡ false
-  pub states : States (code_of kind) (fixed_part kind body) (fields_part kind body) request
+  pub states : StatesRequest (code_of kind) (fixed_part kind body) (fields_part kind body) request
 
 -- what a body is read as: a message, or nothing that is read where it has no such code
 abbrev pub IsRequest : List ℕ → Request → Type 0

@@ -39,19 +39,19 @@ date_column Renew = 2
 date_column Item = 0
 
 -- the identifiers of the fields that it must have; a hold must name a copy or a title besides
-abbrev pub required : Kind → List (List ℕ)
-required Login = codes "CN" ∷ codes "CO" ∷ []
-required Status = []
-required Resend = []
-required (Desk Checkout) = codes "AA" ∷ codes "AB" ∷ []
-required (Desk Checkin) = codes "AB" ∷ []
-required (Desk Hold) = codes "AA" ∷ []
-required (Desk Renew) = codes "AA" ∷ codes "AB" ∷ []
-required (Desk Item) = codes "AB" ∷ []
+abbrev pub required_fields : Kind → List (List ℕ)
+required_fields Login = codes "CN" ∷ codes "CO" ∷ []
+required_fields Status = []
+required_fields Resend = []
+required_fields (Desk Checkout) = codes "AA" ∷ codes "AB" ∷ []
+required_fields (Desk Checkin) = codes "AB" ∷ []
+required_fields (Desk Hold) = codes "AA" ∷ []
+required_fields (Desk Renew) = codes "AA" ∷ codes "AB" ∷ []
+required_fields (Desk Item) = codes "AB" ∷ []
 
 -- whether one of these is missing
 abbrev pub lacks_required : Kind → List ℕ → Bool
-lacks_required kind part = list_any (lacks part) (required kind)
+lacks_required kind part = list_any (lacks part) (required_fields kind)
 
 -- the place at which a column begins; the code stands before the first
 abbrev pub column_start : Kind → ℕ → ℕ

@@ -3,7 +3,7 @@ use Rattle.std.specs.Prelude.{◌≡◌, ℕ, ◌&&◌, Bool, false, List, ◌�
 use Rattle.std.specs.Prelude.{is_none, codes, length, replicate}
 use Rattle.std.specs.Option.{option_copied}
 use Rattle.std.specs.Str.{bytes_eq}
-use Rattle.hd_message.specs.Grammar.{IsDate, IsGiven, Written, cancel, has_bar, optional}
+use Rattle.hd_message.specs.Grammar.{IsDateText, IsGiven, Written, cancel, has_bar, optional}
 use Rattle.hd_message.specs.Hold.{has_wishes, is_one_copy}
 use Rattle.hd_message.specs.declared.request.Mode.{Mode}
 use Rattle.hd_message.specs.declared.request.Mode.TheVariants.{Add, Delete, Change}
@@ -65,7 +65,7 @@ IsExpiry (Some value) =
 
 -- It names a copy or a title, and a copy where it wishes for one copy.
 pub record IsHoldWritable (v : HoldValues) : Type 0 where
-  pub date : IsDate v.date
+  pub date : IsDateText v.date
   pub expiry : IsExpiry v.expiry
   pub pickup : IsGiven v.pickup
   pub institution : has_bar v.institution ≡ false

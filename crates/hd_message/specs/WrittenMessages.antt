@@ -5,7 +5,7 @@ use Rattle.std.specs.Prelude.{codes, if◌then◌else◌}
 use Rattle.std.specs.List.{concat}
 use Rattle.std.specs.Option.{option_copied}
 use Rattle.hd_message.specs.Fields.{yes_no}
-use Rattle.hd_message.specs.Grammar.{IsDate, IsGiven, Written, cancel, has_bar, optional}
+use Rattle.hd_message.specs.Grammar.{IsDateText, IsGiven, Written, cancel, has_bar, optional}
 use Rattle.hd_message.specs.Values.{unless_empty}
 use Rattle.hd_message.specs.declared.request.LoginRequest.{LoginRequest}
 use Rattle.hd_message.specs.declared.request.CheckoutRequest.{CheckoutRequest}
@@ -75,8 +75,8 @@ checkout_fields v =
 
 -- Its dates have 18 bytes, and no value has a bar.
 pub record IsCheckoutWritable (v : CheckoutValues) : Type 0 where
-  pub date : IsDate v.date
-  pub due : IsDate v.due
+  pub date : IsDateText v.date
+  pub due : IsDateText v.due
   pub institution : has_bar v.institution ≡ false
   pub patron : has_bar v.patron ≡ false
   pub copy : has_bar v.copy ≡ false
@@ -120,8 +120,8 @@ checkin_fields v =
 
 -- Its dates have 18 bytes, and no value has a bar.
 pub record IsCheckinWritable (v : CheckinValues) : Type 0 where
-  pub date : IsDate v.date
-  pub return_date : IsDate v.return_date
+  pub date : IsDateText v.date
+  pub return_date : IsDateText v.return_date
   pub branch : has_bar v.branch ≡ false
   pub institution : has_bar v.institution ≡ false
   pub copy : has_bar v.copy ≡ false
@@ -164,8 +164,8 @@ renew_fields v =
 
 -- Its dates have 18 bytes, no value has a bar, and a title that is given isn't empty.
 pub record IsRenewWritable (v : RenewValues) : Type 0 where
-  pub date : IsDate v.date
-  pub due : IsDate v.due
+  pub date : IsDateText v.date
+  pub due : IsDateText v.due
   pub institution : has_bar v.institution ≡ false
   pub patron : has_bar v.patron ≡ false
   pub copy : has_bar v.copy ≡ false
@@ -203,7 +203,7 @@ item_fields v =
 
 -- Its date has 18 bytes, and no value has a bar.
 pub record IsItemWritable (v : ItemValues) : Type 0 where
-  pub date : IsDate v.date
+  pub date : IsDateText v.date
   pub institution : has_bar v.institution ≡ false
   pub copy : has_bar v.copy ≡ false
 

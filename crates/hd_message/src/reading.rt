@@ -1,7 +1,8 @@
 //! Reading the body of a message.
 ghost use Rattle.std.specs.Prelude.{◌≡◌, ◌≢◌, ◌≤◌, length, take, codes, is_none, IfNone, IfSome, IfErr, IfOk};
 ghost use Rattle.std.specs.Option.{option_copied};
-ghost use Rattle.hd_message.specs.Reading.{IsRequest, IsUnreadable, States, is_incomplete, is_unreadable};
+ghost use Rattle.hd_message.specs.Reading.{IsRequest, IsUnreadable, StatesRequest, is_incomplete};
+ghost use Rattle.hd_message.specs.Reading.{is_unreadable};
 ghost use Rattle.hd_message.specs.Requests.{IsLogin};
 ghost use Rattle.hd_message.specs.Table.{code_of, date_at, date_start, fields_part, fixed_part, fixed_width};
 ghost use Rattle.hd_message.specs.Values.{filled_value, first_value};
@@ -68,7 +69,8 @@ fn login_of(body: &[u8]) -> Option<LoginRequest<'_>>
 /// The request of a message of this kind, if it is readable.
 fn request(kind: DeskKind, body: &[u8]) -> Option<Request<'_>>
     ensures states { IfSome result
-        (States (code_of (Desk kind)) (fixed_part (Desk kind) body.now) (fields_part (Desk kind) body.now)) }
+        (StatesRequest (code_of (Desk kind)) (fixed_part (Desk kind) body.now)
+        (fields_part (Desk kind) body.now)) }
     ensures unreadable { is_none result ≡ is_unreadable (Desk kind) body.now }
 {
     let (fixed, part) = body.split_at_checked(width(Kind::Desk(kind)))?;
@@ -78,7 +80,7 @@ fn request(kind: DeskKind, body: &[u8]) -> Option<Request<'_>>
 /// The request that a fixed part and fields state, if they are readable.
 fn stated<'a>(kind: DeskKind, fixed: &'a [u8], part: &'a [u8]) -> Option<Request<'a>>
     requires { length fixed.now ≡ fixed_width (Desk kind) }
-    ensures states { IfSome result (States (code_of (Desk kind)) fixed.now part.now) }
+    ensures states { IfSome result (StatesRequest (code_of (Desk kind)) fixed.now part.now) }
     ensures incomplete { is_none result ≡ is_incomplete (Desk kind) fixed.now part.now }
 {
     match kind {

@@ -11,7 +11,7 @@ use Rattle.hd_rules.specs.declared.holds.HoldKind.TheVariants.{Any, One, AtBranc
 use Rattle.hd_queue.specs.Holds.{AllAfter, IsInOrder, HasPatronsOnce, HasNoStamp, hold_of, with_hold, without}
 use Rattle.hd_queue.specs.Waiting.{is_one, is_at_branch, names, waits_for_any, waits_for_one, waits_for, waits_at_branch, waits_at}
 use Rattle.hd_queue.specs.Waiting.{AreWaiting}
-use Rattle.hd_queue.specs.WaitingValue.{IsNew, IsListed}
+use Rattle.hd_queue.specs.WaitingValue.{IsAbsent, IsListed}
 use Rattle.hd_queue.proofs.HoldsLemmas.{AllAfter-filter, hold_of-filter, hold_of-first, hold_of-later, without-absent}
 
 -- a hold that goes before the first goes before those of them that pass
@@ -51,7 +51,7 @@ HasNoStamp-filter p s (h ∷ hs) n =
 
 -- a hold that is new to a list is new to the part that passes
 pub IsNew-filter : (p : Hold → Bool) (hs ks : List Hold) (x : Hold) → ks ≡ filter p hs → hold_of hs x.patron ≡ None →
-    HasNoStamp x.stamp hs → IsNew x ks
+    HasNoStamp x.stamp hs → IsAbsent x ks
 IsNew-filter p hs ks x e none stamp =
     rw e (record { patron = hold_of-filter p hs x.patron none; stamp = HasNoStamp-filter p x.stamp hs stamp })
 

@@ -11,7 +11,8 @@ use Rattle.hd_queue.specs.WaitingValue.{WaitingValue}
 pub record AreLists (list : QueueValue) (waiting : WaitingValue) (stamps : StampsValue) (room : ℕ) : Type 0
   where
     pub lists : AreWaiting list.holds waiting.for_any waiting.for_one waiting.at_branch
-    pub stamped : (patron : ℕ) → stamp_of stamps patron ≡ option_map (λ h. h.stamp) (hold_of list.holds patron)
+    pub stamped : (patron : ℕ) →
+        stamp_of stamps patron ≡ option_map (λ h. h.stamp) (hold_of list.holds patron)
     pub list_room : room ≤ list.room
     pub waiting_room : room ≤ waiting.room
     pub stamps_room : room ≤ stamps.room

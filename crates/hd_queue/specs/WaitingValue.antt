@@ -12,7 +12,7 @@ pub record WaitingValue : Type 0 where
   pub room : ℕ
 
 -- neither the hold's patron nor its stamp is in the list
-pub record IsNew (hold : Hold) (holds : List Hold) : Type 0 where
+pub record IsAbsent (hold : Hold) (holds : List Hold) : Type 0 where
   pub patron : hold_of holds hold.patron ≡ None
   pub stamp : HasNoStamp hold.stamp holds
 

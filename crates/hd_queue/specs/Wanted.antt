@@ -6,7 +6,7 @@ use Rattle.hd_queue.specs.declared.wanted.Wanted.TheVariants.{All, Naming, Picke
 use Rattle.hd_queue.specs.Waiting.{names}
 
 -- whether a hold is wanted
-abbrev pub is_wanted : Wanted → Hold → Bool
-is_wanted All h = true
-is_wanted (Naming copy) h = names copy h.kind
-is_wanted (PickedUpAt branch) h = h.pickup == branch
+abbrev pub wants_hold : Wanted → Hold → Bool
+wants_hold All h = true
+wants_hold (Naming copy) h = names copy h.kind
+wants_hold (PickedUpAt branch) h = h.pickup == branch

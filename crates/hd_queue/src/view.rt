@@ -4,7 +4,7 @@ ghost use Rattle.std.specs.Iterator.{YieldsFirstRef, item_count};
 ghost use Rattle.std.specs.Option.{option_copied};
 ghost use Rattle.hd_queue.specs.Holds.{HasPatronsOnce, IsInOrder, hold_of};
 ghost use Rattle.hd_queue.specs.Waiting.{AreWaiting, waits_at, waits_for, waits_for_any};
-ghost use Rattle.hd_queue.specs.Wanted.{is_wanted};
+ghost use Rattle.hd_queue.specs.Wanted.{wants_hold};
 
 use crate::lent::HoldSlices;
 use crate::wanted::Wanted;
@@ -97,17 +97,17 @@ pub struct Waiting<'a> {
 impl<'a> Model for Waiting<'a> {
     ghost use Rattle.std.specs.Prelude.{List, filter};
     ghost use Rattle.hd_rules.specs.declared.holds.Hold.{Hold};
-    ghost use Rattle.hd_queue.specs.Wanted.{is_wanted};
+    ghost use Rattle.hd_queue.specs.Wanted.{wants_hold};
 
     ghost Value = { List Hold };
 
-    ghost view = { λ w. filter (is_wanted w.wanted) w.rest };
+    ghost view = { λ w. filter (wants_hold w.wanted) w.rest };
 }
 
 impl<'a> Waiting<'a> {
     /// Those of the list that are wanted.
     fn new(list: &HoldSlices<'a>, wanted: Wanted) -> Waiting<'a>
-        ensures { result ≡ filter (is_wanted wanted) list.now }
+        ensures { result ≡ filter (wants_hold wanted) list.now }
     {
         Waiting {
             rest: list.again(),

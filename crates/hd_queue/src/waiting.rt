@@ -2,7 +2,7 @@
 ghost use Rattle.std.specs.Prelude.{◌≡◌, ◌+◌, ◌<◌, ◌≤◌, [], OnErr, OnOk, if◌then◌else◌};
 ghost use Rattle.hd_queue.specs.Holds.{with_hold, without};
 ghost use Rattle.hd_queue.specs.Waiting.{waits_at_branch, waits_for_any, waits_for_one};
-ghost use Rattle.hd_queue.specs.WaitingValue.{IsListed, IsNew};
+ghost use Rattle.hd_queue.specs.WaitingValue.{IsListed, IsAbsent};
 
 use crate::lent::HoldSlices;
 use crate::list::HoldList;
@@ -70,9 +70,9 @@ impl<A: Allocator> WaitingLists<A> {
     /// Puts a hold into the list of its kind, unless it has a copy. It takes no memory.
     pub(crate) fn put(&mut self, hold: &Hold)
         requires room { 0 < self.old.room }
-        requires for_any { IsNew hold.now self.old.for_any }
-        requires for_one { IsNew hold.now self.old.for_one }
-        requires at_branch { IsNew hold.now self.old.at_branch }
+        requires for_any { IsAbsent hold.now self.old.for_any }
+        requires for_one { IsAbsent hold.now self.old.for_one }
+        requires at_branch { IsAbsent hold.now self.old.at_branch }
         ensures for_any { self.new.for_any
             ≡ (if waits_for_any hold.now then with_hold self.old.for_any hold.now else self.old.for_any) }
         ensures for_one { self.new.for_one

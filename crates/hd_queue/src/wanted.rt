@@ -1,6 +1,6 @@
 //! Which holds of a list are wanted.
 ghost use Rattle.std.specs.Prelude.{◌≡◌};
-ghost use Rattle.hd_queue.specs.Wanted.{is_wanted};
+ghost use Rattle.hd_queue.specs.Wanted.{wants_hold};
 
 use hd_rules::{BranchNo, CopyNo, Hold, HoldKind};
 
@@ -18,7 +18,7 @@ pub(crate) enum Wanted {
 impl Wanted {
     /// Whether the hold is wanted.
     pub(crate) fn admits(&self, hold: &Hold) -> bool
-        ensures { result ≡ is_wanted self.now hold.now }
+        ensures { result ≡ wants_hold self.now hold.now }
     {
         match *self {
             Wanted::All => true,

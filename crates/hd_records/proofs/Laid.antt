@@ -15,25 +15,25 @@ use Rattle.hd_rules.specs.Record.{Record}
 use Rattle.hd_clash.specs.Shift.{is_count, shift_each, shift_of}
 use Rattle.hd_records.specs.declared.slots.Kept.{Kept}
 use Rattle.hd_records.specs.declared.slots.Slot.{Slot}
-use Rattle.hd_records.specs.Laid.{AreLaid, have_count, kept_first, record_in, stored, survivors_in}
-use Rattle.hd_records.specs.Slots.{shift_slot, taken}
+use Rattle.hd_records.specs.Laid.{AreLaid, have_count, kept_first, record_in, records_in, survivors_in}
+use Rattle.hd_records.specs.Slots.{shift_slot, records_there}
 use Rattle.hd_records.specs.Survivors.{survivors_of}
 
 -- as many as there are slots
-pub length_stored : (ss : List Slot) (fs : List Finding) (cs : List Change) → length (stored ss fs cs) ≡ length ss
+pub length_stored : (ss : List Slot) (fs : List Finding) (cs : List Change) → length (records_in ss fs cs) ≡ length ss
 length_stored [] fs cs = refl
 length_stored (s ∷ ss) fs cs = ap suc (length_stored ss (drop s.findings.count fs) (drop s.changes.count cs))
 
 -- the survivors can be told without findings and changes
 pub survivors_stored : (ss : List Slot) (fs : List Finding) (cs : List Change)
-    → survivors_of (taken (stored ss fs cs)) ≡ survivors_in ss
+    → survivors_of (records_there (records_in ss fs cs)) ≡ survivors_in ss
 survivors_stored [] fs cs = refl
 survivors_stored (s ∷ ss) fs cs = by_slot s.kept (survivors_stored ss (drop s.findings.count fs) (drop s.changes.count cs))
   where
     by_slot : (o : Option Kept)
-        → survivors_of (taken (stored ss (drop s.findings.count fs) (drop s.changes.count cs))) ≡ survivors_in ss
-        → survivors_of (taken (record_in o (take s.findings.count fs) (take s.changes.count cs)
-        ∷ stored ss (drop s.findings.count fs) (drop s.changes.count cs)))
+        → survivors_of (records_there (records_in ss (drop s.findings.count fs) (drop s.changes.count cs))) ≡ survivors_in ss
+        → survivors_of (records_there (record_in o (take s.findings.count fs) (take s.changes.count cs)
+        ∷ records_in ss (drop s.findings.count fs) (drop s.changes.count cs)))
         ≡ kept_first o (survivors_in ss)
     by_slot None rest = rest
     by_slot (Some x) rest = ap (λ (xs : List Survivor). x.survivor ∷ xs) rest
@@ -48,7 +48,7 @@ pub record Stands (f c p : ℕ) (s : Slot) (ss : List Slot) (fs : List Finding) 
   pub changes : ahead + s.changes.count ≤ length cs
   pub few : s.changes.count ≤ 4
   pub counts : s.has_count ≡ have_count (take s.findings.count (drop before fs))
-  pub is : get_or (stored ss fs cs) p None
+  pub is : get_or (records_in ss fs cs) p None
       ≡ record_in s.kept (take s.findings.count (drop before fs)) (take s.changes.count (drop ahead cs))
 
 pub stands : (f c p : ℕ) (d : Slot) (ss : List Slot) (fs : List Finding) (cs : List Change) → p < length ss → AreLaid f c ss fs cs
@@ -87,7 +87,7 @@ stands f c (suc p) d (s ∷ ss) fs cs below laid =
 
 -- the same of a slot that was read
 pub stands_here : (p : ℕ) (s : Slot) (ss : List Slot) (fs : List Finding) (cs : List Change) → s ≡ get_or ss p s
-    → p < length (stored ss fs cs) → AreLaid 0 0 ss fs cs → Stands 0 0 p s ss fs cs
+    → p < length (records_in ss fs cs) → AreLaid 0 0 ss fs cs → Stands 0 0 p s ss fs cs
 stands_here p s ss fs cs value there laid =
     subst (λ (t : Slot). Stands 0 0 p t ss fs cs) (sym value)
     (stands 0 0 p s ss fs cs (omega (arith, there, length_stored ss fs cs)) laid)
@@ -97,7 +97,7 @@ abbrev pub emptied_slot : Slot → Slot
 emptied_slot s = record { findings = s.findings; changes = s.changes; has_count = s.has_count; kept = None }
 
 pub stored_emptied : (p : ℕ) (d : Slot) (ss : List Slot) (fs : List Finding) (cs : List Change) → p < length ss
-    → stored (set ss p (emptied_slot (get_or ss p d))) fs cs ≡ set (stored ss fs cs) p None
+    → records_in (set ss p (emptied_slot (get_or ss p d))) fs cs ≡ set (records_in ss fs cs) p None
 stored_emptied p d [] fs cs below = absurd (omega (arith, below))
 stored_emptied zero d (s ∷ ss) fs cs below = refl
 stored_emptied (suc p) d (s ∷ ss) fs cs below =
@@ -133,7 +133,7 @@ pub record IsBehind (s : Slot) (xs : List Finding) (ys : List Change) : Type 0 w
 
 pub stored_more : (f c : ℕ) (ss : List Slot) (fs : List Finding) (cs : List Change) (s : Slot) (xs : List Finding) (ys : List Change)
     → AreLaid f c ss fs cs → IsBehind s xs ys
-    → stored (ss ++ s ∷ []) (fs ++ xs) (cs ++ ys) ≡ stored ss fs cs ++ record_in s.kept xs ys ∷ []
+    → records_in (ss ++ s ∷ []) (fs ++ xs) (cs ++ ys) ≡ records_in ss fs cs ++ record_in s.kept xs ys ∷ []
 stored_more f c [] fs cs s xs ys laid at =
     let found : take s.findings.count (fs ++ xs) ≡ xs =
     ap (λ (zs : List Finding). take s.findings.count (zs ++ xs)) laid.0 ∙ take_all s.findings.count xs (omega (arith, at.findings)) in
@@ -144,7 +144,7 @@ stored_more f c (t ∷ ts) fs cs s xs ys laid at =
     let a : ℕ = t.findings.count in
     let b : ℕ = t.changes.count in
     (λ j. record_in t.kept (take-append-le a fs xs laid.0.findings j) (take-append-le b cs ys laid.0.changes j)
-    ∷ stored (ts ++ s ∷ []) (drop-append-le a fs xs laid.0.findings j) (drop-append-le b cs ys laid.0.changes j))
+    ∷ records_in (ts ++ s ∷ []) (drop-append-le a fs xs laid.0.findings j) (drop-append-le b cs ys laid.0.changes j))
     ∙ ap (λ (zs : List (Option Record)). record_in t.kept (take a fs) (take b cs) ∷ zs)
     (stored_more (f + a) (c + b) ts (drop a fs) (drop b cs) s xs ys laid.1 at)
 
@@ -282,15 +282,15 @@ cut_past k changes a b e n fs is le =
 -- the record of a slot mended
 pub stored_mended : (k : Facts) (changes : List Change) (f c p b : ℕ) (d : Slot) (ss : List Slot) (fs : List Finding) (cs : List Change)
     → p < length ss → AreLaid f c ss fs cs → (get_or ss p d).findings.first ≡ f + b
-    → stored ss (mended k changes b (get_or ss p d).findings.count fs) cs
-    ≡ set (stored ss fs cs) p (shift_slot k changes (get_or (stored ss fs cs) p None))
+    → records_in ss (mended k changes b (get_or ss p d).findings.count fs) cs
+    ≡ set (records_in ss fs cs) p (shift_slot k changes (get_or (records_in ss fs cs) p None))
 stored_mended k changes f c p b d [] fs cs below laid asked = absurd (omega (arith, below))
 stored_mended k changes f c zero b d (s ∷ ss) fs cs below laid asked =
     let n : ℕ = s.findings.count in
     let cut : Cut n (mended k changes b n fs) (shift_each k changes (take n fs)) (drop n fs) =
     cut_at k changes b n fs (omega (arith, asked, laid.0.asked)) laid.0.findings in
-    (λ j. record_in s.kept (cut.taken j) (take s.changes.count cs) ∷ stored ss (cut.left j) (drop s.changes.count cs))
-    ∙ ap (λ (o : Option Record). o ∷ stored ss (drop n fs) (drop s.changes.count cs))
+    (λ j. record_in s.kept (cut.taken j) (take s.changes.count cs) ∷ records_in ss (cut.left j) (drop s.changes.count cs))
+    ∙ ap (λ (o : Option Record). o ∷ records_in ss (drop n fs) (drop s.changes.count cs))
     (sym (shifted_in k changes s.kept (take n fs) (take s.changes.count cs)))
 stored_mended k changes f c (suc p) b d (s ∷ ss) fs cs below laid asked =
     let a : ℕ = s.findings.count in
@@ -300,7 +300,7 @@ stored_mended k changes f c (suc p) b d (s ∷ ss) fs cs below laid asked =
     stands (f + a) (c + s.changes.count) p d ss (drop a fs) (drop s.changes.count cs) (omega (arith, below)) laid.1 in
     let cut : Cut a (mended k changes b n fs) (take a fs) (mended k changes at.before n (drop a fs)) =
     cut_past k changes a b at.before n fs (omega (arith, asked, at.asked)) laid.0.findings in
-    (λ j. record_in s.kept (cut.taken j) (take s.changes.count cs) ∷ stored ss (cut.left j) (drop s.changes.count cs))
+    (λ j. record_in s.kept (cut.taken j) (take s.changes.count cs) ∷ records_in ss (cut.left j) (drop s.changes.count cs))
     ∙ ap (λ (xs : List (Option Record)). record_in s.kept (take a fs) (take s.changes.count cs) ∷ xs)
     (stored_mended k changes (f + a) (c + s.changes.count) p at.before d ss (drop a fs) (drop s.changes.count cs)
     (omega (arith, below)) laid.1 at.asked)

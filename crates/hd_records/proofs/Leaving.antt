@@ -16,7 +16,7 @@ use Rattle.hd_clash.specs.CommandKeys.{has_key, keys_of_command}
 use Rattle.hd_clash.specs.Shift.{shift_record, shift_records}
 use Rattle.hd_records.specs.Index.{IsIndexOf, listed_under, numbers_of}
 use Rattle.hd_records.specs.IndexValue.{IndexValue}
-use Rattle.hd_records.specs.Slots.{AreNumbered, records_at, shift_at, slot_of, taken}
+use Rattle.hd_records.specs.Slots.{AreNumbered, records_at, shift_at, slot_of, records_there}
 use Rattle.hd_records.specs.Survivors.{newer, older, survivors_of}
 use Rattle.hd_records.proofs.Filters.{about_filter, among_filter, map_alike, map_none, passes, rising_filter}
 use Rattle.hd_records.proofs.Shifting.{shift_if, taken_shifted}
@@ -26,7 +26,7 @@ use Rattle.hd_records.proofs.Touched.{has_is, has_not, union_is}
 
 -- the later records that the changes touch
 abbrev pub met : Facts → List Change → ℕ → List (Option Record) → List Record
-met k changes n slots = filter (touches k changes) (newer n (taken slots))
+met k changes n slots = filter (touches k changes) (newer n (records_there slots))
 
 -- they stand where they stood, in these slots too
 pub record Touching (k : Facts) (changes : List Change) (n : ℕ) (slots : List (Option Record)) (lists : List (List ℕ)) : Type 0 where
@@ -37,15 +37,15 @@ stand_met : (k : Facts) (changes : List Change) (n : ℕ) (slots : List (Option 
     → Stand slots (met k changes n slots)
 stand_met k changes n slots numbered r among =
     stand_all slots numbered r
-    (among_filter (λ x. nat_lt n x.number) r (taken slots) (among_filter (touches k changes) r (newer n (taken slots)) among))
+    (among_filter (λ x. nat_lt n x.number) r (records_there slots) (among_filter (touches k changes) r (newer n (records_there slots)) among))
 
 pub touching : UnionsHaveEachOnce → (k : Facts) (changes : List Change) (n : ℕ) (slots : List (Option Record)) (index : IndexValue)
-    (keys : List Key) (lists : List (List ℕ)) → AreNumbered 0 slots → IsIndexOf k (taken slots) index
+    (keys : List Key) (lists : List (List ℕ)) → AreNumbered 0 slots → IsIndexOf k (records_there slots) index
     → ((r : Record) → list_any (has_key (keys_of_command k r.command)) keys ≡ touches k changes r)
     → lists ≡ map (λ x. above n (listed_under x index)) keys → Touching k changes n slots lists
 touching law k changes n slots index keys lists numbered listed touched are =
     let numbers : union lists ≡ numbers_of (met k changes n slots) =
-    union_is law k changes (taken slots) index keys n lists (slots_rise 0 1 slots (omega arith) numbered) listed touched are in
+    union_is law k changes (records_there slots) index keys n lists (slots_rise 0 1 slots (omega arith) numbered) listed touched are in
     record {
       numbers = numbers;
       there =
@@ -78,7 +78,7 @@ numbered_set b (suc p) (Some r ∷ xs) numbered = (numbered.0, numbered_set (suc
 pub numbered_emptied : (n : ℕ) (slots : List (Option Record)) → AreNumbered 0 slots → AreNumbered 0 (emptied n slots)
 numbered_emptied n slots numbered = numbered_set 0 (n - 1) slots numbered
 
-taken_set : (p : ℕ) (slots : List (Option Record)) → taken (set slots p None) ≡ taken (take p slots) ++ taken (drop (suc p) slots)
+taken_set : (p : ℕ) (slots : List (Option Record)) → records_there (set slots p None) ≡ records_there (take p slots) ++ records_there (drop (suc p) slots)
 taken_set zero [] = refl
 taken_set (suc p) [] = refl
 taken_set zero (x ∷ xs) = refl
@@ -86,7 +86,7 @@ taken_set (suc p) (None ∷ xs) = taken_set p xs
 taken_set (suc p) (Some r ∷ xs) = ap (λ (rs : List Record). r ∷ rs) (taken_set p xs)
 
 taken_emptied : (n : ℕ) (slots : List (Option Record)) → 1 ≤ n → AreNumbered 0 slots
-    → taken (emptied n slots) ≡ older n (taken slots) ++ newer n (taken slots)
+    → records_there (emptied n slots) ≡ older n (records_there slots) ++ newer n (records_there slots)
 taken_emptied n slots one numbered =
     taken_set (n - 1) slots
     ∙ (λ j. sym (older_are n 0 (n - 1) slots (omega (arith, one)) numbered) j
@@ -99,8 +99,8 @@ met_left k changes n slots lists one numbered at =
     ap (λ (ns : List ℕ). records_at ns (emptied n slots)) at.numbers
     ∙ at_numbers (emptied n slots) (met k changes n slots)
     (λ (r : Record) (among : IsAmong r (met k changes n slots)).
-    let later : IsAmong r (newer n (taken slots)) = among_filter (touches k changes) r (newer n (taken slots)) among in
-    let up : nat_lt n r.number ≡ true = passes (λ x. nat_lt n x.number) r (taken slots) later in
+    let later : IsAmong r (newer n (records_there slots)) = among_filter (touches k changes) r (newer n (records_there slots)) among in
+    let up : nat_lt n r.number ≡ true = passes (λ x. nat_lt n x.number) r (records_there slots) later in
     let less : n < r.number = grind (arith, nat_tests, up) in
     slot_other n r.number slots one less ∙ stand_met k changes n slots numbered r among)
 
@@ -118,11 +118,11 @@ newer_rise n m (x ∷ xs) rising = by_test (nat_lt n x.number) refl (newer_rise 
 
 -- the records that are left: the older ones as they were, the newer ones shifted
 pub left_records : OnlyTouchedRecordsShift → (k : Facts) (changes : List Change) (n : ℕ) (slots final : List (Option Record))
-    (lists : List (List ℕ)) → 1 ≤ n → AreNumbered 0 slots → EachIsAbout k (taken slots) → Touching k changes n slots lists
+    (lists : List (List ℕ)) → 1 ≤ n → AreNumbered 0 slots → EachIsAbout k (records_there slots) → Touching k changes n slots lists
     → final ≡ shift_at k changes (union lists) 0 (emptied n slots)
-    → taken final ≡ older n (taken slots) ++ shift_records k changes (newer n (taken slots))
+    → records_there final ≡ older n (records_there slots) ++ shift_records k changes (newer n (records_there slots))
 left_records law k changes n slots final lists one numbered about at is =
-    let rs : List Record = taken slots in
+    let rs : List Record = records_there slots in
     let ns : List ℕ = union lists in
     let up : Rising 1 (survivors_of rs) = slots_rise 0 1 slots (omega arith) numbered in
     let later : Rising (n + 1) (survivors_of (newer n rs)) = newer_rise n 1 rs up in
@@ -138,7 +138,7 @@ left_records law k changes n slots final lists one numbered about at is =
     let same : has r.number ns ≡ touches k changes r =
     ap (has r.number) at.numbers ∙ has_is (touches k changes) (n + 1) (newer n rs) r later among in
     ap (λ (b : Bool). cond b (shift_record k changes r) r) same) in
-    ap taken is ∙ taken_shifted k changes ns 0 (emptied n slots) (numbered_emptied n slots numbered)
+    ap records_there is ∙ taken_shifted k changes ns 0 (emptied n slots) (numbered_emptied n slots numbered)
     ∙ ap (map (shift_if k changes ns)) (taken_emptied n slots one numbered)
     ∙ map-append (shift_if k changes ns) (older n rs) (newer n rs)
     ∙ (λ j. stays j ++ shifts j)

@@ -11,7 +11,7 @@ use Rattle.hd_rules.specs.Run.{IsAmong, Rising}
 use Rattle.hd_clash.specs.declared.key.Key.{Key}
 use Rattle.hd_clash.specs.Shift.{shift_record, shift_records}
 use Rattle.hd_records.specs.Index.{asks_about, numbers_of, records_about}
-use Rattle.hd_records.specs.Slots.{AreNumbered, taken}
+use Rattle.hd_records.specs.Slots.{AreNumbered, records_there}
 use Rattle.hd_records.specs.Survivors.{newer, older, survivors_of}
 
 -- one more at the end
@@ -35,13 +35,13 @@ one_more P (x ∷ xs) r = by_tests (P x) (P r) (one_more P xs r)
 
 -- its number is above theirs
 pub all_below : (P : Record → Bool) (n b : ℕ) (slots : List (Option Record)) → b + length slots < n → AreNumbered b slots
-    → AreBelow n (numbers_of (filter P (taken slots)))
+    → AreBelow n (numbers_of (filter P (records_there slots)))
 all_below P n b [] below numbered = tt
 all_below P n b (None ∷ xs) below numbered = all_below P n (suc b) xs (omega (arith, below)) numbered
 all_below P n b (Some r ∷ xs) below numbered = by_test (P r) (all_below P n (suc b) xs (omega (arith, below)) numbered.1)
   where
-    by_test : (c : Bool) → AreBelow n (numbers_of (filter P (taken xs)))
-        → AreBelow n (numbers_of (cond c (r ∷ filter P (taken xs)) (filter P (taken xs))))
+    by_test : (c : Bool) → AreBelow n (numbers_of (filter P (records_there xs)))
+        → AreBelow n (numbers_of (cond c (r ∷ filter P (records_there xs)) (filter P (records_there xs))))
     by_test true rest = (omega (arith, below, numbered.0), rest)
     by_test false rest = rest
 

@@ -11,7 +11,7 @@ use Rattle.hd_rules.specs.Facts.{Facts}
 use Rattle.hd_rules.specs.Record.{Record}
 use Rattle.hd_clash.specs.Records.{EachRecordIsKnown}
 use Rattle.hd_clash.specs.Shift.{shift_record}
-use Rattle.hd_records.specs.Slots.{AreNumbered, records_at, shift_at, shift_slot, slot_of, taken}
+use Rattle.hd_records.specs.Slots.{AreNumbered, records_at, shift_at, shift_slot, slot_of, records_there}
 
 -- one number alone
 equal_is : (n : ℕ) → (n == n) ≡ true
@@ -115,11 +115,11 @@ records_stay k changes n (m ∷ ms) slots none =
     stays k changes n m slots (no_number n m ms none) in
     let rest : records_at ms (shift_at k changes (n ∷ []) 0 slots) ≡ records_at ms slots =
     records_stay k changes n ms slots (or_right (m == n) (has n ms) none) in
-    ap (λ (o : Option Record). taken (o ∷ map (λ i. slot_of i (shift_at k changes (n ∷ []) 0 slots)) ms)) here
+    ap (λ (o : Option Record). records_there (o ∷ map (λ i. slot_of i (shift_at k changes (n ∷ []) 0 slots)) ms)) here
     ∙ join (slot_of m slots) rest
   where
     join : (o : Option Record) → records_at ms (shift_at k changes (n ∷ []) 0 slots) ≡ records_at ms slots
-        → taken (o ∷ map (λ i. slot_of i (shift_at k changes (n ∷ []) 0 slots)) ms) ≡ taken (o ∷ map (λ i. slot_of i slots) ms)
+        → records_there (o ∷ map (λ i. slot_of i (shift_at k changes (n ∷ []) 0 slots)) ms) ≡ records_there (o ∷ map (λ i. slot_of i slots) ms)
     join None is = is
     join (Some r) is = ap (λ (rs : List Record). r ∷ rs) is
 
@@ -128,7 +128,7 @@ pub known_first : (k : Facts) (n : ℕ) (ns : List ℕ) (slots : List (Option Re
     → EachRecordIsKnown k (records_at (n ∷ []) slots)
 known_first k n ns slots known = by_slot (slot_of n slots) known
   where
-    by_slot : (o : Option Record) → EachRecordIsKnown k (taken (o ∷ map (λ i. slot_of i slots) ns)) → EachRecordIsKnown k (taken (o ∷ []))
+    by_slot : (o : Option Record) → EachRecordIsKnown k (records_there (o ∷ map (λ i. slot_of i slots) ns)) → EachRecordIsKnown k (records_there (o ∷ []))
     by_slot None all = tt
     by_slot (Some r) all = (all.0, tt)
 
@@ -136,8 +136,8 @@ pub known_later : (k : Facts) (n : ℕ) (ns : List ℕ) (slots : List (Option Re
     → EachRecordIsKnown k (records_at ns slots)
 known_later k n ns slots known = by_slot (slot_of n slots) known
   where
-    by_slot : (o : Option Record) → EachRecordIsKnown k (taken (o ∷ map (λ i. slot_of i slots) ns))
-        → EachRecordIsKnown k (taken (map (λ i. slot_of i slots) ns))
+    by_slot : (o : Option Record) → EachRecordIsKnown k (records_there (o ∷ map (λ i. slot_of i slots) ns))
+        → EachRecordIsKnown k (records_there (map (λ i. slot_of i slots) ns))
     by_slot None all = all
     by_slot (Some r) all = all.1
 
@@ -187,20 +187,20 @@ abbrev pub shift_if : Facts → List Change → List ℕ → Record → Record
 shift_if k changes ns r = cond (has r.number ns) (shift_record k changes r) r
 
 pub taken_shifted : (k : Facts) (changes : List Change) (ns : List ℕ) (b : ℕ) (slots : List (Option Record)) → AreNumbered b slots
-    → taken (shift_at k changes ns b slots) ≡ map (shift_if k changes ns) (taken slots)
+    → records_there (shift_at k changes ns b slots) ≡ map (shift_if k changes ns) (records_there slots)
 taken_shifted k changes ns b [] numbered = refl
 taken_shifted k changes ns b (None ∷ xs) numbered = by_test (has (suc b) ns) (taken_shifted k changes ns (suc b) xs numbered)
   where
-    by_test : (c : Bool) → taken (shift_at k changes ns (suc b) xs) ≡ map (shift_if k changes ns) (taken xs)
-        → taken (cond c (shift_slot k changes None) None ∷ shift_at k changes ns (suc b) xs) ≡ map (shift_if k changes ns) (taken xs)
+    by_test : (c : Bool) → records_there (shift_at k changes ns (suc b) xs) ≡ map (shift_if k changes ns) (records_there xs)
+        → records_there (cond c (shift_slot k changes None) None ∷ shift_at k changes ns (suc b) xs) ≡ map (shift_if k changes ns) (records_there xs)
     by_test true rest = rest
     by_test false rest = rest
 taken_shifted k changes ns b (Some r ∷ xs) numbered =
     by_test (has (suc b) ns) (taken_shifted k changes ns (suc b) xs numbered.1)
-    ∙ ap (λ (n : ℕ). cond (has n ns) (shift_record k changes r) r ∷ map (shift_if k changes ns) (taken xs)) (sym numbered.0)
+    ∙ ap (λ (n : ℕ). cond (has n ns) (shift_record k changes r) r ∷ map (shift_if k changes ns) (records_there xs)) (sym numbered.0)
   where
-    by_test : (c : Bool) → taken (shift_at k changes ns (suc b) xs) ≡ map (shift_if k changes ns) (taken xs)
-        → taken (cond c (shift_slot k changes (Some r)) (Some r) ∷ shift_at k changes ns (suc b) xs)
-        ≡ cond c (shift_record k changes r) r ∷ map (shift_if k changes ns) (taken xs)
+    by_test : (c : Bool) → records_there (shift_at k changes ns (suc b) xs) ≡ map (shift_if k changes ns) (records_there xs)
+        → records_there (cond c (shift_slot k changes (Some r)) (Some r) ∷ shift_at k changes ns (suc b) xs)
+        ≡ cond c (shift_record k changes r) r ∷ map (shift_if k changes ns) (records_there xs)
     by_test true rest = ap (λ (rs : List Record). shift_record k changes r ∷ rs) rest
     by_test false rest = ap (λ (rs : List Record). r ∷ rs) rest

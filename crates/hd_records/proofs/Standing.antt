@@ -10,7 +10,7 @@ use Rattle.hd_rules.specs.Run.{IsAmong, Rising}
 use Rattle.hd_clash.specs.Records.{EachCommandIsKnown, EachRecordIsKnown, IsKnownRecord}
 use Rattle.hd_clash.specs.declared.key.Key.{Key}
 use Rattle.hd_records.specs.Index.{asks_about, numbers_of, records_about}
-use Rattle.hd_records.specs.Slots.{AreNumbered, records_at, slot_of, taken}
+use Rattle.hd_records.specs.Slots.{AreNumbered, records_at, slot_of, records_there}
 use Rattle.hd_records.specs.Survivors.{newer, survivors_of}
 use Rattle.hd_records.proofs.Filters.{among_filter, number_from}
 use Rattle.hd_records.proofs.Numbered.{none_some, some_same, taken_joined, within_of}
@@ -23,7 +23,7 @@ Stand slots rs = (r : Record) → IsAmong r rs → slot_of r.number slots ≡ So
 pub at_numbers : (slots : List (Option Record)) (rs : List Record) → Stand slots rs → records_at (numbers_of rs) slots ≡ rs
 at_numbers slots [] stand = refl
 at_numbers slots (r ∷ rs) stand =
-    ap (λ (o : Option Record). taken (o ∷ map (λ n. slot_of n slots) (numbers_of rs))) (stand r (inl refl))
+    ap (λ (o : Option Record). records_there (o ∷ map (λ n. slot_of n slots) (numbers_of rs))) (stand r (inl refl))
     ∙ ap (λ (xs : List Record). r ∷ xs) (at_numbers slots rs (λ (x : Record) (among : IsAmong x rs). stand x (inr among)))
 
 -- a place where the record stands
@@ -32,7 +32,7 @@ record Found (b : ℕ) (slots : List (Option Record)) (r : Record) : Type 0 wher
   is : r.number ≡ suc b + place
   there : get_or slots place None ≡ Some r
 
-found : (b : ℕ) (slots : List (Option Record)) (r : Record) → AreNumbered b slots → IsAmong r (taken slots) → Found b slots r
+found : (b : ℕ) (slots : List (Option Record)) (r : Record) → AreNumbered b slots → IsAmong r (records_there slots) → Found b slots r
 found b [] r numbered among = absurd among
 found b (None ∷ xs) r numbered among =
     let rest : Found (suc b) xs r = found (suc b) xs r numbered among in
@@ -44,7 +44,7 @@ found b (Some x ∷ xs) r numbered (inr later) =
     let rest : Found (suc b) xs r = found (suc b) xs r numbered.1 later in
     record { place = suc rest.place; is = omega (arith, rest.is); there = rest.there }
 
-pub stand_all : (slots : List (Option Record)) → AreNumbered 0 slots → Stand slots (taken slots)
+pub stand_all : (slots : List (Option Record)) → AreNumbered 0 slots → Stand slots (records_there slots)
 stand_all slots numbered r among =
     let at : Found 0 slots r = found 0 slots r numbered among in
     let is : r.number ≡ suc at.place = omega (arith, at.is) in
@@ -53,7 +53,7 @@ stand_all slots numbered r among =
 -- records at numbers, parted
 pub at_joined : (xs ys : List ℕ) (slots : List (Option Record)) → records_at (xs ++ ys) slots ≡ records_at xs slots ++ records_at ys slots
 at_joined xs ys slots =
-    ap taken (map-append (λ (n : ℕ). slot_of n slots) xs ys)
+    ap records_there (map-append (λ (n : ℕ). slot_of n slots) xs ys)
     ∙ taken_joined (map (λ (n : ℕ). slot_of n slots) xs) (map (λ (n : ℕ). slot_of n slots) ys)
 
 -- the newer ones of a rising list are those behind it
@@ -92,7 +92,7 @@ reads slots numbers i n r below at there rising =
     drop-cons numbers i 0 below ∙ (λ j. sym at j ∷ drop (next j) numbers) in
     let from : records_at (drop i numbers) slots ≡ r ∷ records_at (drop (i + 1) numbers) slots =
     ap (λ (ns : List ℕ). records_at ns slots) first
-    ∙ ap (λ (o : Option Record). taken (o ∷ map (λ m. slot_of m slots) (drop (i + 1) numbers))) (sym there) in
+    ∙ ap (λ (o : Option Record). records_there (o ∷ map (λ m. slot_of m slots) (drop (i + 1) numbers))) (sym there) in
     let split : records_at numbers slots ≡ records_at (take i numbers) slots ++ r ∷ records_at (drop (i + 1) numbers) slots =
     ap (λ (ns : List ℕ). records_at ns slots) (sym (take-append-drop i numbers))
     ∙ at_joined (take i numbers) (drop i numbers) slots
@@ -108,12 +108,12 @@ reads slots numbers i n r below at there rising =
 
 -- a number whose slot has a record
 pub record At (n : ℕ) (slots : List (Option Record)) (r : Record) : Type 0 where
-  pub among : IsAmong r (taken slots)
+  pub among : IsAmong r (records_there slots)
   pub number : r.number ≡ n
   pub above : 1 ≤ n
   pub within : n ≤ length slots
 
-among_there : (m : ℕ) (slots : List (Option Record)) (r : Record) → get_or slots m None ≡ Some r → IsAmong r (taken slots)
+among_there : (m : ℕ) (slots : List (Option Record)) (r : Record) → get_or slots m None ≡ Some r → IsAmong r (records_there slots)
 among_there m [] r is = absurd (none_some r is)
 among_there zero (None ∷ xs) r is = absurd (none_some r is)
 among_there zero (Some x ∷ xs) r is = inl (some_same r x (sym is))
@@ -145,7 +145,7 @@ at_slot (suc m) slots r numbered is =
 
 -- no other record has its number
 pub only_one : (n : ℕ) (slots : List (Option Record)) (r y : Record) → AreNumbered 0 slots → slot_of n slots ≡ Some r
-    → IsAmong y (taken slots)
+    → IsAmong y (records_there slots)
     → y.number ≡ n → y ≡ r
 only_one n slots r y numbered is among number =
     some_same y r (sym (stand_all slots numbered y among) ∙ ap (λ (i : ℕ). slot_of i slots) number ∙ is)
@@ -164,9 +164,9 @@ command_known k (x ∷ xs) r known (inr later) = command_known k xs r known.1 la
 
 -- those that are listed under a key stand where their numbers say
 pub about_there : (k : Facts) (x : Key) (slots lent : List (Option Record)) (numbers : List ℕ) → AreNumbered 0 slots → lent ≡ slots
-    → numbers ≡ numbers_of (records_about k x (taken slots)) → records_at numbers lent ≡ records_about k x (taken slots)
+    → numbers ≡ numbers_of (records_about k x (records_there slots)) → records_at numbers lent ≡ records_about k x (records_there slots)
 about_there k x slots lent numbers numbered same are =
     (λ j. records_at (are j) (same j))
-    ∙ at_numbers slots (records_about k x (taken slots))
-    (λ (r : Record) (among : IsAmong r (records_about k x (taken slots))).
-    stand_all slots numbered r (among_filter (asks_about k x) r (taken slots) among))
+    ∙ at_numbers slots (records_about k x (records_there slots))
+    (λ (r : Record) (among : IsAmong r (records_about k x (records_there slots))).
+    stand_all slots numbered r (among_filter (asks_about k x) r (records_there slots) among))

@@ -9,7 +9,8 @@ use Rattle.hd_rules.specs.declared.commands.Cancel.{Cancel}
 use Rattle.hd_rules.specs.declared.commands.Cancel.TheVariants as cancel
 use Rattle.hd_rules.specs.Facts.{Facts}
 use Rattle.hd_rules.specs.Record.{Record}
-use Rattle.hd_rules.specs.Target.{Split, is_of_kind, is_target, newest_of, target}
+use Rattle.hd_rules.specs.Target.{Split, is_of_kind, is_target}
+use Rattle.hd_rules.specs.Searches.{newest_of, target}
 use Rattle.hd_clash.specs.declared.key.Key.TheVariants as key
 use Rattle.hd_clash.specs.CommandKeys.{has_key, keys_of_action}
 use Rattle.hd_records.specs.Index.{asks_about, records_about}

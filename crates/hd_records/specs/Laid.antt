@@ -27,11 +27,11 @@ record_in (Some kept) findings changes = Some (record_of_kept kept findings chan
 
 -- What stands in slots: the first of the findings and of the changes are the first slot's, the others those
 -- of the slots behind it.
-abbrev pub stored : List Slot → List Finding → List Change → List (Option Record)
-stored [] findings changes = []
-stored (s ∷ ss) findings changes =
+abbrev pub records_in : List Slot → List Finding → List Change → List (Option Record)
+records_in [] findings changes = []
+records_in (s ∷ ss) findings changes =
     record_in s.kept (take s.findings.count findings) (take s.changes.count changes)
-    ∷ stored ss (drop s.findings.count findings) (drop s.changes.count changes)
+    ∷ records_in ss (drop s.findings.count findings) (drop s.changes.count changes)
 
 -- the survivors that the records of slots are of
 abbrev pub kept_first : Option Kept → List Survivor → List Survivor

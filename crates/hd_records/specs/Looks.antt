@@ -4,16 +4,16 @@ use Rattle.std.specs.Prelude.{◌∷◌, length}
 use Rattle.hd_rules.specs.declared.cells.Change.{Change}
 use Rattle.hd_rules.specs.Facts.{Facts}
 use Rattle.hd_rules.specs.Record.{Record}
-use Rattle.hd_footprint.specs.Meter.{Counts, add}
+use Rattle.hd_footprint.specs.Meter.{Counts, with_one_more}
 use Rattle.hd_footprint.specs.declared.count.Count.TheVariants.{Look}
 use Rattle.hd_clash.specs.Clash.{some_clash}
 use Rattle.hd_clash.specs.Work.{clash_work}
 use Rattle.hd_records.specs.Survivors.{newer}
 
 -- the counts after so many looks
-abbrev pub looked : ℕ → Counts → Counts
-looked zero counts = counts
-looked (suc n) counts = looked n (add counts Look)
+abbrev pub after_looks : ℕ → Counts → Counts
+after_looks zero counts = counts
+after_looks (suc n) counts = after_looks n (with_one_more counts Look)
 
 -- how many are looked at from the newest on, as far as the one of this number, or all of them
 abbrev pub looks_to : Option ℕ → List Record → ℕ
@@ -22,11 +22,11 @@ looks_to (Some n) records = length (newer n records) + 1
 
 -- The counts after a walk as far as the first record that clashes: each is looked at, and what it found is
 -- compared with the changes.
-abbrev pub walked : Facts → List Change → List Record → Counts → Counts
-walked k changes [] counts = counts
-walked k changes (r ∷ rs) counts =
-    if some_clash k changes r.findings then clash_work k changes r.findings (add counts Look)
-    else walked k changes rs (clash_work k changes r.findings (add counts Look))
+abbrev pub after_walk : Facts → List Change → List Record → Counts → Counts
+after_walk k changes [] counts = counts
+after_walk k changes (r ∷ rs) counts =
+    if some_clash k changes r.findings then clash_work k changes r.findings (with_one_more counts Look)
+    else after_walk k changes rs (clash_work k changes r.findings (with_one_more counts Look))
 
 -- how many questions the records have, with their noted answers
 abbrev pub questions_of : List Record → ℕ
@@ -42,7 +42,7 @@ pub record IsWalk (most questions : ℕ) (old new : Counts) : Type 0 where
 
 -- so it is with looks alone, and with a walk for changes, of which there are at most four
 pub record WalksAreShort : Type 0 where
-  pub looks : (n : ℕ) (counts : Counts) → IsWalk n 0 counts (looked n counts)
+  pub looks : (n : ℕ) (counts : Counts) → IsWalk n 0 counts (after_looks n counts)
   pub walk : (k : Facts) (changes : List Change) (records : List Record) (counts : Counts)
       → length changes ≤ 4
-      → IsWalk (length records) (questions_of records) counts (walked k changes records counts)
+      → IsWalk (length records) (questions_of records) counts (after_walk k changes records counts)

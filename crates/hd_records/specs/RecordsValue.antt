@@ -22,7 +22,7 @@ AreListed k value = IsIndexOf k value.records value.index
 
 -- The records are of commands and questions of the catalogue, each finding is about what its command asks
 -- about, and they are listed by that.
-pub record AreOf (k : Facts) (value : RecordsValue) : Type 0 where
+pub record AreOfCatalogue (k : Facts) (value : RecordsValue) : Type 0 where
   pub commands : EachCommandIsKnown k (survivors_of value.records)
   pub known : EachRecordIsKnown k value.records
   pub about : EachIsAbout k value.records

@@ -2,8 +2,8 @@
 use Rattle.hd_rules.specs.Record.{Record}
 use Rattle.hd_records.specs.declared.record.RecordRef.{RecordRef}
 
-abbrev pub shown : RecordRef → Record
-shown r = record {
+abbrev pub record_shown : RecordRef → Record
+record_shown r = record {
   number = r.survivor.number;
   terminal = r.survivor.terminal;
   command = r.survivor.command;

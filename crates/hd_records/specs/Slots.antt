@@ -8,10 +8,10 @@ use Rattle.hd_rules.specs.Record.{Record}
 use Rattle.hd_clash.specs.Shift.{shift_record}
 
 -- the records that stand in them, in their order
-abbrev pub taken : List (Option Record) → List Record
-taken [] = []
-taken (None ∷ slots) = taken slots
-taken (Some r ∷ slots) = r ∷ taken slots
+abbrev pub records_there : List (Option Record) → List Record
+records_there [] = []
+records_there (None ∷ slots) = records_there slots
+records_there (Some r ∷ slots) = r ∷ records_there slots
 
 -- each record has the number of its slot; so many slots are before these
 abbrev pub AreNumbered : ℕ → List (Option Record) → Type 0
@@ -38,4 +38,4 @@ slot_of (suc n) slots = slice_index_or slots n None
 
 -- the records of these numbers, in the order of the numbers
 abbrev pub records_at : List ℕ → List (Option Record) → List Record
-records_at numbers slots = taken (map (λ n. slot_of n slots) numbers)
+records_at numbers slots = records_there (map (λ n. slot_of n slots) numbers)

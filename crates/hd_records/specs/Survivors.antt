@@ -4,7 +4,7 @@ use Rattle.hd_rules.specs.declared.cells.Change.{Change}
 use Rattle.hd_rules.specs.declared.commands.Cancel.{Cancel}
 use Rattle.hd_rules.specs.declared.commands.Survivor.{Survivor}
 use Rattle.hd_rules.specs.Record.{Record}
-use Rattle.hd_rules.specs.Target.{target}
+use Rattle.hd_rules.specs.Searches.{target}
 
 -- the survivor that a record is of
 abbrev pub survivor_of : Record → Survivor

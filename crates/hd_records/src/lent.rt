@@ -3,7 +3,7 @@
 
 ghost use Rattle.std.specs.Prelude.{◌≡◌, ◌≤◌, length};
 ghost use Rattle.hd_records.specs.Laid.{record_of_kept};
-ghost use Rattle.hd_records.specs.Shown.{shown};
+ghost use Rattle.hd_records.specs.Shown.{record_shown};
 ghost use Rattle.hd_records.specs.Survivors.{survivor_of};
 
 use crate::record::RecordRef;
@@ -68,7 +68,7 @@ impl<'a> Lent<'a> {
 
     /// The record, part by part.
     pub(crate) fn show(&self) -> RecordRef<'a>
-        ensures shown { shown result ≡ self.now }
+        ensures shown { record_shown result ≡ self.now }
         ensures few { length result.changes.now ≤ 4 }
     {
         RecordRef {

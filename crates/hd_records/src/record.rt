@@ -3,7 +3,7 @@
 
 ghost use Rattle.std.specs.Prelude.{◌≡◌, ◌≤◌, length};
 ghost use Rattle.hd_records.specs.Survivors.{survivor_of};
-ghost use Rattle.hd_records.specs.Shown.{shown};
+ghost use Rattle.hd_records.specs.Shown.{record_shown};
 
 use hd_footprint::{Findings, Footprint};
 use hd_rules::{Change, Finding, Reply, Survivor};
@@ -86,7 +86,7 @@ impl StoredRecord {
 
     /// The record, lent part by part.
     pub fn show(&self) -> RecordRef<'_>
-        ensures shown { shown result ≡ self.now }
+        ensures shown { record_shown result ≡ self.now }
         ensures few { length result.changes.now ≤ 4 }
     {
         RecordRef {

@@ -13,10 +13,10 @@ ghost use Rattle.hd_clash.specs.About.{touches};
 ghost use Rattle.hd_clash.specs.CommandKeys.{keys_of_command};
 ghost use Rattle.hd_clash.specs.declared.key.Key.TheVariants as key;
 ghost use Rattle.hd_records.specs.Index.{records_about};
-ghost use Rattle.hd_records.specs.RecordsValue.{AreListed, AreOf, HasRoomFor};
+ghost use Rattle.hd_records.specs.RecordsValue.{AreListed, AreOfCatalogue, HasRoomFor};
 ghost use Rattle.hd_records.specs.Titles.{title_of_cancel};
-ghost use Rattle.hd_records.specs.Looks.{looked, looks_to, walked};
-ghost use Rattle.hd_records.specs.Shown.{shown};
+ghost use Rattle.hd_records.specs.Looks.{after_looks, looks_to, after_walk};
+ghost use Rattle.hd_records.specs.Shown.{record_shown};
 ghost use Rattle.hd_records.specs.Survivors.{changes_of, newer, older, record_of, survivors_of};
 ghost use Rattle.hd_records.specs.Survivors.{target_of};
 
@@ -53,12 +53,12 @@ const MOST_RECORDS: usize = 4_294_967_295;
 impl<A: Allocator> Model for Records<A> {
     ghost use Rattle.std.specs.Prelude.{◌<◌, ◌^◌, length};
     ghost use Rattle.hd_records.specs.RecordsValue.{RecordsValue};
-    ghost use Rattle.hd_records.specs.Slots.{AreNumbered, taken};
+    ghost use Rattle.hd_records.specs.Slots.{AreNumbered, records_there};
 
     ghost Value = { RecordsValue };
 
     ghost view = { λ r. record {
-      records = taken r.slots.items;
+      records = records_there r.slots.items;
       last = length r.slots.items;
       room = r.slots.room;
       index = r.index;
@@ -127,7 +127,7 @@ impl<A: Allocator + Copy> Records<A> {
 
     /// The record of a number, or `None` where there is none. It stands in the number's slot.
     pub fn get(&self, number: u64) -> Option<RecordRef<'_>>
-        ensures record { option_map shown result ≡ record_of number self.now.records }
+        ensures record { option_map record_shown result ≡ record_of number self.now.records }
         ensures few { IfSome result (λ r. length r.changes.now ≤ 4) }
     {
         let stored = walking::find(&self.slots, number)?;
@@ -155,7 +155,7 @@ impl<A: Allocator + Copy> Records<A> {
         requires listed { AreListed (facts_of catalogue.now) self.now }
         ensures target { result ≡ target_of terminal what.now self.now.records }
         ensures work { let k = facts_of catalogue.now in
-            meter.new ≡ looked (looks_to result
+            meter.new ≡ after_looks (looks_to result
             (records_about k (key.Title (title_of_cancel k what.now)) self.now.records)) meter.old }
     {
         let numbers = self.index.of_title(title_of(catalogue, what));
@@ -172,13 +172,13 @@ impl<A: Allocator + Copy> Records<A> {
         meter: &mut Meter,
     ) -> Option<u64>
         requires there { IsSome (record_of number self.now.records) }
-        requires of { AreOf (facts_of catalogue.now) self.now }
+        requires of { AreOfCatalogue (facts_of catalogue.now) self.now }
         ensures clash { result
             ≡ first_clash (facts_of catalogue.now) (changes_of number self.now.records)
             (newer number self.now.records) }
         ensures work { let k = facts_of catalogue.now in
             let changes = changes_of number self.now.records in
-            meter.new ≡ walked k changes (filter (touches k changes) (newer number self.now.records))
+            meter.new ≡ after_walk k changes (filter (touches k changes) (newer number self.now.records))
             meter.old }
     {
         let Some(target) = walking::find(&self.slots, number) else {
@@ -196,7 +196,7 @@ impl<A: Allocator + Copy> Records<A> {
     /// takes no memory, and moves no other record.
     pub fn take_out(&mut self, catalogue: &Catalogue<A>, number: u64, meter: &mut Meter)
         requires there { IsSome (record_of number self.old.records) }
-        requires of { AreOf (facts_of catalogue.now) self.old }
+        requires of { AreOfCatalogue (facts_of catalogue.now) self.old }
         ensures records { self.new.records
             ≡ older number self.old.records
             ++ shift_records (facts_of catalogue.now) (changes_of number self.old.records)
@@ -206,7 +206,7 @@ impl<A: Allocator + Copy> Records<A> {
         ensures listed { AreListed (facts_of catalogue.now) self.new }
         ensures work { let k = facts_of catalogue.now in
             let changes = changes_of number self.old.records in
-            meter.new ≡ looked (length (filter (touches k changes) (newer number self.old.records)))
+            meter.new ≡ after_looks (length (filter (touches k changes) (newer number self.old.records)))
             meter.old }
     {
         unions_have_each_once();

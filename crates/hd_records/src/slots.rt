@@ -6,7 +6,7 @@ ghost use Rattle.std.specs.Prelude.{length, slice_index_or, slice_set};
 ghost use Rattle.hd_catalogue.specs.Contents.{facts_of};
 ghost use Rattle.hd_clash.specs.Law.{EachCellIsKnown};
 ghost use Rattle.hd_clash.specs.Records.{EachRecordIsKnown};
-ghost use Rattle.hd_records.specs.Slots.{shift_slot, taken};
+ghost use Rattle.hd_records.specs.Slots.{shift_slot, records_there};
 ghost use Rattle.hd_records.specs.Survivors.{survivors_of};
 
 use crate::lent::Lent;
@@ -58,13 +58,13 @@ pub(crate) struct Slots<A: Allocator = Global> {
 impl<A: Allocator> Model for Slots<A> {
     ghost use Rattle.std.specs.Prelude.{◌-◌, min, vec_capacity, vec_len};
     ghost use Rattle.hd_records.specs.SlotsValue.{SlotsValue};
-    ghost use Rattle.hd_records.specs.Laid.{AreLaid, stored};
+    ghost use Rattle.hd_records.specs.Laid.{AreLaid, records_in};
     ghost use Rattle.hd_records.specs.Room.{room_of_four};
 
     ghost Value = { SlotsValue };
 
     ghost view = { λ s. record {
-      items = stored s.slots.items s.findings.items s.changes.items;
+      items = records_in s.slots.items s.findings.items s.changes.items;
       room = min (vec_capacity s.slots - vec_len s.slots)
           (min (room_of_four (vec_len s.findings) (vec_capacity s.findings))
           (room_of_four (vec_len s.changes) (vec_capacity s.changes)));
@@ -145,7 +145,7 @@ impl<A: Allocator> Slots<A> {
 
     /// The survivors that the records are of, by number.
     pub(crate) fn survivors(&self) -> Survivors<'_>
-        ensures { result ≡ survivors_of (taken self.now.items) }
+        ensures { result ≡ survivors_of (records_there self.now.items) }
     {
         Survivors::new(self.slots.as_slice())
     }
@@ -171,7 +171,7 @@ impl<A: Allocator> Slots<A> {
         requires few { length changes.now ≤ 4 }
         requires cells { EachCellIsKnown (facts_of catalogue.now) changes.now }
         requires known { EachRecordIsKnown (facts_of catalogue.now)
-            (taken (slice_index_or self.old.items place None ∷ [])) }
+            (records_there (slice_index_or self.old.items place None ∷ [])) }
         ensures items { self.new.items
             ≡ slice_set self.old.items place
             (shift_slot (facts_of catalogue.now) changes.now (slice_index_or self.old.items place None)) }

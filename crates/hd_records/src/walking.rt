@@ -8,7 +8,7 @@ ghost use Rattle.hd_clash.specs.Law.{EachCellIsKnown};
 ghost use Rattle.hd_clash.specs.Records.{EachRecordIsKnown};
 ghost use Rattle.hd_index.specs.Union.{union};
 ghost use Rattle.hd_rules.specs.Run.{Rising};
-ghost use Rattle.hd_records.specs.Looks.{looked, looks_to, walked};
+ghost use Rattle.hd_records.specs.Looks.{after_looks, looks_to, after_walk};
 ghost use Rattle.hd_records.specs.Slots.{records_at, shift_at, slot_of};
 ghost use Rattle.hd_records.specs.Survivors.{survivors_of, target_of};
 
@@ -50,7 +50,8 @@ pub(crate) fn newest<A: Allocator>(
 ) -> Option<u64>
     requires { Rising 1 (survivors_of (records_at numbers.now slots.now.items)) }
     ensures target { result ≡ target_of terminal what.now (records_at numbers.now slots.now.items) }
-    ensures work { meter.new ≡ looked (looks_to result (records_at numbers.now slots.now.items)) meter.old }
+    ensures work { meter.new
+        ≡ after_looks (looks_to result (records_at numbers.now slots.now.items)) meter.old }
 {
     the_target_is_the_newest();
     for place in (0..numbers.len()).rev() {
@@ -75,10 +76,10 @@ pub(crate) fn first_clash<A: Allocator + Copy>(
     requires few { length changes.now ≤ 4 }
     requires cells { EachCellIsKnown (facts_of catalogue.now) changes.now }
     requires known { EachRecordIsKnown (facts_of catalogue.now) (records_at (union numbers) slots.now.items) }
-    ensures clash { result
-        ≡ first_clash (facts_of catalogue.now) changes.now (records_at (union numbers.entry) slots.now.items) }
-    ensures work { meter.new
-        ≡ walked (facts_of catalogue.now) changes.now (records_at (union numbers.entry) slots.now.items) meter.old }
+    ensures clash { result ≡ first_clash (facts_of catalogue.now) changes.now
+        (records_at (union numbers.entry) slots.now.items) }
+    ensures work { meter.new ≡ after_walk (facts_of catalogue.now) changes.now
+        (records_at (union numbers.entry) slots.now.items) meter.old }
 {
     for number in numbers {
         if let Some(later) = find(slots, u64::from(number)) {
@@ -106,7 +107,7 @@ pub(crate) fn mend_each<A: Allocator + Copy>(
     ensures slots { slots.new.items
         ≡ shift_at (facts_of catalogue.now) changes.now (union numbers.entry) 0 slots.old.items }
     ensures room { slots.new.room ≡ slots.old.room }
-    ensures work { meter.new ≡ looked (length (union numbers.entry)) meter.old }
+    ensures work { meter.new ≡ after_looks (length (union numbers.entry)) meter.old }
 {
     unions_have_each_once();
     for number in numbers {

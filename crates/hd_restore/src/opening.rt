@@ -9,7 +9,7 @@ ghost use Rattle.hd_journal.specs.Books.{IsLegalBook, facts};
 ghost use Rattle.hd_journal.specs.Changing.{changing};
 ghost use Rattle.hd_ledger.specs.Holds.{Holds};
 ghost use Rattle.hd_ledger.specs.Crashes.{HoldsTurns};
-ghost use Rattle.hd_ledger.specs.Kept.{Head, Kept};
+ghost use Rattle.hd_ledger.specs.Kept.{Head, KeptTurn};
 ghost use Rattle.hd_journal_file.specs.Held.{IsReliable};
 ghost use Rattle.hd_journal_file.specs.Rows.{AreTurnRows};
 ghost use Rattle.hd_restore.specs.Opening.{AreFound, AreHeld};
@@ -70,7 +70,7 @@ pub fn open_over<S: Alter + Drop, F: Start>(
     requires empty { journal.turns ≡ [] }
     requires begun { HasCleanDisk (state S.Store conn) → IsTrue is_new
         → (head : Head) × Holds (state S.Store conn) head [] }
-    requires seen { HasCleanDisk (state S.Store conn) → is_new ≡ false → (head : Head) (rows : List Kept)
+    requires seen { HasCleanDisk (state S.Store conn) → is_new ≡ false → (head : Head) (rows : List KeptTurn)
         → HoldsTurns (image_at F.Start) head rows → Holds (state S.Store conn) head rows }
     ensures contents { IfOk result (λ opened. opened.contents ≡ journal.contents) }
     ensures found { IfOk result (λ opened. AreFound (image_at F.Start) opened.table.is_new
@@ -93,7 +93,7 @@ fn take_again<S: Alter>(
 ) -> Result<(), OpenFault>
     requires { journal.old.turns ≡ [] }
     ensures clean { HasCleanDisk (state S.Store conn.new) → HasCleanDisk (state S.Store conn.old) }
-    ensures held { HasCleanDisk (state S.Store conn.new) → OnOk result ((head : Head) (rows : List Kept)
+    ensures held { HasCleanDisk (state S.Store conn.new) → OnOk result ((head : Head) (rows : List KeptTurn)
         → Holds (state S.Store conn.old) head rows
         → (later : Head) × Holds (state S.Store conn.new) later rows
         × AreTurnRows journal.new.contents journal.new.turns rows) }
@@ -114,7 +114,7 @@ fn take_again<S: Alter>(
 /// Whether a journal's file is of the catalogue file with this digest.
 fn is_of<S: Alter>(conn: &mut Connection<S>, digest: &[u8; 32]) -> Result<bool, OpenFault>
     ensures clean { HasCleanDisk (state S.Store conn.new) → HasCleanDisk (state S.Store conn.old) }
-    ensures same { HasCleanDisk (state S.Store conn.new) → OnOk result ((head : Head) (rows : List Kept)
+    ensures same { HasCleanDisk (state S.Store conn.new) → OnOk result ((head : Head) (rows : List KeptTurn)
         → Holds (state S.Store conn.old) head rows → Holds (state S.Store conn.new) head rows) }
 {
     let heading = catalogue(conn)?;

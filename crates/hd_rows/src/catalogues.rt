@@ -11,7 +11,8 @@ const BEGINNING: &[u8] = b"H|1|lib|60|100\nB|north\nT|ta|21|1\nC|a1|ta|north\n";
 /// Reads each catalogue file of the stored table, and compares what is told of it with what stands under it.
 ///
 /// A line of the table that begins with `>` is a line of a file, with `!` one without its end. `= TEXT` ends
-/// the file: TEXT is `well`, or the first bad line and its cause. Other lines of the table are for its reader.
+/// the file: TEXT is `well`, or the first bad line and its cause. Other lines of the table are for its
+/// reader.
 pub(crate) fn read_catalogues(rt: &HostRuntime) -> io::Result<()> {
     let table = fs::read(rt, "catalogues")?;
     let mut file = Vec::new(rt.alloc());

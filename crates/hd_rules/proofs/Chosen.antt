@@ -4,7 +4,8 @@ use Rattle.std.specs.Prelude.{is_none}
 use Rattle.hd_rules.specs.Words.{Hold}
 use Rattle.hd_rules.specs.Facts.{Facts}
 use Rattle.hd_rules.specs.Desk.{Desk}
-use Rattle.hd_rules.specs.Choose.{may_have, candidate, choice, FirstCandidate}
+use Rattle.hd_rules.specs.Choose.{may_have, candidate, FirstCandidate}
+use Rattle.hd_rules.specs.Find.{choice}
 use Rattle.hd_rules.specs.Sound.{HoldsFit}
 use Rattle.hd_rules.proofs.Tests.{and_left, some_is}
 use Rattle.hd_rules.proofs.First.{choice_is_first}

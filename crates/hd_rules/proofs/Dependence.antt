@@ -6,16 +6,18 @@ use Rattle.hd_rules.specs.Words.{OnShelf, Answer, Survivor}
 use Rattle.hd_rules.specs.declared.questions.Answer.TheVariants as answers
 use Rattle.hd_rules.specs.Facts.{Facts}
 use Rattle.hd_rules.specs.Desk.{Desk}
-use Rattle.hd_rules.specs.Ask.{Plan, Ask, Refuse, Accept, answer, told}
+use Rattle.hd_rules.specs.Ask.{Plan, Ask, Refuse, Accept, answer}
+use Rattle.hd_rules.specs.Notes.{told_answer}
 use Rattle.hd_rules.specs.Same.{same_answer}
 use Rattle.hd_rules.specs.Step.{plan}
 use Rattle.hd_rules.specs.Run.{run}
-use Rattle.hd_rules.specs.Depends.{AnsweredAlike, AnsweredOtherwise, answered_otherwise, before, less, Depends, depends}
+use Rattle.hd_rules.specs.Depends.{AnsweredAlike, AnsweredOtherwise, before, less, Depends}
+use Rattle.hd_rules.specs.Searches.{answered_otherwise, depends}
 use Rattle.hd_rules.proofs.Same.{answer_self}
 use Rattle.hd_rules.proofs.Alike.{answer_is}
 
 -- what is told alike is answered alike
-answer_is_told : (k : Facts) (d e : Desk) (q : Question) → told k d q ≡ told k e q → answer k d q ≡ answer k e q
+answer_is_told : (k : Facts) (d e : Desk) (q : Question) → told_answer k d q ≡ told_answer k e q → answer k d q ≡ answer k e q
 answer_is_told k d e (ValueOf (CopyCell c)) h = cc
 answer_is_told k d e (ValueOf (HoldCell t p)) h = cc
 answer_is_told k d e (Choice c b day) h = cc
@@ -24,7 +26,7 @@ answer_is_told k d e (Room p) h = cc
 answer_is_told k d e (Position t stamp) h = cc
 answer_is_told k d e (OnShelf t kind pickup) h = cc
 
-told_is_answer : (k : Facts) (d e : Desk) (q : Question) → answer k d q ≡ answer k e q → told k d q ≡ told k e q
+told_is_answer : (k : Facts) (d e : Desk) (q : Question) → answer k d q ≡ answer k e q → told_answer k d q ≡ told_answer k e q
 told_is_answer k d e (ValueOf (CopyCell c)) h = ap (λ (s : CopyState). answers.Value (CopyHas s)) h
 told_is_answer k d e (ValueOf (HoldCell t p)) h = ap (λ (o : Option Hold). answers.Value (HoldHas o)) h
 told_is_answer k d e (Choice c b day) h = ap answers.Choice h
@@ -33,32 +35,32 @@ told_is_answer k d e (Room p) h = ap answers.Room h
 told_is_answer k d e (Position t stamp) h = ap answers.Position h
 told_is_answer k d e (OnShelf t kind pickup) h = ap answers.OnShelf h
 
-pub told_alike : (k : Facts) (d e : Desk) (q : Question) → (told k d q ≡ told k e q) ↔ (answer k d q ≡ answer k e q)
+pub told_alike : (k : Facts) (d e : Desk) (q : Question) → (told_answer k d q ≡ told_answer k e q) ↔ (answer k d q ≡ answer k e q)
 told_alike k d e q = (answer_is_told k d e q, told_is_answer k d e q)
 
 -- the test finds a question with another answer
 pub otherwise_is : (k : Facts) (d e : Desk) (p : Plan) → answered_otherwise k d e p ≡ true → AnsweredOtherwise k d e p
-otherwise_is k d e (Ask q rest) h = by_test (same_answer (told k d q) (told k e q)) refl h (otherwise_is k d e (rest (answer k d q)))
+otherwise_is k d e (Ask q rest) h = by_test (same_answer (told_answer k d q) (told_answer k e q)) refl h (otherwise_is k d e (rest (answer k d q)))
   where
-    by_test : (b : Bool) → same_answer (told k d q) (told k e q) ≡ b → cond b (answered_otherwise k d e (rest (answer k d q))) true ≡ true
+    by_test : (b : Bool) → same_answer (told_answer k d q) (told_answer k e q) ≡ b → cond b (answered_otherwise k d e (rest (answer k d q))) true ≡ true
         → (answered_otherwise k d e (rest (answer k d q)) ≡ true → AnsweredOtherwise k d e (rest (answer k d q)))
         → AnsweredOtherwise k d e (Ask q rest)
     by_test true is h more = inr (more h)
     by_test false is h more = inl (λ same.
-        let one : same_answer (told k d q) (told k e q) ≡ true =
-        subst (λ (a : Answer). same_answer (told k d q) a ≡ true) (told_is_answer k d e q same) (answer_self (told k d q)) in
+        let one : same_answer (told_answer k d q) (told_answer k e q) ≡ true =
+        subst (λ (a : Answer). same_answer (told_answer k d q) a ≡ true) (told_is_answer k d e q same) (answer_self (told_answer k d q)) in
         (let no : ⊥ = cc in no))
 otherwise_is k d e (Refuse r) h = cc
 otherwise_is k d e (Accept done) h = cc
 
 -- or else all are answered alike
 pub alike_is : (k : Facts) (d e : Desk) (p : Plan) → answered_otherwise k d e p ≡ false → AnsweredAlike k d e p
-alike_is k d e (Ask q rest) h = by_test (same_answer (told k d q) (told k e q)) refl h (alike_is k d e (rest (answer k d q)))
+alike_is k d e (Ask q rest) h = by_test (same_answer (told_answer k d q) (told_answer k e q)) refl h (alike_is k d e (rest (answer k d q)))
   where
-    by_test : (b : Bool) → same_answer (told k d q) (told k e q) ≡ b → cond b (answered_otherwise k d e (rest (answer k d q))) true ≡ false
+    by_test : (b : Bool) → same_answer (told_answer k d q) (told_answer k e q) ≡ b → cond b (answered_otherwise k d e (rest (answer k d q))) true ≡ false
         → (answered_otherwise k d e (rest (answer k d q)) ≡ false → AnsweredAlike k d e (rest (answer k d q)))
         → AnsweredAlike k d e (Ask q rest)
-    by_test true is h more = (answer_is_told k d e q (answer_is (told k d q) (told k e q) is), more h)
+    by_test true is h more = (answer_is_told k d e q (answer_is (told_answer k d q) (told_answer k e q) is), more h)
     by_test false is h more = cc
 alike_is k d e (Refuse r) h = tt
 alike_is k d e (Accept done) h = tt

@@ -7,12 +7,13 @@ use Rattle.hd_rules.specs.Words.{Refusal, Reply}
 use Rattle.hd_rules.specs.declared.commands.Action.TheVariants as action
 use Rattle.hd_rules.specs.Facts.{Facts, AreInRange}
 use Rattle.hd_rules.specs.Desk.{Desk}
-use Rattle.hd_rules.specs.Choose.{choice, has_expired, FirstCandidate}
+use Rattle.hd_rules.specs.Find.{choice}
+use Rattle.hd_rules.specs.Choose.{has_expired, FirstCandidate}
 use Rattle.hd_rules.specs.Ask.{Plan, Ask, Refuse, Accept, Done, AnswerTo, answer, outcome}
 use Rattle.hd_rules.specs.Same.{real_changes}
 use Rattle.hd_rules.specs.Settle.{tied_to, sent_home, sent_to, place_at, keep, with_copy, hold_becomes, allot, settle_tied, settle}
-use Rattle.hd_rules.specs.Step.{accept, due_day, last_day, lend, lent, lend_held, lend_from_shelf, cannot_renew, renew_loan, checkout_at}
-use Rattle.hd_rules.specs.Step.{ends_with, ended, freed, off_line_at, checkin, add, release, delete_with, delete, changed, change_to}
+use Rattle.hd_rules.specs.Step.{accept, due_day, last_day, lend, make_loan, lend_held, lend_from_shelf, cannot_renew, renew_loan, checkout_at}
+use Rattle.hd_rules.specs.Step.{ends_with, end_of_hold, release_of_hold, off_line_at, checkin, add, release, delete_with, delete, changed_hold, change_to}
 use Rattle.hd_rules.specs.Step.{change, renew_at, plan_of, plan}
 use Rattle.hd_rules.specs.Run.{IsAmong}
 use Rattle.hd_rules.specs.Known.{IsKnownCell, IsKnownKind, IsKnownChoice, IsKnownAction, IsKnownPatron, IsKnownCopy, IsKnownState}
@@ -87,7 +88,7 @@ lend_familiar k d p c day rest ok =
     asked (λ room told. either k d room _ _ (either k d (nat_lt last_day (due_day k c day)) _ _ refused ok) refused)
 
 lent_familiar : (k : Facts) (d : Desk) (n p c day : ℕ) (old : CopyState) (ends : List Change) → Given k d → p < k.patrons → c < k.copies
-    → EachFamiliar k ends → Familiar k d (lent k n p c day old ends)
+    → EachFamiliar k ends → Familiar k d (make_loan k n p c day old ends)
 lent_familiar k d n p c day old ends g in_p in_c ok = accepted k d n _ _ ((in_c, in_p), ok) (g.range.title_of c in_c)
 
 lend_held_familiar : (k : Facts) (d : Desk) (n p c day : ℕ) (old : CopyState) → Given k d → p < k.patrons → c < k.copies
@@ -136,7 +137,7 @@ hold_with : (k : Facts) (c : Option ℕ) (h : Hold) → IsKnownHold k h → IsKn
 hold_with k c h known in_c = record { patron = known.patron; kind = known.kind; pickup = known.pickup; copy = in_c }
 
 ended_familiar : (k : Facts) (c p : ℕ) (held : Option Hold) (gs : List Change) → k.title_of c < k.titles → p < k.patrons → EachFamiliar k gs
-    → EachFamiliar k (ended k c p held ++ gs)
+    → EachFamiliar k (end_of_hold k c p held ++ gs)
 ended_familiar k c p None gs in_t in_p ok = ok
 ended_familiar k c p (Some h) gs in_t in_p ok = by_test (ends_with k c h h.copy)
   where
@@ -144,7 +145,7 @@ ended_familiar k c p (Some h) gs in_t in_p ok = by_test (ends_with k c h h.copy)
     by_test true = (((in_t, in_p), tt), ok)
     by_test false = ok
 
-ended_alone : (k : Facts) (c p : ℕ) (held : Option Hold) → k.title_of c < k.titles → p < k.patrons → EachFamiliar k (ended k c p held)
+ended_alone : (k : Facts) (c p : ℕ) (held : Option Hold) → k.title_of c < k.titles → p < k.patrons → EachFamiliar k (end_of_hold k c p held)
 ended_alone k c p None in_t in_p = tt
 ended_alone k c p (Some h) in_t in_p = by_test (ends_with k c h h.copy)
   where
@@ -153,7 +154,7 @@ ended_alone k c p (Some h) in_t in_p = by_test (ends_with k c h h.copy)
     by_test false = tt
 
 freed_familiar : (k : Facts) (c q : ℕ) (other : Option Hold) → k.title_of c < k.titles → q < k.patrons → IsKnownHeld k other
-    → EachFamiliar k (freed k c q other)
+    → EachFamiliar k (release_of_hold k c q other)
 freed_familiar k c q None in_t in_q known = tt
 freed_familiar k c q (Some h) in_t in_q known = (((in_t, in_q), hold_with k None h known tt), tt)
 
@@ -272,7 +273,7 @@ change_familiar : (k : Facts) (d : Desk) (n t p : ℕ) (kind : Option HoldKind) 
     → Familiar k d (change k n t p kind pickup expiry day old)
 change_familiar k d n t p kind pickup expiry day None in_t in_p given known = refused
 change_familiar k d n t p kind pickup expiry day (Some h) in_t in_p given known =
-    change_to_familiar k d n t p expiry day h (changed kind pickup expiry h) h.copy in_t in_p (record {
+    change_to_familiar k d n t p expiry day h (changed_hold kind pickup expiry h) h.copy in_t in_p (record {
       patron = known.patron;
       kind = kind_known k kind pickup h.kind given known.kind;
       pickup = pickup_known k kind pickup h.pickup given known.pickup;

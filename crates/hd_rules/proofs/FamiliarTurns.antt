@@ -9,8 +9,9 @@ use Rattle.hd_rules.specs.Facts.{Facts, AreInRange}
 use Rattle.hd_rules.specs.Desk.{Desk, opening, put, after}
 use Rattle.hd_rules.specs.Ask.{Done}
 use Rattle.hd_rules.specs.Run.{IsAmong, outcome_of, changed_by, step, run_from}
-use Rattle.hd_rules.specs.Turns.{Message, Kept, State, start, kept_of, keeping, next_survivor, turn_of}
-use Rattle.hd_rules.specs.TurnRelation.{IsCommandTurn, IsCancelTurn, IsQueryTurn, IsNewTurn, IsTurn}
+use Rattle.hd_rules.specs.Turns.{Message, Kept, State, start, kept_of, keeping, next_survivor}
+use Rattle.hd_rules.specs.Machine.{turn_of}
+use Rattle.hd_rules.specs.Turns.{IsCommandTurn, IsCancelTurn, IsQueryTurn, IsNewTurn, IsTurn}
 use Rattle.hd_rules.specs.Journal.{Turn, state_after, IsLegalFrom, IsLegal, WasTold, IsRunOfSurvivors}
 use Rattle.hd_rules.specs.Known.{IsKnownCell, IsKnownAction, IsKnown, IsKnownState, IsKnownHeld, IsKnownValue, IsKnownDesk, IsKnownReply}
 use Rattle.hd_rules.specs.Known.{IsKnownTurnReply, IsKnownJournal}

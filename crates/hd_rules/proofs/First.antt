@@ -6,7 +6,8 @@ use Rattle.std.proofs.lemmas.Bool.{ltb-true, lt-ltb, le-ltb}
 use Rattle.hd_rules.specs.Words.{Hold}
 use Rattle.hd_rules.specs.Facts.{Facts}
 use Rattle.hd_rules.specs.Desk.{Desk}
-use Rattle.hd_rules.specs.Choose.{candidate, is_local, precedes, earlier, first_of, choice, FirstCandidate}
+use Rattle.hd_rules.specs.Choose.{candidate, is_local, precedes, FirstCandidate}
+use Rattle.hd_rules.specs.Find.{earlier, first_of, choice}
 use Rattle.hd_rules.proofs.Place.{last_or_below}
 use Rattle.hd_rules.proofs.Tests.{some_is}
 

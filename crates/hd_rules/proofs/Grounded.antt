@@ -10,7 +10,7 @@ use Rattle.hd_rules.specs.declared.commands.Action.TheVariants as action
 use Rattle.hd_rules.specs.Facts.{Facts}
 use Rattle.hd_rules.specs.Ask.{Plan, Ask, Refuse, Accept, AnswerTo}
 use Rattle.hd_rules.specs.Settle.{settle, settle_tied, allot, keep, tied_to, copy_becomes, hold_becomes}
-use Rattle.hd_rules.specs.Step.{accept, lend, lend_held, lend_from_shelf, cannot_renew, renew_loan, checkout_at, ends_with, ended, freed}
+use Rattle.hd_rules.specs.Step.{accept, lend, lend_held, lend_from_shelf, cannot_renew, renew_loan, checkout_at, ends_with, end_of_hold, release_of_hold}
 use Rattle.hd_rules.specs.Step.{lend_off_line, off_line_at, checkin, add, release, delete_with, delete, change_to, change, renew_at}
 use Rattle.hd_rules.specs.Step.{plan_of, plan}
 use Rattle.hd_rules.specs.Same.{real_changes}
@@ -172,7 +172,7 @@ checkout_grounded P k n p c may day (InTransit t) known = refused
 
 -- the changes of holds that an off-line loan makes: at most one of its patron's, and one of another's
 ended_known : (P : Cell → Value → Type 0) (k : Facts) (c : ℕ) (p : ℕ) (held : Option Hold) → P (HoldCell (k.title_of c) p) (HoldHas held)
-    → EachKnown 1 P (ended k c p held)
+    → EachKnown 1 P (end_of_hold k c p held)
 ended_known P k c p None known = tt
 ended_known P k c p (Some h) known = by_test (ends_with k c h h.copy)
   where
@@ -181,7 +181,7 @@ ended_known P k c p (Some h) known = by_test (ends_with k c h h.copy)
     by_test false = tt
 
 freed_known : (P : Cell → Value → Type 0) (k : Facts) (c : ℕ) (q : ℕ) (other : Option Hold) → P (HoldCell (k.title_of c) q) (HoldHas other)
-    → EachKnown 1 P (freed k c q other)
+    → EachKnown 1 P (release_of_hold k c q other)
 freed_known P k c q None known = tt
 freed_known P k c q (Some h) known = (known, tt)
 
@@ -198,11 +198,11 @@ off_line_at_grounded : (P : Cell → Value
     → Type 0) (k : Facts) (n : ℕ) (p : ℕ) (c : ℕ) (due : ℕ) (old : CopyState) (held : Option Hold) (tied : Option ℕ)
     → P (CopyCell c) (CopyHas old) → P (HoldCell (k.title_of c) p) (HoldHas held) → Grounded P (off_line_at k n p c due old held tied)
 off_line_at_grounded P k n p c due old held None copy hold =
-    lend_off_line_grounded P k n p c due old _ copy (one_more 1 P (ended k c p held) (ended_known P k c p held hold))
+    lend_off_line_grounded P k n p c due old _ copy (one_more 1 P (end_of_hold k c p held) (ended_known P k c p held hold))
 off_line_at_grounded P k n p c due old held (Some q) copy hold =
-    either P _ _ _ (lend_off_line_grounded P k n p c due old _ copy (one_more 1 P (ended k c p held) (ended_known P k c p held hold)))
+    either P _ _ _ (lend_off_line_grounded P k n p c due old _ copy (one_more 1 P (end_of_hold k c p held) (ended_known P k c p held hold)))
     (asked (λ other. lend_off_line_grounded _ k n p c due old _ (inl copy)
-    (known_both _ (ended k c p held) _ (ended_known _ k c p held (inl hold)) (freed_known _ k c q other (inr (refl, refl))))))
+    (known_both _ (end_of_hold k c p held) _ (ended_known _ k c p held (inl hold)) (freed_known _ k c q other (inr (refl, refl))))))
 
 checkin_grounded : (P : Cell → Value → Type 0) (k : Facts) (n : ℕ) (c : ℕ) (b : ℕ) (day : ℕ) → Grounded P (checkin k n c b day)
 unfolding IsGrounded

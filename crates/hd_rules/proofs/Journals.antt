@@ -11,8 +11,9 @@ use Rattle.hd_rules.specs.Ask.{Done}
 use Rattle.hd_rules.specs.Run.{IsAmong, outcome_of, changed_by, step, run, Rising, next_number}
 use Rattle.hd_rules.specs.Depends.{before, less, NoneDepends}
 use Rattle.hd_rules.specs.Target.{Split, IsTarget}
-use Rattle.hd_rules.specs.Turns.{Message, State, start, with_survivor, without, next_survivor, keeping, turn_of}
-use Rattle.hd_rules.specs.TurnRelation.{IsCommandTurn, IsCancelTurn, IsQueryTurn, IsNewTurn, IsTurn}
+use Rattle.hd_rules.specs.Turns.{Message, State, start, with_survivor, without, next_survivor, keeping}
+use Rattle.hd_rules.specs.Machine.{turn_of}
+use Rattle.hd_rules.specs.Turns.{IsCommandTurn, IsCancelTurn, IsQueryTurn, IsNewTurn, IsTurn}
 use Rattle.hd_rules.specs.Journal.{Turn, state_from, state_after, IsLegalFrom, IsLegal, replied_from, WasTold, RepliesStand}
 use Rattle.hd_rules.specs.Journal.{IsRunOfSurvivors}
 use Rattle.hd_rules.proofs.Splits.{among_left, among_right, among_either, before_split, less_split, rising_without}

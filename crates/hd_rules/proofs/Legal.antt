@@ -1,15 +1,14 @@
 -- What holds of a command that is accepted in a legal run.
-use Rattle.std.proofs.Common.{arith, ◌≡◌, sym, ◌∙◌, ap, subst, ◌<◌, ◌≤◌, ◌⊎◌, inl, inr, List, [], ◌∷◌, ◌++◌, append_assoc, Result, Ok}
+use Rattle.std.proofs.Common.{◌≡◌, sym, ◌∙◌, ap, subst, ◌⊎◌, inl, inr, List, [], ◌∷◌, ◌++◌, append_assoc, Result, Ok}
 use Rattle.hd_rules.specs.Words.{Survivor, Refusal}
 use Rattle.hd_rules.specs.Facts.{Facts}
-use Rattle.hd_rules.specs.Desk.{Desk, opening, undone}
+use Rattle.hd_rules.specs.Desk.{Desk, opening, take_back}
 use Rattle.hd_rules.specs.Ask.{Done}
-use Rattle.hd_rules.specs.Step.{plan}
 use Rattle.hd_rules.specs.Run.{IsAmong, outcome_of, changed_by, step, run_from, run, Rising, next_number, AreChanges}
-use Rattle.hd_rules.specs.Depends.{AnsweredOtherwise, before, less, Depends, NoneDepends}
+use Rattle.hd_rules.specs.Depends.{before, less, NoneDepends}
 use Rattle.hd_rules.specs.Laws.{IsAcceptedIn}
 use Rattle.hd_rules.proofs.Standing.{AllStand, EndAlike}
-use Rattle.hd_rules.proofs.Splits.{SplitAt, above, among_either, among_left, among_split, before_split, below, less_split, rising_after}
+use Rattle.hd_rules.proofs.Splits.{SplitAt, among_either, among_split, before_split, less_split}
 use Rattle.hd_rules.proofs.Splits.{rising_first, rising_without}
 use Rattle.hd_rules.proofs.Walk.{all_stand}
 use Rattle.hd_rules.specs.Sound.{EachBackIsFit}
@@ -69,7 +68,7 @@ differ_without k ss c done h =
     h.rising h.accepted
 
 pub undone_without : (k : Facts) (ss : List Survivor) (c : Survivor) (done : Done) → IsAcceptedIn k ss c done → NoneDepends k ss c
-    → undone done.changes (run k ss) ≡ run k (less c.number ss)
+    → take_back done.changes (run k ss) ≡ run k (less c.number ss)
 undone_without k ss c done h none = undone_is (run k ss) (run k (less c.number ss)) done.changes (differ_without k ss c done h none)
 
 changes_gentle : (k : Facts) (ss : List Survivor) (c : Survivor) (done : Done) → IsAcceptedIn k ss c done → AreGentle done.changes
@@ -174,47 +173,3 @@ outcomes_stand k ss c rising among none s h =
         subst (λ (xs : List Survivor). IsAmong s xs
         → outcome_of k (run k (before s.number xs)) s ≡ outcome_of k (run k (before s.number (older ++ c ∷ newer))) s) (sym e)
         (stand_split k older c newer r (all_stand k 1 older c newer r no_one) s)
-
--- what depends among the first ones depends among all
-depends_before : (k : Facts) (xs : List Survivor) (d : Survivor) (ys : List Survivor) (c x : Survivor) → Rising 1 (xs ++ d ∷ ys)
-    → IsAmong x xs → Depends k xs c x → Depends k (xs ++ d ∷ ys) c x
-depends_before k xs d ys c x rising among dep =
-    subst (λ (zs : List Survivor). AnsweredOtherwise k (run k zs) (run k (less c.number zs)) (plan k x.number x.command))
-    (sym (before_more xs (d ∷ ys) x rising among)) dep
-
-differ_at : (k : Facts) (xs : List Survivor) (d : Survivor) (ys : List Survivor) (c : Survivor) (done : Done)
-    → IsAcceptedIn k (xs ++ d ∷ ys) c done → c.number < d.number
-    → ((x : Survivor) → IsAmong x (xs ++ d ∷ ys) → c.number < x.number → x.number < d.number → Depends k (xs ++ d ∷ ys) c x → ⊥)
-    → DifferBy done.changes (run k (before d.number (xs ++ d ∷ ys))) (run k (less c.number (before d.number (xs ++ d ∷ ys))))
-differ_at k xs d ys c done h lt none =
-    subst (λ (zs : List Survivor). DifferBy done.changes (run k zs) (run k (less c.number zs))) (sym (before_split 1 xs d ys h.rising))
-    (differ_without k xs c done accepted
-    (λ x among later dep.
-    none x (among_left x xs (d ∷ ys) among) later (below 1 xs d ys x h.rising among) (depends_before k xs d ys c x h.rising among dep)))
-  where
-    among : IsAmong c xs
-    among = cases (among_either c xs (d ∷ ys) h.among)
-      where
-        cases : IsAmong c xs ⊎ IsAmong c (d ∷ ys) → IsAmong c xs
-        cases (inl left) = left
-        cases (inr right) = let up : d.number ≤ c.number =
-            above d.number c (d ∷ ys) ((let le : d.number ≤ d.number = omega arith in le), rising_after 1 xs d ys h.rising) right in
-            absurd (let no_ : ⊥ = omega arith in no_)
-
-    accepted : IsAcceptedIn k xs c done
-    accepted = record {
-      rising = rising_first 1 xs (d ∷ ys) h.rising;
-      among = among;
-      accepted = subst (λ (zs : List Survivor). outcome_of k (run k zs) c ≡ Ok done) (before_more xs (d ∷ ys) c h.rising among) h.accepted;
-    }
-
--- before each later survivor, where none in between depends, the desks with and without the command differ by its changes
-pub earlier_desks_differ : (k : Facts) (ss : List Survivor) (c : Survivor) (done : Done) (d : Survivor) → IsAcceptedIn k ss c done
-    → IsAmong d ss → c.number < d.number
-    → ((x : Survivor) → IsAmong x ss → c.number < x.number → x.number < d.number → Depends k ss c x → ⊥)
-    → DifferBy done.changes (run k (before d.number ss)) (run k (less c.number (before d.number ss)))
-earlier_desks_differ k ss c done d h among =
-    on_split (λ zs. IsAcceptedIn k zs c done → c.number < d.number
-    → ((x : Survivor) → IsAmong x zs → c.number < x.number → x.number < d.number → Depends k zs c x → ⊥)
-    → DifferBy done.changes (run k (before d.number zs)) (run k (less c.number (before d.number zs)))) d ss among
-    (λ older newer. differ_at k older d newer c done) h

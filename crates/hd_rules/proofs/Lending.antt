@@ -4,9 +4,10 @@ use Rattle.std.specs.Prelude.{nat_lt}
 use Rattle.hd_rules.specs.Words.{Hold, HoldKind, Loan, CopyState, Shelf, OnLoan, OnHoldShelf, InTransit, HoldCell, HoldHas}
 use Rattle.hd_rules.specs.Facts.{Facts}
 use Rattle.hd_rules.specs.Desk.{Desk, put}
-use Rattle.hd_rules.specs.Choose.{choice, has_expired}
+use Rattle.hd_rules.specs.Find.{choice}
+use Rattle.hd_rules.specs.Choose.{has_expired}
 use Rattle.hd_rules.specs.Ask.{Plan}
-use Rattle.hd_rules.specs.Step.{lend, lend_held, lend_from_shelf, cannot_renew, renew_loan, last_day, due_day, checkout_at, add, changed}
+use Rattle.hd_rules.specs.Step.{lend, lend_held, lend_from_shelf, cannot_renew, renew_loan, last_day, due_day, checkout_at, add, changed_hold}
 use Rattle.hd_rules.specs.Step.{change_to, change, renew_at}
 use Rattle.hd_rules.specs.Sound.{Tied, Sound}
 use Rattle.hd_rules.proofs.Ties.{Loose, loose_untied, tie_edit, loose_edit, loosen}
@@ -101,4 +102,4 @@ pub change_leads : (k : Facts) (n : ℕ) (d : Desk) (t : ℕ) (p : ℕ) (kind : 
     (old : Option Hold) → Sound k n d → d.hold t p ≡ old → Leads k (n + 1) d (change k n t p kind pickup expiry day old)
 change_leads k n d t p kind pickup expiry day None sound was = refused
 change_leads k n d t p kind pickup expiry day (Some h) sound was =
-    change_to_leads k n d t p expiry day h (changed kind pickup expiry h) h.copy sound was refl refl refl refl
+    change_to_leads k n d t p expiry day h (changed_hold kind pickup expiry h) h.copy sound was refl refl refl refl

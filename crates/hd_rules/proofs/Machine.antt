@@ -10,12 +10,17 @@ use Rattle.hd_rules.specs.Desk.{after}
 use Rattle.hd_rules.specs.Ask.{Done}
 use Rattle.hd_rules.specs.Same.{same_asked, same_line}
 use Rattle.hd_rules.specs.Run.{outcome_of, Rising}
-use Rattle.hd_rules.specs.Depends.{NoneDepends, IsLeastDependent, first_dependent}
-use Rattle.hd_rules.specs.Target.{Split, IsTarget, target}
-use Rattle.hd_rules.specs.Turns.{Message, Kept, State, Answered, repeated_of, repeated, with_survivor, without, next_survivor}
-use Rattle.hd_rules.specs.Turns.{answered_command, answered_target, answered_cancel, keeping, with_kept, answered_new, answered_unless}
-use Rattle.hd_rules.specs.Turns.{turn_of, IsRepeat}
-use Rattle.hd_rules.specs.TurnRelation.{IsCommandTurn, IsRefusedCancel, IsCancelTurn, IsQueryTurn, IsNewTurn, IsTurn}
+use Rattle.hd_rules.specs.Depends.{NoneDepends, IsLeastDependent}
+use Rattle.hd_rules.specs.Searches.{first_dependent}
+use Rattle.hd_rules.specs.Target.{Split, IsTarget}
+use Rattle.hd_rules.specs.Searches.{target}
+use Rattle.hd_rules.specs.Turns.{Message, Kept, State, Answered, with_survivor, without, next_survivor}
+use Rattle.hd_rules.specs.Machine.{kept_reply, reply_again}
+use Rattle.hd_rules.specs.Machine.{answered_command, answered_target, answered_cancel, with_kept, answered_new, answered_unless}
+use Rattle.hd_rules.specs.Turns.{keeping}
+use Rattle.hd_rules.specs.Machine.{turn_of}
+use Rattle.hd_rules.specs.Turns.{IsRepeat}
+use Rattle.hd_rules.specs.Turns.{IsCommandTurn, IsRefusedCancel, IsCancelTurn, IsQueryTurn, IsNewTurn, IsTurn}
 use Rattle.hd_rules.proofs.Tests.{and_left, and_right, some_is}
 use Rattle.hd_rules.proofs.Same.{asked_self, line_self}
 use Rattle.hd_rules.proofs.Alike.{asked_is, line_is}
@@ -30,7 +35,7 @@ record RepeatOf (o : Option Kept) (asked : Asked) (line : Option (List ℕ)) (re
   pub as_line : line ≡ Some kept.line
   pub again : reply ≡ kept.reply
 
-repeat_of : (o : Option Kept) (asked : Asked) (line : Option (List ℕ)) (reply : TurnReply) → repeated_of o asked line ≡ Some reply
+repeat_of : (o : Option Kept) (asked : Asked) (line : Option (List ℕ)) (reply : TurnReply) → kept_reply o asked line ≡ Some reply
     → RepeatOf o asked line reply
 repeat_of None asked line reply is = cc
 repeat_of (Some kept) asked None reply is = cc
@@ -47,26 +52,26 @@ repeat_of (Some kept) asked (Some line) reply is = by_test (same_asked kept.aske
     }
     by_test false same is = cc
 
-pub repeated_is : (s : State) (m : Message) (reply : TurnReply) → repeated s m ≡ Some reply → IsRepeat s m reply
+pub repeated_is : (s : State) (m : Message) (reply : TurnReply) → reply_again s m ≡ Some reply → IsRepeat s m reply
 repeated_is s m reply is =
     let r : RepeatOf (s.kept m.terminal) m.asked m.line reply = repeat_of (s.kept m.terminal) m.asked m.line reply is in
     record { kept = r.kept; is_kept = r.is_kept; asked = r.as_asked; line = r.as_line; again = r.again }
 
-of_kept : (kept : Kept) → repeated_of (Some kept) kept.asked (Some kept.line) ≡ Some kept.reply
+of_kept : (kept : Kept) → kept_reply (Some kept) kept.asked (Some kept.line) ≡ Some kept.reply
 of_kept kept = rw (asked_self kept.asked, line_self kept.line) refl
 
-pub is_repeated : (s : State) (m : Message) (reply : TurnReply) → IsRepeat s m reply → repeated s m ≡ Some reply
+pub is_repeated : (s : State) (m : Message) (reply : TurnReply) → IsRepeat s m reply → reply_again s m ≡ Some reply
 is_repeated s m reply h =
-    ap (λ (o : Option Kept). repeated_of o m.asked m.line) h.is_kept
-    ∙ ap (λ (line : Option (List ℕ)). repeated_of (Some h.kept) m.asked line) h.line
-    ∙ ap (λ (a : Asked). repeated_of (Some h.kept) a (Some h.kept.line)) (sym h.asked)
+    ap (λ (o : Option Kept). kept_reply o m.asked m.line) h.is_kept
+    ∙ ap (λ (line : Option (List ℕ)). kept_reply (Some h.kept) m.asked line) h.line
+    ∙ ap (λ (a : Asked). kept_reply (Some h.kept) a (Some h.kept.line)) (sym h.asked)
     ∙ of_kept h.kept
     ∙ ap (λ (r : TurnReply). Some r) (sym h.again)
 
-pub not_repeated : (s : State) (m : Message) → ((old : TurnReply) → IsRepeat s m old → ⊥) → repeated s m ≡ None
-not_repeated s m none = cases (repeated s m) refl
+pub not_repeated : (s : State) (m : Message) → ((old : TurnReply) → IsRepeat s m old → ⊥) → reply_again s m ≡ None
+not_repeated s m none = cases (reply_again s m) refl
   where
-    cases : (o : Option TurnReply) → repeated s m ≡ o → o ≡ None
+    cases : (o : Option TurnReply) → reply_again s m ≡ o → o ≡ None
     cases None is = refl
     cases (Some reply) is = absurd (none reply (repeated_is s m reply is))
 
@@ -207,9 +212,9 @@ new_turn k s m (ask.Cancel what) rising = cancel_turn k s m what rising (target 
 new_turn k s m (ask.Item c) rising = (refl, refl)
 
 pub machine_turns : (k : Facts) (s : State) (m : Message) → Rising 1 s.survivors → IsTurn k s m (turn_of k s m).reply (turn_of k s m).state
-machine_turns k s m rising = cases (repeated s m) refl
+machine_turns k s m rising = cases (reply_again s m) refl
   where
-    cases : (o : Option TurnReply) → repeated s m ≡ o → IsTurn k s m (answered_unless k s m o).reply (answered_unless k s m o).state
+    cases : (o : Option TurnReply) → reply_again s m ≡ o → IsTurn k s m (answered_unless k s m o).reply (answered_unless k s m o).state
     cases (Some reply) is = inl (repeated_is s m reply is, refl)
     cases None is =
         inr (

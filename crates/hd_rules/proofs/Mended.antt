@@ -10,7 +10,8 @@ use Rattle.hd_rules.specs.Ask.{Plan, asks}
 use Rattle.hd_rules.specs.Step.{plan}
 use Rattle.hd_rules.specs.Run.{IsAmong, run, Rising}
 use Rattle.hd_rules.specs.Depends.{AnsweredOtherwise, AnsweredAlike, before, less, NoneDepends}
-use Rattle.hd_rules.specs.Record.{note, findings, noted_at, Record, IsRecord, mended}
+use Rattle.hd_rules.specs.Notes.{note}
+use Rattle.hd_rules.specs.Record.{findings, noted_at, Record, IsRecord, mended_record}
 use Rattle.hd_rules.proofs.Tests.{number_not, other_number}
 use Rattle.hd_rules.proofs.Splits.{keeps, drops, less_before}
 use Rattle.hd_rules.proofs.Undo.{same_asks}
@@ -82,7 +83,7 @@ other_of m n is e = by_test (m == n) refl is
 
 pub records_stand : (k : Facts) (ss : List Survivor) (c : Survivor) → Rising 1 ss → IsAmong c ss → NoneDepends k ss c
     → (s : Survivor) (r : Record) → IsAmong s (less c.number ss) → IsRecord k ss s r
-    → IsRecord k (less c.number ss) s (mended k (run k (before s.number (less c.number ss))) r)
+    → IsRecord k (less c.number ss) s (mended_record k (run k (before s.number (less c.number ss))) r)
 records_stand k ss c rising in_c none s r among is =
     let d : Desk = run k (before s.number ss) in
     let e : Desk = run k (before s.number (less c.number ss)) in

@@ -1,7 +1,8 @@
 -- The search for a target finds the newest, and the only one.
 use Rattle.std.proofs.Common.{◌≡◌, refl, ◌∙◌, ap, subst, ℕ, Bool, true, false, cond, ◌↔◌, List, [], ◌∷◌, ◌++◌, Option, Some, None}
 use Rattle.hd_rules.specs.Words.{Cancel, Survivor}
-use Rattle.hd_rules.specs.Target.{Split, is_target, NoTarget, IsTarget, newest_of, target}
+use Rattle.hd_rules.specs.Target.{Split, is_target, NoTarget, IsTarget}
+use Rattle.hd_rules.specs.Searches.{newest_of, target}
 use Rattle.hd_rules.proofs.Tests.{some_is}
 
 none_fits : (t : ℕ) (what : Cancel) (ss : List Survivor) → target t what ss ≡ None → NoTarget t what ss

@@ -6,7 +6,7 @@ use Rattle.hd_rules.specs.Facts.{Facts}
 use Rattle.hd_rules.specs.Desk.{Desk, put}
 use Rattle.hd_rules.specs.Choose.{admits}
 use Rattle.hd_rules.specs.Settle.{tied_to, copy_becomes, hold_becomes, with_copy}
-use Rattle.hd_rules.specs.Step.{ends_with, ended, freed, lend_off_line, off_line_at}
+use Rattle.hd_rules.specs.Step.{ends_with, end_of_hold, release_of_hold, lend_off_line, off_line_at}
 use Rattle.hd_rules.specs.Sound.{Has, Tied, Tie, Sound}
 use Rattle.hd_rules.proofs.Puts.{hold_cases}
 use Rattle.hd_rules.proofs.Ties.{Untied, bare_has, tied_one, tied_as, Loose, loose_untied, tie_edit, loose_edit, loosen}
@@ -18,7 +18,7 @@ use Rattle.hd_rules.proofs.Tests.{number_is, number_not, some_is}
 -- what an off-line loan does to its patron's hold: nothing, and then it doesn't have the copy, or it ends
 ended_cases : (P : List Change → Type 0) (k : Facts) (c : ℕ) (p : ℕ) (held : Option Hold) → (((b : ℕ) → Has held c b → ⊥) → P [])
     → ((h : Hold) → held ≡ Some h → (h.copy ≡ None) ⊎ (h.copy ≡ Some c) → P (hold_becomes (k.title_of c) p (Some h) None ∷ []))
-    → P (ended k c p held)
+    → P (end_of_hold k c p held)
 ended_cases P k c p None stays ends = stays (λ b h. h)
 ended_cases P k c p (Some h) stays ends = by_copy h.copy refl
   where
@@ -44,7 +44,7 @@ loose_end k c d p h tie was free (inr has) =
 
 -- a copy that was tied to nobody
 free_leads : (k : Facts) (n : ℕ) (d : Desk) (p : ℕ) (c : ℕ) (due : ℕ) (old : CopyState) (held : Option Hold) → Sound k n d → d.copy c ≡ old
-    → d.hold (k.title_of c) p ≡ held → Untied (d.copy c) → Leads k (n + 1) d (lend_off_line k n p c due old (ended k c p held))
+    → d.hold (k.title_of c) p ≡ held → Untied (d.copy c) → Leads k (n + 1) d (lend_off_line k n p c due old (end_of_hold k c p held))
 free_leads k n d p c due old held sound was has free =
     ended_cases (λ holds. Leads k (n + 1) d (lend_off_line k n p c due old holds)) k c p held
     (λ none.
@@ -57,7 +57,7 @@ free_leads k n d p c due old held sound was has free =
 -- a copy that was tied to the patron
 own_leads : (k : Facts) (n : ℕ) (d : Desk) (p : ℕ) (c : ℕ) (due : ℕ) (old : CopyState) (held : Option Hold) (a : ℕ) → Sound k n d
     → d.copy c ≡ old → d.hold (k.title_of c) p ≡ held → Tied (d.copy c) p a
-    → Leads k (n + 1) d (lend_off_line k n p c due old (ended k c p held))
+    → Leads k (n + 1) d (lend_off_line k n p c due old (end_of_hold k c p held))
 own_leads k n d p c due old held a sound was has tied =
     ended_cases (λ holds. Leads k (n + 1) d (lend_off_line k n p c due old holds)) k c p held
     (λ none. absurd (none a (subst (λ (o : Option Hold). Has o c a) has (sound.tie.has p c a tied))))
@@ -73,11 +73,11 @@ and_false false b h = refl
 -- a copy that was tied to another patron q, whose hold goes on without it
 freed_leads : (k : Facts) (n : ℕ) (d : Desk) (p q : ℕ) (c : ℕ) (due : ℕ) (old : CopyState) (held other : Option Hold) (a : ℕ) → Sound k n d
     → d.copy c ≡ old → d.hold (k.title_of c) p ≡ held → d.hold (k.title_of c) q ≡ other → (q == p) ≡ false → Tied (d.copy c) q a
-    → Leads k (n + 1) d (lend_off_line k n p c due old (ended k c p held ++ freed k c q other))
+    → Leads k (n + 1) d (lend_off_line k n p c due old (end_of_hold k c p held ++ release_of_hold k c q other))
 freed_leads k n d p q c due old held None a sound was has its apart tied =
     absurd (subst (λ (o : Option Hold). Has o c a) its (sound.tie.has q c a tied))
 freed_leads k n d p q c due old held (Some g) a sound was has its apart tied =
-    ended_cases (λ holds. Leads k (n + 1) d (lend_off_line k n p c due old (holds ++ freed k c q (Some g)))) k c p held
+    ended_cases (λ holds. Leads k (n + 1) d (lend_off_line k n p c due old (holds ++ release_of_hold k c q (Some g)))) k c p held
     (λ none.
     accepted_both k n (n + 1) d c old (OnLoan _) (k.title_of c) q (Some g) (Some (with_copy None g)) _ was its
     (λ h is. follows_with None (Some g) g h refl is)
@@ -96,11 +96,11 @@ freed_leads k n d p q c due old held (Some g) a sound was has its apart tied =
         (λ other. its)
 
     both : (h : Hold) → held ≡ Some h → (h.copy ≡ None) ⊎ (h.copy ≡ Some c)
-        → Leads k (n + 1) d (lend_off_line k n p c due old (hold_becomes (k.title_of c) p (Some h) None ∷ freed k c q (Some g)))
+        → Leads k (n + 1) d (lend_off_line k n p c due old (hold_becomes (k.title_of c) p (Some h) None ∷ release_of_hold k c q (Some g)))
     both h is (inl none) =
         accepted k n (n + 1) d
         (copy_becomes c old (OnLoan (record { patron = p; due = due; renewals = 0 })) ∷ hold_becomes (k.title_of c) p (Some h) None
-        ∷ freed k c q (Some g)) _
+        ∷ release_of_hold k c q (Some g)) _
         (ap CopyHas was, tt, (refl, (refl, tt)), (ap HoldHas (has ∙ is), tt, (and_false _ _ apart, tt), (ap HoldHas its, tt, tt, tt)))
         (inr ((tt, (none_follows (Some h), ((λ v is. follows_with None (Some g) g v refl is), tt))), (tt, (tt, tt))))
         (loan_sound k n

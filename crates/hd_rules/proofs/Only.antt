@@ -5,7 +5,8 @@ use Rattle.std.proofs.lemmas.Bool.{ltb-false}
 use Rattle.hd_rules.specs.Words.{Hold}
 use Rattle.hd_rules.specs.Facts.{Facts}
 use Rattle.hd_rules.specs.Desk.{Desk}
-use Rattle.hd_rules.specs.Choose.{is_local, precedes, choice, place, FirstCandidate, stands_at, LeastFree}
+use Rattle.hd_rules.specs.Choose.{is_local, precedes, FirstCandidate, stands_at, LeastFree}
+use Rattle.hd_rules.specs.Find.{choice, place}
 use Rattle.hd_rules.specs.Sound.{IsFit}
 use Rattle.hd_rules.proofs.Chosen.{candidate_is}
 use Rattle.hd_rules.proofs.First.{choice_is_first}

@@ -1,6 +1,6 @@
 -- The changes of a command lead through fit desks.
 use Rattle.std.proofs.Common.{◌≡◌, refl, sym, ◌∙◌, subst, ℕ, ◌+◌, inl, inr, List, [], ◌∷◌, Some, Ok}
-use Rattle.hd_rules.specs.Words.{Hold, Cell, CopyCell, HoldCell, Value, CopyHas, HoldHas, Change, Survivor, Command}
+use Rattle.hd_rules.specs.Words.{Hold, Cell, CopyCell, HoldCell, Value, CopyHas, HoldHas, Change, Command}
 use Rattle.hd_rules.specs.Facts.{Facts}
 use Rattle.hd_rules.specs.Desk.{Desk, value, put, after}
 use Rattle.hd_rules.specs.Ask.{Done, outcome}

@@ -6,7 +6,8 @@ use Rattle.std.proofs.lemmas.Bool.{eqb-true}
 use Rattle.hd_rules.specs.Words.{HoldPlace, CopyState, Shelf, OnLoan, OnHoldShelf, InTransit}
 use Rattle.hd_rules.specs.Facts.{Facts}
 use Rattle.hd_rules.specs.Desk.{Desk}
-use Rattle.hd_rules.specs.Choose.{count_below, stands_at, is_free, free_from, place_there, highest, place, LeastFree}
+use Rattle.hd_rules.specs.Choose.{count_below, stands_at, LeastFree}
+use Rattle.hd_rules.specs.Find.{is_free, free_from, place_there, highest, place}
 use Rattle.hd_rules.proofs.Fits.{Welcome}
 use Rattle.hd_rules.proofs.Tests.{and_left, and_right, both_true, number_is}
 

@@ -1,9 +1,9 @@
 -- Every desk that a legal run leads to is sound, and what follows from it.
-use Rattle.std.proofs.Common.{arith, ◌≡◌, refl, ◌∙◌, ap, ℕ, ◌+◌, ◌≤◌, List, [], ◌∷◌, ◌++◌, Result, Ok, Err}
+use Rattle.std.proofs.Common.{arith, ◌≡◌, refl, ap, ℕ, ◌+◌, ◌≤◌, List, [], ◌∷◌, ◌++◌, Result, Ok, Err}
 use Rattle.hd_rules.specs.Words.{Action, Refusal, Survivor}
 use Rattle.hd_rules.specs.declared.commands.Action.TheVariants as action
 use Rattle.hd_rules.specs.Facts.{Facts}
-use Rattle.hd_rules.specs.Desk.{Desk, opening, after, undone}
+use Rattle.hd_rules.specs.Desk.{Desk, opening, after}
 use Rattle.hd_rules.specs.Ask.{Done}
 use Rattle.hd_rules.specs.Settle.{tied_to}
 use Rattle.hd_rules.specs.Step.{plan, plan_of}
@@ -16,10 +16,8 @@ use Rattle.hd_rules.proofs.Lending.{checkout_leads, add_leads, change_leads, ren
 use Rattle.hd_rules.proofs.OffLine.{off_line_leads}
 use Rattle.hd_rules.proofs.Returns.{checkin_leads, delete_leads}
 use Rattle.hd_rules.specs.Differ.{DifferBy}
-use Rattle.hd_rules.proofs.Undo.{undone_is}
 use Rattle.hd_rules.proofs.Cancelling.{runs_differ}
 use Rattle.hd_rules.proofs.Gentle.{AreGentle}
-use Rattle.std.proofs.lemmas.List.{append-nil}
 
 pub plan_leads : (k : Facts) (n : ℕ) (d : Desk) (day : ℕ) (a : Action) → Sound k n d → Leads k (n + 1) d (plan_of k n day a)
 plan_leads k n d day (action.Checkout p c may_renew) sound = asked (λ old told. checkout_leads k n d p c may_renew day old sound told)
@@ -88,13 +86,6 @@ pub differ : (k : Facts) (n : ℕ) (before later : List Survivor) (c : Survivor)
     → DifferBy done.changes (run k (before ++ c ∷ later)) (run k (before ++ later))
 differ k n before later c done rising is stand =
     runs_differ k before later c done is (reachable_changes k n before later c done rising is) stand
-
--- accepted, and then cancelled at once
-pub cancelled_at_once : (k : Facts) (n : ℕ) (before : List Survivor) (c : Survivor) (done : Done) → Rising n (before ++ c ∷ [])
-    → outcome_of k (run k before) c ≡ Ok done → undone done.changes (run k (before ++ c ∷ [])) ≡ run k before
-cancelled_at_once k n before c done rising is =
-    undone_is (run k (before ++ c ∷ [])) (run k (before ++ [])) done.changes (differ k n before [] c done rising is tt)
-    ∙ ap (run k) (append-nil before)
 
 -- its changes are gentle
 pub reachable_gentle : (k : Facts) (n : ℕ) (before later : List Survivor) (c : Survivor) (done : Done) → Rising n (before ++ c ∷ later)

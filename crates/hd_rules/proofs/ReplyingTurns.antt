@@ -1,13 +1,14 @@
 -- Each message of a legal journal gets a reply of its kind.
-use Rattle.std.proofs.Common.{◌≡◌, sym, ◌∙◌, ap, subst, ℕ, ◌⊎◌, inl, inr, Bool, true, false, ◌==◌, cond, List, [], ◌∷◌, ◌++◌, Option, Some}
+use Rattle.std.proofs.Common.{◌≡◌, sym, subst, ℕ, ◌⊎◌, inl, inr, Bool, true, false, ◌==◌, cond, List, [], ◌∷◌, ◌++◌, Option, Some}
 use Rattle.std.proofs.Common.{None}
 use Rattle.hd_rules.specs.Words.{Command, Cancel, Asked, TurnReply}
 use Rattle.hd_rules.specs.declared.turns.Asked.TheVariants as ask
 use Rattle.hd_rules.specs.declared.replies.TurnReply.TheVariants.{Done as Accepted, Refused, Cancelled, Item}
 use Rattle.hd_rules.specs.Facts.{Facts}
 use Rattle.hd_rules.specs.Run.{IsAmong}
-use Rattle.hd_rules.specs.Turns.{Message, Kept, State, start, kept_of, keeping, next_survivor, turn_of}
-use Rattle.hd_rules.specs.TurnRelation.{IsCommandTurn, IsCancelTurn, IsQueryTurn, IsNewTurn, IsTurn}
+use Rattle.hd_rules.specs.Turns.{Message, Kept, State, start, kept_of, keeping, next_survivor}
+use Rattle.hd_rules.specs.Machine.{turn_of}
+use Rattle.hd_rules.specs.Turns.{IsCommandTurn, IsCancelTurn, IsQueryTurn, IsNewTurn, IsTurn}
 use Rattle.hd_rules.specs.Journal.{Turn, IsLegalFrom, IsLegal, IsRunOfSurvivors}
 use Rattle.hd_rules.specs.Replies.{TellsOf, IsReplyTo}
 use Rattle.hd_rules.proofs.Tests.{some_is}

@@ -5,7 +5,7 @@ use Rattle.hd_rules.specs.Words.{Hold, HoldPlace, CopyState, Shelf, OnLoan, OnHo
 use Rattle.hd_rules.specs.Words.{Change, Returned, Deleted}
 use Rattle.hd_rules.specs.Facts.{Facts}
 use Rattle.hd_rules.specs.Desk.{Desk, put}
-use Rattle.hd_rules.specs.Choose.{choice}
+use Rattle.hd_rules.specs.Find.{choice}
 use Rattle.hd_rules.specs.Ask.{Plan}
 use Rattle.hd_rules.specs.Settle.{settle, settle_tied, allot, keep, place_at, sent_home, sent_to, tied_to, copy_becomes, hold_becomes}
 use Rattle.hd_rules.specs.Settle.{with_copy}

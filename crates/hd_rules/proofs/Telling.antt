@@ -1,5 +1,5 @@
 -- What the reply to an accepted command tells of.
-use Rattle.std.proofs.Common.{◌≡◌, sym, subst, ℕ, Bool, true, false, ◌==◌, if◌then◌else◌, List, [], ◌∷◌, Option, Some, None, Result, Ok}
+use Rattle.std.proofs.Common.{◌≡◌, subst, ℕ, Bool, true, false, ◌==◌, if◌then◌else◌, List, [], Option, Some, None, Ok}
 use Rattle.std.specs.Prelude.{nat_lt}
 use Rattle.hd_rules.specs.Words.{Hold, HoldKind, Loan, CopyState, Shelf, OnLoan, OnHoldShelf, InTransit, Change, Question, Action, Refusal}
 use Rattle.hd_rules.specs.Words.{Reply}
@@ -9,7 +9,7 @@ use Rattle.hd_rules.specs.Desk.{Desk}
 use Rattle.hd_rules.specs.Choose.{has_expired}
 use Rattle.hd_rules.specs.Ask.{Plan, Ask, Refuse, Accept, Done, AnswerTo, answer, outcome}
 use Rattle.hd_rules.specs.Settle.{tied_to, place_at, keep, allot, settle_tied, settle}
-use Rattle.hd_rules.specs.Step.{accept, due_day, last_day, lend, lent, lend_held, lend_from_shelf, cannot_renew, renew_loan, checkout_at}
+use Rattle.hd_rules.specs.Step.{accept, due_day, last_day, lend, lend_held, lend_from_shelf, cannot_renew, renew_loan, checkout_at}
 use Rattle.hd_rules.specs.Step.{off_line_at, checkin, add, release, delete_with, delete, change_to, change, renew_at, plan_of}
 use Rattle.hd_rules.specs.Replies.{TellsOf}
 use Rattle.hd_rules.proofs.Tests.{done_is}

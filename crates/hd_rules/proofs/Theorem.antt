@@ -9,11 +9,16 @@ use Rattle.hd_rules.specs.Facts.{Facts}
 use Rattle.hd_rules.specs.Desk.{after}
 use Rattle.hd_rules.specs.Ask.{Done}
 use Rattle.hd_rules.specs.Run.{outcome_of, run, Rising}
-use Rattle.hd_rules.specs.Depends.{less, NoneDepends, IsLeastDependent, first_dependent}
-use Rattle.hd_rules.specs.Target.{Split, is_of_kind, is_target, IsTarget, target}
-use Rattle.hd_rules.specs.Turns.{Message, State, Answered, start, kept_of, repeated_of, repeated, with_survivor, without, next_survivor}
-use Rattle.hd_rules.specs.Turns.{answered_command, answered_target, answered_cancel, keeping, with_kept, answered_new, answered_unless}
-use Rattle.hd_rules.specs.Turns.{turn_of, IsRepeat}
+use Rattle.hd_rules.specs.Depends.{less, NoneDepends, IsLeastDependent}
+use Rattle.hd_rules.specs.Searches.{first_dependent}
+use Rattle.hd_rules.specs.Target.{Split, is_of_kind, is_target, IsTarget}
+use Rattle.hd_rules.specs.Searches.{target}
+use Rattle.hd_rules.specs.Turns.{Message, State, Answered, start, kept_of, with_survivor, without, next_survivor}
+use Rattle.hd_rules.specs.Machine.{kept_reply, reply_again}
+use Rattle.hd_rules.specs.Machine.{answered_command, answered_target, answered_cancel, with_kept, answered_new, answered_unless}
+use Rattle.hd_rules.specs.Turns.{keeping}
+use Rattle.hd_rules.specs.Machine.{turn_of}
+use Rattle.hd_rules.specs.Turns.{IsRepeat}
 use Rattle.hd_rules.specs.Journal.{Turn, state_from, state_after, IsLegalFrom, IsLegal, RepliesStand, IsRunOfSurvivors}
 use Rattle.hd_rules.specs.Headline.{AllQueries, IsCancelledAtOnce, LeavesTheDesk, IsRunWithout, IsCancellation, IsDecided, IsRepeated}
 use Rattle.hd_rules.specs.Headline.{Headline, IsAimless, IsNothingToCancel}
@@ -25,7 +30,7 @@ use Rattle.hd_rules.proofs.Journals.{legal_is_run, legal_parts, state_joined, Le
 
 -- a query leaves the state, whatever it is answered
 query_leaves : (k : Facts) (s : State) (m : Message) (c : ℕ) → m.asked ≡ ask.Item c → (turn_of k s m).state ≡ s
-query_leaves k s m c asked = cases (repeated s m)
+query_leaves k s m c asked = cases (reply_again s m)
   where
     cases : (o : Option TurnReply) → (answered_unless k s m o).state ≡ s
     cases (Some reply) = refl
@@ -56,11 +61,11 @@ was_accepted k s m command n reply is = cases (outcome_of k s.desk (next_survivo
 
 -- a cancellation is no repeat of a command
 no_repeat : (line : Option (List ℕ)) (asked : Asked) (reply : TurnReply) (command : Command) (what : Cancel) (other : Option (List ℕ))
-    → asked ≡ ask.Command command → repeated_of (kept_of line asked reply) (ask.Cancel what) other ≡ None
+    → asked ≡ ask.Command command → kept_reply (kept_of line asked reply) (ask.Cancel what) other ≡ None
 no_repeat None asked reply command what other is = refl
 no_repeat (Some xs) asked reply command what None is = refl
 no_repeat (Some xs) asked reply command what (Some ys) is =
-    ap (λ (a : Asked). repeated_of (Some (record { line = xs; asked = a; reply = reply })) (ask.Cancel what) (Some ys)) is
+    ap (λ (a : Asked). kept_reply (Some (record { line = xs; asked = a; reply = reply })) (ask.Cancel what) (Some ys)) is
 
 -- after the command, and before anything else changes, its cancellation takes it back
 at_once : (k : Facts) (s : State) (m : Message) (command : Command) (done : Done) (told : TurnReply) (c : Message) (what : Cancel)
@@ -82,11 +87,11 @@ at_once k s m command done told c what is_command is_cancel terminal aimed =
     next : State
     next = keeping m told (with_survivor s (next_survivor s m.terminal command) (after done.changes s.desk))
 
-    never : repeated next c ≡ None
+    never : reply_again next c ≡ None
     never =
-        ap (λ (a : Asked). repeated_of (next.kept c.terminal) a c.line) is_cancel
-        ∙ ap (λ (t : ℕ). repeated_of (next.kept t) (ask.Cancel what) c.line) terminal
-        ∙ ap (λ (b : Bool). repeated_of (cond b (kept_of m.line m.asked told) (s.kept m.terminal)) (ask.Cancel what) c.line)
+        ap (λ (a : Asked). kept_reply (next.kept c.terminal) a c.line) is_cancel
+        ∙ ap (λ (t : ℕ). kept_reply (next.kept t) (ask.Cancel what) c.line) terminal
+        ∙ ap (λ (b : Bool). kept_reply (cond b (kept_of m.line m.asked told) (s.kept m.terminal)) (ask.Cancel what) c.line)
         (number_self m.terminal)
         ∙ no_repeat m.line m.asked told command what c.line is_command
 

@@ -3,7 +3,7 @@ use Rattle.std.proofs.Common.{◌≡◌, refl, sym, ◌∙◌, ap, subst, Bool, 
 use Rattle.std.proofs.lemmas.Bool.{eqb-true}
 use Rattle.hd_rules.specs.Words.{Hold, CopyState, Cell, CopyCell, HoldCell, Value, CopyHas, HoldHas, Change}
 use Rattle.hd_rules.specs.Facts.{Facts}
-use Rattle.hd_rules.specs.Desk.{Desk, value, same_cell, put, after, undone}
+use Rattle.hd_rules.specs.Desk.{Desk, value, same_cell, put, after, take_back}
 use Rattle.hd_rules.specs.Ask.{Plan, Ask, Refuse, Accept, answer, outcome, asks}
 use Rattle.hd_rules.specs.Run.{Elsewhere, Fits}
 use Rattle.hd_rules.specs.Depends.{AnsweredAlike}
@@ -127,19 +127,19 @@ differ_after d e cs gs h same = record {
 
 -- the value of a cell after the changes are taken back
 undone_at_first : (d e : Desk) (c : Change) (cs : List Change) (y : Cell) → DifferAt d e c
-    → (same_cell c.cell y ≡ false → value (undone cs d) y ≡ value e y) → (b : Bool) → same_cell c.cell y ≡ b
-    → value (put (undone cs d) c.cell c.old) y ≡ value e y
+    → (same_cell c.cell y ≡ false → value (take_back cs d) y ≡ value e y) → (b : Bool) → same_cell c.cell y ≡ b
+    → value (put (take_back cs d) c.cell c.old) y ≡ value e y
 undone_at_first d e c cs y kept rest true is =
-    put_same (undone cs d) c.cell c.old y (subst (Fits c.cell) kept.old (value_fits e c.cell)) is
+    put_same (take_back cs d) c.cell c.old y (subst (Fits c.cell) kept.old (value_fits e c.cell)) is
     ∙ sym kept.old ∙ ap (value e) (same_cell_is _ _ is)
-undone_at_first d e c cs y kept rest false is = put_elsewhere (undone cs d) c.cell c.old y is ∙ rest is
+undone_at_first d e c cs y kept rest false is = put_elsewhere (take_back cs d) c.cell c.old y is ∙ rest is
 
 undone_at : (d e : Desk) (cs : List Change) (y : Cell) → DifferAtEach d e cs → (Elsewhere y cs → value d y ≡ value e y)
-    → value (undone cs d) y ≡ value e y
+    → value (take_back cs d) y ≡ value e y
 undone_at d e [] y kept h = h tt
 undone_at d e (c ∷ cs) y kept h =
     undone_at_first d e c cs y kept.0 (λ is. undone_at d e cs y kept.1 (λ apart. h (is, apart))) (same_cell c.cell y) refl
 
 -- taking the changes back leads from the one desk to the other
-pub undone_is : (d e : Desk) (cs : List Change) → DifferBy cs d e → undone cs d ≡ e
-undone_is d e cs h = same_desk (undone cs d) e (λ y. undone_at d e cs y h.each (h.elsewhere y))
+pub undone_is : (d e : Desk) (cs : List Change) → DifferBy cs d e → take_back cs d ≡ e
+undone_is d e cs h = same_desk (take_back cs d) e (λ y. undone_at d e cs y h.each (h.elsewhere y))

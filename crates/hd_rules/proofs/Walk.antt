@@ -7,8 +7,9 @@ use Rattle.hd_rules.specs.Facts.{Facts}
 use Rattle.hd_rules.specs.Desk.{Desk, opening}
 use Rattle.hd_rules.specs.Step.{plan}
 use Rattle.hd_rules.specs.Run.{IsAmong, step, run, Rising}
-use Rattle.hd_rules.specs.Depends.{answered_otherwise, before, less, Depends, depends, NoneDepends, IsLeastDependent, first_dependent}
-use Rattle.hd_rules.specs.Depends.{first_otherwise}
+use Rattle.hd_rules.specs.Searches.{answered_otherwise, depends, first_dependent}
+use Rattle.hd_rules.specs.Depends.{before, less, Depends, NoneDepends, IsLeastDependent}
+use Rattle.hd_rules.specs.Searches.{first_otherwise}
 use Rattle.hd_rules.proofs.Standing.{AllStand}
 use Rattle.hd_rules.proofs.Splits.{among_right, among_newer, rising_after, rising_later, above, before_split, less-append, less_above}
 use Rattle.hd_rules.proofs.Splits.{less_split, rising_first}

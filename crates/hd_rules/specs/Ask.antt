@@ -1,12 +1,12 @@
 -- What a command may ask of a desk, and a command as the questions that it asks, one after another.
 use Rattle.std.specs.Prelude.{ℕ, Bool, nat_lt, Option, List, [], ◌∷◌, Result, Ok, Err}
-use Rattle.hd_rules.specs.Words.{Hold, CopyState, CopyCell, HoldCell, Change, Question, Answer, ValueOf}
+use Rattle.hd_rules.specs.Words.{Hold, CopyState, CopyCell, HoldCell, Change, Question, ValueOf}
 use Rattle.hd_rules.specs.Words.{Choice, Place, Room, Position, OnShelf, Refusal, Reply}
-use Rattle.hd_rules.specs.declared.questions.Answer.TheVariants as answers
 use Rattle.hd_rules.specs.Numbers.{PlaceNo}
 use Rattle.hd_rules.specs.Facts.{Facts}
-use Rattle.hd_rules.specs.Desk.{Desk, value}
-use Rattle.hd_rules.specs.Choose.{choice, place, loans, position, on_shelf}
+use Rattle.hd_rules.specs.Desk.{Desk}
+use Rattle.hd_rules.specs.Find.{choice, place}
+use Rattle.hd_rules.specs.Choose.{loans, position, on_shelf}
 
 -- what kind of answer a question has (§ Numbers, cancellation and dependence)
 abbrev pub AnswerTo : Question → Type 0
@@ -30,7 +30,9 @@ pub data Plan : Type 0 where
   Accept : Done → Plan
 
 module _ (k : Facts) (d : Desk) where
-  -- the answer that the desk gives: what it has (§ State), § Choice, § Place, § Room, § Position, § Admits
+  -- The answer that the desk gives: what a cell has (§ State), the first candidate (§ Choice), the least
+  -- free place (§ Place), room for a loan (§ Room), the place in the queue (§ Position), and whether a
+  -- copy stands on open shelves that the hold admits (§ Admits).
   abbrev pub answer : (q : Question) → AnswerTo q
   answer (ValueOf (CopyCell c)) = d.copy c
   answer (ValueOf (HoldCell t p)) = d.hold t p
@@ -39,15 +41,6 @@ module _ (k : Facts) (d : Desk) where
   answer (Room p) = nat_lt (loans k d p) (k.loan_limit p)
   answer (Position t stamp) = position k d t stamp
   answer (OnShelf t kind pickup) = nat_lt 0 (on_shelf k d t kind pickup)
-
-  -- the same, as the answer is told
-  abbrev pub told : Question → Answer
-  told (ValueOf x) = answers.Value (value d x)
-  told (Choice c b day) = answers.Choice (choice k d c b day)
-  told (Place b) = answers.Place (place k d b)
-  told (Room p) = answers.Room (nat_lt (loans k d p) (k.loan_limit p))
-  told (Position t stamp) = answers.Position (position k d t stamp)
-  told (OnShelf t kind pickup) = answers.OnShelf (nat_lt 0 (on_shelf k d t kind pickup))
 
   -- how a plan ends at the desk
   abbrev pub outcome : Plan → Result Done Refusal

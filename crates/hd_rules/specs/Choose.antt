@@ -1,8 +1,9 @@
--- Which hold a copy is for, which place is free, and what a desk counts.
-use Rattle.std.specs.Prelude.{◌≡◌, ℕ, max, ◌+◌, ◌≤◌, ◌<◌, Bool, true, false, ◌&&◌, not, ◌==◌, nat_lt, Option}
+-- Which hold a copy is for, which place is free, and what a desk counts. How
+-- the first two are found stands in Find.
+use Rattle.std.specs.Prelude.{◌≡◌, ℕ, ◌+◌, ◌≤◌, ◌<◌, Bool, true, false, ◌&&◌, not, ◌==◌, nat_lt, Option}
 use Rattle.std.specs.Prelude.{Some, None, is_none, if◌then◌else◌, zero, suc}
 use Rattle.hd_rules.specs.Words.{Hold, HoldKind, Any, One, AtBranch, CopyState, Shelf, OnLoan, OnHoldShelf}
-use Rattle.hd_rules.specs.Numbers.{BranchNo, TitleNo, CopyNo, PatronNo, Day, Stamp, PlaceNo, Count}
+use Rattle.hd_rules.specs.Numbers.{BranchNo, TitleNo, CopyNo, PatronNo, Day, HoldStamp, PlaceNo, Count}
 use Rattle.hd_rules.specs.Facts.{Facts}
 use Rattle.hd_rules.specs.Desk.{Desk}
 
@@ -15,17 +16,12 @@ has_expired (Some expiry) day = nat_lt expiry day
 abbrev pub is_local : Bool → BranchNo → Hold → Bool
 is_local priority b h = priority && (h.pickup == b)
 
--- g comes before h
+-- g comes before h: a local hold before the others, and else the smaller stamp. The
+-- rule of priority is stated here and nowhere else (§ Choice).
 abbrev pub precedes : Bool → BranchNo → Hold → Hold → Bool
 precedes priority b g h =
     if is_local priority b g then (if is_local priority b h then nat_lt g.stamp h.stamp else true)
     else if is_local priority b h then false else nat_lt g.stamp h.stamp
-
--- The one of the two that comes first. The rule of priority is stated here and nowhere else (§ Choice).
-abbrev pub earlier : Bool → BranchNo → Option Hold → Option Hold → Option Hold
-earlier priority b None y = y
-earlier priority b (Some g) None = Some g
-earlier priority b (Some g) (Some h) = if precedes priority b h g then Some h else Some g
 
 module _ (k : Facts) where
   -- any copy of the title, the named one, or those whose home is the pickup (§ Admits)
@@ -43,17 +39,8 @@ module _ (k : Facts) where
   candidate c day None = None
   candidate c day (Some h) = if may_have c day h then Some h else None
 
-  -- the first candidate among the holds of the patrons below n
-  abbrev pub first_of : CopyNo → BranchNo → Day → (PatronNo → Option Hold) → PatronNo → Option Hold
-  first_of c b day holds zero = None
-  first_of c b day holds (suc n) =
-      earlier (k.priority (k.title_of c)) b (first_of c b day holds n) (candidate c day (holds n))
-
-  -- the hold that the copy is for, at a branch on a day (§ Choice)
-  abbrev pub choice : Desk → CopyNo → BranchNo → Day → Option Hold
-  choice d c b day = first_of c b day (d.hold (k.title_of c)) k.patrons
-
-  -- none of the catalogue's patrons has a candidate, or this is one that no other comes before
+  -- The hold that the copy is for, at a branch on a day (§ Choice): none where none of the
+  -- catalogue's patrons has a candidate, else a candidate that no other comes before.
   abbrev pub FirstCandidate : Desk → CopyNo → BranchNo → Day → Option Hold → Type 0
   FirstCandidate d c b day None =
       (p : PatronNo) → p < k.patrons → candidate c day (d.hold (k.title_of c) p) ≡ None
@@ -72,23 +59,13 @@ abbrev pub stands_at : BranchNo → PlaceNo → CopyState → Bool
 stands_at b place (OnHoldShelf s) = (s.branch == b) && (s.place == place)
 stands_at b place _ = false
 
--- where a copy stands on the branch's hold shelf, else 0
-abbrev pub place_there : BranchNo → CopyState → PlaceNo
-place_there b (OnHoldShelf s) = if s.branch == b then s.place else 0
-place_there b _ = 0
-
--- the highest place of the branch at which one of the copies below n stands
-abbrev pub highest : Desk → BranchNo → CopyNo → PlaceNo
-highest d b zero = 0
-highest d b (suc n) = max (highest d b n) (place_there b (d.copy n))
-
 -- on loan to the patron
 abbrev pub is_lent_to : PatronNo → CopyState → Bool
 is_lent_to p (OnLoan l) = l.patron == p
 is_lent_to p _ = false
 
 -- a hold with a smaller stamp
-abbrev pub is_before : Stamp → Option Hold → Bool
+abbrev pub is_before : HoldStamp → Option Hold → Bool
 is_before stamp None = false
 is_before stamp (Some h) = nat_lt h.stamp stamp
 
@@ -98,21 +75,8 @@ is_on_shelf (Shelf b) = true
 is_on_shelf _ = false
 
 module _ (k : Facts) (d : Desk) where
-  -- no copy on the branch's hold shelf has the place
-  abbrev pub is_free : BranchNo → PlaceNo → Bool
-  is_free b place = count_below (λ n. stands_at b place (d.copy n)) k.copies == 0
-
-  -- the least free one of the places from the first on, of which there are tries
-  abbrev pub free_from : BranchNo → Count → PlaceNo → PlaceNo
-  free_from b zero first = first
-  free_from b (suc tries) first = if is_free b first then first else free_from b tries (first + 1)
-
-  -- The least place, from 1, that no copy on the branch's hold shelf
-  -- has: one up to the highest, or the next (§ Place).
-  abbrev pub place : BranchNo → PlaceNo
-  place b = free_from b (highest d b k.copies) 1
-
-  -- the least number from 1 at which no copy of the catalogue stands on the branch's hold shelf
+  -- The branch's free place (§ Place): the least number from 1 at
+  -- which no copy of the catalogue stands on its hold shelf.
   pub record LeastFree (b : BranchNo) (f : PlaceNo) : Type 0 where
     pub from_one : 1 ≤ f
     pub free : (c : CopyNo) → c < k.copies → stands_at b f (d.copy c) ≡ false
@@ -124,7 +88,7 @@ module _ (k : Facts) (d : Desk) where
   loans p = count_below (λ n. is_lent_to p (d.copy n)) k.copies
 
   -- one more than the number of holds of the title with a smaller stamp (§ Position)
-  abbrev pub position : TitleNo → Stamp → ℕ
+  abbrev pub position : TitleNo → HoldStamp → ℕ
   position t stamp = count_below (λ n. is_before stamp (d.hold t n)) k.patrons + 1
 
   -- how many copies of the title stand on open shelves that such a hold admits (§ Admits)

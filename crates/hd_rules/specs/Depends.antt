@@ -8,7 +8,6 @@ use Rattle.hd_rules.specs.Ask.{Plan, Ask, answer}
 use Rattle.hd_rules.specs.Step.{plan}
 use Rattle.hd_rules.specs.Run.{IsAmong, run}
 pub use Rattle.hd_rules.specs.Run.{before, less}
-pub use Rattle.hd_rules.specs.Searches.{answered_otherwise, depends, first_dependent, first_otherwise}
 
 module _ (k : Facts) (d e : Desk) where
   -- all that the plan asks at one desk is answered alike at the other

@@ -32,6 +32,6 @@ after [] d = d
 after (change ∷ changes) d = after changes (put d change.cell change.new)
 
 -- the desk with these changes taken back, the last one first
-abbrev pub undone : List Change → Desk → Desk
-undone [] d = d
-undone (change ∷ changes) d = put (undone changes d) change.cell change.old
+abbrev pub take_back : List Change → Desk → Desk
+take_back [] d = d
+take_back (change ∷ changes) d = put (take_back changes d) change.cell change.old

@@ -9,7 +9,8 @@ use Rattle.hd_rules.specs.Facts.{Facts}
 use Rattle.hd_rules.specs.Run.{run, less}
 use Rattle.hd_rules.specs.Depends.{NoneDepends, IsLeastDependent}
 use Rattle.hd_rules.specs.Target.{Split, is_of_kind, NoTarget, IsTarget}
-use Rattle.hd_rules.specs.Turns.{Message, State, Answered, IsRepeat, turn_of}
+use Rattle.hd_rules.specs.Turns.{Message, State, Answered, IsRepeat, IsNew}
+use Rattle.hd_rules.specs.Machine.{turn_of}
 use Rattle.hd_rules.specs.Journal.{Turn, state_after, IsLegal, RepliesStand}
 
 -- none of the turns is of a changing message
@@ -18,10 +19,6 @@ AllQueries [] = Unit {0}
 AllQueries (turn ∷ turns) = ((c : CopyNo) × (turn.message.asked ≡ ask.Item c)) × AllQueries turns
 
 module _ (s : State) where
-  -- the message is no repeat
-  abbrev pub IsNew : Message → Type 0
-  IsNew m = (reply : TurnReply) → IsRepeat s m reply → ⊥
-
   -- no cell, survivor or number changes
   pub record ChangesNothing (next : State) : Type 0 where
     pub desk : next.desk ≡ s.desk
@@ -32,14 +29,14 @@ module _ (s : State) where
   pub record IsCancellation (m : Message) (at : Split) : Type 0 where
     pub what : Cancel
     pub is_cancel : m.asked ≡ ask.Cancel what
-    pub is_new : IsNew m
+    pub is_new : IsNew s m
     pub target : IsTarget m.terminal what s.survivors at
 
   -- a cancellation, which is no repeat, without a target
   pub record IsAimless (m : Message) : Type 0 where
     pub what : Cancel
     pub is_cancel : m.asked ≡ ask.Cancel what
-    pub is_new : IsNew m
+    pub is_new : IsNew s m
     pub none : NoTarget m.terminal what s.survivors
 
   -- there is nothing to cancel

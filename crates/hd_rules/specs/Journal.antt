@@ -6,7 +6,8 @@ use Rattle.hd_rules.specs.declared.replies.TurnReply.TheVariants.{Done as Accept
 use Rattle.hd_rules.specs.Facts.{Facts}
 use Rattle.hd_rules.specs.Ask.{Done}
 use Rattle.hd_rules.specs.Run.{IsAmong, outcome_of, run, Rising, next_number, before}
-use Rattle.hd_rules.specs.Turns.{Message, State, start, turn_of}
+use Rattle.hd_rules.specs.Turns.{Message, State, start}
+use Rattle.hd_rules.specs.Machine.{turn_of}
 
 -- a message with its reply, and the seat that it came from
 pub record Turn : Type 0 where

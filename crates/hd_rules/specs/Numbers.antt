@@ -25,8 +25,8 @@ Day = ℕ
 abbrev pub CommandNo : Type 0
 CommandNo = ℕ
 
-abbrev pub Stamp : Type 0
-Stamp = ℕ
+abbrev pub HoldStamp : Type 0
+HoldStamp = ℕ
 
 -- a place on a branch's hold shelf, from 1
 abbrev pub PlaceNo : Type 0

@@ -1,37 +1,25 @@
 -- What a journal keeps of a survivor (§ Clashes).
 use Rattle.std.specs.Prelude.{◌≡◌, Ok, List, [], ◌∷◌}
-use Rattle.hd_rules.specs.Words.{Change, Question, ValueOf, Choice, Place, Room, Position, OnShelf, Noted}
-use Rattle.hd_rules.specs.Words.{Finding, Command, Survivor, Reply}
-use Rattle.hd_rules.specs.declared.questions.Noted.TheVariants as noted
+use Rattle.hd_rules.specs.Words.{Change, Question, Finding, Command, Survivor, Reply}
 use Rattle.hd_rules.specs.Numbers.{TerminalNo, CommandNo}
 use Rattle.hd_rules.specs.Facts.{Facts}
-use Rattle.hd_rules.specs.Desk.{Desk, value}
-use Rattle.hd_rules.specs.Choose.{choice, place, loans, position, on_shelf}
+use Rattle.hd_rules.specs.Desk.{Desk}
+use Rattle.hd_rules.specs.Notes.{note}
 use Rattle.hd_rules.specs.Ask.{asks}
 use Rattle.hd_rules.specs.Step.{plan}
 use Rattle.hd_rules.specs.Run.{outcome_of, run, before}
 use Rattle.hd_rules.specs.Journal.{Turn, WasTold}
 
 module _ (k : Facts) (d : Desk) where
-  -- The answer that the desk gives: for room the number of loans,
-  -- and for open shelves the number of copies that stand there.
-  abbrev pub note : Question → Noted
-  note (ValueOf x) = noted.Value (value d x)
-  note (Choice c b day) = noted.Choice (choice k d c b day)
-  note (Place b) = noted.Place (place k d b)
-  note (Room p) = noted.Room (loans k d p)
-  note (Position t stamp) = noted.Position (position k d t stamp)
-  note (OnShelf t kind pickup) = noted.OnShelf (on_shelf k d t kind pickup)
-
   -- the questions with their noted answers
   abbrev pub findings : List Question → List Finding
   findings [] = []
-  findings (q ∷ qs) = record { question = q; noted = note q } ∷ findings qs
+  findings (q ∷ qs) = record { question = q; noted = note k d q } ∷ findings qs
 
   -- the same questions, noted at this desk
   abbrev pub noted_at : List Finding → List Finding
   noted_at [] = []
-  noted_at (f ∷ fs) = record { question = f.question; noted = note f.question } ∷ noted_at fs
+  noted_at (f ∷ fs) = record { question = f.question; noted = note k d f.question } ∷ noted_at fs
 
 -- what is kept of an accepted command
 pub record Record : Type 0 where
@@ -55,8 +43,8 @@ abbrev pub IsRecord : Facts → List Survivor → Survivor → Record → Type 0
 IsRecord k survivors s r = IsRecordAt k (run k (before s.number survivors)) s r
 
 -- the record with its questions noted at another desk
-abbrev pub mended : Facts → Desk → Record → Record
-mended k d r = record r { findings = noted_at k d r.findings }
+abbrev pub mended_record : Facts → Desk → Record → Record
+mended_record k d r = record r { findings = noted_at k d r.findings }
 
 -- what a journal keeps of a survivor: its record, the only one, with the reply that it was told
 pub record IsKeptOf (k : Facts) (turns : List Turn) (survivors : List Survivor) (s : Survivor) : Type 0 where

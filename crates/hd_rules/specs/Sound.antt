@@ -1,9 +1,9 @@
 -- What holds of every desk that commands lead to.
 use Rattle.std.specs.Prelude.{◌≡◌, ◌<◌, ◌≤◌, Option, Some, None, List, [], ◌∷◌}
 use Rattle.hd_rules.specs.Words.{Change, Hold, HoldPlace, CopyState, OnHoldShelf, InTransit}
-use Rattle.hd_rules.specs.Numbers.{BranchNo, TitleNo, CopyNo, PatronNo, Stamp}
+use Rattle.hd_rules.specs.Numbers.{BranchNo, TitleNo, CopyNo, PatronNo, HoldStamp}
 use Rattle.hd_rules.specs.Facts.{Facts}
-use Rattle.hd_rules.specs.Desk.{Desk, put, undone}
+use Rattle.hd_rules.specs.Desk.{Desk, put, take_back}
 
 -- the hold has this copy, and this pickup
 abbrev pub Has : Option Hold → CopyNo → BranchNo → Type 0
@@ -34,7 +34,7 @@ StampsApart holds =
     g.stamp ≡ h.stamp → p ≡ q
 
 -- and each stamp is below n
-pub record HoldsFit (n : Stamp) (holds : TitleNo → PatronNo → Option Hold) : Type 0 where
+pub record HoldsFit (n : HoldStamp) (holds : TitleNo → PatronNo → Option Hold) : Type 0 where
   pub named : AreNamed holds
   pub stamped : (t : TitleNo) (p : PatronNo) (h : Hold) → holds t p ≡ Some h → h.stamp < n
   pub apart : StampsApart holds
@@ -52,7 +52,7 @@ pub record IsFit (k : Facts) (d : Desk) : Type 0 where
   pub places : PlacesFit k d.copy
 
 -- the desk is fit and sound, and n is above every stamp
-pub record Sound (k : Facts) (n : Stamp) (d : Desk) : Type 0 where
+pub record Sound (k : Facts) (n : HoldStamp) (d : Desk) : Type 0 where
   pub holds : HoldsFit n d.hold
   pub places : PlacesFit k d.copy
   pub tie : Tie k d
@@ -60,7 +60,7 @@ pub record Sound (k : Facts) (n : Stamp) (d : Desk) : Type 0 where
 -- every desk on the way of taking these changes back, the last one first, is fit
 abbrev pub EachBackIsFit : Facts → List Change → Desk → Type 0
 EachBackIsFit k [] d = Unit {0}
-EachBackIsFit k (change ∷ changes) d = EachBackIsFit k changes d × IsFit k (undone (change ∷ changes) d)
+EachBackIsFit k (change ∷ changes) d = EachBackIsFit k changes d × IsFit k (take_back (change ∷ changes) d)
 
 -- every desk on the way of making these changes, in order, is fit
 abbrev pub EachOnIsFit : Facts → List Change → Desk → Type 0

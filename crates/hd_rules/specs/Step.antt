@@ -46,19 +46,19 @@ cannot_renew k p c l chosen = nat_le (k.renewals (k.title_of c)) l.renewals || i
 -- Lending and renewing: the command n, the patron p, the copy c, the transaction day.
 module _ (k : Facts) (n : CommandNo) (p : PatronNo) (c : CopyNo) (day : Day) where
   -- the copy is lent, and these holds end (§ Checkout)
-  abbrev pub lent : CopyState → List Change → Plan
-  lent old ends = accept k n
+  abbrev pub make_loan : CopyState → List Change → Plan
+  make_loan old ends = accept k n
       (copy_becomes c old (OnLoan (record { patron = p; due = due_day k c day; renewals = 0 })) ∷ ends)
       (LentOrRenewed (k.title_of c) (due_day k c day) false)
 
   -- the same, where the patron's hold ends by it
   abbrev pub lend_held : CopyState → Plan
   lend_held old = lend k p c day (Ask (ValueOf (HoldCell (k.title_of c) p)) (λ held.
-      lent old (hold_becomes (k.title_of c) p held None ∷ [])))
+      make_loan old (hold_becomes (k.title_of c) p held None ∷ [])))
 
   -- a copy from the open shelf: nobody's hold comes first, or the patron's own, which then ends
   abbrev pub lend_from_shelf : CopyState → Option Hold → Plan
-  lend_from_shelf old None = lend k p c day (lent old [])
+  lend_from_shelf old None = lend k p c day (make_loan old [])
   lend_from_shelf old (Some h) = if h.patron == p then lend_held old else Refuse refusal.KeptForAnother
 
   -- a loan of the patron, renewed (§ Renew)
@@ -96,14 +96,14 @@ module _ (k : Facts) (c : CopyNo) where
   ends_with h (Some x) = x == c
 
   -- the hold that the off-line loan ends
-  abbrev pub ended : PatronNo → Option Hold → List Change
-  ended p None = []
-  ended p (Some h) = if ends_with h h.copy then hold_becomes (k.title_of c) p (Some h) None ∷ [] else []
+  abbrev pub end_of_hold : PatronNo → Option Hold → List Change
+  end_of_hold p None = []
+  end_of_hold p (Some h) = if ends_with h h.copy then hold_becomes (k.title_of c) p (Some h) None ∷ [] else []
 
   -- the hold that an off-line loan takes the copy from
-  abbrev pub freed : PatronNo → Option Hold → List Change
-  freed q None = []
-  freed q (Some h) = hold_becomes (k.title_of c) q (Some h) (Some (with_copy None h)) ∷ []
+  abbrev pub release_of_hold : PatronNo → Option Hold → List Change
+  release_of_hold q None = []
+  release_of_hold q (Some h) = hold_becomes (k.title_of c) q (Some h) (Some (with_copy None h)) ∷ []
 
 -- A loan that the terminal made on its own, until the day that its message says (§ Off-line checkout).
 module _ (k : Facts) (n : CommandNo) (p : PatronNo) (c : CopyNo) (due : Day) where
@@ -115,11 +115,11 @@ module _ (k : Facts) (n : CommandNo) (p : PatronNo) (c : CopyNo) (due : Day) whe
 
   -- the copy was tied to nobody, or to a patron
   abbrev pub off_line_at : CopyState → Option Hold → Option PatronNo → Plan
-  off_line_at old held None = lend_off_line old (ended k c p held)
+  off_line_at old held None = lend_off_line old (end_of_hold k c p held)
   off_line_at old held (Some q) =
-      if q == p then lend_off_line old (ended k c p held)
+      if q == p then lend_off_line old (end_of_hold k c p held)
       else Ask (ValueOf (HoldCell (k.title_of c) q))
-      (λ other. lend_off_line old (ended k c p held ++ freed k c q other))
+      (λ other. lend_off_line old (end_of_hold k c p held ++ release_of_hold k c q other))
 
   -- wherever the copy was
   abbrev pub off_line : Plan
@@ -135,8 +135,8 @@ release k c day (OnHoldShelf s) rest = Ask (Choice c s.branch day) (λ chosen.
 release k c day _ rest = rest []
 
 -- the hold with what the message gives (§ Hold change)
-abbrev pub changed : Option HoldKind → Option BranchNo → Option Day → Hold → Hold
-changed kind pickup expiry h = record h {
+abbrev pub changed_hold : Option HoldKind → Option BranchNo → Option Day → Hold → Hold
+changed_hold kind pickup expiry h = record h {
   kind = unwrap_or kind h.kind;
   pickup = unwrap_or pickup h.pickup;
   expiry = elim expiry as (λ _. Option Day) [ None ↦ h.expiry | Some day ↦ Some day ];
@@ -182,7 +182,7 @@ module _ (k : Facts) (n : CommandNo) where
     -- the hold, changed (§ Hold change)
     abbrev pub change : Option HoldKind → Option BranchNo → Option Day → Day → Option Hold → Plan
     change kind pickup expiry day None = Refuse refusal.NoSuchHold
-    change kind pickup expiry day (Some h) = change_to expiry day h (changed kind pickup expiry h) h.copy
+    change kind pickup expiry day (Some h) = change_to expiry day h (changed_hold kind pickup expiry h) h.copy
 
   -- what each action asks and does on a day (§ The commands)
   abbrev pub plan_of : Day → Action → Plan

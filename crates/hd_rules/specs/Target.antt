@@ -1,6 +1,5 @@
 -- Which command a cancellation takes back (docs/protocol.md, "Cancellations").
-use Rattle.std.specs.Prelude.{◌≡◌, Bool, true, false, ◌&&◌, ◌==◌, if◌then◌else◌, Option, Some, None, List}
-use Rattle.std.specs.Prelude.{[], ◌∷◌, ◌++◌}
+use Rattle.std.specs.Prelude.{◌≡◌, Bool, true, false, ◌&&◌, ◌==◌, List, [], ◌∷◌, ◌++◌}
 use Rattle.hd_rules.specs.Words.{Action, Cancel, Survivor}
 use Rattle.hd_rules.specs.declared.commands.Action.TheVariants.{Checkout, OffLine, Checkin, Add, Delete}
 use Rattle.hd_rules.specs.declared.commands.Action.TheVariants.{ChangeHold, Renew}
@@ -40,19 +39,8 @@ module _ (terminal : TerminalNo) (what : Cancel) where
   NoTarget [] = Unit {0}
   NoTarget (s ∷ ss) = (is_target s ≡ false) × NoTarget ss
 
-  -- the survivors, split at the newest target
+  -- the target: the newest survivor that may be taken back so, at which they are split
   pub record IsTarget (survivors : List Survivor) (at : Split) : Type 0 where
     pub split : survivors ≡ at.older ++ at.survivor ∷ at.newer
     pub fits : is_target at.survivor ≡ true
     pub newest : NoTarget at.newer
-
-  -- the target among these later ones, or else the survivor before them
-  abbrev pub newest_of : Survivor → List Survivor → Option Split → Option Split
-  newest_of s ss (Some at) =
-      Some (record { older = s ∷ at.older; survivor = at.survivor; newer = at.newer })
-  newest_of s ss None = if is_target s then Some (record { older = []; survivor = s; newer = ss }) else None
-
-  -- how it is found: the newest target, if there is one
-  abbrev pub target : List Survivor → Option Split
-  target [] = None
-  target (s ∷ ss) = newest_of s ss (target ss)

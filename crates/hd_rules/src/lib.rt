@@ -23,19 +23,10 @@ pub use crate::copies::{CopyState, HoldPlace, Loan, Transit};
 pub use crate::equality::{same_asked, same_turn_reply};
 pub use crate::holds::{Hold, HoldKind};
 pub use crate::laws::{
-    a_command_leaves_a_sound_desk, a_legal_journal_goes_on,
-    a_legal_journal_is_the_run_of_its_survivors, a_walk_finds_the_first_dependent,
-    answers_are_told, at_most_four_changes, changes_are_distinct, changes_lead_through_fit_desks,
-    choice_is_the_first_candidate, dependence_is_decided, desks_differ_by_the_changes,
-    each_cell_written_is_asked, each_depends_or_stands, each_reply_is_to_its_message,
-    each_survivor_has_one_record, each_turn_is_determined, every_desk_is_sound,
-    every_list_of_messages_is_answered, headline, known_commands_do_known_things,
-    known_messages_get_known_replies, less_and_before_commute, noted_answers_tell,
-    numbers_split_a_run, outcomes_stand, place_is_the_least_free, records_stand,
-    step_is_determined, taking_back_leads_through_fit_desks, taking_back_what_differs,
-    tests_are_exact, the_first_candidate_is_one, the_first_dependent_is_the_least,
-    the_least_free_place_is_one, the_target_is_the_newest, undoing_is_the_run_without,
-    undone_at_once_is_as_before,
+    a_legal_journal_is_the_run_of_its_survivors, choice_is_the_first_candidate,
+    commands_keep_desks_sound, commands_rest_on_their_answers, each_turn_is_determined, headline,
+    legal_journals_go_on, place_is_the_least_free, tests_are_exact,
+    the_first_dependent_is_the_least, the_target_is_the_newest, undoing_is_the_run_without,
 };
 pub use crate::limits::{
     MOST_BRANCHES, MOST_COMMANDS, MOST_COPIES, MOST_LOAN_DAYS, MOST_LOANS, MOST_PATRONS,

@@ -21,7 +21,8 @@ impl<H: House> Held<H> {
     }
 }
 
-/// A place for each seat that may have been opened, by the seats' numbers from 1, and room for a list of them.
+/// A place for each seat that may have been opened, by the seats' numbers from 1, and room for a list of
+/// them.
 #[derive(Drop)]
 pub(crate) struct Places<H: House> {
     places: Vec<Option<Held<H>>>,

@@ -1,6 +1,6 @@
 //! Serving terminals over TCP.
 ghost use Rattle.std.specs.Prelude.{◌≡◌, ◌≤◌, [], IfOk};
-ghost use Rattle.hd_hall.specs.Openings.{IsLegalFrom};
+ghost use Rattle.hd_hall.specs.Openings.{IsLegalSince};
 
 use crate::accepting::{Arrived, accept};
 use crate::fault::ServeFault;
@@ -31,14 +31,13 @@ use std::time::Clock;
 /// `00000101    000000` where it can't be read or its year lies outside 0000 to 9999.
 ///
 /// A connection makes room to keep its seat, and has a session and, last, a seat opened. Where one can't be
-/// had it is closed without a reply. A read or a write that fails ends that connection alone, as one does that
-/// waits longer than the idle time; the turns that it has made stay.
+/// had it is closed without a reply. A read or a write that fails ends that connection alone, as one does
+/// that waits longer than the idle time; the turns that it has made stay.
 ///
-/// # Errors
-/// `CannotListen` where a connection can't be accepted: those that run are served to their end, and the hall
-/// is closed. `Unwritten` where the keeper fails to write a turn: no more connections are accepted, those that
-/// run end at their next turn or their end, and the hall is closed. `NotClosed` where the hall doesn't close.
-/// `Memory` for want of memory at the start, or where no thread can be had.
+/// # Errors `CannotListen` where a connection can't be accepted: those that run are served to their end, and
+/// the hall is closed. `Unwritten` where the keeper fails to write a turn: no more connections are accepted,
+/// those that run end at their next turn or their end, and the hall is closed. `NotClosed` where the hall
+/// doesn't close. `Memory` for want of memory at the start, or where no thread can be had.
 pub fn serve<
     R: Threads + Wait + Clock + Sync,
     G: Gate,
@@ -55,7 +54,7 @@ pub fn serve<
     requires turns { K.turns keeper ≡ [] }
     requires workers { (1 ≤ options.now.workers) × (options.now.workers ≤ 64) }
     ensures opening { IfOk result (λ closed. K.opening closed ≡ K.opening keeper) }
-    ensures legal { IfOk result (λ closed. IsLegalFrom (K.opening closed) (K.turns closed)) }
+    ensures legal { IfOk result (λ closed. IsLegalSince (K.opening closed) (K.turns closed)) }
 {
     let blank = Blank::new(4_294_967_296);
     serve_in::<Brand, R, G, Q, K>(rt, alloc, &listener, keeper, blank, options, gate)
@@ -82,7 +81,7 @@ fn serve_in<
     requires name { blank.name ≡ H.name }
     requires parts { (blank.parts ≡ H.parts) × (H.parts ≡ 4294967296) }
     ensures opening { IfOk result (λ closed. K.opening closed ≡ K.opening keeper) }
-    ensures legal { IfOk result (λ closed. IsLegalFrom (K.opening closed) (K.turns closed)) }
+    ensures legal { IfOk result (λ closed. IsLegalSince (K.opening closed) (K.turns closed)) }
 {
     let Ok(stop) = Stop::of(listener) else {
         return Err(ServeFault::CannotListen);

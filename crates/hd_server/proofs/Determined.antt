@@ -14,18 +14,18 @@ use Rattle.hd_session.specs.Sessions.{Hearing}
 use Rattle.hd_server.specs.Endings.{WritesWell}
 use Rattle.hd_connection.specs.Streams.{Streams}
 use Rattle.hd_server.specs.Ends.{HasLines, Replay}
-use Rattle.hd_server.specs.Inputs.{HasSession, Message, line_of, with_rest}
-use Rattle.hd_server.specs.Printing.{ArePrinted, IsPrinted, end_text, printed}
-use Rattle.hd_server.specs.Replays.{AllReplayed, Progress, faults, opening, step_of}
+use Rattle.hd_server.specs.Inputs.{HasSession, InputMessage, line_of, with_rest}
+use Rattle.hd_server.specs.Printing.{ArePrinted, IsEventText, end_text, printed_line}
+use Rattle.hd_server.specs.Replays.{AllReplayed, Progress, faults, before_any_line, step_of}
 use Rattle.hd_server.proofs.Lining.{first_alone, lines_alone}
 use Rattle.hd_server.proofs.Prefixes.{no_blank}
 
 -- the events of two replays print the same
-one_event : (event : Event) (text other : List ℕ) → IsPrinted event text → IsPrinted event other → text ≡ other
+one_event : (event : Event) (text other : List ℕ) → IsEventText event text → IsEventText event other → text ≡ other
 one_event event text other p q =
     let parts = lines_alone 13 event.text p.rest q.rest p.replies q.replies p.parts q.parts in
     p.spelled
-    ∙ (ap (λ (l : List (List ℕ)). flat_map (printed (event.session + 1)) l ++ end_text (event.session + 1) event.ended) parts.0
+    ∙ (ap (λ (l : List (List ℕ)). flat_map (printed_line (event.session + 1)) l ++ end_text (event.session + 1) event.ended) parts.0
     ∙ sym q.spelled)
 
 one_print : (events : List Event) (text other : List ℕ) → ArePrinted events text → ArePrinted events other → text ≡ other
@@ -34,12 +34,12 @@ one_print (event ∷ events) text other p q =
     p.4 ∙ (ap₂ (λ (a b : List ℕ). a ++ b) (one_event event p.0 q.0 p.2 q.2) (one_print events p.1 q.1 p.3 q.3) ∙ sym q.4)
 
 -- a line is that of one message
-same_message : (a b : Message) → a.session ≡ b.session → a.text ≡ b.text → a ≡ b
+same_message : (a b : InputMessage) → a.session ≡ b.session → a.text ≡ b.text → a ≡ b
 same_message a b session text =
-    ap (λ (s : ℕ). let m : Message = record { session = s; text = a.text } in m) session
-    ∙ ap (λ (t : List ℕ). let m : Message = record { session = b.session; text = t } in m) text
+    ap (λ (s : ℕ). let m : InputMessage = record { session = s; text = a.text } in m) session
+    ∙ ap (λ (t : List ℕ). let m : InputMessage = record { session = b.session; text = t } in m) text
 
-one_message : (a b : Message) → HasSession a → HasSession b → line_of a ≡ line_of b → a ≡ b
+one_message : (a b : InputMessage) → HasSession a → HasSession b → line_of a ≡ line_of b → a ≡ b
 one_message a b p q same =
     let parts = first_alone 32 (decimal a.session) (decimal b.session) a.text b.text (no_blank a.session p) (no_blank b.session q) same in
     same_message a b
@@ -51,13 +51,13 @@ first_line : List (List ℕ) → List ℕ
 first_line [] = []
 first_line (line ∷ lines) = line
 
-one_input : (xs ys : List Message) → All HasSession xs → All HasSession ys → map line_of xs ≡ map line_of ys → xs ≡ ys
+one_input : (xs ys : List InputMessage) → All HasSession xs → All HasSession ys → map line_of xs ≡ map line_of ys → xs ≡ ys
 unfolding first_line
 one_input [] [] p q same = refl
 one_input [] (y ∷ ys) p q same = absurd (omega (arith, ap (λ (l : List (List ℕ)). length l) same))
 one_input (x ∷ xs) [] p q same = absurd (omega (arith, ap (λ (l : List (List ℕ)). length l) same))
 one_input (x ∷ xs) (y ∷ ys) p q same =
-    ap₂ (λ (m : Message) (ms : List Message). m ∷ ms)
+    ap₂ (λ (m : InputMessage) (ms : List InputMessage). m ∷ ms)
     (one_message x y (p zero x (omega arith)) (q zero y (omega arith)) (ap first_line same))
     (one_input xs ys (λ i d within. p (suc i) d (omega (arith, within))) (λ i d within. q (suc i) d (omega (arith, within)))
     (ap (λ (l : List (List ℕ)). drop 1 l) same))
@@ -79,18 +79,18 @@ module _ (one_script : (k : Contents) (seat : ℕ) (turns : List Turn) (steps : 
     → AreFed k seat faults steps ss events ends → AreFed k seat faults steps ss events' ends' → (events ≡ events') × (ends ≡ ends')) where
   -- lines that are replayed from the beginning have one text
   one_text : (k : Contents) (now : Stamp) (after after' : Progress) (lines : List (List ℕ)) (text other : List ℕ)
-      → AllReplayed (opening k now) after lines text → AllReplayed (opening k now) after' lines other
+      → AllReplayed (before_any_line k now) after lines text → AllReplayed (before_any_line k now) after' lines other
       → IsLegal (facts_of after.contents) after.turns → IsLegal (facts_of after'.contents) after'.turns → text ≡ other
   one_text k now after after' lines text other p q legal legal' =
       let messages : p.messages ≡ q.messages =
       one_input p.messages q.messages p.have_session q.have_session (sym p.lines_are ∙ q.lines_are) in
-      let there : AreFed k 0 faults (map (step_of now) p.messages) (opening k now).sessions q.events after'.sessions =
-      subst (λ (m : List Message). AreFed k 0 faults (map (step_of now) m) (opening k now).sessions q.events after'.sessions)
+      let there : AreFed k 0 faults (map (step_of now) p.messages) (before_any_line k now).sessions q.events after'.sessions =
+      subst (λ (m : List InputMessage). AreFed k 0 faults (map (step_of now) m) (before_any_line k now).sessions q.events after'.sessions)
       (sym messages) q.fed in
       let here_legal : IsLegal (facts_of k) ([] ++ turns_of p.events) = legal_of after p.events p.same.0 p.turns_are legal in
       let there_legal : IsLegal (facts_of k) ([] ++ turns_of q.events) = legal_of after' q.events q.same.0 q.turns_are legal' in
       let one =
-      one_script k 0 [] (map (step_of now) p.messages) (opening k now).sessions after.sessions after'.sessions p.events q.events here_legal
+      one_script k 0 [] (map (step_of now) p.messages) (before_any_line k now).sessions after.sessions after'.sessions p.events q.events here_legal
       there_legal p.holds q.holds p.fed there in
       one_print p.events text other p.printed (subst (λ (es : List Event). ArePrinted es other) (sym one.0) q.printed)
     where
@@ -118,7 +118,7 @@ module _ (one_script : (k : Contents) (seat : ℕ) (turns : List Turn) (steps : 
       let lines : q.reads.lines ≡ p.reads.lines = one_lines input q.reads.lines p.reads.lines has' has in
       let put : p.reads.put ≡ q.reads.put =
       one_text k now p.after q.after p.reads.lines p.reads.put q.reads.put p.reads.replayed
-      (subst (λ (l : List (List ℕ)). AllReplayed (opening k now) q.after l q.reads.put) lines q.reads.replayed)
+      (subst (λ (l : List (List ℕ)). AllReplayed (before_any_line k now) q.after l q.reads.put) lines q.reads.replayed)
       p.legal.legal q.legal.legal in
       append_cancel_left held text p.reads.put p.reads.wrote ∙ (put ∙ sym (append_cancel_left held' other q.reads.put q.reads.wrote))
 

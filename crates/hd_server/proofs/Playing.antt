@@ -10,7 +10,7 @@ use Rattle.hd_exchange.specs.declared.fault.OfficeFault.{OfficeFault}
 use Rattle.hd_exchange.specs.declared.fault.OfficeFault.TheVariants as office
 use Rattle.std.proofs.Math.Seq.{take-append_seam}
 use Rattle.hd_session.specs.Endings.{EndsWell}
-use Rattle.hd_session.specs.Scripts.{AreFed, Event, IsFaultOf, Plays, Step, session_at, written}
+use Rattle.hd_session.specs.Scripts.{AreFed, Event, IsFaultOf, Plays, Step, session_at, replies_written}
 use Rattle.hd_session.specs.Sessions.{Hearing, new_session}
 use Rattle.hd_session.specs.declared.ended.Ended.{Ended}
 use Rattle.hd_session.specs.declared.ended.Ended.TheVariants as ended
@@ -19,8 +19,8 @@ use Rattle.hd_session.specs.declared.script.ScriptFault.TheVariants.{Stranger}
 use Rattle.std.specs.List.{All}
 use Rattle.hd_server.specs.declared.fault.ServerFault.{ServerFault}
 use Rattle.hd_server.specs.declared.fault.ServerFault.TheVariants as fault
-use Rattle.hd_server.specs.Inputs.{AreLines, HasSession, Message, line_of}
-use Rattle.hd_server.specs.Printing.{ArePrinted, IsPrinted, Prints, end_text, printed}
+use Rattle.hd_server.specs.Inputs.{AreLines, HasSession, InputMessage, line_of}
+use Rattle.hd_server.specs.Printing.{ArePrinted, IsEventText, PrintsBehind, end_text, printed_line}
 use Rattle.hd_server.specs.Replays.{AreEmpty, AreWellToLast, IsOfOffice, IsWell, PartReplayed, Progress, ReplayedOnto, ReplayedUpTo, Replays, faults}
 use Rattle.hd_server.proofs.Lining.{all_one}
 
@@ -70,10 +70,10 @@ one_fed k step ss ss' (event ∷ events) fed = record {
 }
 
 -- what is written in one event: to its session its text, and nothing to others
-written_here : (event : Event) (i : ℕ) → event.session ≡ i → written i (event ∷ []) ≡ event.text
+written_here : (event : Event) (i : ℕ) → event.session ≡ i → replies_written i (event ∷ []) ≡ event.text
 written_here event i is = let own : (event.session == i) ≡ true = eq-eqb _ _ is in rw own (append-nil event.text)
 
-written_elsewhere : (event : Event) (i : ℕ) → (event.session ≡ i → ⊥) → written i (event ∷ []) ≡ []
+written_elsewhere : (event : Event) (i : ℕ) → (event.session ≡ i → ⊥) → replies_written i (event ∷ []) ≡ []
 written_elsewhere event i other = let own : (event.session == i) ≡ false = ne_eqb event.session i other in rw own refl
 
 -- a piece for one of the sessions is no stranger's
@@ -95,7 +95,7 @@ module _ (number : ℕ) (text bytes rest : List ℕ) (parts : List (List ℕ)) (
     (plays : Plays before.contents 0 faults (record { session = number - 1; piece = record { now = before.now; bytes = bytes } } ∷ [])
     before.sessions after.sessions before.turns after.turns outs outs')
     (lines : AreLines 13 (get_or outs' (number - 1) []) parts rest) where
-  abbrev pub message : Message
+  abbrev pub message : InputMessage
   message = record { session = number; text = text }
 
   abbrev pub step : Step
@@ -117,13 +117,13 @@ module _ (number : ℕ) (text bytes rest : List ℕ) (parts : List (List ℕ)) (
   text_is : get_or outs' (number - 1) [] ≡ fed.event.text
   text_is =
       plays.outs_are (number - 1) (omega (arith, one, few, sessions))
-      ∙ (ap (λ (t : List ℕ). t ++ written (number - 1) plays.events) (empty (number - 1))
-      ∙ (ap (written (number - 1)) fed.events_are ∙ written_here fed.event (number - 1) fed.session_is))
+      ∙ (ap (λ (t : List ℕ). t ++ replies_written (number - 1) plays.events) (empty (number - 1))
+      ∙ (ap (replies_written (number - 1)) fed.events_are ∙ written_here fed.event (number - 1) fed.session_is))
 
   -- the line is replayed, and its replies and its end are the text
   pub line_replayed : (Holds : List Event → Type 0) → ((event : Event) → event.ended ≡ ended_so → Holds (event ∷ []))
       → (after.contents ≡ before.contents) × (after.now ≡ before.now) → after.lines ≡ before.lines + 1
-      → Replays Holds before after (line_of message ∷ []) (flat_map (printed number) parts ++ end_text number ended_so)
+      → Replays Holds before after (line_of message ∷ []) (flat_map (printed_line number) parts ++ end_text number ended_so)
   line_replayed Holds holds same counted = record {
     messages = message ∷ [];
     lines_are = refl;
@@ -133,14 +133,14 @@ module _ (number : ℕ) (text bytes rest : List ℕ) (parts : List (List ℕ)) (
     fed = subst (λ (b : List ℕ). AreFed before.contents 0 faults
         (record { session = number - 1; piece = record { now = before.now; bytes = b } } ∷ []) before.sessions plays.events after.sessions)
         is plays.fed;
-    printed = subst (λ (es : List Event). ArePrinted es (flat_map (printed number) parts ++ end_text number ended_so)) (sym fed.events_are)
-        (flat_map (printed number) parts ++ end_text number ended_so, [], prints, refl, sym (append-nil _));
+    printed = subst (λ (es : List Event). ArePrinted es (flat_map (printed_line number) parts ++ end_text number ended_so)) (sym fed.events_are)
+        (flat_map (printed_line number) parts ++ end_text number ended_so, [], prints, refl, sym (append-nil _));
     same = same;
     turns_are = plays.turns_are;
     counted = counted;
   }
     where
-      prints : IsPrinted fed.event (flat_map (printed number) parts ++ end_text number ended_so)
+      prints : IsEventText fed.event (flat_map (printed_line number) parts ++ end_text number ended_so)
       prints = record {
         replies = parts;
         rest = rest;
@@ -153,7 +153,7 @@ module _ (number : ℕ) (text bytes rest : List ℕ) (parts : List (List ℕ)) (
   pub line_put : (end : Result (Unit {0}) ServerFault) (out out' : List ℕ) → (after.contents ≡ before.contents) × (after.now ≡ before.now) →
       after.lines ≡ before.lines + 1
       → IsOfOffice ended_so → IfErr end (λ why. why ≡ fault.Memory) → OnOk end (EndsWell ended_so)
-      → Prints out out' (flat_map (printed number) parts ++ end_text number ended_so) end →
+      → PrintsBehind out out' (flat_map (printed_line number) parts ++ end_text number ended_so) end →
       ReplayedOnto before after (line_of message ∷ []) end out out'
   line_put (Ok done) out out' same counted office memory well prints =
       (_, line_replayed (All IsWell) (λ event is. all_one IsWell event (subst EndsWell (sym is) well)) same counted, prints)
@@ -172,7 +172,7 @@ module _ (number : ℕ) (text bytes rest : List ℕ) (parts : List (List ℕ)) (
         first = line_of message ∷ [];
         later = [];
         split = refl;
-        text = flat_map (printed number) parts ++ end_text number ended_so;
+        text = flat_map (printed_line number) parts ++ end_text number ended_so;
         replays =
             line_replayed AreWellToLast (λ event is. subst (λ (end : Option Ended). EndsWell end ⊎ (end ≡ Some ended.Memory)) (sym is)
             (last ended_so office)) same counted;
@@ -198,8 +198,8 @@ emptied at outs outs' step k ss ss' turns turns' empty here sessions size plays 
           get_or-set_other outs' at i [] [] other
           ∙ ⊎_elim
           (λ within. plays.outs_are i (omega (arith, within, sessions))
-          ∙ (ap (λ (t : List ℕ). t ++ written i plays.events) (empty i)
-          ∙ (ap (written i) fed.events_are ∙ written_elsewhere fed.event i (λ same. other (sym same ∙ (fed.session_is ∙ here))))))
+          ∙ (ap (λ (t : List ℕ). t ++ replies_written i plays.events) (empty i)
+          ∙ (ap (replies_written i) fed.events_are ∙ written_elsewhere fed.event i (λ same. other (sym same ∙ (fed.session_is ∙ here))))))
           (λ past. get_or_past outs' i [] (omega (arith, past, size)))
           (cases_lt i 64)
     ] refl

@@ -3,7 +3,7 @@ use Rattle.std.proofs.Common.{◌≡◌, ◌∙◌, ◌⊎◌, inl, inr, ⊎_eli
 use Rattle.std.proofs.Common.{decimal, drop, get_or, length, length-append, ap, append_assoc, arith, refl, subst, sym}
 use Rattle.std.proofs.lemmas.Bool.{cases_lt}
 use Rattle.std.proofs.lemmas.Fmt.{decimal_digit, decimal_step}
-use Rattle.hd_server.specs.Inputs.{IsLineOf, IsNumber, Message}
+use Rattle.hd_server.specs.Inputs.{IsLineOf, IsSessionNumber, InputMessage}
 use Rattle.hd_server.proofs.Lining.{first_alone, stands_there}
 
 -- a number of two digits
@@ -18,7 +18,7 @@ HasDigits n digits =
     ((n < 10) × (length digits ≡ 1) × (get_or digits 0 0 ≡ 48 + n))
     ⊎ ((10 ≤ n) × (length digits ≡ 2) × (get_or digits 0 0 ≡ 48 + n / 10) × (get_or digits 1 0 ≡ 48 + n % 10))
 
-pub digits_of : (n : ℕ) (digits : List ℕ) → IsNumber n → decimal n ≡ digits → HasDigits n digits
+pub digits_of : (n : ℕ) (digits : List ℕ) → IsSessionNumber n → decimal n ≡ digits → HasDigits n digits
 digits_of n digits is same =
     let few = is.1 in
     ⊎_elim
@@ -46,7 +46,7 @@ number_of_digits n digits few (inr (two, len, first, second)) =
     two_bytes (a ∷ b ∷ c ∷ d) len = absurd (omega (arith, len))
 
 -- no blank stands in it
-pub no_blank : (n : ℕ) → IsNumber n → Contains (decimal n) 32 → ⊥
+pub no_blank : (n : ℕ) → IsSessionNumber n → Contains (decimal n) 32 → ⊥
 no_blank n is there =
     ⊎_elim
     (λ one. in_one n one (subst (λ (d : List ℕ). Contains d 32) (decimal_digit n one) there))
@@ -63,13 +63,13 @@ no_blank n is there =
     in_two n (suc (suc i), within, same) = omega (arith, within)
 
 -- a line without a blank is no message's
-pub without_blank : (line : List ℕ) (message : Message) → (Contains line 32 → ⊥) → IsLineOf line message → ⊥
+pub without_blank : (line : List ℕ) (message : InputMessage) → (Contains line 32 → ⊥) → IsLineOf line message → ⊥
 without_blank line message none is =
     none (subst (λ (l : List ℕ). Contains l 32) (sym is.1) (stands_there 32 (decimal message.session) message.text))
 
 -- nor is one whose first part is no session's number
-pub without_number : (line front behind : List ℕ) (message : Message) → line ≡ front ++ 32 ∷ behind → (Contains front 32 → ⊥) →
-    ((n : ℕ) → IsNumber n → decimal n ≡ front → ⊥) → IsLineOf line message → ⊥
+pub without_number : (line front behind : List ℕ) (message : InputMessage) → line ≡ front ++ 32 ∷ behind → (Contains front 32 → ⊥) →
+    ((n : ℕ) → IsSessionNumber n → decimal n ≡ front → ⊥) → IsLineOf line message → ⊥
 without_number line front behind message split first none is =
     none message.session is.0 (first_alone 32 (decimal message.session) front message.text behind (no_blank message.session is.0) first
     (sym is.1 ∙ split)).0
@@ -90,7 +90,7 @@ behind_blank (f ∷ front) behind (t ∷ text) same =
     )
 
 -- a line that isn't a message's with a carriage return isn't one without
-pub no_message : (line text : List ℕ) → line ≡ text ++ 13 ∷ [] → ((message : Message) → IsLineOf line message → ⊥) → (message : Message) →
+pub no_message : (line text : List ℕ) → line ≡ text ++ 13 ∷ [] → ((message : InputMessage) → IsLineOf line message → ⊥) → (message : InputMessage) →
     IsLineOf text message → ⊥
 no_message line text whole none message is =
     none (record { session = message.session; text = message.text ++ 13 ∷ [] })

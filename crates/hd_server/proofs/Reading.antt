@@ -9,7 +9,7 @@ use Rattle.std.specs.Io.KnownBytes.{Appends, Consumes, IsAtEnd, Keeps}
 use Rattle.hd_server.specs.declared.fault.ServerFault.{ServerFault}
 use Rattle.hd_server.specs.declared.fault.ServerFault.TheVariants.{BadNow, Catalogue, InputTooLong, Memory, NoSession, Read, Write}
 use Rattle.hd_connection.specs.Streams.{Streams}
-use Rattle.hd_server.specs.Ends.{IsTime, Reads}
+use Rattle.hd_server.specs.Ends.{EndsSo, ReadsAndWrites}
 use Rattle.hd_server.specs.Inputs.{AreLines, with_rest}
 use Rattle.hd_server.specs.Replays.{AllReplayed, IsOfLine, IsStop, Progress, Replayed}
 use Rattle.hd_server.proofs.Lining.{are_append, are_none, lines_exist, not_in_nothing}
@@ -61,8 +61,8 @@ module _ (before now after : Progress) (from from' from'' to to' to'' : Option (
   -- more is read, in the middle of the input
   pub reads_more : (end : Result (Unit {0}) ServerFault) (chunk heard rest put : List ℕ) (whole : List (List ℕ)) →
       Consumes from' from'' chunk → take 16777216 (far.got ++ chunk) ≡ far.got ++ heard
-      → AreLines 10 (left ++ heard) whole rest → IsTime end (far.got ++ chunk) false → Replayed now after whole end put →
-      Appends to' to'' put → Reads before after streams end
+      → AreLines 10 (left ++ heard) whole rest → EndsSo end (far.got ++ chunk) false → Replayed now after whole end put →
+      Appends to' to'' put → ReadsAndWrites before after streams end
   reads_more end chunk heard rest put whole more cut behind time replayed wrote = record {
     got = far.got ++ chunk;
     read = Consumes-trans from from' from'' far.got chunk far.read more;
@@ -83,7 +83,7 @@ module _ (before now after : Progress) (from from' from'' to to' to'' : Option (
 
   -- the end of input is come to
   pub reads_rest : (end : Result (Unit {0}) ServerFault) (put : List ℕ) → Consumes from' from'' [] → IsAtEnd from'' → IfErr end IsStop
-      → Replayed now after (with_rest [] left) end put → Appends to' to'' put → Reads before after streams end
+      → Replayed now after (with_rest [] left) end put → Appends to' to'' put → ReadsAndWrites before after streams end
   reads_rest end put more at_end stops replayed wrote = record {
     got = far.got;
     read = subst (λ (t : List ℕ). Consumes from from'' t) (append-nil far.got) (Consumes-trans from from' from'' far.got [] far.read more);
@@ -109,7 +109,7 @@ module _ (before now after : Progress) (from from' from'' to to' to'' : Option (
       rest_after_all lines [] = sym (append-nil lines)
       rest_after_all lines (byte ∷ rest) = refl
 
-      in_time : (end : Result (Unit {0}) ServerFault) → IfErr end IsStop → IsTime end far.got true
+      in_time : (end : Result (Unit {0}) ServerFault) → IfErr end IsStop → EndsSo end far.got true
       in_time (Ok done) stops = (refl, short)
       in_time (Err (NoSession number)) stops = λ end. short
       in_time (Err Memory) stops = λ end. short
@@ -120,7 +120,7 @@ module _ (before now after : Progress) (from from' from'' to to' to'' : Option (
       in_time (Err BadNow) stops = absurd stops
 
 -- what stops the lines has its time
-pub time_of_stop : (fault : ServerFault) (got : List ℕ) → IsStop fault → IsTime (Err fault) got false
+pub time_of_stop : (fault : ServerFault) (got : List ℕ) → IsStop fault → EndsSo (Err fault) got false
 time_of_stop (NoSession number) got stop = λ end. absurd (false≢true end)
 time_of_stop Memory got stop = λ end. absurd (false≢true end)
 time_of_stop Write got stop = λ end. absurd (false≢true end)
@@ -132,7 +132,7 @@ time_of_stop BadNow got stop = absurd stop
 module _ (before now : Progress) (from from' from'' to to' : Option (List ℕ)) (left : List ℕ) (room counter : ℕ)
     (far : ReadSoFar before now from from' to to' left room counter) where
   -- a read failed
-  pub reads_failed : Keeps from' from'' → Reads before now (record { from = from; from' = from''; to = to; to' = to' }) (Err Read)
+  pub reads_failed : Keeps from' from'' → ReadsAndWrites before now (record { from = from; from' = from''; to = to; to' = to' }) (Err Read)
   reads_failed kept =
       let short : length far.got ≤ 16777216 = let room = far.short in omega (arith, room) in
       record {
@@ -155,7 +155,7 @@ module _ (before now : Progress) (from from' from'' to to' : Option (List ℕ)) 
 
   -- there was no memory for what was read
   pub reads_wanting : (chunk heard : List ℕ) → Consumes from' from'' chunk → take 16777216 (far.got ++ chunk) ≡ far.got ++ heard
-      → Reads before now (record { from = from; from' = from''; to = to; to' = to' }) (Err Memory)
+      → ReadsAndWrites before now (record { from = from; from' = from''; to = to; to' = to' }) (Err Memory)
   reads_wanting chunk heard more cut =
       let later = lines_exist 10 (left ++ heard) in
       reads_more before now now from from' from'' to to' to' left room counter far (Err Memory) chunk heard later.1 [] later.0 more cut
@@ -190,10 +190,10 @@ read_further before now after from from' from'' to to' to'' left room counter fa
 
 -- the fault that is passed on
 pub reads_passed : (before after : Progress) (bytes : Streams) (end : Result (Unit {0}) ServerFault) (fault : ServerFault) → IsErr end →
-    IsErrAnd end (λ f. f ≡ fault) → Reads before after bytes (Err fault) → Reads before after bytes end
+    IsErrAnd end (λ f. f ≡ fault) → ReadsAndWrites before after bytes (Err fault) → ReadsAndWrites before after bytes end
 reads_passed before after bytes (Ok done) fault err same reads = absurd (false≢true err)
 reads_passed before after bytes (Err other) fault err same reads =
-    subst (λ (f : ServerFault). Reads before after bytes (Err f)) (sym same) reads
+    subst (λ (f : ServerFault). ReadsAndWrites before after bytes (Err f)) (sym same) reads
 
 -- nothing has been read
 abbrev pub read_none : (p : Progress) (from to : Option (List ℕ)) → ReadSoFar p p from from to to [] 16777216 0

@@ -14,7 +14,7 @@ use Rattle.hd_session.specs.Sessions.{Hearing}
 use Rattle.hd_connection.specs.Streams.{IsCutShort}
 use Rattle.hd_server.specs.declared.fault.ServerFault.{ServerFault}
 use Rattle.hd_server.specs.declared.fault.ServerFault.TheVariants.{Catalogue, BadNow, NoSession, InputTooLong, Read, Write, Memory}
-use Rattle.hd_server.specs.Inputs.{HasSession, IsLineOf, Message, line_of}
+use Rattle.hd_server.specs.Inputs.{HasSession, IsLineOf, InputMessage, line_of}
 use Rattle.hd_server.specs.Printing.{ArePrinted}
 use Rattle.hd_server.specs.Replays.{AllReplayed, AreWellToLast, IsOfLine, IsWell, PartReplayed, Progress, Replayed, ReplayedUpTo, Replays}
 use Rattle.hd_server.specs.Replays.{StoppedAt, faults, step_of}
@@ -196,7 +196,7 @@ stops_after fault before between after xs later line text put of first rest =
     (up_to_after before between after xs (line ∷ []) fault text put first rest))
 
 -- a line that names no session
-pub stopped_here : (p : Progress) (line : List ℕ) (number : ℕ) → ((message : Message) → IsLineOf line message → ⊥) → number ≡ p.lines + 1 →
+pub stopped_here : (p : Progress) (line : List ℕ) (number : ℕ) → ((message : InputMessage) → IsLineOf line message → ⊥) → number ≡ p.lines + 1 →
     StoppedAt p p (line ∷ []) number []
 stopped_here p line number stranger is = record {
   first = [];

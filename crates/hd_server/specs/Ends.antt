@@ -12,7 +12,7 @@ use Rattle.hd_server.specs.declared.fault.ServerFault.{ServerFault}
 use Rattle.hd_server.specs.declared.fault.ServerFault.TheVariants.{Catalogue, BadNow, InputTooLong, Read}
 use Rattle.hd_server.specs.declared.fault.ServerFault.TheVariants.{Memory}
 use Rattle.hd_server.specs.Inputs.{AreLines, with_rest}
-use Rattle.hd_server.specs.Replays.{IsLegal, Progress, Replayed, opening}
+use Rattle.hd_server.specs.Replays.{IsLegalReplay, Progress, Replayed, before_any_line}
 
 -- Of the bytes that were read these are the lines: the whole ones among the first 16,777,216 bytes, and at
 -- the end of input also a last one that nothing ends.
@@ -25,15 +25,15 @@ pub record HasLines (got : List ℕ) (at_end : Bool) (lines : List (List ℕ)) :
 -- When it ends so: well, at the end of an input that isn't too long; as too long, past 16,777,216 bytes; at a
 -- read that fails, before either. A line stops it, and memory or a write fails, in an input that isn't too
 -- long yet, or in the whole lines of one that is.
-abbrev pub IsTime : Result (Unit {0}) ServerFault → List ℕ → Bool → Type 0
-IsTime (Ok _) got at_end = (at_end ≡ true) × (length got ≤ 16777216)
-IsTime (Err InputTooLong) got at_end = (at_end ≡ false) × (16777216 < length got)
-IsTime (Err Read) got at_end = (at_end ≡ false) × (length got ≤ 16777216)
-IsTime (Err _) got at_end = at_end ≡ true → length got ≤ 16777216
+abbrev pub EndsSo : Result (Unit {0}) ServerFault → List ℕ → Bool → Type 0
+EndsSo (Ok _) got at_end = (at_end ≡ true) × (length got ≤ 16777216)
+EndsSo (Err InputTooLong) got at_end = (at_end ≡ false) × (16777216 < length got)
+EndsSo (Err Read) got at_end = (at_end ≡ false) × (length got ≤ 16777216)
+EndsSo (Err _) got at_end = at_end ≡ true → length got ≤ 16777216
 
 -- So much is read and written from the beginning on: of the lines that are heard, those are replayed that the
 -- end says.
-pub record Reads (before after : Progress) (bytes : Streams) (end : Result (Unit {0}) ServerFault)
+pub record ReadsAndWrites (before after : Progress) (bytes : Streams) (end : Result (Unit {0}) ServerFault)
     : Type 0 where
   pub got : List ℕ
   pub read : Consumes bytes.from bytes.from' got
@@ -41,7 +41,7 @@ pub record Reads (before after : Progress) (bytes : Streams) (end : Result (Unit
   pub all : at_end ≡ true → IsAtEnd bytes.from'
   pub lines : List (List ℕ)
   pub heard : HasLines got at_end lines
-  pub time : IsTime end got at_end
+  pub time : EndsSo end got at_end
   pub put : List ℕ
   pub replayed : Replayed before after lines end put
   pub wrote : Appends bytes.to bytes.to' put
@@ -55,8 +55,8 @@ IsUntouched bytes = Keeps bytes.from bytes.from' × Keeps bytes.to bytes.to'
 pub record Replay (k : Contents) (now : Stamp) (bytes : Streams) (end : Result (Unit {0}) ServerFault)
     : Type 0 where
   pub after : Progress
-  pub reads : Reads (opening k now) after bytes end
-  pub legal : IsLegal after
+  pub reads : ReadsAndWrites (before_any_line k now) after bytes end
+  pub legal : IsLegalReplay after
 
 -- The same over the library of a catalogue file, at a present that can be read.
 pub record Runs (file present : List ℕ) (bytes : Streams) (end : Result (Unit {0}) ServerFault)

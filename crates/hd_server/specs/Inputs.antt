@@ -22,21 +22,21 @@ with_rest lines [] = lines
 with_rest lines (byte ∷ rest) = lines ++ (byte ∷ rest) ∷ []
 
 -- A message of an input: the number of its session, and its text.
-pub record Message : Type 0 where
+pub record InputMessage : Type 0 where
   pub session : ℕ
   pub text : List ℕ
 
 -- sessions are numbered from 1 to 64
-abbrev pub IsNumber : ℕ → Type 0
-IsNumber number = (1 ≤ number) × (number ≤ 64)
+abbrev pub IsSessionNumber : ℕ → Type 0
+IsSessionNumber number = (1 ≤ number) × (number ≤ 64)
 
-abbrev pub HasSession : Message → Type 0
-HasSession message = IsNumber message.session
+abbrev pub HasSession : InputMessage → Type 0
+HasSession message = IsSessionNumber message.session
 
 -- the line of a message: the number of its session, a blank (32), and its text
-abbrev pub line_of : Message → List ℕ
+abbrev pub line_of : InputMessage → List ℕ
 line_of message = decimal message.session ++ 32 ∷ message.text
 
 -- a line is that of a message of a session
-abbrev pub IsLineOf : List ℕ → Message → Type 0
+abbrev pub IsLineOf : List ℕ → InputMessage → Type 0
 IsLineOf line message = HasSession message × (line ≡ line_of message)

@@ -15,8 +15,8 @@ use Rattle.hd_session.specs.declared.ended.Ended.TheVariants as ended
 use Rattle.hd_server.specs.declared.fault.ServerFault.{ServerFault}
 use Rattle.hd_server.specs.declared.fault.ServerFault.TheVariants.{Catalogue, BadNow, NoSession, InputTooLong}
 use Rattle.hd_server.specs.declared.fault.ServerFault.TheVariants.{Read, Write, Memory}
-use Rattle.hd_server.specs.Inputs.{HasSession, IsLineOf, Message, line_of}
-use Rattle.hd_server.specs.Printing.{ArePrinted, Begins}
+use Rattle.hd_server.specs.Inputs.{HasSession, IsLineOf, InputMessage, line_of}
+use Rattle.hd_server.specs.Printing.{ArePrinted, BeginsWith}
 
 -- How far a replay has come: the library, the present, the sessions, the turns made, and the number of lines
 -- answered.
@@ -28,19 +28,20 @@ pub record Progress : Type 0 where
   pub lines : ℕ
 
 -- before any line
-abbrev pub opening : Contents → Stamp → Progress
-opening k now = record { contents = k; now = now; sessions = replicate 64 new_session; turns = []; lines = 0 }
+abbrev pub before_any_line : Contents → Stamp → Progress
+before_any_line k now =
+    record { contents = k; now = now; sessions = replicate 64 new_session; turns = []; lines = 0 }
 
 -- all turns are legal, and the headline holds of them
-abbrev pub IsLegal : Progress → Type 0
-IsLegal p = IsLegalBook p.contents p.turns
+abbrev pub IsLegalReplay : Progress → Type 0
+IsLegalReplay p = IsLegalBook p.contents p.turns
 
 -- what a journal alone can give: want of memory, and no other fault
 abbrev pub faults : OfficeFault → Type 0
 faults what = what ≡ fault.Memory
 
 -- what a message brings to its session at a present: its text, and a carriage return (13)
-abbrev pub step_of : Stamp → Message → Step
+abbrev pub step_of : Stamp → InputMessage → Step
 step_of now message =
     record { session = message.session - 1; piece = record { now = now; bytes = message.text ++ 13 ∷ [] } }
 
@@ -58,7 +59,7 @@ AreWellToLast (event ∷ next ∷ events) = IsWell event × AreWellToLast (next 
 -- events this holds.
 pub record Replays (Holds : List Event → Type 0) (before after : Progress) (lines : List (List ℕ))
     (text : List ℕ) : Type 0 where
-  pub messages : List Message
+  pub messages : List InputMessage
   pub lines_are : lines ≡ map line_of messages
   pub have_session : All HasSession messages
   pub events : List Event
@@ -81,7 +82,7 @@ pub record StoppedAt (before after : Progress) (lines : List (List ℕ)) (number
   pub line : List ℕ
   pub later : List (List ℕ)
   pub split : lines ≡ first ++ line ∷ later
-  pub stranger : (message : Message) → ¬ IsLineOf line message
+  pub stranger : (message : InputMessage) → ¬ IsLineOf line message
   pub number_is : number ≡ before.lines + length first + 1
   pub replayed : AllReplayed before after first text
 
@@ -93,7 +94,7 @@ pub record PartReplayed (before after : Progress) (lines : List (List ℕ)) (par
   pub split : lines ≡ first ++ later
   pub text : List ℕ
   pub replays : Replays AreWellToLast before after first text
-  pub begins : Begins text part
+  pub begins : BeginsWith text part
 
 -- how far some lines are replayed, and what is put out, where this fault is what it ends with: all where
 -- nothing is wrong with them; those before one that names no session; or some, where memory is wanting or a

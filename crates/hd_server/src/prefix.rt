@@ -1,6 +1,6 @@
 //! The session of a line of input.
 ghost use Rattle.std.specs.Prelude.{◌≡◌, ◌≤◌, ◌∷◌, ◌++◌, [], ℕ, Contains, IfNone, IfSome, decimal};
-ghost use Rattle.hd_server.specs.Inputs.{IsLineOf, IsNumber, Message};
+ghost use Rattle.hd_server.specs.Inputs.{IsLineOf, IsSessionNumber, InputMessage};
 
 use memchr::memchr;
 
@@ -13,7 +13,7 @@ pub(crate) const SESSIONS: usize = 64;
 pub(crate) fn session_of(line: &[u8]) -> Option<(usize, &[u8])>
     ensures found { IfSome result (λ found.
         IsLineOf line.now (record { session = found.0; text = found.1.now })) }
-    ensures none { IfNone result ((message : Message) → ¬ IsLineOf line.now message) }
+    ensures none { IfNone result ((message : InputMessage) → ¬ IsLineOf line.now message) }
 {
     let (digits, message) = at_blank(line)?;
     Some((number_of(digits)?, message))
@@ -31,8 +31,8 @@ fn at_blank(line: &[u8]) -> Option<(&[u8], &[u8])>
 
 /// The session's number that is written so: one or two digits, the first of which is no zero.
 fn number_of(digits: &[u8]) -> Option<usize>
-    ensures found { IfSome result (λ number. IsNumber number × (decimal number ≡ digits.now)) }
-    ensures none { IfNone result ((number : ℕ) → IsNumber number → ¬ (decimal number ≡ digits.now)) }
+    ensures found { IfSome result (λ number. IsSessionNumber number × (decimal number ≡ digits.now)) }
+    ensures none { IfNone result ((number : ℕ) → IsSessionNumber number → ¬ (decimal number ≡ digits.now)) }
 {
     let number = match digits {
         [ones @ b'1'..=b'9'] => usize::from(*ones - b'0'),

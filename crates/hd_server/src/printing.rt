@@ -2,7 +2,7 @@
 ghost use Rattle.std.specs.Prelude.{◌≡◌, ◌≢◌, ◌+◌, ◌∷◌, [], ◌++◌, ℕ, IfErr, List, MatchResult, OnOk, Some};
 ghost use Rattle.std.specs.Prelude.{flat_map};
 ghost use Rattle.hd_server.specs.Inputs.{AreLines};
-ghost use Rattle.hd_server.specs.Printing.{Prints, end_text, printed};
+ghost use Rattle.hd_server.specs.Printing.{PrintsBehind, end_text, printed_line};
 ghost use Rattle.hd_server.specs.Replays.{IsOfOffice};
 ghost use Rattle.hd_server.specs.declared.fault.ServerFault.TheVariants as fault;
 ghost use Rattle.hd_session.specs.Endings.{EndsWell};
@@ -26,7 +26,8 @@ pub(crate) fn print_answer<A: Allocator>(
     requires { IsOfOffice end }
     ensures printed { (parts : List (List ℕ)) × (rest : List ℕ)
         × AreLines 13 replies.now parts rest
-        × Prints out.old.items out.new.items (flat_map (printed session) parts ++ end_text session end)
+        × PrintsBehind out.old.items out.new.items
+        (flat_map (printed_line session) parts ++ end_text session end)
         result }
     ensures well { OnOk result (EndsWell end) }
     ensures memory { IfErr result (λ what. what ≡ fault.Memory) }
@@ -47,7 +48,7 @@ fn print_end<A: Allocator>(
     why: Ended,
 ) -> Result<(), ServerFault>
     requires { IsOfOffice (Some why) }
-    ensures printed { Prints out.old.items out.new.items (end_text session (Some why)) result }
+    ensures printed { PrintsBehind out.old.items out.new.items (end_text session (Some why)) result }
     ensures well { OnOk result (why ≡ ended.TooLong) }
     ensures memory { IfErr result (λ what. what ≡ fault.Memory) }
 {
@@ -72,7 +73,7 @@ fn print_replies<A: Allocator>(
 ) -> Result<(), AllocError>
     ensures { (parts : List (List ℕ)) × (rest : List ℕ)
         × AreLines 13 replies.now parts rest
-        × Prints out.old.items out.new.items (flat_map (printed session) parts) result }
+        × PrintsBehind out.old.items out.new.items (flat_map (printed_line session) parts) result }
 {
     let mut rest = replies;
     while let Some(reply) = line(rest) {
@@ -91,7 +92,7 @@ fn print_line<A: Allocator>(
     session: usize,
     text: &[u8],
 ) -> Result<(), AllocError>
-    ensures { Prints out.old.items out.new.items (printed session text.now) result }
+    ensures { PrintsBehind out.old.items out.new.items (printed_line session text.now) result }
 {
     let mut buffer = Buffer::new();
     let number = buffer.format(session).as_bytes();

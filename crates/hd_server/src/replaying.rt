@@ -3,11 +3,11 @@ ghost use Rattle.std.specs.Prelude.{◌≡◌, ◌⊎◌, ◌<◌, ◌≤◌, �
 ghost use Rattle.std.specs.Prelude.{OnOk};
 ghost use Rattle.std.specs.Prelude.{drop, vec_len};
 ghost use Rattle.std.specs.Io.KnownBytes.{Appends};
-ghost use Rattle.hd_server.specs.Ends.{IsReplayOf, IsUntouched, Reads, Replay};
+ghost use Rattle.hd_server.specs.Ends.{IsReplayOf, IsUntouched, ReadsAndWrites, Replay};
 ghost use Rattle.hd_server.specs.declared.fault.ServerFault.TheVariants.{Memory};
 ghost use Rattle.hd_server.specs.Inputs.{AreLines, with_rest};
 ghost use Rattle.hd_server.specs.Reasons.{HasReason};
-ghost use Rattle.hd_server.specs.Replays.{IsLegal, IsStop, Replayed};
+ghost use Rattle.hd_server.specs.Replays.{IsLegalReplay, IsStop, Replayed};
 
 use crate::fault::ServerFault;
 use crate::sessions::Sessions;
@@ -120,14 +120,14 @@ fn answer_input<A: Allocator + Copy, R: Input, W: Output>(
     to: &mut W,
 ) -> Result<(), ServerFault>
     requires { sessions.old.lines ≡ 0 }
-    ensures reads { Reads sessions.old sessions.new (record {
+    ensures reads { ReadsAndWrites sessions.old sessions.new (record {
       from = R.remaining from.old;
       from' = R.remaining from.new;
       to = W.contents to.old;
       to' = W.contents to.new;
     }) result }
     ensures why { IfErr result (HasReason (R.fails from.new) (W.fails to.new)) }
-    ensures legal { IsLegal sessions.old → IsLegal sessions.new }
+    ensures legal { IsLegalReplay sessions.old → IsLegalReplay sessions.new }
 {
     let mut input = Vec::new(alloc);
     let mut out = Vec::new(alloc);
@@ -166,7 +166,7 @@ fn answer_whole<A: Allocator + Copy, W: Output>(
     ensures stops { IfErr result IsStop }
     ensures why { IfErr result (HasReason ⊥ (W.fails to.new)) }
     ensures out { OnOk result (out.new.items ≡ []) }
-    ensures legal { IsLegal sessions.old → IsLegal sessions.new }
+    ensures legal { IsLegalReplay sessions.old → IsLegalReplay sessions.new }
 {
     let answered = sessions.answer_lines(input.as_mut_slice(), out);
     write_all(to, out.as_slice())?;
@@ -199,7 +199,7 @@ fn answer_rest<A: Allocator + Copy, W: Output>(
         × Appends (W.contents to.old) (W.contents to.new) put }
     ensures stops { IfErr result IsStop }
     ensures why { IfErr result (HasReason ⊥ (W.fails to.new)) }
-    ensures legal { IsLegal sessions.old → IsLegal sessions.new }
+    ensures legal { IsLegalReplay sessions.old → IsLegalReplay sessions.new }
 {
     if input.is_empty() {
         return Ok(());

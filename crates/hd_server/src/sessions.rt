@@ -2,7 +2,8 @@
 ghost use Rattle.std.specs.Prelude.{◌≡◌, ◌<◌, ◌≤◌, ◌+◌, ◌^◌, ◌++◌, ◌∷◌, [], ℕ, Contains, List, IfErr, IfNone};
 ghost use Rattle.std.specs.Prelude.{IfOk, IfSome, OnOk, drop, length, map, vec_len};
 ghost use Rattle.hd_server.specs.Inputs.{AreLines, EndsFirst, line_of};
-ghost use Rattle.hd_server.specs.Replays.{AreOfOffice, IsLegal, IsOfLine, ReplayedOnto, faults, opening};
+ghost use Rattle.hd_server.specs.Replays.{AreOfOffice, IsLegalReplay, IsOfLine, ReplayedOnto, faults};
+ghost use Rattle.hd_server.specs.Replays.{before_any_line};
 ghost use Rattle.hd_server.specs.declared.fault.ServerFault.TheVariants.{Memory};
 ghost use Rattle.hd_journal.specs.Books.{IsLegalBook};
 ghost use Rattle.hd_session.specs.Scripts.{AreKnownTo, Plays};
@@ -63,8 +64,8 @@ impl<A: Allocator + Copy> Sessions<A> {
     ) -> Result<Sessions<A>, AllocError>
         requires new { journal.turns ≡ [] }
         requires legal { IsLegalBook journal.contents journal.turns }
-        ensures new { IfOk result (λ sessions. sessions ≡ opening journal.contents now) }
-        ensures legal { IfOk result IsLegal }
+        ensures new { IfOk result (λ sessions. sessions ≡ before_any_line journal.contents now) }
+        ensures legal { IfOk result IsLegalReplay }
     {
         let mut sessions = Vec::new(alloc);
         let mut outs = Vec::new(alloc);
@@ -96,7 +97,7 @@ impl<A: Allocator + Copy> Sessions<A> {
             × ReplayedOnto self.old self.new lines result out.old.items out.new.items
             × IfOk result (λ used. (used ≤ length text.new) × (drop used text.new ≡ rest)) }
         ensures stops { IfErr result IsOfLine }
-        ensures legal { IsLegal self.old → IsLegal self.new }
+        ensures legal { IsLegalReplay self.old → IsLegalReplay self.new }
     {
         let mut used = 0;
         while let Some(end) = line_end(text, used) {
@@ -113,7 +114,7 @@ impl<A: Allocator + Copy> Sessions<A> {
         ensures replayed { (text : List ℕ) → line.now ≡ text ++ 13 ∷ []
             → ReplayedOnto self.old self.new (text ∷ []) result out.old.items out.new.items }
         ensures stops { IfErr result IsOfLine }
-        ensures legal { IsLegal self.old → IsLegal self.new }
+        ensures legal { IsLegalReplay self.old → IsLegalReplay self.new }
     {
         match session_of(line) {
             Some((number, piece)) => self.feed(number, piece, out),
@@ -133,7 +134,7 @@ impl<A: Allocator + Copy> Sessions<A> {
             → ReplayedOnto self.old self.new (line_of (record { session = number; text = text }) ∷ []) result
             out.old.items out.new.items }
         ensures memory { IfErr result (λ fault. fault ≡ Memory) }
-        ensures legal { IsLegal self.old → IsLegal self.new }
+        ensures legal { IsLegalReplay self.old → IsLegalReplay self.new }
     {
         self.lines += 1;
         let at = number - 1;

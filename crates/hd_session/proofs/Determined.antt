@@ -3,11 +3,12 @@ use Rattle.std.proofs.Common.{◌≡◌, inl, inr, ℕ, zero, Bool, true, false,
 use Rattle.std.proofs.Common.{arith, refl, sym, ap, ap₂, ◌∙◌, subst, append_assoc, set}
 use Rattle.std.proofs.lemmas.Option.{none-some}
 use Rattle.hd_date.specs.Stamps.{Stamp}
-use Rattle.hd_field.specs.Streams.{Begun, after, lines_in}
+use Rattle.hd_field.specs.Streams.{Begun, begun_after, lines_in}
 use Rattle.hd_guard.specs.Reading.{Reading, CheckedLine, PlainLine, WrongLine, read_line}
 use Rattle.hd_rules.specs.Facts.{Facts}
 use Rattle.hd_rules.specs.Journal.{IsLegal, IsLegalFrom, Turn, state_from}
-use Rattle.hd_rules.specs.Turns.{Message, State, start, turn_of}
+use Rattle.hd_rules.specs.Turns.{Message, State, start}
+use Rattle.hd_rules.specs.Machine.{turn_of}
 use Rattle.hd_rules.specs.declared.replies.TurnReply.{TurnReply}
 use Rattle.hd_catalogue.specs.Contents.{Contents, facts_of}
 use Rattle.hd_journal.specs.Asks.{SeatMessage}
@@ -20,7 +21,7 @@ use Rattle.hd_session.specs.Endings.{EndsWell}
 use Rattle.hd_session.specs.Scripts.{AreFed, Event, Step, session_at, turns_of}
 use Rattle.hd_session.specs.Sessions.{AreHeard, Hearing, IsCause, IsFedAt}
 use Rattle.hd_session.specs.Standing.{IsAnswered, IsHeard, IsReadAndAnswered, Stands, line_with}
-use Rattle.hd_session.specs.Trailers.{last_after, written}
+use Rattle.hd_session.specs.Trailers.{last_after, text_said}
 use Rattle.hd_session.specs.declared.ended.Ended.{Ended}
 use Rattle.hd_session.specs.declared.ended.Ended.TheVariants.{TooLong, Memory, Estranged, Unwritten}
 use Rattle.hd_session.proofs.Feeding.{end_of}
@@ -130,7 +131,7 @@ module _ (asks : (k : Contents) (seat : ℕ) (now : Stamp) (login : Option Login
             same_stands next next' one.2
                 (p.last ∙ (ap₂ (λ (says : Said) (reply : List ℕ). last_after s.last checked digit says reply) one.0 one.1 ∙ sym q.last))
                 (p.digit_is ∙ sym q.digit_is) (p.gaps_are ∙ sym q.gaps_are),
-            p.spelled ∙ (ap₂ (λ (says : Said) (reply : List ℕ). written s.last checked digit says reply) one.0 one.1 ∙ sym q.spelled),
+            p.spelled ∙ (ap₂ (λ (says : Said) (reply : List ℕ). text_said s.last checked digit says reply) one.0 one.1 ∙ sym q.spelled),
           ),
     )
 

@@ -2,7 +2,7 @@
 use Rattle.std.proofs.Common.{◌≡◌, ℕ, Bool, Option, List, [], ◌∷◌, ◌++◌, take, drop, length, sym, ap, refl, ◌∙◌, append_assoc}
 use Rattle.std.proofs.Math.Seq.{take-append_seam, drop-append_seam}
 use Rattle.hd_exchange.specs.declared.said.Said.{Said}
-use Rattle.hd_session.specs.Trailers.{last_after, written}
+use Rattle.hd_session.specs.Trailers.{last_after, text_said}
 use Rattle.std.proofs.lemmas.List.{take-append-drop}
 
 -- by a carriage return
@@ -19,7 +19,7 @@ sealed_so n text trailer =
 -- what is written of a reply that stands behind other text
 pub finished : (out reply all last kept : List ℕ) (from : ℕ) (checked : Bool) (digit : Option ℕ) (says : Said) → all ≡ out ++ reply
     → from ≡ length out → kept ≡ last
-    → take from all ++ written kept checked digit says (drop from all) ≡ out ++ written last checked digit says reply
+    → take from all ++ text_said kept checked digit says (drop from all) ≡ out ++ text_said last checked digit says reply
 finished out reply all last kept from checked digit says whole start same =
     rw (whole, start, same, take-append_seam, drop-append_seam) refl
 

@@ -5,7 +5,7 @@ use Rattle.std.proofs.lemmas.Option.{none-some}
 use Rattle.hd_date.specs.Stamps.{Stamp}
 use Rattle.hd_rules.specs.Journal.{Turn}
 use Rattle.hd_catalogue.specs.Contents.{Contents}
-use Rattle.hd_field.specs.Streams.{Begun, after, after_return, lines_in}
+use Rattle.hd_field.specs.Streams.{Begun, begun_after, after_return, lines_in}
 use Rattle.hd_exchange.specs.declared.fault.OfficeFault.{OfficeFault}
 use Rattle.hd_exchange.specs.declared.fault.OfficeFault.TheVariants as fault
 use Rattle.hd_session.specs.declared.ended.Ended.{Ended}
@@ -32,11 +32,11 @@ IsSettled h = h.ended ≡ None → h.begun.too_long ≡ false
 
 -- the lines of two pieces, and what has come of the next line after them
 pub record Cuts : Type 0 where
-  pub lines : (b : Begun) (first second : List ℕ) → lines_in b (first ++ second) ≡ lines_in b first ++ lines_in (after b first) second
-  pub rest : (b : Begun) (first second : List ℕ) → after b (first ++ second) ≡ after (after b first) second
+  pub lines : (b : Begun) (first second : List ℕ) → lines_in b (first ++ second) ≡ lines_in b first ++ lines_in (begun_after b first) second
+  pub rest : (b : Begun) (first second : List ℕ) → begun_after b (first ++ second) ≡ begun_after (begun_after b first) second
 
 -- nothing is heard of a stream whose line is too long
-nothing_heard : (b : Begun) (bytes : List ℕ) → b.too_long ≡ true → (lines_in b bytes ≡ []) × (b ≡ after b bytes)
+nothing_heard : (b : Begun) (bytes : List ℕ) → b.too_long ≡ true → (lines_in b bytes ≡ []) × (b ≡ begun_after b bytes)
 nothing_heard b [] long = (refl, refl)
 nothing_heard b (byte ∷ bytes) long = rw long (refl, refl)
 
@@ -70,7 +70,7 @@ module _ (cuts : Cuts) (k : Contents) (seat : ℕ) (faults : OfficeFault → Typ
         heard = subst (λ (ls : List (List ℕ)). AreHeard k seat now ls h.standing (made ++ made') h'.standing (text ++ text')) (sym lines)
             (heard_append k seat now (lines_in h.begun first) (lines_in between.begun second) h.standing between.standing h'.standing
             made made' text text' a.heard b.heard);
-        begun = b.begun ∙ (ap (λ (x : Begun). after x second) a.begun ∙ sym (cuts.rest h.begun first second));
+        begun = b.begun ∙ (ap (λ (x : Begun). begun_after x second) a.begun ∙ sym (cuts.rest h.begun first second));
         ended = b.ended;
       }
 
@@ -108,7 +108,7 @@ module _ (cuts : Cuts) (k : Contents) (seat : ℕ) (faults : OfficeFault → Typ
       ∙ (ap (λ (ls : List (List ℕ)). lines_in h.begun first ++ ls) dead.0 ∙ append-nil (lines_in h.begun first))) in
       record {
         heard = subst (λ (ls : List (List ℕ)). AreHeard k seat now ls h.standing made between.standing text) (sym lines) a.heard;
-        begun = dead.1 ∙ (ap (λ (x : Begun). after x second) a.begun ∙ sym (cuts.rest h.begun first second));
+        begun = dead.1 ∙ (ap (λ (x : Begun). begun_after x second) a.begun ∙ sym (cuts.rest h.begun first second));
         ended = a.ended;
       }
 
@@ -118,10 +118,10 @@ module _ (cuts : Cuts) (k : Contents) (seat : ℕ) (faults : OfficeFault → Typ
   end_then_more room first second made h between text a = record {
     before = a.before;
     line = a.line;
-    later = a.later ++ lines_in (after h.begun first) second;
+    later = a.later ++ lines_in (begun_after h.begun first) second;
     split = cuts.lines h.begun first second
-        ∙ (ap (λ (ls : List (List ℕ)). ls ++ lines_in (after h.begun first) second) a.split
-        ∙ append_assoc a.before (a.line ∷ a.later) (lines_in (after h.begun first) second));
+        ∙ (ap (λ (ls : List (List ℕ)). ls ++ lines_in (begun_after h.begun first) second) a.split
+        ∙ append_assoc a.before (a.line ∷ a.later) (lines_in (begun_after h.begun first) second));
     heard = a.heard;
     why = a.why;
     cause = a.cause;
@@ -205,7 +205,7 @@ module _ (k : Contents) (seat : ℕ) (faults : OfficeFault → Type 0) (now : St
 
   -- all lines of it are answered
   pub feeds_all : (room : ℕ) (piece : List ℕ) (h h' : Hearing) (turns turns' : List Turn) (out out' : List ℕ) → h.ended ≡ None
-      → h'.begun ≡ after h.begun piece → h'.ended ≡ end_of h'.begun.too_long
+      → h'.begun ≡ begun_after h.begun piece → h'.ended ≡ end_of h'.begun.too_long
       → Answers k seat now (lines_in h.begun piece) h.standing h'.standing turns turns' out out'
       → Feeds k seat faults now room h piece h' turns turns' out out'
   feeds_all room piece h h' turns turns' out out' is begun ended answers = record {

@@ -12,7 +12,7 @@ use Rattle.hd_catalogue.specs.Contents.{Contents}
 use Rattle.hd_exchange.specs.declared.fault.OfficeFault.{OfficeFault}
 use Rattle.hd_exchange.specs.declared.fault.OfficeFault.TheVariants as fault
 use Rattle.hd_session.specs.Sessions.{AreFedTo, Feeds, Hearing, IsFed, Piece, new_session, reason_of, stream}
-use Rattle.hd_session.specs.Scripts.{AreFed, Event, Plays, Step, events_of, pieces_of, session_at, text_of, turns_of, written}
+use Rattle.hd_session.specs.Scripts.{AreFed, Event, Plays, Step, events_of, pieces_of, session_at, text_of, turns_of, replies_written}
 use Rattle.hd_session.proofs.Causes.{fed_other}
 use Rattle.hd_session.proofs.Feeding.{Cuts, IsSettled, fed_after_fed, less_room, nothing_fed_at, settled_at}
 use Rattle.hd_session.proofs.Knowing.{each_goes_on}
@@ -54,7 +54,7 @@ module _ (k : Contents) (seat : ℕ) (faults : OfficeFault → Type 0) where
   -- what a session hears of a script are its own pieces
   pub hears_pieces : (steps : List Step) (ss ss' : List Hearing) (events : List Event) (i : ℕ) → i < length ss
       → AreFed k seat faults steps ss events ss'
-      → AreFedTo k seat faults 0 (pieces_of i steps) (session_at ss i) (turns_of (events_of i events)) (session_at ss' i) (written i events)
+      → AreFedTo k seat faults 0 (pieces_of i steps) (session_at ss i) (turns_of (events_of i events)) (session_at ss' i) (replies_written i events)
   hears_pieces [] ss ss' events i within (none, same) = rw (none, same) (refl, refl, refl)
   hears_pieces (step ∷ steps) ss ss' [] i within none = absurd none
   hears_pieces (step ∷ steps) ss ss' (event ∷ events) i within first =
@@ -64,7 +64,7 @@ module _ (k : Contents) (seat : ℕ) (faults : OfficeFault → Type 0) where
       let rest = hears_pieces steps then ss' events i longer first.rest in
       elim (step.session == i) as (λ t. (step.session == i) ≡ t
       → AreFedTo k seat faults 0 (pieces_of i (step ∷ steps)) (session_at ss i) (turns_of (events_of i (event ∷ events)))
-      (session_at ss' i) (written i (event ∷ events))) [
+      (session_at ss' i) (replies_written i (event ∷ events))) [
         | true ↦ λ is.
             let here : step.session ≡ i = eqb-true _ _ is in
             let own : (event.session == i) ≡ true = ap (λ (n : ℕ). n == i) first.same ∙ is in
@@ -78,7 +78,7 @@ module _ (k : Contents) (seat : ℕ) (faults : OfficeFault → Type 0) where
               then_made = turns_of (events_of i events);
               between = next;
               first_text = event.text;
-              then_text = written i events;
+              then_text = replies_written i events;
               first = heard;
               rest = rw there at rest;
               all_made = refl;
@@ -120,11 +120,11 @@ module _ (k : Contents) (seat : ℕ) (faults : OfficeFault → Type 0) where
   pub new_hears_stream : Cuts → (now : Stamp) (steps : List Step) (ss ss' : List Hearing) (events : List Event) (i : ℕ) → i < length ss
       → All (λ step. step.piece.now ≡ now) steps → AreFed k seat faults steps ss events ss' → session_at ss i ≡ new_session
       → IsFed k seat faults now 0 new_session (stream (pieces_of i steps)) (turns_of (events_of i events)) (session_at ss' i)
-      (written i events)
+      (replies_written i events)
   new_hears_stream cuts now steps ss ss' events i within all fed new =
       new_at_one_present cuts now 0 (pieces_of i steps) _ _ _ (pieces_at now steps i all)
       (subst (λ (h : Hearing). AreFedTo k seat faults 0 (pieces_of i steps) h (turns_of (events_of i events)) (session_at ss' i)
-      (written i events))
+      (replies_written i events))
       new (hears_pieces steps ss ss' events i within fed))
 
   -- no session ends by a fault that isn't want of memory and that its office can't give
@@ -143,7 +143,7 @@ module _ (k : Contents) (seat : ℕ) (faults : OfficeFault → Type 0) where
       (all_more (λ (e : Event). e.ended ≡ Some (reason_of f) → ⊥) event events (λ same. now_not (sym first.ended ∙ same)) rest.0, rest.1)
 
 -- what is written to a session in some events, and in some more
-pub written_append : (i : ℕ) (events then : List Event) → written i (events ++ then) ≡ written i events ++ written i then
+pub written_append : (i : ℕ) (events then : List Event) → replies_written i (events ++ then) ≡ replies_written i events ++ replies_written i then
 written_append i events then =
     ap text_of (filter-append (λ (event : Event). event.session == i) events then)
     ∙ flat_map-append (λ (event : Event). event.text) (events_of i events) (events_of i then)
@@ -182,8 +182,8 @@ module _ (k : Contents) (seat : ℕ) (faults : OfficeFault → Type 0) where
         ∙ ap (λ (t : List Turn). a ++ t) (sym (turns_append first.events rest.events))));
     outs_are = λ i within.
         rest.outs_are i (rw (fed_length steps ss between first.events first.fed) within)
-        ∙ (ap (λ (t : List ℕ). t ++ written i rest.events) (first.outs_are i within)
-        ∙ (append_assoc (get_or o i []) (written i first.events) (written i rest.events)
+        ∙ (ap (λ (t : List ℕ). t ++ replies_written i rest.events) (first.outs_are i within)
+        ∙ (append_assoc (get_or o i []) (replies_written i first.events) (replies_written i rest.events)
         ∙ ap (λ (t : List ℕ). get_or o i [] ++ t) (sym (written_append i first.events rest.events))));
   }
 

@@ -46,8 +46,8 @@ abbrev pub text_of : List Event → List ℕ
 text_of events = flat_map (λ event. event.text) events
 
 -- what is written to a session: the replies to it, in order
-abbrev pub written : ℕ → List Event → List ℕ
-written i events = text_of (events_of i events)
+abbrev pub replies_written : ℕ → List Event → List ℕ
+replies_written i events = text_of (events_of i events)
 
 -- each stands as a terminal of the catalogue, or as none
 abbrev pub AreKnownTo : Contents → List Hearing → Type 0
@@ -79,7 +79,7 @@ module _ (k : Contents) (seat : ℕ) (faults : OfficeFault → Type 0) where
     pub fed : AreFed steps ss events ss'
     pub turns_are : turns' ≡ turns ++ turns_of events
     pub outs_are : (i : ℕ) → i < length ss
-        → slice_index_or outs' i [] ≡ slice_index_or outs i [] ++ written i events
+        → slice_index_or outs' i [] ≡ slice_index_or outs i [] ++ replies_written i events
 
 -- pieces as they are handed in, all at one present
 abbrev pub steps_of : Stamp → List (ℕ × Bor (List ℕ)) → List Step

@@ -4,7 +4,7 @@ use Rattle.std.specs.Prelude.{Option, None, Some, if◌then◌else◌}
 use Rattle.hd_date.specs.Stamps.{Stamp}
 use Rattle.hd_rules.specs.Journal.{Turn}
 use Rattle.hd_catalogue.specs.Contents.{Contents}
-use Rattle.hd_field.specs.Streams.{Begun, opening, lines_in, after, after_return}
+use Rattle.hd_field.specs.Streams.{Begun, stream_start, lines_in, begun_after, after_return}
 use Rattle.hd_exchange.specs.declared.fault.OfficeFault.{OfficeFault}
 use Rattle.hd_exchange.specs.declared.fault.OfficeFault.TheVariants as fault
 use Rattle.hd_session.specs.declared.ended.Ended.{Ended}
@@ -20,7 +20,7 @@ pub record Hearing : Type 0 where
 
 -- a new session
 abbrev pub new_session : Hearing
-new_session = record { begun = opening; standing = nowhere; ended = None }
+new_session = record { begun = stream_start; standing = nowhere; ended = None }
 
 -- A piece of a stream, and the present at which it comes.
 pub record Piece : Type 0 where
@@ -56,7 +56,7 @@ module _ (k : Contents) (seat : ℕ) (now : Stamp) where
   pub record HearsAll (h : Hearing) (piece : List ℕ) (made : List Turn) (h' : Hearing) (text : List ℕ)
       : Type 0 where
     pub heard : AreHeard (lines_in h.begun piece) h.standing made h'.standing text
-    pub begun : h'.begun ≡ after h.begun piece
+    pub begun : h'.begun ≡ begun_after h.begun piece
     pub ended : h'.ended ≡ (if h'.begun.too_long then Some TooLong else None)
 
 -- there is something to a line: an empty one is answered nothing, and any other by some reply

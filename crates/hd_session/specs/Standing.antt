@@ -11,7 +11,7 @@ use Rattle.hd_exchange.specs.declared.login.Login.{Login}
 use Rattle.hd_exchange.specs.Answers.{AsksTheOffice, IsAnswer}
 use Rattle.hd_exchange.specs.Arrivals.{IsKnownLogin}
 use Rattle.hd_exchange.specs.declared.said.Said.{Said}
-use Rattle.hd_session.specs.Trailers.{last_after, send_again, written}
+use Rattle.hd_session.specs.Trailers.{last_after, send_again, text_said}
 
 -- What a session has come to: the terminal as which it stands; its last reply that isn't a 96, empty before
 -- any; the last sequence digit; and how many lines didn't carry the digit after the one before.
@@ -30,8 +30,8 @@ abbrev pub IsKnownTo : Contents → Stands → Type 0
 IsKnownTo k s = ForSome s.place (IsKnownLogin (facts_of k))
 
 -- one more, up to the greatest number of 64 bits
-abbrev pub counted : ℕ → ℕ
-counted n = if nat_lt n 18446744073709551615 then n + 1 else n
+abbrev pub one_gap_more : ℕ → ℕ
+one_gap_more n = if nat_lt n 18446744073709551615 then n + 1 else n
 
 -- the last digit after a right line
 abbrev pub digit_after : Option ℕ → Option ℕ → Option ℕ
@@ -42,7 +42,7 @@ digit_after digit (Some next) = Some next
 abbrev pub gaps_after : Option ℕ → ℕ → Option ℕ → ℕ
 gaps_after digit gaps None = gaps
 gaps_after None gaps (Some next) = gaps
-gaps_after (Some digit) gaps (Some next) = if next == next_digit digit then gaps else counted gaps
+gaps_after (Some digit) gaps (Some next) = if next == next_digit digit then gaps else one_gap_more gaps
 
 -- the line, where it carried a digit: by it a repeat is known
 abbrev pub line_with : Option ℕ → List ℕ → Option (List ℕ)
@@ -58,7 +58,7 @@ module _ (k : Contents) (seat : ℕ) (now : Stamp) where
     pub says : Said
     pub reply : List ℕ
     pub answer : IsAnswer k seat now s.place (line_with digit line) body says reply made next.place
-    pub spelled : text ≡ written s.last checked digit says reply
+    pub spelled : text ≡ text_said s.last checked digit says reply
     pub last : next.last ≡ last_after s.last checked digit says reply
     pub digit_is : next.digit ≡ digit_after s.digit digit
     pub gaps_are : next.gaps ≡ gaps_after s.digit s.gaps digit

@@ -1,7 +1,7 @@
 //! Closing a reply: its trailer, and its carriage return.
 ghost use Rattle.std.specs.Prelude.{◌≡◌, ◌<◌, ◌≤◌, ◌+◌, ◌∷◌, [], ◌++◌, drop, take, true};
 ghost use Rattle.std.specs.Prelude.{vec_capacity, vec_len};
-ghost use Rattle.hd_session.specs.Trailers.{closed, send_again};
+ghost use Rattle.hd_session.specs.Trailers.{text_and_trailer, send_again};
 
 use hd_guard::{Seq, seal};
 use hd_message::{Reply, write};
@@ -17,7 +17,8 @@ pub(crate) fn close<A: Allocator>(
 )
     requires from { from ≤ vec_len out.old }
     requires room { vec_len out.old + 10 ≤ vec_capacity out.old }
-    ensures text { out.new.items ≡ take from out.old.items ++ closed checked digit (drop from out.old.items) }
+    ensures text { out.new.items
+        ≡ take from out.old.items ++ text_and_trailer checked digit (drop from out.old.items) }
     ensures short { vec_len out.new ≤ vec_len out.old + 10 }
     ensures capacity { vec_capacity out.old ≤ vec_capacity out.new }
 {
@@ -32,7 +33,8 @@ pub(crate) fn close<A: Allocator>(
 fn close_checked<A: Allocator>(out: &mut Vec<u8, A>, from: usize, digit: Option<Seq>)
     requires from { from ≤ vec_len out.old }
     requires room { vec_len out.old + 10 ≤ vec_capacity out.old }
-    ensures text { out.new.items ≡ take from out.old.items ++ closed true digit (drop from out.old.items) }
+    ensures text { out.new.items
+        ≡ take from out.old.items ++ text_and_trailer true digit (drop from out.old.items) }
     ensures short { vec_len out.new ≤ vec_len out.old + 10 }
     ensures capacity { vec_capacity out.old ≤ vec_capacity out.new }
 {

@@ -6,7 +6,7 @@ ghost use Rattle.hd_catalogue.specs.Contents.{Contents, facts_of};
 ghost use Rattle.hd_field.specs.Streams.{lines_in};
 ghost use Rattle.hd_session.specs.Endings.{EndsWell};
 ghost use Rattle.hd_session.specs.Scripts.{AreFed, Event, Step};
-ghost use Rattle.hd_session.specs.Scripts.{events_of, pieces_of, session_at, turns_of, written};
+ghost use Rattle.hd_session.specs.Scripts.{events_of, pieces_of, session_at, turns_of, replies_written};
 ghost use Rattle.hd_session.specs.Sessions.{AreFedTo, Hearing, IsFed, Piece, new_session, reason_of, stream};
 ghost use Rattle.hd_exchange.specs.declared.fault.OfficeFault.{OfficeFault};
 ghost use Rattle.hd_exchange.specs.declared.fault.OfficeFault.TheVariants as fault;
@@ -49,7 +49,7 @@ pub fn sessions_hear_their_streams<A: Allocator, O: Office<A>>()
         → i < length ss
         → AreFed k seat O.faults steps ss events ss'
         → AreFedTo k seat O.faults 0 (pieces_of i steps) (session_at ss i) (turns_of (events_of i events))
-        (session_at ss' i) (written i events) }
+        (session_at ss' i) (replies_written i events) }
     ensures whole { (k : Contents) (seat : ℕ) (now : Stamp) (steps : List Step)
         (ss ss' : List Hearing) (events : List Event) (i : ℕ)
         → i < length ss
@@ -57,7 +57,7 @@ pub fn sessions_hear_their_streams<A: Allocator, O: Office<A>>()
         → AreFed k seat O.faults steps ss events ss'
         → session_at ss i ≡ new_session
         → IsFed k seat O.faults now 0 new_session (stream (pieces_of i steps)) (turns_of (events_of i events))
-        (session_at ss' i) (written i events) }
+        (session_at ss' i) (replies_written i events) }
 {
     cuts_change_nothing();
 }

@@ -14,11 +14,21 @@ use std::alloc::{AllocError, Allocator, Global};
 use std::marker::Model;
 
 /// A terminal's session: its line that hasn't ended, and where it stands (docs/protocol.md, "Sessions").
-#[derive(Drop)]
 pub struct Session<A: Allocator = Global> {
     stream: Stream<A>,
     standing: Standing<A>,
     ended: Option<Ended>,
+}
+
+// Written out, so that a caller's proof sees one call and not the drop of each field.
+impl<A: Allocator> Drop for Session<A> {
+    fn drop(self) {
+        let Session {
+            stream: _stream,
+            standing: _standing,
+            ended: _ended,
+        } = self;
+    }
 }
 
 impl<A: Allocator> Model for Session<A> {

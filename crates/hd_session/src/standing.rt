@@ -6,7 +6,7 @@ ghost use Rattle.hd_exchange.specs.Answers.{AsksTheOffice};
 ghost use Rattle.hd_session.specs.Sessions.{Answers, IsSomeLine};
 ghost use Rattle.hd_session.specs.Standing.{IsAnswered, IsKnownTo, LineAsks};
 ghost use Rattle.hd_session.specs.Standing.{digit_after, gaps_after, line_with, nowhere};
-ghost use Rattle.hd_session.specs.Trailers.{last_after, written};
+ghost use Rattle.hd_session.specs.Trailers.{last_after, text_said};
 
 use crate::closing::{close, put_send_again};
 use hd_date::Stamp18;
@@ -203,8 +203,8 @@ impl<A: Allocator + Copy> Standing<A> {
         requires from { from ≤ vec_len out.old }
         requires reply { vec_len out.old ≤ from + 2038 }
         requires room { from + 2048 ≤ vec_capacity out.old }
-        ensures text { out.new.items
-            ≡ take from out.old.items ++ written self.old.last checked digit said (drop from out.old.items) }
+        ensures text { out.new.items ≡ take from out.old.items
+            ++ text_said self.old.last checked digit said (drop from out.old.items) }
         ensures last { self.new.last ≡ last_after self.old.last checked digit said (drop from out.old.items) }
         ensures rest { (self.new.place ≡ self.old.place)
             × (self.new.digit ≡ self.old.digit)

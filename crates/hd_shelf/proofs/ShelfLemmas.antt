@@ -10,7 +10,7 @@ use Rattle.std.specs.FinMap.{FinMap, get, insert, remove, empty, get-empty}
 use Rattle.hd_rules.specs.declared.limits.TheConstants.{MOST_COPIES}
 use Rattle.hd_shelf.specs.declared.boards.TheConstants.{SPAN}
 use Rattle.hd_shelf.specs.Taken.{AreCounts, AreOnBoards, is_free_after}
-use Rattle.hd_shelf.specs.Shelf.{IsShelf, IsKept, LeastFree, StandsNowhere}
+use Rattle.hd_shelf.specs.Shelf.{IsShelf, IsCountedByBoard, LeastFree, StandsNowhere}
 use Rattle.hd_shelf.proofs.CopiesByPlace.{get-put, get-taken, put_here, put_elsewhere, taken_here, taken_elsewhere}
 use Rattle.hd_shelf.proofs.CountLemmas.{AreCounts-lt, AreCounts-some, AreCounts-none, AreCounts-begins, AreCounts-longer}
 use Rattle.hd_shelf.proofs.CountLemmas.{AreCounts-raise, AreCounts-lower}
@@ -140,7 +140,7 @@ board_has_room m room boards are within =
     AreCounts-lt (is_free_after m room) boards room are within (none_past_room m room room (omega arith))
 
 -- where no copy stands and no place has room, none is free
-pub IsKept-empty : IsKept empty 0 []
+pub IsKept-empty : IsCountedByBoard empty 0 []
 IsKept-empty = record {
   shelf = IsShelf-empty;
   above = λ place above. get-empty nat_cmp place;
@@ -155,9 +155,9 @@ at_next : (m : FinMap nat_cmp ℕ) (k : ℕ) → 1 ≤ k → get m (k - 1 + 1) �
 at_next m k one = let next : k - 1 + 1 ≡ k = omega arith in ap (get m) next
 
 -- a copy that stood nowhere at a free place
-pub IsKept-put : (m : FinMap nat_cmp ℕ) (k c room : ℕ) (boards : List ℕ) → IsKept m room boards → 1 ≤ k → k ≤ room → get m k ≡ None →
+pub IsKept-put : (m : FinMap nat_cmp ℕ) (k c room : ℕ) (boards : List ℕ) → IsCountedByBoard m room boards → 1 ≤ k → k ≤ room → get m k ≡ None →
     c < MOST_COPIES → StandsNowhere m c →
-    IsKept (insert m k c) room (set boards ((k - 1) / SPAN) (slice_index boards ((k - 1) / SPAN) - 1))
+    IsCountedByBoard (insert m k c) room (set boards ((k - 1) / SPAN) (slice_index boards ((k - 1) / SPAN) - 1))
 IsKept-put m k c room boards kept one within none small nowhere =
     let next : k - 1 + 1 ≡ k = omega arith
     in let counted = AreOnBoards-put m (k - 1) c room boards kept.free (omega arith) (at_next m k one ∙ none)
@@ -168,7 +168,7 @@ IsKept-put m k c room boards kept one within none small nowhere =
     }
 
 -- there is a free place on the board of one
-pub board_is_open : (m : FinMap nat_cmp ℕ) (k room : ℕ) (boards : List ℕ) → IsKept m room boards → 1 ≤ k → k ≤ room → get m k ≡ None →
+pub board_is_open : (m : FinMap nat_cmp ℕ) (k room : ℕ) (boards : List ℕ) → IsCountedByBoard m room boards → 1 ≤ k → k ≤ room → get m k ≡ None →
     0 < slice_index boards ((k - 1) / SPAN)
 board_is_open m k room boards kept one within none =
     AreCounts-some (is_free_after m room) boards (k - 1) kept.free.counts (board_of m room (k - 1) boards kept.free (omega arith))
@@ -188,8 +188,8 @@ in_room m k c room shelf above some =
     )
 
 -- without the copy of a place
-pub IsKept-take : (m : FinMap nat_cmp ℕ) (k c room : ℕ) (boards : List ℕ) → IsKept m room boards → get m k ≡ Some c →
-    IsKept (remove m k) room (set boards ((k - 1) / SPAN) (slice_index boards ((k - 1) / SPAN) + 1))
+pub IsKept-take : (m : FinMap nat_cmp ℕ) (k c room : ℕ) (boards : List ℕ) → IsCountedByBoard m room boards → get m k ≡ Some c →
+    IsCountedByBoard (remove m k) room (set boards ((k - 1) / SPAN) (slice_index boards ((k - 1) / SPAN) + 1))
 IsKept-take m k c room boards kept some =
     let within = in_room m k c room kept.shelf kept.above some
     in let next : k - 1 + 1 ≡ k = omega (arith, within.0)
@@ -202,7 +202,7 @@ IsKept-take m k c room boards kept some =
     }
 
 -- its board isn't all free before
-pub board_is_not_all_free : (m : FinMap nat_cmp ℕ) (k c room : ℕ) (boards : List ℕ) → IsKept m room boards → get m k ≡ Some c →
+pub board_is_not_all_free : (m : FinMap nat_cmp ℕ) (k c room : ℕ) (boards : List ℕ) → IsCountedByBoard m room boards → get m k ≡ Some c →
     slice_index boards ((k - 1) / SPAN) < SPAN
 board_is_not_all_free m k c room boards kept some =
     let within = in_room m k c room kept.shelf kept.above some
@@ -211,8 +211,8 @@ board_is_not_all_free m k c room boards kept some =
     (taken_if_some m room (k - 1) c (at_next m k within.0 ∙ some))
 
 -- more boards, and as many places that have room
-pub IsKept-longer : (m : FinMap nat_cmp ℕ) (room : ℕ) (boards more : List ℕ) → IsKept m room boards →
-    ((board : ℕ) → slice_index more board ≡ slice_index boards board) → length boards ≤ length more → IsKept m room more
+pub IsKept-longer : (m : FinMap nat_cmp ℕ) (room : ℕ) (boards more : List ℕ) → IsCountedByBoard m room boards →
+    ((board : ℕ) → slice_index more board ≡ slice_index boards board) → length boards ≤ length more → IsCountedByBoard m room more
 IsKept-longer m room boards more kept same longer = record {
   shelf = kept.shelf;
   above = kept.above;
@@ -223,8 +223,8 @@ IsKept-longer m room boards more kept same longer = record {
 }
 
 -- more places that have room
-pub IsKept-more : (m : FinMap nat_cmp ℕ) (room last : ℕ) (boards more : List ℕ) → IsKept m room boards → room ≤ last →
-    AreCounts (is_free_after m last) more → last ≤ SPAN * length more → IsKept m last more
+pub IsKept-more : (m : FinMap nat_cmp ℕ) (room last : ℕ) (boards more : List ℕ) → IsCountedByBoard m room boards → room ≤ last →
+    AreCounts (is_free_after m last) more → last ≤ SPAN * length more → IsCountedByBoard m last more
 IsKept-more m room last boards more kept higher counts enough = record {
   shelf = kept.shelf;
   above = λ place past. kept.above place (omega arith);
@@ -243,14 +243,14 @@ taken_on_board m room p boards are one within none =
     in rw (← at_next m p one) (some_if_taken m room (p - 1) (omega arith) off)
 
 -- the first board that has a free place begins before the last place that has room
-pub board_begins : (m : FinMap nat_cmp ℕ) (room board : ℕ) (boards : List ℕ) → IsKept m room boards →
+pub board_begins : (m : FinMap nat_cmp ℕ) (room board : ℕ) (boards : List ℕ) → IsCountedByBoard m room boards →
     position (nat_lt 0) boards ≡ Some board → SPAN * board < room
 board_begins m room board boards kept is =
     let first = first_is_open boards board is
     in AreCounts-begins (is_free_after m room) boards board room kept.free.counts first.0 first.1 (none_past_room m room)
 
 -- the least free place after those of the boards before it is the least of all
-pub least_if_some : (m : FinMap nat_cmp ℕ) (room board others place : ℕ) (boards : List ℕ) → IsKept m room boards →
+pub least_if_some : (m : FinMap nat_cmp ℕ) (room board others place : ℕ) (boards : List ℕ) → IsCountedByBoard m room boards →
     position (nat_lt 0) boards ≡ Some board → others ≡ board * SPAN → 1 ≤ place → get m place ≡ None →
     ((p : ℕ) → others < p → p < place → IsSome (get m p)) → place ≤ room + 1 → LeastFree m place
 least_if_some m room board others place boards kept is begins one none taken within = record {
@@ -264,7 +264,7 @@ least_if_some m room board others place boards kept is begins one none taken wit
 }
 
 -- the next after those that have room is the least where none of these is free
-pub least_if_none : (m : FinMap nat_cmp ℕ) (room : ℕ) (boards : List ℕ) → IsKept m room boards → position (nat_lt 0) boards ≡ None →
+pub least_if_none : (m : FinMap nat_cmp ℕ) (room : ℕ) (boards : List ℕ) → IsCountedByBoard m room boards → position (nat_lt 0) boards ≡ None →
     LeastFree m (room + 1)
 least_if_none m room boards kept none = record {
   from_one = omega arith;
@@ -279,6 +279,6 @@ pub LeastFree-bound : (m : FinMap nat_cmp ℕ) (free : ℕ) → IsShelf m → Le
 LeastFree-bound m free shelf least = taken_below m free shelf least.least
 
 -- where no place is free, there is no more room than copies
-pub room-bound : (m : FinMap nat_cmp ℕ) (room : ℕ) (boards : List ℕ) → IsKept m room boards → position (nat_lt 0) boards ≡ None →
+pub room-bound : (m : FinMap nat_cmp ℕ) (room : ℕ) (boards : List ℕ) → IsCountedByBoard m room boards → position (nat_lt 0) boards ≡ None →
     room ≤ MOST_COPIES
 room-bound m room boards kept none = omega (arith, LeastFree-bound m (room + 1) kept.shelf (least_if_none m room boards kept none))

@@ -27,7 +27,7 @@ pub record IsShelf (copies : map.FinMap nat_cmp ℕ) : Type 0 where
   pub known : (place copy : ℕ) → map.get copies place ≡ Some copy → copy < MOST_COPIES
 
 -- a shelf whose free places are counted by board
-pub record IsKept (copies : map.FinMap nat_cmp ℕ) (room : ℕ) (boards : List ℕ) : Type 0 where
+pub record IsCountedByBoard (copies : map.FinMap nat_cmp ℕ) (room : ℕ) (boards : List ℕ) : Type 0 where
   pub shelf : IsShelf copies
   pub above : (place : ℕ) → room < place → map.get copies place ≡ None
   pub free : AreOnBoards copies room boards

@@ -25,7 +25,7 @@ pub struct Places<A: Allocator = Global> {
 impl<A: Allocator> Model for Places<A> {
     ghost use Rattle.std.specs.Prelude.{◌-◌};
     ghost use Rattle.hd_shelf.specs.PlacesValue.{PlacesValue, places_code};
-    ghost use Rattle.hd_shelf.specs.Shelf.{IsKept};
+    ghost use Rattle.hd_shelf.specs.Shelf.{IsCountedByBoard};
 
     ghost Value = { PlacesValue };
 
@@ -33,7 +33,7 @@ impl<A: Allocator> Model for Places<A> {
 
     ghost view = { λ p. record { copies = p.table.entries; room = p.table.size - 1 } };
 
-    ghost invariant = { λ p. IsKept p.table.entries (p.table.size - 1) p.boards };
+    ghost invariant = { λ p. IsCountedByBoard p.table.entries (p.table.size - 1) p.boards };
 }
 
 impl<A: Allocator + Copy> Places<A> {

@@ -6,7 +6,7 @@ use Rattle.std.proofs.lemmas.Bool.Decides.{nat_tests}
 use Rattle.std.proofs.lemmas.Grind.{common_steps}
 use Rattle.std.proofs.lemmas.List.{get_or_read}
 use Rattle.hd_stock.specs.StockValue.{StockValue}
-use Rattle.hd_stock.specs.Counts.{is_home, of_title, of_home, HasEntry, HasOneMore, KeepsEntries}
+use Rattle.hd_stock.specs.Counts.{is_home, of_title, of_home, HasEntry, HasOneCopyMore, KeepsEntries}
 
 -- the new stock has these counts of the title and of its copies with this home, and keeps the other counts
 pub record IsWritten (old new : StockValue) (title branch count count_of_home : ℕ) : Type 0 where
@@ -85,7 +85,7 @@ less_at_home i t j b count was less = grind (arith, nat_tests)
 -- both counts were raised by one
 pub one_more : (old new : StockValue) (title branch count count_of_home : ℕ) → count ≡ of_title old title + 1 →
     count_of_home ≡ of_home old title branch + 1
-    → IsWritten old new title branch count count_of_home → HasOneMore new old title branch
+    → IsWritten old new title branch count count_of_home → HasOneCopyMore new old title branch
 one_more old new title branch count count_of_home more more_of_home written = record {
   titles = λ t. of_title-written old new title branch count count_of_home written t
       ∙ more_at title t count (of_title old t) (λ e. more ∙ ap (λ i. of_title old i + 1) e);
@@ -96,7 +96,7 @@ one_more old new title branch count count_of_home more more_of_home written = re
 -- both counts were lowered by one
 pub one_less : (old new : StockValue) (title branch count count_of_home : ℕ) → of_title old title ≡ count + 1 →
     of_home old title branch ≡ count_of_home + 1
-    → IsWritten old new title branch count count_of_home → HasOneMore old new title branch
+    → IsWritten old new title branch count count_of_home → HasOneCopyMore old new title branch
 one_less old new title branch count count_of_home less less_of_home written = record {
   titles = λ t. less_at title t count (of_title old t) (λ e. ap (λ i. of_title old i) (sym e) ∙ less)
       ∙ ap (λ n. n + (if title == t then 1 else 0)) (sym (of_title-written old new title branch count count_of_home written t));

@@ -23,7 +23,7 @@ pub record HasEntry (stock : StockValue) (title branch : ℕ) : Type 0 where
   pub of_home : IsSome (lookup (is_home title branch) stock.homes)
 
 -- the one has one more copy of this title with this home than the other, and otherwise as many
-pub record HasOneMore (one other : StockValue) (title branch : ℕ) : Type 0 where
+pub record HasOneCopyMore (one other : StockValue) (title branch : ℕ) : Type 0 where
   pub titles : (t : ℕ) → of_title one t ≡ of_title other t + (if title == t then 1 else 0)
   pub homes : (t b : ℕ) → of_home one t b
       ≡ of_home other t b + (if (title == t) && (branch == b) then 1 else 0)

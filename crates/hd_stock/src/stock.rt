@@ -1,7 +1,7 @@
 //! Counts of the copies on open shelves.
 ghost use Rattle.std.specs.Prelude.{◌≡◌, ℕ, ◌<◌, IfOk, OnOk, OnErr, IsOk, length};
 ghost use Rattle.hd_rules.specs.declared.limits.TheConstants.{MOST_COPIES};
-ghost use Rattle.hd_stock.specs.Counts.{of_title, of_home, HasEntry, HasOneMore, KeepsEntries};
+ghost use Rattle.hd_stock.specs.Counts.{of_title, of_home, HasEntry, HasOneCopyMore, KeepsEntries};
 
 use crate::home::Home;
 use hd_rules::{BranchNo, TitleNo};
@@ -50,7 +50,7 @@ impl<A: Allocator + Copy> Stock<A> {
         requires title { title < length self.old.titles }
         requires copies { of_title self.old title < MOST_COPIES }
         requires copies_of_home { of_home self.old title home < MOST_COPIES }
-        ensures ok { OnOk result (HasOneMore self.new self.old title home) }
+        ensures ok { OnOk result (HasOneCopyMore self.new self.old title home) }
         ensures entry { OnOk result (HasEntry self.new title home) }
         ensures err { OnErr result (self.new ≡ self.old) }
         ensures full { HasEntry self.old title home → IsOk result }
@@ -74,7 +74,7 @@ impl<A: Allocator> Stock<A> {
         requires entry { HasEntry self.old title home }
         requires copies { of_title self.old title < MOST_COPIES }
         requires copies_of_home { of_home self.old title home < MOST_COPIES }
-        ensures one_more { HasOneMore self.new self.old title home }
+        ensures one_more { HasOneCopyMore self.new self.old title home }
         ensures entries { KeepsEntries self.old self.new }
     {
         self.titles[title.number() as usize] += 1;
@@ -91,7 +91,7 @@ impl<A: Allocator> Stock<A> {
     pub fn take(&mut self, title: TitleNo, home: BranchNo)
         requires some_of_title { 0 < of_title self.old title }
         requires some_of_home { 0 < of_home self.old title home }
-        ensures one_less { HasOneMore self.old self.new title home }
+        ensures one_less { HasOneCopyMore self.old self.new title home }
         ensures entry { HasEntry self.new title home }
         ensures entries { KeepsEntries self.old self.new }
     {

@@ -2,10 +2,10 @@
 use Rattle.std.proofs.Common.{◌≡◌, ℕ, ◌<◌, ◌⊎◌, Option, None, Some, List, refl, sym, ap, ◌∙◌, inl, inr}
 use Rattle.std.specs.Prelude.{IfSome}
 use Rattle.hd_catalogue.specs.Contents.{Contents, branch_number, copy_number, facts_of, patron_number, title_number}
-use Rattle.hd_turn_row.specs.Columns.{AreKnown, AreShown, AskedTexts, IsShown, SaysAct, SaysAdmits, SaysBranch}
+use Rattle.hd_turn_row.specs.Columns.{AreKnownParts, AreShown, AskedTexts, IsShown, SaysAct, SaysAdmits, SaysBranch}
 use Rattle.hd_turn_row.specs.Columns.{SaysCopy, SaysPatron, SaysTitle}
 use Rattle.hd_turn_row.specs.Days.{IsDayText}
-use Rattle.hd_turn_row.specs.Faults.{IsFirstMisfit, IsFirstUnread, IsRead}
+use Rattle.hd_turn_row.specs.Faults.{IsFirstMisfit, IsFirstUnread, IsReadColumn}
 use Rattle.hd_turn_row.specs.Forms.{FitsForm}
 use Rattle.hd_turn_row.specs.Grown.{OnlyGrew}
 use Rattle.hd_turn_row.specs.declared.act.Act.{Act}
@@ -20,7 +20,7 @@ use Rattle.hd_turn_row.specs.Acts.{act_named, admits_named}
 
 -- a column that shows a part is read
 pub shown_read : {V : Type 0} (Says : V → List ℕ → Type 0) (part : Option V) (text : Option (List ℕ)) → IsShown Says part text
-    → IsRead Says text
+    → IsReadColumn Says text
 shown_read Says None None h = tt
 shown_read Says (Some part) (Some text) h = (part, h)
 shown_read Says None (Some text) h = absurd h
@@ -76,7 +76,7 @@ module _ (k : Contents) (texts : AskedTexts) where
       (shown_once IsDayText p.until q.until texts.until h.until g.until days)
 
   -- what they show is known
-  pub shown_known : (p : Parts) → AreShown k p texts → AreKnown (facts_of k) p
+  pub shown_known : (p : Parts) → AreShown k p texts → AreKnownParts (facts_of k) p
   unfolding facts_of patron_number copy_number title_number branch_number
   shown_known p h = record {
     patron =

@@ -4,7 +4,7 @@ use Rattle.hd_date.specs.Days.{IsCalendarDay, IsPrinted, end_of_days}
 use Rattle.hd_date.specs.Faults.{IsFirstFault}
 use Rattle.hd_date.specs.Stamps.{IsLocal, IsMoment, IsOwnPrint, IsStamp, Prints, Stamp}
 use Rattle.hd_date.specs.declared.fault.DateFault.{DateFault}
-use Rattle.hd_turn_row.specs.Days.{IsDayText, dashed, midnight_text}
+use Rattle.hd_turn_row.specs.Days.{IsDayText, day_with_dashes, midnight_text}
 
 -- the bytes of a date, with dashes
 abbrev pub with_dashes : List ℕ → List ℕ
@@ -117,5 +117,5 @@ pub one_day_text : ((y m d y' m' d' n : ℕ) → IsCalendarDay y m d n → IsCal
     → (day : ℕ) (text other : List ℕ) → IsDayText day text → IsDayText day other → text ≡ other
 one_day_text one_date day text other p q =
     let same = one_date p.year p.month p.day q.year q.month q.day day p.shows q.shows in
-    p.spelled ∙ ap (λ y. dashed y p.month p.day) same.0 ∙ ap (λ m. dashed q.year m p.day) same.1
-    ∙ ap (λ d. dashed q.year q.month d) same.2 ∙ sym q.spelled
+    p.spelled ∙ ap (λ y. day_with_dashes y p.month p.day) same.0 ∙ ap (λ m. day_with_dashes q.year m p.day) same.1
+    ∙ ap (λ d. day_with_dashes q.year q.month d) same.2 ∙ sym q.spelled

@@ -11,9 +11,9 @@ use Rattle.hd_rules.specs.declared.commands.Cancel.{Cancel}
 use Rattle.hd_rules.specs.declared.commands.Cancel.TheVariants as cancel
 use Rattle.hd_rules.specs.declared.turns.Asked.{Asked}
 use Rattle.hd_rules.specs.declared.turns.Asked.TheVariants as ask
-use Rattle.hd_turn_row.specs.Columns.{AreKnown}
+use Rattle.hd_turn_row.specs.Columns.{AreKnownParts}
 use Rattle.hd_turn_row.specs.Forms.{AreFit, FitsForm, form_of}
-use Rattle.hd_turn_row.specs.Parts.{cancel_parts, command_parts, parts_of}
+use Rattle.hd_turn_row.specs.Parts.{cancel_parts, command_parts, asked_parts}
 use Rattle.hd_turn_row.specs.declared.act.Act.{Act}
 use Rattle.hd_turn_row.specs.declared.act.Act.TheVariants as acts
 use Rattle.hd_turn_row.specs.declared.act.Admits.{Admits}
@@ -126,20 +126,20 @@ cancel_back (cancel.Adding patron title) = refl
 cancel_back (cancel.Deletion patron title) = refl
 cancel_back (cancel.Changing patron title) = refl
 
-asked_back : (asked : Asked) (parts : Parts) → parts_of asked ≡ Some parts → back parts ≡ asked
+asked_back : (asked : Asked) (parts : Parts) → asked_parts asked ≡ Some parts → back parts ≡ asked
 asked_back (ask.Command command) parts e =
     sym (ap back (same_some e)) ∙ command_back command.day command.action
 asked_back (ask.Cancel what) parts e = sym (ap back (same_some e)) ∙ cancel_back what
 asked_back (ask.Item copy) parts e = absurd (none_some e)
 
 -- the same parts are those of one ask
-pub asked_once : (asked other : Asked) (parts : Parts) → parts_of asked ≡ Some parts → parts_of other ≡ Some parts
+pub asked_once : (asked other : Asked) (parts : Parts) → asked_parts asked ≡ Some parts → asked_parts other ≡ Some parts
     → asked ≡ other
 asked_once asked other parts e f = sym (asked_back asked parts e) ∙ asked_back other parts f
 
 module _ (k : Facts) where
   -- what a command names is known where its parts are
-  command_known : (day : ℕ) (a : Action) → IsKnownAction k a → AreKnown k (command_parts day a)
+  command_known : (day : ℕ) (a : Action) → IsKnownAction k a → AreKnownParts k (command_parts day a)
   command_known day (action.Checkout patron copy may_renew) h = record { patron = h.0; copy = h.1; title = tt; branch = tt }
   command_known day (action.OffLine patron copy due) h = record { patron = h.0; copy = h.1; title = tt; branch = tt }
   command_known day (action.Checkin copy branch) h = record { patron = tt; copy = h.0; title = tt; branch = h.1 }
@@ -168,7 +168,7 @@ module _ (k : Facts) where
       record { patron = h.0; copy = tt; title = h.1; branch = h.2.1 }
   command_known day (action.Renew patron copy) h = record { patron = h.0; copy = h.1; title = tt; branch = tt }
 
-  cancel_known : (what : Cancel) → IsKnownCancel k what → AreKnown k (cancel_parts what)
+  cancel_known : (what : Cancel) → IsKnownCancel k what → AreKnownParts k (cancel_parts what)
   cancel_known (cancel.Loan copy) h = record { patron = tt; copy = h; title = tt; branch = tt }
   cancel_known (cancel.Return copy) h = record { patron = tt; copy = h; title = tt; branch = tt }
   cancel_known (cancel.Renewal copy) h = record { patron = tt; copy = h; title = tt; branch = tt }
@@ -177,13 +177,13 @@ module _ (k : Facts) where
   cancel_known (cancel.Changing patron title) h = record { patron = h.0; copy = tt; title = h.1; branch = tt }
 
   -- the parts of what names known things are known
-  pub parts_known : (asked : Asked) (parts : Parts) → parts_of asked ≡ Some parts → IsKnown k asked → AreKnown k parts
+  pub parts_known : (asked : Asked) (parts : Parts) → asked_parts asked ≡ Some parts → IsKnown k asked → AreKnownParts k parts
   parts_known (ask.Command command) parts e h =
-      subst (AreKnown k) (same_some e) (command_known command.day command.action h)
-  parts_known (ask.Cancel what) parts e h = subst (AreKnown k) (same_some e) (cancel_known what h)
+      subst (AreKnownParts k) (same_some e) (command_known command.day command.action h)
+  parts_known (ask.Cancel what) parts e h = subst (AreKnownParts k) (same_some e) (cancel_known what h)
   parts_known (ask.Item copy) parts e h = absurd (none_some e)
 
-  known_command : (day : ℕ) (a : Action) → AreKnown k (command_parts day a) → IsKnownAction k a
+  known_command : (day : ℕ) (a : Action) → AreKnownParts k (command_parts day a) → IsKnownAction k a
   known_command day (action.Checkout patron copy may_renew) h = (h.patron, h.copy)
   known_command day (action.OffLine patron copy due) h = (h.patron, h.copy)
   known_command day (action.Checkin copy branch) h = (h.copy, h.branch)
@@ -204,7 +204,7 @@ module _ (k : Facts) where
       (h.patron, h.title, (tt, h.branch))
   known_command day (action.Renew patron copy) h = (h.patron, h.copy)
 
-  known_cancel : (what : Cancel) → AreKnown k (cancel_parts what) → IsKnownCancel k what
+  known_cancel : (what : Cancel) → AreKnownParts k (cancel_parts what) → IsKnownCancel k what
   known_cancel (cancel.Loan copy) h = h.copy
   known_cancel (cancel.Return copy) h = h.copy
   known_cancel (cancel.Renewal copy) h = h.copy
@@ -213,10 +213,10 @@ module _ (k : Facts) where
   known_cancel (cancel.Changing patron title) h = (h.patron, h.title)
 
   -- and what has known parts names known things
-  pub asked_known : (asked : Asked) (parts : Parts) → parts_of asked ≡ Some parts → AreKnown k parts → IsKnown k asked
+  pub asked_known : (asked : Asked) (parts : Parts) → asked_parts asked ≡ Some parts → AreKnownParts k parts → IsKnown k asked
   asked_known (ask.Command command) parts e h =
-      known_command command.day command.action (subst (AreKnown k) (sym (same_some e)) h)
-  asked_known (ask.Cancel what) parts e h = known_cancel what (subst (AreKnown k) (sym (same_some e)) h)
+      known_command command.day command.action (subst (AreKnownParts k) (sym (same_some e)) h)
+  asked_known (ask.Cancel what) parts e h = known_cancel what (subst (AreKnownParts k) (sym (same_some e)) h)
   asked_known (ask.Item copy) parts e h = absurd (none_some e)
 
 -- a command has the columns of its act
@@ -263,7 +263,7 @@ cancel_fits (cancel.Changing patron title) =
     record { day = refl; patron = refl; copy = refl; title = refl; branch = refl; admits = refl; until = refl }
 
 -- what is asked has the columns of its act
-pub asked_fits : (asked : Asked) (parts : Parts) → parts_of asked ≡ Some parts → AreFit parts
+pub asked_fits : (asked : Asked) (parts : Parts) → asked_parts asked ≡ Some parts → AreFit parts
 asked_fits (ask.Command command) parts e = subst AreFit (same_some e) (command_fits command.day command.action)
 asked_fits (ask.Cancel what) parts e = subst AreFit (same_some e) (cancel_fits what)
 asked_fits (ask.Item copy) parts e = absurd (none_some e)

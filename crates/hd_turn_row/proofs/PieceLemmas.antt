@@ -1,7 +1,7 @@
 -- Pieces behind pieces.
 use Rattle.std.proofs.Common.{◌≡◌, ℕ, ◌≤◌, List, [], ◌∷◌, ◌++◌, slice_index, refl, sym, ap, subst, ◌∙◌, append_assoc, arith}
 use Rattle.hd_turn_row.specs.Days.{IsDayText}
-use Rattle.hd_turn_row.specs.Pieces.{IsJoined, IsPieceText, joined}
+use Rattle.hd_turn_row.specs.Pieces.{IsJoined, IsPieceText, with_blank_between}
 use Rattle.hd_turn_row.specs.declared.piece.Piece.{Piece}
 use Rattle.hd_turn_row.specs.declared.piece.Piece.TheVariants as piece
 use Rattle.hd_turn_row.proofs.PieceTexts.{AreLetters, AtLeast, IsSolid, piece_once, solid, word_small}
@@ -10,7 +10,7 @@ use Rattle.hd_turn_row.proofs.PieceTexts.{AreLetters, AtLeast, IsSolid, piece_on
 pub joined_both : (ps qs : List Piece) (old mid new : List ℕ) → IsJoined ps old mid → IsJoined qs mid new
     → IsJoined (ps ++ qs) old new
 joined_both [] qs old mid new h g = subst (λ (t : List ℕ). IsJoined qs t new) h g
-joined_both (p ∷ ps) qs old mid new h g = (h.0, h.1, joined_both ps qs (joined old h.0) mid new h.2 g)
+joined_both (p ∷ ps) qs old mid new h g = (h.0, h.1, joined_both ps qs (with_blank_between old h.0) mid new h.2 g)
 
 -- the pieces behind a text that isn't empty, each after a blank
 abbrev pub IsRest : List Piece → List ℕ → Type 0
@@ -146,5 +146,5 @@ pub joined_text_once : ((d : ℕ) (s t : List ℕ) → IsDayText d s → IsDayTe
 joined_text_once one_text [] old s t h g = h ∙ sym g
 joined_text_once one_text (p ∷ ps) old s t h g =
     let own : g.0 ≡ h.0 = piece_text_once one_text p g.0 h.0 g.1 h.1 in
-    joined_text_once one_text ps (joined old h.0) s t h.2
-    (subst (λ (word : List ℕ). IsJoined ps (joined old word) t) own g.2)
+    joined_text_once one_text ps (with_blank_between old h.0) s t h.2
+    (subst (λ (word : List ℕ). IsJoined ps (with_blank_between old word) t) own g.2)

@@ -5,7 +5,7 @@ use Rattle.std.specs.List.{find, list_all}
 use Rattle.std.specs.Prelude.{bytes_eq, nat_lt, ◌&&◌, decimal}
 use Rattle.std.proofs.lemmas.Bool.{ltb-true}
 use Rattle.std.proofs.lemmas.Fmt.{decimal_by_steps, decimal_injective}
-use Rattle.hd_turn_row.specs.Days.{IsDayText, dashed}
+use Rattle.hd_turn_row.specs.Days.{IsDayText, day_with_dashes}
 use Rattle.hd_turn_row.specs.Pieces.{IsNumberText, IsPieceText, word_text}
 use Rattle.hd_turn_row.specs.declared.piece.Piece.{Piece}
 use Rattle.hd_turn_row.specs.declared.piece.Piece.TheVariants as piece
@@ -176,7 +176,7 @@ solid (piece.Word w) text e = subst IsSolid (sym e) (solid_letters (word_text w)
 solid (piece.Number n) text h = subst IsSolid (sym h.spelled) (solid_digits (decimal n) (number_digits n h.in_range))
 solid (piece.Day d) text h = subst IsSolid (sym h.spelled) (solid_date h.year h.month h.day)
   where
-    solid_date : (year month day : ℕ) → IsSolid (dashed year month day)
+    solid_date : (year month day : ℕ) → IsSolid (day_with_dashes year month day)
     solid_date year month day = (
       omega arith,
       (
@@ -205,7 +205,7 @@ digits_letters : (xs : List ℕ) → AreDigits xs → AreLetters xs → ⊥
 digits_letters [] d l = d
 digits_letters (x ∷ xs) d l = omega (arith, d.0, l.0)
 
-date_at_least : (year month day low : ℕ) → AtLeast low (dashed year month day) → low ≤ 45
+date_at_least : (year month day low : ℕ) → AtLeast low (day_with_dashes year month day) → low ≤ 45
 date_at_least year month day low a = a.1.1.1.1.0
 
 date_letters : (day : ℕ) (text : List ℕ) → IsDayText day text → AreLetters text → ⊥

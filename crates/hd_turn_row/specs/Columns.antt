@@ -78,7 +78,7 @@ pub record AreShown (k : Contents) (parts : Parts) (texts : AskedTexts) : Type 0
   pub until : IsShown IsDayText parts.until texts.until
 
 -- all that is asked names things of the catalogue
-pub record AreKnown (k : Facts) (parts : Parts) : Type 0 where
+pub record AreKnownParts (k : Facts) (parts : Parts) : Type 0 where
   pub patron : IfSome parts.patron (λ patron. patron < k.patrons)
   pub copy : IfSome parts.copy (λ copy. copy < k.copies)
   pub title : IfSome parts.title (λ title. title < k.titles)

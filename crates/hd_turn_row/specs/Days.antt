@@ -3,8 +3,8 @@ use Rattle.std.specs.Prelude.{◌≡◌, ℕ, ◌<◌, List, ◌∷◌, ◌++◌
 use Rattle.hd_date.specs.Days.{IsCalendarDay, end_of_days, four_digits, two_digits}
 
 -- a date with dashes
-abbrev pub dashed : ℕ → ℕ → ℕ → List ℕ
-dashed year month day = four_digits year ++ 45 ∷ two_digits month ++ 45 ∷ two_digits day
+abbrev pub day_with_dashes : ℕ → ℕ → ℕ → List ℕ
+day_with_dashes year month day = four_digits year ++ 45 ∷ two_digits month ++ 45 ∷ two_digits day
 
 -- The text is that of the day of a number.
 pub record IsDayText (number : ℕ) (text : List ℕ) : Type 0 where
@@ -13,7 +13,7 @@ pub record IsDayText (number : ℕ) (text : List ℕ) : Type 0 where
   pub month : ℕ
   pub day : ℕ
   pub shows : IsCalendarDay year month day number
-  pub spelled : text ≡ dashed year month day
+  pub spelled : text ≡ day_with_dashes year month day
 
 -- The first moment of the day of such a text, in local time, as stamps are written.
 abbrev pub midnight_text : List ℕ → List ℕ

@@ -72,20 +72,20 @@ form_of acts.CancelDeletion admits = hold_form
 form_of acts.CancelChanging admits = hold_form
 
 -- a column has something where that is wanted, and nothing where it is barred
-abbrev pub Fits : {V : Type 0} → Need → Option V → Type 0
-Fits Wanted part = IsSome part
-Fits Barred part = part ≡ None
-Fits Free part = Unit {0}
+abbrev pub IsAsWanted : {V : Type 0} → Need → Option V → Type 0
+IsAsWanted Wanted part = IsSome part
+IsAsWanted Barred part = part ≡ None
+IsAsWanted Free part = Unit {0}
 
 -- The act has just the columns of its form.
 pub record FitsForm (form : Form) (parts : Parts) : Type 0 where
-  pub day : Fits form.day parts.day
-  pub patron : Fits form.patron parts.patron
-  pub copy : Fits form.copy parts.copy
-  pub title : Fits form.title parts.title
-  pub branch : Fits form.branch parts.branch
-  pub admits : Fits form.admits parts.admits
-  pub until : Fits form.until parts.until
+  pub day : IsAsWanted form.day parts.day
+  pub patron : IsAsWanted form.patron parts.patron
+  pub copy : IsAsWanted form.copy parts.copy
+  pub title : IsAsWanted form.title parts.title
+  pub branch : IsAsWanted form.branch parts.branch
+  pub admits : IsAsWanted form.admits parts.admits
+  pub until : IsAsWanted form.until parts.until
 
 -- the form of the parts' own act
 abbrev pub AreFit : Parts → Type 0

@@ -90,7 +90,7 @@ cancel_parts (cancel.Changing patron title) =
     record (bare acts.CancelChanging) { patron = Some patron; title = Some title }
 
 -- what is asked; a query changes nothing, and has no row
-abbrev pub parts_of : Asked → Option Parts
-parts_of (ask.Command command) = Some (command_parts command.day command.action)
-parts_of (ask.Cancel what) = Some (cancel_parts what)
-parts_of (ask.Item copy) = None
+abbrev pub asked_parts : Asked → Option Parts
+asked_parts (ask.Command command) = Some (command_parts command.day command.action)
+asked_parts (ask.Cancel what) = Some (cancel_parts what)
+asked_parts (ask.Item copy) = None

@@ -54,11 +54,11 @@ IsPieceText (piece.Number number) text = IsNumberText number text
 IsPieceText (piece.Day day) text = IsDayText day text
 
 -- one text behind another, with a blank between them
-abbrev pub joined : List ℕ → List ℕ → List ℕ
-joined [] more = more
-joined (x ∷ xs) more = (x ∷ xs) ++ 32 ∷ more
+abbrev pub with_blank_between : List ℕ → List ℕ → List ℕ
+with_blank_between [] more = more
+with_blank_between (x ∷ xs) more = (x ∷ xs) ++ 32 ∷ more
 
 -- The new text is the old one with the texts of these pieces behind it, each joined by a blank.
 abbrev pub IsJoined : List Piece → List ℕ → List ℕ → Type 0
 IsJoined [] old new = new ≡ old
-IsJoined (p ∷ ps) old new = (own : List ℕ) × IsPieceText p own × IsJoined ps (joined old own) new
+IsJoined (p ∷ ps) old new = (own : List ℕ) × IsPieceText p own × IsJoined ps (with_blank_between old own) new

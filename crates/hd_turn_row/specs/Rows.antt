@@ -8,7 +8,7 @@ use Rattle.hd_rules.specs.Turns.{Message}
 use Rattle.hd_rules.specs.declared.turns.Asked.{Asked}
 use Rattle.hd_turn_row.specs.Columns.{AreShown, AskedTexts, IsShown, SaysTerminal, asked_texts}
 use Rattle.hd_turn_row.specs.Days.{IsDayText}
-use Rattle.hd_turn_row.specs.Parts.{parts_of}
+use Rattle.hd_turn_row.specs.Parts.{asked_parts}
 use Rattle.hd_turn_row.specs.declared.parts.Parts.{Parts}
 use Rattle.hd_turn_row.specs.declared.row.Row.{Row}
 use Rattle.hd_turn_row.specs.declared.row.RowAsk.{RowAsk}
@@ -43,7 +43,7 @@ pub record IsRowOf (k : Contents) (seat : ℕ) (message : Message) (row : RowTex
   pub seat_is : row.seat ≡ seat
   pub terminal : SaysTerminal k message.terminal row.terminal
   pub parts : Parts
-  pub asked : parts_of message.asked ≡ Some parts
+  pub asked : asked_parts message.asked ≡ Some parts
   pub shown : AreShown k parts row.asked
   pub line : row.line ≡ message.line
 
@@ -54,4 +54,4 @@ pub record AreDaysOf (parts : Parts) (days : RowDays) : Type 0 where
 
 -- the same, where it is no query
 abbrev pub AreDaysOfAsked : Asked → RowDays → Type 0
-AreDaysOfAsked asked days = (parts : Parts) → parts_of asked ≡ Some parts → AreDaysOf parts days
+AreDaysOfAsked asked days = (parts : Parts) → asked_parts asked ≡ Some parts → AreDaysOf parts days

@@ -1,11 +1,11 @@
 //! What the parts of a row ask.
 ghost use Rattle.std.specs.Prelude.{◌≡◌, IfErr, IfOk, Some, option_and_then, option_map};
 ghost use Rattle.hd_turn_row.specs.Faults.{IsFirstMisfit};
-ghost use Rattle.hd_turn_row.specs.Forms.{AreFit, Fits, FitsForm, copy_form, copy_need, form_of, hold_form};
-ghost use Rattle.hd_turn_row.specs.Forms.{loan_form};
+ghost use Rattle.hd_turn_row.specs.Forms.{AreFit, IsAsWanted, FitsForm, copy_form, copy_need, form_of};
+ghost use Rattle.hd_turn_row.specs.Forms.{hold_form, loan_form};
 ghost use Rattle.hd_turn_row.specs.declared.act.Act.{Act};
 ghost use Rattle.hd_turn_row.specs.Parts.{admits_of, bare, checkout_act, command_parts, copy_of};
-ghost use Rattle.hd_turn_row.specs.Parts.{parts_of};
+ghost use Rattle.hd_turn_row.specs.Parts.{asked_parts};
 
 use crate::act::{Act, Admits};
 use crate::fault::RowFault;
@@ -15,7 +15,7 @@ use hd_rules::{Action, Asked, Cancel, Command, CopyNo, Day, HoldKind, PatronNo, 
 
 /// What the parts ask, or the first that is wanting or too many.
 pub(crate) fn asked_of(parts: &Parts) -> Result<Asked, RowFault>
-    ensures asked { IfOk result (λ asked. parts_of asked ≡ Some parts.now) }
+    ensures asked { IfOk result (λ asked. asked_parts asked ≡ Some parts.now) }
     ensures fault { IfErr result (IsFirstMisfit (form_of parts.now.act parts.now.admits) parts.now) }
 {
     let form = form_of(parts.act, parts.admits);
@@ -26,7 +26,7 @@ pub(crate) fn asked_of(parts: &Parts) -> Result<Asked, RowFault>
 /// What parts ask that have the columns of their act.
 fn asked_by(parts: &Parts) -> Asked
     requires { AreFit parts.now }
-    ensures { parts_of result ≡ Some parts.now }
+    ensures { asked_parts result ≡ Some parts.now }
 {
     match parts.act {
         Act::Checkout => Asked::Command(checkout(parts, false)),
@@ -195,7 +195,7 @@ fn hold_alone(parts: &Parts) -> (PatronNo, TitleNo)
 
 /// What a hold admits.
 fn kind_of(admits: Admits, copy: &Option<CopyNo>) -> HoldKind
-    requires { Fits (copy_need (Some admits)) copy.now }
+    requires { IsAsWanted (copy_need (Some admits)) copy.now }
     ensures admits { admits_of result ≡ admits }
     ensures copy { copy_of result ≡ copy.now }
 {
@@ -208,7 +208,7 @@ fn kind_of(admits: Admits, copy: &Option<CopyNo>) -> HoldKind
 
 /// What a changed hold admits, where the row says so.
 fn kind_if_any(admits: Option<Admits>, copy: &Option<CopyNo>) -> Option<HoldKind>
-    requires { Fits (copy_need admits) copy.now }
+    requires { IsAsWanted (copy_need admits) copy.now }
     ensures admits { option_map admits_of result ≡ admits }
     ensures copy { option_and_then copy_of result ≡ copy.now }
 {

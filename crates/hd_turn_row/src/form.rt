@@ -1,7 +1,7 @@
 //! Which columns each act has.
 ghost use Rattle.std.specs.Prelude.{◌≡◌, IfErr, OnErr, OnOk};
 ghost use Rattle.hd_turn_row.specs.Faults.{IsFirstMisfit, misfit};
-ghost use Rattle.hd_turn_row.specs.Forms.{Fits, FitsForm, copy_need, form_of, loan_form, no_form};
+ghost use Rattle.hd_turn_row.specs.Forms.{IsAsWanted, FitsForm, copy_need, form_of, loan_form, no_form};
 
 use crate::act::{Act, Admits};
 use crate::fault::{Column, RowFault};
@@ -136,9 +136,9 @@ pub(crate) fn fit(form: &Form, parts: &Parts) -> Result<(), RowFault>
 
 /// Checks that a column has something where that is wanted, and nothing where it is barred.
 fn fits<T>(column: Column, need: Need, part: &Option<T>) -> Result<(), RowFault>
-    ensures ok { OnOk result (Fits need part.now) }
+    ensures ok { OnOk result (IsAsWanted need part.now) }
     ensures fault { IfErr result (λ fault. fault ≡ misfit need column) }
-    ensures misfit { OnErr result (¬ Fits need part.now) }
+    ensures misfit { OnErr result (¬ IsAsWanted need part.now) }
 {
     match (need, part.is_some()) {
         (Need::Wanted, false) => Err(RowFault::Wanting(column)),

@@ -2,7 +2,7 @@
 ghost use Rattle.std.specs.Prelude.{◌≡◌, option_and_then, option_map};
 ghost use Rattle.hd_turn_row.specs.Parts.{admits_of, bare, cancel_parts, checkout_act, command_parts};
 ghost use Rattle.hd_turn_row.specs.Parts.{copy_of};
-ghost use Rattle.hd_turn_row.specs.Parts.{parts_of};
+ghost use Rattle.hd_turn_row.specs.Parts.{asked_parts};
 
 use crate::act::{Act, Admits};
 use hd_rules::{
@@ -24,7 +24,7 @@ pub(crate) struct Parts {
 
 /// What a command or a cancellation asks; `None` of a query, which changes nothing and has no row.
 pub(crate) fn parts_of(asked: &Asked) -> Option<Parts>
-    ensures { result ≡ parts_of asked.now }
+    ensures { result ≡ asked_parts asked.now }
 {
     match asked {
         Asked::Command(command) => Some(command_parts(command)),

@@ -4,7 +4,7 @@ ghost use Rattle.hd_catalogue.specs.Contents.{facts_of};
 ghost use Rattle.hd_rules.specs.Turns.{Message};
 ghost use Rattle.hd_turn_row.specs.Columns.{asked_texts};
 ghost use Rattle.hd_turn_row.specs.Faults.{IsFirstFault};
-ghost use Rattle.hd_turn_row.specs.Parts.{parts_of};
+ghost use Rattle.hd_turn_row.specs.Parts.{asked_parts};
 ghost use Rattle.hd_turn_row.specs.Rows.{AreDaysOfAsked, IsKnownMessage, IsRowOf, message_of, row_texts};
 
 use crate::asked::asked_of;
@@ -58,7 +58,7 @@ pub fn row_of<'a, A: Allocator + Copy>(
     requires days { AreDaysOfAsked ask.now.asked days.now }
     ensures row { IfSome result
         (λ row. IsRowOf catalogue.now ask.now.seat (message_of ask.now) (row_texts row)) }
-    ensures query { IfNone result (parts_of ask.now.asked ≡ None) }
+    ensures query { IfNone result (asked_parts ask.now.asked ≡ None) }
 {
     let parts = parts_of(&ask.asked)?;
     Some(Row {

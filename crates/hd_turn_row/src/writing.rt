@@ -2,8 +2,8 @@
 ghost use Rattle.std.specs.Prelude.{◌<◌, IfSome};
 ghost use Rattle.std.specs.Option.{option_copied};
 ghost use Rattle.hd_catalogue.specs.Contents.{facts_of};
-ghost use Rattle.hd_turn_row.specs.Columns.{AreKnown, AreShown, IsShown, SaysAdmits, SaysBranch, SaysCopy};
-ghost use Rattle.hd_turn_row.specs.Columns.{SaysPatron, SaysTitle, asked_texts};
+ghost use Rattle.hd_turn_row.specs.Columns.{AreKnownParts, AreShown, IsShown, SaysAdmits, SaysBranch};
+ghost use Rattle.hd_turn_row.specs.Columns.{SaysCopy, SaysPatron, SaysTitle, asked_texts};
 ghost use Rattle.hd_turn_row.specs.Rows.{AreDaysOf};
 
 use crate::act::Admits;
@@ -20,7 +20,7 @@ pub(crate) fn columns_of<'a, A: Allocator + Copy>(
     parts: &Parts,
     days: &'a RowDays,
 ) -> AskedColumns<'a>
-    requires known { AreKnown (facts_of catalogue.now) parts.now }
+    requires known { AreKnownParts (facts_of catalogue.now) parts.now }
     requires days { AreDaysOf parts.now days.now }
     ensures { AreShown catalogue.now parts.now (asked_texts result) }
 {

@@ -4,7 +4,7 @@ ghost use Rattle.sqlite.specs.State.{HasCleanDisk};
 ghost use Rattle.sqlite.specs.Files.{file_state};
 ghost use Rattle.sqlite.specs.Held.{state};
 ghost use Rattle.hd_ledger.specs.Holds.{Holds};
-ghost use Rattle.hd_ledger.specs.Kept.{Head, Kept};
+ghost use Rattle.hd_ledger.specs.Kept.{Head, KeptTurn};
 
 use crate::disks::{Disks, OnDisks, crash, empty, open};
 use crate::row::Row;

@@ -1,11 +1,11 @@
 use Rattle.std.proofs.Common.{◌≡◌, ◌<◌, ◌^◌, true, take}
 use Rattle.std.specs.List.{list_all}
-use Rattle.hd_catalogue.specs.Text.{value_of, is_digit}
+use Rattle.hd_catalogue.specs.Text.{number_written, is_digit}
 use Rattle.hd_catalogue.proofs.text.digits.Given as goal
 
 abbrev pub invariant-loop-digit : goal.invariant-loop-digit
 invariant-loop-digit l = record {
-  read : l.value ≡ value_of (take l.digit-index l.digits);
+  read : l.value ≡ number_written (take l.digit-index l.digits);
   digits_so_far : list_all is_digit (take l.digit-index l.digits) ≡ true;
   bound : l.value < 10 ^ l.digit-index;
 }

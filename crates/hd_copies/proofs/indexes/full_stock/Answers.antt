@@ -1,7 +1,7 @@
 use Rattle.std.proofs.Common.{◌≡◌, ℕ, ◌∙◌, ◌==◌, ◌&&◌, ap, arith, below_more}
 use Rattle.std.proofs.lemmas.Grind.{common_steps}
 use Rattle.hd_catalogue.specs.Contents.{facts_of}
-use Rattle.hd_stock.specs.Counts.{HasEntry, HasOneMore}
+use Rattle.hd_stock.specs.Counts.{HasEntry, HasOneCopyMore}
 use Rattle.hd_lemmas.proofs.Counts.{count_below-le}
 use Rattle.hd_copies.proofs.Opening.{count-next, stock-home}
 use Rattle.hd_copies.proofs.indexes.full_stock.Goals as goal
@@ -36,7 +36,7 @@ loop-number-preserved g c =
     let at : c.unwrap-copy.result ≡ c.loop-number.number = grind (arith, common_steps) in
     let title : c.title_of.result ≡ k.title_of c.loop-number.number = c.title_of.ensures.title ∙ ap k.title_of at in
     let home : c.home.result ≡ k.home c.loop-number.number = c.home.ensures.branch ∙ ap k.home at in
-    let more : HasOneMore c.stock.new.self c.loop-number.stock c.title_of.result c.home.result = c.in_ok-stock-2.ensures.ok in
+    let more : HasOneCopyMore c.stock.new.self c.loop-number.stock c.title_of.result c.home.result = c.in_ok-stock-2.ensures.ok in
     record {
       titles = c.in_ok-stock-2.ensures.entries.titles ∙ c.loop-number.invariant.titles;
       title = λ t. count-next (λ n. (k.title_of n) == t) c.loop-number.number _ _ (c.title_of.result == t) (ap (λ (x : ℕ). x == t) title)

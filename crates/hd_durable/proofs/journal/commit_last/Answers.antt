@@ -3,15 +3,15 @@ use Rattle.std.specs.Prelude.{option_map}
 use Rattle.hd_catalogue.specs.Contents.{Contents, facts_of}
 use Rattle.hd_rules.specs.Journal.{Turn, IsLegal}
 use Rattle.hd_journal.specs.Asks.{IsKnownMessage}
-use Rattle.hd_journal.specs.Shown.{shown}
+use Rattle.hd_journal.specs.Shown.{turn_shown}
 use Rattle.hd_durable.proofs.Durability.{last_is, on_ok, on_err}
 use Rattle.hd_durable.proofs.journal.commit_last.Goals as goal
 
 pub commit-requires : goal.commit-requires
 commit-requires g c =
-    let last : shown c.in-Some.last ≡ c.requires.last.1 =
-    last_is c.args.journal.now.turns c.requires.last.0 c.requires.last.1 c.front.result (shown c.in-Some.last)
-    c.requires.last.2 c.front.ensures.count (ap (option_map shown) (sym c.in-Some.is) ∙ c.turn_at.ensures)
+    let last : turn_shown c.in-Some.last ≡ c.requires.last.1 =
+    last_is c.args.journal.now.turns c.requires.last.0 c.requires.last.1 c.front.result (turn_shown c.in-Some.last)
+    c.requires.last.2 c.front.ensures.count (ap (option_map turn_shown) (sym c.in-Some.is) ∙ c.turn_at.ensures)
     in subst (λ (x : Turn). IsKnownMessage (facts_of (g.T.TurnTable.contents c.args.table.now)) x.message) (sym last)
     (subst (λ (k : Contents). IsKnownMessage (facts_of k) c.requires.last.1.message) (sym c.requires.catalogue)
     c.requires.last.3)
@@ -20,12 +20,12 @@ pub returns-clause-ok : goal.returns-clause-ok
 returns-clause-ok g c =
     on_ok c.commit.result _ _
     (λ ok turns held turn is legal holds.
-    let last : shown c.in-Some.last ≡ turn =
-    last_is c.args.journal.now.turns turns turn c.front.result (shown c.in-Some.last) is c.front.ensures.count
-    (ap (option_map shown) (sym c.in-Some.is) ∙ c.turn_at.ensures)
+    let last : turn_shown c.in-Some.last ≡ turn =
+    last_is c.args.journal.now.turns turns turn c.front.result (turn_shown c.in-Some.last) is c.front.ensures.count
+    (ap (option_map turn_shown) (sym c.in-Some.is) ∙ c.turn_at.ensures)
     in subst (λ (x : Turn). g.T.TurnTable.holds c.commit.new.self (held ++ x ∷ [])) last
     (ok held
-    (subst (λ (k : Contents). IsLegal (facts_of k) (held ++ shown c.in-Some.last ∷ [])) (sym c.requires.catalogue)
+    (subst (λ (k : Contents). IsLegal (facts_of k) (held ++ turn_shown c.in-Some.last ∷ [])) (sym c.requires.catalogue)
     (subst (λ (x : Turn). IsLegal (facts_of c.args.journal.now.contents) (held ++ x ∷ [])) (sym last) legal))
     holds))
     c.commit.ensures.ok
@@ -34,12 +34,12 @@ pub returns-clause-err : goal.returns-clause-err
 returns-clause-err g c =
     on_err c.commit.result _ _
     (λ err turns held left turn is legal holds leaves.
-    let last : shown c.in-Some.last ≡ turn =
-    last_is c.args.journal.now.turns turns turn c.front.result (shown c.in-Some.last) is c.front.ensures.count
-    (ap (option_map shown) (sym c.in-Some.is) ∙ c.turn_at.ensures)
+    let last : turn_shown c.in-Some.last ≡ turn =
+    last_is c.args.journal.now.turns turns turn c.front.result (turn_shown c.in-Some.last) is c.front.ensures.count
+    (ap (option_map turn_shown) (sym c.in-Some.is) ∙ c.turn_at.ensures)
     in subst (λ (x : Turn). (left ≡ held) ⊎ (left ≡ held ++ x ∷ [])) last
     (err held left
-    (subst (λ (k : Contents). IsLegal (facts_of k) (held ++ shown c.in-Some.last ∷ [])) (sym c.requires.catalogue)
+    (subst (λ (k : Contents). IsLegal (facts_of k) (held ++ turn_shown c.in-Some.last ∷ [])) (sym c.requires.catalogue)
     (subst (λ (x : Turn). IsLegal (facts_of c.args.journal.now.contents) (held ++ x ∷ [])) (sym last) legal))
     holds leaves))
     c.commit.ensures.err

@@ -1,5 +1,5 @@
 use Rattle.std.proofs.Common.{◌≡◌, ◌<◌, length, arith, false, true, refl, sym, subst}
-use Rattle.hd_hall.specs.Receipts.{Stands}
+use Rattle.hd_hall.specs.Receipts.{StandsAt}
 use Rattle.hd_hall.proofs.Walking.{first_more}
 use Rattle.hd_hall.proofs.closing.all_stand.Goals as goal
 
@@ -10,7 +10,7 @@ returns-then-not-stands g c =
     let within : i < length c.args.receipts.now = omega arith in (
       (λ yes. absurd (let h : false ≡ true = yes in cc)),
       (λ all.
-          let here = subst (Stands (g.K.Keeper.turns c.args.keeper.now)) (sym c.receipt-item.is) (all i x within) in
+          let here = subst (StandsAt (g.K.Keeper.turns c.args.keeper.now)) (sym c.receipt-item.is) (all i x within) in
           let yes = c.stands.ensures.1 here in
           let no = c.if-not-stands.true in
           absurd cc),
@@ -19,7 +19,7 @@ returns-then-not-stands g c =
 pub loop-receipt-preserved : goal.loop-receipt-preserved
 loop-receipt-preserved g c =
     let within : c.loop-receipt.receipt-index < length c.args.receipts.now = omega arith in
-    first_more (Stands (g.K.Keeper.turns c.args.keeper.now)) c.loop-receipt.receipt-index c.args.receipts.now
+    first_more (StandsAt (g.K.Keeper.turns c.args.keeper.now)) c.loop-receipt.receipt-index c.args.receipts.now
     c.receipt-item.result within c.receipt-item.is (c.stands.ensures.0 c.if-not-stands.false) c.loop-receipt.invariant
 
 pub returns : goal.returns

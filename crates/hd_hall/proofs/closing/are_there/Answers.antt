@@ -1,7 +1,7 @@
 use Rattle.std.proofs.Common.{◌≡◌, ◌+◌, ◌<◌, List, drop, length, arith, false, true, ◌∙◌, subst, sym}
 use Rattle.std.specs.List.{All}
 use Rattle.hd_hall.specs.Closings.{AreThere}
-use Rattle.hd_hall.specs.Receipts.{Receipted, Stands}
+use Rattle.hd_hall.specs.Receipts.{Receipted, StandsAt}
 use Rattle.hd_hall.proofs.Once.{there_here, there_more}
 use Rattle.hd_hall.proofs.closing.are_there.Goals.{then-number-last-via-then-number-last, then-number-last-via-else-number-last+then-not-all_stand}
 use Rattle.hd_hall.proofs.closing.are_there.Goals as goal
@@ -12,7 +12,7 @@ loop-seat-preserved g c =
     let i = c.loop-seat.seat-index in
     let seat = c.seat-item.result in
     let number : c.number-number.result ≡ seat.number = c.number-number.ensures ∙ c.number.ensures in
-    let stand : All (Stands turns) seat.receipts = subst (λ (rs : List Receipted). All (Stands turns) rs) c.receipts.ensures.receipts
+    let stand : All (StandsAt turns) seat.receipts = subst (λ (rs : List Receipted). All (StandsAt turns) rs) c.receipts.ensures.receipts
     (c.all_stand.ensures.0 c.if-not-all_stand.false) in
     let within : i < length c.args.seats.now = omega arith in (
       (λ rest. c.loop-seat.invariant.0 (there_more turns c.loop-seat.last c.args.seats.now i seat within c.seat-item.is
@@ -37,7 +37,7 @@ returns-then-number-last g c =
             | then-number-last-via-then-number-last w ↦ omega (arith, number, w.if-number-last.true)
             | then-number-last-via-else-number-last+then-not-all_stand w ↦
                 let yes = w.all_stand.ensures.1
-                (subst (λ (rs : List Receipted). All (Stands turns) rs) (sym w.receipts.ensures.receipts) here.1) in
+                (subst (λ (rs : List Receipted). All (StandsAt turns) rs) (sym w.receipts.ensures.receipts) here.1) in
                 let no = w.if-not-all_stand.true in
                 cc
           ])),

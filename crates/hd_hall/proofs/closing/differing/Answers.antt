@@ -1,7 +1,7 @@
 use Rattle.std.proofs.Common.{◌≡◌, ◌+◌, length, arith, sym, ◌∙◌, ap, subst, List, map}
 use Rattle.std.specs.List.{Contains}
 use Rattle.hd_hall.specs.Closings.{AreThere}
-use Rattle.hd_hall.specs.Seats.{SeatView, held, shares, all_receipts}
+use Rattle.hd_hall.specs.Seats.{SeatView, with_part, shares, all_receipts}
 use Rattle.hd_hall.proofs.Lending.{whole_counts, lent_receipts, lent_parts, held_again}
 use Rattle.hd_hall.proofs.Covering.{covers_permutes, receipt_of}
 use Rattle.hd_hall.proofs.Once.{lent_there, there_permutes}
@@ -74,5 +74,5 @@ returns-in-Some-clause-some g c =
 pub returns-in-Some-clause-same : goal.returns-in-Some-clause-same
 returns-in-Some-clause-same g c =
     c.give_back.ensures
-    ∙ (ap (λ (s : List SeatView). map held s) c.gather.ensures.lent
+    ∙ (ap (λ (s : List SeatView). map with_part s) c.gather.ensures.lent
     ∙ held_again c.args.seats.now c.gather.ensures.whole c.requires.seats)

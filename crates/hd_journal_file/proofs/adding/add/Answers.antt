@@ -1,11 +1,11 @@
 use Rattle.sqlite.specs.Held.{state}
-use Rattle.hd_ledger.specs.Rows.{kept}
+use Rattle.hd_ledger.specs.Rows.{turn_of_row}
 use Rattle.hd_journal_file.proofs.Held.{left_is_held, held_more, left_either}
 use Rattle.hd_journal_file.proofs.adding.add.Goals as goal
 
 pub returns-in-Ok-clause-ok : goal.returns-in-Ok-clause-ok
 returns-in-Ok-clause-ok g c clean =
-    held_more (state g.S.Store c.args.conn.now) (state g.S.Store c.append.new.conn) (kept c.args.row.now)
+    held_more (state g.S.Store c.args.conn.now) (state g.S.Store c.append.new.conn) (turn_of_row c.args.row.now)
     (c.in-Ok.ensures.ok clean)
 
 pub returns-in-Ok-clause-settled : goal.returns-in-Ok-clause-settled
@@ -21,5 +21,5 @@ returns-in-Err-clause-settled g c k turns left =
 pub returns-in-Err-clause-err : goal.returns-in-Err-clause-err
 returns-in-Err-clause-err g c clean =
     left_either c.a_row_is_of_one_message.ensures.one (state g.S.Store c.args.conn.now)
-    (state g.S.Store c.append.new.conn) (kept c.args.row.now) (λ db. g.met.S.Store.settled c.args.conn.now.store db)
+    (state g.S.Store c.append.new.conn) (turn_of_row c.args.row.now) (λ db. g.met.S.Store.settled c.args.conn.now.store db)
     (c.in-Err.ensures.crash clean)

@@ -2,7 +2,7 @@ use Rattle.std.proofs.Common.{List, take}
 use Rattle.sqlite.specs.State.{HasCleanDisk}
 use Rattle.sqlite.specs.Held.{state}
 use Rattle.hd_ledger.specs.Holds.{Holds}
-use Rattle.hd_ledger.specs.Kept.{Kept, Head}
+use Rattle.hd_ledger.specs.Kept.{KeptTurn, Head}
 use Rattle.hd_journal_file.specs.Restored.{TakesRows}
 use Rattle.hd_journal_file.proofs.restoring.restore_turns.Given as goal
 
@@ -13,7 +13,7 @@ invariant-loop-piece g l =
     let now = state g.S.Store l.conn in
     record {
       clean : HasCleanDisk now → HasCleanDisk old;
-      took : (rows : List Kept) × TakesRows l.initial.journal l.journal rows;
-      rows : HasCleanDisk now → (head : Head) (rows : List Kept) → Holds old head rows
+      took : (rows : List KeptTurn) × TakesRows l.initial.journal l.journal rows;
+      rows : HasCleanDisk now → (head : Head) (rows : List KeptTurn) → Holds old head rows
           → Holds now head rows × TakesRows l.initial.journal l.journal (take l.at rows);
     }

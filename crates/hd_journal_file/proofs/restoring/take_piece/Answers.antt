@@ -1,7 +1,7 @@
 use Rattle.std.proofs.Common.{◌≡◌, refl, ◌∷◌, ◌+◌, sym, ap, subst, ◌∙◌, ℕ, List, [], map, take, drop, length, arith}
 use Rattle.std.proofs.lemmas.Bool.{eqb-true}
 use Rattle.std.proofs.lemmas.List.{length-map}
-use Rattle.hd_ledger.specs.Kept.{Kept, piece}
+use Rattle.hd_ledger.specs.Kept.{KeptTurn, piece}
 use Rattle.hd_ledger.specs.Rows.{read_turn}
 use Rattle.hd_journal_file.specs.Restored.{TakesRows}
 use Rattle.hd_ledger.specs.declared.stored.StoredTurn.{StoredTurn}
@@ -21,7 +21,7 @@ returns-then-is_empty-clause-rows g c clean head rows holds =
     let all : map read_turn c.as_slice.result.now ≡ take piece (drop c.args.after rows) =
     ap (map read_turn) c.as_slice.ensures.value ∙ read in (
       sym all ∙ ap (map read_turn) none,
-      subst (λ (ks : List Kept). TakesRows c.args.journal.now c.take_rows.new.journal ks) all c.in_ok-last.ensures.rows,
+      subst (λ (ks : List KeptTurn). TakesRows c.args.journal.now c.take_rows.new.journal ks) all c.in_ok-last.ensures.rows,
     )
 
 pub returns-clause-rows : goal.returns-clause-rows
@@ -32,5 +32,5 @@ returns-clause-rows g c clean head rows holds =
     ap (map read_turn) c.as_slice.ensures.value ∙ read in (
       c.in_ok-last.ensures.number
           ∙ ap (λ (n : ℕ). c.args.after + n) (sym (length-map c.as_slice.result.now read_turn) ∙ ap length all),
-      subst (λ (ks : List Kept). TakesRows c.args.journal.now c.take_rows.new.journal ks) all c.in_ok-last.ensures.rows,
+      subst (λ (ks : List KeptTurn). TakesRows c.args.journal.now c.take_rows.new.journal ks) all c.in_ok-last.ensures.rows,
     )

@@ -1,6 +1,6 @@
 use Rattle.std.proofs.Common.{List, subst, arith, map, take}
 use Rattle.std.proofs.lemmas.List.{take_all}
-use Rattle.hd_ledger.specs.Kept.{Kept}
+use Rattle.hd_ledger.specs.Kept.{KeptTurn}
 use Rattle.hd_ledger.specs.Rows.{read_turn}
 use Rattle.hd_ledger.specs.declared.stored.StoredTurn.{StoredTurn}
 use Rattle.hd_journal_file.specs.Restored.{TakesRows}
@@ -13,7 +13,7 @@ loop-row-init g c = record { number = omega arith; rows = takes_none c.args.jour
 pub loop-row-preserved : goal.loop-row-preserved
 loop-row-preserved g c = record {
   number = omega (arith, c.loop-row.invariant.number);
-  rows = subst (λ (rows : List Kept). TakesRows c.args.journal.now c.take_row.new.journal rows)
+  rows = subst (λ (rows : List KeptTurn). TakesRows c.args.journal.now c.take_row.new.journal rows)
       (rows_front c.args.rows.now c.loop-row.row-index c.row-item.result c.loop-row-test.true c.row-item.is)
       (takes_more c.a_turn_more_is_kept_where_it_changes.ensures c.args.journal.now c.loop-row.journal
       c.take_row.new.journal (map read_turn (take c.loop-row.row-index c.args.rows.now)) (read_turn c.row-item.result)

@@ -2,10 +2,10 @@ use Rattle.std.proofs.Common.{◌≡◌, inl, inr, ◌++◌, List, OnOk, map, sy
 use Rattle.sqlite.specs.State.{HasCleanDisk}
 use Rattle.sqlite.specs.Held.{state}
 use Rattle.sqlite.proofs.StateLemmas.{survives_then}
-use Rattle.hd_ledger.specs.Kept.{Kept, Head}
+use Rattle.hd_ledger.specs.Kept.{KeptTurn, Head}
 use Rattle.hd_ledger.specs.Tables.{Stores}
-use Rattle.hd_ledger.specs.Holds.{Holds, Has}
-use Rattle.hd_ledger.specs.Rows.{kept}
+use Rattle.hd_ledger.specs.Holds.{Holds, SeesTurns}
+use Rattle.hd_ledger.specs.Rows.{turn_of_row}
 use Rattle.hd_ledger.proofs.Order.{take_all}
 use Rattle.hd_ledger.proofs.Ends.{ends, rows_more}
 use Rattle.hd_ledger.proofs.ledger.put_all.Goals as goal
@@ -20,7 +20,7 @@ loop-row-preserved g c =
       has = λ clean head ks holds.
           let early : HasCleanDisk (state g.S.Store mid) = omega (arith, c.put.ensures.survives.clean) in
           let more = c.in_ok-put.ensures.ok clean head _ (c.loop-row.invariant.has early head ks holds) in
-          subst (λ l. Has (state g.S.Store c.put.new.tx.conn.now) head l) (rows_more ks c.args.rows.now c.loop-row.row-index _ c.loop-row-test.true) more;
+          subst (λ l. SeesTurns (state g.S.Store c.put.new.tx.conn.now) head l) (rows_more ks c.args.rows.now c.loop-row.row-index _ c.loop-row-test.true) more;
     }
 
 pub returns-clause-ok : goal.returns-clause-ok
@@ -31,9 +31,9 @@ returns-clause-ok g c clean =
     let same : last ≡ c.conn-2-1.given.0 = search rules in
     let late : HasCleanDisk (state g.S.Store last) = search rules in
     let early : HasCleanDisk mid = omega (arith, c.commit.ensures.survives.clean) in
-    subst (λ h. OnOk c.commit.result ((head : Head) (ks : List Kept) → Holds old head ks → Holds (state g.S.Store h) head (ks ++ map kept c.args.rows.now))) same
-    (ends old mid (state g.S.Store last) c.commit.result (λ ks. ks ++ map kept c.args.rows.now)
-    (λ head ks holds. subst (λ l. Has mid head (ks ++ map kept l)) (take_all c.loop-row.row-index c.args.rows.now c.loop-row-test.false) (c.loop-row.invariant.has early head ks holds))
+    subst (λ h. OnOk c.commit.result ((head : Head) (ks : List KeptTurn) → Holds old head ks → Holds (state g.S.Store h) head (ks ++ map turn_of_row c.args.rows.now))) same
+    (ends old mid (state g.S.Store last) c.commit.result (λ ks. ks ++ map turn_of_row c.args.rows.now)
+    (λ head ks holds. subst (λ l. SeesTurns mid head (ks ++ map turn_of_row l)) (take_all c.loop-row.row-index c.args.rows.now c.loop-row-test.false) (c.loop-row.invariant.has early head ks holds))
     (c.commit.ensures.ok late))
 
 pub returns-clause-crash : goal.returns-clause-crash
@@ -45,6 +45,6 @@ returns-clause-crash g c clean head ks holds db may =
     let early : HasCleanDisk mid = omega (arith, c.commit.ensures.survives.clean) in
     elim (c.commit.ensures.survives.crash late db (subst (λ h. g.S.Store.recovers h.store db) (sym same) may)) [
       | inl before ↦ elim (c.loop-row.invariant.survives.crash early db before) [ inl was ↦ inl was | inr none ↦ absurd none ]
-      | inr is ↦ inr (subst (Stores head (ks ++ map kept c.args.rows.now)) (sym is)
-          (subst (λ l. Has mid head (ks ++ map kept l)) (take_all c.loop-row.row-index c.args.rows.now c.loop-row-test.false) (c.loop-row.invariant.has early head ks holds)).rows)
+      | inr is ↦ inr (subst (Stores head (ks ++ map turn_of_row c.args.rows.now)) (sym is)
+          (subst (λ l. SeesTurns mid head (ks ++ map turn_of_row l)) (take_all c.loop-row.row-index c.args.rows.now c.loop-row-test.false) (c.loop-row.invariant.has early head ks holds)).rows)
     ]

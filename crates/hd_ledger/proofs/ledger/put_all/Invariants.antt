@@ -1,9 +1,9 @@
 use Rattle.std.proofs.Common.{◌≡◌, ◌++◌, List, map, take}
 use Rattle.sqlite.specs.State.{HasCleanDisk, Survives}
 use Rattle.sqlite.specs.Held.{state}
-use Rattle.hd_ledger.specs.Kept.{Kept, Head}
-use Rattle.hd_ledger.specs.Holds.{Holds, Has}
-use Rattle.hd_ledger.specs.Rows.{kept}
+use Rattle.hd_ledger.specs.Kept.{KeptTurn, Head}
+use Rattle.hd_ledger.specs.Holds.{Holds, SeesTurns}
+use Rattle.hd_ledger.specs.Rows.{turn_of_row}
 use Rattle.hd_ledger.proofs.ledger.put_all.Given as goal
 
 -- the transaction has the turns so far, nothing of them is committed, and it is still of this connection
@@ -14,5 +14,5 @@ invariant-loop-row g l =
     record {
       same : l.batch.conn.ghost_name ≡ l.initial.batch.conn.ghost_name;
       survives : Survives old now (λ _. ⊥);
-      has : HasCleanDisk now → (head : Head) (ks : List Kept) → Holds old head ks → Has now head (ks ++ map kept (take l.row-index l.rows));
+      has : HasCleanDisk now → (head : Head) (ks : List KeptTurn) → Holds old head ks → SeesTurns now head (ks ++ map turn_of_row (take l.row-index l.rows));
     }

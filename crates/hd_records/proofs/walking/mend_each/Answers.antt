@@ -4,7 +4,7 @@ use Rattle.hd_clash.specs.Records.{EachRecordIsKnown}
 use Rattle.hd_index.specs.Rising.{IsRising}
 use Rattle.hd_index.specs.Union.{union}
 use Rattle.hd_rules.specs.Record.{Record}
-use Rattle.hd_records.specs.Looks.{looked}
+use Rattle.hd_records.specs.Looks.{after_looks}
 use Rattle.hd_records.specs.Slots.{records_at, shift_at}
 use Rattle.hd_records.proofs.Shifting.{Mends, known_first, mends, shift_nothing}
 use Rattle.hd_records.proofs.walking.mend_each.Goals as goal
@@ -35,8 +35,8 @@ loop-number-preserved g c =
           ∙ ap (λ (xs : List ℕ). shift_at k c.args.changes.now xs 0 slots) (sym first) ∙ c.loop-number.invariant.rest;
       room = c.mend_one.ensures.room ∙ c.loop-number.invariant.room;
       work =
-          ap (looked (length ns)) c.add.ensures
-          ∙ ap (λ (xs : List ℕ). looked (length xs) c.loop-number.meter) (sym first) ∙ c.loop-number.invariant.work;
+          ap (after_looks (length ns)) c.add.ensures
+          ∙ ap (λ (xs : List ℕ). after_looks (length xs) c.loop-number.meter) (sym first) ∙ c.loop-number.invariant.work;
     }
 
 pub returns-clause-slots : goal.returns-clause-slots

@@ -1,11 +1,12 @@
 use Rattle.std.proofs.Common.{arith, ◌≡◌, ◌+◌, ◌-◌, ◌∙◌, ap, sym, subst, take, drop, length, ℕ, suc, List, ◌∷◌, Some, option_map}
 use Rattle.std.proofs.lemmas.List.{map-append}
-use Rattle.hd_footprint.specs.Meter.{Counts, add}
+use Rattle.hd_footprint.specs.Meter.{Counts, with_one_more}
 use Rattle.hd_footprint.specs.declared.count.Count.TheVariants.{Look}
 use Rattle.hd_rules.specs.Record.{Record}
-use Rattle.hd_rules.specs.Target.{Split, NoTarget, is_target, target}
+use Rattle.hd_rules.specs.Target.{Split, NoTarget, is_target}
+use Rattle.hd_rules.specs.Searches.{target}
 use Rattle.hd_rules.specs.declared.commands.Survivor.{Survivor}
-use Rattle.hd_records.specs.Looks.{looked}
+use Rattle.hd_records.specs.Looks.{after_looks}
 use Rattle.hd_records.specs.Slots.{records_at}
 use Rattle.hd_records.specs.Survivors.{newer, survivor_of, survivors_of}
 use Rattle.hd_records.proofs.Counted.{looked_more}
@@ -26,7 +27,7 @@ returns-then-is_target-clause-target g c =
       newer = survivors_of (records_at (drop (i + 1) numbers) slots);
     } in
     let found : target c.args.terminal c.args.what.now (survivors_of (records_at numbers slots)) ≡ Some split =
-    ((c.the_target_is_the_newest.ensures c.args.terminal c.args.what.now (survivors_of (records_at numbers slots))).0 split).1 (record {
+    (c.the_target_is_the_newest.ensures.found c.args.terminal c.args.what.now (survivors_of (records_at numbers slots)) split).1 (record {
       split =
           ap survivors_of at.split
           ∙ map-append survivor_of (records_at (take i numbers) slots) (r ∷ records_at (drop (i + 1) numbers) slots);
@@ -55,10 +56,10 @@ returns-then-is_target-clause-work g c =
     let one : suc (length (newer c.survivor-then-is_target.result.now.number (records_at numbers slots)))
     ≡ length (newer c.survivor-then-is_target.result.now.number (records_at numbers slots)) + 1 = omega arith in
     c.add.ensures
-    ∙ ap (λ (x : Counts). add x Look)
-    (c.loop-place.invariant.work ∙ ap (λ (rs : List Record). looked (length rs) c.args.meter.now) later)
+    ∙ ap (λ (x : Counts). with_one_more x Look)
+    (c.loop-place.invariant.work ∙ ap (λ (rs : List Record). after_looks (length rs) c.args.meter.now) later)
     ∙ looked_more (length (newer c.survivor-then-is_target.result.now.number (records_at numbers slots))) c.args.meter.now
-    ∙ ap (λ (n : ℕ). looked n c.args.meter.now) one
+    ∙ ap (λ (n : ℕ). after_looks n c.args.meter.now) one
 
 pub loop-place-preserved-else-is_target : goal.loop-place-preserved-else-is_target
 loop-place-preserved-else-is_target g c =
@@ -77,8 +78,8 @@ loop-place-preserved-else-is_target g c =
           );
       work =
           c.add.ensures
-          ∙ ap (λ (x : Counts). add x Look)
-          (c.loop-place.invariant.work ∙ ap (λ (n : ℕ). looked (length (records_at (drop n numbers) slots)) c.args.meter.now) next)
+          ∙ ap (λ (x : Counts). with_one_more x Look)
+          (c.loop-place.invariant.work ∙ ap (λ (n : ℕ). after_looks (length (records_at (drop n numbers) slots)) c.args.meter.now) next)
           ∙ looked_more (length (records_at (drop (i + 1) numbers) slots)) c.args.meter.now
-          ∙ ap (λ (rs : List Record). looked (length rs) c.args.meter.now) (sym at.from);
+          ∙ ap (λ (rs : List Record). after_looks (length rs) c.args.meter.now) (sym at.from);
     }

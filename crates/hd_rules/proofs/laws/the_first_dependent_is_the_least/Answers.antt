@@ -3,8 +3,10 @@ use Rattle.std.specs.Prelude.{MatchOption}
 use Rattle.hd_rules.specs.Words.{Survivor}
 use Rattle.hd_rules.specs.Facts.{Facts}
 use Rattle.hd_rules.specs.Run.{Rising}
-use Rattle.hd_rules.specs.Depends.{NoneDepends, IsLeastDependent, first_dependent}
-use Rattle.hd_rules.proofs.Walk.{none_depends, least_depends}
+use Rattle.hd_rules.specs.Depends.{NoneDepends, IsLeastDependent}
+use Rattle.hd_rules.specs.Searches.{first_dependent}
+use Rattle.hd_rules.proofs.Walk.{none_depends, least_depends, walk_is}
+use Rattle.hd_rules.proofs.Dependence.{depends_is}
 use Rattle.hd_rules.proofs.laws.the_first_dependent_is_the_least.Goals as goal
 
 by_result : (k : Facts) (older : List Survivor) (c : Survivor) (newer : List Survivor) → Rising 1 (older ++ c ∷ newer) → (o : Option ℕ)
@@ -14,4 +16,8 @@ by_result k older c newer rising None is = none_depends k 1 older c newer rising
 by_result k older c newer rising (Some m) is = least_depends k 1 older c newer rising m is
 
 pub returns : goal.returns
-returns c k older x newer rising = by_result k older x newer rising (first_dependent k (older ++ x ∷ newer) x newer) refl
+returns c = record {
+  least = λ k older x newer rising. by_result k older x newer rising (first_dependent k (older ++ x ∷ newer) x newer) refl;
+  walk = λ k older x newer rising. walk_is k 1 older x newer rising;
+  decided = depends_is;
+}

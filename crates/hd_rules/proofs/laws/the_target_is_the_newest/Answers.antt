@@ -1,5 +1,10 @@
 use Rattle.hd_rules.proofs.Newest.{target_is, no_target_is}
+use Rattle.hd_rules.proofs.Splits.{before_split, less_split}
 use Rattle.hd_rules.proofs.laws.the_target_is_the_newest.Goals as goal
 
 pub returns : goal.returns
-returns c terminal what survivors = (target_is terminal what survivors, no_target_is terminal what survivors)
+returns c = record {
+  found = target_is;
+  none = no_target_is;
+  split = λ older x newer rising. (before_split 1 older x newer rising, less_split 1 older x newer rising);
+}

@@ -1,5 +1,5 @@
 use Rattle.std.proofs.Common.{◌∙◌, ◌++◌, ◌∷◌, [], drop, flat_map, append_assoc}
-use Rattle.hd_server.specs.Printing.{printed}
+use Rattle.hd_server.specs.Printing.{printed_line}
 use Rattle.hd_server.proofs.Lining.{all_done, are_from, line_done, line_first, lines_exist}
 use Rattle.hd_server.proofs.Printed.{line_printed, line_within, printed_part}
 use Rattle.hd_server.proofs.printing.print_replies.Goals as goal
@@ -24,6 +24,6 @@ returns-in_err-print_line g c =
       done.0 ++ c.in-Some.reply.text.now ∷ later.0,
       later.1,
       are_from 13 _ _ _ done.0 (c.in-Some.reply.text.now ∷ later.0) done.1 done.2 rest,
-      printed_part _ _ _ (flat_map (printed c.args.session) done.0 ++ some.0) _ c.from_residual.ensures.0
+      printed_part _ _ _ (flat_map (printed_line c.args.session) done.0 ++ some.0) _ c.from_residual.ensures.0
           (line_within c.args.session done.0 later.0 _ some.0 some.1) (some.2 ∙ rw done.3 (append_assoc _ _ some.0)),
     )

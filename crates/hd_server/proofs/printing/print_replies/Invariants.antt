@@ -1,5 +1,5 @@
 use Rattle.std.proofs.Common.{◌≡◌, ◌++◌, ℕ, List, All, Contains, flat_map, length}
-use Rattle.hd_server.specs.Printing.{printed}
+use Rattle.hd_server.specs.Printing.{printed_line}
 use Rattle.hd_server.proofs.Lining.{ended}
 use Rattle.hd_server.proofs.printing.print_replies.Given as goal
 
@@ -7,7 +7,7 @@ use Rattle.hd_server.proofs.printing.print_replies.Given as goal
 abbrev pub invariant-loop-reply : goal.invariant-loop-reply
 invariant-loop-reply g l =
     (done : List (List ℕ)) × (l.replies ≡ ended 13 done ++ l.rest) × All (λ reply. Contains reply 13 → ⊥) done
-    × (l.out.items ≡ l.fn.out.items ++ flat_map (printed l.session) done)
+    × (l.out.items ≡ l.fn.out.items ++ flat_map (printed_line l.session) done)
 
 abbrev pub decreases-loop-reply : goal.decreases-loop-reply
 decreases-loop-reply g l = length l.rest

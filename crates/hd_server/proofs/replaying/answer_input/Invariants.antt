@@ -1,5 +1,5 @@
 use Rattle.std.proofs.Common.{◌≡◌, ◌<◌, [], vec_len}
-use Rattle.hd_server.specs.Replays.{IsLegal}
+use Rattle.hd_server.specs.Replays.{IsLegalReplay}
 use Rattle.hd_server.proofs.Reading.{ReadSoFar}
 use Rattle.hd_server.proofs.replaying.answer_input.Given as goal
 
@@ -10,5 +10,5 @@ invariant-loop g l = record {
       (g.W.Write.contents l.fn.to) (g.W.Write.contents l.to) l.input.items l.room l.counter;
   piece : 0 < vec_len l.piece;
   out : l.out.items ≡ [];
-  legal : IsLegal l.fn.sessions → IsLegal l.sessions;
+  legal : IsLegalReplay l.fn.sessions → IsLegalReplay l.sessions;
 }

@@ -1,6 +1,6 @@
 use Rattle.std.proofs.Common.{◌≡◌, ◌∙◌, ap, inl, inr}
 use Rattle.hd_catalogue.specs.Contents.{Contents}
-use Rattle.hd_server.specs.Replays.{opening}
+use Rattle.hd_server.specs.Replays.{before_any_line}
 use Rattle.std.proofs.KnownBytes.{Keeps-refl}
 use Rattle.hd_server.proofs.Ended.{for_memory}
 use Rattle.hd_server.proofs.replaying.replay_over.Goals as goal
@@ -14,8 +14,8 @@ returns-in_err-sessions-clause-replay g c =
 
 pub returns-clause-replay : goal.returns-clause-replay
 returns-clause-replay g c =
-    let first : c.in_ok-sessions.sessions ≡ opening c.args.catalogue c.args.now =
-    c.in_ok-sessions.ensures.new ∙ ap (λ (k : Contents). opening k c.args.now) c.in_ok-journal.ensures.contents in
+    let first : c.in_ok-sessions.sessions ≡ before_any_line c.args.catalogue c.args.now =
+    c.in_ok-sessions.ensures.new ∙ ap (λ (k : Contents). before_any_line k c.args.now) c.in_ok-journal.ensures.contents in
     inr (record {
       after = c.answer_input.new.sessions;
       reads = rw first at c.answer_input.ensures.reads;

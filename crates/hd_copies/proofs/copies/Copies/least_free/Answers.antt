@@ -20,5 +20,5 @@ returns g c = λ d e.
     shelf_at x.shelves c.number.result c.args.branch c.index.result.now c.number.ensures.value
     (omega (arith, branch, c.self.invariant.indexed.shelves.branches_in)) read in
     let least : LeastFree (get_or x.shelves c.args.branch no_shelf).copies c.least_free.result = rw shelf at c.least_free.ensures.least in
-    rw (← c.self.view_is) (least-is c.the_least_free_place_is_one.ensures k c.self.inside.states.items x d c.args.branch c.least_free.result
+    rw (← c.self.view_is) (least-is c.place_is_the_least_free.ensures k c.self.inside.states.items x d c.args.branch c.least_free.result
     c.self.invariant branch (rw (← c.self.view_is) at e) least)

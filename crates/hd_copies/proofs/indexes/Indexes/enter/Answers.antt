@@ -4,7 +4,7 @@ use Rattle.std.specs.FinMap.{get, insert}
 use Rattle.hd_rules.specs.declared.copies.CopyState.TheVariants.{Shelf, OnLoan, OnHoldShelf, InTransit}
 use Rattle.hd_rules.specs.Known.{IsKnownState}
 use Rattle.hd_shelf.specs.PlacesValue.{PlacesValue}
-use Rattle.hd_stock.specs.Counts.{HasOneMore}
+use Rattle.hd_stock.specs.Counts.{HasOneCopyMore}
 use Rattle.hd_catalogue.specs.Contents.{facts_of}
 use Rattle.hd_copies.specs.Indexing.{IsIndexed, all_but, copy_at, no_shelf}
 use Rattle.hd_copies.proofs.Moving.{but_here, comes, known_at, read_at}
@@ -58,7 +58,7 @@ returns-in-Shelf-clause-indexed g c =
     let at : f c.args.copy ≡ Some (Shelf c.in-Shelf.field-0) =
     read_at k c.args.states.now c.number.result c.args.copy _ _ c.requires.states c.requires.copy c.number.ensures.value c.in-Shelf.is
     in
-    let more : HasOneMore c.put.new.self c.self.inside.stock (k.title_of c.args.copy) (k.home c.args.copy) =
+    let more : HasOneCopyMore c.put.new.self c.self.inside.stock (k.title_of c.args.copy) (k.home c.args.copy) =
     rw (← c.title_of.ensures.title, ← c.home.ensures.branch) c.put.ensures.one_more in
     shelf-in k (all_but c.args.copy f) f c.args.copy _ old c.in-Shelf.field-0 c.put.new.self (comes f c.args.copy _ at) c.requires.copy more
     c.put.ensures.entries

@@ -1,7 +1,7 @@
 use Rattle.std.proofs.Common.{sym, ◌∙◌, subst, ◌+◌, List, arith}
 use Rattle.hd_rules.specs.declared.cells.Change.{Change}
 use Rattle.hd_rules.specs.Desk.{after}
-use Rattle.hd_inverse.specs.Cells.{AreKnown}
+use Rattle.hd_inverse.specs.Cells.{AreKnownChanges}
 use Rattle.hd_desk.specs.Desks.{desk_of, facts}
 use Rattle.hd_desk.proofs.Kept.{sound-later, sound-same}
 use Rattle.hd_desk.proofs.Planned.{followed, found-so, planned, may-make, left-sound, still-sound, was-short}
@@ -28,7 +28,7 @@ ready-requires g c =
     (record { changes = c.accepted.inside.changes; reply = c.accepted.inside.reply })
     c.new-inquiry.ensures.start c.follow.ensures.ends c.in-Ok.is c.accepted.view_is c.new-inquiry.ensures.kept c.requires.known
     c.requires.sound in
-    subst (λ (xs : List Change). AreKnown (facts c.args.self.now) xs) (sym c.changes-2.ensures.changes) p.can.known
+    subst (λ (xs : List Change). AreKnownChanges (facts c.args.self.now) xs) (sym c.changes-2.ensures.changes) p.can.known
 
 pub make-requires-clause-known : goal.make-requires-clause-known
 make-requires-clause-known g c =

@@ -4,7 +4,7 @@ use Rattle.hd_rules.specs.declared.copies.CopyState.TheVariants.{Shelf}
 use Rattle.hd_rules.specs.Desk.{Desk}
 use Rattle.hd_rules.specs.Sound.{Sound}
 use Rattle.hd_catalogue.specs.Contents.{Contents, facts_of}
-use Rattle.hd_desk.specs.Desks.{IsKept}
+use Rattle.hd_desk.specs.Desks.{IsKeptDesk}
 use Rattle.hd_desk.proofs.Kept.{kept-opening, sound-opening}
 use Rattle.hd_desk.proofs.Planned.{desk-opened, desk-opening}
 use Rattle.hd_desk.proofs.desk.Desk.open.Goals as goal
@@ -15,7 +15,7 @@ invariant_of-result g c =
     let opened = desk-opened c.in_ok-copies.copies c.in_ok-holds.holds _
     c.in_ok-copies.ensures.contents c.in_ok-copies.ensures.at_home c.in_ok-holds.ensures.none in (
       c.in_ok-holds.ensures.contents ∙ sym c.in_ok-try_clone.ensures ∙ sym c.in_ok-copies.ensures.contents,
-      subst (λ (x : Desk). IsKept k x) (sym opened) (kept-opening k c.in_ok-copies.ensures.range),
+      subst (λ (x : Desk). IsKeptDesk k x) (sym opened) (kept-opening k c.in_ok-copies.ensures.range),
     )
 
 pub returns-clause-opening : goal.returns-clause-opening

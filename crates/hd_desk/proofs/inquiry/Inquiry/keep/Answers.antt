@@ -1,6 +1,6 @@
 use Rattle.std.proofs.Common.{◌≡◌, sym, subst}
 use Rattle.hd_rules.specs.Known.{IsKnownQuestion}
-use Rattle.hd_rules.specs.Record.{note}
+use Rattle.hd_rules.specs.Notes.{note}
 use Rattle.hd_desk.specs.Asking.{InquiryValue}
 use Rattle.hd_desk.specs.Desks.{desk_of, facts}
 use Rattle.hd_desk.proofs.Planned.{keep-more}

@@ -1,5 +1,5 @@
 use Rattle.std.proofs.Common.{◌≡◌, ◌∙◌, sym, ap, subst, true, vec_len, length, ℕ, List}
-use Rattle.hd_field.specs.Streams.{Begun, after}
+use Rattle.hd_field.specs.Streams.{Begun, begun_after}
 use Rattle.hd_field.proofs.Cutting.{begun_so, fits_whole, fits_first}
 use Rattle.hd_field.proofs.streams.Stream.extend.Goals as goal
 
@@ -10,7 +10,7 @@ returns-then-bytes-room g c =
     sym c.as_slice.ensures.len ∙ ap (λ (l : List ℕ). length l) c.as_slice.ensures.value in
     let room : length c.as_slice.result.now ≡ length c.self.inside.text.items = ap (λ (l : List ℕ). length l) c.as_slice.ensures.value in
     let text = c.extend_from_slice.new.self.items in
-    subst (λ (b : Begun). begun_so begun.fresh text begun.too_long ≡ after b c.args.bytes.now) c.self.view_is
+    subst (λ (b : Begun). begun_so begun.fresh text begun.too_long ≡ begun_after b c.args.bytes.now) c.self.view_is
     (fits_whole begun c.args.bytes.now text (ap (λ (b : Begun). b.fresh) c.self.view_is
     ∙ c.requires.begun) (ap (λ (b : Begun). b.too_long) c.self.view_is
     ∙ c.requires.short) (rw (sym size) c.self.invariant.0) c.requires.plain (rw (sym room) c.if-bytes-room.true)
@@ -23,7 +23,7 @@ returns-else-bytes-room g c =
     sym c.as_slice.ensures.len ∙ ap (λ (l : List ℕ). length l) c.as_slice.ensures.value in
     let room : length c.as_slice.result.now ≡ length c.self.inside.text.items = ap (λ (l : List ℕ). length l) c.as_slice.ensures.value in
     let text = c.extend_from_slice-else-bytes-room.new.self.items in
-    subst (λ (b : Begun). begun_so begun.fresh text true ≡ after b c.args.bytes.now) c.self.view_is
+    subst (λ (b : Begun). begun_so begun.fresh text true ≡ begun_after b c.args.bytes.now) c.self.view_is
     (fits_first begun c.args.bytes.now text (ap (λ (b : Begun). b.fresh) c.self.view_is
     ∙ c.requires.begun) (ap (λ (b : Begun). b.too_long) c.self.view_is
     ∙ c.requires.short) (rw (sym size) c.self.invariant.0) c.requires.plain (rw (sym room) c.if-bytes-room.false)

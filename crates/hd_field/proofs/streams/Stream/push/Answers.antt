@@ -1,5 +1,5 @@
 use Rattle.std.proofs.Common.{◌≡◌, ◌==◌, ◌∙◌, sym, ap, ap₂, length, true, false, ℕ, List, Bool}
-use Rattle.hd_field.specs.Streams.{Begun, after, without_feeds}
+use Rattle.hd_field.specs.Streams.{Begun, begun_after, without_feeds}
 use Rattle.hd_field.proofs.Cutting.{begun_so, none_behind_feeds, feeds_alone, feeds_passed, behind_return}
 use Rattle.hd_field.proofs.streams.Stream.push.Goals as goal
 
@@ -15,8 +15,8 @@ returns-then-not-is_empty g c =
     ap₂ (λ (t : List ℕ) (l : Bool). begun_so false t l) (ap (λ (b : Begun). b.text) c.self.view_is)
     (ap (λ (b : Begun). b.too_long) c.self.view_is ∙ c.requires.short) in
     c.extend-then-not-is_empty.ensures
-    ∙ (ap₂ (λ (b : Begun) (l : List ℕ). after b l) view c.without_feeds-rest.ensures
-    ∙ sym (ap (λ (b : Begun). after b c.args.bytes.now) here
+    ∙ (ap₂ (λ (b : Begun) (l : List ℕ). begun_after b l) view c.without_feeds-rest.ensures
+    ∙ sym (ap (λ (b : Begun). begun_after b c.args.bytes.now) here
     ∙ feeds_passed c.args.self.now.text c.args.bytes.now c.requires.plain some))
 
 pub returns-else-not-is_empty : goal.returns-else-not-is_empty
@@ -24,5 +24,5 @@ returns-else-not-is_empty g c =
     let here = behind_return c.args.self.now (sym (ap (λ (b : Begun). b.fresh) c.self.view_is) ∙ c.if-not-self.false) c.requires.short in
     let alone : (length (without_feeds c.args.bytes.now) == 0) ≡ true =
     rw (← c.without_feeds-rest.ensures) (sym c.is_empty.ensures ∙ c.if-not-is_empty.false) in
-    here ∙ sym (ap (λ (b : Begun). after b c.args.bytes.now) here
+    here ∙ sym (ap (λ (b : Begun). begun_after b c.args.bytes.now) here
     ∙ feeds_alone c.args.self.now.text c.args.bytes.now c.requires.plain alone)

@@ -1,6 +1,6 @@
 use Rattle.std.proofs.Common.{List, ◌∙◌, ap, subst, sym}
 use Rattle.hd_journal.specs.Asks.{SeatMessage}
-use Rattle.hd_hall.specs.Receipts.{Receipted, received}
+use Rattle.hd_hall.specs.Receipts.{Receipted, receipt_of}
 use Rattle.hd_hall.specs.Seats.{SeatView, IsSeat}
 use Rattle.hd_hall.specs.Submitting.{IsNextOf}
 use Rattle.hd_hall.proofs.Seating.{seat-snoc}
@@ -20,7 +20,7 @@ left g c = record {
 is_seat : (g : Over) (c : After-push_reserved g) → IsSeat g.H.House.opening (left g c)
 is_seat g c =
     let made = c.in_ok-made.made in
-    let given = received (g.K.Keeper.asks c.in_ok-own.own) made in
+    let given = receipt_of (g.K.Keeper.asks c.in_ok-own.own) made in
     let before = c.deref.ensures.value ∙ c.in_ok-reserve.ensures.items in
     let next = subst (λ (rs : List Receipted). IsNextOf g.H.House.opening rs given) before c.in_ok-made.ensures.next in
     let same = c.in_ok-own.ensures ∙ sym c.in_ok-copy.ensures.same in
@@ -33,8 +33,8 @@ is_seat g c =
       c.in_ok-made.ensures.parts,
       c.in_ok-made.ensures.share,
     )
-    (seat-snoc _ _ (received c.in_ok-copy.copy made) (rw (← c.seat.view_is) at c.requires.part) c.seat.invariant
-    (subst (λ (m : SeatMessage). IsNextOf g.H.House.opening c.seat.inside.receipts.items (received m made)) same next) own)
+    (seat-snoc _ _ (receipt_of c.in_ok-copy.copy made) (rw (← c.seat.view_is) at c.requires.part) c.seat.invariant
+    (subst (λ (m : SeatMessage). IsNextOf g.H.House.opening c.seat.inside.receipts.items (receipt_of m made)) same next) own)
 
 pub invariant_of-seat-2 : goal.invariant_of-seat-2
 invariant_of-seat-2 g c = is_seat g (goal.at.invariant_of-seat-2 g c).After-push_reserved

@@ -1,6 +1,6 @@
 use Rattle.std.proofs.Common.{◌∙◌, ◌<◌, ℕ, ap, arith, subst}
 use Rattle.std.specs.Arc.{arc_value}
-use Rattle.hd_holds.specs.Held.{held}
+use Rattle.hd_holds.specs.Held.{patron_hold}
 use Rattle.hd_holds.proofs.Kept.{ReadsPlace, held-none, place-within, placed-own, reads-none, reads-own, room-kept, room-read, written-own}
 use Rattle.hd_holds.proofs.Queues.{held-put, queue-put, stamp-put}
 use Rattle.hd_holds.proofs.holds.Holds.put.Goals as goal
@@ -74,7 +74,7 @@ returns-then-place-gt0-clause-held g c =
       read = c.index-place.ensures;
     } in
     let reads = reads-own at c.if-place-gt0.true c.index_mut.result.now c.index_mut.ensures.value in
-    ap held (written-own at c.if-place-gt0.true c.replace.new.queue)
+    ap patron_hold (written-own at c.if-place-gt0.true c.replace.new.queue)
     ∙ held-put reads c.queues_stay_in_order.ensures c.args.patron c.args.new.now c.requires.fit c.replace.new.queue
     c.replace.ensures.holds
 

@@ -1,7 +1,7 @@
 use Rattle.std.proofs.Common.{arith, ◌∙◌, ap, sym, subst, refl, [], ◌∷◌, ◌++◌, length}
 use Rattle.hd_rules.specs.Known.{IsKnown}
 use Rattle.hd_rules.specs.Journal.{Turn}
-use Rattle.hd_journal.specs.Asks.{replied}
+use Rattle.hd_journal.specs.Asks.{turn_with_reply}
 use Rattle.hd_journal.specs.Books.{Book, IsLegalBook, facts}
 use Rattle.hd_journal.specs.Running.{Running, state_at}
 use Rattle.hd_journal.specs.Telling.{after_turn, kept_by}
@@ -36,7 +36,7 @@ returns-in_err-reply-clause-err g c =
 -- a repeat
 again : (g : Over) (c : After-add_repeat g)
     → Makes c.self.inside.told c.ready.new.self c.add_repeat.new.self c.self.inside.running c.self.inside.running
-    (replied c.args.ask c.in-Some.reply) c.self.inside.meter c.self.inside.meter
+    (turn_with_reply c.args.ask c.in-Some.reply) c.self.inside.meter c.self.inside.meter
 again g c =
     let r = c.self.inside.running in
     let message = c.args.ask.message in
@@ -57,12 +57,12 @@ again g c =
 -- what is none
 anew : (g : Over) (c : After-add g)
     → Makes c.self.inside.told c.ready.new.self c.add.new.self c.self.inside.running c.answer.new.self
-    (replied c.args.ask c.in_ok-reply.reply) c.self.inside.meter c.answer.new.meter
+    (turn_with_reply c.args.ask c.in_ok-reply.reply) c.self.inside.meter c.answer.new.meter
 anew g c =
     let r = c.self.inside.running in
     let next = c.answer.new.self in
     let kept = kept_by c.ready.new.self in
-    let turn : Turn = replied c.args.ask c.in_ok-reply.reply in
+    let turn : Turn = turn_with_reply c.args.ask c.in_ok-reply.reply in
     let none = sym c.in_default.is ∙ c.repeated-repeated.ensures in
     let keeps = c.add.ensures.kept ∙ ap (λ (x : Turn). after_turn x kept) c.with_reply-turn.ensures in
     record {

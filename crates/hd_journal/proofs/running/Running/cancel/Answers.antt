@@ -2,29 +2,30 @@ use Rattle.std.proofs.Common.{◌≡◌, refl, is_some, sym, ◌∙◌, ap, subs
 use Rattle.hd_rules.specs.declared.cells.Change.{Change}
 use Rattle.hd_rules.specs.declared.replies.Refusal.TheVariants as refusal
 use Rattle.hd_rules.specs.declared.replies.TurnReply.TheVariants.{Refused, Cancelled}
-use Rattle.hd_rules.specs.Desk.{Desk, undone}
+use Rattle.hd_rules.specs.Desk.{Desk, take_back}
 use Rattle.hd_rules.specs.Record.{Record}
 use Rattle.hd_rules.specs.Run.{run}
 use Rattle.hd_rules.specs.Sound.{EachBackIsFit}
-use Rattle.hd_rules.specs.Target.{Split, target}
+use Rattle.hd_rules.specs.Target.{Split}
+use Rattle.hd_rules.specs.Searches.{target}
 use Rattle.hd_catalogue.specs.Contents.{Contents, facts_of}
 use Rattle.hd_footprint.specs.Meter.{Counts}
 use Rattle.hd_clash.specs.About.{touches}
 use Rattle.hd_clash.specs.declared.key.Key.TheVariants as key
 use Rattle.hd_rules.specs.Known.{IsKnownCancel}
 use Rattle.hd_records.specs.Index.{asks_about}
-use Rattle.hd_records.specs.RecordsValue.{AreListed, AreOf}
+use Rattle.hd_records.specs.RecordsValue.{AreListed, AreOfCatalogue}
 use Rattle.hd_records.specs.Titles.{title_of_cancel}
 use Rattle.hd_clash.specs.Shift.{shift_records}
-use Rattle.hd_inverse.specs.Cells.{AreApart, AreKnown}
-use Rattle.hd_inverse.specs.Work.{written}
-use Rattle.hd_records.specs.Looks.{looked, walked}
-use Rattle.hd_records.specs.Shown.{shown}
+use Rattle.hd_inverse.specs.Cells.{AreApart, AreKnownChanges}
+use Rattle.hd_inverse.specs.Work.{after_writes}
+use Rattle.hd_records.specs.Looks.{after_looks, after_walk}
+use Rattle.hd_records.specs.Shown.{record_shown}
 use Rattle.hd_records.specs.Survivors.{record_of, survivor_of, survivors_of, changes_of, newer, older}
 use Rattle.hd_desk.specs.Desks.{desk_of}
 use Rattle.hd_journal.specs.Running.{Running, IsRunning, Withdrawn}
 use Rattle.hd_journal.specs.Stored.{AreStored}
-use Rattle.hd_journal.specs.Working.{IsCancellation, OnlyRise}
+use Rattle.hd_journal.specs.Working.{IsCancellationWork, OnlyRise}
 use Rattle.hd_journal.proofs.Keeping.{on_err}
 use Rattle.hd_journal.proofs.Stored.{can_go, each_back, left_at, left_stored, left_survivors}
 use Rattle.hd_journal.proofs.Stored.{survivors_split, undoable_at, undone_is}
@@ -51,7 +52,7 @@ first_clash-requires-clause-of g c =
     aiming c.laws.ensures contents (desk_of c.self.inside.desk) c.self.inside.records c.args.terminal c.args.what.now
     c.in-Some.target c.deref.result.now (c.deref.ensures ∙ c.catalogue-catalogue.ensures) c.command_limit.ensures.facts c.self.invariant
     c.in-Some.ensures.target in
-    subst (λ (x : Contents). AreOf (facts_of x) c.self.inside.records) (sym (c.deref-3.ensures ∙ c.catalogue-catalogue.ensures)) a.of
+    subst (λ (x : Contents). AreOfCatalogue (facts_of x) c.self.inside.records) (sym (c.deref-3.ensures ∙ c.catalogue-catalogue.ensures)) a.of
 
 pub take_out-requires-clause-there : goal.take_out-requires-clause-there
 take_out-requires-clause-there g c =
@@ -69,7 +70,7 @@ take_out-requires-clause-of g c =
     aiming c.laws.ensures contents (desk_of c.self.inside.desk) c.self.inside.records c.args.terminal c.args.what.now
     c.in-Some.target c.deref.result.now (c.deref.ensures ∙ c.catalogue-catalogue.ensures) c.command_limit.ensures.facts c.self.invariant
     c.in-Some.ensures.target in
-    subst (λ (x : Contents). AreOf (facts_of x) c.self.inside.records)
+    subst (λ (x : Contents). AreOfCatalogue (facts_of x) c.self.inside.records)
     (sym (c.deref-4.ensures ∙ c.catalogue.ensures ∙ c.in_ok-undo.ensures.contents)) a.of
 
 pub returns-in_default-clause-work : goal.returns-in_default-clause-work
@@ -80,10 +81,10 @@ returns-in_default-clause-work g c =
     asks_about (facts_of c.deref-2.result.now) (key.Title (title_of_cancel (facts_of c.deref-2.result.now) c.args.what.now)) in
     let none = none_aimed (target c.args.terminal c.args.what.now (survivors_of rs)) c.in_default.ensures.target in
     subst
-    (λ (x : Running). IsCancellation (facts_of x.contents) x.survivors (target c.args.terminal c.args.what.now x.survivors)
+    (λ (x : Running). IsCancellationWork (facts_of x.contents) x.survivors (target c.args.terminal c.args.what.now x.survivors)
     c.args.meter.now c.newest.new.meter)
     c.self.view_is
-    (subst (λ (o : Option Split). IsCancellation k (survivors_of rs) o c.args.meter.now c.newest.new.meter) (sym none)
+    (subst (λ (o : Option Split). IsCancellationWork k (survivors_of rs) o c.args.meter.now c.newest.new.meter) (sym none)
     (no_target c.laws.ensures P rs c.args.meter.now c.newest.new.meter c.in_default.ensures.work))
 
 pub first_clash-requires-clause-there : goal.first_clash-requires-clause-there
@@ -143,12 +144,12 @@ returns-in-Some-first_clash-clause-work g c =
       found = c.in-Some.ensures.work;
       compared =
           c.in-Some-first_clash.ensures.work
-          ∙ ap (λ (x : Contents). walked (facts_of x) (changes_of c.in-Some.target rs)
+          ∙ ap (λ (x : Contents). after_walk (facts_of x) (changes_of c.in-Some.target rs)
           (filter (touches (facts_of x) (changes_of c.in-Some.target rs)) (newer c.in-Some.target rs)) c.newest.new.meter)
           same;
     } in
     subst
-    (λ (x : Running). IsCancellation (facts_of x.contents) x.survivors (target c.args.terminal c.args.what.now x.survivors)
+    (λ (x : Running). IsCancellationWork (facts_of x.contents) x.survivors (target c.args.terminal c.args.what.now x.survivors)
     c.args.meter.now c.first_clash.new.meter)
     c.self.view_is
     (work_depends c.laws.ensures k (survivors_of rs) (target c.args.terminal c.args.what.now
@@ -164,8 +165,8 @@ undo-requires-clause-known g c =
     aiming c.laws.ensures contents (desk_of c.self.inside.desk) c.self.inside.records c.args.terminal c.args.what.now c.in-Some.target
     c.deref.result.now (c.deref.ensures ∙ c.catalogue-catalogue.ensures) c.command_limit.ensures.facts c.self.invariant
     c.in-Some.ensures.target in
-    subst (AreKnown k)
-    (sym (lent_changes (shown c.in-Some-get.kept) a.aim (record_of c.in-Some.target rs) c.in-Some-get.ensures.record a.parts.at.there))
+    subst (AreKnownChanges k)
+    (sym (lent_changes (record_shown c.in-Some-get.kept) a.aim (record_of c.in-Some.target rs) c.in-Some-get.ensures.record a.parts.at.there))
     (undoable_at k rs c.in-Some.target a.aim a.parts.at a.stored).0
 
 pub undo-requires-clause-apart : goal.undo-requires-clause-apart
@@ -177,7 +178,7 @@ undo-requires-clause-apart g c =
     aiming c.laws.ensures contents (desk_of c.self.inside.desk) c.self.inside.records c.args.terminal c.args.what.now c.in-Some.target
     c.deref.result.now (c.deref.ensures ∙ c.catalogue-catalogue.ensures) c.command_limit.ensures.facts c.self.invariant
     c.in-Some.ensures.target in
-    subst AreApart (sym (lent_changes (shown c.in-Some-get.kept) a.aim
+    subst AreApart (sym (lent_changes (record_shown c.in-Some-get.kept) a.aim
     (record_of c.in-Some.target rs) c.in-Some-get.ensures.record a.parts.at.there))
     (undoable_at k rs c.in-Some.target a.aim a.parts.at a.stored).1
 
@@ -195,7 +196,7 @@ undo-requires-clause-fit g c =
     (c.deref-3.ensures ∙ c.catalogue-catalogue.ensures) c.in_default-first_clash.ensures.clash in
     subst (λ (x : Desk). EachBackIsFit k c.in-Some-get.kept.changes.now x) (sym c.self.invariant.0.desk)
     (subst (λ (cs : List Change). EachBackIsFit k cs (run k (survivors_of rs)))
-    (sym (lent_changes (shown c.in-Some-get.kept) a.aim (record_of c.in-Some.target rs) c.in-Some-get.ensures.record a.parts.at.there))
+    (sym (lent_changes (record_shown c.in-Some-get.kept) a.aim (record_of c.in-Some.target rs) c.in-Some-get.ensures.record a.parts.at.there))
     (each_back c.laws.ensures k rs c.in-Some.target a.aim
     (can_go c.laws.ensures k rs c.in-Some.target a.aim a.parts a.rising a.of.known clash)))
 
@@ -215,7 +216,7 @@ returns-in_err-undo-clause-rise g c =
       found = c.in-Some.ensures.work;
       compared =
           c.in_default-first_clash.ensures.work
-          ∙ ap (λ (x : Contents). walked (facts_of x) (changes_of c.in-Some.target rs)
+          ∙ ap (λ (x : Contents). after_walk (facts_of x) (changes_of c.in-Some.target rs)
           (filter (touches (facts_of x) (changes_of c.in-Some.target rs)) (newer c.in-Some.target rs)) c.newest.new.meter)
           same;
     } in
@@ -242,8 +243,8 @@ invariant_of-self-2 g c =
     let goes = can_go c.laws.ensures k rs i a.aim a.parts a.rising a.of.known clash in
     let desk : desk_of c.undo.new.cells ≡ run k (survivors_of (older i rs) ++ survivors_of (newer i rs)) =
     c.in_ok-undo.ensures.ok
-    ∙ (λ j. undone
-    ((lent_changes (shown c.in-Some-get.kept) a.aim (record_of i rs) c.in-Some-get.ensures.record a.parts.at.there) j)
+    ∙ (λ j. take_back
+    ((lent_changes (record_shown c.in-Some-get.kept) a.aim (record_of i rs) c.in-Some-get.ensures.record a.parts.at.there) j)
     (c.self.invariant.0.desk j))
     ∙ undone_is c.laws.ensures k rs i a.aim goes in (
       subst (λ (m : ℕ). IsRunning (record {
@@ -315,18 +316,18 @@ returns-clause-work g c =
       found = c.in-Some.ensures.work;
       compared =
           c.in_default-first_clash.ensures.work
-          ∙ ap (λ (x : Contents). walked (facts_of x) (changes_of i rs)
+          ∙ ap (λ (x : Contents). after_walk (facts_of x) (changes_of i rs)
           (filter (touches (facts_of x) (changes_of i rs)) (newer i rs)) c.newest.new.meter) same;
     } in
-    let writes : c.undo.new.meter ≡ written (length a.aim.changes) c.first_clash.new.meter =
+    let writes : c.undo.new.meter ≡ after_writes (length a.aim.changes) c.first_clash.new.meter =
     c.in_ok-undo.ensures.counted
-    ∙ ap (λ (cs : List Change). written (length cs) c.first_clash.new.meter)
-    (lent_changes (shown c.in-Some-get.kept) a.aim (record_of i rs) c.in-Some-get.ensures.record a.parts.at.there) in
+    ∙ ap (λ (cs : List Change). after_writes (length cs) c.first_clash.new.meter)
+    (lent_changes (record_shown c.in-Some-get.kept) a.aim (record_of i rs) c.in-Some-get.ensures.record a.parts.at.there) in
     subst
-    (λ (x : Running). IsCancellation (facts_of x.contents) x.survivors (target c.args.terminal c.args.what.now x.survivors)
+    (λ (x : Running). IsCancellationWork (facts_of x.contents) x.survivors (target c.args.terminal c.args.what.now x.survivors)
     c.args.meter.now c.take_out.new.meter)
     c.self.view_is
     (work_stands c.laws.ensures k (survivors_of rs) (target c.args.terminal c.args.what.now (survivors_of rs)) rs i a.aim P c.args.meter.now
     c.newest.new.meter c.first_clash.new.meter c.undo.new.meter c.take_out.new.meter refl a.is_target a.parts a.rising a.of.known clash work
-    writes (c.take_out.ensures.work ∙ ap (λ (x : Contents). looked (length (filter (touches (facts_of x) (changes_of i rs)) (newer i rs)))
+    writes (c.take_out.ensures.work ∙ ap (λ (x : Contents). after_looks (length (filter (touches (facts_of x) (changes_of i rs)) (newer i rs)))
     c.undo.new.meter) (c.deref-4.ensures ∙ c.catalogue.ensures ∙ c.in_ok-undo.ensures.contents)))

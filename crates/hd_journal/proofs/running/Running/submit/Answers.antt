@@ -11,7 +11,7 @@ use Rattle.hd_rules.specs.Sound.{Sound}
 use Rattle.hd_rules.specs.Step.{plan}
 use Rattle.hd_catalogue.specs.Contents.{Contents, facts_of}
 use Rattle.hd_clash.specs.CommandKeys.{keys_of_command}
-use Rattle.hd_inverse.specs.Cells.{AreKnown}
+use Rattle.hd_inverse.specs.Cells.{AreKnownChanges}
 use Rattle.hd_desk.specs.Desks.{desk_of}
 use Rattle.hd_desk.specs.DoneValue.{done_of}
 use Rattle.hd_records.specs.RecordsValue.{AreListed, HasRoomFor}
@@ -56,7 +56,7 @@ apply-requires-clause-sound g c =
     let k = facts_of c.self.inside.desk.copies.contents in
     let same : c.last-number.result ≡ c.self.inside.records.last = c.last-number.ensures ∙ c.in_ok-ready.ensures.last in
     subst (λ (n : ℕ). Sound k (n + 1) (desk_of c.self.inside.desk)) (sym same)
-    (sound_below c.every_desk_is_sound.ensures k (survivors_of c.self.inside.records.records) (c.self.inside.records.last + 1)
+    (sound_below c.laws.ensures.commands k (survivors_of c.self.inside.records.records) (c.self.inside.records.last + 1)
     (desk_of c.self.inside.desk) c.self.invariant.0.desk c.self.invariant.0.may_run.rising c.self.invariant.0.last)
 
 pub push-requires-clause-number : goal.push-requires-clause-number
@@ -111,7 +111,7 @@ invariant_of-self-in-Ok g c =
       }) (desk_of c.apply.new.self)) last next,
       subst (λ (x : Contents). AreStored (facts_of x) c.push.new.self.records) (sym c.in-Ok.ensures.contents)
           (stored_more c.laws.ensures k rs c.push.new.self.records kept c.self.invariant.1 one
-          (subst (λ (x : Contents). AreKnown (facts_of x) c.in-Ok.done.changes) c.in-Ok.ensures.contents c.in-Ok.ensures.back.known)
+          (subst (λ (x : Contents). AreKnownChanges (facts_of x) c.in-Ok.done.changes) c.in-Ok.ensures.contents c.in-Ok.ensures.back.known)
           c.in-Ok.ensures.back.apart more),
       subst (λ (x : Contents). AreListed (facts_of x) c.push.new.self) (c.deref-in-Ok.ensures ∙ c.catalogue-in-Ok.ensures)
           c.push.ensures.listed,

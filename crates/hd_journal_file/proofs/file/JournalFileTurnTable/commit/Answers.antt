@@ -1,8 +1,8 @@
 use Rattle.std.proofs.Common.{subst, inl}
 use Rattle.std.specs.Arc.{arc_value}
 use Rattle.hd_catalogue.specs.Contents.{Contents}
-use Rattle.hd_journal.specs.Shown.{shown}
-use Rattle.hd_ledger.specs.Rows.{kept}
+use Rattle.hd_journal.specs.Shown.{turn_shown}
+use Rattle.hd_ledger.specs.Rows.{turn_of_row}
 use Rattle.hd_journal_file.specs.Rows.{IsTurnRow}
 use Rattle.hd_journal_file.proofs.Results.{any_ok, any_err, ok_under, err_under}
 use Rattle.hd_journal_file.proofs.file.JournalFileTurnTable.commit.Goals as goal
@@ -19,11 +19,11 @@ returns-in_err-row-clause-err g c =
 
 pub returns-clause-ok : goal.returns-clause-ok
 returns-clause-ok g c =
-    let row : IsTurnRow (arc_value c.args.self.now.catalogue) (shown c.args.turn.now) (kept c.in_ok-row.row) =
-    subst (λ (k : Contents). IsTurnRow k (shown c.args.turn.now) (kept c.in_ok-row.row)) c.deref.ensures
+    let row : IsTurnRow (arc_value c.args.self.now.catalogue) (turn_shown c.args.turn.now) (turn_of_row c.in_ok-row.row) =
+    subst (λ (k : Contents). IsTurnRow k (turn_shown c.args.turn.now) (turn_of_row c.in_ok-row.row)) c.deref.ensures
     c.in_ok-row.ensures
     in ok_under c.add.result _ _ _ c.add.ensures.ok (λ ok turns legal holds reliable.
-    ok reliable.clean (arc_value c.args.self.now.catalogue) turns (shown c.args.turn.now) row legal
+    ok reliable.clean (arc_value c.args.self.now.catalogue) turns (turn_shown c.args.turn.now) row legal
     (holds (record { clean = c.add.ensures.clean reliable.clean; found = reliable.found })))
 
 pub returns-clause-settled : goal.returns-clause-settled
@@ -33,9 +33,9 @@ returns-clause-settled g c =
 
 pub returns-clause-err : goal.returns-clause-err
 returns-clause-err g c =
-    let row : IsTurnRow (arc_value c.args.self.now.catalogue) (shown c.args.turn.now) (kept c.in_ok-row.row) =
-    subst (λ (k : Contents). IsTurnRow k (shown c.args.turn.now) (kept c.in_ok-row.row)) c.deref.ensures
+    let row : IsTurnRow (arc_value c.args.self.now.catalogue) (turn_shown c.args.turn.now) (turn_of_row c.in_ok-row.row) =
+    subst (λ (k : Contents). IsTurnRow k (turn_shown c.args.turn.now) (turn_of_row c.in_ok-row.row)) c.deref.ensures
     c.in_ok-row.ensures
     in err_under c.add.result _ _ _ c.add.ensures.err (λ err turns left legal holds leaves.
-    err leaves.0.clean (arc_value c.args.self.now.catalogue) turns left (shown c.args.turn.now) row legal
+    err leaves.0.clean (arc_value c.args.self.now.catalogue) turns left (turn_shown c.args.turn.now) row legal
     (holds (record { clean = c.add.ensures.clean leaves.0.clean; found = leaves.0.found })) leaves.1)

@@ -1,6 +1,6 @@
 use Rattle.std.proofs.Common.{◌≡◌, ◌<◌, ◌≤◌, ◌/◌, ◌%◌, ◌∙◌, List, None, ap, arith, get_or, length, slice_get, sym, subst}
 use Rattle.std.proofs.lemmas.Grind.{common_steps}
-use Rattle.hd_log.specs.Blocks.{joined}
+use Rattle.hd_log.specs.Blocks.{all_items}
 use Rattle.hd_log.proofs.BlockLemmas.{slice_get-joined, slice_get-beyond}
 use Rattle.hd_log.proofs.log.Log.get.Goals as goal
 
@@ -10,7 +10,7 @@ returns-in_err-block g c =
     let number = c.args.place / 1024 in
     let past : length blocks ≤ number =
     subst (λ (bs : List (List g.row.T.Denot)). length bs ≤ number) c.deref.ensures.value c.in_err-block.ensures.lookup.3 in
-    let none : slice_get (joined blocks) c.args.place ≡ None =
+    let none : slice_get (all_items blocks) c.args.place ≡ None =
     slice_get-beyond 1024 number (c.args.place % 1024) c.args.place blocks c.self.invariant.filled past (omega arith) in
     rw (← c.self.view_is) (grind (arith, common_steps, none))
 

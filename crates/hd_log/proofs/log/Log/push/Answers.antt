@@ -1,5 +1,5 @@
 use Rattle.std.proofs.Common.{◌≡◌, ◌<◌, ◌+◌, ◌/◌, ◌∙◌, ◌++◌, ◌∷◌, [], List, ap, arith, get_or, length, set, subst, sym}
-use Rattle.hd_log.specs.Blocks.{AreBlocks, joined}
+use Rattle.hd_log.specs.Blocks.{AreBlocks, all_items}
 use Rattle.hd_log.specs.LogValue.{LogValue}
 use Rattle.hd_log.proofs.BlockLemmas.{IsBehind, behind_room, blocks_pushed, joined-pushed}
 use Rattle.hd_log.proofs.log.Log.push.Given.{Over}
@@ -39,6 +39,6 @@ returns-clause-items g c =
     let there = goal.at.returns-clause-items g c in
     let number = c.self.inside.len / 1024 in
     let blocks = c.self.inside.blocks.items in
-    subst (λ (xs : List g.row.T.Denot). joined (set blocks number xs) ≡ c.args.self.now.items ++ c.args.item ∷ []) (sym (pushed g there.After-push))
+    subst (λ (xs : List g.row.T.Denot). all_items (set blocks number xs) ≡ c.args.self.now.items ++ c.args.item ∷ []) (sym (pushed g there.After-push))
     (joined-pushed 1024 number blocks c.index_mut.result.now c.args.item (behind g there.After-index_mut)
     ∙ ap (λ (x : LogValue g.row.T.Denot). x.items ++ c.args.item ∷ []) c.self.view_is)

@@ -1,5 +1,5 @@
 use Rattle.std.proofs.Common.{◌≡◌, ◌∙◌, ◌+◌, ◌++◌, ◌∷◌, [], List, ap, arith, length, length-append, sym, subst}
-use Rattle.hd_log.specs.Blocks.{AreBlocks, joined}
+use Rattle.hd_log.specs.Blocks.{AreBlocks, all_items}
 use Rattle.hd_log.specs.LogValue.{LogValue}
 use Rattle.hd_log.proofs.BlockLemmas.{blocks_begun, joined_within, joined-begun}
 use Rattle.hd_log.proofs.log.Log.ready.Given.{Over}
@@ -11,8 +11,8 @@ begun : (g : Over) (c : After-push_reserved g) → c.push_reserved.new.self.item
 begun g c = c.push_reserved.ensures.items ∙ (λ j. c.reserve.ensures.items j ++ c.in_ok-block.ensures j ∷ [])
 
 -- and the items are the same
-same_items : (g : Over) (c : After-push_reserved g) → joined c.push_reserved.new.self.items ≡ joined c.self.inside.blocks.items
-same_items g c = ap joined (begun g c) ∙ joined-begun c.self.inside.blocks.items
+same_items : (g : Over) (c : After-push_reserved g) → all_items c.push_reserved.new.self.items ≡ all_items c.self.inside.blocks.items
+same_items g c = ap all_items (begun g c) ∙ joined-begun c.self.inside.blocks.items
 
 pub invariant_of-self-2 : goal.invariant_of-self-2
 invariant_of-self-2 g c =
@@ -30,7 +30,7 @@ pub returns-clause-room : goal.returns-clause-room
 returns-clause-room g c =
     let there = (goal.at.returns-clause-room g c).After-push_reserved in
     let blocks = c.self.inside.blocks.items in
-    let joins : length (joined c.push_reserved.new.self.items) ≡ length (joined blocks) = ap length (same_items g there) in
+    let joins : length (all_items c.push_reserved.new.self.items) ≡ length (all_items blocks) = ap length (same_items g there) in
     let longer : length c.push_reserved.new.self.items ≡ length blocks + 1 = ap length (begun g there) ∙ length-append blocks ([] ∷ []) in
     omega (arith, joined_within 1024 blocks c.self.invariant.filled)
 
@@ -38,5 +38,5 @@ pub returns-clause-number : goal.returns-clause-number
 returns-clause-number g c =
     let there = (goal.at.returns-clause-number g c).After-push_reserved in
     let blocks = c.self.inside.blocks.items in
-    let joins : length (joined c.push_reserved.new.self.items) ≡ length (joined blocks) = ap length (same_items g there) in
+    let joins : length (all_items c.push_reserved.new.self.items) ≡ length (all_items blocks) = ap length (same_items g there) in
     omega (arith, joined_within 1024 blocks c.self.invariant.filled, c.self.inside.blocks.ok)

@@ -5,9 +5,9 @@ use Rattle.hd_index.specs.Rows.{places_of}
 use Rattle.hd_rules.specs.Record.{Record}
 use Rattle.hd_rules.specs.Run.{Rising}
 use Rattle.hd_records.specs.Index.{asks_about, records_about}
-use Rattle.hd_records.specs.Looks.{looked, looks_to}
+use Rattle.hd_records.specs.Looks.{after_looks, looks_to}
 use Rattle.hd_records.specs.RecordsValue.{AreListed, RecordsValue}
-use Rattle.hd_records.specs.Slots.{taken}
+use Rattle.hd_records.specs.Slots.{records_there}
 use Rattle.hd_records.specs.Survivors.{survivors_of, target_of}
 use Rattle.hd_records.specs.Titles.{title_of_cancel}
 use Rattle.hd_records.proofs.Filters.{rising_filter}
@@ -28,7 +28,7 @@ newest-requires g c =
     about_there k (key.Title t) slots slots c.of_title-numbers.result.now c.self.invariant.0 refl
     numbers in
     subst (λ (rs : List Record). Rising 1 (survivors_of rs)) (sym there)
-    (rising_filter (asks_about k (key.Title t)) 1 (taken slots) (slots_rise 0 1 slots (omega arith) c.self.invariant.0))
+    (rising_filter (asks_about k (key.Title t)) 1 (records_there slots) (slots_rise 0 1 slots (omega arith) c.self.invariant.0))
 
 pub returns-clause-target : goal.returns-clause-target
 returns-clause-target g c =
@@ -42,7 +42,7 @@ returns-clause-target g c =
     about_there k (key.Title t) slots slots c.of_title-numbers.result.now c.self.invariant.0 refl
     numbers in
     c.newest.ensures.target ∙ ap (target_of c.args.terminal c.args.what.now) there
-    ∙ sym (target_of_title k c.args.terminal c.args.what.now (taken slots))
+    ∙ sym (target_of_title k c.args.terminal c.args.what.now (records_there slots))
     ∙ ap (λ (x : RecordsValue). target_of c.args.terminal c.args.what.now x.records) c.self.view_is
 
 pub returns-clause-work : goal.returns-clause-work
@@ -56,5 +56,5 @@ returns-clause-work g c =
     let there =
     about_there k (key.Title t) slots slots c.of_title-numbers.result.now c.self.invariant.0 refl
     numbers in
-    c.newest.ensures.work ∙ ap (λ (rs : List Record). looked (looks_to c.newest.result rs) c.args.meter.now) there
-    ∙ ap (λ (x : RecordsValue). looked (looks_to c.newest.result (records_about k (key.Title t) x.records)) c.args.meter.now) c.self.view_is
+    c.newest.ensures.work ∙ ap (λ (rs : List Record). after_looks (looks_to c.newest.result rs) c.args.meter.now) there
+    ∙ ap (λ (x : RecordsValue). after_looks (looks_to c.newest.result (records_about k (key.Title t) x.records)) c.args.meter.now) c.self.view_is

@@ -7,7 +7,7 @@ use Rattle.hd_rules.specs.declared.commands.Survivor.{Survivor}
 use Rattle.hd_rules.specs.Record.{Record}
 use Rattle.hd_records.specs.Index.{asks_about, numbers_of, records_about}
 use Rattle.hd_records.specs.RecordsValue.{AreListed, RecordsValue}
-use Rattle.hd_records.specs.Slots.{AreNumbered, taken}
+use Rattle.hd_records.specs.Slots.{AreNumbered, records_there}
 use Rattle.hd_records.proofs.Listed.{all_below, one_more}
 use Rattle.hd_records.proofs.Numbered.{numbered_more, taken_joined}
 use Rattle.hd_records.proofs.records.Records.push.Goals as goal
@@ -39,7 +39,7 @@ invariant_of-self g c =
 pub returns-clause-records : goal.returns-clause-records
 returns-clause-records g c =
     let slots = c.self.inside.slots.items in
-    ap taken c.push-2.ensures.items ∙ taken_joined slots (Some c.args.new ∷ [])
+    ap records_there c.push-2.ensures.items ∙ taken_joined slots (Some c.args.new ∷ [])
     ∙ ap (λ (x : RecordsValue). x.records ++ c.args.new ∷ []) c.self.view_is
 
 pub returns-clause-listed : goal.returns-clause-listed
@@ -51,9 +51,9 @@ returns-clause-listed g c x =
     let keys : c.of-keys.result ≡ keys_of_command k r.command =
     c.of-keys.ensures ∙ ap (λ (s : Survivor). keys_of_command k s.command) c.survivor-survivor.ensures in
     let number : c.survivor-survivor.result.now.number ≡ r.number = ap (λ (s : Survivor). s.number) c.survivor-survivor.ensures in
-    let records : taken c.push-2.new.self.items ≡ taken slots ++ r ∷ [] =
-    ap taken c.push-2.ensures.items ∙ taken_joined slots (Some r ∷ []) in
+    let records : records_there c.push-2.new.self.items ≡ records_there slots ++ r ∷ [] =
+    ap records_there c.push-2.ensures.items ∙ taken_joined slots (Some r ∷ []) in
     c.push.ensures x
     ∙ (λ j. cond (has_key (keys j) x) (listed x j ++ number j ∷ []) (listed x j))
-    ∙ sym (one_more (asks_about k x) (taken slots) r)
+    ∙ sym (one_more (asks_about k x) (records_there slots) r)
     ∙ ap (λ (rs : List Record). numbers_of (records_about k x rs)) (sym records)

@@ -15,9 +15,9 @@ use Rattle.hd_rules.specs.Known.{IsKnownAction}
 use Rattle.hd_rules.specs.Record.{Record}
 use Rattle.hd_rules.specs.Run.{IsAmong}
 use Rattle.hd_records.specs.Index.{listed_under, numbers_of, records_about}
-use Rattle.hd_records.specs.Looks.{looked}
-use Rattle.hd_records.specs.RecordsValue.{AreOf, RecordsValue}
-use Rattle.hd_records.specs.Slots.{AreNumbered, records_at, shift_at, taken}
+use Rattle.hd_records.specs.Looks.{after_looks}
+use Rattle.hd_records.specs.RecordsValue.{AreOfCatalogue, RecordsValue}
+use Rattle.hd_records.specs.Slots.{AreNumbered, records_at, shift_at, records_there}
 use Rattle.hd_records.specs.Survivors.{changes_in, changes_of, newer, older, record_of}
 use Rattle.hd_records.proofs.Filters.{known_filter}
 use Rattle.hd_records.proofs.Leaving.{Touching, emptied, left_records, met, met_left, numbered_emptied, touching}
@@ -43,18 +43,18 @@ of-keys-requires-clause-known g c =
     let k = facts_of c.args.catalogue.now in
     let slots = c.self.inside.slots.items in
     let r : Record = c.in-Some.target in
-    let of = subst (AreOf k) (sym c.self.view_is) c.requires.of in
+    let of = subst (AreOfCatalogue k) (sym c.self.view_is) c.requires.of in
     let at : At c.args.number slots r = at_slot c.args.number slots r c.self.invariant.0 (sym c.in-Some.ensures) in
-    subst (EachCellIsKnown k) (sym (c.as_slice.ensures.value ∙ c.copied-changes.ensures ∙ c.changes.ensures.changes)) (known_one k (taken slots) r of.known at.among).cells
+    subst (EachCellIsKnown k) (sym (c.as_slice.ensures.value ∙ c.copied-changes.ensures ∙ c.changes.ensures.changes)) (known_one k (records_there slots) r of.known at.among).cells
 
 pub mend_each-requires-clause-cells : goal.mend_each-requires-clause-cells
 mend_each-requires-clause-cells g c =
     let k = facts_of c.args.catalogue.now in
     let slots = c.self.inside.slots.items in
     let r : Record = c.in-Some.target in
-    let of = subst (AreOf k) (sym c.self.view_is) c.requires.of in
+    let of = subst (AreOfCatalogue k) (sym c.self.view_is) c.requires.of in
     let at : At c.args.number slots r = at_slot c.args.number slots r c.self.invariant.0 (sym c.in-Some.ensures) in
-    subst (EachCellIsKnown k) (sym (c.as_slice-2.ensures.value ∙ c.copied-changes.ensures ∙ c.changes.ensures.changes)) (known_one k (taken slots) r of.known at.among).cells
+    subst (EachCellIsKnown k) (sym (c.as_slice-2.ensures.value ∙ c.copied-changes.ensures ∙ c.changes.ensures.changes)) (known_one k (records_there slots) r of.known at.among).cells
 
 pub mend_each-requires-clause-known : goal.mend_each-requires-clause-known
 mend_each-requires-clause-known g c =
@@ -62,7 +62,7 @@ mend_each-requires-clause-known g c =
     let n : ℕ = c.args.number in
     let slots = c.self.inside.slots.items in
     let lists : List (List ℕ) = c.touched-touched.result in
-    let of = subst (AreOf k) (sym c.self.view_is) c.requires.of in
+    let of = subst (AreOfCatalogue k) (sym c.self.view_is) c.requires.of in
     let here : At n slots c.in-Some.target = at_slot n slots c.in-Some.target c.self.invariant.0 (sym c.in-Some.ensures) in
     let at : Touching k c.as_slice.result.now n slots lists =
     touching c.unions_have_each_once.ensures k c.as_slice.result.now n slots c.self.inside.index c.of-keys.result lists c.self.invariant.0
@@ -71,18 +71,18 @@ mend_each-requires-clause-known g c =
     subst (EachRecordIsKnown k)
     (sym (ap (records_at (union lists)) c.take.ensures.slots
     ∙ met_left k c.as_slice.result.now n slots lists here.above c.self.invariant.0 at))
-    (known_filter k (touches k c.as_slice.result.now) (newer n (taken slots))
-    (known_filter k (λ (x : Record). nat_lt n x.number) (taken slots) of.known))
+    (known_filter k (touches k c.as_slice.result.now) (newer n (records_there slots))
+    (known_filter k (λ (x : Record). nat_lt n x.number) (records_there slots) of.known))
 
 pub of-listed-requires : goal.of-listed-requires
 of-listed-requires g c =
     let k = facts_of c.args.catalogue.now in
     let slots = c.self.inside.slots.items in
     let r : Record = c.in-Some.target in
-    let of = subst (AreOf k) (sym c.self.view_is) c.requires.of in
+    let of = subst (AreOfCatalogue k) (sym c.self.view_is) c.requires.of in
     let at : At c.args.number slots r = at_slot c.args.number slots r c.self.invariant.0 (sym c.in-Some.ensures) in
     subst (λ (s : Survivor). IsKnownAction k s.command.action) (sym c.survivor.ensures)
-    (command_known k (taken slots) r of.commands at.among)
+    (command_known k (records_there slots) r of.commands at.among)
 
 pub overflow_cast-number-2 : goal.overflow_cast-number-2
 overflow_cast-number-2 g c =
@@ -119,16 +119,16 @@ returns-clause-last g c = size g c ∙ ap (λ (x : RecordsValue). x.last) c.self
 
 -- the records that are left
 left : (g : Over) (c : After-take-2 g)
-    → taken c.mend_each.new.slots.items
-    ≡ older c.args.number (taken c.self.inside.slots.items)
-    ++ shift_records (facts_of c.args.catalogue.now) c.in-Some.target.changes (newer c.args.number (taken c.self.inside.slots.items))
+    → records_there c.mend_each.new.slots.items
+    ≡ older c.args.number (records_there c.self.inside.slots.items)
+    ++ shift_records (facts_of c.args.catalogue.now) c.in-Some.target.changes (newer c.args.number (records_there c.self.inside.slots.items))
 left g c =
     let k = facts_of c.args.catalogue.now in
     let n : ℕ = c.args.number in
     let slots = c.self.inside.slots.items in
     let cs : List Change = c.as_slice.result.now in
     let lists : List (List ℕ) = c.touched-touched.result in
-    let of = subst (AreOf k) (sym c.self.view_is) c.requires.of in
+    let of = subst (AreOfCatalogue k) (sym c.self.view_is) c.requires.of in
     let here : At n slots c.in-Some.target = at_slot n slots c.in-Some.target c.self.invariant.0 (sym c.in-Some.ensures) in
     let at : Touching k cs n slots lists =
     touching c.unions_have_each_once.ensures k cs n slots c.self.inside.index c.of-keys.result lists c.self.invariant.0
@@ -137,17 +137,17 @@ left g c =
     let both : c.as_slice-2.result.now ≡ cs = (c.as_slice-2.ensures.value ∙ c.copied-changes.ensures ∙ c.changes.ensures.changes) ∙ sym (c.as_slice.ensures.value ∙ c.copied-changes.ensures ∙ c.changes.ensures.changes) in
     left_records c.only_touched_records_shift.ensures k cs n slots c.mend_each.new.slots.items lists here.above c.self.invariant.0 of.about at
     (c.mend_each.ensures.slots ∙ (λ j. shift_at k (both j) (union lists) 0 (c.take.ensures.slots j)))
-    ∙ ap (λ (xs : List Change). older n (taken slots) ++ shift_records k xs (newer n (taken slots))) (c.as_slice.ensures.value ∙ c.copied-changes.ensures ∙ c.changes.ensures.changes)
+    ∙ ap (λ (xs : List Change). older n (records_there slots) ++ shift_records k xs (newer n (records_there slots))) (c.as_slice.ensures.value ∙ c.copied-changes.ensures ∙ c.changes.ensures.changes)
 
 pub returns-clause-records : goal.returns-clause-records
 returns-clause-records g c =
     let k = facts_of c.args.catalogue.now in
     let n : ℕ = c.args.number in
     let slots = c.self.inside.slots.items in
-    let changes : c.in-Some.target.changes ≡ changes_of n (taken slots) =
+    let changes : c.in-Some.target.changes ≡ changes_of n (records_there slots) =
     ap changes_in (sym (record_there n slots c.self.invariant.0 ∙ (sym c.in-Some.ensures))) in
     left g c
-    ∙ ap (λ (xs : List Change). older n (taken slots) ++ shift_records k xs (newer n (taken slots))) changes
+    ∙ ap (λ (xs : List Change). older n (records_there slots) ++ shift_records k xs (newer n (records_there slots))) changes
     ∙ ap (λ (x : RecordsValue). older n x.records ++ shift_records k (changes_of n x.records) (newer n x.records)) c.self.view_is
 
 pub returns-clause-listed : goal.returns-clause-listed
@@ -156,13 +156,13 @@ returns-clause-listed g c x =
     let n : ℕ = c.args.number in
     let slots = c.self.inside.slots.items in
     let r : Record = c.in-Some.target in
-    let of = subst (AreOf k) (sym c.self.view_is) c.requires.of in
+    let of = subst (AreOfCatalogue k) (sym c.self.view_is) c.requires.of in
     let keys : c.of-listed.result ≡ keys_of_command k r.command =
     c.of-listed.ensures ∙ ap (λ (s : Survivor). keys_of_command k s.command) c.survivor.ensures in
     c.take-2.ensures x
     ∙ (λ j. cond (has_key (keys j) x) (without n (of.listed x j)) (of.listed x j))
-    ∙ one_less k r.changes x n r (taken slots) (slots_rise 0 1 slots (omega arith) c.self.invariant.0)
-    (λ (y : Record) (among : IsAmong y (taken slots)) (number : y.number ≡ n).
+    ∙ one_less k r.changes x n r (records_there slots) (slots_rise 0 1 slots (omega arith) c.self.invariant.0)
+    (λ (y : Record) (among : IsAmong y (records_there slots)) (number : y.number ≡ n).
     only_one n slots r y c.self.invariant.0 (sym c.in-Some.ensures) among number)
     ∙ ap (λ (rs : List Record). numbers_of (records_about k x rs)) (sym (left g c))
 
@@ -173,16 +173,16 @@ returns-clause-work g c =
     let slots = c.self.inside.slots.items in
     let cs : List Change = c.as_slice.result.now in
     let lists : List (List ℕ) = c.touched-touched.result in
-    let of = subst (AreOf k) (sym c.self.view_is) c.requires.of in
+    let of = subst (AreOfCatalogue k) (sym c.self.view_is) c.requires.of in
     let at : Touching k cs n slots lists =
     touching c.unions_have_each_once.ensures k cs n slots c.self.inside.index c.of-keys.result lists c.self.invariant.0
     of.listed c.of-keys.ensures.touched
     (c.touched-touched.ensures ∙ ap (map (λ (x : Key). above n (listed_under x c.self.inside.index))) c.keys.ensures.keys) in
-    let changes : cs ≡ changes_of n (taken slots) =
+    let changes : cs ≡ changes_of n (records_there slots) =
     (c.as_slice.ensures.value ∙ c.copied-changes.ensures ∙ c.changes.ensures.changes) ∙ ap changes_in (sym (record_there n slots c.self.invariant.0 ∙ (sym c.in-Some.ensures))) in
     c.mend_each.ensures.work
-    ∙ ap (λ (ns : List ℕ). looked (length ns) c.args.meter.now) at.numbers
-    ∙ ap (λ (i : ℕ). looked i c.args.meter.now) (length-map (met k cs n slots) (λ (x : Record). x.number))
-    ∙ ap (λ (xs : List Change). looked (length (filter (touches k xs) (newer n (taken slots)))) c.args.meter.now) changes
-    ∙ ap (λ (x : RecordsValue). looked (length (filter (touches k (changes_of n x.records))
+    ∙ ap (λ (ns : List ℕ). after_looks (length ns) c.args.meter.now) at.numbers
+    ∙ ap (λ (i : ℕ). after_looks i c.args.meter.now) (length-map (met k cs n slots) (λ (x : Record). x.number))
+    ∙ ap (λ (xs : List Change). after_looks (length (filter (touches k xs) (newer n (records_there slots)))) c.args.meter.now) changes
+    ∙ ap (λ (x : RecordsValue). after_looks (length (filter (touches k (changes_of n x.records))
     (newer n x.records))) c.args.meter.now) c.self.view_is

@@ -5,14 +5,14 @@ use Rattle.hd_rules.specs.declared.questions.Finding.{Finding}
 use Rattle.hd_rules.specs.Record.{Record}
 use Rattle.hd_records.specs.declared.slots.Kept.{Kept}
 use Rattle.hd_records.specs.declared.slots.Slot.{Slot}
-use Rattle.hd_records.specs.Laid.{record_in, stored}
+use Rattle.hd_records.specs.Laid.{record_in, records_in}
 use Rattle.hd_records.specs.SlotsValue.{SlotsValue}
 use Rattle.hd_records.proofs.Laid.{length_stored, stands_here}
 use Rattle.hd_records.proofs.slots.Slots.get.Goals as goal
 
 pub returns-then-place-len : goal.returns-then-place-len
 returns-then-place-len g c =
-    let items : List (Option Record) = stored c.self.inside.slots.items c.self.inside.findings.items c.self.inside.changes.items in
+    let items : List (Option Record) = records_in c.self.inside.slots.items c.self.inside.findings.items c.self.inside.changes.items in
     sym (get_or_past items c.args.place None
     (omega (
       arith,
@@ -29,7 +29,7 @@ returns-in_err-kept g c =
     let ss : List Slot = c.self.inside.slots.items in
     let fs : List Finding = c.self.inside.findings.items in
     let cs : List Change = c.self.inside.changes.items in
-    let there : c.args.place < length (stored ss fs cs) =
+    let there : c.args.place < length (records_in ss fs cs) =
     omega (arith, c.if-place-len.false, c.len.ensures, c.self.inside.slots.ok.0, length_stored ss fs cs) in
     let at = stands_here c.args.place s ss fs cs c.index-slot.ensures there c.self.invariant in
     c.from_residual.ensures
@@ -45,7 +45,7 @@ values_at-findings-requires g c =
     let ss : List Slot = c.self.inside.slots.items in
     let fs : List Finding = c.self.inside.findings.items in
     let cs : List Change = c.self.inside.changes.items in
-    let there : c.args.place < length (stored ss fs cs) =
+    let there : c.args.place < length (records_in ss fs cs) =
     omega (arith, c.if-place-len.false, c.len.ensures, c.self.inside.slots.ok.0, length_stored ss fs cs) in
     let at = stands_here c.args.place s ss fs cs c.index-slot.ensures there c.self.invariant in
     let size : length c.as_slice.result.now ≡ length fs = ap (λ (xs : List Finding). length xs) c.as_slice.ensures.value in
@@ -57,7 +57,7 @@ values_at-changes-requires g c =
     let ss : List Slot = c.self.inside.slots.items in
     let fs : List Finding = c.self.inside.findings.items in
     let cs : List Change = c.self.inside.changes.items in
-    let there : c.args.place < length (stored ss fs cs) =
+    let there : c.args.place < length (records_in ss fs cs) =
     omega (arith, c.if-place-len.false, c.len.ensures, c.self.inside.slots.ok.0, length_stored ss fs cs) in
     let at = stands_here c.args.place s ss fs cs c.index-slot.ensures there c.self.invariant in
     let size : length c.as_slice-2.result.now ≡ length cs = ap (λ (xs : List Change). length xs) c.as_slice-2.ensures.value in
@@ -69,7 +69,7 @@ new-requires g c =
     let ss : List Slot = c.self.inside.slots.items in
     let fs : List Finding = c.self.inside.findings.items in
     let cs : List Change = c.self.inside.changes.items in
-    let there : c.args.place < length (stored ss fs cs) =
+    let there : c.args.place < length (records_in ss fs cs) =
     omega (arith, c.if-place-len.false, c.len.ensures, c.self.inside.slots.ok.0, length_stored ss fs cs) in
     let at = stands_here c.args.place s ss fs cs c.index-slot.ensures there c.self.invariant in
     let size = ap (λ (xs : List Change). length xs) c.values_at-changes.ensures in
@@ -81,7 +81,7 @@ returns g c =
     let ss : List Slot = c.self.inside.slots.items in
     let fs : List Finding = c.self.inside.findings.items in
     let cs : List Change = c.self.inside.changes.items in
-    let there : c.args.place < length (stored ss fs cs) =
+    let there : c.args.place < length (records_in ss fs cs) =
     omega (arith, c.if-place-len.false, c.len.ensures, c.self.inside.slots.ok.0, length_stored ss fs cs) in
     let at = stands_here c.args.place s ss fs cs c.index-slot.ensures there c.self.invariant in
     let first : s.findings.first ≡ at.before = omega (arith, at.asked) in

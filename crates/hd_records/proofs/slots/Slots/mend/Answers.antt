@@ -10,15 +10,15 @@ use Rattle.hd_rules.specs.Facts.{Facts}
 use Rattle.hd_rules.specs.Record.{Record}
 use Rattle.hd_records.specs.declared.slots.Kept.{Kept}
 use Rattle.hd_records.specs.declared.slots.Slot.{Slot}
-use Rattle.hd_records.specs.Laid.{AreLaid, record_in, stored}
-use Rattle.hd_records.specs.Slots.{shift_slot, taken}
+use Rattle.hd_records.specs.Laid.{AreLaid, record_in, records_in}
+use Rattle.hd_records.specs.Slots.{shift_slot, records_there}
 use Rattle.hd_records.specs.SlotsValue.{SlotsValue}
 use Rattle.hd_records.proofs.Laid.{laid_mended, length_stored, mended, none_mended, nothing_mended, stands_here, stored_mended}
 use Rattle.hd_records.proofs.slots.Slots.mend.Goals.{else-slot-via-then-slot+else-is_some, else-slot-via-else-slot}
 use Rattle.hd_records.proofs.slots.Slots.mend.Goals as goal
 
 small_in : (k : Facts) (o : Option Kept) (fs : List Finding) (cs : List Change) → is_some o ≡ true
-    → EachRecordIsKnown k (taken (record_in o fs cs ∷ [])) → EachIsSmall fs
+    → EachRecordIsKnown k (records_there (record_in o fs cs ∷ [])) → EachIsSmall fs
 small_in k None fs cs some known = absurd (false≢true some)
 small_in k (Some x) fs cs some known = known.0.counts
 
@@ -54,14 +54,14 @@ mend_at-requires-clause-small g c =
     let cs : List Change = c.self.inside.changes.items in
     let there = subst (λ (v : SlotsValue). c.args.place < length v.items) (sym c.self.view_is) c.requires.there in
     let at = stands_here c.args.place s ss fs cs c.index-slot.ensures there c.self.invariant in
-    let known : EachRecordIsKnown k (taken (get_or (stored ss fs cs) c.args.place None ∷ [])) =
-    subst (λ (v : SlotsValue). EachRecordIsKnown k (taken (get_or v.items c.args.place None ∷ []))) (sym c.self.view_is)
+    let known : EachRecordIsKnown k (records_there (get_or (records_in ss fs cs) c.args.place None ∷ [])) =
+    subst (λ (v : SlotsValue). EachRecordIsKnown k (records_there (get_or v.items c.args.place None ∷ []))) (sym c.self.view_is)
     c.requires.known in
     let first : at.before ≡ s.findings.first = omega (arith, at.asked) in
     subst (λ (n : ℕ). EachIsSmall (take s.findings.count (drop n fs))) first
     (small_in k s.kept (take s.findings.count (drop at.before fs)) (take s.changes.count (drop at.ahead cs))
     (sym c.is_some.ensures ∙ c.if-is_some.true)
-    (subst (λ (o : Option Record). EachRecordIsKnown k (taken (o ∷ []))) at.is known))
+    (subst (λ (o : Option Record). EachRecordIsKnown k (records_there (o ∷ []))) at.is known))
 
 pub invariant_of-self : goal.invariant_of-self
 invariant_of-self g c =
@@ -88,8 +88,8 @@ returns-then-is_some-clause-items g c =
     let there = subst (λ (v : SlotsValue). c.args.place < length v.items) (sym c.self.view_is) c.requires.there in
     let same : get_or ss c.args.place s ≡ s = sym c.index-slot.ensures in
     let first : (get_or ss c.args.place s).findings.first ≡ s.findings.first = ap (λ (t : Slot). t.findings.first) same in
-    ap (λ (xs : List Finding). stored ss xs cs) c.mend_at.ensures.items
-    ∙ ap (λ (t : Slot). stored ss (mended k c.args.changes.now s.findings.first t.findings.count fs) cs) c.index-slot.ensures
+    ap (λ (xs : List Finding). records_in ss xs cs) c.mend_at.ensures.items
+    ∙ ap (λ (t : Slot). records_in ss (mended k c.args.changes.now s.findings.first t.findings.count fs) cs) c.index-slot.ensures
     ∙ stored_mended k c.args.changes.now 0 0 c.args.place s.findings.first s ss fs cs
     (omega (arith, there, length_stored ss fs cs)) c.self.invariant (omega (arith, first))
     ∙ ap (λ (v : SlotsValue). set v.items c.args.place (shift_slot k c.args.changes.now (get_or v.items c.args.place None)))
@@ -110,8 +110,8 @@ returns-else-slot-clause-items g c =
     (λ (v : SlotsValue). v.items ≡ set v.items c.args.place (shift_slot k c.args.changes.now (get_or v.items c.args.place None)))
     c.self.view_is
     (elim c.else-slot.branch [
-      | else-slot-via-then-slot+else-is_some w ↦ none_mended k c.args.changes.now c.args.place (stored ss fs cs)
+      | else-slot-via-then-slot+else-is_some w ↦ none_mended k c.args.changes.now c.args.place (records_in ss fs cs)
           (at.is ∙ none_in s.kept xs ys (sym w.is_some.ensures ∙ w.if-is_some.false))
-      | else-slot-via-else-slot w ↦ nothing_mended k c.args.changes.now c.args.place (stored ss fs cs) s.kept xs ys at.is
+      | else-slot-via-else-slot w ↦ nothing_mended k c.args.changes.now c.args.place (records_in ss fs cs) s.kept xs ys at.is
           (sym at.counts ∙ w.if-slot.false)
     ])

@@ -4,7 +4,7 @@ use Rattle.hd_rules.specs.declared.questions.Finding.{Finding}
 use Rattle.hd_rules.specs.Record.{Record}
 use Rattle.hd_records.specs.declared.slots.Kept.{Kept}
 use Rattle.hd_records.specs.declared.slots.Slot.{Slot}
-use Rattle.hd_records.specs.Laid.{AreLaid, record_in, record_of_kept, stored}
+use Rattle.hd_records.specs.Laid.{AreLaid, record_in, record_of_kept, records_in}
 use Rattle.hd_records.specs.SlotsValue.{SlotsValue}
 use Rattle.hd_records.proofs.Laid.{IsBehind, laid_more, stored_more}
 use Rattle.hd_records.proofs.slots.Slots.push.Goals as goal
@@ -60,7 +60,7 @@ returns-clause-items g c =
     let whole : record_of_kept kept xs ys ≡ c.args.new =
     (λ j. record_of_kept (record { survivor = c.survivor.ensures j; reply = c.reply.ensures j })
     (c.findings-findings.ensures.findings j) (c.changes-changes.ensures.changes j)) in
-    (λ j. stored (c.push_reserved.ensures.items j) (c.append.ensures.items j) (c.append-2.ensures.items j))
+    (λ j. records_in (c.push_reserved.ensures.items j) (c.append.ensures.items j) (c.append-2.ensures.items j))
     ∙ stored_more 0 0 ss fs cs s xs ys c.self.invariant at
     ∙ ap (λ (v : SlotsValue). v.items ++ record_in s.kept xs ys ∷ []) c.self.view_is
     ∙ ap (λ (r : Record). c.args.self.now.items ++ Some r ∷ []) whole

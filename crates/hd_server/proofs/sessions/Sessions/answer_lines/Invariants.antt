@@ -1,5 +1,5 @@
 use Rattle.std.proofs.Common.{◌≡◌, ◌≤◌, ◌+◌, ◌-◌, ◌++◌, ℕ, List, All, Contains, drop, length, take}
-use Rattle.hd_server.specs.Replays.{AllReplayed, IsLegal}
+use Rattle.hd_server.specs.Replays.{AllReplayed, IsLegalReplay}
 use Rattle.hd_server.proofs.Lining.{ended}
 use Rattle.hd_server.proofs.sessions.Sessions.answer_lines.Given as goal
 
@@ -12,7 +12,7 @@ invariant-loop-end g l = record {
   size : length l.text ≡ length l.fn.text;
   within : l.used ≤ length l.text;
   room : l.self.lines ≤ l.fn.self.lines + l.used;
-  legal : IsLegal l.fn.self → IsLegal l.self;
+  legal : IsLegalReplay l.fn.self → IsLegalReplay l.self;
 }
 
 abbrev pub decreases-loop-end : goal.decreases-loop-end

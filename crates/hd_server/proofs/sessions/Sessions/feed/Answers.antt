@@ -3,7 +3,7 @@ use Rattle.std.proofs.lemmas.List.{length-map, map-set}
 use Rattle.hd_session.specs.Scripts.{session_at}
 use Rattle.hd_session.specs.Sessions.{Hearing}
 use Rattle.hd_server.specs.Inputs.{AreLines, line_of}
-use Rattle.hd_server.specs.Replays.{IsLegal, IsOfOffice, Progress, ReplayedOnto}
+use Rattle.hd_server.specs.Replays.{IsLegalReplay, IsOfOffice, Progress, ReplayedOnto}
 use Rattle.hd_server.proofs.Playing.{at_place, emptied, line_put, said_at}
 use Rattle.hd_server.proofs.sessions.Sessions.feed.Goals as goal
 
@@ -71,4 +71,4 @@ returns-clause-replayed g c text is =
     (rw end at prints.3))
 
 pub returns-clause-legal : goal.returns-clause-legal
-returns-clause-legal g c legal = c.play.ensures.legal (subst IsLegal (sym c.self.view_is) legal)
+returns-clause-legal g c legal = c.play.ensures.legal (subst IsLegalReplay (sym c.self.view_is) legal)

@@ -1,5 +1,5 @@
 use Rattle.std.proofs.Common.{◌≡◌, ◌≤◌, ◌+◌, ◌*◌, List, ℕ, ◌++◌, length, vec_capacity, vec_len}
-use Rattle.hd_field.specs.Streams.{after, lines_in}
+use Rattle.hd_field.specs.Streams.{begun_after, lines_in}
 use Rattle.hd_session.specs.Sessions.{Answers}
 use Rattle.hd_session.specs.Standing.{IsKnownTo}
 use Rattle.hd_session.proofs.session.Session.hear.Given as goal
@@ -12,7 +12,7 @@ invariant-loop-used g l = record {
       (g.O.Office.keeps l.fn.office).seat l.now lines l.fn.self.standing l.self-inside.standing
       (g.O.Office.turns l.fn.office) (g.O.Office.turns l.office) l.fn.out.items l.out.items
       × (vec_len l.out ≤ vec_len l.fn.out + 2048 * length lines);
-  begun : after l.fn.self.begun l.piece ≡ after l.self-inside.stream l.rest;
+  begun : begun_after l.fn.self.begun l.piece ≡ begun_after l.self-inside.stream l.rest;
   capacity : vec_capacity l.fn.out ≤ vec_capacity l.out;
   place : IsKnownTo (g.O.Office.keeps l.fn.office).contents l.self-inside.standing;
   keeps : g.O.Office.keeps l.office ≡ g.O.Office.keeps l.fn.office;

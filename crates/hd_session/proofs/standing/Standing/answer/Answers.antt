@@ -1,6 +1,6 @@
 use Rattle.std.proofs.Common.{◌≡◌, ◌∙◌, ap, sym, refl, length}
 use Rattle.hd_session.specs.Standing.{Stands, digit_after, gaps_after}
-use Rattle.hd_session.specs.Trailers.{written}
+use Rattle.hd_session.specs.Trailers.{text_said}
 use Rattle.hd_session.proofs.Ends.{finished, kept_so}
 use Rattle.hd_session.proofs.Hearing.{answer_of}
 use Rattle.hd_session.proofs.standing.Standing.answer.Goals as goal
@@ -13,7 +13,7 @@ returns-clause-answered g c =
     let from : c.len-from.result ≡ length c.args.out.now.items = c.len-from.ensures ∙ c.args.out.now.ok.0 in
     let last = c.count.ensures.last ∙ ap (λ (x : Stands). x.last) view in (
       said.0,
-      written s.last c.args.whole.now.checked c.args.whole.now.digit c.in_ok-said.said said.1,
+      text_said s.last c.args.whole.now.checked c.args.whole.now.digit c.in_ok-said.said said.1,
       said.2,
       c.finish.ensures.text ∙ finished _ said.1 _ s.last _ _ _ _ _ said.3 from last,
       record {
