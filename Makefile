@@ -13,7 +13,7 @@ help:
 	@echo 'make load       after make run: turns a second beside a server that only echoes (four minutes; rustc)'
 	@echo 'make install    after make run: the program and its manual page, below PREFIX ($(PREFIX)) and DESTDIR'
 	@echo 'make uninstall  take them away again'
-	@echo 'make test       the gate: three days over TCP, every proof from nothing, wrong bodies, tests, stored runs'
+	@echo 'make test       the gate: three days over TCP, all proofs, wrong bodies, tests, stored runs (over an hour at first)'
 
 STORED = replay --catalogue data/demonstration.catalogue --now '20260301    120000' < stdin
 
@@ -27,7 +27,7 @@ try:
 run:
 	@echo 'make run: proves the crates that changed, builds holddesk, and answers the stored messages.' >&2
 	@python3 scripts/prove.py
-	@cd crates/holddesk && rt run -- $(STORED)
+	@cd crates/holddesk && out/holddesk $(STORED)
 
 # A stored day through four connections of holddesk serve, as make run has built it; its replies are compared.
 day:
@@ -75,8 +75,8 @@ bench/out/large.catalogue: scripts/make_library.py
 	@python3 $< --out $@
 
 # The gate: a stored day through four connections of the program, a day of hostile clients, and stops by kill -9, built
-# without proofs for them; a seat of one hall at another, which the types refuse; then every proof from nothing, the
-# wrong bodies that must be refused, the tests and the stored runs.
+# without proofs for them; a seat of one hall at another, which the types refuse; then all proofs, the wrong bodies that
+# must be refused, the tests and the stored runs. What was proved before and hasn't changed isn't proved again.
 test:
 	@python3 scripts/days.py
 	@python3 scripts/other_house.py
