@@ -5,7 +5,7 @@ PREFIX ?= /usr/local
 
 # What there is to make.
 help:
-	@echo 'make try        answer the stored messages by a program that is built without proofs (two minutes)'
+	@echo 'make try        answer the stored messages by a program that is built without proofs (two to four minutes)'
 	@echo 'make run        prove what changed, build holddesk, and answer the stored messages'
 	@echo 'make day        after make run: play a stored day through four connections of holddesk serve'
 	@echo 'make hostile    after make run: a day of hostile clients beside one that has to be answered'
@@ -19,7 +19,7 @@ STORED = replay --catalogue data/demonstration.catalogue --now '20260301    1200
 
 # The main job, soon: the stored messages, answered by a program that is built without any proof.
 try:
-	@echo 'make try: builds holddesk unproved, in about two minutes, and answers the stored messages.' >&2
+	@echo 'make try: builds holddesk unproved, in two to four minutes, and answers the stored messages.' >&2
 	@echo 'Nothing is proved by this: make run proves every function first.' >&2
 	@cd crates/holddesk && rt try -- $(STORED)
 

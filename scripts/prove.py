@@ -24,8 +24,9 @@ TOP = os.path.dirname(os.path.dirname(os.path.abspath(__file__)))
 TARGET = "x86_64-unknown-linux-gnu"
 # what a crate's proof reads
 PARTS = ["src", "specs", "proofs"]
-# the memory that one crate's proof may take, and how far one that nothing waits for stands back
-GIGABYTES, NICE = 4, 19
+# the memory that one crate's proof may take, how far one that nothing waits for stands back, and how many jobs a crate
+# has that isn't the first of those that most wait for: with more, they take the cores from each other
+GIGABYTES, NICE, FEW_JOBS = 4, 19, 2
 
 
 def said_by_rt(word):
@@ -66,10 +67,11 @@ def sums_of(names, uses):
 
 
 def waiting_for(names, uses):
-    """Of each crate the lines of the longest chain of crates that wait for it, itself the first."""
+    """Of each crate the lines of code in the longest chain of crates that wait for it, itself the first. How long a
+    crate's proof takes goes by its code, and hardly by its definitions and proofs."""
     chains = {}
     for name in reversed(names):
-        lines = sum(content.count(b"\n") for _, content in contents_of(name))
+        lines = sum(content.count(b"\n") for path, content in contents_of(name) if path.endswith(".rt"))
         chains[name] = lines + max((chains[above] for above in chains if name in uses[above]), default=0)
     return chains
 
@@ -130,7 +132,8 @@ def prove(names, uses, room):
                 name = ready.pop()
                 left.remove(name)
                 longest = max(chains[other] for other in [name, *left, *running.values()])
-                nice, steps = round(NICE * (1 - chains[name] / longest)), steps_of(name, uses, room, kit, cores)
+                nice, jobs = round(NICE * (1 - chains[name] / longest)), cores if chains[name] == longest else FEW_JOBS
+                steps = steps_of(name, uses, room, kit, jobs)
                 running[pool.submit(build, name, steps, nice, stamps[name], sums[name])] = name
             for done in wait(running, return_when=FIRST_COMPLETED).done:
                 name, said = running.pop(done), done.result()
@@ -148,6 +151,8 @@ def main():
     parser = argparse.ArgumentParser(description="Proves a program and the crates below it, and builds it.")
     parser.add_argument("name", nargs="?", default="holddesk", help="a program of crates.txt (holddesk)")
     name, uses = parser.parse_args().name, uses_of_all()
+    # long turns on a core: more processes run than there are cores, and each change of turns costs them their caches
+    os.sched_setscheduler(0, os.SCHED_BATCH, os.sched_param(0))
     if name not in uses:
         parser.error("no such crate in crates.txt")
     out = os.path.join(TOP, "crates", name, "out")

@@ -1,6 +1,6 @@
 -- The numbers of days.
 use Rattle.std.proofs.Common.{◌≡◌, ℕ, suc, zero, ◌+◌, ◌<◌, ◌≤◌, inl, inr, ⊎_elim, ℤ, pos, negsuc, neg_ℤ, unsigned_abs, ◌+ℤ◌, ◌<ℤ◌, ◌≤ℤ◌}
-use Rattle.std.proofs.Common.{refl, sym, ap, subst, ◌∙◌, arith, rules}
+use Rattle.std.proofs.Common.{Option, None, Some, SomeIff, refl, sym, ap, subst, ◌∙◌, arith, rules}
 use Rattle.std.proofs.lemmas.Bool.{cases_lt}
 use Rattle.jiff_core.specs.Calendar.{IsCivilDate, day_count, days_from_civil, days_of_months, days_of_years}
 use Rattle.jiff_core.specs.Date.{epoch_day}
@@ -9,7 +9,13 @@ use Rattle.jiff_core.proofs.DateLemmas.{IsEarlier, civil, epoch_day-lt, epoch_da
 use Rattle.jiff_core.proofs.SignedLemmas.{signed_arith}
 use Rattle.jiff_core.proofs.CalendarLemmas.{day_count-end, days_from_civil-day_count}
 use Rattle.jiff_core.proofs.DateLemmas.{days_from_civil-next_year}
+use Rattle.hd_day.specs.Days.{end_of_days}
 use Rattle.hd_date.specs.Days.{IsCalendarDay}
+
+-- a number below the end of days is a day's
+pub day_there : {r : Option ℕ} {number : ℕ} → SomeIff r (number < end_of_days) number → number < end_of_days → r ≡ Some number
+day_there {r = None} made below = absurd (made below)
+day_there {r = Some n} made below = ap Some made.1
 
 -- 0000-01-01 is 719,528 days before 1970-01-01
 pub day_zero : days_from_civil (pos 0) 1 1 ≡ neg_ℤ (pos 719_528)

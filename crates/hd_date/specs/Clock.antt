@@ -1,6 +1,6 @@
 -- Clocks: seconds since 1 January 1970, and the stamp of a moment.
 use Rattle.std.specs.Prelude.{◌≡◌, ℕ, ◌+◌, ◌*◌, Option, None, Some, ℤ, pos, ◌+ℤ◌, ◌*ℤ◌, ◌≤ℤ◌, ◌<ℤ◌}
-use Rattle.hd_date.specs.Days.{end_of_days}
+use Rattle.hd_day.specs.Days.{end_of_days}
 use Rattle.hd_date.specs.Stamps.{IsMoment, Stamp, minutes}
 
 -- the number of 1 January 1970, the day on which clocks begin

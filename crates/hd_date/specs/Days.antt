@@ -3,10 +3,6 @@
 use Rattle.std.specs.Prelude.{◌≡◌, ℕ, ◌+◌, ◌/◌, ◌%◌, List, [], ◌∷◌, ◌++◌, replicate, pos, ◌+ℤ◌}
 use Rattle.jiff_core.specs.Calendar.{IsCivilDate, days_from_civil}
 
--- how many days the years 0000 to 9999 have: the number of the day after 31 December 9999
-abbrev pub end_of_days : ℕ
-end_of_days = 3_652_425
-
 -- The day of this number is this day of the calendar: a
 -- real one, that many days after 1 January of the year 0.
 pub record IsCalendarDay (year month day number : ℕ) : Type 0 where

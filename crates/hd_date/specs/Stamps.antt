@@ -3,7 +3,8 @@ use Rattle.std.specs.Prelude.{◌≡◌, ℕ, ◌+◌, ◌-◌, ◌*◌, ◌/◌
 use Rattle.std.specs.Prelude.{codes, fold, length, slice_range, ℤ, pos, ◌+ℤ◌, ◌≤ℤ◌, ◌<ℤ◌, if◌then◌else◌}
 use Rattle.std.specs.Str.{bytes_eq}
 use Rattle.jiff_core.specs.Calendar.{IsCivilDate}
-use Rattle.hd_date.specs.Days.{IsCalendarDay, IsPrinted, end_of_days, two_digits}
+use Rattle.hd_day.specs.Days.{end_of_days}
+use Rattle.hd_date.specs.Days.{IsCalendarDay, IsPrinted, two_digits}
 use Rattle.hd_date.specs.declared.numbers.Numbers.{Numbers}
 use Rattle.hd_date.specs.declared.zone.Zone.{Zone}
 use Rattle.hd_date.specs.declared.zone.Zone.TheVariants.{Local, Universal}

@@ -1,9 +1,10 @@
 //! Days on the calendar.
 ghost use Rattle.std.specs.Prelude.{◌<◌, pos, IfNone, IfSome};
-ghost use Rattle.hd_date.specs.Days.{IsCalendarDay, end_of_days};
+ghost use Rattle.hd_day.specs.Days.{end_of_days};
+ghost use Rattle.hd_date.specs.Days.{IsCalendarDay};
 ghost use Rattle.jiff_core.specs.Calendar.{IsCivilDate};
 
-use crate::day::Day;
+use hd_day::Day;
 use jiff_core::civil::Date;
 
 /// How many days lie between the first day of `jiff` and 0000-01-01.
@@ -18,7 +19,7 @@ pub(crate) fn day_of(year: u16, month: u8, day: u8) -> Option<Day>
     ensures none { IfNone result (¬ IsCivilDate (pos year) month day) }
 {
     match Date::new(year as i16, month as i8, day as i8) {
-        Ok(date) => Some(Day::new(date.days_since_min() - DAYS_BEFORE)),
+        Ok(date) => Day::of_number(date.days_since_min() - DAYS_BEFORE),
         Err(_) => None,
     }
 }

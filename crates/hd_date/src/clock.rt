@@ -1,11 +1,11 @@
 //! The stamp of a clock's moment.
 ghost use Rattle.std.specs.Prelude.{◌≡◌, ◌<◌, pos, ◌*ℤ◌, IfNone, IfSome};
-ghost use Rattle.hd_date.specs.Days.{end_of_days};
+ghost use Rattle.hd_day.specs.Days.{end_of_days};
 ghost use Rattle.hd_date.specs.Clock.{IsStampAt, IsTold, first_stamp, local_second, seconds};
 
-use crate::day::{DAYS, Day};
 use crate::offset::OffsetMinutes;
 use crate::stamp::Stamp18;
+use hd_day::{DAYS, Day};
 
 /// How many seconds lie between 0000-01-01 and 1970-01-01, which is the day of number 719,528.
 const FIRST_SECOND: u64 = 719_528 * 86_400;
@@ -22,18 +22,15 @@ impl Stamp18 {
     {
         let total = local_second(seconds, offset)?;
         let minutes = total / 60;
-        Some(Stamp18::new(
-            Day::new((minutes / 1440) as u32),
-            (minutes % 1440) as u16,
-            (total % 60) as u8,
-        ))
+        let day = Day::of_number((minutes / 1440) as u32)?;
+        Some(Stamp18::new(day, (minutes % 1440) as u16, (total % 60) as u8))
     }
 
     /// The first moment of the year 0, printed `00000101    000000`: the present where no clock tells one.
     pub fn first() -> Stamp18
         ensures { result ≡ first_stamp }
     {
-        Stamp18::new(Day::new(0), 0, 0)
+        Stamp18::new(Day::first(), 0, 0)
     }
 }
 

@@ -1,7 +1,8 @@
 //! Printing and reading.
 ghost use Rattle.std.specs.Prelude.{◌≡◌, ℕ, ◌-◌, List, ℤ};
 ghost use Rattle.hd_date.specs.Clock.{IsStampAt, first_day};
-ghost use Rattle.hd_date.specs.Days.{IsCalendarDay, end_of_days};
+ghost use Rattle.hd_day.specs.Days.{end_of_days};
+ghost use Rattle.hd_date.specs.Days.{IsCalendarDay};
 ghost use Rattle.hd_date.specs.Faults.{IsFirstFault};
 ghost use Rattle.hd_date.specs.Stamps.{IsLocal, IsMoment, IsOwnPrint, IsStamp, Prints, Stamp};
 

@@ -3,7 +3,6 @@
 
 mod calendar;
 mod clock;
-mod day;
 mod digits;
 mod fault;
 mod law;
@@ -15,11 +14,12 @@ mod reading;
 mod stamp;
 mod zone;
 
-pub use crate::day::Day;
 pub use crate::fault::DateFault;
 pub use crate::law::{
     clocks_tell_one_stamp, days_are_dates, prints_show_their_stamp, texts_show_one_stamp,
 };
 pub use crate::offset::OffsetMinutes;
+pub use crate::printing::print_due;
 pub use crate::reading::{local_text, read};
 pub use crate::stamp::Stamp18;
+pub use hd_day::Day;

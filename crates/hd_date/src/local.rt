@@ -1,15 +1,15 @@
 //! Local time.
 ghost use Rattle.std.specs.Prelude.{◌≡◌, ◌<◌, pos, ◌+ℤ◌, IfNone, IfSome};
-ghost use Rattle.hd_date.specs.Days.{end_of_days};
+ghost use Rattle.hd_day.specs.Days.{end_of_days};
 ghost use Rattle.hd_date.specs.Stamps.{IsInYears, minutes};
 
-use crate::day::{DAYS, Day};
+use hd_day::{DAYS, Day};
 
 /// The minutes of a day.
 const MINUTES_OF_A_DAY: u16 = 1440;
 
 /// The day and the minute of the day that lie `offset` minutes later, if the years 0000 to 9999 have it.
-pub(crate) fn shifted(day: Day, minute: u16, offset: i16) -> Option<(Day, u16)>
+pub(crate) fn minutes_later(day: Day, minute: u16, offset: i16) -> Option<(Day, u16)>
     requires minute { minute < 1440 }
     ensures value { IfSome result
         (λ moved. pos (minutes moved.0 moved.1) ≡ pos (minutes day minute) +ℤ offset) }
@@ -24,8 +24,6 @@ pub(crate) fn shifted(day: Day, minute: u16, offset: i16) -> Option<(Day, u16)>
     }
     let total = total.unsigned_abs();
     let day_length = u64::from(MINUTES_OF_A_DAY);
-    Some((
-        Day::new((total / day_length) as u32),
-        (total % day_length) as u16,
-    ))
+    let day = Day::of_number((total / day_length) as u32)?;
+    Some((day, (total % day_length) as u16))
 }

@@ -4,8 +4,8 @@ ghost use Rattle.hd_date.specs.Days.{IsPrinted, date_text, two_digits};
 ghost use Rattle.hd_date.specs.Stamps.{IsMoment, Prints};
 
 use crate::calendar::date_of;
-use crate::day::Day;
 use crate::stamp::Stamp18;
+use hd_day::Day;
 
 impl Stamp18 {
     /// The stamp as it is printed, in local time: `YYYYMMDD    HHMMSS`.
@@ -26,14 +26,12 @@ impl Stamp18 {
     }
 }
 
-impl Day {
-    /// The day as it is printed where something is due on it or ends with it: `YYYYMMDD    235900`.
-    pub fn print_due(self) -> [u8; 18]
-        ensures { IsPrinted self (codes "235900") result }
-    {
-        let (year, month, day) = date_of(self);
-        text(year, month, day, 23, 59, 0)
-    }
+/// The day as it is printed where something is due on it or ends with it: `YYYYMMDD    235900`.
+pub fn print_due(day: Day) -> [u8; 18]
+    ensures { IsPrinted day (codes "235900") result }
+{
+    let (year, month, day) = date_of(day);
+    text(year, month, day, 23, 59, 0)
 }
 
 /// The text of a date with a time.

@@ -7,14 +7,14 @@ ghost use Rattle.hd_date.specs.Stamps.{HasDigits, IsDate, IsInLocalForm, IsOwnPr
 ghost use Rattle.hd_date.specs.Stamps.{minute_of_day, shift, numbers_in, zone_of};
 
 use crate::calendar::day_of;
-use crate::day::Day;
 use crate::digits::{four, two};
 use crate::fault::DateFault;
-use crate::local::shifted;
+use crate::local::minutes_later;
 use crate::numbers::Numbers;
 use crate::offset::OffsetMinutes;
 use crate::stamp::Stamp18;
 use crate::zone::Zone;
+use hd_day::Day;
 
 /// The stamp that a text shows, in local time, or the text's first fault.
 ///
@@ -35,10 +35,10 @@ pub fn read(text: &[u8], offset: OffsetMinutes) -> Result<Stamp18, DateFault>
     let Some(zone) = zone(text) else {
         return Err(DateFault::Zone);
     };
-    let Some((day, minute)) = stated(numbers) else {
+    let Some((day, minute)) = day_and_minute(numbers) else {
         return Err(DateFault::Calendar);
     };
-    let Some((day, minute)) = shifted(day, minute, later(zone, offset)) else {
+    let Some((day, minute)) = minutes_later(day, minute, later(zone, offset)) else {
         return Err(DateFault::Range);
     };
     Ok(Stamp18::new(day, minute, numbers.second))
@@ -92,7 +92,7 @@ fn zone(text: &[u8; 18]) -> Option<Zone>
 }
 
 /// The day and the minute of the day, if the calendar has the day and the day has the time.
-fn stated(numbers: Numbers) -> Option<(Day, u16)>
+fn day_and_minute(numbers: Numbers) -> Option<(Day, u16)>
     requires year { numbers.year < 10000 }
     requires month { numbers.month < 100 }
     requires day { numbers.day < 100 }

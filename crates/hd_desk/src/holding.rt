@@ -59,7 +59,7 @@ impl<'a, A: Allocator + Copy> Inquiry<'a, A> {
         }
         let position = self.position(title, hold.stamp);
         let available = self.on_shelf(title, &hold.kind, hold.pickup);
-        let reply = told(title, available, position, hold);
+        let reply = hold_reply(title, available, position, hold);
         let added = hold_becomes(title, hold.patron, &None, &Some(*hold));
         self.accept(hold.stamp, &[added], reply)
     }
@@ -169,17 +169,17 @@ impl<'a, A: Allocator + Copy> Inquiry<'a, A> {
         if has_expired(wishes.expiry, day) {
             return Err(Refusal::ExpiryPassed);
         }
-        let new = changed(wishes, hold);
+        let new = with_wishes(wishes, hold);
         let position = self.position(title, hold.stamp);
         let available = self.on_shelf(title, &new.kind, new.pickup);
-        let reply = told(title, available, position, &new);
+        let reply = hold_reply(title, available, position, &new);
         let becomes = hold_becomes(title, patron, held, &Some(new));
         self.accept(number, &[becomes], reply)
     }
 }
 
 /// The reply that tells a hold.
-fn told(title: TitleNo, available: bool, position: u64, hold: &Hold) -> Reply
+fn hold_reply(title: TitleNo, available: bool, position: u64, hold: &Hold) -> Reply
     ensures { result ≡ Held title available position hold.now }
 {
     Reply::Held {
@@ -191,7 +191,7 @@ fn told(title: TitleNo, available: bool, position: u64, hold: &Hold) -> Reply
 }
 
 /// The hold with what the message gives.
-fn changed(wishes: &Wishes, hold: &Hold) -> Hold
+fn with_wishes(wishes: &Wishes, hold: &Hold) -> Hold
     ensures { result ≡ as_changed wishes.now.kind wishes.now.pickup wishes.now.expiry hold.now }
 {
     Hold {

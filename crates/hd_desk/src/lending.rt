@@ -85,7 +85,7 @@ impl<'a, A: Allocator + Copy> Inquiry<'a, A> {
         match chosen {
             None => {
                 let due = self.lend(message)?;
-                self.lent(message, due, old, &[])
+                self.lend_until(message, due, old, &[])
             }
             Some(hold) => {
                 if hold.patron == message.patron {
@@ -111,7 +111,7 @@ impl<'a, A: Allocator + Copy> Inquiry<'a, A> {
         let title = self.desk.title_of(message.copy);
         let held = self.hold(title, message.patron);
         let ends = hold_becomes(title, message.patron, &held, &None);
-        self.lent(message, due, old, &[ends])
+        self.lend_until(message, due, old, &[ends])
     }
 
     /// The due day of a loan, where the patron has room for one more and the day can be.
@@ -139,7 +139,7 @@ impl<'a, A: Allocator + Copy> Inquiry<'a, A> {
     }
 
     /// The copy is lent until that day, and these holds end.
-    fn lent(
+    fn lend_until(
         &self,
         message: &Lending,
         due: Day,

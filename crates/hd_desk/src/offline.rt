@@ -34,11 +34,11 @@ impl<'a, A: Allocator + Copy> Inquiry<'a, A> {
         let old = self.copy(copy);
         let title = self.desk.title_of(copy);
         let held = self.hold(title, patron);
-        let ended = self.ended(copy, title, patron, &held);
+        let ended = self.end_of_hold(copy, title, patron, &held);
         match tied_to(&old) {
             Some(other) if other != patron => {
                 let kept = self.hold(title, other);
-                let freed = freed(title, other, &kept);
+                let freed = release_of_hold(title, other, &kept);
                 self.lend_off_line(number, patron, copy, due, &old, &ended, &freed)
             }
             _ => self.lend_off_line(number, patron, copy, due, &old, &ended, &None),
@@ -46,7 +46,7 @@ impl<'a, A: Allocator + Copy> Inquiry<'a, A> {
     }
 
     /// The patron's hold that the loan ends: it has the copy, or may have it and has none.
-    fn ended(
+    fn end_of_hold(
         &self,
         copy: CopyNo,
         title: TitleNo,
@@ -117,7 +117,7 @@ impl<'a, A: Allocator + Copy> Inquiry<'a, A> {
 }
 
 /// The hold that the loan takes the copy from, which keeps its place in the queue.
-fn freed(title: TitleNo, patron: PatronNo, held: &Option<Hold>) -> Option<Change>
+fn release_of_hold(title: TitleNo, patron: PatronNo, held: &Option<Hold>) -> Option<Change>
     ensures { (k : Facts) (copy : ℕ) → k.title_of copy ≡ title
         → as_list result ≡ release_of_hold k copy patron held.now }
 {

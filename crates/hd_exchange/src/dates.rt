@@ -38,7 +38,7 @@ pub(crate) fn dates_of(
     match read(text, offset) {
         Ok(stamp) => Dates {
             transaction: Some(stamp),
-            printed: printed(text, &stamp),
+            printed: stamp_text(text, &stamp),
             other,
         },
         Err(_) => Dates {
@@ -50,7 +50,7 @@ pub(crate) fn dates_of(
 }
 
 /// A stamp as a reply prints it: the text that reads as it where that is in local form.
-fn printed(text: &[u8], stamp: &Stamp18) -> [u8; 18]
+fn stamp_text(text: &[u8], stamp: &Stamp18) -> [u8; 18]
     requires { (offset : ℤ) × IsStamp text.now offset stamp.now }
     ensures { Prints stamp.now result }
 {

@@ -47,7 +47,7 @@ pub(crate) fn answer<A: Allocator + Copy, O: Office<A>>(
             let reply = reply_to(
                 office.catalogue(),
                 &message.repeated,
-                ask.asked(),
+                ask.what_is_asked(),
                 &turn.reply,
             );
             write_reply(&reply, out);

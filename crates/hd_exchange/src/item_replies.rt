@@ -32,7 +32,7 @@ pub(crate) fn item_reply<'a>(repeated: &'a Repeated<'a>, outcome: ItemOutcome<'a
 }
 
 /// What is said of a copy that is shown.
-pub(crate) fn found<'a, A: Allocator + Copy>(
+pub(crate) fn outcome_of_view<'a, A: Allocator + Copy>(
     catalogue: &'a Catalogue<A>,
     copy: CopyNo,
     view: &'a ItemView,

@@ -10,7 +10,7 @@ ghost use Rattle.hd_exchange.specs.Replies.{IsReply};
 
 use crate::accepted::accepted_reply;
 use crate::cancellations::cancellation_reply;
-use crate::item_replies::{found, item_reply};
+use crate::item_replies::{item_reply, outcome_of_view};
 use crate::refusals::refusal_reply;
 use crate::repeated::Repeated;
 use hd_catalogue::Catalogue;
@@ -43,7 +43,7 @@ pub(crate) fn reply_to<'a, A: Allocator + Copy>(
             cancellation_reply(catalogue, repeated, what, *number)
         }
         (Asked::Item(copy), TurnReply::Item(view)) => {
-            Reply::Item(item_reply(repeated, found(catalogue, *copy, view)))
+            Reply::Item(item_reply(repeated, outcome_of_view(catalogue, *copy, view)))
         }
         _ => unreachable!(),
     }

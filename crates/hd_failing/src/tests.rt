@@ -22,7 +22,7 @@ fn a_write_is_interrupted_and_takes_no_byte(rt: HostRuntime) {
         matches!(writer.write(b"abc"), Err(error) if error.kind() == ErrorKind::Interrupted)
     );
     assert!(rt; matches!(writer.write(b"abc"), Ok(2)));
-    assert_eq!(rt; writer.written(), b"ab".as_slice());
+    assert_eq!(rt; writer.bytes(), b"ab".as_slice());
     assert_eq!(rt; writer.calls(), 2);
     let mut writer = FailingWriter::new(Fault::None);
     assert!(rt; matches!(writer.write(b"abc"), Ok(3)));

@@ -56,8 +56,8 @@ impl FailingWriter {
         }
     }
 
-    /// What was written.
-    pub fn written(&self) -> &[u8]
+    /// The bytes that were written.
+    pub fn bytes(&self) -> &[u8]
         ensures { result.now ≡ self.now.written }
     {
         self.written.as_slice()

@@ -1,10 +1,11 @@
 -- The holds of all titles, as the code reads and writes them.
-use Rattle.std.proofs.Common.{◌≡◌, ℕ, ◌+◌, ◌<◌, ◌≤◌, ◌==◌, ◌&&◌, Bool, true, false, cond, List, [], ◌∷◌, ◌++◌, Option, None, Some}
+use Rattle.std.proofs.Common.{◌≡◌, ℕ, ◌+◌, ◌<◌, ◌≤◌, ◌^◌, ◌==◌, ◌&&◌, Bool, true, false, cond, List, [], ◌∷◌, ◌++◌, Option, None, Some}
 use Rattle.std.proofs.Common.{Result, Ok, Err, OnOk, OnErr, refl, ap, sym, subst, ◌∙◌, inl, inr, arith, length, get_or}
 use Rattle.std.proofs.Math.ListN.{set}
 use Rattle.std.proofs.lemmas.Bool.{cases_eq, eq-eqb, ne_eqb, eqb-true}
 use Rattle.std.proofs.lemmas.List.{get_or_read, set-get_or}
 use Rattle.hd_rules.specs.declared.holds.Hold.{Hold}
+use Rattle.hd_rules.specs.Facts.{Facts}
 use Rattle.hd_catalogue.specs.Contents.{Contents, facts_of}
 use Rattle.hd_queue.specs.Holds.{hold_of}
 use Rattle.hd_queue.specs.QueueValue.{QueueValue}
@@ -12,7 +13,7 @@ use Rattle.hd_holds.specs.HoldsValue.{HoldsValue}
 use Rattle.hd_holds.specs.Held.{IsQueue, facts, patron_hold, no_queue, queue_of, room_of}
 use Rattle.hd_holds.specs.Places.{HasOneMore, IsPlaced, queues_at}
 use Rattle.hd_holds.proofs.Queues.{Reads, held-ready, queue_of-set, reads-within, written}
-use Rattle.hd_holds.proofs.Placed.{place_of, placed-added, placed-written, queue-none, queue-own, queues-added, queues-written, titles-places}
+use Rattle.hd_holds.proofs.Placed.{few-queues, place_of, placed-added, placed-written, queue-none, queue-own, queues-added, queues-written, titles-places}
 
 -- a title's queue written
 
@@ -110,6 +111,17 @@ pub record ReadsPlace (contents : Contents) (ps : List ℕ) (qs : List QueueValu
   pub index : i ≡ t
   pub within : t < (facts w).titles
   pub read : p ≡ get_or ps i p
+
+-- a title has a place
+pub index-within : {contents : Contents} {ps : List ℕ} {qs : List QueueValue} {w : HoldsValue} {i t : ℕ} → kept contents ps qs ≡ w →
+    IsPlaced (facts_of contents) ps qs → i ≡ t → t < (facts w).titles → i < length ps
+index-within {contents} {ps} {qs} {w} {i} {t} same all index within =
+    let P : HoldsValue → Type 0 = λ x. t < (facts x).titles in
+    omega (arith, index, subst P (sym same) within, titles-places (facts_of contents) ps qs all)
+
+-- and there are few queues
+pub queues-few : {k : Facts} {ps : List ℕ} {qs : List QueueValue} → IsPlaced k ps qs → length qs < 2 ^ 32
+queues-few {k} {ps} {qs} all = omega (arith, few-queues k ps qs all, all.titles.range.titles)
 
 module _ {contents : Contents} {ps : List ℕ} {qs : List QueueValue} {w : HoldsValue} {i t p : ℕ}
     (at : ReadsPlace contents ps qs w i t p) where

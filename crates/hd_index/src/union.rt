@@ -70,7 +70,7 @@ impl<'a> Iterator for Union<'a> {
         let count = self.count;
         let least = least_first(&self.lists[..count])?;
         pass(&mut self.lists[..count], least);
-        self.others = bound(&self.lists[1..count]);
+        self.others = lower_bound(&self.lists[1..count]);
         Some(least)
     }
 }
@@ -92,7 +92,7 @@ fn least_first(lists: &[&[u32]]) -> Option<u32>
 }
 
 /// A number that none of the lists begins below.
-fn bound(lists: &[&[u32]]) -> u64
+fn lower_bound(lists: &[&[u32]]) -> u64
     ensures { AllByRecursion (IsNotBelow result) (map (λ list. list.now) lists.now) }
 {
     match least_first(lists) {

@@ -5,7 +5,7 @@ ghost use Rattle.hd_journal.specs.Asks.{asking, is_query, kept_line, turn_with_r
 ghost use Rattle.hd_journal.specs.Shown.{turn_shown};
 
 use crate::entry::Entry;
-use crate::line::{Line, copied, lent};
+use crate::line::{Line, bytes_if_any, copy_if_any};
 use crate::numbers::SeatNo;
 use crate::turn::TurnRef;
 use hd_rules::{Asked, TerminalNo, TurnReply};
@@ -61,7 +61,7 @@ impl<'a> Ask<'a> {
     }
 
     /// A command, a cancellation or a query.
-    pub fn asked(&self) -> &Asked
+    pub fn what_is_asked(&self) -> &Asked
         ensures { result.now ≡ self.now.asked }
     {
         &self.asked
@@ -75,7 +75,7 @@ impl<'a> Ask<'a> {
         ensures same { IfOk result (λ own. own ≡ message_of self.now) }
         ensures no_line { self.now.line ≡ None → IsOk result }
     {
-        let line = copied(alloc, self.line)?;
+        let line = copy_if_any(alloc, self.line)?;
         Ok(OwnedAsk {
             seat: self.seat,
             terminal: self.terminal,
@@ -119,7 +119,7 @@ impl<A: Allocator> Model for OwnedAsk<A> {
 }
 
 impl<A: Allocator> OwnedAsk<A> {
-    /// The turn of this, with its reply. Nothing is copied.
+    /// The turn of this, with its reply. Nothing is copy_if_any.
     pub fn with_reply(self, reply: TurnReply) -> Entry<A>
         ensures { result ≡ turn_with_reply self reply }
     {
@@ -147,6 +147,6 @@ impl<A: Allocator> OwnedAsk<A> {
     pub(crate) fn line(&self) -> Option<&[u8]>
         ensures { option_map (λ bytes. bytes.now) result ≡ self.now.message.line }
     {
-        lent(&self.line)
+        bytes_if_any(&self.line)
     }
 }

@@ -64,7 +64,7 @@ impl<A: Allocator> Entry<A> {
     }
 
     /// The reply that it was told, where it asked this with this line.
-    pub(crate) fn answered(&self, asked: &Asked, line: &[u8]) -> Option<TurnReply>
+    pub(crate) fn reply_to(&self, asked: &Asked, line: &[u8]) -> Option<TurnReply>
         ensures { result
             ≡ kept_reply (kept_of self.now.message.line self.now.message.asked self.now.reply)
             asked.now (Some line.now) }

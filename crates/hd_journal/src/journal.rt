@@ -109,7 +109,7 @@ impl<A: Allocator + Copy> Journal<A> {
     {
         journal_laws();
         self.told.ready(ask.terminal())?;
-        let repeated = self.told.repeated(&ask);
+        let repeated = self.told.kept_reply(&ask);
         if let Some(reply) = repeated {
             let again = ask.with_reply(reply);
             return Ok(self.told.add_repeat(again));
@@ -193,7 +193,7 @@ impl<A: Allocator + Copy> Journal<A> {
     pub fn is_changing(&self, ask: &OwnedAsk<A>) -> bool
         ensures { result ≡ is_changing (state self.now) ask.now.message }
     {
-        !ask.is_query() && self.told.repeated(ask).is_none()
+        !ask.is_query() && self.told.kept_reply(ask).is_none()
     }
 
     /// How many turns there are.

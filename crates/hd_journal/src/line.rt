@@ -22,7 +22,7 @@ impl<A: Allocator> Model for Line<A> {
 
 impl<A: Allocator> Line<A> {
     /// A copy of these bytes.
-    fn copied(alloc: A, bytes: &[u8]) -> Result<Line<A>, AllocError>
+    fn copy_of(alloc: A, bytes: &[u8]) -> Result<Line<A>, AllocError>
         ensures { IfOk result (λ line. line ≡ bytes.now) }
     {
         let bytes = Vec::from_slice(alloc, bytes)?;
@@ -38,7 +38,7 @@ impl<A: Allocator> Line<A> {
 }
 
 /// A copy of the line, where there is one. Without a line no memory is wanted.
-pub(crate) fn copied<A: Allocator>(
+pub(crate) fn copy_if_any<A: Allocator>(
     alloc: A,
     line: Option<&[u8]>,
 ) -> Result<Option<Line<A>>, AllocError>
@@ -47,12 +47,12 @@ pub(crate) fn copied<A: Allocator>(
 {
     match line {
         None => Ok(None),
-        Some(bytes) => Ok(Some(Line::copied(alloc, bytes)?)),
+        Some(bytes) => Ok(Some(Line::copy_of(alloc, bytes)?)),
     }
 }
 
 /// The bytes of a line, where there is one.
-pub(crate) fn lent<A: Allocator>(line: &Option<Line<A>>) -> Option<&[u8]>
+pub(crate) fn bytes_if_any<A: Allocator>(line: &Option<Line<A>>) -> Option<&[u8]>
     ensures { option_map (λ bytes. bytes.now) result ≡ line.now }
 {
     match line {

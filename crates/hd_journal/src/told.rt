@@ -76,7 +76,7 @@ impl<A: Allocator + Copy> Told<A> {
     }
 
     /// The reply to a message that equals what is kept of its terminal's last.
-    pub(crate) fn repeated(&self, ask: &OwnedAsk<A>) -> Option<TurnReply>
+    pub(crate) fn kept_reply(&self, ask: &OwnedAsk<A>) -> Option<TurnReply>
         ensures { result
             ≡ kept_reply (kept_by self.now ask.now.message.terminal)
             ask.now.message.asked ask.now.message.line }
@@ -84,7 +84,7 @@ impl<A: Allocator + Copy> Told<A> {
         let line = ask.line()?;
         let place = (*self.places.get(ask.terminal().number() as usize)?)?;
         let turn = self.turns.get(place)?;
-        turn.answered(&ask.asked, line)
+        turn.reply_to(&ask.asked, line)
     }
 
     /// A turn that leaves what is kept.

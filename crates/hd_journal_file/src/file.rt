@@ -9,7 +9,7 @@ ghost use Rattle.hd_journal_file.specs.Held.{HoldsJournal, MayLeave};
 
 use crate::adding::{a_crash_leaves_what_is_seen, add};
 use crate::came::came_to;
-use crate::telling::told;
+use crate::telling::turn_row;
 use hd_catalogue::Catalogue;
 use hd_durable::{NotCommitted, TurnTable};
 use hd_journal::TurnRef;
@@ -100,7 +100,7 @@ impl<S: Alter, F: Start, A: Allocator + Copy> TurnTable for JournalFile<S, F, A>
         a_crash_leaves_what_is_seen(&self.conn);
         let came = came_to(self.alloc, &turn.reply)?;
         let days = RowDays::of(&turn.asked);
-        let row = told(&self.catalogue, turn, &days, &came)?;
+        let row = turn_row(&self.catalogue, turn, &days, &came)?;
         add(&mut self.conn, &row)
     }
 }

@@ -23,7 +23,7 @@ use std::alloc::Allocator;
 ///
 /// # Errors
 /// Where the turn is a query's, or a name of the catalogue isn't UTF-8.
-pub(crate) fn told<'a, 't: 'a, A: Allocator + Copy>(
+pub(crate) fn turn_row<'a, 't: 'a, A: Allocator + Copy>(
     catalogue: &'a Catalogue<A>,
     turn: &TurnRef<'t>,
     days: &'a RowDays,

@@ -7,7 +7,8 @@ use Rattle.jiff_core.specs.Calendar.{day_count, days_from_civil, days_in_month, 
 use Rattle.jiff_core.proofs.CalendarLemmas.{day_count_bounds, days_from_civil-day_count, days_in_month_bounds}
 use Rattle.jiff_core.proofs.DateLemmas.{days_from_civil-day, days_from_civil-next_month, days_from_civil-next_year}
 use Rattle.jiff_core.proofs.SignedLemmas.{signed_arith}
-use Rattle.hd_date.specs.Days.{IsCalendarDay, IsPrinted, date_text, end_of_days}
+use Rattle.hd_day.specs.Days.{end_of_days}
+use Rattle.hd_date.specs.Days.{IsCalendarDay, IsPrinted, date_text}
 use Rattle.hd_message.specs.Due.{Date, date_of, due_text}
 
 -- what is known of dates

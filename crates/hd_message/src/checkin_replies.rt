@@ -26,7 +26,7 @@ pub(crate) fn write_checkin<A: Allocator>(
             home,
             title,
             whereabouts,
-        } => append(out, &returned(reply, home, title, whereabouts)),
+        } => append(out, &checkin_accepted(reply, home, title, whereabouts)),
         CheckinOutcome::Cancelled {
             home,
             title,
@@ -37,7 +37,7 @@ pub(crate) fn write_checkin<A: Allocator>(
 }
 
 /// The parts of the reply to a checkin that is accepted.
-fn returned<'a>(
+fn checkin_accepted<'a>(
     reply: &CheckinReply<'a>,
     home: &'a [u8],
     title: &'a [u8],

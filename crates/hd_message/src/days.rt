@@ -3,22 +3,22 @@ ghost use Rattle.std.specs.Prelude.{◌≡◌};
 ghost use Rattle.std.specs.Option.{option_copied, option_map};
 ghost use Rattle.hd_message.specs.Due.{due_text};
 
-use hd_date::{Day, days_are_dates};
+use hd_date::{Day, days_are_dates, print_due};
 
 /// A day as it is printed.
-pub(crate) fn printed(day: &Day) -> [u8; 18]
+pub(crate) fn day_text(day: &Day) -> [u8; 18]
     ensures { result ≡ due_text day.now }
 {
     days_are_dates();
-    day.print_due()
+    print_due(*day)
 }
 
 /// A day as it is printed, if there is one.
-pub(crate) fn printed_if_any(day: Option<&Day>) -> Option<[u8; 18]>
+pub(crate) fn day_text_if_any(day: Option<&Day>) -> Option<[u8; 18]>
     ensures { result ≡ option_map due_text (option_copied day.entry) }
 {
     match day {
-        Some(day) => Some(printed(day)),
+        Some(day) => Some(day_text(day)),
         None => None,
     }
 }

@@ -10,7 +10,7 @@ ghost use Rattle.hd_message.specs.declared.kind.Kind.TheVariants.{Desk};
 ghost use Rattle.hd_message.specs.declared.kind.DeskKind.TheVariants.{Hold};
 
 use crate::request::{HoldRequest, Mode, Wanted, Wishes};
-use crate::values::{Values, filled, first_values, is_yes};
+use crate::values::{Values, first_values, is_yes, unless_empty};
 
 /// The hold request of a fixed part and its fields, if it is readable.
 pub(crate) fn hold<'a>(fixed: &'a [u8], part: &'a [u8]) -> Option<HoldRequest<'a>>
@@ -22,8 +22,8 @@ pub(crate) fn hold<'a>(fixed: &'a [u8], part: &'a [u8]) -> Option<HoldRequest<'a
     let mode = mode(fixed[2])?;
     let values = first_values(part);
     let patron = values.patron?;
-    let copy = filled(values.copy);
-    let title = filled(values.title);
+    let copy = unless_empty(values.copy);
+    let title = unless_empty(values.title);
     if copy.is_none() && title.is_none() {
         return None;
     }
@@ -51,13 +51,13 @@ fn wishes<'a>(values: &Values<'a>, mode: Mode, cancels: bool) -> Option<Option<W
     if cancels || mode == Mode::Delete {
         return Some(None);
     }
-    let wanted = wanted(values.wanted)?;
-    if wanted == Some(Wanted::OneCopy) && filled(values.copy).is_none() {
+    let wanted = wanted_of(values.wanted)?;
+    if wanted == Some(Wanted::OneCopy) && unless_empty(values.copy).is_none() {
         return None;
     }
     Some(Some(Wishes {
         wanted,
-        pickup: filled(values.pickup),
+        pickup: unless_empty(values.pickup),
         expiry: expiry(values.expiry),
     }))
 }
@@ -75,7 +75,7 @@ fn mode(byte: u8) -> Option<Mode>
 }
 
 /// Which copies a value of BY asks for, where it says so; nothing where that is unreadable.
-fn wanted(value: Option<&[u8]>) -> Option<Option<Wanted>>
+fn wanted_of(value: Option<&[u8]>) -> Option<Option<Wanted>>
     ensures { result ≡ wanted_of (option_copied value.entry) }
 {
     match value {
@@ -91,7 +91,7 @@ fn wanted(value: Option<&[u8]>) -> Option<Option<Wanted>>
 fn expiry(value: Option<&[u8]>) -> Option<&[u8]>
     ensures { option_copied result ≡ expiry_of (unless_empty (option_copied value.entry)) }
 {
-    let text = filled(value)?;
+    let text = unless_empty(value)?;
     if text == [b' '; 18].as_slice() {
         None
     } else {

@@ -6,7 +6,7 @@ ghost use Rattle.hd_message.specs.Part.{part_text};
 ghost use Rattle.hd_message.specs.declared.reply.HoldOutcome.TheVariants as OfHold;
 
 use crate::appending::append;
-use crate::days::printed_if_any;
+use crate::days::day_text_if_any;
 use crate::part::Part;
 use crate::reply::{HoldOutcome, HoldReply};
 use hd_date::Day;
@@ -32,9 +32,9 @@ pub(crate) fn write_hold<A: Allocator>(
             title,
         } => append(
             out,
-            &held(reply, available, expiry, position, pickup, title),
+            &hold_accepted(reply, available, expiry, position, pickup, title),
         ),
-        HoldOutcome::Deleted { title } => append(out, &deleted(reply, title)),
+        HoldOutcome::Deleted { title } => append(out, &deletion_accepted(reply, title)),
         HoldOutcome::Cancelled { title, number } => {
             append(out, &hold_cancelled(reply, title, number))
         }
@@ -46,7 +46,7 @@ pub(crate) fn write_hold<A: Allocator>(
 }
 
 /// The parts of the reply to an add or a change that is accepted.
-fn held<'a>(
+fn hold_accepted<'a>(
     reply: &HoldReply<'a>,
     available: bool,
     expiry: Option<&'a Day>,
@@ -62,7 +62,7 @@ fn held<'a>(
         Part::Text(b"161"),
         Part::YesNo(available),
         Part::Text(reply.date),
-        Part::Expiry(printed_if_any(expiry)),
+        Part::Expiry(day_text_if_any(expiry)),
         Part::Position(position),
         Part::Field(*b"BS", pickup),
         Part::Field(*b"AO", reply.institution),
@@ -73,7 +73,7 @@ fn held<'a>(
 }
 
 /// The parts of the reply to a delete that is accepted.
-fn deleted<'a>(reply: &HoldReply<'a>, title: &'a [u8]) -> [Part<'a>; 6]
+fn deletion_accepted<'a>(reply: &HoldReply<'a>, title: &'a [u8]) -> [Part<'a>; 6]
     ensures { flat_map part_text result ≡ concat (hold_layout reply.now (OfHold.Deleted title.entry)) }
 {
     [

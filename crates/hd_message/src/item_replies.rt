@@ -6,7 +6,7 @@ ghost use Rattle.hd_message.specs.Part.{part_text};
 ghost use Rattle.hd_message.specs.declared.reply.ItemOutcome.TheVariants as OfItem;
 
 use crate::appending::append;
-use crate::days::printed;
+use crate::days::day_text;
 use crate::part::Part;
 use crate::reply::{Circulation, ItemOutcome, ItemReply};
 use hd_rules::Refusal;
@@ -28,13 +28,13 @@ pub(crate) fn write_item<A: Allocator>(
             title,
             home,
             circulation,
-        } => append(out, &found(reply, holds, title, home, circulation)),
+        } => append(out, &item_found(reply, holds, title, home, circulation)),
         ItemOutcome::Refused { refusal } => append(out, &item_refused(reply, refusal)),
     }
 }
 
 /// The parts of the reply about a copy that the catalogue has.
-fn found<'a>(
+fn item_found<'a>(
     reply: &ItemReply<'a>,
     holds: u64,
     title: &'a [u8],
@@ -88,7 +88,7 @@ fn due_part(circulation: Circulation<'_>) -> Part<'_>
     ensures { part_text result ≡ loan_field circulation.entry }
 {
     match circulation {
-        Circulation::Loan { due } => Part::Due(printed(due)),
+        Circulation::Loan { due } => Part::Due(day_text(due)),
         _ => Part::Text(b""),
     }
 }

@@ -7,7 +7,7 @@ ghost use Rattle.hd_message.specs.Part.{part_text};
 ghost use Rattle.hd_message.specs.declared.reply.LoanOutcome.TheVariants as OfLoan;
 
 use crate::appending::append;
-use crate::days::printed;
+use crate::days::day_text;
 use crate::part::{NO_DUE_DAY, Part};
 use crate::reply::{LoanOutcome, LoanReply};
 use hd_date::Day;
@@ -50,7 +50,10 @@ pub(crate) fn write_loan<A: Allocator>(
     ensures capacity { vec_capacity out.old ≤ vec_capacity out.new }
 {
     match reply.outcome {
-        LoanOutcome::Lent { title, due, .. } => append(out, &lent(front, reply, title, due)),
+        LoanOutcome::Lent { title, due, .. } => append(
+            out,
+            &loan_accepted(front, reply, title, due),
+        ),
         LoanOutcome::Cancelled { title, number } => {
             append(out, &loan_cancelled(front, reply, title, number))
         }
@@ -59,7 +62,12 @@ pub(crate) fn write_loan<A: Allocator>(
 }
 
 /// The parts of a reply to a message that is accepted.
-fn lent<'a>(front: &'a [u8], reply: &LoanReply<'a>, title: &'a [u8], due: &'a Day) -> [Part<'a>; 7]
+fn loan_accepted<'a>(
+    front: &'a [u8],
+    reply: &LoanReply<'a>,
+    title: &'a [u8],
+    due: &'a Day,
+) -> [Part<'a>; 7]
     ensures { flat_map part_text result ≡ concat (lent_layout front.now reply.now title.now due.now) }
 {
     [
@@ -69,7 +77,7 @@ fn lent<'a>(front: &'a [u8], reply: &LoanReply<'a>, title: &'a [u8], due: &'a Da
         Part::Field(*b"AA", reply.patron),
         Part::Field(*b"AB", reply.copy),
         Part::Field(*b"AJ", title),
-        Part::Due(printed(due)),
+        Part::Due(day_text(due)),
     ]
 }
 

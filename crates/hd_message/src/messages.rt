@@ -6,7 +6,7 @@ ghost use Rattle.hd_message.specs.declared.kind.Kind.TheVariants.{Login, Desk};
 ghost use Rattle.hd_message.specs.declared.kind.DeskKind.TheVariants.{Checkout, Checkin, Renew, Item};
 
 use crate::request::{CheckinRequest, CheckoutRequest, ItemRequest, LoginRequest, RenewRequest};
-use crate::values::{filled, first_values, is_yes};
+use crate::values::{first_values, is_yes, unless_empty};
 
 /// The login of a fixed part and its fields, if it is readable.
 pub(crate) fn login<'a>(fixed: &'a [u8], part: &'a [u8]) -> Option<LoginRequest<'a>>
@@ -56,7 +56,7 @@ pub(crate) fn checkin<'a>(fixed: &'a [u8], part: &'a [u8]) -> Option<CheckinRequ
     Some(CheckinRequest {
         date: &fixed[3..21],
         copy,
-        branch: filled(values.branch),
+        branch: unless_empty(values.branch),
         cancels: is_yes(values.cancel),
     })
 }
@@ -74,7 +74,7 @@ pub(crate) fn renew<'a>(fixed: &'a [u8], part: &'a [u8]) -> Option<RenewRequest<
         date: &fixed[4..22],
         patron,
         copy,
-        title: filled(values.title),
+        title: unless_empty(values.title),
         cancels: is_yes(values.cancel),
     })
 }

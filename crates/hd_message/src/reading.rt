@@ -14,7 +14,7 @@ use crate::messages::{checkin, checkout, item, login, renew};
 use crate::request::{LoginRequest, Request};
 use crate::table::{date_place, kind_of, width};
 use crate::unreadable::{Unreadable, UnreadableMessage};
-use crate::values::{filled, first_values};
+use crate::values::{first_values, unless_empty};
 
 /// How many bytes a date has (SIP2 2.00, date fields).
 const DATE: usize = 18;
@@ -74,11 +74,11 @@ fn request(kind: DeskKind, body: &[u8]) -> Option<Request<'_>>
     ensures unreadable { is_none result ≡ is_unreadable (Desk kind) body.now }
 {
     let (fixed, part) = body.split_at_checked(width(Kind::Desk(kind)))?;
-    stated(kind, fixed, part)
+    request_of_parts(kind, fixed, part)
 }
 
 /// The request that a fixed part and fields state, if they are readable.
-fn stated<'a>(kind: DeskKind, fixed: &'a [u8], part: &'a [u8]) -> Option<Request<'a>>
+fn request_of_parts<'a>(kind: DeskKind, fixed: &'a [u8], part: &'a [u8]) -> Option<Request<'a>>
     requires { length fixed.now ≡ fixed_width (Desk kind) }
     ensures states { IfSome result (StatesRequest (code_of (Desk kind)) fixed.now part.now) }
     ensures incomplete { is_none result ≡ is_incomplete (Desk kind) fixed.now part.now }
@@ -108,8 +108,8 @@ fn unreadable(kind: DeskKind, body: &[u8]) -> UnreadableMessage<'_>
         kind,
         date: date(kind, body),
         patron: values.patron,
-        copy: filled(values.copy),
-        title: filled(values.title),
+        copy: unless_empty(values.copy),
+        title: unless_empty(values.title),
     }
 }
 

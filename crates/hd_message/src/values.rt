@@ -78,7 +78,7 @@ fn value_after<'a>(value: Option<&'a [u8]>, code: [u8; 2], field: Field<'a>) -> 
 }
 
 /// A value, absent where it is empty.
-pub(crate) fn filled(value: Option<&[u8]>) -> Option<&[u8]>
+pub(crate) fn unless_empty(value: Option<&[u8]>) -> Option<&[u8]>
     ensures { option_copied result ≡ unless_empty (option_copied value.entry) }
 {
     match value {

@@ -102,7 +102,7 @@ impl<A: Allocator> Index<A> {
     }
 
     /// The numbers above one that are listed under some of the keys, each once.
-    pub(crate) fn touched(&self, keys: &[Key], number: u32) -> Union<'_>
+    pub(crate) fn after_any(&self, keys: &[Key], number: u32) -> Union<'_>
         requires { length keys.now ≤ 12 }
         ensures { result ≡ map (λ x. above number (listed_under x self.now)) keys.now }
     {

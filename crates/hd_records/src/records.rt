@@ -187,7 +187,7 @@ impl<A: Allocator + Copy> Records<A> {
         unions_have_each_once();
         the_first_clash_is_touched();
         let keys = ChangedKeys::of(catalogue, target.changes());
-        let later = self.index.touched(keys.keys(), number as u32);
+        let later = self.index.after_any(keys.keys(), number as u32);
         walking::first_clash(catalogue, target.changes(), &self.slots, later, meter)
     }
 
@@ -215,10 +215,10 @@ impl<A: Allocator + Copy> Records<A> {
             unreachable!()
         };
         let listed = CommandKeys::of(catalogue, &target.survivor().command);
-        let changes = copied(target.changes());
+        let changes = copy_of(target.changes());
         let keys = ChangedKeys::of(catalogue, changes.as_slice());
         walking::take(&mut self.slots, number);
-        let touched = self.index.touched(keys.keys(), number as u32);
+        let touched = self.index.after_any(keys.keys(), number as u32);
         walking::mend_each(
             catalogue,
             changes.as_slice(),
@@ -231,7 +231,7 @@ impl<A: Allocator + Copy> Records<A> {
 }
 
 /// A copy of the changes of a record, which stands in the value itself.
-fn copied(changes: &[Change]) -> ArrayVec<Change, 4>
+fn copy_of(changes: &[Change]) -> ArrayVec<Change, 4>
     requires { length changes.now ≤ 4 }
     ensures { result.items ≡ changes.now }
 {

@@ -22,7 +22,7 @@ C|a1|ta|north
 const NOW: &[u8] = b"20260301    120000";
 
 /// What `replay` writes for an input, and how it ends: not at a read that fails, since none does from memory.
-fn replayed(rt: &HostRuntime, catalogue: &[u8], input: &[u8]) -> (Vec<u8>, Result<(), ServerFault>)
+fn run(rt: &HostRuntime, catalogue: &[u8], input: &[u8]) -> (Vec<u8>, Result<(), ServerFault>)
     ensures { IfErr result.1 (λ why. why ≢ fault.Read) }
 {
     let mut from = input;
@@ -33,7 +33,7 @@ fn replayed(rt: &HostRuntime, catalogue: &[u8], input: &[u8]) -> (Vec<u8>, Resul
 
 #[test]
 fn without_a_terminal_nobody_is_logged_in(rt: HostRuntime) {
-    let (out, end) = replayed(
+    let (out, end) = run(
         &rt,
         b"H|1|lib|60|100\nP|p1|3\nT|ta|21|1\n",
         b"1 15+20260301    100000AAp1|AJta|\n1 15+20260301    100000AJta|\n",
@@ -48,7 +48,7 @@ fn without_a_terminal_nobody_is_logged_in(rt: HostRuntime) {
 
 #[test]
 fn a_carriage_return_ends_a_line(rt: HostRuntime) {
-    let (out, end) = replayed(
+    let (out, end) = run(
         &rt,
         CATALOGUE,
         b"1 97\r9300CNt1|COpw|\r15-20260301    100000AAp1|AJta|BIY|\r",
@@ -81,7 +81,7 @@ fn a_long_line_ends_its_session(rt: HostRuntime) -> Result<(), Fail> {
     input.extend_from_slice(line_of(rt.alloc(), b"7", 1024)?.as_slice())?;
     input.extend_from_slice(line_of(rt.alloc(), b"64", 1025)?.as_slice())?;
     input.extend_from_slice(b"64 97\n7 00\n64 \n")?;
-    let (out, end) = replayed(&rt, CATALOGUE, input.as_slice());
+    let (out, end) = run(&rt, CATALOGUE, input.as_slice());
     assert!(rt; end.is_ok());
     let wanted = b"7 941
 7 161Y20260301    100000BR1|BSnorth|AOlib|AAp1|AJta|
@@ -112,7 +112,7 @@ fn a_line_without_a_session_stops_the_input(rt: HostRuntime) {
         let _ = input.extend_from_slice(b"1 97\n");
         let _ = input.extend_from_slice(line);
         let _ = input.extend_from_slice(b"\n1 97\n");
-        let (out, end) = replayed(&rt, CATALOGUE, input.as_slice());
+        let (out, end) = run(&rt, CATALOGUE, input.as_slice());
         assert_eq!(rt; end, Err(ServerFault::NoSession { line: 2 }));
         assert_eq!(rt; out.as_slice(), b"1 96\n".as_slice());
     }
@@ -246,14 +246,14 @@ fn a_read_fails_at_each_call(rt: HostRuntime) {
 fn a_write_fails_at_each_call(rt: HostRuntime) {
     for call in 0..writes() {
         let (to, end) = replayed_writing(&rt, Fault::FailsAt(call));
-        let written = to.written();
+        let written = to.bytes();
         assert_eq!(rt; end, Err(ServerFault::Write));
         assert!(rt; ANSWERED.starts_with(written));
         assert!(rt; call <= written.len() && written.len() <= call.saturating_mul(TAKEN));
     }
     let (to, end) = replayed_writing(&rt, Fault::FailsAt(writes()));
     assert_eq!(rt; end, Ok(()));
-    assert_eq!(rt; to.written(), ANSWERED);
+    assert_eq!(rt; to.bytes(), ANSWERED);
 }
 
 #[test]
@@ -269,7 +269,7 @@ fn an_interrupted_call_is_tried_again_sixteen_times_in_a_row(rt: HostRuntime) {
         for (times, wanted) in [(16, Ok(())), (17, Err(ServerFault::Write))] {
             let (to, end) = replayed_writing(&rt, Fault::InterruptedAt { call, times });
             assert_eq!(rt; end, wanted);
-            assert!(rt; end.is_err() || to.written() == ANSWERED);
+            assert!(rt; end.is_err() || to.bytes() == ANSWERED);
         }
     }
 }

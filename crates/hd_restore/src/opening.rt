@@ -78,10 +78,10 @@ pub fn open_over<S: Alter + Drop, F: Start>(
     ensures new { IfOk result (λ opened. IsTrue is_new → opened.turns ≡ []) }
 {
     if is_new {
-        return Ok(kept(alloc, conn, true, journal)?);
+        return Ok(durable(alloc, conn, true, journal)?);
     }
     take_again(alloc, &mut conn, wanted, &mut journal)?;
-    Ok(kept(alloc, conn, false, journal)?)
+    Ok(durable(alloc, conn, false, journal)?)
 }
 
 /// Has a journal without turns take the turns of a file again, which is then of the catalogue that is wanted.
@@ -125,7 +125,7 @@ fn is_of<S: Alter>(conn: &mut Connection<S>, digest: &[u8; 32]) -> Result<bool, 
 ///
 /// # Errors
 /// Want of memory.
-fn kept<S: Alter + Drop, F: Start>(
+fn durable<S: Alter + Drop, F: Start>(
     alloc: Global,
     conn: Connection<S>,
     is_new: bool,

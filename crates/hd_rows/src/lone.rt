@@ -35,7 +35,7 @@ impl<A: Allocator + Copy> Lone<A> {
             return Ok(None);
         };
         let session = Session::new(alloc)?;
-        let journal = hd_open::open(alloc, rt.alloc(), Meter::new(rt), catalogue)?;
+        let journal = hd_journal::open(alloc, rt.alloc(), Meter::new(rt), catalogue)?;
         Ok(Some(Lone {
             journal,
             now,

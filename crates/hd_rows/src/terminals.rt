@@ -41,7 +41,7 @@ impl Terminals {
         };
         let sessions = new_sessions(alloc)?;
         let outs = empty_outs(alloc)?;
-        let journal = hd_open::open(alloc, alloc, Meter::new(rt), catalogue)?;
+        let journal = hd_journal::open(alloc, alloc, Meter::new(rt), catalogue)?;
         Ok(Some(Terminals {
             journal,
             now,
@@ -84,7 +84,7 @@ impl Terminals {
     pub(crate) fn has_ended(&self, session: usize) -> bool {
         self.sessions
             .get(session)
-            .is_some_and(|session| session.ended().is_some())
+            .is_some_and(|session| session.end().is_some())
     }
 
     /// How many gaps a session has counted.

@@ -2,7 +2,7 @@
 
 use crate::holds::HoldKind;
 use crate::numbers::{BranchNo, CopyNo, PatronNo, TerminalNo, TitleNo};
-use hd_date::Day;
+use hd_day::Day;
 
 /// What a command does (docs/desk-rules.md).
 #[derive(Clone, Copy, PartialEq, Eq, Debug)]

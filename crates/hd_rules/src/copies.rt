@@ -1,7 +1,7 @@
 //! Where a copy can be.
 
 use crate::numbers::{BranchNo, PatronNo};
-use hd_date::Day;
+use hd_day::Day;
 
 /// A loan of a copy.
 #[derive(Clone, Copy, PartialEq, Eq, Debug)]

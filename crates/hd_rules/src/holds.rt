@@ -1,7 +1,7 @@
 //! Holds.
 
 use crate::numbers::{BranchNo, CopyNo, PatronNo};
-use hd_date::Day;
+use hd_day::Day;
 
 /// Which copies of its title a hold admits (docs/desk-rules.md, "Admits").
 #[derive(Clone, Copy, PartialEq, Eq, Debug)]

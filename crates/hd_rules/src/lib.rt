@@ -36,4 +36,4 @@ pub use crate::numbers::{BranchNo, CopyNo, PatronNo, TerminalNo, TitleNo};
 pub use crate::questions::{Answer, Finding, Noted, Question};
 pub use crate::replies::{ItemView, Refusal, Reply, TurnReply};
 pub use crate::turns::Asked;
-pub use hd_date::Day;
+pub use hd_day::Day;

@@ -3,7 +3,7 @@
 use crate::cells::{Cell, Value};
 use crate::holds::{Hold, HoldKind};
 use crate::numbers::{BranchNo, CopyNo, PatronNo, TitleNo};
-use hd_date::Day;
+use hd_day::Day;
 
 /// A question to a desk. Whatever a command does goes by the answers to its questions alone.
 #[derive(Clone, Copy, PartialEq, Eq, Debug)]

@@ -3,7 +3,7 @@
 use crate::copies::CopyState;
 use crate::holds::Hold;
 use crate::numbers::{BranchNo, TitleNo};
-use hd_date::Day;
+use hd_day::Day;
 
 /// Why a message is refused (docs/protocol.md, "Refusals"). Where several apply, the first of them is given.
 #[derive(Clone, Copy, PartialEq, Eq, Debug)]

@@ -63,13 +63,13 @@ impl<'a, H: House, R: Wait + Clock, G: Gate, Q: Drop, K: Keeper<Global, Q> + Dro
         let Some(seat) = self.hall.seat(self.rt) else {
             return;
         };
-        let held = self.attended(arrived, state, seat);
+        let held = self.attend_one(arrived, state, seat);
         self.places.lock(self.rt).keep(held);
     }
 
     /// The seat, when the connection has ended. Why it ended makes no difference to the others, but where the
     /// journal can't be written: then no more are served.
-    fn attended(&self, arrived: &Arrived, mut state: Session, mut seat: Seat<H>) -> Held<H>
+    fn attend_one(&self, arrived: &Arrived, mut state: Session, mut seat: Seat<H>) -> Held<H>
         requires seat { seat.parts ≡ 1 }
         requires state { state ≡ new_session }
     {

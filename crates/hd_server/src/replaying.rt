@@ -107,7 +107,7 @@ fn replay_over<A: Allocator + Copy, R: Input, W: Output>(
         }) result }
     ensures why { IfErr result (HasReason (R.fails from.new) (W.fails to.new)) }
 {
-    let journal = hd_open::open(alloc, rt.alloc(), Meter::new(rt), catalogue)?;
+    let journal = hd_journal::open(alloc, rt.alloc(), Meter::new(rt), catalogue)?;
     let mut sessions = Sessions::new(alloc, journal, now)?;
     answer_input(alloc, &mut sessions, from, to)
 }

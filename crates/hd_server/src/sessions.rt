@@ -146,7 +146,7 @@ impl<A: Allocator + Copy> Sessions<A> {
             at,
             piece,
         );
-        let end = self.sessions[at].ended();
+        let end = self.sessions[at].end();
         let printed = print_answer(out, number, self.outs[at].as_slice(), end);
         self.outs[at].clear();
         printed

@@ -109,7 +109,7 @@ impl<A: Allocator + Copy> Session<A> {
     }
 
     /// Why the session ended, if it has.
-    pub fn ended(&self) -> Option<Ended>
+    pub fn end(&self) -> Option<Ended>
         ensures { result ≡ self.now.ended }
     {
         self.ended

@@ -1,6 +1,7 @@
 -- The texts of days.
 use Rattle.std.proofs.Common.{◌≡◌, ℕ, ◌+◌, ◌/◌, ◌%◌, ◌<◌, List, [], ◌∷◌, length, slice_index, codes, ℤ, pos, refl, sym, ap, subst, ◌∙◌, arith}
-use Rattle.hd_date.specs.Days.{IsCalendarDay, IsPrinted, end_of_days}
+use Rattle.hd_day.specs.Days.{end_of_days}
+use Rattle.hd_date.specs.Days.{IsCalendarDay, IsPrinted}
 use Rattle.hd_date.specs.Faults.{IsFirstFault}
 use Rattle.hd_date.specs.Stamps.{IsLocal, IsMoment, IsOwnPrint, IsStamp, Prints, Stamp}
 use Rattle.hd_date.specs.declared.fault.DateFault.{DateFault}

@@ -1,6 +1,7 @@
 -- The text of a day: year, month and day of the month, as in 2026-11-25 (ISO 8601).
 use Rattle.std.specs.Prelude.{◌≡◌, ℕ, ◌<◌, List, ◌∷◌, ◌++◌, codes, slice_index}
-use Rattle.hd_date.specs.Days.{IsCalendarDay, end_of_days, four_digits, two_digits}
+use Rattle.hd_day.specs.Days.{end_of_days}
+use Rattle.hd_date.specs.Days.{IsCalendarDay, four_digits, two_digits}
 
 -- a date with dashes
 abbrev pub day_with_dashes : ℕ → ℕ → ℕ → List ℕ

@@ -2,13 +2,13 @@
 ghost use Rattle.std.specs.Prelude.{◌≡◌, ℕ, IfNone, IfSome, length, slice_index};
 ghost use Rattle.hd_turn_row.specs.Days.{IsDayText, midnight_text};
 
-use hd_date::{Day, OffsetMinutes, prints_show_their_stamp, read, texts_show_one_stamp};
+use hd_date::{Day, OffsetMinutes, print_due, prints_show_their_stamp, read, texts_show_one_stamp};
 
 /// The text of a day: year, month and day of the month, as in `2026-11-25` (ISO 8601).
 pub(crate) fn day_text(day: Day) -> [u8; 10]
     ensures { IsDayText day result }
 {
-    let text = day.print_due();
+    let text = print_due(day);
     [
         text[0], text[1], text[2], text[3], b'-', text[4], text[5], b'-', text[6], text[7],
     ]

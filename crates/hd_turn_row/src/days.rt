@@ -39,19 +39,19 @@ impl RowDays {
     pub(crate) fn day(&self) -> Option<&[u8]>
         ensures { option_copied result ≡ self.now.day }
     {
-        lent(&self.day)
+        bytes_if_any(&self.day)
     }
 
     /// The text of the other day.
     pub(crate) fn until(&self) -> Option<&[u8]>
         ensures { option_copied result ≡ self.now.until }
     {
-        lent(&self.until)
+        bytes_if_any(&self.until)
     }
 }
 
 /// A text, where there is one.
-fn lent(text: &Option<[u8; 10]>) -> Option<&[u8]>
+fn bytes_if_any(text: &Option<[u8; 10]>) -> Option<&[u8]>
     ensures { option_copied result ≡ text.now }
 {
     match text {

@@ -49,7 +49,7 @@ fn act_said(word: &[u8]) -> Result<Act, RowFault>
     ensures fault { IfErr result (λ fault. fault ≡ RowFault.UnknownWord Column.Act) }
     ensures none { OnErr result ((act : Act) → ¬ SaysAct act word.now) }
 {
-    match Act::said(word) {
+    match Act::of_word(word) {
         Some(act) => Ok(act),
         None => Err(RowFault::UnknownWord(Column::Act)),
     }
@@ -62,7 +62,7 @@ fn admits_if_any(text: Option<&[u8]>) -> Result<Option<Admits>, RowFault>
     let Some(word) = text else {
         return Ok(None);
     };
-    match Admits::said(word) {
+    match Admits::of_word(word) {
         Some(admits) => Ok(Some(admits)),
         None => Err(RowFault::UnknownWord(Column::Admits)),
     }

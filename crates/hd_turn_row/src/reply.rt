@@ -8,8 +8,8 @@ ghost use Rattle.hd_turn_row.specs.Replies.{item_pieces, kind_pieces, refusal_pi
 use crate::joining::append;
 use crate::piece::Piece;
 use crate::told::{
-    deleted, held, holder, in_transit, lent, on_hold_shelf, on_loan, one_copy, pickup, returned,
-    shelf,
+    deleted_pieces, held_pieces, holder, in_transit, lent_pieces, on_hold_shelf, on_loan, one_copy,
+    pickup, returned_pieces, shelf,
 };
 use crate::word::Word;
 use hd_rules::{CopyState, Hold, HoldKind, ItemView, Refusal, Reply, TurnReply};
@@ -85,9 +85,9 @@ fn append_reply<A: Allocator>(out: &mut Vec<u8, A>, reply: &Reply) -> Result<(),
             title,
             due,
             renewal,
-        } => append(out, &lent(*title, *due, *renewal))?,
+        } => append(out, &lent_pieces(*title, *due, *renewal))?,
         Reply::Returned { title, home, now } => {
-            append(out, &returned(*title, *home))?;
+            append(out, &returned_pieces(*title, *home))?;
             append_state(out, now)?;
         }
         Reply::Held {
@@ -96,10 +96,10 @@ fn append_reply<A: Allocator>(out: &mut Vec<u8, A>, reply: &Reply) -> Result<(),
             position,
             hold,
         } => {
-            append(out, &held(*title, *available, *position))?;
+            append(out, &held_pieces(*title, *available, *position))?;
             append_hold(out, hold)?;
         }
-        Reply::Deleted { title } => append(out, &deleted(*title))?,
+        Reply::Deleted { title } => append(out, &deleted_pieces(*title))?,
     }
     Ok(())
 }

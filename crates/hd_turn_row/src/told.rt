@@ -13,7 +13,7 @@ use crate::word::Word;
 use hd_rules::{BranchNo, CopyNo, Day, Hold, HoldPlace, Loan, TitleNo, Transit};
 
 /// A loan or its renewal.
-pub(crate) fn lent(title: TitleNo, due: Day, renewal: bool) -> [Piece; 5]
+pub(crate) fn lent_pieces(title: TitleNo, due: Day, renewal: bool) -> [Piece; 5]
     ensures { result ≡ lent_pieces title due renewal }
 {
     [
@@ -26,7 +26,7 @@ pub(crate) fn lent(title: TitleNo, due: Day, renewal: bool) -> [Piece; 5]
 }
 
 /// A return, without where the copy is now.
-pub(crate) fn returned(title: TitleNo, home: BranchNo) -> [Piece; 5]
+pub(crate) fn returned_pieces(title: TitleNo, home: BranchNo) -> [Piece; 5]
     ensures { result ≡ returned_pieces title home }
 {
     [
@@ -39,7 +39,7 @@ pub(crate) fn returned(title: TitleNo, home: BranchNo) -> [Piece; 5]
 }
 
 /// A hold that was added or changed, without the hold itself.
-pub(crate) fn held(title: TitleNo, available: bool, position: u64) -> [Piece; 7]
+pub(crate) fn held_pieces(title: TitleNo, available: bool, position: u64) -> [Piece; 7]
     ensures { result ≡ held_pieces title available position }
 {
     [
@@ -54,7 +54,7 @@ pub(crate) fn held(title: TitleNo, available: bool, position: u64) -> [Piece; 7]
 }
 
 /// A hold that was deleted.
-pub(crate) fn deleted(title: TitleNo) -> [Piece; 3]
+pub(crate) fn deleted_pieces(title: TitleNo) -> [Piece; 3]
     ensures { result ≡ deleted_pieces title }
 {
     [

@@ -1,8 +1,9 @@
 //! What `journal check` tells of a journal's file.
 
 use crate::fault::Fault;
-use crate::keeping::{Keeping, close_kept, open_kept};
+use crate::keeping::{close_kept, open_kept};
 use hd_catalogue::Catalogue;
+use hd_command_line::Keeping;
 use hd_desk::Desk;
 use hd_journal::Journal;
 use hd_ledger::Unknown;

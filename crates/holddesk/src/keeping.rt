@@ -3,6 +3,7 @@
 use crate::fault::Fault;
 use crate::library::read_file;
 use hd_catalogue::Catalogue;
+use hd_command_line::Keeping;
 use hd_desk::Meter;
 use hd_durable::DurableJournal;
 use hd_journal_file::JournalFile;
@@ -13,18 +14,6 @@ use std::io::IsTerminal;
 
 /// A journal whose changing turns are committed to a file before they are answered.
 pub(crate) type KeptJournal<S> = DurableJournal<JournalFile<FileStore<FileFrom<S>>, S>>;
-
-/// In which file a journal is kept, and what is accepted of it.
-#[derive(Clone, Copy)]
-pub(crate) struct Keeping<'a> {
-    /// The path of the catalogue file.
-    pub(crate) catalogue: &'a str,
-    /// The path of the journal's file.
-    pub(crate) journal: &'a str,
-    /// Whether a journal that was written with another catalogue is accepted, where each of its turns is
-    /// answered the same with this one.
-    pub(crate) is_other_accepted: bool,
-}
 
 /// Opens a journal's file, or begins one where there is none. Each turn that it holds is taken again and
 /// compared. A terminal is told before that.
@@ -49,7 +38,7 @@ pub(crate) fn open_kept<S: Start>(
         is_other_accepted: keeping.is_other_accepted,
     };
     let alloc = rt.alloc();
-    let journal = hd_open::open(alloc, alloc, Meter::new(rt), catalogue)?;
+    let journal = hd_journal::open(alloc, alloc, Meter::new(rt), catalogue)?;
     Ok(open(rt, keeping.journal, start, &wanted, journal)?)
 }
 

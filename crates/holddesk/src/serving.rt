@@ -4,9 +4,9 @@ ghost use Rattle.std.specs.Prelude.{◌≡◌, [], IfOk};
 use crate::counted::Counted;
 use crate::fault::Fault;
 use crate::library::read_file;
-use crate::words::Serve;
 use hd_attend::Gate;
 use hd_catalogue::Catalogue;
+use hd_command_line::Serve;
 use hd_desk::Meter;
 use hd_hall::Keeper;
 use hd_journal::Journal;
@@ -41,7 +41,7 @@ pub(crate) fn start(rt: &HostRuntime, order: &Serve<'_>) -> Result<Started, Faul
     drop(file);
     let listener = listen(rt, order, &catalogue)?;
     let alloc = rt.alloc();
-    let journal = hd_open::open(alloc, alloc, Meter::new(rt), catalogue)?;
+    let journal = hd_journal::open(alloc, alloc, Meter::new(rt), catalogue)?;
     Ok(Started { listener, journal })
 }
 

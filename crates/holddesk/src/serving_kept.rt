@@ -1,9 +1,9 @@
 //! Serving terminals with a journal that is kept in a file.
 
 use crate::fault::Fault;
-use crate::keeping::{Keeping, KeptJournal, close_kept, open_kept};
+use crate::keeping::{KeptJournal, close_kept, open_kept};
 use crate::serving::{serve_at, tell_end};
-use crate::words::Serve;
+use hd_command_line::{Keeping, Serve};
 use hd_durable::{DurableJournal, DurableKeeper, TurnTable};
 use hd_journal_file::JournalFile;
 use hd_ledger::{Alter, FileStore, Start};

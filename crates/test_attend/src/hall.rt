@@ -58,7 +58,7 @@ fn exchange<H: House, R: Wait>(
     let mut from = Fallible(Incoming::new(wire));
     let mut to = FailingWriter::in_pieces(TAKEN, wire.writes);
     let end = end_of(rt, alloc, &mut from, &mut to, hall, seat)?;
-    let text = Vec::from_slice(alloc, to.written()).ok()?;
+    let text = Vec::from_slice(alloc, to.bytes()).ok()?;
     Some((text, end))
 }
 

@@ -46,13 +46,13 @@ impl Step {
         ensures { IfSome result (IsOf catalogue.now) }
     {
         let terminal = catalogue.terminal(b"t1", b"pw")?;
-        let asked = self.act.asked(catalogue)?;
+        let asked = self.act.what_is_asked(catalogue)?;
         Some(Wish { terminal, asked })
     }
 }
 
 impl Act {
-    fn asked(&self, catalogue: &Catalogue) -> Option<Asked>
+    fn what_is_asked(&self, catalogue: &Catalogue) -> Option<Asked>
         ensures { IfSome result (IsKnown (facts_of catalogue.now)) }
     {
         let copy = catalogue.copy(b"a1")?;

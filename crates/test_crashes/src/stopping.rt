@@ -166,7 +166,7 @@ fn outlives(rt: &HostRuntime, whole: &Whole, played: Played) -> bool {
         mut disks,
     } = played;
     crash(&mut disks);
-    match restored(rt, disks) {
+    match restore_journal(rt, disks) {
         Some(journal) => journal.front() >= whole.changing_in(answered)
             && whole.begins_with(&journal),
         None => false,
@@ -174,7 +174,7 @@ fn outlives(rt: &HostRuntime, whole: &Whole, played: Played) -> bool {
 }
 
 /// The journal of the turns in a file. None where they can't be taken again.
-fn restored(rt: &HostRuntime, disks: Disks) -> Option<Journal> {
+fn restore_journal(rt: &HostRuntime, disks: Disks) -> Option<Journal> {
     let mut journal = journal(rt)?;
     let mut conn = open(rt.alloc(), disks).ok()?;
     take_again(rt.alloc(), &mut conn, &mut journal)?;

@@ -25,7 +25,7 @@ pub(crate) fn is_as_fresh(rt: &HostRuntime, journal: &Journal) -> bool {
 fn fresh(rt: &HostRuntime, journal: &Journal) -> Option<Desk>
     ensures { IfSome result (λ desk. contents desk ≡ journal.now.contents) }
 {
-    let mut desk = opened(rt, journal)?;
+    let mut desk = fresh_desk(rt, journal)?;
     let mut meter = Meter::new(rt);
     let mut last = 0;
     for survivor in journal.survivors() {
@@ -39,7 +39,7 @@ fn fresh(rt: &HostRuntime, journal: &Journal) -> Option<Desk>
 }
 
 /// A fresh desk of the journal's library.
-fn opened(rt: &HostRuntime, journal: &Journal) -> Option<Desk>
+fn fresh_desk(rt: &HostRuntime, journal: &Journal) -> Option<Desk>
     ensures contents { IfSome result (λ desk. contents desk ≡ journal.now.contents) }
     ensures sound { IfSome result (λ desk. (n : ℕ) → Sound (facts desk) n (desk_of desk)) }
 {

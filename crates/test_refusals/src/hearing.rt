@@ -35,7 +35,7 @@ fn hear<'m>(
     memory.refuse_after(passed);
     terminal.send(journal, &now, rest);
     let requests = memory.requests();
-    let is_well = match terminal.ended() {
+    let is_well = match terminal.end() {
         None => requests <= passed && terminal.text() == row.replies,
         Some(Ended::Memory) => {
             requests > passed && is_borne(rt, memory, journal, row, terminal.text())

@@ -27,7 +27,7 @@ pub(crate) const PATRONS: [&[u8]; 3] = [b"p1", b"p2", b"p3"];
 /// The catalogue, read.
 pub(crate) fn shared_catalogue<'m>(memory: Memory<'m>) -> Option<SharedCatalogue<'m>> {
     let catalogue = Catalogue::read(memory, CATALOGUE).ok()?;
-    hd_open::share(memory, catalogue).ok()
+    hd_journal::share(memory, catalogue).ok()
 }
 
 /// A journal without turns.

@@ -52,7 +52,7 @@ pub(crate) fn read_catalogue(rt: &HostRuntime, passed: u64) -> Option<u64> {
 pub(crate) fn open_desk(rt: &HostRuntime, passed: u64) -> Option<u64> {
     let memory = Refusing::after(rt.alloc(), u64::MAX);
     let catalogue = Catalogue::read(&memory, CATALOGUE).ok()?;
-    let catalogue = hd_open::share(&memory, catalogue).ok()?;
+    let catalogue = hd_journal::share(&memory, catalogue).ok()?;
     let again = Arc::try_clone(&catalogue).ok()?;
     memory.refuse_after(passed);
     let opened = Desk::open(&memory, rt.alloc(), catalogue);

@@ -50,9 +50,9 @@ impl<'m> Terminal<'m> {
     }
 
     /// Why its session ended, if it has.
-    pub(crate) fn ended(&self) -> Option<Ended> {
+    pub(crate) fn end(&self) -> Option<Ended> {
         match self.sessions.first() {
-            Some(session) => session.ended(),
+            Some(session) => session.end(),
             None => None,
         }
     }

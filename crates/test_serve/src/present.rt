@@ -43,14 +43,14 @@ impl<'a> Row for Present<'a> {
 impl<'a> Present<'a> {
     /// Whether both answers tell a second between the question and the answer.
     fn is_told_twice(&self, terminal: &Terminal) -> Option<bool> {
-        let first = self.told(terminal)?;
-        Some(self.has_passed(first)? && self.told(terminal)? > first)
+        let first = self.second_of_reply(terminal)?;
+        Some(self.has_passed(first)? && self.second_of_reply(terminal)? > first)
     }
 
     /// The second that is told. None where it isn't one between the question and the answer.
-    fn told(&self, terminal: &Terminal) -> Option<u64> {
+    fn second_of_reply(&self, terminal: &Terminal) -> Option<u64> {
         let before = self.seconds()?;
-        let date = asked(terminal)?;
+        let date = date_of_status(terminal)?;
         let after = self.seconds()?;
         second_of(&date, before, after)
     }
@@ -73,7 +73,7 @@ impl<'a> Present<'a> {
 }
 
 /// Asks for the status: the date in the reply. None where it is another reply.
-fn asked(terminal: &Terminal) -> Option<[u8; 18]> {
+fn date_of_status(terminal: &Terminal) -> Option<[u8; 18]> {
     if !terminal.asks(STATUS, BEFORE_DATE) {
         return None;
     }

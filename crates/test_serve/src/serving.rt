@@ -43,7 +43,7 @@ pub(crate) struct Scale {
 pub(crate) fn open(rt: &HostRuntime, count: u32) -> Option<Opened> {
     let listener = TcpListener::bind(rt, "127.0.0.1:0").ok()?;
     let address = listener.local_addr().ok()?;
-    let terminals = connected(rt, address, count)?;
+    let terminals = connect_all(rt, address, count)?;
     Some(Opened {
         listener,
         terminals,
@@ -51,7 +51,7 @@ pub(crate) fn open(rt: &HostRuntime, count: u32) -> Option<Opened> {
 }
 
 /// So many terminals, one connected after the other.
-fn connected(rt: &HostRuntime, address: SocketAddr, count: u32) -> Option<Vec<Terminal>> {
+fn connect_all(rt: &HostRuntime, address: SocketAddr, count: u32) -> Option<Vec<Terminal>> {
     let mut terminals = Vec::new(rt.alloc());
     for _ in 0..count {
         let terminal = Terminal::connect(rt, address).ok()?;
@@ -74,14 +74,14 @@ pub(crate) fn play<R: Threads + Wait + Clock + Sync, W: Row>(
     match journal(host) {
         Some(journal) => {
             let (ended, is_played) = play_kept(rt, host.alloc(), opened, journal, scale, row);
-            (told(ended), is_played)
+            (outcome_of(ended), is_played)
         }
         None => (Err(ServeFault::Memory), false),
     }
 }
 
 /// What is told of how a server ended.
-fn told(ended: Result<Journal, ServeFault>) -> Result<Summary, ServeFault> {
+fn outcome_of(ended: Result<Journal, ServeFault>) -> Result<Summary, ServeFault> {
     match ended {
         Ok(journal) => Ok(summary_of(&journal)),
         Err(fault) => Err(fault),

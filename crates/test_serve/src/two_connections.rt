@@ -135,13 +135,13 @@ impl<'a> Gate for Meeting<'a> {
 
 impl<'a> Row for Meeting<'a> {
     fn play(&self, terminals: Vec<Terminal>) -> bool {
-        self.met(terminals) == Some(true)
+        self.meet(terminals) == Some(true)
     }
 }
 
 impl<'a> Meeting<'a> {
     /// Both hold, and stay until both are answered.
-    fn met(&self, terminals: Vec<Terminal>) -> Option<bool> {
+    fn meet(&self, terminals: Vec<Terminal>) -> Option<bool> {
         let alloc = self.host.alloc();
         let (first, second) = two(terminals)?;
         let mut first = Listening::new(alloc, first, LOGIN_1, HOLD_1)?;

@@ -26,7 +26,7 @@ impl Moved {
     pub(crate) fn new(rt: &HostRuntime) -> Option<Moved> {
         let alloc = rt.alloc();
         let catalogue = Catalogue::read(alloc, CATALOGUE).ok()?;
-        let journal = hd_open::open(alloc, alloc, Meter::new(rt), catalogue).ok()?;
+        let journal = hd_journal::open(alloc, alloc, Meter::new(rt), catalogue).ok()?;
         Some(Moved { journal })
     }
 

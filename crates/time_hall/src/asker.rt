@@ -41,7 +41,7 @@ impl Asker {
     }
 
     /// What it asks at its turn of this number.
-    pub(crate) fn asked(&self, turn: usize) -> Asked
+    pub(crate) fn at_turn(&self, turn: usize) -> Asked
         ensures { (k : Contents) → IsAskerOf k self.now → IsKnown (facts_of k) result }
     {
         match turn % 10 {

@@ -100,6 +100,6 @@ fn make_turn<'r, H: House, R: Wait + Clock>(
     requires asker { IsAskerOf H.opening.contents asker.now }
     ensures { seat.new.parts ≡ 1 }
 {
-    let ask = Ask::new(seat.number(), asker.terminal, asker.asked(turn), None);
+    let ask = Ask::new(seat.number(), asker.terminal, asker.at_turn(turn), None);
     let _ = hall.submit(rt, seat, &ask);
 }

@@ -42,5 +42,5 @@ pub(crate) fn journal(rt: &HostRuntime) -> Option<Journal>
 {
     let alloc = rt.alloc();
     let catalogue = Catalogue::read(alloc, CATALOGUE).ok()?;
-    hd_open::open(alloc, alloc, Meter::new(rt), catalogue).ok()
+    hd_journal::open(alloc, alloc, Meter::new(rt), catalogue).ok()
 }

@@ -1,8 +1,8 @@
-use Rattle.std.proofs.Common.{◌≡◌, ◌+◌, pos, ◌+ℤ◌, ◌≤ℤ◌, w8, w16, arith, subst, sym, ap, ◌∙◌}
+use Rattle.std.proofs.Common.{◌≡◌, ◌+◌, ◌-◌, pos, ◌+ℤ◌, ◌≤ℤ◌, w8, w16, arith, subst, sym, ap, ◌∙◌}
 use Rattle.std.proofs.lemmas.Int.{to_z_pos}
 use Rattle.jiff_core.specs.Date.{epoch_day}
 use Rattle.jiff_core.proofs.SignedLemmas.{signed_arith}
-use Rattle.hd_date.proofs.DayLemmas.{from_zero, made}
+use Rattle.hd_date.proofs.DayLemmas.{day_there, from_zero, made}
 use Rattle.hd_date.proofs.calendar.day_of.Goals as goal
 
 pub overflow_sub-days_since_min : goal.overflow_sub-days_since_min
@@ -22,5 +22,10 @@ returns-in-Ok-clause-found c =
     let days : pos date.day ≡ pos c.args.day = c.in-Ok.ensures.value.2 ∙ to_z_pos w8 c.args.day (omega arith) in
     let month : date.month ≡ c.args.month = cc in
     let day : date.day ≡ c.args.day = cc in
-    let number : c.days_since_min.result ≡ c.new-in-Ok.result + 3_652_059 = omega (arith, low, c.new-in-Ok.ensures) in
-    made date c.args.year c.args.month c.args.day c.new-in-Ok.result year month day (c.days_since_min.ensures.value ∙ ap pos number)
+    let n = c.days_since_min.result - 3_652_059 in
+    let number : c.days_since_min.result ≡ n + 3_652_059 = omega (arith, low) in
+    rw (day_there c.of_number.ensures (omega (arith, c.days_since_min.ensures.bound)))
+    (made date c.args.year c.args.month c.args.day n year month day (c.days_since_min.ensures.value ∙ ap pos number))
+
+pub returns-in-Ok-clause-none : goal.returns-in-Ok-clause-none
+returns-in-Ok-clause-none c = rw (day_there c.of_number.ensures (omega (arith, c.days_since_min.ensures.bound))) tt

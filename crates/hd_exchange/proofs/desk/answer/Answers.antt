@@ -12,8 +12,8 @@ returns-in_ok-turn-in-Ok-clause-answer g c =
       _,
       turn.ensures.turn,
       c.write_reply.ensures.text,
-      answered _ _ c.args.message.now c.reply_to-reply.result here c.in-Ok.ask c.asked.result.now turn.turn.reply
-          c.asked.ensures c.in-Ok.is ask.of_kind c.reply_to-reply.ensures.reply,
+      answered _ _ c.args.message.now c.reply_to-reply.result here c.in-Ok.ask c.what_is_asked.result.now turn.turn.reply
+          c.what_is_asked.ensures c.in-Ok.is ask.of_kind c.reply_to-reply.ensures.reply,
     )
 
 pub returns-in-Err-clause-answer : goal.returns-in-Err-clause-answer

@@ -3,8 +3,8 @@ use Rattle.hd_rules.specs.Journal.{Turn}
 use Rattle.hd_journal_file.specs.Rows.{AreTurnRows}
 use Rattle.hd_restore.proofs.opening.open_over.Goals as goal
 
-pub kept-requires-clause-held : goal.kept-requires-clause-held
-kept-requires-clause-held g c reliable =
+pub durable-requires-clause-held : goal.durable-requires-clause-held
+durable-requires-clause-held g c reliable =
     let begun = c.requires.begun reliable.clean c.if-is_new.true in
     record {
       head = begun.0;
@@ -15,10 +15,10 @@ kept-requires-clause-held g c reliable =
 
 pub returns-then-is_new-clause-found : goal.returns-then-is_new-clause-found
 returns-then-is_new-clause-found g c clean old head rows found =
-    absurd (true≢false (sym c.in_ok-kept.ensures.file.1 ∙ old))
+    absurd (true≢false (sym c.in_ok-durable.ensures.file.1 ∙ old))
 
-pub kept-requires-2-clause-held : goal.kept-requires-2-clause-held
-kept-requires-2-clause-held g c reliable =
+pub durable-requires-2-clause-held : goal.durable-requires-2-clause-held
+durable-requires-2-clause-held g c reliable =
     let found = reliable.found refl in
     let early = c.take_again.ensures.clean reliable.clean in
     let seen = c.requires.seen early c.if-is_new.false found.0 found.1 found.2 in
@@ -27,8 +27,8 @@ kept-requires-2-clause-held g c reliable =
 
 pub returns-clause-found : goal.returns-clause-found
 returns-clause-found g c clean old head rows found =
-    let late = rw c.in_ok-kept-2.ensures.file.0 at clean in
+    let late = rw c.in_ok-durable-2.ensures.file.0 at clean in
     let early = c.take_again.ensures.clean late in
     let seen = c.requires.seen early c.if-is_new.false head rows found in
     let held = c.in_ok-take_again.ensures.held late head rows seen in
-    rw (c.in_ok-kept-2.ensures.contents, c.in_ok-kept-2.ensures.turns) held.2
+    rw (c.in_ok-durable-2.ensures.contents, c.in_ok-durable-2.ensures.turns) held.2

@@ -1,5 +1,5 @@
 use Rattle.std.proofs.Common.{◌≡◌, ◌<◌, ◌∙◌, map, get_or, length, ℕ, [], Vec}
-use Rattle.std.proofs.lemmas.List.{get_or-map, length-map, map-set}
+use Rattle.std.proofs.lemmas.List.{get_or-map, length-map, length-set, map-set}
 use Rattle.hd_session.specs.Scripts.{Step}
 use Rattle.hd_session.specs.Sessions.{new_session}
 use Rattle.hd_session.proofs.Knowing.{at_place, one_goes_on, one_of_known}
@@ -30,3 +30,7 @@ returns-clause-plays g c =
     rw (map-set items c.args.outs.now c.args.session c.feed.new.out)
     (plays_one _ _ _ step c.args.sessions.now _ c.feed.new.self _ _ (map items c.args.outs.now) c.feed.new.out.items within
     (length-map c.args.outs.now items ∙ c.requires.outs) (rw (← here, same) at c.feed.ensures.fed))
+
+pub returns-clause-sizes : goal.returns-clause-sizes
+returns-clause-sizes g c =
+    (length-set c.args.sessions.now c.args.session c.feed.new.self, length-set c.args.outs.now c.args.session c.feed.new.out)

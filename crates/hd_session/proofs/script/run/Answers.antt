@@ -26,3 +26,9 @@ loop-session-preserved g c =
       keeps = c.play.ensures.same ∙ kept.keeps;
       holds = λ held. c.play.ensures.holds (kept.holds held);
     }
+
+pub returns-after-loop-session-clause-known : goal.returns-after-loop-session-clause-known
+returns-after-loop-session-clause-known g c = c.loop-session.invariant.known
+
+pub returns-in-Some-clause-known : goal.returns-in-Some-clause-known
+returns-in-Some-clause-known g c = c.requires.known

@@ -1,9 +1,13 @@
 use Rattle.std.proofs.Common.{◌∙◌, ◌<◌, ℕ, ap, arith, subst}
 use Rattle.std.specs.Arc.{arc_value}
-use Rattle.hd_holds.specs.Held.{patron_hold}
-use Rattle.hd_holds.proofs.Kept.{ReadsPlace, held-none, place-within, placed-own, reads-none, reads-own, room-kept, room-read, written-own}
+use Rattle.hd_holds.specs.Held.{IsWelcome, patron_hold}
+use Rattle.hd_holds.proofs.Kept.{ReadsPlace, held-none, index-within, place-within, placed-own, reads-none, reads-own, room-kept, room-read, written-own}
 use Rattle.hd_holds.proofs.Queues.{held-put, queue-put, stamp-put}
 use Rattle.hd_holds.proofs.holds.Holds.put.Goals as goal
+
+pub index-place-requires : goal.index-place-requires
+index-place-requires g c =
+    omega (arith, index-within c.self.view_is c.self.invariant c.number.ensures.value c.requires.title, c.self.inside.places.ok.0)
 
 pub index_mut-requires : goal.index_mut-requires
 index_mut-requires g c =
@@ -31,6 +35,10 @@ replace-requires-clause-room g c =
     } in
     let reads = reads-own at c.if-place-gt0.true c.index_mut.result.now c.index_mut.ensures.value in
     λ hold is. subst (λ (n : ℕ). 0 < n) (room-read reads) (c.requires.room hold is)
+
+pub replace-requires-clause-patron : goal.replace-requires-clause-patron
+replace-requires-clause-patron g c = λ hold is.
+    (subst (IsWelcome (patron_hold c.args.self.now) c.args.title c.args.patron) is c.requires.fit).0
 
 pub replace-requires-clause-stamp : goal.replace-requires-clause-stamp
 replace-requires-clause-stamp g c =

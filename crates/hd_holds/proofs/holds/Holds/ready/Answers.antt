@@ -1,9 +1,13 @@
 use Rattle.std.proofs.Common.{arith}
 use Rattle.std.proofs.Math.ListN.{set}
 use Rattle.std.specs.Arc.{arc_value}
-use Rattle.hd_holds.proofs.Kept.{ReadsPlace, kept, place-within, placed-own, placed-ready, ready-added, ready-written, reads-own, written-own}
+use Rattle.hd_holds.proofs.Kept.{ReadsPlace, index-within, kept, place-within, placed-own, placed-ready, queues-few, ready-added, ready-written, reads-own, written-own}
 use Rattle.hd_holds.proofs.Queues.{queue-ready}
 use Rattle.hd_holds.proofs.holds.Holds.ready.Goals as goal
+
+pub index-place-requires : goal.index-place-requires
+index-place-requires g c =
+    omega (arith, index-within c.self.view_is c.self.invariant c.number-at.ensures.value c.requires, c.self.inside.places.ok.0)
 
 pub index_mut-requires : goal.index_mut-requires
 index_mut-requires g c =
@@ -50,6 +54,12 @@ returns-then-place-gt0 g c =
     c.ready.new.self (written-own at c.if-place-gt0.true c.ready.new.self) c.ready.ensures.holds c.ready.ensures.ok c.ready.ensures.err
     c.ready.ensures.full c.ready.ensures.room in
     record { held = is.held; contents = is.contents; ok = is.ok; err = is.err; full = is.full; room = is.room }
+
+pub add_queue-requires-clause-title : goal.add_queue-requires-clause-title
+add_queue-requires-clause-title g c = index-within c.self.view_is c.self.invariant c.number-at.ensures.value c.requires
+
+pub add_queue-requires-clause-few : goal.add_queue-requires-clause-few
+add_queue-requires-clause-few g c = queues-few c.self.invariant
 
 pub invariant_of-self-then-more-gt0 : goal.invariant_of-self-then-more-gt0
 invariant_of-self-then-more-gt0 g c =

@@ -22,7 +22,7 @@ invariant_of-self-2 c =
     some_lists now c.self.inside.count c.in_ok-least.least c.self.inside.lists (sym c.least_first.ensures ∙ c.in_ok-least.was) in
     record {
       few = few;
-      behind = behind_first now c.self.inside.count c.bound-self-inside.result c.pass.new.lists _ some long c.bound-self-inside.ensures;
+      behind = behind_first now c.self.inside.count c.lower_bound-self-inside.result c.pass.new.lists _ some long c.lower_bound-self-inside.ensures;
       rising = rw (take_at c.pass.new.lists _ c.self.inside.count long, c.pass.ensures)
           (past_rising c.in_ok-least.least (map now (take c.self.inside.count c.self.inside.lists)) c.self.invariant.rising);
     }

@@ -40,7 +40,7 @@ again : (g : Over) (c : After-add_repeat g)
 again g c =
     let r = c.self.inside.running in
     let message = c.args.ask.message in
-    let is = sym c.in-Some.is ∙ c.repeated-repeated.ensures in
+    let is = sym c.in-Some.is ∙ c.kept_reply-repeated.ensures in
     record {
       kept = c.self.invariant;
       ready_turns = c.ready.ensures.turns;
@@ -63,7 +63,7 @@ anew g c =
     let next = c.answer.new.self in
     let kept = kept_by c.ready.new.self in
     let turn : Turn = turn_with_reply c.args.ask c.in_ok-reply.reply in
-    let none = sym c.in_default.is ∙ c.repeated-repeated.ensures in
+    let none = sym c.in_default.is ∙ c.kept_reply-repeated.ensures in
     let keeps = c.add.ensures.kept ∙ ap (λ (x : Turn). after_turn x kept) c.with_reply-turn.ensures in
     record {
       kept = c.self.invariant;

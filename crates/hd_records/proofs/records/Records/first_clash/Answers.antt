@@ -60,27 +60,27 @@ first_clash-requires-clause-known g c =
     let slots = c.self.inside.slots.items in
     let of = subst (AreOfCatalogue k) (sym c.self.view_is) c.requires.of in
     let keys : List Key = c.keys.result.now in
-    let at : Touching k c.changes.result.now n slots c.touched-later.result =
-    touching c.unions_have_each_once.ensures k c.changes.result.now n slots c.self.inside.index c.of-keys.result c.touched-later.result
+    let at : Touching k c.changes.result.now n slots c.after_any-later.result =
+    touching c.unions_have_each_once.ensures k c.changes.result.now n slots c.self.inside.index c.of-keys.result c.after_any-later.result
     c.self.invariant.0 of.listed c.of-keys.ensures.touched
-    (c.touched-later.ensures ∙ ap (map (λ (x : Key). above n (listed_under x c.self.inside.index))) c.keys.ensures.keys) in
+    (c.after_any-later.ensures ∙ ap (map (λ (x : Key). above n (listed_under x c.self.inside.index))) c.keys.ensures.keys) in
     subst (EachRecordIsKnown k) (sym at.there)
     (known_filter k (touches k c.changes.result.now) (newer n (records_there slots))
     (known_filter k (λ (x : Record). nat_lt n x.number) (records_there slots) of.known))
 
 -- the records that it goes over
 over : (g : Over) (c : After-first_clash g)
-    → records_at (union c.touched-later.result) c.self.inside.slots.items
+    → records_at (union c.after_any-later.result) c.self.inside.slots.items
     ≡ filter (touches (facts_of c.args.catalogue.now) c.changes.result.now) (newer c.args.number (records_there c.self.inside.slots.items))
 over g c =
     let k = facts_of c.args.catalogue.now in
     let n : ℕ = c.args.number in
     let slots = c.self.inside.slots.items in
     let of = subst (AreOfCatalogue k) (sym c.self.view_is) c.requires.of in
-    let at : Touching k c.changes.result.now n slots c.touched-later.result =
-    touching c.unions_have_each_once.ensures k c.changes.result.now n slots c.self.inside.index c.of-keys.result c.touched-later.result
+    let at : Touching k c.changes.result.now n slots c.after_any-later.result =
+    touching c.unions_have_each_once.ensures k c.changes.result.now n slots c.self.inside.index c.of-keys.result c.after_any-later.result
     c.self.invariant.0 of.listed c.of-keys.ensures.touched
-    (c.touched-later.ensures ∙ ap (map (λ (x : Key). above n (listed_under x c.self.inside.index))) c.keys.ensures.keys) in
+    (c.after_any-later.ensures ∙ ap (map (λ (x : Key). above n (listed_under x c.self.inside.index))) c.keys.ensures.keys) in
     at.there
 
 -- the changes of the record of the number

@@ -45,7 +45,7 @@ of-keys-requires-clause-known g c =
     let r : Record = c.in-Some.target in
     let of = subst (AreOfCatalogue k) (sym c.self.view_is) c.requires.of in
     let at : At c.args.number slots r = at_slot c.args.number slots r c.self.invariant.0 (sym c.in-Some.ensures) in
-    subst (EachCellIsKnown k) (sym (c.as_slice.ensures.value ∙ c.copied-changes.ensures ∙ c.changes.ensures.changes)) (known_one k (records_there slots) r of.known at.among).cells
+    subst (EachCellIsKnown k) (sym (c.as_slice.ensures.value ∙ c.copy_of-changes.ensures ∙ c.changes.ensures.changes)) (known_one k (records_there slots) r of.known at.among).cells
 
 pub mend_each-requires-clause-cells : goal.mend_each-requires-clause-cells
 mend_each-requires-clause-cells g c =
@@ -54,20 +54,20 @@ mend_each-requires-clause-cells g c =
     let r : Record = c.in-Some.target in
     let of = subst (AreOfCatalogue k) (sym c.self.view_is) c.requires.of in
     let at : At c.args.number slots r = at_slot c.args.number slots r c.self.invariant.0 (sym c.in-Some.ensures) in
-    subst (EachCellIsKnown k) (sym (c.as_slice-2.ensures.value ∙ c.copied-changes.ensures ∙ c.changes.ensures.changes)) (known_one k (records_there slots) r of.known at.among).cells
+    subst (EachCellIsKnown k) (sym (c.as_slice-2.ensures.value ∙ c.copy_of-changes.ensures ∙ c.changes.ensures.changes)) (known_one k (records_there slots) r of.known at.among).cells
 
 pub mend_each-requires-clause-known : goal.mend_each-requires-clause-known
 mend_each-requires-clause-known g c =
     let k = facts_of c.args.catalogue.now in
     let n : ℕ = c.args.number in
     let slots = c.self.inside.slots.items in
-    let lists : List (List ℕ) = c.touched-touched.result in
+    let lists : List (List ℕ) = c.after_any-touched.result in
     let of = subst (AreOfCatalogue k) (sym c.self.view_is) c.requires.of in
     let here : At n slots c.in-Some.target = at_slot n slots c.in-Some.target c.self.invariant.0 (sym c.in-Some.ensures) in
     let at : Touching k c.as_slice.result.now n slots lists =
     touching c.unions_have_each_once.ensures k c.as_slice.result.now n slots c.self.inside.index c.of-keys.result lists c.self.invariant.0
     of.listed c.of-keys.ensures.touched
-    (c.touched-touched.ensures ∙ ap (map (λ (x : Key). above n (listed_under x c.self.inside.index))) c.keys.ensures.keys) in
+    (c.after_any-touched.ensures ∙ ap (map (λ (x : Key). above n (listed_under x c.self.inside.index))) c.keys.ensures.keys) in
     subst (EachRecordIsKnown k)
     (sym (ap (records_at (union lists)) c.take.ensures.slots
     ∙ met_left k c.as_slice.result.now n slots lists here.above c.self.invariant.0 at))
@@ -96,7 +96,7 @@ size : (g : Over) (c : After-take-2 g) → length c.mend_each.new.slots.items �
 size g c =
     let k = facts_of c.args.catalogue.now in
     let slots = c.self.inside.slots.items in
-    let ns : List ℕ = union c.touched-touched.result in
+    let ns : List ℕ = union c.after_any-touched.result in
     ap (λ (xs : List (Option Record)). length xs) c.mend_each.ensures.slots
     ∙ length_shift_at k c.as_slice-2.result.now ns 0 c.take.new.slots.items
     ∙ ap (λ (xs : List (Option Record)). length xs) c.take.ensures.slots
@@ -109,8 +109,8 @@ invariant_of-self g c =
     let numbered : AreNumbered 0 c.mend_each.new.slots.items =
     subst (AreNumbered 0)
     (sym (c.mend_each.ensures.slots
-    ∙ ap (shift_at k c.as_slice-2.result.now (union c.touched-touched.result) 0) c.take.ensures.slots))
-    (numbered_shifted k c.as_slice-2.result.now (union c.touched-touched.result) 0 (emptied c.args.number slots)
+    ∙ ap (shift_at k c.as_slice-2.result.now (union c.after_any-touched.result) 0) c.take.ensures.slots))
+    (numbered_shifted k c.as_slice-2.result.now (union c.after_any-touched.result) 0 (emptied c.args.number slots)
     (numbered_emptied c.args.number slots c.self.invariant.0)) in
     (numbered, omega (arith, size g c, c.self.invariant.1))
 
@@ -127,17 +127,17 @@ left g c =
     let n : ℕ = c.args.number in
     let slots = c.self.inside.slots.items in
     let cs : List Change = c.as_slice.result.now in
-    let lists : List (List ℕ) = c.touched-touched.result in
+    let lists : List (List ℕ) = c.after_any-touched.result in
     let of = subst (AreOfCatalogue k) (sym c.self.view_is) c.requires.of in
     let here : At n slots c.in-Some.target = at_slot n slots c.in-Some.target c.self.invariant.0 (sym c.in-Some.ensures) in
     let at : Touching k cs n slots lists =
     touching c.unions_have_each_once.ensures k cs n slots c.self.inside.index c.of-keys.result lists c.self.invariant.0
     of.listed c.of-keys.ensures.touched
-    (c.touched-touched.ensures ∙ ap (map (λ (x : Key). above n (listed_under x c.self.inside.index))) c.keys.ensures.keys) in
-    let both : c.as_slice-2.result.now ≡ cs = (c.as_slice-2.ensures.value ∙ c.copied-changes.ensures ∙ c.changes.ensures.changes) ∙ sym (c.as_slice.ensures.value ∙ c.copied-changes.ensures ∙ c.changes.ensures.changes) in
+    (c.after_any-touched.ensures ∙ ap (map (λ (x : Key). above n (listed_under x c.self.inside.index))) c.keys.ensures.keys) in
+    let both : c.as_slice-2.result.now ≡ cs = (c.as_slice-2.ensures.value ∙ c.copy_of-changes.ensures ∙ c.changes.ensures.changes) ∙ sym (c.as_slice.ensures.value ∙ c.copy_of-changes.ensures ∙ c.changes.ensures.changes) in
     left_records c.only_touched_records_shift.ensures k cs n slots c.mend_each.new.slots.items lists here.above c.self.invariant.0 of.about at
     (c.mend_each.ensures.slots ∙ (λ j. shift_at k (both j) (union lists) 0 (c.take.ensures.slots j)))
-    ∙ ap (λ (xs : List Change). older n (records_there slots) ++ shift_records k xs (newer n (records_there slots))) (c.as_slice.ensures.value ∙ c.copied-changes.ensures ∙ c.changes.ensures.changes)
+    ∙ ap (λ (xs : List Change). older n (records_there slots) ++ shift_records k xs (newer n (records_there slots))) (c.as_slice.ensures.value ∙ c.copy_of-changes.ensures ∙ c.changes.ensures.changes)
 
 pub returns-clause-records : goal.returns-clause-records
 returns-clause-records g c =
@@ -172,14 +172,14 @@ returns-clause-work g c =
     let n : ℕ = c.args.number in
     let slots = c.self.inside.slots.items in
     let cs : List Change = c.as_slice.result.now in
-    let lists : List (List ℕ) = c.touched-touched.result in
+    let lists : List (List ℕ) = c.after_any-touched.result in
     let of = subst (AreOfCatalogue k) (sym c.self.view_is) c.requires.of in
     let at : Touching k cs n slots lists =
     touching c.unions_have_each_once.ensures k cs n slots c.self.inside.index c.of-keys.result lists c.self.invariant.0
     of.listed c.of-keys.ensures.touched
-    (c.touched-touched.ensures ∙ ap (map (λ (x : Key). above n (listed_under x c.self.inside.index))) c.keys.ensures.keys) in
+    (c.after_any-touched.ensures ∙ ap (map (λ (x : Key). above n (listed_under x c.self.inside.index))) c.keys.ensures.keys) in
     let changes : cs ≡ changes_of n (records_there slots) =
-    (c.as_slice.ensures.value ∙ c.copied-changes.ensures ∙ c.changes.ensures.changes) ∙ ap changes_in (sym (record_there n slots c.self.invariant.0 ∙ (sym c.in-Some.ensures))) in
+    (c.as_slice.ensures.value ∙ c.copy_of-changes.ensures ∙ c.changes.ensures.changes) ∙ ap changes_in (sym (record_there n slots c.self.invariant.0 ∙ (sym c.in-Some.ensures))) in
     c.mend_each.ensures.work
     ∙ ap (λ (ns : List ℕ). after_looks (length ns) c.args.meter.now) at.numbers
     ∙ ap (λ (i : ℕ). after_looks i c.args.meter.now) (length-map (met k cs n slots) (λ (x : Record). x.number))

@@ -25,8 +25,8 @@ print_answer-printed-requires g c =
     let one = c.requires.from_one in
     let few = c.requires.number in
     let sessions_then : length c.play.new.sessions.items ≡ 64 = sym c.play.new.sessions.ok.0 ∙ c.play.ensures.sizes.0 in
-    let end : c.ended-end.result ≡ (session_at c.play.new.sessions.items (c.args.number - 1)).ended =
-    c.ended-end.ensures ∙ ap (λ (h : Hearing). h.ended)
+    let end : c.end-end.result ≡ (session_at c.play.new.sessions.items (c.args.number - 1)).ended =
+    c.end-end.ensures ∙ ap (λ (h : Hearing). h.ended)
     (c.index.ensures ∙ at_place c.play.new.sessions.items (c.args.number - 1) _ (omega (arith, one, few, sessions_then))) in
     subst IsOfOffice (sym end) (c.play.ensures.office (c.args.number - 1))
 
@@ -54,8 +54,8 @@ returns-clause-replayed g c text is =
       turns = c.play.new.journal.turns;
       lines = c.self.inside.lines + 1;
     } in
-    let end : c.ended-end.result ≡ (session_at c.play.new.sessions.items (c.args.number - 1)).ended =
-    c.ended-end.ensures ∙ ap (λ (h : Hearing). h.ended)
+    let end : c.end-end.result ≡ (session_at c.play.new.sessions.items (c.args.number - 1)).ended =
+    c.end-end.ensures ∙ ap (λ (h : Hearing). h.ended)
     (c.index.ensures ∙ at_place c.play.new.sessions.items (c.args.number - 1) _ (omega (arith, one, few, sessions_then))) in
     let said =
     c.as_slice.ensures.value ∙ (ap (λ out. out.items) c.index-2.ensures

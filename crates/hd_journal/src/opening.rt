@@ -1,0 +1,40 @@
+//! A journal over a library's catalogue, before its first turn.
+ghost use Rattle.std.specs.Prelude.{◌≡◌, [], IfOk};
+ghost use Rattle.std.specs.Arc.{arc_value};
+ghost use Rattle.hd_journal.specs.Books.{IsLegalBook};
+
+use crate::journal::Journal;
+use hd_catalogue::Catalogue;
+use hd_desk::{Desk, Meter};
+use std::alloc::{AllocError, Allocator, Global};
+use std::sync::Arc;
+
+/// The catalogue, for the desk and whoever else reads it.
+///
+/// An error is want of memory.
+pub fn share<A: Allocator>(
+    alloc: A,
+    catalogue: Catalogue<A>,
+) -> Result<Arc<Catalogue<A>, A>, AllocError>
+    ensures { IfOk result (λ shared. arc_value shared ≡ catalogue) }
+{
+    Ok(Arc::new(alloc, catalogue)?)
+}
+
+/// A journal without turns: each copy is on the open shelf of its home, and nobody has a hold. `inline` is
+/// never asked for memory (`Desk::open`).
+///
+/// An error is want of memory.
+pub fn open<A: Allocator + Copy>(
+    alloc: A,
+    inline: Global,
+    meter: Meter,
+    catalogue: Catalogue<A>,
+) -> Result<Journal<A>, AllocError>
+    ensures turns { IfOk result (λ journal. journal.turns ≡ []) }
+    ensures contents { IfOk result (λ journal. journal.contents ≡ catalogue) }
+    ensures legal { IfOk result (λ journal. IsLegalBook journal.contents journal.turns) }
+{
+    let desk = Desk::open(alloc, inline, share(alloc, catalogue)?)?;
+    Ok(Journal::new(alloc, desk, meter))
+}
