@@ -24,9 +24,8 @@ TOP = os.path.dirname(os.path.dirname(os.path.abspath(__file__)))
 TARGET = "x86_64-unknown-linux-gnu"
 # what a crate's proof reads
 PARTS = ["src", "specs", "proofs"]
-# the memory that one crate's proof may take, how far one that nothing waits for stands back, and how many jobs a crate
-# has that isn't the first of those that most wait for: with more, they take the cores from each other
-GIGABYTES, NICE, FEW_JOBS = 4, 19, 2
+# the memory that one crate's proof may take, and how far one that nothing waits for stands back
+GIGABYTES, NICE = 4, 19
 
 
 def said_by_rt(word):
@@ -132,7 +131,9 @@ def prove(names, uses, room):
                 name = ready.pop()
                 left.remove(name)
                 longest = max(chains[other] for other in [name, *left, *running.values()])
-                nice, jobs = round(NICE * (1 - chains[name] / longest)), cores if chains[name] == longest else FEW_JOBS
+                nice = round(NICE * (1 - chains[name] / longest))
+                # more jobs take more of the cores' time in all: so the cores are shared out, but for the first
+                jobs = cores if chains[name] == longest else max(1, cores // (1 + len(running) + len(ready)))
                 steps = steps_of(name, uses, room, kit, jobs)
                 running[pool.submit(build, name, steps, nice, stamps[name], sums[name])] = name
             for done in wait(running, return_when=FIRST_COMPLETED).done:

@@ -4,7 +4,7 @@ use Rattle.std.proofs.Common.{arith, refl, sym, ap, ◌∙◌, subst, append_ass
 use Rattle.hd_date.specs.Stamps.{Stamp}
 use Rattle.hd_rules.specs.Journal.{Turn}
 use Rattle.hd_catalogue.specs.Contents.{Contents}
-use Rattle.hd_exchange.specs.declared.fault.OfficeFault.{OfficeFault}
+use Rattle.hd_journal.specs.declared.fault.OfficeFault.{OfficeFault}
 use Rattle.hd_session.specs.Sessions.{AreFedTo, Hearing, IsCause, IsFed, IsFedAt, Piece}
 use Rattle.hd_session.specs.Standing.{Stands}
 use Rattle.hd_session.specs.declared.ended.Ended.{Ended}

@@ -6,8 +6,7 @@ use crate::fault::DurableFault;
 use crate::journal::DurableJournal;
 use crate::table::TurnTable;
 use hd_catalogue::Catalogue;
-use hd_hall::{Keeper, KeeperFault};
-use hd_journal::{Ask, OwnedAsk, Turn, TurnRef};
+use hd_journal::{Ask, Keeper, KeeperFault, OwnedAsk, Turn, TurnRef};
 use std::alloc::{AllocError, Allocator, Global};
 use std::sync::Arc;
 

@@ -3,8 +3,7 @@ pub mod Dates
 pub mod Names
 pub mod Asks
 pub mod HoldAsks
--- the office that is asked; what a message comes with; and the message that a body is:
-pub mod Offices
+-- what a message comes with, and the message that a body is:
 pub mod Arrivals
 pub mod Messages
 -- the replies:
@@ -15,5 +14,5 @@ pub mod ItemReplies
 pub mod Replies
 -- and all together, what a body is answered: `IsAnswer`, which may be read first.
 pub mod Answers
--- And what turns are asked, for the law that this is one.
+-- And how many turns a message makes, and what turns are asked, for the law that this is one answer.
 pub mod Turns

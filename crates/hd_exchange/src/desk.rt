@@ -5,14 +5,13 @@ ghost use Rattle.hd_rules.specs.Journal.{Turn};
 ghost use Rattle.hd_catalogue.specs.Contents.{facts_of};
 ghost use Rattle.hd_exchange.specs.Answers.{IsDeskAnswer};
 ghost use Rattle.hd_exchange.specs.Messages.{IsAskable};
-ghost use Rattle.hd_exchange.specs.Offices.{MakesAtMostOne};
+ghost use Rattle.hd_exchange.specs.Turns.{MakesAtMostOne};
 
-use crate::fault::OfficeFault;
 use crate::message::DeskMessage;
-use crate::office::Office;
 use crate::refusals::refusal_reply;
 use crate::replies::reply_to;
 use crate::writing::write_reply;
+use hd_journal::{Office, OfficeFault};
 use std::alloc::Allocator;
 
 /// Makes the turn of a message that asks something, and appends its reply; or appends its refusal.

@@ -6,18 +6,17 @@ ghost use Rattle.hd_rules.specs.Journal.{Turn};
 ghost use Rattle.hd_catalogue.specs.Contents.{facts_of};
 ghost use Rattle.hd_exchange.specs.Answers.{AsksTheOffice, IsAnswer};
 ghost use Rattle.hd_exchange.specs.Arrivals.{IsKnownLogin};
-ghost use Rattle.hd_exchange.specs.Offices.{MakesAtMostOne};
+ghost use Rattle.hd_exchange.specs.Turns.{MakesAtMostOne};
 
 use crate::alone::answer_alone;
 use crate::desk::answer;
-use crate::fault::OfficeFault;
 use crate::incoming::Incoming;
 use crate::login::Login;
 use crate::message::Message;
 use crate::messages::message_of;
-use crate::office::Office;
 use crate::said::Said;
 use hd_date::Stamp18;
+use hd_journal::{Office, OfficeFault};
 use std::alloc::Allocator;
 
 /// Answers the body of a message from a session that is logged in so: appends the text of its reply, where it

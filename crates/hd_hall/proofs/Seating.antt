@@ -5,7 +5,7 @@ use Rattle.std.proofs.Math.Seq.{take-append_seam}
 use Rattle.std.proofs.lemmas.List.{take-append-le}
 use Rattle.std.proofs.lemmas.Option.{slice_get_within}
 use Rattle.hd_rules.specs.Journal.{Turn}
-use Rattle.hd_hall.specs.Openings.{Opening}
+use Rattle.hd_journal.specs.Openings.{Opening}
 use Rattle.hd_hall.specs.Receipts.{Receipted, IsLast, StandsAt, last_receipt}
 use Rattle.hd_hall.specs.Seats.{SeatView, IsSeat, AreOfSeat, RiseAbove}
 use Rattle.hd_hall.specs.Submitting.{AreNext, IsNextOf}

@@ -5,7 +5,7 @@ use Rattle.hd_rules.specs.Known.{IsKnownTurnReply}
 use Rattle.hd_rules.specs.Replies.{IsReplyTo}
 use Rattle.hd_rules.specs.Run.{IsAmong}
 use Rattle.hd_catalogue.specs.Contents.{facts_of}
-use Rattle.hd_hall.specs.Openings.{Opening}
+use Rattle.hd_journal.specs.Openings.{Opening}
 use Rattle.hd_hall.specs.Receipts.{Receipted}
 use Rattle.hd_hall.specs.Submitting.{IsNextOf}
 

@@ -3,7 +3,7 @@ use Rattle.std.specs.Prelude.{◌≡◌, ℕ, ◌-◌, ◌<◌, List, [], ◌∷
 use Rattle.std.specs.List.{All, Contains}
 use Rattle.std.specs.List.Sorted.{IsPermutation}
 use Rattle.hd_rules.specs.Journal.{Turn}
-use Rattle.hd_hall.specs.Openings.{Opening, IsLegalSince}
+use Rattle.hd_journal.specs.Openings.{Opening, IsLegalSince}
 use Rattle.hd_hall.specs.Receipts.{StandsAt, with_numbers}
 use Rattle.hd_hall.specs.Seats.{SeatView, all_receipts, shares}
 

@@ -1,6 +1,5 @@
-pub mod Openings
 pub mod Houses
-pub mod Keepers
+pub mod Faults
 pub mod Receipts
 pub mod Submitting
 pub mod Counters

@@ -1,11 +1,11 @@
 -- What a hall that didn't close gives back.
 use Rattle.std.specs.Prelude.{◌≡◌, ◌<◌, List, length}
 use Rattle.hd_hall.specs.Closings.{LacksReceipt}
-use Rattle.hd_hall.specs.Openings.{Opening}
+use Rattle.hd_journal.specs.Openings.{Opening}
 use Rattle.hd_hall.specs.Seats.{SeatView, EachSeat, IsWhole}
 use Rattle.std.specs.declared.alloc.Allocator.{Ghosts as AllocatorGhosts}
 use Rattle.hd_hall.specs.declared.house.House.{Ghosts}
-use Rattle.hd_hall.specs.declared.keeper.Keeper.{Ghosts as KeeperGhosts}
+use Rattle.hd_journal.specs.declared.keeper.Keeper.{Ghosts as KeeperGhosts}
 use Rattle.hd_hall.specs.declared.hall.NotClosed.{NotClosed}
 use Rattle.hd_hall.specs.declared.hall.NotClosed.TheVariants.{SeatMissing, ReceiptDiffers}
 

@@ -1,7 +1,7 @@
 -- Seats.
 use Rattle.std.specs.Prelude.{◌≡◌, ℕ, ◌+◌, ◌<◌, List, [], ◌∷◌, ◌++◌, length, Some, slice_get}
 use Rattle.std.specs.List.{flat_map}
-use Rattle.hd_hall.specs.Openings.{Opening}
+use Rattle.hd_journal.specs.Openings.{Opening}
 use Rattle.hd_hall.specs.Receipts.{Receipted}
 use Rattle.hd_hall.specs.Submitting.{AreNext}
 

@@ -1,12 +1,12 @@
 -- What a seat is told: its receipts, or that the journal isn't the one that it came from.
 use Rattle.std.specs.Prelude.{◌≡◌, ℕ, ◌+◌, List, [], ◌∷◌, ◌++◌, Some, length, slice_get, take}
 use Rattle.hd_rules.specs.Journal.{Turn}
-use Rattle.hd_hall.specs.Openings.{Opening, IsLegalSince}
+use Rattle.hd_journal.specs.Openings.{Opening, IsLegalSince}
 use Rattle.hd_hall.specs.Receipts.{Receipted, HoldsLast, LacksLast}
 use Rattle.hd_hall.specs.declared.fault.HallFault.{HallFault}
 use Rattle.hd_hall.specs.declared.fault.HallFault.TheVariants as hall
-use Rattle.hd_hall.specs.declared.fault.KeeperFault.{KeeperFault}
-use Rattle.hd_hall.specs.declared.fault.KeeperFault.TheVariants as keeper
+use Rattle.hd_journal.specs.declared.fault.KeeperFault.{KeeperFault}
+use Rattle.hd_journal.specs.declared.fault.KeeperFault.TheVariants as keeper
 
 -- The receipt is of the last turn of a legal journal of the catalogue, in which the seat's last turn before
 -- it, if there was one, stands at its own number, which is lower. Turns are numbered from the hall's opening

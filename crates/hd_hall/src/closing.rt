@@ -11,11 +11,10 @@ ghost use Rattle.hd_hall.specs.Receipts.{StandsAt};
 ghost use Rattle.hd_hall.specs.Seats.{EachSeat, IsWhole, all_receipts, with_part, without_part, shares};
 
 use crate::house::House;
-use crate::keeper::Keeper;
 use crate::kept::Kept;
 use crate::locked::stands;
 use crate::seat::Seat;
-use hd_journal::TurnRef;
+use hd_journal::{Keeper, TurnRef};
 use std::alloc::Allocator;
 use std::sync::ledger::{Book, Share};
 

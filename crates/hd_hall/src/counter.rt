@@ -11,11 +11,9 @@ ghost use Rattle.hd_hall.specs.Submitting.{AreNext, IsNextOf, IsStrangeTo};
 use crate::fault::HallFault;
 use crate::hall::Hall;
 use crate::house::House;
-use crate::keeper::Keeper;
 use crate::seat::Seat;
 use hd_catalogue::Catalogue;
-use hd_exchange::{Office, OfficeFault};
-use hd_journal::{Ask, Journal, OwnedAsk, SeatNo, Turn};
+use hd_journal::{Ask, Journal, Keeper, Office, OfficeFault, OwnedAsk, SeatNo, Turn};
 use std::alloc::{Allocator, Global};
 use std::sync::Wait;
 

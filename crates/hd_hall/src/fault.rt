@@ -1,29 +1,11 @@
-//! Why a hall, or what keeps its journal, makes no turn.
+//! Why a hall makes no turn.
 
 ghost use Rattle.std.specs.Prelude.{◌≡◌};
-ghost use Rattle.hd_hall.specs.Keepers.{told_by};
+ghost use Rattle.hd_hall.specs.Faults.{told_by};
 ghost use Rattle.hd_hall.specs.declared.fault.HallFault.TheVariants.{Memory};
-ghost use Rattle.hd_hall.specs.declared.fault.KeeperFault.TheVariants as keeper;
 
-use hd_journal::Fault;
+use hd_journal::KeeperFault;
 use std::alloc::AllocError;
-
-/// Why a keeper makes no turn. It has no turn more then.
-#[derive(Clone, Copy, PartialEq, Eq, Debug)]
-pub enum KeeperFault {
-    /// There was no memory for it.
-    Memory,
-    /// Turns are kept where they outlive a stop, and this one or an earlier one couldn't be written.
-    Unwritten,
-}
-
-impl From<Fault> for KeeperFault {
-    ghost from_gives = { λ _ fault. fault ≡ keeper.Memory };
-
-    fn from(_: Fault) -> KeeperFault {
-        KeeperFault::Memory
-    }
-}
 
 /// Why a hall makes no turn. Nothing is changed then.
 #[derive(Clone, Copy, PartialEq, Eq, Debug)]

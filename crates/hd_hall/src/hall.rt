@@ -12,13 +12,12 @@ ghost use Rattle.hd_hall.specs.Submitting.{AreNext, IsNextOf, IsStrangeTo, IsSub
 use crate::closing::differing;
 use crate::fault::HallFault;
 use crate::house::House;
-use crate::keeper::Keeper;
 use crate::kept::Kept;
 use crate::locked::Locked;
 use crate::receipt::Receipt;
 use crate::seat::Seat;
 use hd_catalogue::Catalogue;
-use hd_journal::{Ask, Journal, OwnedAsk, Turn};
+use hd_journal::{Ask, Journal, Keeper, OwnedAsk, Turn};
 use std::alloc::{Allocator, Global};
 use std::sync::ledger::{Blank, Share};
 use std::sync::{Arc, Mutex, Wait};

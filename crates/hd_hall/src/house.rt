@@ -1,7 +1,7 @@
 //! What tells one hall from another.
 
 ghost use Rattle.hd_hall.specs.Houses.{nothing};
-ghost use Rattle.hd_hall.specs.Openings.{Opening};
+ghost use Rattle.hd_journal.specs.Openings.{Opening};
 
 use std::marker::Brand;
 use std::sync::ledger::Ledger;

@@ -4,16 +4,15 @@ ghost use Rattle.std.specs.Prelude.{◌≡◌, ◌≢◌, ◌+◌, ◌<◌, ◌�
 ghost use Rattle.std.specs.Prelude.{IfNone, OnOk, OnErr, OnSome, false, length, option_copied};
 ghost use Rattle.hd_catalogue.specs.Contents.{facts_of};
 ghost use Rattle.hd_journal.specs.Asks.{IsKnownMessage};
-ghost use Rattle.hd_hall.specs.Keepers.{IsAdded};
-ghost use Rattle.hd_hall.specs.Openings.{IsLegalSince};
+ghost use Rattle.hd_journal.specs.Keepers.{IsAdded};
+ghost use Rattle.hd_journal.specs.Openings.{IsLegalSince};
 ghost use Rattle.hd_hall.specs.Receipts.{HoldsLast, LacksLast, StandsAt, last_receipt};
 ghost use Rattle.hd_hall.specs.Submitting.{IsSubmitFault};
 
 use crate::fault::HallFault;
 use crate::house::House;
-use crate::keeper::Keeper;
 use crate::kept::Kept;
-use hd_journal::{SeatNo, Turn};
+use hd_journal::{Keeper, SeatNo, Turn};
 use std::alloc::Allocator;
 use std::marker::PhantomData;
 use std::sync::ledger::{Blank, Book, Share};

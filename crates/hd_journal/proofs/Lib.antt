@@ -8,3 +8,4 @@ pub mod Recorded
 pub mod Working
 pub mod Withdrawing
 pub mod Keeping
+pub mod Replying

@@ -7,3 +7,6 @@ pub mod Telling
 pub mod Books
 pub mod Shown
 pub mod Changing
+pub mod Offices
+pub mod Openings
+pub mod Keepers

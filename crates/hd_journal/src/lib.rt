@@ -1,13 +1,18 @@
 //! The journal of the hold desk: every turn, and the desk of the commands that were not cancelled.
+//!
+//! Sessions ask an `Office`; under a hall's lock stands a `Keeper`. A journal alone is both.
 #![tactic(auto)]
 
+mod alone;
 mod ask;
 mod entry;
 mod fault;
 mod journal;
+mod keeper;
 mod laws;
 mod line;
 mod numbers;
+mod office;
 mod opening;
 mod room;
 mod running;
@@ -16,9 +21,11 @@ mod turn;
 
 pub use crate::ask::{Ask, OwnedAsk};
 pub use crate::entry::Entry;
-pub use crate::fault::Fault;
+pub use crate::fault::{Fault, KeeperFault, OfficeFault};
 pub use crate::journal::Journal;
+pub use crate::keeper::Keeper;
 pub use crate::numbers::SeatNo;
+pub use crate::office::Office;
 pub use crate::opening::{open, share};
 pub use crate::turn::{Turn, TurnRef};
 pub use hd_desk::{Catalogue, Desk};

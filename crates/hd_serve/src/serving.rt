@@ -1,6 +1,6 @@
 //! Serving terminals over TCP.
 ghost use Rattle.std.specs.Prelude.{◌≡◌, ◌≤◌, [], IfOk};
-ghost use Rattle.hd_hall.specs.Openings.{IsLegalSince};
+ghost use Rattle.hd_journal.specs.Openings.{IsLegalSince};
 
 use crate::accepting::{Arrived, accept};
 use crate::fault::ServeFault;

@@ -6,8 +6,8 @@ use Rattle.std.proofs.lemmas.Bool.{cases_lt, eq-eqb, eqb-false, ne_eqb}
 use Rattle.std.proofs.lemmas.List.{get_or_past, get_or-set_same, get_or-set_other}
 use Rattle.hd_rules.specs.Journal.{Turn}
 use Rattle.hd_catalogue.specs.Contents.{Contents}
-use Rattle.hd_exchange.specs.declared.fault.OfficeFault.{OfficeFault}
-use Rattle.hd_exchange.specs.declared.fault.OfficeFault.TheVariants as office
+use Rattle.hd_journal.specs.declared.fault.OfficeFault.{OfficeFault}
+use Rattle.hd_journal.specs.declared.fault.OfficeFault.TheVariants as office
 use Rattle.std.proofs.Math.Seq.{take-append_seam}
 use Rattle.hd_session.specs.Endings.{EndsWell}
 use Rattle.hd_session.specs.Scripts.{AreFed, Event, IsFaultOf, Plays, Step, session_at, replies_written}

@@ -5,8 +5,8 @@ use Rattle.hd_date.specs.Stamps.{Stamp}
 use Rattle.hd_rules.specs.Journal.{Turn}
 use Rattle.hd_catalogue.specs.Contents.{Contents}
 use Rattle.hd_journal.specs.Books.{IsLegalBook}
-use Rattle.hd_exchange.specs.declared.fault.OfficeFault.{OfficeFault}
-use Rattle.hd_exchange.specs.declared.fault.OfficeFault.TheVariants as fault
+use Rattle.hd_journal.specs.declared.fault.OfficeFault.{OfficeFault}
+use Rattle.hd_journal.specs.declared.fault.OfficeFault.TheVariants as fault
 use Rattle.hd_session.specs.Endings.{EndsWell}
 use Rattle.hd_session.specs.Scripts.{AreFed, Event, Step, session_at, turns_of}
 use Rattle.hd_session.specs.Sessions.{Hearing, new_session}

@@ -14,7 +14,7 @@ use Rattle.hd_catalogue.specs.Contents.{Contents, facts_of}
 use Rattle.hd_journal.specs.Asks.{SeatMessage}
 use Rattle.hd_exchange.specs.Answers.{IsAnswer}
 use Rattle.hd_exchange.specs.Turns.{messages_of}
-use Rattle.hd_exchange.specs.declared.fault.OfficeFault.{OfficeFault}
+use Rattle.hd_journal.specs.declared.fault.OfficeFault.{OfficeFault}
 use Rattle.hd_exchange.specs.declared.login.Login.{Login}
 use Rattle.hd_exchange.specs.declared.said.Said.{Said}
 use Rattle.hd_session.specs.Endings.{EndsWell}

@@ -9,8 +9,8 @@ use Rattle.std.specs.List.{All}
 use Rattle.hd_date.specs.Stamps.{Stamp}
 use Rattle.hd_rules.specs.Journal.{Turn}
 use Rattle.hd_catalogue.specs.Contents.{Contents}
-use Rattle.hd_exchange.specs.declared.fault.OfficeFault.{OfficeFault}
-use Rattle.hd_exchange.specs.declared.fault.OfficeFault.TheVariants as fault
+use Rattle.hd_journal.specs.declared.fault.OfficeFault.{OfficeFault}
+use Rattle.hd_journal.specs.declared.fault.OfficeFault.TheVariants as fault
 use Rattle.hd_session.specs.Sessions.{AreFedTo, Feeds, Hearing, IsFed, Piece, new_session, reason_of, stream}
 use Rattle.hd_session.specs.Scripts.{AreFed, Event, Plays, Step, events_of, pieces_of, session_at, text_of, turns_of, replies_written}
 use Rattle.hd_session.proofs.Causes.{fed_other}

@@ -5,7 +5,7 @@ use Rattle.std.specs.Borrow.{Bor}
 use Rattle.hd_date.specs.Stamps.{Stamp}
 use Rattle.hd_rules.specs.Journal.{Turn}
 use Rattle.hd_catalogue.specs.Contents.{Contents}
-use Rattle.hd_exchange.specs.declared.fault.OfficeFault.{OfficeFault}
+use Rattle.hd_journal.specs.declared.fault.OfficeFault.{OfficeFault}
 use Rattle.hd_session.specs.declared.ended.Ended.{Ended}
 use Rattle.hd_session.specs.declared.script.ScriptFault.{ScriptFault}
 use Rattle.hd_session.specs.declared.script.ScriptFault.TheVariants.{Stranger}

@@ -5,8 +5,8 @@ use Rattle.hd_date.specs.Stamps.{Stamp}
 use Rattle.hd_rules.specs.Journal.{Turn}
 use Rattle.hd_catalogue.specs.Contents.{Contents}
 use Rattle.hd_field.specs.Streams.{Begun, stream_start, lines_in, begun_after, after_return}
-use Rattle.hd_exchange.specs.declared.fault.OfficeFault.{OfficeFault}
-use Rattle.hd_exchange.specs.declared.fault.OfficeFault.TheVariants as fault
+use Rattle.hd_journal.specs.declared.fault.OfficeFault.{OfficeFault}
+use Rattle.hd_journal.specs.declared.fault.OfficeFault.TheVariants as fault
 use Rattle.hd_session.specs.declared.ended.Ended.{Ended}
 use Rattle.hd_session.specs.declared.ended.Ended.TheVariants.{TooLong, Memory, Estranged, Unwritten}
 use Rattle.hd_session.specs.Standing.{Stands, IsHeard, LineAsks, nowhere}

@@ -8,8 +8,8 @@ ghost use Rattle.hd_session.specs.Endings.{EndsWell};
 ghost use Rattle.hd_session.specs.Scripts.{AreFed, Event, Step};
 ghost use Rattle.hd_session.specs.Scripts.{events_of, pieces_of, session_at, turns_of, replies_written};
 ghost use Rattle.hd_session.specs.Sessions.{AreFedTo, Hearing, IsFed, Piece, new_session, reason_of, stream};
-ghost use Rattle.hd_exchange.specs.declared.fault.OfficeFault.{OfficeFault};
-ghost use Rattle.hd_exchange.specs.declared.fault.OfficeFault.TheVariants as fault;
+ghost use Rattle.hd_journal.specs.declared.fault.OfficeFault.{OfficeFault};
+ghost use Rattle.hd_journal.specs.declared.fault.OfficeFault.TheVariants as fault;
 
 use hd_exchange::{Office, each_body_has_one_answer};
 use hd_field::cuts_change_nothing;

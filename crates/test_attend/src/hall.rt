@@ -1,7 +1,7 @@
 //! A connection over memory, attended to at a hall.
 
 ghost use Rattle.std.specs.Prelude.{◌≡◌, []};
-ghost use Rattle.hd_hall.specs.Openings.{fresh};
+ghost use Rattle.hd_journal.specs.Openings.{fresh};
 
 use crate::outcome::Outcome;
 use crate::wire::{Incoming, TAKEN, Wire};

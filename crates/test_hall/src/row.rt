@@ -1,7 +1,7 @@
 //! Rows, and the halls that they are played at.
 
 ghost use Rattle.std.specs.Prelude.{◌≡◌, []};
-ghost use Rattle.hd_hall.specs.Openings.{fresh};
+ghost use Rattle.hd_journal.specs.Openings.{fresh};
 
 use crate::clash::two_terminals_clash;
 use crate::rows::{out_of_order, seat_missing, two_seats};

@@ -1,6 +1,6 @@
 //! Halls, each round a journal of its own.
 ghost use Rattle.std.specs.Prelude.{◌≡◌, []};
-ghost use Rattle.hd_hall.specs.Openings.{fresh};
+ghost use Rattle.hd_journal.specs.Openings.{fresh};
 
 use crate::library::new_journal;
 use crate::submitting::two_seats;

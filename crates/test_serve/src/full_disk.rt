@@ -25,7 +25,7 @@ impl FullDisk {
 }
 
 impl Keeper<Global, OwnedAsk<Global>> for FullDisk {
-    ghost use Rattle.hd_hall.specs.Openings.{fresh};
+    ghost use Rattle.hd_journal.specs.Openings.{fresh};
 
     ghost asks = { λ ask. ask };
 

@@ -1,7 +1,7 @@
 //! The hall, and its threads.
 
 ghost use Rattle.std.specs.Prelude.{◌≡◌, [], ◌<◌};
-ghost use Rattle.hd_hall.specs.Openings.{fresh};
+ghost use Rattle.hd_journal.specs.Openings.{fresh};
 ghost use Rattle.time_hall.specs.Askers.{IsAskerOf};
 
 use crate::asker::Asker;

@@ -41,8 +41,8 @@ impl<'r, R: Clock> Timed<'r, R> {
 }
 
 impl<'r, R: Clock> Keeper<Global, OwnedAsk<Global>> for Timed<'r, R> {
-    ghost use Rattle.hd_hall.specs.Openings.{fresh};
-    ghost use Rattle.hd_hall.specs.declared.fault.KeeperFault.TheVariants as keeper;
+    ghost use Rattle.hd_journal.specs.Openings.{fresh};
+    ghost use Rattle.hd_journal.specs.declared.fault.KeeperFault.TheVariants as keeper;
 
     ghost asks = { λ ask. ask };
 

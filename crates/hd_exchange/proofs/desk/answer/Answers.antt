@@ -1,5 +1,5 @@
 use Rattle.std.proofs.Common.{◌∙◌, ap, sym, [], append-nil}
-use Rattle.hd_exchange.specs.Offices.{Keeps}
+use Rattle.hd_journal.specs.Offices.{Keeps}
 use Rattle.hd_exchange.proofs.Answering.{answered, refused}
 use Rattle.hd_exchange.proofs.desk.answer.Goals as goal
 

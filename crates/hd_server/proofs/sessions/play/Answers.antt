@@ -1,9 +1,9 @@
 use Rattle.std.proofs.Common.{◌∙◌, ◌<◌, ◌∷◌, [], ap, arith, length, subst, sym}
 use Rattle.hd_catalogue.specs.Contents.{Contents}
-use Rattle.hd_exchange.specs.Offices.{Keeps}
+use Rattle.hd_journal.specs.Offices.{Keeps}
 use Rattle.hd_session.specs.Scripts.{AreKnownTo}
 use Rattle.hd_server.specs.Replays.{AreOfOffice}
-use Rattle.hd_exchange.specs.declared.fault.OfficeFault.TheVariants as office
+use Rattle.hd_journal.specs.declared.fault.OfficeFault.TheVariants as office
 use Rattle.hd_server.proofs.Playing.{estranged_is_no_memory, no_stranger, unwritten_is_no_memory, written_back}
 use Rattle.hd_server.proofs.sessions.play.Goals as goal
 

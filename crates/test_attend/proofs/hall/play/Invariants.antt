@@ -1,4 +1,4 @@
-use Rattle.hd_hall.specs.Openings.{fresh}
+use Rattle.hd_journal.specs.Openings.{fresh}
 use Rattle.test_attend.proofs.hall.play.Given as goal
 
 abbrev pub ghosts-play_in-H-House : goal.ghosts-play_in-H-House

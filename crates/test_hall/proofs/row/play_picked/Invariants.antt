@@ -1,4 +1,4 @@
-use Rattle.hd_hall.specs.Openings.{fresh}
+use Rattle.hd_journal.specs.Openings.{fresh}
 use Rattle.test_hall.proofs.row.play_picked.Given as goal
 
 abbrev pub ghosts-play-H-House : goal.ghosts-play-H-House

@@ -1,4 +1,4 @@
-use Rattle.hd_hall.specs.Openings.{fresh}
+use Rattle.hd_journal.specs.Openings.{fresh}
 use Rattle.test_refusals.proofs.halls.try_picked.Given as goal
 
 abbrev pub ghosts-try_at-H-House : goal.ghosts-try_at-H-House

@@ -1,5 +1,5 @@
 use Rattle.std.proofs.Common.{subst, sym}
-use Rattle.hd_exchange.specs.Offices.{Keeps}
+use Rattle.hd_journal.specs.Offices.{Keeps}
 use Rattle.hd_session.specs.Standing.{IsKnownTo}
 use Rattle.test_session.proofs.hearing.hear.Goals as goal
 

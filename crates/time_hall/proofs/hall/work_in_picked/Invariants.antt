@@ -1,4 +1,4 @@
-use Rattle.hd_hall.specs.Openings.{fresh}
+use Rattle.hd_journal.specs.Openings.{fresh}
 use Rattle.time_hall.proofs.hall.work_in_picked.Given as goal
 
 abbrev pub ghosts-work_in-H-House : goal.ghosts-work_in-H-House

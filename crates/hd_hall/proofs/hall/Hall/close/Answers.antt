@@ -1,6 +1,6 @@
 use Rattle.std.proofs.Common.{◌∙◌, subst}
 use Rattle.hd_hall.specs.Closings.{LacksReceipt}
-use Rattle.hd_hall.specs.Openings.{Opening}
+use Rattle.hd_journal.specs.Openings.{Opening}
 use Rattle.hd_hall.proofs.Lending.{written_back}
 use Rattle.hd_hall.proofs.hall.Hall.close.Goals as goal
 

@@ -1,4 +1,4 @@
--- What a hall is opened round.
+-- What a journal has when a hall is opened round it.
 use Rattle.std.specs.Prelude.{List, [], ◌++◌}
 use Rattle.hd_rules.specs.Journal.{Turn}
 use Rattle.hd_catalogue.specs.Contents.{Contents}

@@ -7,13 +7,14 @@ ghost use Rattle.hd_catalogue.specs.Contents.{facts_of};
 ghost use Rattle.hd_journal.specs.Asks.{IsKnownMessage, SeatMessage, message_of};
 ghost use Rattle.hd_journal.specs.Books.{turn_numbered};
 ghost use Rattle.hd_journal.specs.Shown.{turn_shown};
-ghost use Rattle.hd_hall.specs.Keepers.{IsAdded};
-ghost use Rattle.hd_hall.specs.Openings.{Opening, IsLegalSince};
-ghost use Rattle.hd_hall.specs.declared.fault.KeeperFault.{KeeperFault};
+ghost use Rattle.hd_journal.specs.Keepers.{IsAdded};
+ghost use Rattle.hd_journal.specs.Openings.{Opening, IsLegalSince};
+ghost use Rattle.hd_journal.specs.declared.fault.KeeperFault.{KeeperFault};
 
+use crate::ask::Ask;
 use crate::fault::KeeperFault;
+use crate::turn::{Turn, TurnRef};
 use hd_catalogue::Catalogue;
-use hd_journal::{Ask, Turn, TurnRef};
 use std::alloc::{AllocError, Allocator};
 use std::sync::Arc;
 

@@ -1,20 +1,11 @@
--- What a keeper's turn adds, and what a hall tells of its faults.
+-- What a keeper's turn adds.
 use Rattle.std.specs.Prelude.{◌≡◌, List, [], ◌∷◌, ◌++◌, length}
 use Rattle.hd_rules.specs.Journal.{Turn}
 use Rattle.hd_journal.specs.Asks.{SeatMessage, turn_with_reply}
 use Rattle.hd_journal.specs.declared.turn.Turn.{Turn as Made}
-use Rattle.hd_hall.specs.declared.fault.HallFault.{HallFault}
-use Rattle.hd_hall.specs.declared.fault.HallFault.TheVariants as hall
-use Rattle.hd_hall.specs.declared.fault.KeeperFault.{KeeperFault}
-use Rattle.hd_hall.specs.declared.fault.KeeperFault.TheVariants as keeper
 
 -- One turn was added, behind all others: what was asked, with the reply that was made. It has the number of
 -- turns that there are then.
 pub record IsAdded (before after : List Turn) (ask : SeatMessage) (made : Made) : Type 0 where
   pub turns : after ≡ before ++ turn_with_reply ask made.reply ∷ []
   pub number : made.at ≡ length after
-
--- the fault of a hall whose keeper has this one
-abbrev pub told_by : KeeperFault → HallFault
-told_by keeper.Memory = hall.Memory
-told_by keeper.Unwritten = hall.Unwritten

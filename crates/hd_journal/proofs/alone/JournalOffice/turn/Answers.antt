@@ -1,5 +1,5 @@
-use Rattle.hd_exchange.proofs.Replying.{reply_fits, reply_known}
-use Rattle.hd_exchange.proofs.journals.JournalOffice.turn.Goals as goal
+use Rattle.hd_journal.proofs.Replying.{reply_fits, reply_known}
+use Rattle.hd_journal.proofs.alone.JournalOffice.turn.Goals as goal
 
 pub returns-clause-reply : goal.returns-clause-reply
 returns-clause-reply g c = reply_fits _ _ _ _ _ c.in_ok-take_copy.ensures.turn c.in_ok-take_copy.ensures.legal

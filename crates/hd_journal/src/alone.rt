@@ -1,0 +1,73 @@
+//! A journal that is used alone: an office, whose seat has number 0, and a keeper.
+use crate::ask::{Ask, OwnedAsk};
+use crate::fault::{KeeperFault, OfficeFault};
+use crate::journal::Journal;
+use crate::keeper::Keeper;
+use crate::numbers::SeatNo;
+use crate::office::Office;
+use crate::turn::{Turn, TurnRef};
+use hd_catalogue::Catalogue;
+use std::alloc::{AllocError, Allocator};
+use std::sync::Arc;
+
+impl<A: Allocator + Copy> Office<A> for Journal<A> {
+    ghost use Rattle.std.specs.Prelude.{◌≡◌, []};
+    ghost use Rattle.hd_journal.specs.Books.{IsLegalBook};
+    ghost use Rattle.hd_journal.specs.declared.fault.OfficeFault.TheVariants.{Memory};
+
+    ghost keeps = { λ journal. record { contents = journal.contents; seat = 0; borrows = [] } };
+
+    ghost turns = { λ journal. journal.turns };
+
+    ghost faults = { λ fault. fault ≡ Memory };
+
+    /// All turns that the journal has come through are legal, and the headline holds of them.
+    ghost holds = { λ journal. IsLegalBook journal.contents journal.turns };
+
+    fn catalogue(&self) -> &Catalogue<A> {
+        self.desk().catalogue()
+    }
+
+    fn seat(&self) -> SeatNo {
+        SeatNo::new(0)
+    }
+
+    #[tactic(auto, using(crate::proofs::Replying::turns_grow))]
+    fn turn(&mut self, ask: &Ask<'_>) -> Result<Turn, OfficeFault> {
+        Ok(self.take_copy(ask)?)
+    }
+}
+
+impl<A: Allocator + Copy> Keeper<A, OwnedAsk<A>> for Journal<A> {
+    ghost use Rattle.std.specs.Prelude.{◌≡◌};
+    ghost use Rattle.hd_journal.specs.Openings.{fresh};
+    ghost use Rattle.hd_journal.specs.declared.fault.KeeperFault.TheVariants as keeper;
+
+    ghost asks = { λ ask. ask };
+
+    ghost opening = { λ journal. fresh journal.contents };
+
+    ghost turns = { λ journal. journal.turns };
+
+    ghost faults = { λ fault. fault ≡ keeper.Memory };
+
+    fn own(alloc: A, ask: &Ask<'_>) -> Result<OwnedAsk<A>, AllocError> {
+        ask.to_owned(alloc)
+    }
+
+    fn catalogue(&self) -> &Arc<Catalogue<A>, A> {
+        self.desk().catalogue()
+    }
+
+    fn front(&self) -> usize {
+        Journal::front(self)
+    }
+
+    fn turn_at(&self, at: usize) -> Option<TurnRef<'_>> {
+        Journal::turn_at(self, at)
+    }
+
+    fn take(&mut self, own: OwnedAsk<A>) -> Result<Turn, KeeperFault> {
+        Ok(Journal::take(self, own)?)
+    }
+}
