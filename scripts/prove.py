@@ -24,8 +24,9 @@ TOP = os.path.dirname(os.path.dirname(os.path.abspath(__file__)))
 TARGET = "x86_64-unknown-linux-gnu"
 # what a crate's proof reads
 PARTS = ["src", "specs", "proofs"]
-# the memory that one crate's proof may take, and how far one that nothing waits for stands back
-GIGABYTES, NICE = 4, 19
+# the memory that one crate's proof may take, how far one that nothing waits for stands back, and how many lines a crate
+# costs that is read for another's proof
+GIGABYTES, NICE, LINES_READ = 4, 19, 50
 
 
 def said_by_rt(word):
@@ -66,12 +67,13 @@ def sums_of(names, uses):
 
 
 def waiting_for(names, uses):
-    """Of each crate the lines of code in the longest chain of crates that wait for it, itself the first. How long a
-    crate's proof takes goes by its code, and hardly by its definitions and proofs."""
+    """Of each crate what the longest chain of crates takes that wait for it, itself the first. How long a crate's proof
+    takes goes by its lines of code and by the crates below it, and hardly by its definitions and proofs."""
     chains = {}
     for name in reversed(names):
         lines = sum(content.count(b"\n") for path, content in contents_of(name) if path.endswith(".rt"))
-        chains[name] = lines + max((chains[above] for above in chains if name in uses[above]), default=0)
+        takes = lines + LINES_READ * len(with_all_below(name, uses, []))
+        chains[name] = takes + max((chains[above] for above in chains if name in uses[above]), default=0)
     return chains
 
 
@@ -123,7 +125,8 @@ def prove(names, uses, room):
     left = sorted((name for name in names if name not in proved), key=chains.get)
     print(f"prove: {len(proved)} of {len(names)} are proved and haven't changed", file=sys.stderr)
     memory = os.sysconf("SC_PAGE_SIZE") * os.sysconf("SC_PHYS_PAGES") / 1e9
-    at_once = max(1, min(cores, int(memory / GIGABYTES)))
+    # a crate's proof reads and writes by one core at a time, so that more of them than cores keep these at work
+    at_once = max(1, min(cores + 2, int(memory / GIGABYTES)))
     with ThreadPoolExecutor(at_once) as pool:
         while left or running:
             ready = [name for name in left if all(use in proved for use in uses[name] if use in uses)]
