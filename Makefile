@@ -6,7 +6,7 @@ PREFIX ?= /usr/local
 # What there is to make.
 help:
 	@echo 'make try        answer the stored messages by a program that is built without proofs (two to four minutes)'
-	@echo 'make run        prove what changed (25 minutes at first), build holddesk, and answer the stored messages'
+	@echo 'make run        prove what changed (25 minutes or more at first), build holddesk, and answer the stored messages'
 	@echo 'make day        after make run: play a stored day through four connections of holddesk serve'
 	@echo 'make hostile    after make run: a day of hostile clients beside one that has to be answered'
 	@echo 'make stops      after make run: 50 times kill -9 of holddesk serve --journal, and nothing is lost'
