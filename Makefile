@@ -1,19 +1,20 @@
 # The commands of the README. All need the Rattle kit's command rt on the path.
-.PHONY: help try run day hostile stops load install uninstall test
+.PHONY: help try run day hostile stops load install uninstall wrong test
 
 PREFIX ?= /usr/local
 
 # What there is to make.
 help:
 	@echo 'make try        answer the stored messages by a program that is built without proofs (two to four minutes)'
-	@echo 'make run        prove what changed (25 minutes or more at first), build holddesk, and answer the stored messages'
-	@echo 'make day        after make run: play a stored day through four connections of holddesk serve'
-	@echo 'make hostile    after make run: a day of hostile clients beside one that has to be answered'
+	@echo 'make run        prove what changed (half an hour or more at first), build holddesk, and answer the stored messages'
+	@echo 'make day        after make run: play stored messages through four connections of holddesk serve'
+	@echo 'make hostile    after make run: hostile clients beside a terminal that has to be answered'
 	@echo 'make stops      after make run: 50 times kill -9 of holddesk serve --journal, and nothing is lost'
 	@echo 'make load       after make run: turns a second beside a server that only echoes (four minutes; rustc)'
 	@echo 'make install    after make run: the program and its manual page, below PREFIX ($(PREFIX)) and DESTDIR'
 	@echo 'make uninstall  take them away again'
-	@echo 'make test       the gate: three days over TCP, all proofs, wrong bodies, tests, stored runs (over an hour at first)'
+	@echo 'make wrong      put wrong bodies in, many in a check, and see that the prover refuses each'
+	@echo 'make test       the gate: serving over TCP, all proofs, wrong bodies, tests, stored runs (over an hour at first)'
 
 STORED = replay --catalogue data/demonstration.catalogue --now '20260301    120000' < stdin
 
@@ -29,9 +30,9 @@ run:
 	@python3 scripts/prove.py
 	@cd crates/holddesk && out/holddesk $(STORED)
 
-# A stored day through four connections of holddesk serve, as make run has built it; its replies are compared.
+# Stored messages through four connections of holddesk serve, as make run has built it; the replies are compared.
 day:
-	@python3 scripts/play_day.py
+	@python3 scripts/serve_smoke.py
 
 # The program, its manual page, and examples of a catalogue file and of a systemd unit.
 install:
@@ -45,14 +46,14 @@ uninstall:
 	rm -f $(DESTDIR)$(PREFIX)/bin/holddesk $(DESTDIR)$(PREFIX)/share/man/man1/holddesk.1
 	rm -rf $(DESTDIR)$(PREFIX)/share/doc/holddesk
 
-# A day of hostile clients against holddesk serve, as make run has built it, beside one that has to be answered; the
-# gate plays it with a program built without proofs.
+# Hostile clients against holddesk serve, as make run has built it, beside a terminal that has to be answered; the gate
+# plays them with a program built without proofs.
 hostile:
-	@python3 scripts/hostile_day.py
+	@python3 scripts/serve_hostile.py
 
 # 50 stops by kill -9 of holddesk serve --journal, as make run has built it; the gate plays 5, without proofs.
 stops:
-	@python3 scripts/stop_day.py
+	@python3 scripts/serve_crash.py
 
 # How fast holddesk serve, as make run has built it, answers beside a server that only echoes: four minutes. Needs rustc
 # and Python 3. LOAD has other words for hd_load compare (bench/out/hd_load --help).
@@ -65,19 +66,32 @@ bench/out/hd_load: $(wildcard bench/*.rs)
 	@mkdir -p bench/out
 	@rustc --edition 2024 -O -o $@ bench/hd_load.rs
 
-# The demonstration library, with room for as many commands as there may be.
-bench/out/demonstration.catalogue: crates/holddesk/data/demonstration.catalogue
+# The demonstration library, with room for as many commands as there may be, and a large one.
+bench/out/demonstration.catalogue: crates/holddesk/data/demonstration.catalogue scripts/make_library.py
 	@mkdir -p bench/out
-	@sed '1s/[0-9]*$$/1000000/' $< > $@
+	@python3 scripts/make_library.py --of $< --out $@
 
 bench/out/large.catalogue: scripts/make_library.py
 	@mkdir -p bench/out
-	@python3 $< --out $@
+	@python3 scripts/make_library.py --out $@
 
-# The gate: a stored day through four connections of the program, a day of hostile clients, and stops by kill -9, built
-# without proofs for them; a seat of one hall at another, which the types refuse; then all proofs, the wrong bodies that
-# must be refused, the tests and the stored runs. What was proved before and hasn't changed isn't proved again.
+# The wrong bodies of crates/*/wrong, each of which the prover has to refuse, and first a test of the script that tries
+# them. Those of crates/*/must-fail are tried by rt ci.
+wrong:
+	@python3 scripts/wrong_bodies.py --self-test
+	@python3 scripts/wrong_bodies.py
+
+# The gate: the picture of the crates; stored messages, hostile clients and stops by kill -9, played against a program
+# that is built without proofs for them; a seat of one hall at another, which the types refuse; the wrong bodies that a
+# script tries, many in a check, over libraries that rt ci proves and keeps; then all proofs, the wrong bodies that stand
+# for a promise, the tests and the stored runs. What was proved before and hasn't changed isn't proved again, and what
+# was refused isn't tried again.
 test:
-	@python3 scripts/days.py
-	@python3 scripts/other_house.py
+	@python3 scripts/draw_house.py --check
+	@folder=$$(mktemp -d) && trap 'rm -rf "$$folder"' EXIT && program=$$(python3 scripts/unproved.py "$$folder") && \
+	  python3 scripts/serve_smoke.py "$$program" && python3 scripts/serve_hostile.py "$$program" && \
+	  python3 scripts/serve_crash.py --rounds 5 "$$program"
+	@python3 scripts/foreign_seat_refused.py
+	@python3 scripts/wrong_bodies.py --self-test
+	@python3 scripts/wrong_bodies.py
 	@rt ci

@@ -1,5 +1,10 @@
 //! hd_load: drives a SIP2 server over TCP and says how fast it answers, beside a server that only echoes.
 //!
+//! It makes its messages (`sip`, `terminal`), judges the replies (`replies`) and reads the catalogue file (`library`)
+//! by code of its own, from docs/protocol.md and docs/catalogue.md, and shares none with holddesk: a loader that had the
+//! server's own code would make the same mistake as the server, and call each reply right. It knows only what terminals
+//! need, and leaves the rest of a file or a reply unread.
+//!
 //! Plain Rust with its standard library alone: `rustc -O bench/hd_load.rs`. `hd_load --help` says how it is used.
 
 mod compare;
@@ -40,7 +45,8 @@ fn run(order: Order) -> Result<(), Failure> {
         }
         Order::Drive { server, connections, plan } => {
             let driven = drive::Ready::open(server, &plan, connections)?.drive()?;
-            println!("{}", report::whole(&driven));
+            print!("{}", report::whole(&driven));
+            println!("{}", report::figures(&driven));
             Ok(())
         }
         Order::Echo(echo) => echo::serve(&echo),

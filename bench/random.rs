@@ -1,4 +1,4 @@
-//! Numbers by chance, the same for the same seed.
+//! Numbers at random, the same for the same seed.
 
 /// The generator SplitMix64.
 pub struct Random(u64);

@@ -27,3 +27,17 @@ pub fn whole(driven: &Driven) -> String {
         driven.replies
     )
 }
+
+/// A run in a line for programs, as an object of JSON.
+pub fn figures(driven: &Driven) -> String {
+    format!(
+        r#"{{"connections": {}, "turns": {}, "seconds": {:.3}, "turns_a_second": {:.1}, "p50_microseconds": {:.1}, "p99_microseconds": {:.1}, "worst_microseconds": {:.1}}}"#,
+        driven.connections,
+        driven.turns(),
+        driven.seconds,
+        driven.turns_a_second(),
+        driven.microseconds(500),
+        driven.microseconds(990),
+        driven.microseconds(1_000)
+    )
+}

@@ -1,4 +1,4 @@
-//! A terminal: what it asks next, by chance and by what it did before.
+//! A terminal: what it asks next, at random and by what it did before.
 
 use crate::library::{Library, Login};
 use crate::random::Random;

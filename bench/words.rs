@@ -17,7 +17,9 @@ pub const HELP: &str = "hd_load: drives a SIP2 server over TCP, and says how fas
   hd_load drive --server ADDRESS --catalogue FILE [options]
       Opens connections to a server that runs, each a terminal that logs in, sends a message, waits for its
       reply, and sends the next, with no pause between. Prints the turns a second, the 50th and 99th
-      percentile and the worst of the times from a message to its reply, and the replies by their kind.
+      percentile and the worst of the times from a message to its reply, and the replies by their kind. The last
+      line has these figures for programs, as an object of JSON: connections, turns, seconds, turns_a_second,
+      p50_microseconds, p99_microseconds, worst_microseconds.
   hd_load echo --listen ADDRESS --workers N [--connections K]
       A server with the threads of holddesk serve (N workers, a bounded channel of accepted connections, pieces
       of at most 512 bytes), which sends each line back. Ends after K connections (0: never).

@@ -1,72 +1,68 @@
+#!/usr/bin/env python3
 """Builds holddesk without any proof, with the checks of rt try, for the scripts that play against it.
 
     python3 scripts/unproved.py FOLDER
 
-leaves the program in the folder, as holddesk. It takes some minutes. rt try keeps no file, so the program is started as
-a server, and copied while it runs. Needs Linux, rt and Python 3.
+leaves the program in the folder, as holddesk, and prints its path. It takes some minutes. Until rt try can keep the
+program that it builds, that is started as a server, and copied while it runs. Needs Linux, rt and Python 3.
 """
 
+import argparse
 import os
 import shlex
 import shutil
+import signal
 import socket
 import subprocess
-import sys
 import time
 
-FOLDER = os.path.join(os.path.dirname(os.path.dirname(os.path.abspath(__file__))), "crates", "holddesk")
-CATALOGUE = os.path.join("data", "demonstration.catalogue")
-SECONDS = 60
-BUILDING = 900  # seconds to build the program without proofs
+from server import CATALOGUE, FOLDER, LOOPBACK, SECONDS, Trouble, connect, reported, serve_words
 
-
-def fail(what):
-    print("unproved:", what, file=sys.stderr)
-    sys.exit(1)
+BUILDING = 1_800  # seconds to build the program without proofs, on a machine that has much else to do
 
 
 def free_port():
     """A port of the loopback that nobody listens on."""
     with socket.socket() as listener:
-        listener.bind(("127.0.0.1", 0))
+        listener.bind((LOOPBACK, 0))
         return listener.getsockname()[1]
 
 
-def listening(server, port):
-    """Waits until the server that is being built listens."""
+def connection_to(server, port):
+    """A connection to the server that is being built, once it listens."""
     end = time.monotonic() + BUILDING
     while time.monotonic() < end and server.poll() is None:
         try:
-            return socket.create_connection(("127.0.0.1", port), SECONDS)
+            return connect(port)
         except OSError:
             time.sleep(0.5)
-    server.kill()
-    fail("it doesn't listen: %r" % (server.communicate(timeout=SECONDS),))
+    server.send_signal(signal.SIGINT)
+    raise Trouble(f"it doesn't listen: {server.communicate(timeout=SECONDS)!r}")
 
 
-
-def listener(port):
+def listener_at(port):
     """The process that listens at a port of the loopback."""
-    wanted = "0100007F:%04X" % port
     with open("/proc/net/tcp", encoding="ascii") as table:
-        sockets = {"socket:[%s]" % row.split()[9] for row in table if row.split()[1] == wanted and row.split()[3] == "0A"}
+        rows = [line.split() for line in table]
+    wanted = (f"0100007F:{port:04X}", "0A")
+    sockets = {f"socket:[{row[9]}]" for row in rows if (row[1], row[3]) == wanted}
     for process in filter(str.isdigit, os.listdir("/proc")):
-        folder = "/proc/%s/fd" % process
+        folder = f"/proc/{process}/fd"
         try:
             if any(os.readlink(os.path.join(folder, it)) in sockets for it in os.listdir(folder)):
                 return process
         except OSError:
             pass  # it has ended, or isn't ours
-    fail("nobody listens at %d" % port)
+    raise Trouble(f"nobody listens at {port}")
 
 
-def kept(words, folder):
-    """The path of a program that does what a running one does, whose words are these up to the command's."""
+def copied(words, folder):
+    """The path of a copy of a running program, whose words these are."""
     *loader, program = words[:words.index("serve")]
     to = os.path.join(folder, "holddesk")
-    shutil.copy(program, to + ".native")
+    shutil.copy(program, f"{to}.native")
     with open(to, "w", encoding="utf-8") as file:
-        file.write("#!/bin/sh\nexec %s \"$@\"\n" % shlex.join([*loader, to + ".native"]))
+        file.write(f'#!/bin/sh\nexec {shlex.join([*loader, f"{to}.native"])} "$@"\n')
     os.chmod(to, 0o755)
     return to
 
@@ -74,21 +70,28 @@ def kept(words, folder):
 def built(folder):
     """The path of the program, which is built into the folder."""
     port = free_port()
+    catalogue = os.path.relpath(CATALOGUE, FOLDER)
     server = subprocess.Popen(
-        ["rt", "try", "--seconds", str(BUILDING), "--", "serve", "--catalogue", CATALOGUE,
-         "--listen", "127.0.0.1:%d" % port, "--workers", "1", "--connections", "1"],
+        ["rt", "try", "--seconds", str(BUILDING), "--",
+         *serve_words("holddesk", catalogue, 1, "--connections", "1", port=port)[1:]],
         cwd=FOLDER, stdin=subprocess.DEVNULL, stdout=subprocess.PIPE, stderr=subprocess.PIPE)
     try:
-        connection = listening(server, port)
-        with open("/proc/%s/cmdline" % listener(port), encoding="utf-8") as file:
-            to = kept(file.read().split("\0"), os.path.abspath(folder))
-        connection.close()
+        with connection_to(server, port), open(f"/proc/{listener_at(port)}/cmdline", encoding="utf-8") as words:
+            to = copied(words.read().split("\0"), os.path.abspath(folder))
         server.communicate(timeout=SECONDS)
     finally:
         if server.poll() is None:
-            server.terminate()
+            server.send_signal(signal.SIGINT)  # rt then ends what it started
+            server.wait(SECONDS)
     return to
 
 
+def main():
+    parser = argparse.ArgumentParser(description=__doc__, usage=argparse.SUPPRESS,
+                                     formatter_class=argparse.RawDescriptionHelpFormatter)
+    parser.add_argument("folder", metavar="FOLDER", help="where the program is to be")
+    print(reported("unproved", built, parser.parse_args().folder))
+
+
 if __name__ == "__main__":
-    print(built(sys.argv[1]))
+    main()

@@ -1,6 +1,5 @@
 -- The least free place of a hold shelf is the desk's.
-use Rattle.std.proofs.Common.{◌≡◌, ◌∙◌, refl, sym, ℕ, ◌<◌, ◌≤◌, Bool, true, false, Option, None, Some}
-use Rattle.std.specs.Prelude.{IsSome}
+use Rattle.std.proofs.Common.{◌≡◌, ◌∙◌, refl, sym, ℕ, ◌<◌, ◌≤◌, Bool, true, false, None, Some}
 use Rattle.std.specs.Ordering.{nat_cmp}
 use Rattle.std.specs.FinMap.{FinMap, get}
 use Rattle.hd_rules.specs.Facts.{Facts}
@@ -10,10 +9,7 @@ use Rattle.hd_rules.specs.Choose.{stands_at}
 use Rattle.hd_rules.specs.Laws.{PlaceIsTheLeastFree}
 use Rattle.hd_shelf.specs.Shelf.{LeastFree}
 use Rattle.hd_allocate.specs.Settling.{IsShelfOf}
-
-some_number : (o : Option ℕ) → IsSome o → (n : ℕ) × (o ≡ Some n)
-some_number None is = absurd (let no : ⊥ = cc in no)
-some_number (Some n) is = (n, refl)
+use Rattle.hd_lemmas.proofs.Options.{some_number}
 
 pub least_is_place : PlaceIsTheLeastFree → (k : Facts) (d : Desk) (b f : ℕ) (copies : FinMap nat_cmp ℕ) → IsShelfOf k d b copies
     → LeastFree copies f → place k d b ≡ f

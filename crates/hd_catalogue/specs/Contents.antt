@@ -6,6 +6,7 @@ use Rattle.std.specs.Option.{option_map_or}
 use Rattle.std.specs.Str.{bytes_eq}
 use Rattle.hd_catalogue.specs.Names.{facts_at, name_at, number_of}
 use Rattle.hd_rules.specs.Facts.{AreInRange, Facts}
+use Rattle.hd_rules.specs.Desk.{at_home}
 use Rattle.hd_catalogue.specs.declared.facts.Settings.{Settings}
 use Rattle.hd_catalogue.specs.declared.facts.BranchFacts.{BranchFacts}
 use Rattle.hd_catalogue.specs.declared.facts.PatronFacts.{PatronFacts}
@@ -54,6 +55,7 @@ facts_of k = record {
   loan_limit = fact_of (λ patron. patron.loan_limit) 0 k.patrons;
   priority = fact_of (λ title. title.local_priority) false k.titles;
   command_limit = k.settings.command_limit;
+  opening = record { desk = at_home (fact_of (λ copy. copy.home) 0 k.copies); last = 0 };
 }
 
 -- the branch of a terminal

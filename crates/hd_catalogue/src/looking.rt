@@ -29,12 +29,20 @@ impl<A: Allocator + Copy> Catalogue<A> {
         self.settings.offset
     }
 
-    /// The last number that a command can have.
+    /// How many numbers can be given to commands.
     pub fn command_limit(&self) -> u64
         ensures limit { result ≡ (facts_of self.now).command_limit }
         ensures facts { AreInRange (facts_of self.now) }
     {
         self.settings.command_limit
+    }
+
+    /// The last number that was given before the catalogue's journal begins: 0, since each journal is its
+    /// library's first.
+    pub fn last_before(&self) -> u32
+        ensures { result ≡ (facts_of self.now).opening.last }
+    {
+        0
     }
 
     /// How many branches there are.

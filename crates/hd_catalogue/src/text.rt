@@ -94,10 +94,8 @@ pub(crate) fn offset(bytes: &[u8]) -> Option<OffsetMinutes>
             _ => None,
         }
     } else {
-        match number(1439, bytes) {
-            Some(minutes) => OffsetMinutes::new(minutes as i16),
-            None => None,
-        }
+        let minutes = number(1439, bytes)?;
+        OffsetMinutes::new(minutes as i16)
     }
 }
 

@@ -11,13 +11,13 @@ use Rattle.hd_rules.specs.declared.commands.Action.{Action}
 use Rattle.hd_rules.specs.declared.commands.Action.TheVariants as action
 use Rattle.hd_rules.specs.declared.commands.Command.{Command}
 use Rattle.hd_rules.specs.declared.commands.Survivor.{Survivor}
-use Rattle.hd_rules.specs.Facts.{Facts}
-use Rattle.hd_rules.specs.Desk.{Desk, opening}
+use Rattle.hd_rules.specs.Facts.{Facts, first_number}
+use Rattle.hd_rules.specs.Desk.{Desk}
 use Rattle.hd_rules.specs.Ask.{asks}
 use Rattle.hd_rules.specs.Step.{plan}
 use Rattle.hd_rules.specs.Run.{IsAmong, Rising, step}
 use Rattle.hd_rules.specs.Record.{Record, IsRecordAt, findings}
-use Rattle.hd_rules.specs.Sound.{Has, Tie, Sound}
+use Rattle.hd_rules.specs.Sound.{Has, Tie, Sound, MayOpen}
 use Rattle.hd_clash.specs.declared.key.Key.{Key}
 use Rattle.hd_clash.specs.Clash.{some_clash, first_clash}
 use Rattle.hd_clash.specs.Shift.{shift_each, shift_record, shift_records}
@@ -30,13 +30,11 @@ use Rattle.hd_clash.specs.Rules.{Rules}
 use Rattle.hd_clash.proofs.Asking.{OfCopy, OfTitle, OfItsCopy, OfAction, asked_of}
 use Rattle.hd_clash.proofs.Untouched.{untouched}
 use Rattle.hd_clash.proofs.Walk.{sound_on}
+use Rattle.hd_lemmas.proofs.Tests.{number_self}
 
 -- the question has its key among an action's
 abbrev Under : Facts → Action → Question → Type 0
 Under k act q = has_key (keys_of_action k act) (key_of k q) ≡ true
-
-same : (n : ℕ) → (n == n) ≡ true
-same n = eq-eqb n n refl
 
 of_copy : (k : Facts) (act : Action) (c : ℕ) → (keys_of_action k act).title ≡ k.title_of c → OfCopy (Under k act) k c
 of_copy k act c is = record { value = here; choice = λ b day. here; hold = λ p. here }
@@ -57,9 +55,9 @@ of_its_copy k d p t tie h c is has =
     of_copy k (action.Delete p t) c (sym (tie.tied t p c h.pickup at).0)
 
 of_action : (k : Facts) (d : Desk) (act : Action) → Tie k d → OfAction (Under k act) k d act
-of_action k d (action.Checkout p c may_renew) tie = (of_copy k (action.Checkout p c may_renew) c refl, same p)
+of_action k d (action.Checkout p c may_renew) tie = (of_copy k (action.Checkout p c may_renew) c refl, number_self p)
 of_action k d (action.OffLine p c due) tie = of_copy k (action.OffLine p c due) c refl
-of_action k d (action.Checkin c b) tie = (of_copy k (action.Checkin c b) c refl, same b)
+of_action k d (action.Checkin c b) tie = (of_copy k (action.Checkin c b) c refl, number_self b)
 of_action k d (action.Add p t kind pickup expiry) tie = of_title k (action.Add p t kind pickup expiry) t refl
 of_action k d (action.Delete p t) tie = (of_title k (action.Delete p t) t refl, of_its_copy k d p t tie)
 of_action k d (action.ChangeHold p t kind pickup expiry) tie = of_title k (action.ChangeHold p t kind pickup expiry) t refl
@@ -94,9 +92,10 @@ records_about rules k d n (s ∷ ss) (r ∷ rs) sound rising are = (
   records_about rules k (step k d s) (s.number + 1) ss rs (sound_on rules k n d s rising.0 sound) rising.1 are.1,
 )
 
-pub all_records_about : Rules → (k : Facts) (ss : List Survivor) (rs : List Record) → Rising 1 ss → AreRecords k (opening k) ss rs
+pub all_records_about : Rules → (k : Facts) (ss : List Survivor) (rs : List Record) → MayOpen k → Rising (first_number k) ss
+    → AreRecords k k.opening.desk ss rs
     → EachIsAbout k rs
-all_records_about rules k ss rs rising are = records_about rules k (opening k) 1 ss rs (rules.commands.runs k 1 [] tt) rising are
+all_records_about rules k ss rs may rising are = records_about rules k k.opening.desk (first_number k) ss rs may rising are
 
 -- shifting keeps the questions
 shifted_about : (P : Question → Type 0) (k : Facts) (cs : List Change) (fs : List Finding)

@@ -15,7 +15,7 @@ use Rattle.hd_rules.specs.declared.commands.Action.TheVariants as action
 use Rattle.hd_rules.specs.declared.commands.Command.{Command}
 use Rattle.hd_rules.specs.declared.replies.Refusal.{Refusal}
 use Rattle.hd_rules.specs.declared.replies.Reply.{Reply}
-use Rattle.hd_rules.specs.Facts.{Facts}
+use Rattle.hd_rules.specs.Facts.{Facts, last_number}
 use Rattle.hd_rules.specs.Desk.{Desk}
 use Rattle.hd_rules.specs.Choose.{has_expired}
 use Rattle.hd_rules.specs.Ask.{Plan, Ask, Refuse, Accept, AnswerTo, answer, asks}
@@ -72,7 +72,7 @@ either P k d true x y h g = h
 either P k d false x y h g = g
 
 accepted : (P : Question → Type 0) (k : Facts) (d : Desk) (n : ℕ) (cs : List Change) (r : Reply) → Asked P k d (accept k n cs r)
-accepted P k d n cs r = either P k d (nat_lt k.command_limit n) _ _ refused (record { all = tt })
+accepted P k d n cs r = either P k d (nat_lt (last_number k) n) _ _ refused (record { all = tt })
 
 -- checkouts and renewals
 lend_asks : (P : Question → Type 0) (k : Facts) (d : Desk) (p c day : ℕ) (rest : Plan) → P (Room p) → Asked P k d rest

@@ -1,9 +1,5 @@
 -- Desks that differ by some changes go on to do so where a command is answered alike at both.
-use Rattle.std.proofs.Common.{◌≡◌, refl, sym, ◌∙◌, ap, subst, Bool, true, false, cond, ◌==◌, ◌&&◌, List, [], ◌∷◌, inl, inr, Result, Ok, Err}
-use Rattle.hd_rules.specs.declared.cells.Cell.{Cell}
-use Rattle.hd_rules.specs.declared.cells.Cell.TheVariants.{Copy as CopyCell, Hold as HoldCell}
-use Rattle.hd_rules.specs.declared.cells.Value.{Value}
-use Rattle.hd_rules.specs.declared.cells.Value.TheVariants.{Copy as CopyHas, Hold as HoldHas}
+use Rattle.std.proofs.Common.{◌≡◌, refl, sym, ◌∙◌, ap, subst, Bool, true, false, List, [], ◌∷◌, inl, inr, Result, Ok, Err}
 use Rattle.hd_rules.specs.declared.cells.Change.{Change}
 use Rattle.hd_rules.specs.declared.commands.Survivor.{Survivor}
 use Rattle.hd_rules.specs.declared.replies.Refusal.{Refusal}
@@ -15,24 +11,7 @@ use Rattle.hd_rules.specs.Run.{IsAmong, outcome_of, changed_by, step, AreChanges
 use Rattle.hd_rules.specs.Depends.{AnsweredAlike}
 use Rattle.hd_rules.specs.Differ.{DifferAt, DifferAtEach, DifferBy}
 use Rattle.hd_clash.specs.Rules.{Rules}
-use Rattle.hd_clash.proofs.Cells.{copy_is, hold_is, put_elsewhere, put_same, same_cell_is, same_cell_self}
-
--- a cell that is the same at two desks stays so where both are written alike
-put_alike : (d e : Desk) (x : Cell) (v : Value) (y : Cell) → value d y ≡ value e y → value (put d x v) y ≡ value (put e x v) y
-put_alike d e (CopyCell c) (CopyHas s) (CopyCell x) same = ap (λ w. CopyHas (cond (c == x) s w)) (copy_is _ _ same)
-put_alike d e (CopyCell c) (CopyHas s) (HoldCell u q) same = same
-put_alike d e (CopyCell c) (HoldHas o) y same = same
-put_alike d e (HoldCell t p) (HoldHas o) (HoldCell u q) same = ap (λ w. HoldHas (cond ((t == u) && (p == q)) o w)) (hold_is _ _ same)
-put_alike d e (HoldCell t p) (HoldHas o) (CopyCell x) same = same
-put_alike d e (HoldCell t p) (CopyHas s) y same = same
-
-after_alike : (gs : List Change) (d e : Desk) (y : Cell) → value d y ≡ value e y → value (after gs d) y ≡ value (after gs e) y
-after_alike [] d e y same = same
-after_alike (g ∷ gs) d e y same = after_alike gs (put d g.cell g.new) (put e g.cell g.new) y (put_alike d e g.cell g.new y same)
-
-after_elsewhere : (gs : List Change) (d : Desk) (y : Cell) → Elsewhere y gs → value (after gs d) y ≡ value d y
-after_elsewhere [] d y apart = refl
-after_elsewhere (g ∷ gs) d y apart = after_elsewhere gs (put d g.cell g.new) y apart.1 ∙ put_elsewhere d g.cell g.new y apart.0
+use Rattle.hd_lemmas.proofs.Rules.{put_same, same_cell_is, same_cell_refl, after_alike, after_elsewhere}
 
 -- each of these changes is of a cell that is the same at both desks
 abbrev AreAlike : Desk → Desk → List Change → Type 0
@@ -77,7 +56,7 @@ each_made : (d e : Desk) (cs : List Change) → AreChanges cs → ((c : Change) 
 each_made d e [] are old = tt
 each_made d e (c ∷ cs) are old = (
   record {
-    new = after_elsewhere cs (put d c.cell c.new) c.cell are.2 ∙ put_same d c.cell c.new c.cell are.1 (same_cell_self c.cell);
+    new = after_elsewhere cs (put d c.cell c.new) c.cell are.2 ∙ put_same d c.cell c.new c.cell are.1 (same_cell_refl c.cell);
     old = old c (inl refl);
     differ = are.0;
   },

@@ -6,13 +6,13 @@ use Rattle.hd_rules.specs.declared.questions.Question.{Question}
 use Rattle.hd_rules.specs.declared.questions.Finding.{Finding}
 use Rattle.hd_rules.specs.declared.commands.Command.{Command}
 use Rattle.hd_rules.specs.declared.commands.Survivor.{Survivor}
-use Rattle.hd_rules.specs.Facts.{Facts}
-use Rattle.hd_rules.specs.Desk.{Desk, opening}
+use Rattle.hd_rules.specs.Facts.{Facts, first_number}
+use Rattle.hd_rules.specs.Desk.{Desk}
 use Rattle.hd_rules.specs.Ask.{asks}
 use Rattle.hd_rules.specs.Step.{plan}
 use Rattle.hd_rules.specs.Run.{IsAmong, Rising}
 use Rattle.hd_rules.specs.Record.{Record}
-use Rattle.hd_rules.specs.Sound.{Tie, Sound}
+use Rattle.hd_rules.specs.Sound.{Tie, Sound, MayOpen}
 use Rattle.hd_clash.specs.Clash.{some_clash, first_clash}
 use Rattle.hd_clash.specs.Shift.{shift_record, shift_records}
 use Rattle.hd_clash.specs.Keys.{key_of, keys_of}
@@ -46,7 +46,8 @@ RecordsAreAboutTheirCommands =
 -- and those of a legal run from the opening desk on
 abbrev pub AllRecordsAreAboutTheirCommands : Type 0
 AllRecordsAreAboutTheirCommands =
-    (k : Facts) (ss : List Survivor) (rs : List Record) → Rising 1 ss → AreRecords k (opening k) ss rs →
+    (k : Facts) (ss : List Survivor) (rs : List Record) → MayOpen k → Rising (first_number k) ss →
+    AreRecords k k.opening.desk ss rs →
     EachIsAbout k rs
 
 -- shifting keeps it

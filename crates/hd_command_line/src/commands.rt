@@ -1,5 +1,6 @@
 //! The program's commands.
 
+use crate::building::Building;
 use crate::journal_texts::{
     JOURNAL_ABOUT, JOURNAL_CHECK, JOURNAL_CHECK_ABOUT, JOURNAL_CHECK_EXAMPLE, JOURNAL_VIEWS,
     JOURNAL_VIEWS_ABOUT, JOURNAL_VIEWS_EXAMPLE,
@@ -15,51 +16,57 @@ use clap::Command;
 use std::alloc::{AllocError, Global};
 
 /// The program with its commands.
-pub(crate) fn program<'a>(alloc: Global) -> Result<Command<'a>, AllocError> {
-    Command::new(alloc, "holddesk")
+pub(crate) fn program<'a>(alloc: Global) -> Result<Building<'a>, AllocError> {
+    let program = Command::new(alloc, "holddesk")
         .about(ABOUT)
         .version(VERSION)
         .subcommand_required(true)
-        .arg_required_else_help(true)
+        .arg_required_else_help(true);
+    Building::of(program)
         .subcommand(check_command(alloc)?)?
         .subcommand(replay_command(alloc)?)?
         .subcommand(serve_command(alloc)?)?
         .subcommand(journal_command(alloc)?)
 }
 
+/// A command with its texts: what it does in a line, what it does, and an example.
+fn command<'a>(
+    alloc: Global,
+    name: &'a str,
+    about: &'a str,
+    long_about: &'a str,
+    example: &'a str,
+) -> Building<'a> {
+    let command = Command::new(alloc, name)
+        .about(about)
+        .long_about(long_about)
+        .after_help(example);
+    Building::of(command)
+}
+
 /// The words of `check`.
-fn check_command<'a>(alloc: Global) -> Result<Command<'a>, AllocError> {
-    Command::new(alloc, "check")
-        .about(CHECK_ABOUT)
-        .long_about(CHECK)
-        .after_help(CHECK_EXAMPLE)
-        .arg(catalogue(alloc))
+fn check_command<'a>(alloc: Global) -> Result<Building<'a>, AllocError> {
+    command(alloc, "check", CHECK_ABOUT, CHECK, CHECK_EXAMPLE).arg(catalogue(alloc))
 }
 
 /// The words of `replay`.
-fn replay_command<'a>(alloc: Global) -> Result<Command<'a>, AllocError> {
-    Command::new(alloc, "replay")
-        .about(REPLAY_ABOUT)
-        .long_about(REPLAY)
-        .after_help(REPLAY_EXAMPLE)
+fn replay_command<'a>(alloc: Global) -> Result<Building<'a>, AllocError> {
+    command(alloc, "replay", REPLAY_ABOUT, REPLAY, REPLAY_EXAMPLE)
         .arg(catalogue(alloc))?
         .arg(now(alloc))
 }
 
 /// The words of `serve`.
-fn serve_command<'a>(alloc: Global) -> Result<Command<'a>, AllocError> {
-    let serve = Command::new(alloc, "serve")
-        .about(SERVE_ABOUT)
-        .long_about(SERVE)
-        .after_help(SERVE_EXAMPLE);
+fn serve_command<'a>(alloc: Global) -> Result<Building<'a>, AllocError> {
+    let serve = command(alloc, "serve", SERVE_ABOUT, SERVE, SERVE_EXAMPLE);
     with_journal_options(alloc, with_service_options(alloc, serve)?)
 }
 
 /// The command with the options of whom it serves, and how.
 fn with_service_options<'a>(
     alloc: Global,
-    command: Command<'a>,
-) -> Result<Command<'a>, AllocError> {
+    command: Building<'a>,
+) -> Result<Building<'a>, AllocError> {
     command
         .arg(catalogue(alloc))?
         .arg(listen(alloc))?
@@ -71,8 +78,8 @@ fn with_service_options<'a>(
 /// The command with the options of a journal that is kept in a file.
 fn with_journal_options<'a>(
     alloc: Global,
-    command: Command<'a>,
-) -> Result<Command<'a>, AllocError> {
+    command: Building<'a>,
+) -> Result<Building<'a>, AllocError> {
     command
         .arg(journal(alloc))?
         .arg(wary(alloc)?)?
@@ -80,30 +87,37 @@ fn with_journal_options<'a>(
 }
 
 /// The words of `journal`.
-fn journal_command<'a>(alloc: Global) -> Result<Command<'a>, AllocError> {
-    Command::new(alloc, "journal")
+fn journal_command<'a>(alloc: Global) -> Result<Building<'a>, AllocError> {
+    let journal = Command::new(alloc, "journal")
         .about(JOURNAL_ABOUT)
         .subcommand_required(true)
-        .arg_required_else_help(true)
+        .arg_required_else_help(true);
+    Building::of(journal)
         .subcommand(journal_check_command(alloc)?)?
         .subcommand(journal_views_command(alloc))
 }
 
 /// The words of `journal check`.
-fn journal_check_command<'a>(alloc: Global) -> Result<Command<'a>, AllocError> {
-    Command::new(alloc, "check")
-        .about(JOURNAL_CHECK_ABOUT)
-        .long_about(JOURNAL_CHECK)
-        .after_help(JOURNAL_CHECK_EXAMPLE)
-        .arg(catalogue(alloc))?
-        .arg(journal(alloc).required(true))?
-        .arg(accept_catalogue(alloc))
+fn journal_check_command<'a>(alloc: Global) -> Result<Building<'a>, AllocError> {
+    command(
+        alloc,
+        "check",
+        JOURNAL_CHECK_ABOUT,
+        JOURNAL_CHECK,
+        JOURNAL_CHECK_EXAMPLE,
+    )
+    .arg(catalogue(alloc))?
+    .arg(journal(alloc).required(true))?
+    .arg(accept_catalogue(alloc))
 }
 
 /// The words of `journal views`.
-fn journal_views_command<'a>(alloc: Global) -> Command<'a> {
-    Command::new(alloc, "views")
-        .about(JOURNAL_VIEWS_ABOUT)
-        .long_about(JOURNAL_VIEWS)
-        .after_help(JOURNAL_VIEWS_EXAMPLE)
+fn journal_views_command<'a>(alloc: Global) -> Building<'a> {
+    command(
+        alloc,
+        "views",
+        JOURNAL_VIEWS_ABOUT,
+        JOURNAL_VIEWS,
+        JOURNAL_VIEWS_EXAMPLE,
+    )
 }

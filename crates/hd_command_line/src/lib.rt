@@ -1,6 +1,7 @@
 //! The words of the command line: what `holddesk` may be asked, its help, and what it was asked.
 #![tactic(auto)]
 
+mod building;
 mod commands;
 mod journal_texts;
 mod options;

@@ -9,7 +9,8 @@ use std::alloc::Global;
 ///
 /// An error is a mistake in the words, or the text of a help that was asked for.
 pub fn parse<'a>(alloc: Global, words: &'a [String]) -> Result<Order<'a>, Error> {
-    let matches = program(alloc)?.try_get_matches_from(words)?;
+    let program = program(alloc)?.into_command();
+    let matches = program.try_get_matches_from(words)?;
     Ok(order_of(&matches))
 }
 

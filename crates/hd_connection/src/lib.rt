@@ -5,8 +5,6 @@
 mod fallible;
 mod input;
 mod output;
-#[cfg(test)]
-mod tests;
 
 pub use crate::fallible::Fallible;
 pub use crate::input::{Input, ReadFailed, read_patiently};

@@ -1,7 +1,6 @@
 -- The answers of the indexes are those of the rules.
 use Rattle.std.proofs.Common.{◌≡◌, ◌≢◌, ℕ, ◌<◌, ◌≤◌, ◌==◌, ◌&&◌, Bool, true, false, nat_lt, Option, None, Some, List, get_or, refl, ap, sym}
 use Rattle.std.proofs.Common.{◌∙◌, inl, inr, arith, eq-eqb}
-use Rattle.std.specs.Prelude.{IsSome}
 use mir.Val.{bool_byte}
 use Rattle.std.proofs.lemmas.Bool.{cases_lt, ne_eqb}
 use Rattle.std.proofs.lemmas.Bool.Decides.{nat_tests}
@@ -27,6 +26,7 @@ use Rattle.hd_copies.specs.Keeping.{AreKept}
 use Rattle.hd_copies.proofs.Moving.{found_in}
 use Rattle.hd_copies.proofs.Indexed.{placed_in}
 use Rattle.hd_copies.proofs.Counting.{is_counted}
+use Rattle.hd_lemmas.proofs.Options.{some_number}
 
 lent : (p : ℕ) (v : CopyState) → is_loan_to p (loan_of (Some v)) ≡ is_lent_to p v
 lent p (OnLoan l) = refl
@@ -89,10 +89,6 @@ one-is k d f t c pickup e = ap (λ (g : ℕ → CopyState). one (stands_ready k 
   where
     test : ℕ → Bool
     test x = ((k.title_of x) == t) && ((c == x) && is_on_shelf (d.copy x))
-
-some_number : (o : Option ℕ) → IsSome o → (n : ℕ) × (o ≡ Some n)
-some_number None is = absurd (let no : ⊥ = cc in no)
-some_number (Some n) is = (n, refl)
 
 -- the least free place
 pub least-is : PlaceIsTheLeastFree → (k : Facts) (states : List CopyState) (x : IndexesValue) (d : Desk) (b f : ℕ) →

@@ -3,7 +3,7 @@ use Rattle.std.proofs.Common.{◌≡◌, ℕ, ◌<◌, ◌≤◌, ◌==◌, ◌&
 use Rattle.std.proofs.Common.{arith, eq-eqb, inl, inr}
 use Rattle.std.proofs.Math.ListN.{set, get_or-map}
 use Rattle.std.proofs.lemmas.List.{get_or_default, map-set, set-get_or}
-use Rattle.std.proofs.lemmas.Bool.{and_parts, cases_lt, eqb-true, eqb-false}
+use Rattle.std.proofs.lemmas.Bool.{cases_lt, eqb-true, eqb-false}
 use Rattle.std.proofs.lemmas.Option.{slice_get_past}
 use Rattle.std.specs.List.{slice_get}
 use Rattle.std.specs.FinMap.{get, insert, remove}
@@ -30,6 +30,8 @@ use Rattle.hd_copies.specs.Indexing.{no_shelf, rooms_in, transit_of}
 use Rattle.hd_copies.proofs.Moving.{Moves, alike, but_here, but_there, found_in, map-in, map-out, state_at}
 use Rattle.hd_copies.proofs.Shelves.{shelves-alike, shelves-in, shelves-out}
 use Rattle.hd_copies.proofs.Counting.{is_counted, stock-alike, stock-in, stock-out}
+use Rattle.hd_lemmas.proofs.Options.{no_number}
+use Rattle.hd_lemmas.proofs.Rules.{held_at}
 
 loans-alike : (k : Facts) (f g : ℕ → Option CopyState) (loans : LoansValue) → ((c : ℕ) → loan_of (g c) ≡ loan_of (f c)) →
     AreLoans k f loans → AreLoans k g loans
@@ -196,10 +198,6 @@ pub shelf_at : (shelves : List PlacesValue) (i b : ℕ) (s : PlacesValue) → i 
     s ≡ get_or shelves b no_shelf
 shelf_at shelves i b s at l is = is ∙ ap (λ (j : ℕ). get_or shelves j s) at ∙ get_or_default shelves b s no_shelf l
 
-none_or_some : (o : Option ℕ) → ((n : ℕ) → o ≡ Some n → ⊥) → o ≡ None
-none_or_some None never = refl
-none_or_some (Some n) never = absurd (never n refl)
-
 -- a copy that is nowhere stands at no place
 pub nowhere_on : (k : Facts) (f : ℕ → Option CopyState) (shelves : List PlacesValue) (c b p : ℕ) → AreShelves k f shelves → f c ≡ None →
     copy_at shelves b p ≡ Some c → ⊥
@@ -217,13 +215,6 @@ placed_in k states n b p fit there = elim (cases_lt n (length states)) [
       let no : true ≡ false = sym there ∙ off in let none : ⊥ = cc in none)
 ]
 
--- and there it stands on a hold shelf
-pub held_at : (b p : ℕ) (v : CopyState) → stands_at b p v ≡ true → (r : HoldPlace) × (v ≡ OnHoldShelf r) × (r.branch ≡ b) × (r.place ≡ p)
-held_at b p (OnHoldShelf r) is = (r, refl, eqb-true r.branch b (and_parts _ _ is).0, eqb-true r.place p (and_parts _ _ is).1)
-held_at b p (Shelf x) is = absurd (let no : ⊥ = cc in no)
-held_at b p (OnLoan l) is = absurd (let no : ⊥ = cc in no)
-held_at b p (InTransit t) is = absurd (let no : ⊥ = cc in no)
-
 -- two copies with one place are one
 same_place : (k : Facts) (states : List CopyState) (n c : ℕ) (w : HoldPlace) → AreStates k states → c < k.copies →
     state_in states c ≡ OnHoldShelf w → is_placed w.branch w.place (slice_get states n) ≡ true → n ≡ c
@@ -236,7 +227,7 @@ same_place k states n c w fit l at there =
 pub free_for : (k : Facts) (states : List CopyState) (shelves : List PlacesValue) (c : ℕ) (w : HoldPlace) →
     AreShelves k (all_but c (slice_get states)) shelves → AreStates k states → c < k.copies → slice_get states c ≡ Some (OnHoldShelf w) →
     copy_at shelves w.branch w.place ≡ None
-free_for k states shelves c w are fit l at = none_or_some (copy_at shelves w.branch w.place) taken
+free_for k states shelves c w are fit l at = no_number (copy_at shelves w.branch w.place) taken
   where
     taken : (n : ℕ) → copy_at shelves w.branch w.place ≡ Some n → ⊥
     taken n some = by_test (n == c) refl

@@ -1,9 +1,10 @@
 -- The indexes while each copy stands at home.
-use Rattle.std.proofs.Common.{◌≡◌, ℕ, zero, suc, ◌+◌, ◌<◌, ◌≤◌, ◌==◌, ◌&&◌, Bool, true, false, cond, nat_lt, Option, None, Some, List, []}
+use Rattle.std.proofs.Common.{◌≡◌, ℕ, zero, suc, ◌+◌, ◌<◌, ◌==◌, ◌&&◌, Bool, true, false, cond, nat_lt, Option, None, Some, List, []}
 use Rattle.std.proofs.Common.{◌∷◌, ◌++◌, length, refl, ap, sym, ◌∙◌, add-one, arith}
 use Rattle.std.proofs.lemmas.Bool.Decides.{nat_tests}
 use Rattle.std.specs.Ordering.{nat_cmp}
 use Rattle.std.specs.FinMap.{FinMap, get, empty, get-empty}
+use Rattle.std.proofs.Math.Bool.{and-true}
 use Rattle.hd_rules.specs.declared.copies.Loan.{Loan}
 use Rattle.hd_rules.specs.declared.copies.Transit.{Transit}
 use Rattle.hd_rules.specs.declared.copies.CopyState.{CopyState}
@@ -79,10 +80,6 @@ pub count-next : (test : ℕ → Bool) (n count next : ℕ) (b : Bool) → b ≡
     next ≡ count_below test (n + 1)
 count-next test n count next b e is more = rw (add-one n) (let at : one b ≡ one (test n) = ap one e in omega (arith, at, is, more))
 
-and_all : (a : Bool) → (a && true) ≡ a
-and_all true = refl
-and_all false = refl
-
 and_both : (a b : Bool) → (a && (b && true)) ≡ (a && b)
 and_both true true = refl
 and_both true false = refl
@@ -96,7 +93,7 @@ pub stock-home : (k : Facts) (stock : StockValue) (n : ℕ) → n ≡ k.copies �
 stock-home k stock n all titles homes entries = record {
   title = λ t pickup. titles t ∙ ap (count_below (λ c. (k.title_of c) == t)) all
       ∙ sym (count_below-same (λ c. (k.title_of c) == t) (is_counted k (each_at_home k) t Any pickup) k.copies
-      (λ c l. ap (λ (o : Option CopyState). ((k.title_of c) == t) && is_on_open_shelf o) (at_home k c l) ∙ and_all ((k.title_of c) == t)));
+      (λ c l. ap (λ (o : Option CopyState). ((k.title_of c) == t) && is_on_open_shelf o) (at_home k c l) ∙ and-true ((k.title_of c) == t)));
   home = λ t b. homes t b ∙ ap (count_below (λ c. ((k.title_of c) == t) && ((k.home c) == b))) all
       ∙ sym (count_below-same (λ c. ((k.title_of c) == t) && ((k.home c) == b)) (is_counted k (each_at_home k) t AtBranch b) k.copies
       (λ c l. ap (λ (o : Option CopyState). ((k.title_of c) == t) && (((k.home c) == b) && is_on_open_shelf o)) (at_home k c l)

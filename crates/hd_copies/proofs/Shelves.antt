@@ -1,6 +1,6 @@
 -- A copy leaves a hold shelf, and comes to one.
 use Rattle.std.proofs.Common.{◌≡◌, ℕ, ◌<◌, ◌==◌, ◌&&◌, Bool, true, false, cond, Option, None, Some, List, length, refl, ap, sym, ◌∙◌, inl}
-use Rattle.std.proofs.Common.{inr, arith, get_or, eq-eqb}
+use Rattle.std.proofs.Common.{inr, arith, get_or}
 use Rattle.std.proofs.Math.ListN.{set, length-set}
 use Rattle.std.proofs.lemmas.Bool.{and_parts, eqb-true, eqb-false, cases_Bool}
 use Rattle.std.proofs.lemmas.Option.{same_Some}
@@ -16,6 +16,7 @@ use Rattle.hd_rules.specs.Facts.{Facts}
 use Rattle.hd_shelf.specs.PlacesValue.{PlacesValue}
 use Rattle.hd_copies.specs.Indexing.{AreShelves, copy_at, is_placed, no_shelf}
 use Rattle.hd_copies.proofs.Moving.{Moves}
+use Rattle.hd_lemmas.proofs.Tests.{turned}
 
 -- this place of this branch
 abbrev pub is_there : ℕ → ℕ → ℕ → ℕ → Bool
@@ -30,16 +31,6 @@ copy_at-set : (shelves : List PlacesValue) (i : ℕ) (s : PlacesValue) (b p : �
 copy_at-set shelves i s b p l = elim (cases_Bool (i == b)) [
   | inl e ↦ rw e (ap (λ (x : PlacesValue). get x.copies p) (get_or-set_at shelves i b s no_shelf (sym (eqb-true i b e)) l))
   | inr e ↦ rw e (ap (λ (x : PlacesValue). get x.copies p) (get_or-set_other shelves i b s no_shelf (λ same. eqb-false i b e (sym same))))
-]
-
--- a test of numbers, from the other side
-turned : (m n : ℕ) → (m == n) ≡ (n == m)
-turned m n = elim (cases_Bool (m == n)) [
-  | inl is ↦ is ∙ sym (eq-eqb n m (sym (eqb-true m n is)))
-  | inr not_is ↦ elim (cases_Bool (n == m)) [
-    | inl is ↦ absurd (eqb-false m n not_is (sym (eqb-true n m is)))
-    | inr other ↦ not_is ∙ sym other
-  ]
 ]
 
 -- a place is freed

@@ -1,8 +1,8 @@
 -- The states of copies, before and after one copy goes somewhere else.
-use Rattle.std.proofs.Common.{◌≡◌, ℕ, ◌<◌, ◌≤◌, ◌==◌, true, false, cond, nat_lt, List, None, Some, length, get_or, refl, ap, sym, ◌∙◌}
+use Rattle.std.proofs.Common.{◌≡◌, ℕ, ◌<◌, ◌≤◌, ◌==◌, true, false, cond, nat_lt, List, Some, length, get_or, refl, ap, sym, ◌∙◌}
 use Rattle.std.proofs.Common.{subst, inl, inr, arith, eq-eqb}
 use Rattle.std.proofs.Math.ListN.{set, length-set}
-use Rattle.std.proofs.lemmas.Bool.{and_from, eqb-true, eqb-false, cases_Bool, cases_lt, cond_both}
+use Rattle.std.proofs.lemmas.Bool.{and_from, eqb-true, eqb-false, cases_Bool, cases_lt, cond_both, le-ltb}
 use Rattle.std.proofs.lemmas.List.{get_or-set_same, get_or-set_other, get_or_past}
 use Rattle.std.proofs.lemmas.Option.{slice_get-get_or, slice_get_past}
 use Rattle.std.proofs.lemmas.Bool.Decides.{nat_tests}
@@ -120,13 +120,6 @@ states-home k states range home = record {
   };
 }
 
--- a number that isn't less
-nat_lt-not : (m n : ℕ) → n ≤ m → nat_lt m n ≡ false
-nat_lt-not m n l = elim (cases_Bool (nat_lt m n)) [
-  | inl less ↦ absurd (grind (arith, nat_tests, less))
-  | inr more ↦ more
-]
-
 -- the list has what each copy at home has
 pub found-home : (k : Facts) (states : List CopyState) → AreAtHome k states → slice_get states ≡ each_at_home k
 found-home k states home = λ i. λ c. each c i
@@ -136,6 +129,6 @@ found-home k states home = λ i. λ c. each c i
       | inl below ↦ (let lt : nat_lt c k.copies ≡ true = grind (arith, nat_tests) in
           slice_get-get_or states c (Shelf 0) (omega (arith, home.copies)) ∙ ap (λ (s : CopyState). Some s) (home.home c below)
           ∙ sym (rw lt refl))
-      | inr above ↦ (let not_lt : nat_lt c k.copies ≡ false = nat_lt-not c k.copies above in
+      | inr above ↦ (let not_lt : nat_lt c k.copies ≡ false = le-ltb c k.copies above in
           slice_get_past states c (omega (arith, home.copies)) ∙ sym (rw not_lt refl))
     ]

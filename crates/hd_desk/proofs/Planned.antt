@@ -15,16 +15,15 @@ use Rattle.hd_rules.specs.declared.questions.Noted.{Noted}
 use Rattle.hd_rules.specs.declared.questions.Finding.{Finding}
 use Rattle.hd_rules.specs.declared.replies.Refusal.{Refusal}
 use Rattle.hd_rules.specs.declared.commands.Command.{Command}
-use Rattle.hd_rules.specs.Facts.{Facts, AreInRange}
-use Rattle.hd_rules.specs.Desk.{Desk, after, opening}
+use Rattle.hd_rules.specs.Facts.{Facts}
+use Rattle.hd_rules.specs.Desk.{Desk, after, at_home}
 use Rattle.hd_rules.specs.Ask.{Plan, Done, outcome, asks}
-use Rattle.hd_rules.specs.Known.{IsKnownAction, IsKnownDesk, IsKnownHeld, IsKnownQuestion}
+use Rattle.hd_rules.specs.Known.{IsKnownAction, IsKnownHeld, IsKnownQuestion}
 use Rattle.hd_rules.specs.Record.{findings}
 use Rattle.hd_rules.specs.Notes.{note}
 use Rattle.hd_rules.specs.Run.{AreChanges}
-use Rattle.hd_rules.specs.Sound.{IsFit, Sound, EachOnIsFit}
+use Rattle.hd_rules.specs.Sound.{Sound, EachOnIsFit}
 use Rattle.hd_rules.specs.Step.{plan}
-use Rattle.hd_desk.proofs.Kept.{sound-later}
 use Rattle.hd_catalogue.specs.Contents.{Contents, facts_of}
 use Rattle.hd_queue.specs.Holds.{hold_of}
 use Rattle.hd_copies.specs.CopiesValue.{CopiesValue}
@@ -34,15 +33,19 @@ use Rattle.hd_holds.specs.Held.{patron_hold, AreOfPatrons, AreKnown as AreKnownH
 use Rattle.hd_allocate.specs.Choosing.{AreOfPatrons as AreAllOfPatrons, IsAt, Waits}
 use Rattle.hd_allocate.specs.declared.facts.CopyFacts.{CopyFacts}
 use Rattle.hd_rules.specs.declared.cells.Change.{Change}
+use Rattle.hd_desk.specs.Accepting.{CanBeMade, IsAccepted}
 use Rattle.hd_desk.specs.Asking.{InquiryValue, ending_of, asked_of, AreKnownQuestions}
-use Rattle.hd_inverse.specs.Cells.{AreApart, AreKnownChanges, HaveRoom}
+use Rattle.hd_inverse.specs.Cells.{AreKnownChanges, CanBeUndone, HaveRoom}
 use Rattle.hd_desk.specs.declared.refused.Refused.TheVariants.{Memory}
 use Rattle.hd_desk.specs.Cells.{HasRoomFor, IsShortOfRoom}
 use Rattle.hd_desk.specs.Laws.{CommandLaws}
 use Rattle.hd_desk.specs.DeskValue.{DeskValue}
-use Rattle.hd_desk.specs.Desks.{IsKeptDesk, contents, desk_of, facts}
+use Rattle.hd_desk.specs.Desks.{IsKeptDesk, contents, desk_of, facts, outcome_at}
+use Rattle.hd_desk.specs.DoneValue.{DoneValue, done_of}
 use Rattle.hd_desk.proofs.Following.{ending_is, findings_more, asked_more, known_more}
-use Rattle.hd_desk.proofs.Writing.{are-known, are-apart}
+use Rattle.hd_desk.proofs.TakenBack.{back-again}
+use Rattle.hd_desk.proofs.Writing.{are-known}
+use Rattle.hd_lemmas.proofs.Rules.{later_sound}
 
 -- where a plan led, from the start
 pub record Followed (k : Facts) (d : Desk) (p : Plan) (r : Result Done Refusal) (asked : List Question) : Type 0 where
@@ -61,14 +64,6 @@ followed d n command q r asked start ends =
       asks = ap (λ (x : Result Done Refusal × List Question). x.1) all;
     }
 
--- what was found on the way
-pub found-so : (d : DeskValue) (q new : InquiryValue) (fs : List Finding) (asked : List Question) → q ≡ record { desk = d; asked = [] } →
-    new.desk ≡ q.desk → fs ≡ findings (facts new.desk) (desk_of new.desk) new.asked → new.asked ≡ asked →
-    fs ≡ findings (facts d) (desk_of d) asked
-found-so d q new fs asked start same found as_asked =
-    let here : new.desk ≡ d = same ∙ ap (λ (x : InquiryValue). x.desk) start in
-    found ∙ (λ i. findings (facts (here i)) (desk_of (here i)) (as_asked i))
-
 -- one more finding is kept
 pub keep-more : (k : Facts) (d : Desk) (fs : List Finding) (q : Question) (n : Noted) (new : List Finding) →
     new ≡ fs ++ record { question = q; noted = n } ∷ [] → fs ≡ findings k d (asked_of fs) → AreKnownQuestions k (asked_of fs) →
@@ -82,17 +77,17 @@ keep-more k d fs q n new goes are known is noted =
 
 -- the opening desk
 pub desk-opening : (copies : CopiesValue) (holds : HoldsValue) (k : Facts) → standing copies ≡ (λ c. Shelf (k.home c)) →
-    patron_hold holds ≡ (λ t p. None) → desk_of (record { copies = copies; holds = holds }) ≡ opening k
+    patron_hold holds ≡ (λ t p. None) → desk_of (record { copies = copies; holds = holds }) ≡ at_home k.home
 unfolding desk_of
-desk-opening copies holds k at_home none = λ i. record { copy = at_home i; hold = none i }
+desk-opening copies holds k home none = λ i. record { copy = home i; hold = none i }
 
 -- and what stays true of it
 pub desk-opened : (copies : CopiesValue) (holds : HoldsValue) (x : Contents) → copies.contents ≡ x →
     standing copies ≡ (λ c. Shelf ((facts_of x).home c)) → patron_hold holds ≡ (λ t p. None) →
-    desk_of (record { copies = copies; holds = holds }) ≡ opening (facts_of copies.contents)
-desk-opened copies holds x same at_home none =
+    desk_of (record { copies = copies; holds = holds }) ≡ at_home (facts_of copies.contents).home
+desk-opened copies holds x same home none =
     desk-opening copies holds (facts_of copies.contents)
-    (at_home ∙ ap (λ (y : Contents). λ n. Shelf ((facts_of y).home n)) (sym same)) none
+    (home ∙ ap (λ (y : Contents). λ n. Shelf ((facts_of y).home n)) (sym same)) none
 
 all-of-patrons : (n : ℕ) (hs : List Hold) → AreOfPatrons n hs → AreAllOfPatrons n hs
 all-of-patrons n [] all = tt
@@ -123,75 +118,57 @@ chosen-known k holds None o is waits known = subst (IsKnownHeld k) (sym is) tt
 chosen-known k holds (Some b) o is waits known =
     subst (IsKnownHeld k) (waits.queued ∙ sym is) (known-hold k holds b.now.patron known)
 
--- an accepted command's changes can be made
-pub record CanBeMade (k : Facts) (d : Desk) (n : ℕ) (done : Done) : Type 0 where
-  pub known : AreKnownChanges k done.changes
-  pub apart : AreApart done.changes
-  pub fit : EachOnIsFit k done.changes d
-  pub sound : Sound k (n + 1) (after done.changes d)
-
-pub can-be-made : CommandLaws → (k : Facts) (d : Desk) (n : ℕ) (command : Command) (done : Done) → AreInRange k → IsKnownDesk k d →
-    IsFit k d → IsKnownAction k command.action → Sound k n d → outcome k d (plan k n command) ≡ Ok done → CanBeMade k d n done
-can-be-made laws k d n command done range desk is_fit action sound is =
+-- an accepted command's changes can be made, and taken back
+can-be-made : CommandLaws → (k : Facts) (d : Desk) (n : ℕ) (command : Command) (done : Done) → IsKeptDesk k d →
+    IsKnownAction k command.action → Sound k n d → outcome k d (plan k n command) ≡ Ok done → CanBeMade k d n done.changes
+can-be-made laws k d n command done kept action sound is =
     let fit : EachOnIsFit k done.changes d = laws.commands.fit k d n command done sound is in
     let after_it : AreChanges done.changes × Sound k (n + 1) (after done.changes d) = laws.commands.sound k d n command done sound is in
-    record {
-      known = are-known k d d done.changes desk is_fit after_it.0 (record {
-        known = (laws.commands.known k d n command done range desk action is).changes;
-        old = λ c among. (laws.answers.written k d n command done is c among).1;
-      }) fit;
-      apart = are-apart done.changes after_it.0;
-      fit = fit;
-      sound = after_it.1;
-    }
+    let known : AreKnownChanges k done.changes =
+    are-known k d d done.changes kept.known kept.fit after_it.0 (record {
+      known = (laws.commands.known k d n command done kept.range kept.known action is).changes;
+      old = λ c among. (laws.answers.written k d n command done is c among).1;
+    }) fit in
+    record { fit = fit; sound = after_it.1; back = back-again laws k d n command done sound is known }
 
 pub still-sound : (k : Facts) (n : ℕ) (d : Desk) → Sound k n d → Sound k (n + 1) d
-still-sound k n d sound = sound-later k n (n + 1) d (omega arith) sound
+still-sound k n d sound = later_sound k n (n + 1) d (omega arith) sound
 
--- An accepted command: its outcome, and that its changes can be made.
-pub record Planned (d : DeskValue) (n : ℕ) (command : Command) (done : Done) (asked : List Question) : Type 0 where
-  pub outcome : outcome (facts d) (desk_of d) (plan (facts d) n command) ≡ Ok done
-  pub asks : asked ≡ asks (facts d) (desk_of d) (plan (facts d) n command)
-  pub can : CanBeMade (facts d) (desk_of d) n done
-
-pub planned : CommandLaws → (d : DeskValue) (n : ℕ) (command : Command) (q : InquiryValue) (r : Result Done Refusal)
-    (asked : List Question) (accepted done : Done) → q ≡ record { desk = d; asked = [] } → (r, asked) ≡ ending_of q (plan (facts q.desk) n command) →
-    r ≡ Ok accepted → done ≡ accepted → IsKeptDesk (facts d) (desk_of d) → IsKnownAction (facts d) command.action →
-    Sound (facts d) n (desk_of d) → Planned d n command done asked
-planned laws d n command q r asked accepted done start ends is same kept action sound =
-    let f : Followed (facts d) (desk_of d) (plan (facts d) n command) r asked = followed d n command q r asked start ends in
-    let ok : outcome (facts d) (desk_of d) (plan (facts d) n command) ≡ Ok done = sym f.outcome ∙ is ∙ ap (λ (x : Done). Ok x) (sym same) in
+-- a plan that was followed to a command's acceptance
+pub accepted : CommandLaws → (d : DeskValue) (n : ℕ) (command : Command) (q new : InquiryValue) (r : Result Done Refusal) (ok : Done)
+    (done : DoneValue) → q ≡ record { desk = d; asked = [] } → (r, new.asked) ≡ ending_of q (plan (facts q.desk) n command) →
+    new.desk ≡ q.desk → r ≡ Ok ok → done_of done ≡ ok → done.findings ≡ findings (facts new.desk) (desk_of new.desk) new.asked →
+    IsKeptDesk (facts d) (desk_of d) → IsKnownAction (facts d) command.action → Sound (facts d) n (desk_of d) → IsAccepted d n command done
+accepted laws d n command q new r ok done start ends same is told found kept action sound =
+    let f : Followed (facts d) (desk_of d) (plan (facts d) n command) r new.asked = followed d n command q r new.asked start ends in
+    let outcome : outcome_at d n command ≡ Ok (done_of done) = sym f.outcome ∙ is ∙ ap (λ (x : Done). Ok x) (sym told) in
+    let here : new.desk ≡ d = same ∙ ap (λ (x : InquiryValue). x.desk) start in
     record {
-      outcome = ok;
-      asks = f.asks;
-      can = can-be-made laws (facts d) (desk_of d) n command done kept.range kept.known kept.fit action sound ok;
+      outcome = outcome;
+      findings = found ∙ (λ i. findings (facts (here i)) (desk_of (here i)) (f.asks i));
+      can = can-be-made laws (facts d) (desk_of d) n command (done_of done) kept action sound outcome;
     }
 
 -- once there is room for them
-pub record MayMake (e : DeskValue) (cs : List Change) : Type 0 where
-  pub known : AreKnownChanges (facts e) cs
-  pub apart : AreApart cs
-  pub fit : EachOnIsFit (facts e) cs (desk_of e)
-
-pub may-make : (d e : DeskValue) (n : ℕ) (done : Done) (cs : List Change) → CanBeMade (facts d) (desk_of d) n done →
-    contents e ≡ contents d → desk_of e ≡ desk_of d → cs ≡ done.changes → MayMake e cs
-may-make d e n done cs can same desk are = record {
-  known = subst (λ (xs : List Change). AreKnownChanges (facts e) xs) (sym are)
-      (subst (λ x. AreKnownChanges (facts_of x) done.changes) (sym same) can.known);
-  apart = subst AreApart (sym are) can.apart;
-  fit = subst (λ (xs : List Change). EachOnIsFit (facts e) xs (desk_of e)) (sym are)
-      (subst (λ (x : Desk). EachOnIsFit (facts e) done.changes x) (sym desk)
-      (subst (λ x. EachOnIsFit (facts_of x) done.changes (desk_of d)) (sym same) can.fit));
-}
+pub can-still : (d e : DeskValue) (n : ℕ) (told cs : List Change) → CanBeMade (facts d) (desk_of d) n told →
+    contents e ≡ contents d → desk_of e ≡ desk_of d → cs ≡ told → CanBeMade (facts e) (desk_of e) n cs
+can-still d e n told cs can same desk are =
+    subst (CanBeMade (facts e) (desk_of e) n) (sym are)
+    (subst (λ (x : Desk). CanBeMade (facts e) x n told) (sym desk)
+    (subst (λ (x : Contents). CanBeMade (facts_of x) (desk_of d) n told) (sym same) can))
 
 -- and when they are made
-pub left-sound : (d e f : DeskValue) (n : ℕ) (done : Done) (cs : List Change) → CanBeMade (facts d) (desk_of d) n done →
-    contents e ≡ contents d → desk_of e ≡ desk_of d → cs ≡ done.changes → contents f ≡ contents e → desk_of f ≡ after cs (desk_of e) →
-    Sound (facts f) (n + 1) (desk_of f)
-left-sound d e f n done cs can same desk are same_there made =
-    let there : desk_of f ≡ after done.changes (desk_of d) = made ∙ (λ i. after (are i) (desk i)) in
-    subst (λ (x : Desk). Sound (facts f) (n + 1) x) (sym there)
-    (subst (λ x. Sound (facts_of x) (n + 1) (after done.changes (desk_of d))) (sym (same_there ∙ same)) can.sound)
+pub left-sound : (d e : DeskValue) (n : ℕ) (cs : List Change) → CanBeMade (facts d) (desk_of d) n cs →
+    contents e ≡ contents d → desk_of e ≡ after cs (desk_of d) → Sound (facts e) (n + 1) (desk_of e)
+left-sound d e n cs can same made =
+    subst (λ (x : Desk). Sound (facts e) (n + 1) x) (sym made)
+    (subst (λ (x : Contents). Sound (facts_of x) (n + 1) (after cs (desk_of d))) (sym same) can.sound)
+
+pub left-back : (d e : DeskValue) (n : ℕ) (cs : List Change) → CanBeMade (facts d) (desk_of d) n cs →
+    contents e ≡ contents d → desk_of e ≡ after cs (desk_of d) → CanBeUndone (facts e) (desk_of d) (desk_of e) cs
+left-back d e n cs can same made =
+    subst (λ (x : Desk). CanBeUndone (facts e) (desk_of d) x cs) (sym made)
+    (subst (λ (x : Contents). CanBeUndone (facts_of x) (desk_of d) (after cs (desk_of d)) cs) (sym same) can.back)
 
 -- a copy's view
 pub item-so : (d : DeskValue) (h : HoldsValue) (copy t : ℕ) (state : CopyState) (n : ℕ) → h ≡ d.holds → h.contents ≡ d.copies.contents →

@@ -1,5 +1,5 @@
 -- A command's changes, taken back at once.
-use Rattle.std.proofs.Common.{◌≡◌, refl, sym, ◌∙◌, ap, subst, ℕ, ◌+◌, ◌==◌, ◌&&◌, Bool, true, false, cond, Option, List, [], ◌∷◌, Ok, inl, inr}
+use Rattle.std.proofs.Common.{◌≡◌, refl, sym, ◌∙◌, ap, subst, ℕ, ◌==◌, ◌&&◌, Bool, true, false, cond, Option, List, [], ◌∷◌, Ok, inl, inr}
 use Rattle.std.proofs.lemmas.Bool.{and_parts, eqb-true}
 use Rattle.hd_rules.specs.declared.holds.Hold.{Hold}
 use Rattle.hd_rules.specs.declared.copies.CopyState.{CopyState}
@@ -10,32 +10,15 @@ use Rattle.hd_rules.specs.declared.cells.Value.TheVariants.{Copy as CopyHas, Hol
 use Rattle.hd_rules.specs.declared.cells.Change.{Change}
 use Rattle.hd_rules.specs.declared.commands.Command.{Command}
 use Rattle.hd_rules.specs.Facts.{Facts}
-use Rattle.hd_rules.specs.Desk.{Desk, after, put, same_cell, take_back, value}
+use Rattle.hd_rules.specs.Desk.{Desk, after, put, take_back, value}
 use Rattle.hd_rules.specs.Ask.{Done, outcome}
 use Rattle.hd_rules.specs.Run.{AreChanges, Elsewhere, Fits, IsAmong}
 use Rattle.hd_rules.specs.Sound.{EachBackIsFit, EachOnIsFit, IsFit, Sound}
 use Rattle.hd_rules.specs.Step.{plan}
-use Rattle.hd_catalogue.specs.Contents.{Contents, facts_of}
 use Rattle.hd_inverse.specs.Cells.{AreKnownChanges, CanBeUndone}
-use Rattle.hd_desk.specs.DeskValue.{DeskValue}
-use Rattle.hd_desk.specs.Desks.{contents, desk_of, facts}
 use Rattle.hd_desk.specs.Laws.{CommandLaws}
 use Rattle.hd_desk.proofs.Writing.{are-apart, two-cells}
-
-copy-is : (a b : CopyState) → CopyHas a ≡ CopyHas b → a ≡ b
-copy-is a b e = cc
-
-hold-is : (a b : Option Hold) → HoldHas a ≡ HoldHas b → a ≡ b
-hold-is a b e = cc
-
--- a write of one cell leaves the others
-put-other : (d : Desk) (x : Cell) (v : Value) (y : Cell) → same_cell x y ≡ false → value (put d x v) y ≡ value d y
-put-other d (CopyCell c) (CopyHas s) (CopyCell x) other = ap (λ (b : Bool). CopyHas (cond b s (d.copy x))) other
-put-other d (CopyCell c) (CopyHas s) (HoldCell u q) other = refl
-put-other d (CopyCell c) (HoldHas o) y other = refl
-put-other d (HoldCell t p) (HoldHas o) (HoldCell u q) other = ap (λ (b : Bool). HoldHas (cond b o (d.hold u q))) other
-put-other d (HoldCell t p) (HoldHas o) (CopyCell x) other = refl
-put-other d (HoldCell t p) (CopyHas s) y other = refl
+use Rattle.hd_lemmas.proofs.Rules.{copy_inj, hold_inj, put_elsewhere}
 
 -- what a cell had, put there again
 copy-again : (d : Desk) (c x : ℕ) (old new : CopyState) → d.copy c ≡ old → cond (c == x) old (cond (c == x) new (d.copy x)) ≡ d.copy x
@@ -57,14 +40,14 @@ hold-again d t u p q old new had = by_test ((t == u) && (p == q)) refl
 
 put-again : (d : Desk) (x : Cell) (old new : Value) → Fits x new → value d x ≡ old → put (put d x new) x old ≡ d
 put-again d (CopyCell c) (CopyHas s) (CopyHas r) fits had = λ i. record {
-  copy = λ x. copy-again d c x s r (copy-is (d.copy c) s had) i;
+  copy = λ x. copy-again d c x s r (copy_inj (d.copy c) s had) i;
   hold = d.hold;
 }
 put-again d (CopyCell c) (HoldHas o) (CopyHas r) fits had = cc
 put-again d (CopyCell c) v (HoldHas o) fits had = absurd fits
 put-again d (HoldCell t p) (HoldHas o) (HoldHas w) fits had = λ i. record {
   copy = d.copy;
-  hold = λ u q. hold-again d t u p q o w (hold-is (d.hold t p) o had) i;
+  hold = λ u q. hold-again d t u p q o w (hold_inj (d.hold t p) o had) i;
 }
 put-again d (HoldCell t p) (CopyHas s) (HoldHas w) fits had = cc
 put-again d (HoldCell t p) v (CopyHas s) fits had = absurd fits
@@ -82,7 +65,7 @@ are-from d (c ∷ cs) old = (old c (inl refl), are-from d cs (λ x among. old x 
 from-next : (d : Desk) (x : Cell) (v : Value) (cs : List Change) → Elsewhere x cs → AreFrom d cs → AreFrom (put d x v) cs
 from-next d x v [] apart from = tt
 from-next d x v (c ∷ cs) apart from =
-    (put-other d x v c.cell (two-cells c.cell x apart.0) ∙ from.0, from-next d x v cs apart.1 from.1)
+    (put_elsewhere d x v c.cell (two-cells c.cell x apart.0) ∙ from.0, from-next d x v cs apart.1 from.1)
 
 -- made one after another and taken back, the last one first, they leave the desk as it was
 back-where : (d : Desk) (cs : List Change) → AreChanges cs → AreFrom d cs → take_back cs (after cs d) ≡ d
@@ -101,7 +84,7 @@ back-fit k d (c ∷ cs) are from fit on = (
 )
 
 -- from the desk that they lead to
-back-again : CommandLaws → (k : Facts) (d : Desk) (n : ℕ) (command : Command) (done : Done) → Sound k n d →
+pub back-again : CommandLaws → (k : Facts) (d : Desk) (n : ℕ) (command : Command) (done : Done) → Sound k n d →
     outcome k d (plan k n command) ≡ Ok done → AreKnownChanges k done.changes → CanBeUndone k d (after done.changes d) done.changes
 back-again laws k d n command done sound is known =
     let is_fit : IsFit k d = record { named = sound.holds.named; stamps = sound.holds.apart; places = sound.places } in
@@ -113,13 +96,3 @@ back-again laws k d n command done sound is known =
       fit = back-fit k d done.changes are from is_fit (laws.commands.fit k d n command done sound is);
       before = back-where d done.changes are from;
     }
-
--- the same of a desk that is kept
-pub taken-back : CommandLaws → (d e : DeskValue) (n : ℕ) (command : Command) (done : Done) → Sound (facts d) n (desk_of d) →
-    outcome (facts d) (desk_of d) (plan (facts d) n command) ≡ Ok done → AreKnownChanges (facts d) done.changes →
-    contents e ≡ contents d → desk_of e ≡ after done.changes (desk_of d) →
-    CanBeUndone (facts e) (desk_of d) (desk_of e) done.changes
-taken-back laws d e n command done sound is known same made =
-    subst (λ (k : Contents). CanBeUndone (facts_of k) (desk_of d) (desk_of e) done.changes) (sym same)
-    (subst (λ (x : Desk). CanBeUndone (facts d) (desk_of d) x done.changes) (sym made)
-    (back-again laws (facts d) (desk_of d) n command done sound is known))

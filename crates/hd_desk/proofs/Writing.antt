@@ -1,7 +1,7 @@
 -- Writing a cell of a fit desk.
 use Rattle.std.proofs.Common.{◌≡◌, ◌≢◌, refl, sym, ◌∙◌, ap, subst, ℕ, ◌+◌, ◌<◌, Bool, true, false, cond, ◌==◌, ◌&&◌, Option}
 use Rattle.std.proofs.Common.{Some, None, List, [], ◌∷◌, length, drop, get_or, add-one, drop-cons, eq-eqb, inl, inr}
-use Rattle.std.proofs.lemmas.Bool.{and_parts, cases_Bool, eqb-true, eqb-false, ne_eqb}
+use Rattle.std.proofs.lemmas.Bool.{and_parts, eqb-true, ne_eqb}
 use Rattle.hd_rules.specs.declared.holds.Hold.{Hold}
 use Rattle.hd_rules.specs.declared.copies.HoldPlace.{HoldPlace}
 use Rattle.hd_rules.specs.declared.copies.CopyState.{CopyState}
@@ -22,6 +22,7 @@ use Rattle.hd_rules.specs.Laws.{TestsAreExact}
 use Rattle.hd_copies.specs.Standing.{IsWelcome}
 use Rattle.hd_holds.specs.Held.{IsWelcome as IsWelcomeHold}
 use Rattle.hd_inverse.specs.Cells.{AreApart, AreKnownChanges, IsFromOne, MayHave}
+use Rattle.hd_lemmas.proofs.Tests.{turned}
 
 -- what is put in a copy's cell is there
 here : (c : ℕ) (s v : CopyState) → cond (c == c) s v ≡ s
@@ -143,13 +144,6 @@ drop_at cs i c below is = drop_from cs i c below ∙ ap (λ (x : Change). x ∷ 
 -- values that the test tells apart
 pub are-two : TestsAreExact → (v w : Value) (r : Bool) → r ≡ same_value v w → r ≡ false → v ≢ w
 are-two exact v w r test is same = let yes : r ≡ true = test ∙ (exact.values v w).1 same in cc
-
--- a test of numbers, from the other side
-turned : (m n : ℕ) → (m == n) ≡ (n == m)
-turned m n = elim (cases_Bool (n == m)) [
-  | inl is ↦ eq-eqb m n (sym (eqb-true n m is)) ∙ sym is
-  | inr other ↦ ne_eqb m n (λ e. eqb-false n m other (sym e)) ∙ sym other
-]
 
 -- cells that are two, whichever comes first
 pub two-cells : (x y : Cell) → same_cell x y ≡ false → same_cell y x ≡ false

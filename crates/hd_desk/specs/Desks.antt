@@ -6,7 +6,7 @@ use Rattle.hd_rules.specs.Facts.{Facts, AreInRange}
 use Rattle.hd_rules.specs.Desk.{Desk}
 use Rattle.hd_rules.specs.Ask.{Done, outcome}
 use Rattle.hd_rules.specs.Known.{IsKnownDesk}
-use Rattle.hd_rules.specs.Sound.{IsFit}
+use Rattle.hd_rules.specs.Sound.{IsFit, MayOpen}
 use Rattle.hd_rules.specs.Step.{plan, due_day, last_day}
 use Rattle.hd_catalogue.specs.Contents.{Contents, facts_of}
 use Rattle.hd_copies.specs.Standing.{standing}
@@ -30,6 +30,12 @@ pub record IsKeptDesk (k : Facts) (d : Desk) : Type 0 where
   pub range : AreInRange k
   pub known : IsKnownDesk k d
   pub fit : IsFit k d
+
+-- A journal of the catalogue may begin: the desk that it opens with is sound, and names things of the
+-- catalogue.
+pub record Opens (k : Facts) : Type 0 where
+  pub sound : MayOpen k
+  pub known : IsKnownDesk k k.opening.desk
 
 -- how a command with this number ends there
 abbrev pub outcome_at : DeskValue → ℕ → Command → Result Done Refusal

@@ -1,5 +1,6 @@
 pub mod DeskValue
 pub mod Desks
+pub mod Accepting
 pub mod Asking
 pub mod Cells
 pub mod DoneValue

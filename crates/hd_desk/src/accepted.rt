@@ -45,7 +45,7 @@ impl<'a, A: Allocator + Copy> Inquiry<'a, A> {
             (accept (facts self.now.desk) number changes.now reply) asked }
     {
         let desk = self.desk;
-        if desk.command_limit() < number {
+        if desk.last_number() < number {
             return Err(Refusal::JournalFull);
         }
         let changes = real_changes(desk.inline, changes);

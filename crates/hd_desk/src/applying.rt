@@ -1,7 +1,7 @@
 //! Commands.
 #![tactic(auto)]
 
-ghost use Rattle.std.specs.Prelude.{◌≡◌, ◌<◌, ◌+◌, ℕ, IfOk, OnErr, [], length};
+ghost use Rattle.std.specs.Prelude.{◌≡◌, ◌<◌, ◌+◌, ℕ, Err, IfOk, MatchResult, OnErr, [], length};
 ghost use Rattle.hd_rules.specs.Ask.{asks};
 ghost use Rattle.hd_rules.specs.Desk.{after};
 ghost use Rattle.hd_rules.specs.Known.{IsKnownAction};
@@ -10,6 +10,7 @@ ghost use Rattle.hd_rules.specs.Sound.{Sound};
 ghost use Rattle.hd_rules.specs.Step.{plan};
 ghost use Rattle.hd_footprint.specs.Meter.{with_one_more};
 ghost use Rattle.hd_footprint.specs.declared.count.Count.TheVariants.{Step};
+ghost use Rattle.hd_desk.specs.Accepting.{IsAccepted};
 ghost use Rattle.hd_desk.specs.Asking.{ending_of};
 ghost use Rattle.hd_inverse.specs.Cells.{CanBeUndone};
 ghost use Rattle.hd_inverse.specs.Work.{after_writes};
@@ -62,19 +63,30 @@ impl<A: Allocator + Copy> Desk<A> {
         ensures written { IfOk result (λ done. meter.new
             ≡ after_writes (length done.changes) (with_one_more meter.old Step)) }
     {
-        laws();
         meter.add(Count::Step);
-        let mut inquiry = Inquiry::new(self);
-        let accepted = match inquiry.follow(number, command) {
-            Ok(accepted) => accepted,
+        let done = match self.decide(number, command) {
+            Ok(done) => done,
             Err(refusal) => return Err(Refused::Rule(refusal)),
         };
-        let findings = inquiry.into_findings();
-        let Accepted { changes, reply } = accepted;
-        if self.ready(changes.changes()).is_err() {
+        if self.ready(done.changes()).is_err() {
             return Err(Refused::Memory);
         }
-        self.make(changes.changes(), meter);
+        self.make(done.changes(), meter);
+        Ok(done)
+    }
+
+    /// What the command does here, what it says and what it asks, or why it is refused. It changes nothing.
+    fn decide(&self, number: u64, command: &Command) -> Result<Done, Refusal>
+        requires known { IsKnownAction (facts self.now) command.now.action }
+        requires sound { Sound (facts self.now) number (desk_of self.now) }
+        ensures { MatchResult result (IsAccepted self.now number command.now)
+            (λ refusal. outcome_at self.now number command.now ≡ Err refusal) }
+    {
+        laws();
+        let mut inquiry = Inquiry::new(self);
+        let accepted = inquiry.follow(number, command)?;
+        let findings = inquiry.into_findings();
+        let Accepted { changes, reply } = accepted;
         Ok(Done {
             reply,
             changes,

@@ -1,14 +1,14 @@
 //! The desk.
 #![tactic(auto, unfolding(crate::specs::Desks::desk_of))]
 
-ghost use Rattle.std.specs.Prelude.{◌≡◌, ◌<◌, ℕ, IfOk};
+ghost use Rattle.std.specs.Prelude.{◌≡◌, ◌<◌, ◌≤◌, ℕ, IfOk};
 ghost use Rattle.std.specs.Arc.{arc_value};
-ghost use Rattle.hd_rules.specs.Desk.{opening};
+ghost use Rattle.hd_rules.specs.Facts.{first_number};
 ghost use Rattle.hd_rules.specs.Known.{IsKnownHeld, IsKnownState};
 ghost use Rattle.hd_rules.specs.Sound.{Sound};
 ghost use Rattle.hd_rules.specs.Turns.{item_view};
 ghost use Rattle.hd_catalogue.specs.Contents.{facts_of};
-ghost use Rattle.hd_desk.specs.Desks.{IsKeptDesk, contents, desk_of, facts};
+ghost use Rattle.hd_desk.specs.Desks.{IsKeptDesk, Opens, contents, desk_of, facts};
 
 use hd_catalogue::Catalogue;
 use hd_copies::Copies;
@@ -54,8 +54,8 @@ impl<A: Allocator> Model for Desk<A> {
 }
 
 impl<A: Allocator + Copy> Desk<A> {
-    /// The opening desk of a catalogue: each copy at home, and no holds. It is sound, with any number above
-    /// its stamps.
+    /// The desk that a catalogue's journal opens with: each copy at home, and no holds. It is sound, with the
+    /// first number that a command is given or any above it.
     ///
     /// `inline` is never asked for memory: it stands in lists of at most four changes, which are kept in
     /// place.
@@ -65,8 +65,10 @@ impl<A: Allocator + Copy> Desk<A> {
         catalogue: Arc<Catalogue<A>, A>,
     ) -> Result<Desk<A>, AllocError>
         ensures contents { IfOk result (λ desk. contents desk ≡ arc_value catalogue) }
-        ensures opening { IfOk result (λ desk. desk_of desk ≡ opening (facts_of (arc_value catalogue))) }
-        ensures sound { IfOk result (λ desk. (n : ℕ) → Sound (facts desk) n (desk_of desk)) }
+        ensures opening { IfOk result (λ desk. desk_of desk ≡ (facts_of (arc_value catalogue)).opening.desk) }
+        ensures opens { IfOk result (λ desk. Opens (facts desk)) }
+        ensures sound { IfOk result (λ desk. (n : ℕ) → first_number (facts desk) ≤ n
+            → Sound (facts desk) n (desk_of desk)) }
     {
         let copies = Copies::open(alloc, Arc::try_clone(&catalogue)?)?;
         let holds = Holds::open(alloc, catalogue)?;

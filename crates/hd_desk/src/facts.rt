@@ -2,6 +2,7 @@
 #![tactic(auto)]
 
 ghost use Rattle.std.specs.Prelude.{◌≡◌, ◌<◌, ◌+◌, nat_lt, true, false, MatchOption};
+ghost use Rattle.hd_rules.specs.Facts.{last_number};
 ghost use Rattle.hd_rules.specs.Step.{due_day, last_day};
 ghost use Rattle.hd_desk.specs.Desks.{facts, IsDue};
 
@@ -53,10 +54,11 @@ impl<A: Allocator + Copy> Desk<A> {
     }
 
     /// The last number that a command can have.
-    pub(crate) fn command_limit(&self) -> u64
-        ensures { result ≡ (facts self.now).command_limit }
+    pub(crate) fn last_number(&self) -> u64
+        ensures { result ≡ last_number (facts self.now) }
     {
-        self.catalogue().command_limit()
+        let catalogue = self.catalogue();
+        u64::from(catalogue.last_before()) + catalogue.command_limit()
     }
 
     /// The day on which a loan of the copy from this day is due, or `None` where that lies after 9999-12-31.

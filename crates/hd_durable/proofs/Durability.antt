@@ -1,6 +1,6 @@
 -- What is kept of a turn more.
 use Rattle.std.proofs.Common.{◌≡◌, refl, sym, ◌∙◌, ap, subst, arith, ◌⊎◌, inl, inr, ℕ, Bool, true, false, if◌then◌else◌}
-use Rattle.std.proofs.Common.{List, [], ◌∷◌, ◌++◌, length, length-append, Option, Some, None, Result, Ok, Err, OnOk, OnErr, true≢false}
+use Rattle.std.proofs.Common.{List, [], ◌∷◌, ◌++◌, length, length-append, Option, Some, None, true≢false}
 use Rattle.std.specs.Prelude.{slice_get, take}
 use Rattle.std.proofs.lemmas.List.{append-nil}
 use Rattle.std.proofs.Math.Seq.{take-length, take-append_seam}
@@ -80,14 +80,6 @@ pub left_either : (k : Facts) (answered : List Turn) (turn : Turn) (left : List 
 left_either k answered turn left before after is (inl none) = left_none k answered left before none
 left_either k answered turn left before after is (inr one) =
     left_one k answered turn left after (one ∙ sym (changing_more k answered turn is))
-
-pub on_ok : {A E : Type 0} (r : Result A E) (P Q : Type 0) → (P → Q) → OnOk r P → OnOk r Q
-on_ok (Ok x) P Q f p = f p
-on_ok (Err e) P Q f p = p
-
-pub on_err : {A E : Type 0} (r : Result A E) (P Q : Type 0) → (P → Q) → OnErr r P → OnErr r Q
-on_err (Ok x) P Q f p = p
-on_err (Err e) P Q f p = f p
 
 -- all were answered, and the changing ones are committed
 pub durable_all : (told : Contents) (holds leaves : List Turn → Type 0) (contents : Contents) (turns : List Turn)

@@ -1,14 +1,12 @@
 //! Hold messages (15).
 ghost use Rattle.std.specs.Prelude.{◌≡◌, ◌<◌, IfOk, IfSome};
-ghost use Rattle.std.specs.Option.{option_copied};
 ghost use Rattle.hd_message.specs.declared.kind.DeskKind.TheVariants as kind;
 ghost use Rattle.hd_rules.specs.Facts.{Facts};
 ghost use Rattle.hd_rules.specs.Known.{IsKnown, IsKnownAction, IsKnownCancel, IsKnownKind};
 ghost use Rattle.hd_catalogue.specs.Contents.{Contents, facts_of};
 ghost use Rattle.hd_exchange.specs.Asks.{kind_of, kind_of_action, kind_of_cancel};
-ghost use Rattle.hd_exchange.specs.HoldAsks.{added_kind, changed_kind, expiry_text, hold_action};
+ghost use Rattle.hd_exchange.specs.HoldAsks.{added_kind, changed_kind, hold_action};
 ghost use Rattle.hd_exchange.specs.HoldAsks.{hold_addition, hold_cancel, hold_change, hold_named};
-ghost use Rattle.hd_exchange.specs.HoldAsks.{pickup_name, wanted_copies};
 ghost use Rattle.hd_exchange.specs.Messages.{AreValuesOf, hold_states};
 ghost use Rattle.hd_exchange.specs.Names.{IsKnownNamed};
 
@@ -17,7 +15,7 @@ use crate::names::{branch_if_given, copy_if_given, title_of};
 use crate::requests::DeskRequest;
 use crate::values::Values;
 use hd_catalogue::Catalogue;
-use hd_message::{DeskKind, HoldRequest, Mode, Wanted, Wishes};
+use hd_message::{DeskKind, HoldRequest, Mode, Wanted};
 use hd_rules::{
     Action, Asked, BranchNo, Cancel, Command, CopyNo, Day, HoldKind, PatronNo, Refusal, TitleNo,
 };
@@ -46,7 +44,7 @@ pub(crate) fn hold_values<'a>(request: &HoldRequest<'a>) -> Values<'a>
     Values {
         kind: DeskKind::Hold,
         date: Some(request.date),
-        other: expiry_text(&request.wishes),
+        other: request.wishes.and_then(|wishes| wishes.expiry),
         patron: Some(request.patron),
         copy: request.copy,
         title: request.title,
@@ -95,10 +93,10 @@ fn hold_named<A: Allocator + Copy>(
     if request.cancels {
         return Ok(Asked::Cancel(hold_cancel(request.mode, named)));
     }
-    let name = pickup_name(&request.wishes);
+    let name = request.wishes.and_then(|wishes| wishes.pickup);
     let pickup = branch_if_given(catalogue, name).ok_or(Refusal::UnknownBranch)?;
     let wish = Wish {
-        wanted: wanted_copies(&request.wishes),
+        wanted: request.wishes.and_then(|wishes| wishes.wanted),
         pickup,
         expiry,
     };
@@ -106,36 +104,6 @@ fn hold_named<A: Allocator + Copy>(
         day,
         action: hold_action(request.mode, named, &wish, own),
     }))
-}
-
-/// The branch that wishes name for the pickup.
-fn pickup_name<'a>(wishes: &Option<Wishes<'a>>) -> Option<&'a [u8]>
-    ensures { option_copied result ≡ pickup_name wishes.now }
-{
-    match wishes {
-        Some(wishes) => wishes.pickup,
-        None => None,
-    }
-}
-
-/// The expiration date that they state.
-fn expiry_text<'a>(wishes: &Option<Wishes<'a>>) -> Option<&'a [u8]>
-    ensures { option_copied result ≡ expiry_text wishes.now }
-{
-    match wishes {
-        Some(wishes) => wishes.expiry,
-        None => None,
-    }
-}
-
-/// Which copies they want, where they say so.
-fn wanted_copies(wishes: &Option<Wishes<'_>>) -> Option<Wanted>
-    ensures { result ≡ wanted_copies wishes.now }
-{
-    match wishes {
-        Some(wishes) => wishes.wanted,
-        None => None,
-    }
 }
 
 /// What a hold message that doesn't cancel does; `own` is the branch of its terminal.

@@ -30,8 +30,8 @@ use std::alloc::Allocator;
 /// gets its reply.
 ///
 /// # Errors
-/// `Memory` and `Estranged` as the office gives them, at a message that asks something of it: there is no
-/// turn, nothing is appended, and the session is logged in as before.
+/// `Memory`, `Estranged` and `Unwritten` as the office gives them, at a message that asks something of it:
+/// there is no turn, nothing is appended, and the session is logged in as before.
 pub fn respond<A: Allocator + Copy, O: Office<A>>(
     office: &mut O,
     now: &Stamp18,

@@ -5,7 +5,7 @@ use Rattle.std.proofs.Common.{arith}
 use Rattle.std.specs.Char.{digit_value, is_ascii_digit}
 use Rattle.std.specs.List.{ends_with, list_all}
 use Rattle.std.specs.Str.Parse.{AllDigits, digits_value}
-use Rattle.std.proofs.lemmas.Bool.{cases_lt, false_from_ne_true}
+use Rattle.std.proofs.lemmas.Bool.{cases_lt, false_from_ne_true, and_parts, and_from}
 use Rattle.std.proofs.lemmas.Bool.Decides.{Decides-eqb, Decides-ltb}
 use Rattle.std.proofs.lemmas.Grind.{common_steps}
 use Rattle.std.proofs.lemmas.List.{append-nil, drop_at, get_or-append-add, get_or_past, length-append, length-drop, length-take}
@@ -15,16 +15,6 @@ use Rattle.std.proofs.lemmas.Slice.Eq.{bytes_eq-Decides}
 use Rattle.hd_guard.specs.Sequence.{Carries, EndsInSequence, sequence}
 use Rattle.hd_guard.specs.Trailer.{EndsInCheck}
 use Rattle.hd_guard.specs.Reading.{IsGuarded, Reading, PlainLine, CheckedLine, WrongLine, read_before, read_line}
-
--- two tests
-both_true : (a b : Bool) → (a && b) ≡ true → (a ≡ true) × (b ≡ true)
-both_true true true h = (refl, refl)
-both_true true false h = cc
-both_true false b h = cc
-
-and_true : (a b : Bool) → a ≡ true → b ≡ true → (a && b) ≡ true
-and_true true b ha hb = hb
-and_true false b ha hb = cc
 
 -- a text that passes the test of its end has that end
 ends_true : (text ending : List ℕ) → ends_with nat_eq text ending ≡ true → text ≡ take (length text - length ending) text ++ ending
@@ -43,13 +33,13 @@ ends_of front ending =
 digits_true : (digits : List ℕ) → list_all (λ c. nat_lt (digit_value c) 16) digits ≡ true → AllDigits 16 digits
 digits_true [] h = tt
 digits_true (c ∷ cs) h =
-    let both = both_true (nat_lt (digit_value c) 16) (list_all (λ c. nat_lt (digit_value c) 16) cs) h in
+    let both = and_parts (nat_lt (digit_value c) 16) (list_all (λ c. nat_lt (digit_value c) 16) cs) h in
     ((Decides-ltb (digit_value c) 16).0 both.0, digits_true cs both.1)
 
 digits_of : (digits : List ℕ) → AllDigits 16 digits → list_all (λ c. nat_lt (digit_value c) 16) digits ≡ true
 digits_of [] h = refl
 digits_of (c ∷ cs) h =
-    and_true (nat_lt (digit_value c) 16) (list_all (λ c. nat_lt (digit_value c) 16) cs) ((Decides-ltb (digit_value c) 16).1 h.0)
+    and_from (nat_lt (digit_value c) 16) (list_all (λ c. nat_lt (digit_value c) 16) cs) ((Decides-ltb (digit_value c) 16).1 h.0)
     (digits_of cs h.1)
 
 -- the test of a sequence digit
@@ -83,7 +73,7 @@ ends_in_digit before h =
     let text : List ℕ = take (end + 2) before in
     let front : List ℕ = take (length text - 2) text in
     let c : ℕ = get_or before (end + 2) 0 in
-    let both = both_true (ends_with nat_eq text (codes "AY")) (is_ascii_digit c) h in
+    let both = and_parts (ends_with nat_eq text (codes "AY")) (is_ascii_digit c) h in
     let split : text ≡ front ++ codes "AY" = ends_true text (codes "AY") both.0 in
     let digit = digit_true c both.1 in
     let inside : end + 2 < length before =
@@ -115,7 +105,7 @@ carried_is_read before body (Some d) h =
     let first : ends_with nat_eq (take (n + 2) text) (codes "AY") ≡ true =
     ap (λ xs. ends_with nat_eq xs (codes "AY")) letters ∙ ends_of body (codes "AY") in
     let second : is_ascii_digit (get_or text (n + 2) 0) ≡ true = ap is_ascii_digit digit ∙ digit_of d h.digit in
-    let test = and_true (ends_with nat_eq (take (n + 2) text) (codes "AY")) (is_ascii_digit (get_or text (n + 2) 0)) first second in
+    let test = and_from (ends_with nat_eq (take (n + 2) text) (codes "AY")) (is_ascii_digit (get_or text (n + 2) 0)) first second in
     let value : get_or text (n + 2) 0 - 48 ≡ d = omega (arith, digit) in
     let read : before_parts text n ≡ CheckedLine body (Some d) =
     ap (λ t. cond t (CheckedLine (take n text) (Some (get_or text (n + 2) 0 - 48))) (CheckedLine text None)) test
@@ -136,7 +126,7 @@ of_check line before number h u test =
     let front : take (length all - 2) all ≡ before =
     take_at before (codes "AZ") (length all - 2) (omega (arith, length-append before (codes "AZ"))) in
     let first =
-    and_true (ends_with nat_eq all (codes "AZ")) (list_all (λ c. nat_lt (digit_value c) 16) h.digits) (ends_of before (codes "AZ"))
+    and_from (ends_with nat_eq all (codes "AZ")) (list_all (λ c. nat_lt (digit_value c) 16) h.digits) (ends_of before (codes "AZ"))
     (digits_of h.digits h.hexadecimal) in
     let second : ((sum all + digits_value 16 h.digits) % 65536 == 0) ≡ u = ap (λ m. (sum all + m) % 65536 == 0) (sym h.value) ∙ test in
     ap (λ xs. of_parts line xs (drop n line)) summed ∙ ap (of_parts line all) digits
@@ -156,7 +146,7 @@ ends_in_check line h =
     let summed : List ℕ = take n line in
     let digits : List ℕ = drop n line in
     let front : List ℕ = take (length summed - 2) summed in
-    let both = both_true (ends_with nat_eq summed (codes "AZ")) (list_all (λ c. nat_lt (digit_value c) 16) digits) h in
+    let both = and_parts (ends_with nat_eq summed (codes "AZ")) (list_all (λ c. nat_lt (digit_value c) 16) digits) h in
     let split : summed ≡ front ++ codes "AZ" = ends_true summed (codes "AZ") both.0 in
     let whole : line ≡ front ++ codes "AZ" ++ digits = sym (take-append-drop n line) ∙ ap (λ xs. xs ++ digits) split in
     let len : length summed ≡ length front + 2 = ap length split ∙ length-append front (codes "AZ") in

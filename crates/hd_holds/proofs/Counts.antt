@@ -1,5 +1,5 @@
 -- Counts of numbers, and of the holds of a queue by patron.
-use Rattle.std.proofs.Common.{◌≡◌, ◌≢◌, ℕ, ◌+◌, ◌<◌, ◌≤◌, Bool, true, false, cond, List, [], ◌∷◌, Option, None, Some, refl, ap, sym, ◌∙◌}
+use Rattle.std.proofs.Common.{◌≡◌, ◌≢◌, ℕ, ◌+◌, ◌<◌, Bool, true, false, cond, List, [], ◌∷◌, Option, None, Some, refl, ap, sym, ◌∙◌}
 use Rattle.std.proofs.Common.{inl, inr, arith, length, zero, suc, eq-eqb}
 use Rattle.std.specs.List.{count_by}
 use Rattle.std.proofs.lemmas.Bool.Decides.{nat_tests}
@@ -18,14 +18,6 @@ count-same f g (suc m) same = λ i. cond (same m (omega arith) i) 1 0 + count-sa
 pub count-none : (m : ℕ) → count_below (λ n. false) m ≡ 0
 count-none zero = refl
 count-none (suc m) = omega (arith, count-none m)
-
--- no more are counted than there are
-pub count-le : (f : ℕ → Bool) (m : ℕ) → count_below f m ≤ m
-count-le f zero = omega arith
-count-le f (suc m) = elim (f m) as (λ (b : Bool). cond b 1 0 + count_below f m ≤ suc m) [
-  | true ↦ omega (arith, count-le f m)
-  | false ↦ omega (arith, count-le f m)
-]
 
 -- two tests that differ at one number alone, which passes the first and not the second
 pub count-differs : (f g : ℕ → Bool) (p m : ℕ) → g p ≡ false → ((n : ℕ) → n ≢ p → f n ≡ g n) → p < m →

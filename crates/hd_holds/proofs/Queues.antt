@@ -14,9 +14,10 @@ use Rattle.hd_queue.specs.Holds.{HasNoStamp, count_before, hold_of, without}
 use Rattle.hd_queue.specs.QueueValue.{QueueValue}
 use Rattle.hd_holds.specs.HoldsValue.{HoldsValue}
 use Rattle.hd_holds.specs.Held.{AreQueues, IsQueue, IsWelcome, facts, patron_hold, queue_of, with_held}
-use Rattle.hd_holds.proofs.Counts.{count-all, count-holds, count-le}
+use Rattle.hd_holds.proofs.Counts.{count-all, count-holds}
 use Rattle.hd_queue.specs.Laws.{QueuesStayInOrder}
 use Rattle.hd_holds.proofs.Lists.{hold-named, hold_of-with_held, known-held, known-patrons, no_stamp-without, queue-with_held, stamps-apart}
+use Rattle.hd_lemmas.proofs.Counts.{count_below-le}
 
 pub queue-empty : (k : Facts) (hs : List Hold) → hs ≡ [] → IsQueue k hs
 queue-empty k hs e = rw e record { ordered = tt; once = tt; known = tt }
@@ -105,7 +106,7 @@ count-queue v t is =
 
 pub few-holds : (v : HoldsValue) (t : ℕ) → IsQueue (facts v) (queue_of v.queues t).holds →
     length (queue_of v.queues t).holds ≤ (facts v).patrons
-few-holds v t is = rw (count-queue v t is) (count-le (λ p. is_some (patron_hold v t p)) (facts v).patrons)
+few-holds v t is = rw (count-queue v t is) (count_below-le (λ p. is_some (patron_hold v t p)) (facts v).patrons)
 
 -- the queue of a title, of holds v that are w
 pub record Reads (v w : HoldsValue) (t : ℕ) (q : QueueValue) : Type 0 where

@@ -1,6 +1,6 @@
 -- A journal goes on by one turn.
 use Rattle.std.proofs.Common.{arith, ◌≡◌, refl, sym, ◌∙◌, ap, subst, ℕ, ◌+◌, ◌≤◌, inl, inr}
-use Rattle.std.proofs.Common.{List, [], ◌∷◌, ◌++◌, length, length-append, Option, Some, None, Result, Ok, Err, OnErr}
+use Rattle.std.proofs.Common.{List, [], ◌∷◌, ◌++◌, length, length-append, Option, Some, None}
 use Rattle.hd_rules.specs.declared.turns.Asked.{Asked}
 use Rattle.hd_rules.specs.declared.turns.Asked.TheVariants as ask
 use Rattle.hd_rules.specs.declared.replies.TurnReply.{TurnReply}
@@ -10,6 +10,7 @@ use Rattle.hd_rules.specs.Turns.{Message, Kept, State, Answered}
 use Rattle.hd_rules.specs.Machine.{kept_reply, reply_again, answered_unless, with_kept, turn_of}
 use Rattle.hd_rules.specs.Journal.{Turn, state_after}
 use Rattle.hd_catalogue.specs.Contents.{Contents, facts_of}
+use Rattle.hd_desk.specs.Desks.{Opens}
 use Rattle.hd_footprint.specs.Meter.{Counts}
 use Rattle.hd_journal.specs.declared.turn.Turn.{Turn as OneTurn}
 use Rattle.hd_journal.specs.Asks.{asking}
@@ -121,10 +122,11 @@ kept_after laws turns items r next kept later turn h =
     let k : Facts = facts_of r.contents in
     let goes : turn_of k (state_after k turns) turn.message ≡ record { reply = turn.reply; state = state_at next later } =
     answered_so turns items r next kept later turn h in
-    let low : r.last ≤ length turns = h.was.last in
+    let low : r.last ≤ k.opening.last + length turns = h.was.last in
     let up : next.last ≤ r.last + 1 = h.last in
     record {
       range = h.was.range;
+      opens = h.was.opens;
       known = known_more k turns turn h.was.known h.known;
       legal = (laws.legal.goes_on k turns turn).0.1 (h.was.legal, ap (λ (a : Answered). a.reply) (sym goes));
       state = state_goes laws turns items r next kept later turn h
@@ -142,13 +144,15 @@ kept_on laws turns items r next kept later turn h =
 
 -- a journal without turns
 pub kept_at_start : (contents : Contents) (r : Running) (turns : List Turn) (places : List (Option ℕ))
-    → AreInRange (facts_of contents)
-    → r ≡ record { contents = contents; survivors = []; last = 0 }
+    → AreInRange (facts_of contents) → Opens (facts_of contents)
+    → r ≡ record { contents = contents; survivors = []; last = (facts_of contents).opening.last }
     → turns ≡ [] → places ≡ [] → IsKept turns r (kept_in turns places)
-kept_at_start contents r turns places range is none nowhere =
-    let opening : Running = record { contents = contents; survivors = []; last = 0 } in
+kept_at_start contents r turns places range opens is none nowhere =
+    let opening : Running =
+    record { contents = contents; survivors = []; last = (facts_of contents).opening.last } in
     let start_kept : IsKept [] opening (kept_in [] []) = record {
       range = range;
+      opens = opens;
       known = λ turn among. absurd among;
       legal = tt;
       state = λ j. state_at opening (λ t. None);
@@ -166,7 +170,7 @@ legal_book laws turns r kept is = record {
   run = laws.journals.run (facts_of r.contents) turns is.legal;
   headline = laws.headline (facts_of r.contents) turns is.legal;
   replies = laws.journals.replies (facts_of r.contents) turns is.legal;
-  known = laws.journals.known (facts_of r.contents) turns is.range is.legal is.known;
+  known = laws.journals.known (facts_of r.contents) turns is.range is.opens.known is.legal is.known;
 }
 
 -- the same of a journal that is equal to its parts
@@ -184,11 +188,6 @@ kept_there turns more r kept later is same still =
 -- a journal of these parts
 abbrev pub book_at : Running → List Turn → Counts → Book
 book_at r turns work = record { contents = r.contents; turns = turns; work = work }
-
--- what holds at each end holds at an error
-pub on_err : {T E : Type 0} (result : Result T E) (P : Type 0) → P → OnErr result P
-on_err (Ok value) P holds = tt
-on_err (Err why) P holds = holds
 
 -- nothing was done
 pub still_book : (book : Book) → MakesNoTurn book book

@@ -4,7 +4,7 @@ use Rattle.hd_rules.specs.declared.commands.Command.{Command}
 use Rattle.hd_rules.specs.declared.commands.Survivor.{Survivor}
 use Rattle.hd_rules.specs.declared.replies.Refusal.{Refusal}
 use Rattle.hd_rules.specs.declared.replies.TurnReply.TheVariants.{Done as Accepted}
-use Rattle.hd_rules.specs.Facts.{Facts}
+use Rattle.hd_rules.specs.Facts.{Facts, first_number}
 use Rattle.hd_rules.specs.Desk.{Desk, after}
 use Rattle.hd_rules.specs.Ask.{Done}
 use Rattle.hd_rules.specs.Run.{run, outcome_of, changed_by, step, next_number}
@@ -25,8 +25,9 @@ more : (r : Running) (d e : Desk) (new : Survivor) (done : Done) → IsRunning r
     → new.number ≡ r.last + 1 → outcome_of (facts_of r.contents) d new ≡ Ok done → e ≡ after done.changes d
     → IsRunning (record { contents = r.contents; survivors = r.survivors ++ new ∷ []; last = r.last + 1 }) e
 more r d e new done is adds number accepted goes =
-    let low : next_number 1 r.survivors ≤ r.last + 1 = is.last in
-    let next : next_number 1 (r.survivors ++ new ∷ []) ≡ new.number + 1 = next_last 1 r.survivors new in
+    let first : ℕ = first_number (facts_of r.contents) in
+    let low : next_number first r.survivors ≤ r.last + 1 = is.last in
+    let next : next_number first (r.survivors ++ new ∷ []) ≡ new.number + 1 = next_last first r.survivors new in
     record {
       desk = run_more (facts_of r.contents) r.survivors new d e is.desk (stepped (facts_of r.contents) d e new done accepted goes);
       may_run = may_run_last (facts_of r.contents) r.survivors new is.may_run adds (omega arith);

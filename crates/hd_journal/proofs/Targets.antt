@@ -9,8 +9,8 @@ use Rattle.hd_rules.specs.Run.{Rising}
 use Rattle.hd_rules.specs.Target.{IsTarget, Split}
 use Rattle.hd_rules.specs.Searches.{target}
 use Rattle.hd_records.specs.Survivors.{newer, older, record_of, survivor_of, survivors_of, target_of}
+use Rattle.hd_journal.specs.Deciding.{IsAt, split_of}
 use Rattle.hd_journal.specs.Laws.{CancellationLaws}
-use Rattle.hd_journal.proofs.Stored.{IsAt}
 
 -- records above a number, and records below it
 all_newer : (n m : ℕ) (rs : List Record) → n < m → Rising m (survivors_of rs) → newer n rs ≡ rs
@@ -92,11 +92,7 @@ pub record Aimed (terminal : ℕ) (what : Cancel) (rs : List Record) (n : ℕ) :
   pub aim : Record
   pub number : aim.number ≡ n
   pub at : IsAt rs n aim
-  pub is_target : target terminal what (survivors_of rs) ≡ Some (record {
-    older = survivors_of (older n rs);
-    survivor = survivor_of aim;
-    newer = survivors_of (newer n rs);
-  })
+  pub is_target : target terminal what (survivors_of rs) ≡ Some (split_of rs n aim)
 
 some_number : (n m : ℕ) → Some n ≡ Some m → n ≡ m
 some_number n m is = ap (λ (o : Option ℕ). number_or o) is
@@ -112,9 +108,9 @@ no_number n is = subst (λ (o : Option ℕ). IsNumber o) is tt
     IsNumber None = ⊥
     IsNumber (Some x) = Unit {0}
 
-pub aimed : (laws : CancellationLaws) (terminal : ℕ) (what : Cancel) (rs : List Record) (n : ℕ) → Rising 1 (survivors_of rs)
+pub aimed : (laws : CancellationLaws) (terminal : ℕ) (what : Cancel) (rs : List Record) (n m : ℕ) → Rising m (survivors_of rs)
     → Some n ≡ target_of terminal what rs → Aimed terminal what rs n
-aimed laws terminal what rs n rising is = by_target (target terminal what (survivors_of rs)) refl
+aimed laws terminal what rs n m rising is = by_target (target terminal what (survivors_of rs)) refl
   where
     by_target : (o : Option Split) → target terminal what (survivors_of rs) ≡ o → Aimed terminal what rs n
     by_target None found = absurd (no_number n (is ∙ ap (option_map (λ (at : Split). at.survivor.number)) found))
@@ -122,7 +118,7 @@ aimed laws terminal what rs n rising is = by_target (target terminal what (survi
         let parts : IsTarget terminal what (survivors_of rs) at = (laws.target.found terminal what (survivors_of rs) at).0 found in
         let number : at.survivor.number ≡ n =
         sym (some_number n at.survivor.number (is ∙ ap (option_map (λ (x : Split). x.survivor.number)) found)) in
-        let there : Cut 1 n rs at.older at.survivor at.newer = cut 1 n rs at.older at.survivor at.newer rising parts.split number in
+        let there : Cut m n rs at.older at.survivor at.newer = cut m n rs at.older at.survivor at.newer rising parts.split number in
         record {
           aim = there.aim;
           number = ap (λ (s : Survivor). s.number) there.is ∙ number;
@@ -141,13 +137,6 @@ lent_is lent r o is there = ap (λ (x : Option Record). record_or x) (is ∙ the
 
 pub lent_changes : (lent r : Record) (o : Option Record) → Some lent ≡ o → o ≡ Some r → lent.changes ≡ r.changes
 lent_changes lent r o is there = ap (λ (x : Record). x.changes) (lent_is lent r o is there)
-
-pub none_there : (r : Record) → None ≡ Some r → ⊥
-none_there r is = subst (λ (o : Option Record). IsNothing o) is tt
-  where
-    IsNothing : Option Record → Type 0
-    IsNothing None = Unit {0}
-    IsNothing (Some x) = ⊥
 
 -- no number, no target
 pub none_aimed : (o : Option Split) → None ≡ option_map (λ (at : Split). at.survivor.number) o → o ≡ None

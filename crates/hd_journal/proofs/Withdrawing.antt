@@ -1,12 +1,12 @@
 -- What a cancellation leaves, and its work.
 use Rattle.std.proofs.Common.{arith, ◌≡◌, sym, ◌∙◌, ap, subst, ℕ, ◌+◌, ◌*◌, ◌≤◌}
-use Rattle.std.proofs.Common.{List, [], ◌∷◌, ◌++◌, length, filter, Bool, Option, Some, None}
+use Rattle.std.proofs.Common.{List, [], ◌∷◌, ◌++◌, length, filter, Option, Some, None}
 use Rattle.hd_rules.specs.declared.commands.Cancel.{Cancel}
 use Rattle.hd_rules.specs.declared.commands.Survivor.{Survivor}
 use Rattle.hd_rules.specs.declared.replies.Refusal.TheVariants as refusal
-use Rattle.hd_rules.specs.declared.replies.TurnReply.TheVariants.{Refused, Cancelled}
+use Rattle.hd_rules.specs.declared.replies.TurnReply.TheVariants.{Cancelled}
 use Rattle.hd_rules.specs.declared.cells.Change.{Change}
-use Rattle.hd_rules.specs.Facts.{Facts, AreInRange}
+use Rattle.hd_rules.specs.Facts.{Facts, AreInRange, first_number}
 use Rattle.hd_rules.specs.Desk.{Desk}
 use Rattle.hd_rules.specs.Record.{Record}
 use Rattle.hd_rules.specs.Run.{outcome_of, run, Rising, next_number}
@@ -20,145 +20,124 @@ use Rattle.hd_footprint.specs.Meter.{Counts}
 use Rattle.hd_inverse.specs.Work.{after_writes}
 use Rattle.hd_clash.specs.About.{touches}
 use Rattle.hd_clash.specs.Clash.{first_clash}
-use Rattle.hd_clash.specs.Records.{EachRecordIsKnown}
 use Rattle.hd_records.specs.Looks.{after_looks, questions_of}
-use Rattle.hd_records.specs.RecordsValue.{AreListed, AreOfCatalogue, RecordsValue}
+use Rattle.hd_records.specs.RecordsValue.{RecordsValue}
 use Rattle.hd_records.specs.Survivors.{survivor_of, survivors_of, changes_of, newer, older, target_of}
+use Rattle.hd_journal.specs.Deciding.{AreKept, IsRefused, IsTargetAt, MayGo, Parts, running_at, split_of}
 use Rattle.hd_journal.specs.Laws.{CancellationLaws}
 use Rattle.hd_journal.specs.Running.{Running, IsRunning, MayRun, Withdrawn, state_at}
-use Rattle.hd_journal.specs.Stored.{AreStored}
 use Rattle.hd_journal.specs.Working.{IsCancellationWork, IsDecidedSo, IsDecision, cells_of}
-use Rattle.hd_journal.proofs.Runs.{may_run_without, rising_at}
-use Rattle.hd_journal.proofs.Stored.{Parts, changes_there, done_of_record, first_is, parts_at, stored_of}
+use Rattle.hd_journal.proofs.Runs.{may_run_without}
+use Rattle.hd_journal.proofs.Stored.{CanGo, can_go, changes_there, done_of_record, first_is, parts_at, stored_of}
 use Rattle.hd_journal.proofs.Targets.{Aimed, aimed}
-use Rattle.hd_journal.proofs.Working.{Compares, cells_are, compares, in_words, takes_back}
+use Rattle.hd_journal.proofs.Working.{cells_are, in_words, takes_back}
+use Rattle.hd_lemmas.proofs.Rules.{rising_at}
 
-abbrev pub split_of : List Record → ℕ → Record → Split
-split_of rs i aim =
-    record { older = survivors_of (older i rs); survivor = survivor_of aim; newer = survivors_of (newer i rs) }
-
--- the target, by the record at its place
-pub record Aims (r : Running) (terminal : ℕ) (what : Cancel) (rs : List Record) (i : ℕ) (aim : Record) : Type 0 where
-  pub same : r.survivors ≡ survivors_of rs
-  pub is_target : target terminal what (survivors_of rs) ≡ Some (record {
-    older = survivors_of (older i rs);
-    survivor = survivor_of aim;
-    newer = survivors_of (newer i rs);
-  })
-
--- a cancellation with a target, at the records of a running journal
-pub record Aiming (k : Facts) (terminal : ℕ) (what : Cancel) (value : RecordsValue) (i : ℕ) : Type 0 where
-  pub aim : Record
-  pub number : aim.number ≡ i
-  pub parts : Parts k value.records i aim
-  pub rising : Rising 1 (survivors_of value.records)
-  pub of : AreOfCatalogue k value
-  pub stored : AreStored k value.records
-  pub few : length (changes_of i value.records) ≤ 4
-  pub is_target : target terminal what (survivors_of value.records) ≡ Some (split_of value.records i aim)
-
-abbrev pub running_at : Contents → List Record → ℕ → Running
-running_at contents rs last = record { contents = contents; survivors = survivors_of rs; last = last }
-
--- what a running journal keeps of its records
-abbrev pub Keeps : Contents → Desk → RecordsValue → Type 0
-Keeps contents d value =
-    IsRunning (running_at contents value.records value.last) d
-    × AreStored (facts_of contents) value.records
-    × AreListed (facts_of contents) value
-
-pub aiming : (laws : CancellationLaws) (contents : Contents) (d : Desk) (value : RecordsValue) (terminal : ℕ) (what : Cancel) (i : ℕ) (lent : Contents)
-    → lent ≡ contents → AreInRange (facts_of lent) → Keeps contents d value
-    → Some i ≡ target_of terminal what value.records → Aiming (facts_of contents) terminal what value i
-aiming laws contents d value terminal what i lent same range is found =
-    let k : Facts = facts_of contents in
+-- the record of a number that was found
+pub target_at : (laws : CancellationLaws) (k : Facts) (terminal : ℕ) (what : Cancel) (value : RecordsValue) (n : ℕ)
+    → AreInRange k → AreKept k value → Some n ≡ target_of terminal what value.records → IsTargetAt k terminal what value n
+target_at laws k terminal what value n range kept found =
     let rs : List Record = value.records in
-    let target : Aimed terminal what rs i = aimed laws terminal what rs i is.0.may_run.rising found in
-    let parts : Parts k rs i target.aim = parts_at laws k rs i target.aim target.at is.1 in
+    let aim : Aimed terminal what rs n = aimed laws terminal what rs n (first_number k) kept.may_run.rising found in
+    let parts : Parts k rs n aim.aim = parts_at laws k rs n aim.aim aim.at kept.stored in
     record {
-      aim = target.aim;
-      number = target.number;
+      record_there = aim.aim;
+      number = aim.number;
       parts = parts;
-      rising = is.0.may_run.rising;
-      of = stored_of laws k value (subst (λ (x : Contents). AreInRange (facts_of x)) same range) is.0.may_run is.1 is.2;
-      stored = is.1;
+      is_target = aim.is_target;
+      kept = kept;
+      of = stored_of laws k value range kept.may_run kept.stored kept.listed;
       few =
-          subst (λ (cs : List Change). length cs ≤ 4) (sym (changes_there rs i target.aim target.at))
-          (laws.commands.few k (run k (survivors_of (older i rs))) target.aim.number target.aim.command (done_of_record target.aim) parts.one.done);
-      is_target = target.is_target;
+          subst (λ (cs : List Change). length cs ≤ 4) (sym (changes_there rs n aim.aim aim.at))
+          (laws.commands.few k (run k (survivors_of (older n rs))) aim.aim.number aim.aim.command (done_of_record aim.aim) parts.one.done);
     }
 
--- what the first clash says, by the catalogue that was lent
-pub clash_there : (lent contents : Contents) (changes : List Change) (rs : List Record) (o : Option ℕ) → lent ≡ contents
-    → o ≡ first_clash (facts_of lent) changes rs → first_clash (facts_of contents) changes rs ≡ o
-clash_there lent contents changes rs o same is =
-    ap (λ (x : Contents). first_clash (facts_of x) changes rs) (sym same) ∙ sym is
+-- the first clash is the first dependent of the target
+dependent_is : (laws : CancellationLaws) (k : Facts) (terminal : ℕ) (what : Cancel) (value : RecordsValue) (n : ℕ) (o : Option ℕ)
+    (at : IsTargetAt k terminal what value n) → first_clash k (changes_of n value.records) (newer n value.records) ≡ o
+    → first_dependent k (survivors_of value.records) (survivor_of at.record_there) (survivors_of (newer n value.records)) ≡ o
+dependent_is laws k terminal what value n o at is =
+    sym (first_is laws k value.records n at.record_there at.parts at.kept.may_run at.of.known) ∙ is
 
-decided : (laws : CancellationLaws) (r : Running) (terminal : ℕ) (what : Cancel) (rs : List Record) (i : ℕ) (aim : Record) (o : Option ℕ)
-    (kept : ℕ → Option Kept) → Aims r terminal what rs i aim → Parts (facts_of r.contents) rs i aim → Rising 1 (survivors_of rs)
-    → EachRecordIsKnown (facts_of r.contents) rs
-    → first_clash (facts_of r.contents) (changes_of i rs) (newer i rs) ≡ o
-    → answered_cancel (facts_of r.contents) (state_at r kept) (target terminal what r.survivors)
-    ≡ answered_target (facts_of r.contents) (state_at r kept) (split_of rs i aim) o
-decided laws r terminal what rs i aim o kept aims parts rising known is =
-    let k : Facts = facts_of r.contents in
-    ap (answered_cancel k (state_at r kept)) (ap (target terminal what) aims.same ∙ aims.is_target)
-    ∙ ap (answered_target k (state_at r kept) (split_of rs i aim))
-    (ap (λ (ss : List Survivor). first_dependent k ss (survivor_of aim) (survivors_of (newer i rs))) aims.same
-    ∙ sym (first_is laws k rs i aim parts rising known) ∙ is)
+decided : (laws : CancellationLaws) (contents : Contents) (terminal : ℕ) (what : Cancel) (value : RecordsValue) (n : ℕ) (o : Option ℕ)
+    (kept : ℕ → Option Kept) (at : IsTargetAt (facts_of contents) terminal what value n)
+    → first_clash (facts_of contents) (changes_of n value.records) (newer n value.records) ≡ o
+    → answered_cancel (facts_of contents) (state_at (running_at contents value.records value.last) kept)
+    (target terminal what (survivors_of value.records))
+    ≡ answered_target (facts_of contents) (state_at (running_at contents value.records value.last) kept)
+    (split_of value.records n at.record_there) o
+decided laws contents terminal what value n o kept at is =
+    let k : Facts = facts_of contents in
+    let r : Running = running_at contents value.records value.last in
+    ap (answered_cancel k (state_at r kept)) at.is_target
+    ∙ ap (answered_target k (state_at r kept) (split_of value.records n at.record_there))
+    (dependent_is laws k terminal what value n o at is)
 
-pub withdrawn_depends : (laws : CancellationLaws) (r : Running) (terminal : ℕ) (what : Cancel) (rs : List Record) (i : ℕ) (aim : Record) (n : ℕ)
-    → Aims r terminal what rs i aim → Parts (facts_of r.contents) rs i aim → Rising 1 (survivors_of rs)
-    → EachRecordIsKnown (facts_of r.contents) rs → first_clash (facts_of r.contents) (changes_of i rs) (newer i rs) ≡ Some n
-    → Withdrawn r terminal what (Refused (refusal.Depends n)) r
-withdrawn_depends laws r terminal what rs i aim n aims parts rising known is kept =
-    decided laws r terminal what rs i aim (Some n) kept aims parts rising known is
+-- what was found can go
+pub goes_at : (laws : CancellationLaws) (k : Facts) (terminal : ℕ) (what : Cancel) (value : RecordsValue) (n : ℕ) (old new : Counts)
+    (goes : MayGo k terminal what value n old new) → CanGo k value.records n goes.at.record_there
+goes_at laws k terminal what value n old new goes =
+    can_go laws k value.records n goes.at.record_there goes.at.parts goes.at.kept.may_run goes.at.of.known goes.stands
 
-pub withdrawn_stands : (laws : CancellationLaws) (r : Running) (terminal : ℕ) (what : Cancel) (rs : List Record) (i : ℕ) (aim : Record)
-    (contents : Contents) (items : List Survivor)
-    → Aims r terminal what rs i aim → Parts (facts_of r.contents) rs i aim → Rising 1 (survivors_of rs)
-    → EachRecordIsKnown (facts_of r.contents) rs → first_clash (facts_of r.contents) (changes_of i rs) (newer i rs) ≡ None
-    → contents ≡ r.contents → items ≡ survivors_of (older i rs) ++ survivors_of (newer i rs)
-    → Withdrawn r terminal what (Cancelled aim.number) (record { contents = contents; survivors = items; last = r.last })
-withdrawn_stands laws r terminal what rs i aim contents items aims parts rising known is same rest kept =
-    decided laws r terminal what rs i aim None kept aims parts rising known is
+-- the answer without a target, where a later one depends on it, and where none does
+pub refused_nothing : (contents : Contents) (terminal : ℕ) (what : Cancel) (value : RecordsValue)
+    → target terminal what (survivors_of value.records) ≡ None → IsRefused contents terminal what value refusal.NothingToCancel
+refused_nothing contents terminal what value none kept =
+    ap (answered_cancel (facts_of contents) (state_at (running_at contents value.records value.last) kept)) none
+
+pub refused_depends : (laws : CancellationLaws) (contents : Contents) (terminal : ℕ) (what : Cancel) (value : RecordsValue) (n m : ℕ)
+    → IsTargetAt (facts_of contents) terminal what value n
+    → first_clash (facts_of contents) (changes_of n value.records) (newer n value.records) ≡ Some m
+    → IsRefused contents terminal what value (refusal.Depends m)
+refused_depends laws contents terminal what value n m at is kept =
+    decided laws contents terminal what value n (Some m) kept at is
+
+pub withdrawn_stands : (laws : CancellationLaws) (contents : Contents) (terminal : ℕ) (what : Cancel) (value : RecordsValue) (n : ℕ)
+    (next : Contents) (items : List Survivor) → IsTargetAt (facts_of contents) terminal what value n
+    → first_clash (facts_of contents) (changes_of n value.records) (newer n value.records) ≡ None
+    → next ≡ contents → items ≡ survivors_of (older n value.records) ++ survivors_of (newer n value.records)
+    → Withdrawn (running_at contents value.records value.last) terminal what (Cancelled n)
+    (record { contents = next; survivors = items; last = value.last })
+withdrawn_stands laws contents terminal what value n next items at is same rest kept =
+    decided laws contents terminal what value n None kept at is
     ∙ (λ j. record {
-      reply = Cancelled aim.number;
-      state = state_at (record { contents = sym same j; survivors = sym rest j; last = r.last }) kept;
+      reply = Cancelled (at.number j);
+      state = state_at (record { contents = sym same j; survivors = sym rest j; last = value.last }) kept;
     })
 
 -- the work, where a later one depends on the target, and where none does
-pub work_depends : (laws : CancellationLaws) (k : Facts) (survivors : List Survivor) (o : Option Split) (rs : List Record) (i : ℕ) (aim : Record)
-    (n : ℕ) (P : Record → Bool) (old mid new : Counts)
-    → survivors ≡ survivors_of rs → o ≡ Some (split_of rs i aim) → Parts k rs i aim → Rising 1 (survivors_of rs) → EachRecordIsKnown k rs
-    → first_clash k (changes_of i rs) (newer i rs) ≡ Some n → Compares k P rs i old mid new → IsCancellationWork k survivors o old new
-work_depends laws k survivors o rs i aim n P old mid new same found parts rising known is h =
-    let first : first_dependent k survivors (survivor_of aim) (survivors_of (newer i rs)) ≡ Some n =
-    ap (λ (ss : List Survivor). first_dependent k ss (survivor_of aim) (survivors_of (newer i rs))) same
-    ∙ sym (first_is laws k rs i aim parts rising known) ∙ is in
-    subst (λ (x : Option Split). IsCancellationWork k survivors x old new) (sym found)
-    (subst (λ (x : Option ℕ). IsDecidedSo k (split_of rs i aim) x old new) (sym first)
-    (in_words k rs i 0 aim 2 old new parts (compares laws k P rs i old mid new h)))
+in_rules : (k : Facts) (terminal : ℕ) (what : Cancel) (value : RecordsValue) (n : ℕ) (o : Option ℕ) (old new : Counts)
+    (at : IsTargetAt k terminal what value n)
+    → first_dependent k (survivors_of value.records) (survivor_of at.record_there) (survivors_of (newer n value.records)) ≡ o
+    → IsDecidedSo k (split_of value.records n at.record_there) o old new
+    → IsCancellationWork k (survivors_of value.records) (target terminal what (survivors_of value.records)) old new
+in_rules k terminal what value n o old new at first is =
+    subst (λ (x : Option Split). IsCancellationWork k (survivors_of value.records) x old new) (sym at.is_target)
+    (subst (λ (x : Option ℕ). IsDecidedSo k (split_of value.records n at.record_there) x old new) (sym first) is)
 
-pub work_stands : (laws : CancellationLaws) (k : Facts) (survivors : List Survivor) (o : Option Split) (rs : List Record) (i : ℕ) (aim : Record)
-    (P : Record → Bool) (old mid compared back new : Counts)
-    → survivors ≡ survivors_of rs → o ≡ Some (split_of rs i aim) → Parts k rs i aim → Rising 1 (survivors_of rs) → EachRecordIsKnown k rs
-    → first_clash k (changes_of i rs) (newer i rs) ≡ None → Compares k P rs i old mid compared
-    → back ≡ after_writes (length aim.changes) compared
-    → new ≡ after_looks (length (filter (touches k (changes_of i rs)) (newer i rs))) back → IsCancellationWork k survivors o old new
-work_stands laws k survivors o rs i aim P old mid compared back new same found parts rising known is h writes looks =
-    let first : first_dependent k survivors (survivor_of aim) (survivors_of (newer i rs)) ≡ None =
-    ap (λ (ss : List Survivor). first_dependent k ss (survivor_of aim) (survivors_of (newer i rs))) same
-    ∙ sym (first_is laws k rs i aim parts rising known) ∙ is in
-    let all : IsDecision (length aim.changes) (3 * length (newer i rs) + 1) (questions_of (newer i rs)) old new =
-    takes_back laws (touches k (changes_of i rs)) rs i (length aim.changes) (questions_of (newer i rs)) old compared back new
-    (compares laws k P rs i old mid compared h)
+pub work_depends : (laws : CancellationLaws) (k : Facts) (terminal : ℕ) (what : Cancel) (value : RecordsValue) (n m : ℕ) (old new : Counts)
+    → IsTargetAt k terminal what value n → first_clash k (changes_of n value.records) (newer n value.records) ≡ Some m
+    → IsDecision 0 (2 * length (newer n value.records) + 1) (questions_of (newer n value.records)) old new
+    → IsCancellationWork k (survivors_of value.records) (target terminal what (survivors_of value.records)) old new
+work_depends laws k terminal what value n m old new at is work =
+    in_rules k terminal what value n (Some m) old new at (dependent_is laws k terminal what value n (Some m) at is)
+    (in_words k value.records n 0 at.record_there 2 old new at.parts work)
+
+pub work_stands : (laws : CancellationLaws) (k : Facts) (terminal : ℕ) (what : Cancel) (value : RecordsValue) (n : ℕ)
+    (old compared back new : Counts) (goes : MayGo k terminal what value n old compared)
+    → back ≡ after_writes (length goes.at.record_there.changes) compared
+    → new ≡ after_looks (length (filter (touches k (changes_of n value.records)) (newer n value.records))) back
+    → IsCancellationWork k (survivors_of value.records) (target terminal what (survivors_of value.records)) old new
+work_stands laws k terminal what value n old compared back new goes writes looks =
+    let rs : List Record = value.records in
+    let aim : Record = goes.at.record_there in
+    let all : IsDecision (length aim.changes) (3 * length (newer n rs) + 1) (questions_of (newer n rs)) old new =
+    takes_back laws (touches k (changes_of n rs)) rs n (length aim.changes) (questions_of (newer n rs)) old compared back new goes.work
     writes looks in
-    subst (λ (x : Option Split). IsCancellationWork k survivors x old new) (sym found)
-    (subst (λ (x : Option ℕ). IsDecidedSo k (split_of rs i aim) x old new) (sym first)
-    (in_words k rs i (cells_of (outcome_of k (run k (survivors_of (older i rs))) (survivor_of aim))) aim 3 old new parts
-    (subst (λ (n : ℕ). IsDecision n (3 * length (newer i rs) + 1) (questions_of (newer i rs)) old new)
-    (cells_are k rs i aim parts) all)))
+    in_rules k terminal what value n None old new goes.at (dependent_is laws k terminal what value n None goes.at goes.stands)
+    (in_words k rs n (cells_of (outcome_of k (run k (survivors_of (older n rs))) (survivor_of aim))) aim 3 old new goes.at.parts
+    (subst (λ (m : ℕ). IsDecision m (3 * length (newer n rs) + 1) (questions_of (newer n rs)) old new)
+    (cells_are k rs n aim goes.at.parts) all))
 
 -- no number of the others is above the last
 next_later : (n m : ℕ) (xs : List Survivor) → n ≤ m → next_number n xs ≤ next_number m xs
@@ -180,14 +159,16 @@ pub running_without : (r : Running) (d e : Desk) (older newer : List Survivor) (
 running_without r d e older newer c contents items is split same rest goes =
     let k : Facts = facts_of r.contents in
     let may : MayRun k (older ++ newer) = may_run_without k older c newer (subst (MayRun k) split is.may_run) in
-    let whole : Rising 1 (older ++ c ∷ newer) = subst (Rising 1) split is.may_run.rising in
-    let low : next_number 1 (older ++ c ∷ newer) ≤ r.last + 1 =
-    subst (λ (xs : List Survivor). next_number 1 xs ≤ r.last + 1) split is.last in
+    let first : ℕ = first_number k in
+    let whole : Rising first (older ++ c ∷ newer) = subst (Rising first) split is.may_run.rising in
+    let low : next_number first (older ++ c ∷ newer) ≤ r.last + 1 =
+    subst (λ (xs : List Survivor). next_number first xs ≤ r.last + 1) split is.last in
     subst (λ (x : Running). IsRunning x e) (λ j. record { contents = sym same j; survivors = sym rest j; last = r.last })
     (record {
       desk = goes;
       may_run = may;
-      last = (let up : 1 ≤ c.number = rising_at 1 older c newer whole in
-          let less : next_number 1 (older ++ newer) ≤ next_number 1 (older ++ c ∷ newer) = next_less 1 older c newer (omega arith) whole in
+      last = (let up : first ≤ c.number = rising_at first older c newer whole in
+          let less : next_number first (older ++ newer) ≤ next_number first (older ++ c ∷ newer) =
+          next_less first older c newer (omega arith) whole in
           omega arith);
     })

@@ -16,10 +16,11 @@ use Rattle.hd_clash.specs.Clash.{clashes, some_clash}
 use Rattle.hd_clash.specs.Work.{clash_work, with_comparisons}
 use Rattle.hd_records.specs.Looks.{IsWalk, after_looks, looks_to, questions_of, after_walk}
 use Rattle.hd_records.specs.Survivors.{survivor_of, survivors_of, changes_of, newer, older}
+use Rattle.hd_journal.specs.Deciding.{Parts}
 use Rattle.hd_journal.specs.Laws.{CancellationLaws}
 use Rattle.hd_journal.specs.Working.{IsDecision, OnlyRise, cells_of, questions_from}
 use Rattle.hd_journal.proofs.Raising.{rise_none, rise_on}
-use Rattle.hd_journal.proofs.Stored.{Parts, questions_are}
+use Rattle.hd_journal.proofs.Stored.{questions_are}
 
 -- looks only rise
 pub rise_looked : (n : ℕ) (counts : Counts) → OnlyRise counts (after_looks n counts)

@@ -1,5 +1,5 @@
 -- What a journal shows, and what it keeps.
-use Rattle.std.specs.Prelude.{◌≡◌, ℕ, zero, suc, ◌≤◌, Option, None, List, [], ◌∷◌, ◌++◌, length, slice_get}
+use Rattle.std.specs.Prelude.{◌≡◌, ℕ, zero, suc, ◌+◌, ◌≤◌, Option, None, List, [], ◌∷◌, ◌++◌, length, slice_get}
 use Rattle.hd_rules.specs.Facts.{Facts, AreInRange}
 use Rattle.hd_rules.specs.Known.{IsKnown, IsKnownJournal}
 use Rattle.hd_rules.specs.Turns.{Message, Kept, State, Answered}
@@ -9,6 +9,7 @@ use Rattle.hd_rules.specs.Headline.{Headline}
 use Rattle.hd_rules.specs.Replies.{IsReplyTo}
 use Rattle.hd_rules.specs.Run.{IsAmong}
 use Rattle.hd_catalogue.specs.Contents.{Contents, facts_of}
+use Rattle.hd_desk.specs.Desks.{Opens}
 use Rattle.hd_footprint.specs.Meter.{Counts}
 use Rattle.hd_journal.specs.declared.turn.Turn.{Turn as Made}
 use Rattle.hd_journal.specs.Running.{Running, state_at}
@@ -73,11 +74,12 @@ pub record IsLegalBook (contents : Contents) (turns : List Turn) : Type 0 where
 abbrev pub AskKnown : Facts → List Turn → Type 0
 AskKnown k turns = (turn : Turn) → IsAmong turn turns → IsKnown k turn.message.asked
 
--- The turns are legal, of messages that name things of the catalogue, the machine has come to this state, and
--- no more numbers are given than there are turns.
+-- The journal may begin, its turns are legal, of messages that name things of the catalogue, the machine has
+-- come to this state, and no more numbers are given than there are turns.
 pub record IsKept (turns : List Turn) (r : Running) (k : ℕ → Option Kept) : Type 0 where
   pub range : AreInRange (facts_of r.contents)
+  pub opens : Opens (facts_of r.contents)
   pub known : AskKnown (facts_of r.contents) turns
   pub legal : IsLegal (facts_of r.contents) turns
   pub state : state_after (facts_of r.contents) turns ≡ state_at r k
-  pub last : r.last ≤ length turns
+  pub last : r.last ≤ (facts_of r.contents).opening.last + length turns

@@ -2,6 +2,7 @@ pub mod Asks
 pub mod Running
 pub mod Working
 pub mod Stored
+pub mod Deciding
 pub mod Laws
 pub mod Telling
 pub mod Books

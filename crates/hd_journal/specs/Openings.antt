@@ -4,7 +4,8 @@ use Rattle.hd_rules.specs.Journal.{Turn}
 use Rattle.hd_catalogue.specs.Contents.{Contents}
 use Rattle.hd_journal.specs.Books.{IsLegalBook}
 
--- what the library's catalogue says, and the turns that its journal has already
+-- What the library's catalogue says, and the turns that its journal has already. (The desk that the journal
+-- itself began with is the catalogue's own `opening`.)
 pub record Opening : Type 0 where
   pub contents : Contents
   pub begun : List Turn

@@ -1,7 +1,7 @@
 -- The commands that survive, and their run.
 use Rattle.std.specs.Prelude.{◌≡◌, ℕ, ◌+◌, ◌≤◌, Option, None, List, [], ◌∷◌}
 use Rattle.hd_rules.specs.declared.commands.Survivor.{Survivor}
-use Rattle.hd_rules.specs.Facts.{Facts}
+use Rattle.hd_rules.specs.Facts.{Facts, first_number}
 use Rattle.hd_rules.specs.Desk.{Desk}
 use Rattle.hd_rules.specs.Known.{IsKnownAction}
 use Rattle.hd_rules.specs.Run.{run, outcome_of, Rising, next_number}
@@ -15,6 +15,7 @@ use Rattle.hd_rules.specs.declared.turns.Asked.TheVariants as ask
 use Rattle.hd_rules.specs.Turns.{Kept, State, item_view, next_survivor}
 use Rattle.hd_rules.specs.Machine.{answered_command, answered_cancel}
 use Rattle.hd_catalogue.specs.Contents.{Contents, facts_of}
+use Rattle.hd_desk.specs.Desks.{Opens}
 
 -- the survivors and the last number given, over a catalogue
 pub record Running : Type 0 where
@@ -39,16 +40,18 @@ abbrev pub AllKnownSurvivors : Facts → List Survivor → Type 0
 AllKnownSurvivors k [] = Unit {0}
 AllKnownSurvivors k (s ∷ ss) = IsKnownSurvivor k s × AllKnownSurvivors k ss
 
--- a list of survivors that may be run: each names things of the catalogue, and their numbers rise
+-- A list of survivors that may be run, from the opening desk: each names things of the catalogue, and their
+-- numbers rise, from the first that a command is given.
 pub record MayRun (k : Facts) (survivors : List Survivor) : Type 0 where
-  pub rising : Rising 1 survivors
+  pub opens : Opens k
+  pub rising : Rising (first_number k) survivors
   pub known : AllKnownSurvivors k survivors
 
 -- the desk is the survivors' run, and no number is above the last one given
 pub record IsRunning (r : Running) (d : Desk) : Type 0 where
   pub desk : d ≡ run (facts_of r.contents) r.survivors
   pub may_run : MayRun (facts_of r.contents) r.survivors
-  pub last : next_number 1 r.survivors ≤ r.last + 1
+  pub last : next_number (first_number (facts_of r.contents)) r.survivors ≤ r.last + 1
 
 -- the same with nothing kept
 abbrev pub state_alone : Running → State

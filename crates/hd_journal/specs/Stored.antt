@@ -2,7 +2,6 @@
 use Rattle.std.specs.Prelude.{◌≡◌, ◌≢◌, ℕ, Option, Some, None, List, [], ◌∷◌}
 use Rattle.hd_rules.specs.declared.commands.Survivor.{Survivor}
 use Rattle.hd_rules.specs.Facts.{Facts}
-use Rattle.hd_rules.specs.Desk.{opening}
 use Rattle.hd_rules.specs.Run.{IsAmong}
 use Rattle.hd_rules.specs.Record.{Record, IsRecord}
 use Rattle.hd_clash.specs.Records.{AreRecords}
@@ -16,7 +15,7 @@ EachCanBeUndone k (r ∷ rs) = AreKnownChanges k r.changes × AreApart r.changes
 
 -- each is the record of its survivor, in the run of those before it
 pub record AreStored (k : Facts) (records : List Record) : Type 0 where
-  pub are : AreRecords k (opening k) (survivors_of records) records
+  pub are : AreRecords k k.opening.desk (survivors_of records) records
   pub undoable : EachCanBeUndone k records
 
 -- the record of the survivor of this number, or none where no survivor has it

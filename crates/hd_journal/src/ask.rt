@@ -119,7 +119,7 @@ impl<A: Allocator> Model for OwnedAsk<A> {
 }
 
 impl<A: Allocator> OwnedAsk<A> {
-    /// The turn of this, with its reply. Nothing is copy_if_any.
+    /// The turn of this, with its reply. Nothing is copied.
     pub fn with_reply(self, reply: TurnReply) -> Entry<A>
         ensures { result ≡ turn_with_reply self reply }
     {

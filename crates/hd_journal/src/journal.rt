@@ -4,10 +4,9 @@ ghost use Rattle.std.specs.Prelude.{◌≡◌, ◌<◌, [], None, IfOk, OnErr, l
 ghost use Rattle.hd_catalogue.specs.Contents.{facts_of};
 ghost use Rattle.hd_records.specs.Shown.{record_shown as shown_record};
 ghost use Rattle.hd_journal.specs.Stored.{IsRecordOf};
-ghost use Rattle.hd_rules.specs.Desk.{opening};
 ghost use Rattle.hd_rules.specs.Known.{IsKnownAction, IsKnownCancel};
 ghost use Rattle.hd_rules.specs.Run.{run};
-ghost use Rattle.hd_desk.specs.Desks.{contents, desk_of};
+ghost use Rattle.hd_desk.specs.Desks.{Opens, contents, desk_of};
 ghost use Rattle.hd_journal.specs.Asks.{IsKnownMessage, asking, message_of};
 ghost use Rattle.hd_journal.specs.Books.{AddsTurn, IsLegalBook, MakesNoTurn, facts, state, turn_numbered};
 ghost use Rattle.hd_journal.specs.Changing.{is_changing};
@@ -73,7 +72,8 @@ impl<A: Allocator + Copy> Journal<A> {
     /// A journal without turns, over a desk as `Desk::open` gave it. It counts its work by the meter, from
     /// there on.
     pub fn new(alloc: A, desk: Desk<A>, meter: Meter) -> Journal<A>
-        requires { desk_of desk ≡ opening (facts_of (contents desk)) }
+        requires desk { desk_of desk ≡ (facts_of (contents desk)).opening.desk }
+        requires opens { Opens (facts_of (contents desk)) }
         ensures new { result ≡ record { contents = contents desk; turns = []; work = meter } }
         ensures legal { IsLegalBook result.contents result.turns }
     {
@@ -228,7 +228,7 @@ impl<A: Allocator + Copy> Journal<A> {
         self.running.survivors()
     }
 
-    /// The last number given, or 0 where none was.
+    /// The last number given, or that given before where none was.
     pub fn last(&self) -> u64
         ensures { result ≡ (state self.now).last }
     {

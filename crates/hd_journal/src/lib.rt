@@ -5,6 +5,7 @@
 
 mod alone;
 mod ask;
+mod deciding;
 mod entry;
 mod fault;
 mod journal;

@@ -1,24 +1,24 @@
 //! The commands that survive, and the desk of their run.
 
-ghost use Rattle.std.specs.Prelude.{◌≡◌, ◌+◌, ◌<◌, ◌≤◌, ◌^◌, [], ℕ, None, Option, IfOk, OnErr, option_map};
+ghost use Rattle.std.specs.Prelude.{◌≡◌, ◌+◌, ◌<◌, ◌≤◌, [], ℕ, None, Option, IfOk, OnErr, option_map};
 ghost use Rattle.hd_catalogue.specs.Contents.{facts_of};
-ghost use Rattle.hd_rules.specs.Desk.{opening};
 ghost use Rattle.hd_rules.specs.Known.{IsKnown, IsKnownAction, IsKnownCancel};
 ghost use Rattle.hd_rules.specs.Run.{outcome_of, run};
 ghost use Rattle.hd_rules.specs.Searches.{target};
 ghost use Rattle.hd_rules.specs.Turns.{Kept, item_view, next_survivor};
-ghost use Rattle.hd_desk.specs.Desks.{contents, desk_of, facts};
+ghost use Rattle.hd_desk.specs.Desks.{Opens, contents, desk_of, facts};
 ghost use Rattle.hd_journal.specs.Running.{IsCarriedOut, Submitted, Withdrawn, state_alone};
 ghost use Rattle.hd_records.specs.Shown.{record_shown};
 ghost use Rattle.hd_journal.specs.Stored.{IsRecordOf};
 ghost use Rattle.hd_journal.specs.Working.{IsCancellationWork, IsWork, OnlyRise, command_work};
 
 use crate::ask::OwnedAsk;
+use crate::deciding::decide;
 use crate::laws::laws;
 use hd_desk::{Desk, Done, Meter, Refused};
 use hd_inverse::undo;
 use hd_records::{RecordRef, Records, StoredRecord, Survivors};
-use hd_rules::{Asked, Cancel, Command, CopyNo, Refusal, Survivor, TerminalNo, TurnReply};
+use hd_rules::{Asked, Cancel, Command, CopyNo, Survivor, TerminalNo, TurnReply};
 use std::alloc::{AllocError, Allocator};
 use std::marker::Model;
 
@@ -57,14 +57,17 @@ impl<A: Allocator> Model for Running<A> {
 }
 
 impl<A: Allocator + Copy> Running<A> {
-    /// No survivors, at an opening desk.
+    /// No survivors, at the desk that the catalogue's journal opens with.
     pub(crate) fn new(alloc: A, desk: Desk<A>) -> Running<A>
-        requires { desk_of desk ≡ opening (facts desk) }
-        ensures { result ≡ record { contents = contents desk; survivors = []; last = 0 } }
+        requires desk { desk_of desk ≡ (facts desk).opening.desk }
+        requires opens { Opens (facts desk) }
+        ensures { result
+            ≡ record { contents = contents desk; survivors = []; last = (facts desk).opening.last } }
     {
+        let before = desk.catalogue().last_before();
         Running {
             desk,
-            records: Records::new(alloc),
+            records: Records::new(alloc, before),
         }
     }
 
@@ -106,7 +109,6 @@ impl<A: Allocator + Copy> Running<A> {
         meter: &mut Meter,
     ) -> Result<TurnReply, AllocError>
         requires known { IsKnown (facts_of self.old.contents) ask.now.message.asked }
-        requires number { self.old.last + 1 < 2 ^ 64 }
         ensures answered { IfOk result (λ reply. IsCarriedOut self.old
             ask.now.message.terminal ask.now.message.asked reply self.new) }
         ensures work { IfOk result (λ _. IsWork (facts_of self.old.contents) (state_alone self.old)
@@ -142,7 +144,6 @@ impl<A: Allocator + Copy> Running<A> {
         meter: &mut Meter,
     ) -> Result<TurnReply, AllocError>
         requires known { IsKnownAction (facts_of self.old.contents) command.now.action }
-        requires number { self.old.last + 1 < 2 ^ 64 }
         ensures submitted { IfOk result (λ reply. Submitted self.old terminal command.now reply self.new) }
         ensures work { IfOk result (λ _. meter.new ≡ command_work
             (outcome_of (facts_of self.old.contents) (state_alone self.old).desk
@@ -191,14 +192,10 @@ impl<A: Allocator + Copy> Running<A> {
         ensures err { OnErr result (self.new ≡ self.old) }
     {
         laws();
-        let catalogue = self.desk.catalogue();
-        prove!(0 < catalogue.command_limit());
-        let Some(target) = self.records.newest(catalogue, terminal, what, meter) else {
-            return Ok(TurnReply::Refused(Refusal::NothingToCancel));
+        let target = match decide(self.desk.catalogue(), &self.records, terminal, what, meter) {
+            Ok(target) => target,
+            Err(refusal) => return Ok(TurnReply::Refused(refusal)),
         };
-        if let Some(number) = self.records.first_clash(catalogue, target, meter) {
-            return Ok(TurnReply::Refused(Refusal::Depends { number }));
-        }
         let Some(kept) = self.records.get(target) else {
             unreachable!()
         };

@@ -6,9 +6,9 @@ use Rattle.sqlite.specs.Tree.{Trees}
 use Rattle.hd_rules.specs.Turns.{start}
 use Rattle.hd_rules.specs.Journal.{Turn, IsLegal}
 use Rattle.hd_catalogue.specs.Contents.{Contents, facts_of}
-use Rattle.hd_ledger.specs.Kept.{KeptTurn, Head}
-use Rattle.hd_ledger.specs.Tables.{Stores}
-use Rattle.hd_ledger.specs.Holds.{Holds}
+use Rattle.hd_turn_store.specs.Kept.{KeptTurn, Head}
+use Rattle.hd_turn_store.specs.Tables.{Stores}
+use Rattle.hd_turn_store.specs.Holds.{Holds}
 use Rattle.hd_journal_file.specs.Rows.{IsTurnRow, AreTurnRows}
 use Rattle.hd_journal_file.specs.Held.{HasTurns, LeavesTurns}
 use Rattle.hd_journal_file.proofs.Stored.{one_kept}

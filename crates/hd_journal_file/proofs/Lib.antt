@@ -4,3 +4,4 @@ pub mod Held
 pub mod Tells
 pub mod Results
 pub mod Retaken
+pub mod Keeping

@@ -6,10 +6,6 @@ pub any_ok : {A E : Type 0} (r : Result A E) (P : Type 0) → P → OnOk r P
 any_ok (Ok x) P p = p
 any_ok (Err e) P p = tt
 
-pub any_err : {A E : Type 0} (r : Result A E) (P : Type 0) → P → OnErr r P
-any_err (Ok x) P p = tt
-any_err (Err e) P p = p
-
 -- what holds under a condition
 pub ok_under : {A E : Type 0} (r : Result A E) (C Q P : Type 0) → (C → OnOk r Q) → ((C → Q) → P) → OnOk r P
 ok_under (Ok x) C Q P q f = f q
@@ -18,8 +14,3 @@ ok_under (Err e) C Q P q f = tt
 pub err_under : {A E : Type 0} (r : Result A E) (C Q P : Type 0) → (C → OnErr r Q) → ((C → Q) → P) → OnErr r P
 err_under (Ok x) C Q P q f = tt
 err_under (Err e) C Q P q f = f q
-
--- what follows
-pub on_ok : {A E : Type 0} (r : Result A E) (P Q : Type 0) → (P → Q) → OnOk r P → OnOk r Q
-on_ok (Ok x) P Q f p = f p
-on_ok (Err e) P Q f p = p

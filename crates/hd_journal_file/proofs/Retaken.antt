@@ -11,9 +11,9 @@ use Rattle.hd_journal.specs.Books.{Book, AddsTurn, next_turn, machine_answer, fa
 use Rattle.hd_journal.specs.Changing.{is_changing, changing}
 use Rattle.hd_durable.specs.Laws.{ATurnMoreIsKeptWhereItChanges}
 use Rattle.hd_turn_row.specs.Rows.{IsRowOf}
-use Rattle.hd_ledger.specs.Kept.{KeptTurn, piece}
-use Rattle.hd_ledger.specs.Rows.{read_turn}
-use Rattle.hd_ledger.specs.declared.stored.StoredTurn.{StoredTurn}
+use Rattle.hd_turn_store.specs.Kept.{KeptTurn, piece}
+use Rattle.hd_turn_store.specs.Rows.{read_turn}
+use Rattle.hd_turn_store.specs.declared.stored.StoredTurn.{StoredTurn}
 use Rattle.hd_journal_file.specs.Rows.{texts, IsTurnRow, AreTurnRows}
 use Rattle.hd_journal_file.specs.Restored.{CameToRow, TakesPiece, TakesRow, TakesRows}
 use Rattle.hd_journal_file.proofs.Same.{rows_more}

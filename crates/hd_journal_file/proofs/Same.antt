@@ -6,7 +6,7 @@ use Rattle.hd_rules.specs.Journal.{Turn, IsLegalFrom}
 use Rattle.hd_rules.specs.declared.replies.TurnReply.{TurnReply}
 use Rattle.hd_catalogue.specs.Contents.{Contents, facts_of}
 use Rattle.hd_turn_row.specs.Rows.{RowTexts, IsRowOf}
-use Rattle.hd_ledger.specs.Kept.{KeptTurn}
+use Rattle.hd_turn_store.specs.Kept.{KeptTurn}
 use Rattle.hd_journal_file.specs.Rows.{texts, IsTurnRow, AreTurnRows}
 
 -- a row is that of one message

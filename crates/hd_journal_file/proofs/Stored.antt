@@ -4,8 +4,8 @@ use Rattle.sqlite.specs.declared.types.Value.{Value}
 use Rattle.sqlite.specs.declared.types.Value.TheVariants.{Int, Text, Blob}
 use Rattle.sqlite.specs.Order.{Row}
 use Rattle.sqlite.specs.Values.{or_null}
-use Rattle.hd_ledger.specs.Kept.{KeptTurn, cells, number_cell}
-use Rattle.hd_ledger.specs.Tables.{row_of_turn, stored_from}
+use Rattle.hd_turn_store.specs.Kept.{KeptTurn, cells, number_cell}
+use Rattle.hd_turn_store.specs.Tables.{row_of_turn, stored_from}
 
 abbrev text_in : Value → List ℕ
 text_in (Text t) = t

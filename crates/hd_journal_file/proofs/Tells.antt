@@ -8,8 +8,8 @@ use Rattle.hd_turn_row.specs.Days.{IsDayText}
 use Rattle.hd_turn_row.specs.Replies.{IsReplyText}
 use Rattle.hd_turn_row.specs.Rows.{IsRowOf, row_texts}
 use Rattle.hd_turn_row.specs.declared.row.Row.{Row}
-use Rattle.hd_ledger.specs.declared.row.TurnRow.{TurnRow}
-use Rattle.hd_ledger.specs.Rows.{turn_of_row}
+use Rattle.hd_turn_store.specs.declared.row.TurnRow.{TurnRow}
+use Rattle.hd_turn_store.specs.Rows.{turn_of_row}
 use Rattle.hd_journal_file.specs.Came.{ComesTo}
 use Rattle.hd_journal_file.specs.Rows.{IsTurnRow}
 use Rattle.hd_journal_file.specs.Told.{TellsTurn}

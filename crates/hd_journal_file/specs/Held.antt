@@ -5,10 +5,10 @@ use Rattle.sqlite.specs.State.{State, HasCleanDisk}
 use Rattle.sqlite.specs.Tree.{Trees}
 use Rattle.hd_rules.specs.Journal.{Turn, IsLegal}
 use Rattle.hd_catalogue.specs.Contents.{Contents, facts_of}
-use Rattle.hd_ledger.specs.Kept.{KeptTurn, Head}
-use Rattle.hd_ledger.specs.Tables.{Stores}
-use Rattle.hd_ledger.specs.Holds.{Holds}
-use Rattle.hd_ledger.specs.Crashes.{HoldsTurns}
+use Rattle.hd_turn_store.specs.Kept.{KeptTurn, Head}
+use Rattle.hd_turn_store.specs.Tables.{Stores}
+use Rattle.hd_turn_store.specs.Holds.{Holds}
+use Rattle.hd_turn_store.specs.Crashes.{HoldsTurns}
 use Rattle.hd_journal_file.specs.Rows.{AreTurnRows}
 
 -- The turns are legal, and just their rows are kept, under some head.

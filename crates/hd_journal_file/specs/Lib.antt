@@ -4,3 +4,4 @@ pub mod Rows  -- the rows of turns
 pub mod Told  -- a row as it is handed in
 pub mod Held  -- what the file holds, and what a stop may leave of it
 pub mod Restored  -- a journal that takes the rows again
+pub mod Opening  -- what is found in a file that is opened

@@ -4,7 +4,7 @@ use Rattle.hd_rules.specs.Journal.{Turn}
 use Rattle.hd_rules.specs.declared.replies.TurnReply.{TurnReply}
 use Rattle.hd_journal.specs.Books.{Book, facts, state}
 use Rattle.hd_journal.specs.Changing.{is_changing, changing}
-use Rattle.hd_ledger.specs.Kept.{KeptTurn}
+use Rattle.hd_turn_store.specs.Kept.{KeptTurn}
 use Rattle.hd_turn_row.specs.Replies.{outcome_word, number_column, IsReplyText}
 use Rattle.hd_journal_file.specs.Rows.{IsTurnRow, AreTurnRows}
 

@@ -4,7 +4,7 @@ use Rattle.hd_rules.specs.Journal.{Turn}
 use Rattle.hd_catalogue.specs.Contents.{Contents}
 use Rattle.hd_turn_row.specs.Replies.{outcome_word, number_column, IsReplyText}
 use Rattle.hd_turn_row.specs.Rows.{RowTexts, IsRowOf}
-use Rattle.hd_ledger.specs.Kept.{KeptTurn}
+use Rattle.hd_turn_store.specs.Kept.{KeptTurn}
 
 -- the day's column, which is empty where a turn has no day
 abbrev pub day_of : List ℕ → Option (List ℕ)

@@ -4,10 +4,10 @@ use Rattle.std.specs.Option.{option_copied}
 use Rattle.hd_turn_row.specs.declared.row.Row.{Row}
 use Rattle.hd_turn_row.specs.declared.columns.AskedColumns.{AskedColumns}
 use Rattle.hd_turn_row.specs.Rows.{row_texts}
-use Rattle.hd_ledger.specs.declared.row.NamesRow.{NamesRow}
-use Rattle.hd_ledger.specs.declared.row.TurnRow.{TurnRow}
-use Rattle.hd_ledger.specs.Kept.{Named}
-use Rattle.hd_ledger.specs.Rows.{names_of_row, turn_of_row}
+use Rattle.hd_turn_store.specs.declared.row.NamesRow.{NamesRow}
+use Rattle.hd_turn_store.specs.declared.row.TurnRow.{TurnRow}
+use Rattle.hd_turn_store.specs.Kept.{Named}
+use Rattle.hd_turn_store.specs.Rows.{names_of_row, turn_of_row}
 use Rattle.hd_journal_file.specs.Rows.{texts}
 use Rattle.hd_journal_file.specs.declared.came.CameTo.{CameTo}
 

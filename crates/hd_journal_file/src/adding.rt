@@ -5,13 +5,13 @@ ghost use Rattle.sqlite.specs.State.{HasCleanDisk};
 ghost use Rattle.sqlite.specs.Held.{state};
 ghost use Rattle.hd_catalogue.specs.Contents.{Contents, facts_of};
 ghost use Rattle.hd_rules.specs.Journal.{IsLegal, Turn};
-ghost use Rattle.hd_ledger.specs.Rows.{turn_of_row};
+ghost use Rattle.hd_turn_store.specs.Rows.{turn_of_row};
 ghost use Rattle.hd_journal_file.specs.Held.{HasTurns, LeavesTurns};
 ghost use Rattle.hd_journal_file.specs.Rows.{IsTurnRow};
 
 use hd_durable::NotCommitted;
-use hd_ledger::{Alter, Connection, TurnRow, append};
 use hd_turn_row::a_row_is_of_one_message;
+use hd_turn_store::{Alter, Connection, TurnRow, append};
 
 /// A crash leaves of a file what the connection sees.
 pub(crate) fn a_crash_leaves_what_is_seen<S: Alter>(_conn: &Connection<S>)

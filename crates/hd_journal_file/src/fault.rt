@@ -1,7 +1,7 @@
 //! Why a journal isn't restored from its file.
 
-use hd_ledger::Fault;
 use hd_turn_row::RowFault;
+use hd_turn_store::Fault;
 
 /// A column of what a turn came to.
 #[derive(Clone, Copy, PartialEq, Eq, Debug)]

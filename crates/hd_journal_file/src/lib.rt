@@ -8,10 +8,14 @@ mod adding;
 mod came;
 mod fault;
 mod file;
+mod open_fault;
+mod opening;
 mod reading;
 mod restoring;
 mod telling;
 
 pub use crate::fault::{CameColumn, RestoreFault};
 pub use crate::file::JournalFile;
+pub use crate::open_fault::OpenFault;
+pub use crate::opening::{Wanted, open, open_over};
 pub use crate::restoring::restore_turns;

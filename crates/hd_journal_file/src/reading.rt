@@ -4,7 +4,7 @@ ghost use Rattle.std.specs.Prelude.{◌≡◌, IfOk, OnOk, option_map, string_by
 ghost use Rattle.std.specs.Option.{option_copied};
 ghost use Rattle.hd_catalogue.specs.Contents.{facts_of};
 ghost use Rattle.hd_journal.specs.Asks.{IsKnownMessage};
-ghost use Rattle.hd_ledger.specs.Rows.{read_turn};
+ghost use Rattle.hd_turn_store.specs.Rows.{read_turn};
 ghost use Rattle.hd_turn_row.specs.Rows.{IsRowOf, row_texts};
 ghost use Rattle.hd_journal_file.specs.Restored.{CameToRow};
 ghost use Rattle.hd_journal_file.specs.Rows.{day_of, texts};
@@ -13,8 +13,8 @@ use crate::came::came_to;
 use crate::fault::{CameColumn, RestoreFault};
 use hd_catalogue::Catalogue;
 use hd_journal::{Ask, OwnedAsk, SeatNo, TurnReply};
-use hd_ledger::StoredTurn;
 use hd_turn_row::{AskedColumns, Row, ask_of};
+use hd_turn_store::StoredTurn;
 use std::alloc::{Allocator, Global};
 
 /// The row that is kept of a turn. It lends its texts.

@@ -5,9 +5,9 @@ ghost use Rattle.sqlite.specs.State.{HasCleanDisk};
 ghost use Rattle.sqlite.specs.Held.{state};
 ghost use Rattle.hd_journal.specs.Books.{IsLegalBook, facts};
 ghost use Rattle.hd_journal.specs.Changing.{changing};
-ghost use Rattle.hd_ledger.specs.Holds.{Holds};
-ghost use Rattle.hd_ledger.specs.Kept.{Head, KeptTurn, piece};
-ghost use Rattle.hd_ledger.specs.Rows.{read_turn};
+ghost use Rattle.hd_turn_store.specs.Holds.{Holds};
+ghost use Rattle.hd_turn_store.specs.Kept.{Head, KeptTurn, piece};
+ghost use Rattle.hd_turn_store.specs.Rows.{read_turn};
 ghost use Rattle.hd_journal_file.specs.Restored.{TakesPiece, TakesRow, TakesRows};
 ghost use Rattle.hd_journal_file.specs.Rows.{AreTurnRows};
 
@@ -15,7 +15,7 @@ use crate::fault::RestoreFault;
 use crate::reading::{compare, own_ask};
 use hd_durable::a_turn_more_is_kept_where_it_changes;
 use hd_journal::Journal;
-use hd_ledger::{Alter, Connection, StoredTurn, turns};
+use hd_turn_store::{Alter, Connection, StoredTurn, turns};
 use std::alloc::{Allocator, Global};
 
 /// Takes the turn of a row again. `at` is the row's number.

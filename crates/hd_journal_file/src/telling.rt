@@ -6,7 +6,7 @@ ghost use Rattle.hd_catalogue.specs.Contents.{facts_of};
 ghost use Rattle.hd_journal.specs.Asks.{IsKnownMessage};
 ghost use Rattle.hd_journal.specs.Shown.{turn_shown};
 ghost use Rattle.hd_turn_row.specs.Rows.{AreDaysOfAsked, message_of, row_texts};
-ghost use Rattle.hd_ledger.specs.Rows.{turn_of_row};
+ghost use Rattle.hd_turn_store.specs.Rows.{turn_of_row};
 ghost use Rattle.hd_journal_file.specs.Came.{ComesTo};
 ghost use Rattle.hd_journal_file.specs.Rows.{IsTurnRow, day_of, texts};
 ghost use Rattle.hd_journal_file.specs.Told.{TellsTurn, TellsNames};
@@ -15,8 +15,8 @@ use crate::came::CameTo;
 use hd_catalogue::Catalogue;
 use hd_durable::NotCommitted;
 use hd_journal::TurnRef;
-use hd_ledger::{NamesRow, TurnRow};
 use hd_turn_row::{AskedColumns, Row, RowAsk, RowDays, row_of};
+use hd_turn_store::{NamesRow, TurnRow};
 use std::alloc::Allocator;
 
 /// The row of a turn that came to this. Its message is known to the catalogue, and the days are its own.

@@ -1,4 +1,5 @@
-//! Lemmas on finite maps, counts and lists, which say nothing of a library.
+//! Lemmas for the proofs of other crates: on tests, options, results, lists, finite maps and counts, and on the
+//! words of `hd_rules`.
 //!
 //! There is no code here: the lemmas stand in `proofs/`, and the proofs of other crates import them.
 #![tactic(auto)]

@@ -1,6 +1,5 @@
 //! Days as they are printed where something is due on them or ends with them.
 ghost use Rattle.std.specs.Prelude.{◌≡◌};
-ghost use Rattle.std.specs.Option.{option_copied, option_map};
 ghost use Rattle.hd_message.specs.Due.{due_text};
 
 use hd_date::{Day, days_are_dates, print_due};
@@ -11,14 +10,4 @@ pub(crate) fn day_text(day: &Day) -> [u8; 18]
 {
     days_are_dates();
     print_due(*day)
-}
-
-/// A day as it is printed, if there is one.
-pub(crate) fn day_text_if_any(day: Option<&Day>) -> Option<[u8; 18]>
-    ensures { result ≡ option_map due_text (option_copied day.entry) }
-{
-    match day {
-        Some(day) => Some(day_text(day)),
-        None => None,
-    }
 }

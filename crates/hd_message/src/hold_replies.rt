@@ -6,7 +6,7 @@ ghost use Rattle.hd_message.specs.Part.{part_text};
 ghost use Rattle.hd_message.specs.declared.reply.HoldOutcome.TheVariants as OfHold;
 
 use crate::appending::append;
-use crate::days::day_text_if_any;
+use crate::days::day_text;
 use crate::part::Part;
 use crate::reply::{HoldOutcome, HoldReply};
 use hd_date::Day;
@@ -62,7 +62,7 @@ fn hold_accepted<'a>(
         Part::Text(b"161"),
         Part::YesNo(available),
         Part::Text(reply.date),
-        Part::Expiry(day_text_if_any(expiry)),
+        Part::Expiry(expiry.map(day_text)),
         Part::Position(position),
         Part::Field(*b"BS", pickup),
         Part::Field(*b"AO", reply.institution),

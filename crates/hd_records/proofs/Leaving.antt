@@ -1,28 +1,23 @@
 -- What a walk under the keys of changes meets, and what is left once a record is taken out.
 use Rattle.std.proofs.Common.{arith, ◌≡◌, refl, sym, ◌∙◌, ap, ℕ, zero, suc, ◌+◌, ◌-◌, ◌<◌, ◌≤◌, Bool, true, false, cond, nat_lt}
-use Rattle.std.proofs.Common.{List, [], ◌∷◌, ◌++◌, take, drop, get_or, set, map, filter, Option, None, Some}
+use Rattle.std.proofs.Common.{subst, length, List, [], ◌∷◌, ◌++◌, take, drop, get_or, set, map, filter, Option, None, Some}
 use Rattle.std.proofs.lemmas.Bool.Decides.{nat_tests}
-use Rattle.std.proofs.lemmas.List.{map-append}
-use Rattle.std.specs.List.{list_any}
-use Rattle.hd_index.specs.Rising.{above}
-use Rattle.hd_index.specs.Union.{UnionsHaveEachOnce, has, union}
+use Rattle.std.proofs.lemmas.List.{length-set, map-append}
+use Rattle.hd_index.specs.Union.{has, union}
 use Rattle.hd_rules.specs.declared.cells.Change.{Change}
 use Rattle.hd_rules.specs.Facts.{Facts}
 use Rattle.hd_rules.specs.Record.{Record}
 use Rattle.hd_rules.specs.Run.{IsAmong, Rising}
-use Rattle.hd_clash.specs.declared.key.Key.{Key}
 use Rattle.hd_clash.specs.About.{EachIsAbout, OnlyTouchedRecordsShift, shift_touched, touches}
-use Rattle.hd_clash.specs.CommandKeys.{has_key, keys_of_command}
 use Rattle.hd_clash.specs.Shift.{shift_record, shift_records}
-use Rattle.hd_records.specs.Index.{IsIndexOf, listed_under, numbers_of}
-use Rattle.hd_records.specs.IndexValue.{IndexValue}
+use Rattle.hd_records.specs.Index.{numbers_of}
 use Rattle.hd_records.specs.Slots.{AreNumbered, records_at, shift_at, slot_of, records_there}
 use Rattle.hd_records.specs.Survivors.{newer, older, survivors_of}
 use Rattle.hd_records.proofs.Filters.{about_filter, among_filter, map_alike, map_none, passes, rising_filter}
-use Rattle.hd_records.proofs.Shifting.{shift_if, taken_shifted}
+use Rattle.hd_records.proofs.Shifting.{length_shift_at, numbered_shifted, shift_if, taken_shifted}
 use Rattle.hd_records.proofs.Numbered.{newer_are, older_are, slots_rise}
 use Rattle.hd_records.proofs.Standing.{Stand, at_numbers, stand_all}
-use Rattle.hd_records.proofs.Touched.{has_is, has_not, union_is}
+use Rattle.hd_records.proofs.Touched.{has_is, has_not}
 
 -- the later records that the changes touch
 abbrev pub met : Facts → List Change → ℕ → List (Option Record) → List Record
@@ -39,19 +34,14 @@ stand_met k changes n slots numbered r among =
     stand_all slots numbered r
     (among_filter (λ x. nat_lt n x.number) r (records_there slots) (among_filter (touches k changes) r (newer n (records_there slots)) among))
 
-pub touching : UnionsHaveEachOnce → (k : Facts) (changes : List Change) (n : ℕ) (slots : List (Option Record)) (index : IndexValue)
-    (keys : List Key) (lists : List (List ℕ)) → AreNumbered 0 slots → IsIndexOf k (records_there slots) index
-    → ((r : Record) → list_any (has_key (keys_of_command k r.command)) keys ≡ touches k changes r)
-    → lists ≡ map (λ x. above n (listed_under x index)) keys → Touching k changes n slots lists
-touching law k changes n slots index keys lists numbered listed touched are =
-    let numbers : union lists ≡ numbers_of (met k changes n slots) =
-    union_is law k changes (records_there slots) index keys n lists (slots_rise 0 1 slots (omega arith) numbered) listed touched are in
-    record {
-      numbers = numbers;
-      there =
-          ap (λ (ns : List ℕ). records_at ns slots) numbers
-          ∙ at_numbers slots (met k changes n slots) (stand_met k changes n slots numbered);
-    }
+pub touching : (k : Facts) (changes : List Change) (n : ℕ) (slots : List (Option Record)) (lists : List (List ℕ)) → AreNumbered 0 slots
+    → union lists ≡ numbers_of (met k changes n slots) → Touching k changes n slots lists
+touching k changes n slots lists numbered numbers = record {
+  numbers = numbers;
+  there =
+      ap (λ (ns : List ℕ). records_at ns slots) numbers
+      ∙ at_numbers slots (met k changes n slots) (stand_met k changes n slots numbered);
+}
 
 -- a slot emptied
 abbrev pub emptied : ℕ → List (Option Record) → List (Option Record)
@@ -75,7 +65,7 @@ numbered_set b zero (Some r ∷ xs) numbered = numbered.1
 numbered_set b (suc p) (None ∷ xs) numbered = numbered_set (suc b) p xs numbered
 numbered_set b (suc p) (Some r ∷ xs) numbered = (numbered.0, numbered_set (suc b) p xs numbered.1)
 
-pub numbered_emptied : (n : ℕ) (slots : List (Option Record)) → AreNumbered 0 slots → AreNumbered 0 (emptied n slots)
+numbered_emptied : (n : ℕ) (slots : List (Option Record)) → AreNumbered 0 slots → AreNumbered 0 (emptied n slots)
 numbered_emptied n slots numbered = numbered_set 0 (n - 1) slots numbered
 
 taken_set : (p : ℕ) (slots : List (Option Record)) → records_there (set slots p None) ≡ records_there (take p slots) ++ records_there (drop (suc p) slots)
@@ -117,7 +107,7 @@ newer_rise n m (x ∷ xs) rising = by_test (nat_lt n x.number) refl (newer_rise 
     by_test false is rest = rest
 
 -- the records that are left: the older ones as they were, the newer ones shifted
-pub left_records : OnlyTouchedRecordsShift → (k : Facts) (changes : List Change) (n : ℕ) (slots final : List (Option Record))
+left_records : OnlyTouchedRecordsShift → (k : Facts) (changes : List Change) (n : ℕ) (slots final : List (Option Record))
     (lists : List (List ℕ)) → 1 ≤ n → AreNumbered 0 slots → EachIsAbout k (records_there slots) → Touching k changes n slots lists
     → final ≡ shift_at k changes (union lists) 0 (emptied n slots)
     → records_there final ≡ older n (records_there slots) ++ shift_records k changes (newer n (records_there slots))
@@ -144,3 +134,22 @@ left_records law k changes n slots final lists one numbered about at is =
     ∙ (λ j. stays j ++ shifts j)
     ∙ ap (λ (ys : List Record). older n rs ++ ys)
     (sym (law k changes (newer n rs) (about_filter k (λ r. nat_lt n r.number) rs about)))
+
+-- the slots that are left
+pub record IsLeft (k : Facts) (changes : List Change) (n : ℕ) (slots final : List (Option Record)) : Type 0 where
+  pub numbered : AreNumbered 0 final
+  pub size : length final ≡ length slots
+  pub records : records_there final ≡ older n (records_there slots) ++ shift_records k changes (newer n (records_there slots))
+
+pub is_left : OnlyTouchedRecordsShift → (k : Facts) (changes : List Change) (n : ℕ) (slots middle final : List (Option Record))
+    (lists : List (List ℕ)) → 1 ≤ n → AreNumbered 0 slots → EachIsAbout k (records_there slots) → Touching k changes n slots lists
+    → middle ≡ emptied n slots → final ≡ shift_at k changes (union lists) 0 middle → IsLeft k changes n slots final
+is_left law k changes n slots middle final lists one numbered about at taken mended =
+    let is : final ≡ shift_at k changes (union lists) 0 (emptied n slots) = mended ∙ ap (shift_at k changes (union lists) 0) taken in
+    record {
+      numbered = subst (AreNumbered 0) (sym is)
+          (numbered_shifted k changes (union lists) 0 (emptied n slots) (numbered_emptied n slots numbered));
+      size = ap (λ (xs : List (Option Record)). length xs) is ∙ length_shift_at k changes (union lists) 0 (emptied n slots)
+          ∙ length-set slots (n - 1) None;
+      records = left_records law k changes n slots final lists one numbered about at is;
+    }

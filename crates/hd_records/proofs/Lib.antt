@@ -2,6 +2,7 @@ pub mod Numbered
 pub mod Laid
 pub mod Filters
 pub mod Standing
+pub mod Target
 pub mod Shifting
 pub mod Titles
 pub mod Touched
@@ -9,3 +10,4 @@ pub mod Listed
 pub mod Leaving
 pub mod Counted
 pub mod Short
+pub mod Behind

@@ -1,21 +1,14 @@
 -- Slots, and the records in them.
-use Rattle.std.proofs.Common.{arith, ◌≡◌, refl, sym, ap, subst, ℕ, zero, suc, ◌+◌, ◌<◌, ◌≤◌}
+use Rattle.std.proofs.Common.{arith, ◌≡◌, refl, sym, ap, ℕ, zero, suc, ◌+◌, ◌<◌, ◌≤◌}
 use Rattle.std.proofs.Common.{List, [], ◌∷◌, ◌++◌, length, take, drop, get_or, Option, None, Some}
 use Rattle.std.specs.Option.{IsSome}
 use Rattle.std.proofs.lemmas.Bool.{false≢true}
 use Rattle.std.proofs.lemmas.Bool.Decides.{nat_tests}
+use Rattle.std.proofs.lemmas.Option.{none-some}
 use Rattle.hd_rules.specs.Record.{Record}
 use Rattle.hd_rules.specs.Run.{Rising}
 use Rattle.hd_records.specs.Slots.{AreNumbered, slot_of, records_there}
 use Rattle.hd_records.specs.Survivors.{newer, older, record_of, survivors_of}
-
--- none is no record
-pub none_some : (r : Record) → None ≡ Some r → ⊥
-none_some r is = subst (λ (o : Option Record). IsNone o) is tt
-  where
-    IsNone : Option Record → Type 0
-    IsNone None = Unit {0}
-    IsNone (Some x) = ⊥
 
 pub some_same : (x y : Record) → Some x ≡ Some y → x ≡ y
 some_same x y is = ap (λ (o : Option Record). record_or o) is
@@ -109,7 +102,7 @@ numbered_more b n (Some x ∷ xs) r is number numbered =
 
 -- a slot with a record is one of the slots
 pub within_of : (slots : List (Option Record)) (m : ℕ) (r : Record) → get_or slots m None ≡ Some r → m < length slots
-within_of [] m r is = absurd (none_some r is)
+within_of [] m r is = absurd (none-some r is)
 within_of (x ∷ xs) zero r is = omega arith
 within_of (x ∷ xs) (suc m) r is = (let rest : m < length xs = within_of xs m r is in omega (arith, rest))
 

@@ -1,8 +1,7 @@
 -- Slots with the records of some numbers shifted.
 use Rattle.std.proofs.Common.{arith, ◌≡◌, refl, sym, ◌∙◌, ap, subst, ℕ, zero, suc, ◌+◌, ◌<◌, Bool, true, false, cond, ◌||◌, ◌==◌}
 use Rattle.std.proofs.Common.{List, [], ◌∷◌, length, get_or, set, map, Option, None, Some}
-use Rattle.std.proofs.lemmas.Bool.{false≢true}
-use Rattle.std.proofs.lemmas.Bool.Decides.{nat_tests}
+use Rattle.std.proofs.lemmas.Bool.{false≢true, eqb-true, ne_eqb, or_parts}
 use Rattle.std.specs.List.{AllByRecursion}
 use Rattle.hd_index.specs.Rising.{IsRising}
 use Rattle.hd_index.specs.Union.{has}
@@ -12,22 +11,13 @@ use Rattle.hd_rules.specs.Record.{Record}
 use Rattle.hd_clash.specs.Records.{EachRecordIsKnown}
 use Rattle.hd_clash.specs.Shift.{shift_record}
 use Rattle.hd_records.specs.Slots.{AreNumbered, records_at, shift_at, shift_slot, slot_of, records_there}
-
--- one number alone
-equal_is : (n : ℕ) → (n == n) ≡ true
-equal_is n = grind (arith, nat_tests)
-
-other_is : (n m : ℕ) → (n ≡ m → ⊥) → (n == m) ≡ false
-other_is n m other = grind (arith, nat_tests)
-
-same_is : (n m : ℕ) → (n == m) ≡ true → n ≡ m
-same_is n m is = grind (arith, nat_tests)
+use Rattle.hd_lemmas.proofs.Tests.{number_self}
 
 has_alone : (n m : ℕ) → (n ≡ m → ⊥) → has m (n ∷ []) ≡ false
-has_alone n m other = ap (λ (b : Bool). b || false) (other_is n m other)
+has_alone n m other = ap (λ (b : Bool). b || false) (ne_eqb n m other)
 
 has_itself : (n : ℕ) (ns : List ℕ) → has n (n ∷ ns) ≡ true
-has_itself n ns = ap (λ (b : Bool). b || has n ns) (equal_is n)
+has_itself n ns = ap (λ (b : Bool). b || has n ns) (number_self n)
 
 -- no numbers
 pub shift_nothing : (k : Facts) (changes : List Change) (b : ℕ) (slots : List (Option Record)) → shift_at k changes [] b slots ≡ slots
@@ -82,7 +72,7 @@ pub shift_more : (k : Facts) (changes : List Change) (n b : ℕ) (ns : List ℕ)
 shift_more k changes n b ns [] other = refl
 shift_more k changes n b ns (x ∷ xs) other =
     (λ j. twice k changes x (n == suc b) (has (suc b) ns)
-    (λ (is : (n == suc b) ≡ true). subst (λ (m : ℕ). has m ns ≡ false) (same_is n (suc b) is) other) j
+    (λ (is : (n == suc b) ≡ true). subst (λ (m : ℕ). has m ns ≡ false) (eqb-true n (suc b) is) other) j
     ∷ shift_more k changes n (suc b) ns xs other j)
 
 -- the other numbers' slots stay
@@ -103,10 +93,6 @@ no_number : (n m : ℕ) (ms : List ℕ) → has n (m ∷ ms) ≡ false → n ≡
 no_number n m ms none is =
     false≢true (sym none ∙ subst (λ (i : ℕ). has n (i ∷ ms) ≡ true) is (has_itself n ms))
 
-or_right : (a b : Bool) → (a || b) ≡ false → b ≡ false
-or_right true b is = absurd (false≢true (sym is))
-or_right false b is = is
-
 records_stay : (k : Facts) (changes : List Change) (n : ℕ) (ns : List ℕ) (slots : List (Option Record)) → has n ns ≡ false
     → records_at ns (shift_at k changes (n ∷ []) 0 slots) ≡ records_at ns slots
 records_stay k changes n [] slots none = refl
@@ -114,7 +100,7 @@ records_stay k changes n (m ∷ ms) slots none =
     let here : slot_of m (shift_at k changes (n ∷ []) 0 slots) ≡ slot_of m slots =
     stays k changes n m slots (no_number n m ms none) in
     let rest : records_at ms (shift_at k changes (n ∷ []) 0 slots) ≡ records_at ms slots =
-    records_stay k changes n ms slots (or_right (m == n) (has n ms) none) in
+    records_stay k changes n ms slots (or_parts (m == n) (has n ms) none).1 in
     ap (λ (o : Option Record). records_there (o ∷ map (λ i. slot_of i (shift_at k changes (n ∷ []) 0 slots)) ms)) here
     ∙ join (slot_of m slots) rest
   where
@@ -145,7 +131,7 @@ known_later k n ns slots known = by_slot (slot_of n slots) known
 pub not_again : (n : ℕ) (ns : List ℕ) → AllByRecursion (λ m. n < m) ns → has n ns ≡ false
 not_again n [] above = refl
 not_again n (m ∷ ms) above =
-    let here : (m == n) ≡ false = other_is m n (λ (same : m ≡ n). omega (arith, same, above.0)) in
+    let here : (m == n) ≡ false = ne_eqb m n (λ (same : m ≡ n). omega (arith, same, above.0)) in
     (λ j. here j || not_again n ms above.1 j)
 
 -- what the first of the numbers leaves to mend

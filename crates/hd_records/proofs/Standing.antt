@@ -3,6 +3,7 @@ use Rattle.std.proofs.Common.{arith, ◌≡◌, refl, sym, ◌∙◌, ap, subst,
 use Rattle.std.proofs.Common.{Option, None, Some, inl, inr, drop, take, drop-cons}
 use Rattle.std.proofs.lemmas.Bool.Decides.{nat_tests}
 use Rattle.std.proofs.lemmas.List.{take-append-drop, map-append}
+use Rattle.std.proofs.lemmas.Option.{none-some}
 use Rattle.hd_rules.specs.Facts.{Facts}
 use Rattle.hd_rules.specs.Known.{IsKnownAction}
 use Rattle.hd_rules.specs.Record.{Record}
@@ -13,7 +14,7 @@ use Rattle.hd_records.specs.Index.{asks_about, numbers_of, records_about}
 use Rattle.hd_records.specs.Slots.{AreNumbered, records_at, slot_of, records_there}
 use Rattle.hd_records.specs.Survivors.{newer, survivors_of}
 use Rattle.hd_records.proofs.Filters.{among_filter, number_from}
-use Rattle.hd_records.proofs.Numbered.{none_some, some_same, taken_joined, within_of}
+use Rattle.hd_records.proofs.Numbered.{some_same, taken_joined, within_of}
 
 -- each of the records stands in the slot of its number
 abbrev pub Stand : List (Option Record) → List Record → Type 0
@@ -114,16 +115,16 @@ pub record At (n : ℕ) (slots : List (Option Record)) (r : Record) : Type 0 whe
   pub within : n ≤ length slots
 
 among_there : (m : ℕ) (slots : List (Option Record)) (r : Record) → get_or slots m None ≡ Some r → IsAmong r (records_there slots)
-among_there m [] r is = absurd (none_some r is)
-among_there zero (None ∷ xs) r is = absurd (none_some r is)
+among_there m [] r is = absurd (none-some r is)
+among_there zero (None ∷ xs) r is = absurd (none-some r is)
 among_there zero (Some x ∷ xs) r is = inl (some_same r x (sym is))
 among_there (suc m) (None ∷ xs) r is = among_there m xs r is
 among_there (suc m) (Some x ∷ xs) r is = inr (among_there m xs r is)
 
 number_there : (b m : ℕ) (slots : List (Option Record)) (r : Record) → AreNumbered b slots → get_or slots m None ≡ Some r
     → r.number ≡ suc b + m
-number_there b m [] r numbered is = absurd (none_some r is)
-number_there b zero (None ∷ xs) r numbered is = absurd (none_some r is)
+number_there b m [] r numbered is = absurd (none-some r is)
+number_there b zero (None ∷ xs) r numbered is = absurd (none-some r is)
 number_there b zero (Some x ∷ xs) r numbered is =
     (let same : r.number ≡ x.number = ap (λ (y : Record). y.number) (some_same r x (sym is)) in omega (arith, same, numbered.0))
 number_there b (suc m) (None ∷ xs) r numbered is =
@@ -132,7 +133,7 @@ number_there b (suc m) (Some x ∷ xs) r numbered is =
     (let rest : r.number ≡ suc (suc b) + m = number_there (suc b) m xs r numbered.1 is in omega (arith, rest))
 
 pub at_slot : (n : ℕ) (slots : List (Option Record)) (r : Record) → AreNumbered 0 slots → slot_of n slots ≡ Some r → At n slots r
-at_slot zero slots r numbered is = absurd (none_some r is)
+at_slot zero slots r numbered is = absurd (none-some r is)
 at_slot (suc m) slots r numbered is =
     let within : m < length slots = within_of slots m r is in
     let number : r.number ≡ suc 0 + m = number_there 0 m slots r numbered is in

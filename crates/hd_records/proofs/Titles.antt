@@ -16,6 +16,7 @@ use Rattle.hd_clash.specs.CommandKeys.{has_key, keys_of_action}
 use Rattle.hd_records.specs.Index.{asks_about, records_about}
 use Rattle.hd_records.specs.Survivors.{survivor_of, survivors_of, target_of}
 use Rattle.hd_records.specs.Titles.{title_of_cancel}
+use Rattle.hd_lemmas.proofs.Tests.{and_right}
 
 -- the later target's number, or else this one's
 abbrev or_here : Bool → ℕ → Option ℕ → Option ℕ
@@ -62,11 +63,6 @@ target_among terminal what P (x ∷ xs) fits =
     by_tests false true is passes = absurd (false≢true (passes refl))
     by_tests false false is passes = or_none x.number (target_of terminal what (filter P xs))
 
--- its title is that of the cancellation
-right : (a b : Bool) → (a && b) ≡ true → b ≡ true
-right true b is = is
-right false b is = absurd (false≢true is)
-
 same_title : (k : Facts) (c x : ℕ) → (c == x) ≡ true → (k.title_of x == k.title_of c) ≡ true
 same_title k c x is =
     let same : c ≡ x = grind (arith, nat_tests) in
@@ -75,7 +71,7 @@ same_title k c x is =
 
 named_title : (p t q u : ℕ) → ((p == q) && (t == u)) ≡ true → (u == t) ≡ true
 named_title p t q u is =
-    let same : (t == u) ≡ true = right (p == q) (t == u) is in
+    let same : (t == u) ≡ true = and_right (p == q) (t == u) is in
     let title : t ≡ u = grind (arith, nat_tests) in
     grind (arith, nat_tests, title)
 
@@ -127,7 +123,7 @@ kind_title k (cancel.Changing p t) (action.Renew q x) is = absurd (false≢true 
 title_fits : (k : Facts) (terminal : ℕ) (what : Cancel) (r : Record) → is_target terminal what (survivor_of r) ≡ true
     → asks_about k (key.Title (title_of_cancel k what)) r ≡ true
 title_fits k terminal what r is =
-    kind_title k what r.command.action (right (r.terminal == terminal) (is_of_kind what r.command.action) is)
+    kind_title k what r.command.action (and_right (r.terminal == terminal) (is_of_kind what r.command.action) is)
 
 -- so it is the target among all
 pub target_of_title : (k : Facts) (terminal : ℕ) (what : Cancel) (rs : List Record)

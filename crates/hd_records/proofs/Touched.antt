@@ -17,15 +17,13 @@ use Rattle.hd_records.specs.Index.{IsIndexOf, asks_about, listed_under, numbers_
 use Rattle.hd_records.specs.IndexValue.{IndexValue}
 use Rattle.hd_records.specs.Survivors.{newer, survivors_of}
 use Rattle.hd_records.proofs.Filters.{number_from, rising_filter}
+use Rattle.hd_lemmas.proofs.Tests.{number_self}
 
 other_is : (n m : ℕ) → n < m → (m == n) ≡ false
 other_is n m less = grind (arith, nat_tests, less)
 
 other_back : (n m : ℕ) → n < m → (n == m) ≡ false
 other_back n m less = grind (arith, nat_tests, less)
-
-equal_is : (n : ℕ) → (n == n) ≡ true
-equal_is n = grind (arith, nat_tests)
 
 -- rising lists that have the same numbers are the same
 none_above : (n m : ℕ) (ns : List ℕ) → n ≤ m → AllByRecursion (λ i. m < i) ns → has n ns ≡ false
@@ -40,7 +38,7 @@ first_less : (x y : ℕ) (xs ys : List ℕ) → x < y → AllByRecursion (λ i. 
 first_less x y xs ys less all same =
     false≢true
     (sym ((λ j. other_is x y less j || none_above x y ys (omega (arith, less)) all j))
-    ∙ sym same ∙ ap (λ (b : Bool). b || has x xs) (equal_is x))
+    ∙ sym same ∙ ap (λ (b : Bool). b || has x xs) (number_self x))
 
 -- the rest has the same, too
 rest_same : (x n : ℕ) (xs ys : List ℕ) → AllByRecursion (λ i. x < i) xs → AllByRecursion (λ i. x < i) ys
@@ -64,9 +62,9 @@ data_less x y xs ys rising_x rising_y same = by_tests (nat_lt x y) (nat_lt y x) 
 pub same_lists : (xs ys : List ℕ) → IsRising xs → IsRising ys → ((n : ℕ) → has n xs ≡ has n ys) → xs ≡ ys
 same_lists [] [] rising_x rising_y same = refl
 same_lists [] (y ∷ ys) rising_x rising_y same =
-    absurd (false≢true (same y ∙ ap (λ (b : Bool). b || has y ys) (equal_is y)))
+    absurd (false≢true (same y ∙ ap (λ (b : Bool). b || has y ys) (number_self y)))
 same_lists (x ∷ xs) [] rising_x rising_y same =
-    absurd (false≢true (sym (same x) ∙ ap (λ (b : Bool). b || has x xs) (equal_is x)))
+    absurd (false≢true (sym (same x) ∙ ap (λ (b : Bool). b || has x xs) (number_self x)))
 same_lists (x ∷ xs) (y ∷ ys) rising_x rising_y same =
     let head : x ≡ y = data_less x y xs ys rising_x rising_y same in
     let above_y : AllByRecursion (λ i. x < i) ys =
@@ -208,7 +206,7 @@ has_is P m (x ∷ xs) r rising (inl same) =
     by_test : (b : Bool) → P x ≡ b → has r.number (numbers_of (cond b (x ∷ filter P xs) (filter P xs))) ≡ P x
     by_test true is =
         ap (λ (i : ℕ). (x.number == i) || has r.number (numbers_of (filter P xs))) number
-        ∙ ap (λ (c : Bool). c || has r.number (numbers_of (filter P xs))) (equal_is x.number) ∙ sym is
+        ∙ ap (λ (c : Bool). c || has r.number (numbers_of (filter P xs))) (number_self x.number) ∙ sym is
     by_test false is = later ∙ sym is
 has_is P m (x ∷ xs) r rising (inr among) = by_test (P x) (has_is P (x.number + 1) xs r rising.1 among)
   where

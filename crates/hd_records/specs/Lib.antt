@@ -2,6 +2,7 @@ pub mod Survivors
 pub mod IndexValue
 pub mod Index
 pub mod RecordsValue
+pub mod Behind
 pub mod Slots
 pub mod SlotsValue
 pub mod Room

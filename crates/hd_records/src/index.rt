@@ -2,17 +2,25 @@
 #![tactic(auto)]
 
 ghost use Rattle.std.specs.Prelude.{◌≡◌, ◌≤◌, ◌<◌, ◌^◌, ◌++◌, ◌∷◌, [], ℕ, true, OnErr, OnOk, if◌then◌else◌};
-ghost use Rattle.std.specs.Prelude.{length, map};
+ghost use Rattle.std.specs.Prelude.{List, filter, length, map};
+ghost use Rattle.hd_catalogue.specs.Contents.{facts_of};
+ghost use Rattle.hd_clash.specs.About.{touches};
+ghost use Rattle.hd_clash.specs.Law.{EachCellIsKnown};
 ghost use Rattle.hd_clash.specs.declared.key.Key.{Key};
 ghost use Rattle.hd_clash.specs.declared.key.Key.TheVariants as key;
 ghost use Rattle.hd_clash.specs.CommandKeys.{has_key, is_the};
 ghost use Rattle.hd_index.specs.Rising.{AreBelow, IsRising, above, without};
 ghost use Rattle.hd_index.specs.Rows.{places_of, room_of};
-ghost use Rattle.hd_records.specs.Index.{HasRoomAt, HasRoomUnder, listed_under};
+ghost use Rattle.hd_index.specs.Union.{union};
+ghost use Rattle.hd_rules.specs.Record.{Record};
+ghost use Rattle.hd_rules.specs.Run.{Rising};
+ghost use Rattle.hd_records.specs.Index.{HasRoomAt, HasRoomUnder, IsIndexOf, listed_under, numbers_of};
+ghost use Rattle.hd_records.specs.Survivors.{newer, survivors_of};
 
-use hd_clash::{CommandKeys, Key};
-use hd_index::{Lists, Union};
-use hd_rules::{BranchNo, PatronNo, TitleNo};
+use hd_catalogue::Catalogue;
+use hd_clash::{ChangedKeys, CommandKeys, Key};
+use hd_index::{Lists, Union, unions_have_each_once};
+use hd_rules::{BranchNo, Change, PatronNo, TitleNo};
 use std::alloc::{AllocError, Allocator, Global};
 use std::marker::Model;
 
@@ -56,6 +64,24 @@ impl<A: Allocator + Copy> Index<A> {
         ready_at(&mut self.titles, Some(keys.title.number()))?;
         ready_at(&mut self.patrons, number_of_patron(keys.patron))?;
         ready_at(&mut self.branches, number_of_branch(keys.branch))
+    }
+
+    /// The numbers above one of the listed records that the changes touch, each once.
+    pub(crate) fn touched(
+        &self,
+        catalogue: &Catalogue<A>,
+        changes: &[Change],
+        number: u32,
+    ) -> Union<'_>
+        requires few { length changes.now ≤ 4 }
+        requires known { EachCellIsKnown (facts_of catalogue.now) changes.now }
+        ensures { let k = facts_of catalogue.now in
+            (records : List Record) → Rising 1 (survivors_of records) → IsIndexOf k records self.now
+            → union result ≡ numbers_of (filter (touches k changes.now) (newer number records)) }
+    {
+        unions_have_each_once();
+        let keys = ChangedKeys::of(catalogue, changes);
+        self.after_any(keys.keys(), number)
     }
 }
 

@@ -4,6 +4,7 @@
 //! later one first depends on it, and what the later ones found without it. No command is run again.
 #![tactic(auto)]
 
+mod all_slots;
 mod index;
 mod laws;
 mod lent;

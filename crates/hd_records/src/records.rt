@@ -20,30 +20,29 @@ ghost use Rattle.hd_records.specs.Shown.{record_shown};
 ghost use Rattle.hd_records.specs.Survivors.{changes_of, newer, older, record_of, survivors_of};
 ghost use Rattle.hd_records.specs.Survivors.{target_of};
 
+use crate::all_slots::AllSlots;
 use crate::index::Index;
 use crate::record::{RecordRef, StoredRecord};
-use crate::slots::Slots;
 use crate::survivors::Survivors;
 use crate::targets::title_of;
 use crate::walking;
 use arrayvec::ArrayVec;
 use hd_catalogue::Catalogue;
-use hd_clash::{ChangedKeys, CommandKeys, only_touched_records_shift, the_first_clash_is_touched};
+use hd_clash::{CommandKeys, only_touched_records_shift, the_first_clash_is_touched};
 use hd_footprint::Meter;
-use hd_index::unions_have_each_once;
 use hd_rules::{Cancel, Change, Command, TerminalNo};
 use std::alloc::{AllocError, Allocator, Global};
 use std::marker::Model;
 
 /// The records of the commands that survive, by number.
 ///
-/// Numbers are given from 1 on, one after another, and each has a slot; that of a record that was taken out
-/// stays empty. The records are listed by what their commands ask about, so that a cancellation looks only at
-/// those that have a title, a patron or a branch in common with what it takes back. Only `ready` takes
-/// memory.
+/// Numbers are given one after another, and each has a slot, from that of number 1 on; those of the numbers
+/// given before these records, and of a record that was taken out, are empty. The records are listed by what
+/// their commands ask about, so that a cancellation looks only at those that have a title, a patron or a
+/// branch in common with what it takes back. Only `ready` takes memory.
 #[derive(Drop)]
 pub struct Records<A: Allocator = Global> {
-    slots: Slots<A>,
+    slots: AllSlots<A>,
     index: Index<A>,
 }
 
@@ -68,14 +67,15 @@ impl<A: Allocator> Model for Records<A> {
 }
 
 impl<A: Allocator + Copy> Records<A> {
-    /// No records, and no number given. It takes no memory.
-    pub fn new(alloc: A) -> Records<A>
+    /// No records, and the last number that was given before them. It takes no memory.
+    #[tactic(auto, using(crate::proofs::Behind::numbered_behind, crate::proofs::Behind::length_behind, crate::proofs::Behind::there_behind))]
+    pub fn new(alloc: A, before: u32) -> Records<A>
         ensures records { result.records ≡ [] }
-        ensures last { result.last ≡ 0 }
+        ensures last { result.last ≡ before }
         ensures listed { (k : Facts) → AreListed k result }
     {
         Records {
-            slots: Slots::new(alloc),
+            slots: AllSlots::new(alloc, before),
             index: Index::new(alloc),
         }
     }
@@ -118,9 +118,10 @@ impl<A: Allocator + Copy> Records<A> {
         self.slots.push(new);
     }
 
-    /// The last number given, or 0 where none was.
+    /// The last number given, or that given before where none was.
     pub fn last(&self) -> u64
-        ensures { result ≡ self.now.last }
+        ensures last { result ≡ self.now.last }
+        ensures few { result < 2 ^ 32 }
     {
         self.slots.len() as u64
     }
@@ -181,14 +182,13 @@ impl<A: Allocator + Copy> Records<A> {
             meter.new ≡ after_walk k changes (filter (touches k changes) (newer number self.now.records))
             meter.old }
     {
+        the_first_clash_is_touched();
         let Some(target) = walking::find(&self.slots, number) else {
             unreachable!()
         };
-        unions_have_each_once();
-        the_first_clash_is_touched();
-        let keys = ChangedKeys::of(catalogue, target.changes());
-        let later = self.index.after_any(keys.keys(), number as u32);
-        walking::first_clash(catalogue, target.changes(), &self.slots, later, meter)
+        let changes = target.changes();
+        let later = self.index.touched(catalogue, changes, number as u32);
+        walking::first_clash(catalogue, changes, &self.slots, later, meter)
     }
 
     /// Takes the record of this number out, and mends the later ones: what they noted becomes what is found
@@ -209,23 +209,16 @@ impl<A: Allocator + Copy> Records<A> {
             meter.new ≡ after_looks (length (filter (touches k changes) (newer number self.old.records)))
             meter.old }
     {
-        unions_have_each_once();
         only_touched_records_shift();
         let Some(target) = walking::find(&self.slots, number) else {
             unreachable!()
         };
+        let copy = copy_of(target.changes());
+        let changes = copy.as_slice();
         let listed = CommandKeys::of(catalogue, &target.survivor().command);
-        let changes = copy_of(target.changes());
-        let keys = ChangedKeys::of(catalogue, changes.as_slice());
         walking::take(&mut self.slots, number);
-        let touched = self.index.after_any(keys.keys(), number as u32);
-        walking::mend_each(
-            catalogue,
-            changes.as_slice(),
-            &mut self.slots,
-            touched,
-            meter,
-        );
+        let touched = self.index.touched(catalogue, changes, number as u32);
+        walking::mend_each(catalogue, changes, &mut self.slots, touched, meter);
         self.index.take(listed, number as u32);
     }
 }

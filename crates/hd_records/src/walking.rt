@@ -12,8 +12,8 @@ ghost use Rattle.hd_records.specs.Looks.{after_looks, looks_to, after_walk};
 ghost use Rattle.hd_records.specs.Slots.{records_at, shift_at, slot_of};
 ghost use Rattle.hd_records.specs.Survivors.{survivors_of, target_of};
 
+use crate::all_slots::AllSlots;
 use crate::lent::Lent;
-use crate::slots::Slots;
 use crate::targets::is_target;
 use hd_catalogue::Catalogue;
 use hd_clash::has_clash;
@@ -23,7 +23,7 @@ use hd_rules::{Cancel, Change, TerminalNo, the_target_is_the_newest};
 use std::alloc::Allocator;
 
 /// The record of a number, or `None` where there is none. It stands in the number's slot.
-pub(crate) fn find<A: Allocator>(slots: &Slots<A>, number: u64) -> Option<Lent<'_>>
+pub(crate) fn find<A: Allocator>(slots: &AllSlots<A>, number: u64) -> Option<Lent<'_>>
     ensures { result ≡ slot_of number slots.now.items }
 {
     let place = number.checked_sub(1)?;
@@ -31,7 +31,7 @@ pub(crate) fn find<A: Allocator>(slots: &Slots<A>, number: u64) -> Option<Lent<'
 }
 
 /// Takes the record of a number out of its slot.
-pub(crate) fn take<A: Allocator>(slots: &mut Slots<A>, number: u64)
+pub(crate) fn take<A: Allocator>(slots: &mut AllSlots<A>, number: u64)
     requires { IsSome (slot_of number slots.old.items) }
     ensures slots { slots.new.items ≡ slice_set slots.old.items (number - 1) None }
     ensures room { slots.new.room ≡ slots.old.room }
@@ -42,7 +42,7 @@ pub(crate) fn take<A: Allocator>(slots: &mut Slots<A>, number: u64)
 /// Of the records of these numbers the number of the newest whose command such a cancellation by the terminal
 /// takes back.
 pub(crate) fn newest<A: Allocator>(
-    slots: &Slots<A>,
+    slots: &AllSlots<A>,
     numbers: &[u32],
     terminal: TerminalNo,
     what: &Cancel,
@@ -69,7 +69,7 @@ pub(crate) fn newest<A: Allocator>(
 pub(crate) fn first_clash<A: Allocator + Copy>(
     catalogue: &Catalogue<A>,
     changes: &[Change],
-    slots: &Slots<A>,
+    slots: &AllSlots<A>,
     numbers: Union<'_>,
     meter: &mut Meter,
 ) -> Option<u64>
@@ -96,7 +96,7 @@ pub(crate) fn first_clash<A: Allocator + Copy>(
 pub(crate) fn mend_each<A: Allocator + Copy>(
     catalogue: &Catalogue<A>,
     changes: &[Change],
-    slots: &mut Slots<A>,
+    slots: &mut AllSlots<A>,
     numbers: Union<'_>,
     meter: &mut Meter,
 )
@@ -120,7 +120,7 @@ pub(crate) fn mend_each<A: Allocator + Copy>(
 fn mend_one<A: Allocator + Copy>(
     catalogue: &Catalogue<A>,
     changes: &[Change],
-    slots: &mut Slots<A>,
+    slots: &mut AllSlots<A>,
     number: u32,
 )
     requires few { length changes.now ≤ 4 }

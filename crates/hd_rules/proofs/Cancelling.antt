@@ -2,7 +2,7 @@
 use Rattle.std.proofs.Common.{◌≡◌, refl, sym, ◌∙◌, ap, subst, ℕ, zero, suc, List, [], ◌∷◌, ◌++◌, Result, Ok, Err}
 use Rattle.hd_rules.specs.Words.{Cell, Value, Change, Refusal, Survivor}
 use Rattle.hd_rules.specs.Facts.{Facts}
-use Rattle.hd_rules.specs.Desk.{Desk, value, put, after, opening}
+use Rattle.hd_rules.specs.Desk.{Desk, value, put, after}
 use Rattle.hd_rules.specs.Ask.{Plan, Ask, Refuse, Accept, Done, answer}
 use Rattle.hd_rules.specs.Step.{plan}
 use Rattle.hd_rules.specs.Run.{outcome_of, changed_by, step, run_from, run, AreChanges}
@@ -100,9 +100,9 @@ runs_differ k before later c done is ok stand =
     differ_made (run k before) done.changes ok
     (survivor_both k (run k before) (run k before) c (alike_refl k (run k before) (plan k c.number c.command)) done is) in
     let with_c : run k (before ++ c ∷ later) ≡ run_from k (after done.changes (run k before)) later =
-    run_from-append k (opening k) before (c ∷ later)
+    run_from-append k k.opening.desk before (c ∷ later)
     ∙ ap (λ (r : Result Done Refusal). run_from k (changed_by r (run k before)) later) is in
     subst (λ (x : Desk). DifferBy done.changes x (run k (before ++ later))) (sym with_c)
     (subst (λ (x : Desk). DifferBy done.changes (run_from k (after done.changes (run k before)) later) x)
-    (sym (run_from-append k (opening k) before later))
+    (sym (run_from-append k k.opening.desk before later))
     (differ_run k _ _ done.changes later made stand))

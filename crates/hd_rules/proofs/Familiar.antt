@@ -5,7 +5,7 @@ use Rattle.std.specs.Prelude.{nat_lt, filter, unwrap_or}
 use Rattle.hd_rules.specs.Words.{Hold, HoldKind, Loan, CopyState, Shelf, OnLoan, OnHoldShelf, InTransit, Change, Question, Action, Command}
 use Rattle.hd_rules.specs.Words.{Refusal, Reply}
 use Rattle.hd_rules.specs.declared.commands.Action.TheVariants as action
-use Rattle.hd_rules.specs.Facts.{Facts, AreInRange}
+use Rattle.hd_rules.specs.Facts.{Facts, AreInRange, last_number}
 use Rattle.hd_rules.specs.Desk.{Desk}
 use Rattle.hd_rules.specs.Find.{choice}
 use Rattle.hd_rules.specs.Choose.{has_expired, FirstCandidate}
@@ -65,7 +65,7 @@ familiar_real k cs h = familiar_filter k _ cs h
 
 accepted : (k : Facts) (d : Desk) (n : ℕ) (cs : List Change) (r : Reply) → EachFamiliar k cs → IsKnownReply k r
     → Familiar k d (accept k n cs r)
-accepted k d n cs r changes reply = either k d (nat_lt k.command_limit n) _ _ refused (record { all = (familiar_real k cs changes, reply) })
+accepted k d n cs r changes reply = either k d (nat_lt (last_number k) n) _ _ refused (record { all = (familiar_real k cs changes, reply) })
 
 -- what is answered
 copy_known : (k : Facts) (d : Desk) (c : ℕ) (old : CopyState) → Given k d → c < k.copies → d.copy c ≡ old → IsKnownState k old

@@ -6,7 +6,7 @@ use Rattle.hd_rules.specs.Words.{TurnReply, Asked}
 use Rattle.hd_rules.specs.declared.turns.Asked.TheVariants as ask
 use Rattle.hd_rules.specs.declared.replies.TurnReply.TheVariants.{Done as Accepted, Refused, Cancelled, Item}
 use Rattle.hd_rules.specs.Facts.{Facts, AreInRange}
-use Rattle.hd_rules.specs.Desk.{Desk, opening, put, after}
+use Rattle.hd_rules.specs.Desk.{Desk, put, after}
 use Rattle.hd_rules.specs.Ask.{Done}
 use Rattle.hd_rules.specs.Run.{IsAmong, outcome_of, changed_by, step, run_from}
 use Rattle.hd_rules.specs.Turns.{Message, Kept, State, start, kept_of, keeping, next_survivor}
@@ -21,9 +21,6 @@ use Rattle.hd_rules.proofs.Splits.{among_either}
 use Rattle.hd_rules.proofs.Machine.{machine_turns}
 use Rattle.hd_rules.proofs.Journals.{turn_step, legal_is_run}
 use Rattle.hd_rules.proofs.Familiar.{known_done}
-
-opening_known : (k : Facts) → AreInRange k → IsKnownDesk k (opening k)
-opening_known k range = record { copies = λ c in_c. range.home c in_c; holds = λ t p in_t in_p. tt }
 
 put_known : (k : Facts) (d : Desk) (x : Cell) (v : Value) → IsKnownDesk k d → IsKnownValue k v → IsKnownDesk k (put d x v)
 put_known k d (CopyCell c) (CopyHas s) known fine = record {
@@ -65,10 +62,10 @@ survivor_known : (k : Facts) (turns : List Turn) (s : Survivor) (done : Done) �
     → IsKnownAction k s.command.action
 survivor_known k turns s done all told = subst (IsKnown k) told.asked (all told.turn told.among)
 
-desk_known : (k : Facts) (turns : List Turn) (s : State) → AreInRange k → AllAskKnown k turns → IsRunOfSurvivors k turns s
+desk_known : (k : Facts) (turns : List Turn) (s : State) → AreInRange k → IsKnownDesk k k.opening.desk → AllAskKnown k turns → IsRunOfSurvivors k turns s
     → IsKnownDesk k s.desk
-desk_known k turns s range all is =
-    subst (IsKnownDesk k) (sym is.desk) (run_known k (opening k) s.survivors range (opening_known k range)
+desk_known k turns s range opened all is =
+    subst (IsKnownDesk k) (sym is.desk) (run_known k k.opening.desk s.survivors range opened
     (λ x among. survivor_known k turns x (is.replies x among).0 all (is.replies x among).2))
 
 -- what is kept was replied
@@ -151,11 +148,11 @@ ask_more k past turn all known x among = cases (among_either x past (turn ∷ []
     cases (inr (inl e)) = subst (λ (y : Turn). IsKnown k y.message.asked) (sym e) known
     cases (inr (inr none)) = absurd none
 
-replies_known : (k : Facts) (past turns : List Turn) (s : State) → AreInRange k → IsRunOfSurvivors k past s → KeptKnown k s.kept
+replies_known : (k : Facts) (past turns : List Turn) (s : State) → AreInRange k → IsKnownDesk k k.opening.desk → IsRunOfSurvivors k past s → KeptKnown k s.kept
     → AllAskKnown k past → AllAskKnown k turns → IsLegalFrom k s turns → (turn : Turn) → IsAmong turn turns → IsKnownTurnReply k turn.reply
-replies_known k past [] s range is kept before all legal turn among = absurd among
-replies_known k past (x ∷ xs) s range is kept before all legal turn among =
-    cases among (replies_known k (past ++ x ∷ []) xs next range
+replies_known k past [] s range opened is kept before all legal turn among = absurd among
+replies_known k past (x ∷ xs) s range opened is kept before all legal turn among =
+    cases among (replies_known k (past ++ x ∷ []) xs next range opened
     (turn_step k past x s (turn_of k s x.message).reply next is legal.0 (machine_turns k s x.message is.rising))
     fine.kept_known (ask_more k past x before (all x (inl refl))) (λ y h. all y (inr h)) legal.1 turn)
   where
@@ -163,16 +160,16 @@ replies_known k past (x ∷ xs) s range is kept before all legal turn among =
     next = (turn_of k s x.message).state
 
     fine : Fine k (turn_of k s x.message).reply next
-    fine = turn_fine k s x.message (turn_of k s x.message).reply next range (desk_known k past s range before is) kept (all x (inl refl))
+    fine = turn_fine k s x.message (turn_of k s x.message).reply next range (desk_known k past s range opened before is) kept (all x (inl refl))
         (machine_turns k s x.message is.rising)
 
     cases : (turn ≡ x) ⊎ IsAmong turn xs → (IsAmong turn xs → IsKnownTurnReply k turn.reply) → IsKnownTurnReply k turn.reply
     cases (inl e) more = subst (IsKnownTurnReply k) (sym (ap (λ (y : Turn). y.reply) e ∙ legal.0)) fine.reply_known
     cases (inr h) more = more h
 
-pub known_journal : (k : Facts) (turns : List Turn) → AreInRange k → IsLegal k turns
+pub known_journal : (k : Facts) (turns : List Turn) → AreInRange k → IsKnownDesk k k.opening.desk → IsLegal k turns
     → ((turn : Turn) → IsAmong turn turns → IsKnown k turn.message.asked) → IsKnownJournal k turns
-known_journal k turns range legal all = record {
-  desk = desk_known k turns (state_after k turns) range all (legal_is_run k turns legal);
-  replies = replies_known k [] turns (start k) range (legal_is_run k [] tt) (λ t was is. cc) (λ turn among. absurd among) all legal;
+known_journal k turns range opened legal all = record {
+  desk = desk_known k turns (state_after k turns) range opened all (legal_is_run k turns legal);
+  replies = replies_known k [] turns (start k) range opened (legal_is_run k [] tt) (λ t was is. cc) (λ turn among. absurd among) all legal;
 }

@@ -7,7 +7,7 @@ use Rattle.hd_rules.specs.Words.{Action, Command}
 use Rattle.hd_rules.specs.declared.replies.Refusal.TheVariants as refusal
 use Rattle.std.specs.Prelude.{nat_lt}
 use Rattle.hd_rules.specs.declared.commands.Action.TheVariants as action
-use Rattle.hd_rules.specs.Facts.{Facts}
+use Rattle.hd_rules.specs.Facts.{Facts, last_number}
 use Rattle.hd_rules.specs.Ask.{Plan, Ask, Refuse, Accept, AnswerTo}
 use Rattle.hd_rules.specs.Settle.{settle, settle_tied, allot, keep, tied_to, copy_becomes, hold_becomes}
 use Rattle.hd_rules.specs.Step.{accept, lend, lend_held, lend_from_shelf, cannot_renew, renew_loan, checkout_at, ends_with, end_of_hold, release_of_hold}
@@ -96,7 +96,7 @@ known_real P cs h = known_filter 4 P _ cs h
 accept_grounded : (P : Cell → Value → Type 0) (k : Facts) (n : ℕ) (cs : List Change) (r : Reply) → EachKnown 4 P cs
     → Grounded P (accept k n cs r)
 accept_grounded P k n cs r h =
-    either P (nat_lt k.command_limit n) (Refuse refusal.JournalFull) (Accept (record { changes = real_changes cs; reply = r })) refused
+    either P (nat_lt (last_number k) n) (Refuse refusal.JournalFull) (Accept (record { changes = real_changes cs; reply = r })) refused
     (record { each = known_real P cs h })
 
 -- how a plan goes on, wherever more is known

@@ -5,7 +5,7 @@ use Rattle.std.proofs.lemmas.List.{append-nil}
 use Rattle.hd_rules.specs.Words.{Command, Cancel, Survivor, Refusal, Reply, TurnReply, Asked}
 use Rattle.hd_rules.specs.declared.turns.Asked.TheVariants as ask
 use Rattle.hd_rules.specs.declared.replies.TurnReply.TheVariants.{Done as Accepted, Refused, Cancelled, Item}
-use Rattle.hd_rules.specs.Facts.{Facts}
+use Rattle.hd_rules.specs.Facts.{Facts, first_number}
 use Rattle.hd_rules.specs.Desk.{Desk, after}
 use Rattle.hd_rules.specs.Ask.{Done}
 use Rattle.hd_rules.specs.Run.{IsAmong, outcome_of, changed_by, step, run, Rising, next_number}
@@ -62,9 +62,9 @@ stays : (k : Facts) (turns : List Turn) (turn : Turn) (s next : State) → IsRun
     → next.survivors ≡ s.survivors → next.last ≡ s.last → IsRunOfSurvivors k (turns ++ turn ∷ []) next
 stays k turns turn s next is desk survivors last = record {
   desk = desk ∙ is.desk ∙ ap (run k) (sym survivors);
-  rising = subst (Rising 1) (sym survivors) is.rising;
-  last = (let at : next_number 1 s.survivors ≤ s.last + 1 = is.last in
-      let same : next_number 1 next.survivors ≡ next_number 1 s.survivors = ap (next_number 1) survivors in
+  rising = subst (Rising (first_number k)) (sym survivors) is.rising;
+  last = (let at : next_number (first_number k) s.survivors ≤ s.last + 1 = is.last in
+      let same : next_number (first_number k) next.survivors ≡ next_number (first_number k) s.survivors = ap (next_number (first_number k)) survivors in
       let also : next.last ≡ s.last = last in omega arith);
   replies = subst (RepliesStand k (turns ++ turn ∷ [])) (sym survivors) (stand_more k turns (turn ∷ []) s.survivors is.replies);
 }
@@ -74,8 +74,8 @@ abbrev added : State → Turn → Command → Survivor
 added s turn command = next_survivor s turn.message.terminal command
 
 rising_added : (k : Facts) (turns : List Turn) (turn : Turn) (s : State) (command : Command) → IsRunOfSurvivors k turns s
-    → Rising 1 (s.survivors ++ added s turn command ∷ [])
-rising_added k turns turn s command is = rising_more 1 s.survivors (added s turn command) is.rising is.last
+    → Rising (first_number k) (s.survivors ++ added s turn command ∷ [])
+rising_added k turns turn s command is = rising_more (first_number k) s.survivors (added s turn command) is.rising is.last
 
 add_stands : (k : Facts) (turns : List Turn) (turn : Turn) (s : State) (command : Command) (done : Done) → IsRunOfSurvivors k turns s
     → turn.message.asked ≡ ask.Command command → turn.reply ≡ Accepted (s.last + 1) done.reply
@@ -85,7 +85,7 @@ add_stands k turns turn s command done is asked told ok x among = cases (among_e
     new : Survivor
     new = added s turn command
 
-    rises : Rising 1 (s.survivors ++ new ∷ [])
+    rises : Rising (first_number k) (s.survivors ++ new ∷ [])
     rises = rising_added k turns turn s command is
 
     last_told : WasTold (turns ++ turn ∷ []) new done.reply
@@ -93,7 +93,7 @@ add_stands k turns turn s command done is asked told ok x among = cases (among_e
 
     last_done : outcome_of k (run k (before new.number (s.survivors ++ new ∷ []))) new ≡ Ok done
     last_done =
-        ap (λ (xs : List Survivor). outcome_of k (run k xs) new) (before_split 1 s.survivors new [] rises)
+        ap (λ (xs : List Survivor). outcome_of k (run k xs) new) (before_split (first_number k) s.survivors new [] rises)
         ∙ ap (λ (d : Desk). outcome_of k d new) (sym is.desk) ∙ ok
 
     cases : IsAmong x s.survivors ⊎ IsAmong x (new ∷ [])
@@ -102,7 +102,7 @@ add_stands k turns turn s command done is asked told ok x among = cases (among_e
         let r : (d : Done) × (outcome_of k (run k (before x.number s.survivors)) x ≡ Ok d) × WasTold turns x d.reply =
         is.replies x left in (
           r.0,
-          ap (λ (xs : List Survivor). outcome_of k (run k xs) x) (before_more s.survivors (new ∷ []) x rises left)
+          ap (λ (xs : List Survivor). outcome_of k (run k xs) x) (before_more (first_number k) s.survivors (new ∷ []) x rises left)
               ∙ r.1,
           told_more turns (turn ∷ []) x r.0.reply r.2,
         )
@@ -122,14 +122,14 @@ accepts k turns turn s command done is asked told ok = record {
       ∙ ap (λ (d : Desk). step k d (added s turn command)) is.desk
       ∙ sym (run_one_more k s.survivors (added s turn command));
   rising = rising_added k turns turn s command is;
-  last = (let at : next_number 1 (s.survivors ++ added s turn command ∷ []) ≡ (s.last + 1) + 1 =
-      next_more 1 s.survivors (added s turn command) in omega arith);
+  last = (let at : next_number (first_number k) (s.survivors ++ added s turn command ∷ []) ≡ (s.last + 1) + 1 =
+      next_more (first_number k) s.survivors (added s turn command) in omega arith);
   replies = add_stands k turns turn s command done is asked told ok;
 }
 
 -- the survivors of a cancellation
 cancel_stands : (k : Facts) (turns : List Turn) (older : List Survivor) (c : Survivor) (newer : List Survivor)
-    → Rising 1 (older ++ c ∷ newer) → NoneDepends k (older ++ c ∷ newer) c → RepliesStand k turns (older ++ c ∷ newer)
+    → Rising (first_number k) (older ++ c ∷ newer) → NoneDepends k (older ++ c ∷ newer) c → RepliesStand k turns (older ++ c ∷ newer)
     → RepliesStand k turns (older ++ newer)
 cancel_stands k turns older c newer rising none stand s among =
     let r : (done : Done) × (outcome_of k (run k (before s.number (older ++ c ∷ newer))) s ≡ Ok done) × WasTold turns s done.reply =
@@ -141,7 +141,7 @@ cancel_stands k turns older c newer rising none stand s among =
     back (inr right) = among_right s older (c ∷ newer) (inr right)
 
     e : less c.number (older ++ c ∷ newer) ≡ older ++ newer
-    e = less_split 1 older c newer rising
+    e = less_split (first_number k) older c newer rising
 
     same : outcome_of k (run k (before s.number (older ++ newer))) s ≡ outcome_of k (run k (before s.number (older ++ c ∷ newer))) s
     same = subst (λ (xs : List Survivor). IsAmong s xs
@@ -150,20 +150,20 @@ cancel_stands k turns older c newer rising none stand s among =
 
 -- what is left when a target on which none depends is taken out
 pub record Left (k : Facts) (turns : List Turn) (n : ℕ) (at : Split) : Type 0 where
-  pub rising : Rising 1 (at.older ++ at.newer)
-  pub last : next_number 1 (at.older ++ at.newer) ≤ n + 1
+  pub rising : Rising (first_number k) (at.older ++ at.newer)
+  pub last : next_number (first_number k) (at.older ++ at.newer) ≤ n + 1
   pub replies : RepliesStand k turns (at.older ++ at.newer)
 
 pub left_by : (k : Facts) (turns : List Turn) (ss : List Survivor) (n : ℕ) (at : Split) → ss ≡ at.older ++ at.survivor ∷ at.newer
-    → Rising 1 ss → next_number 1 ss ≤ n + 1 → RepliesStand k turns ss → NoneDepends k ss at.survivor → Left k turns n at
+    → Rising (first_number k) ss → next_number (first_number k) ss ≤ n + 1 → RepliesStand k turns ss → NoneDepends k ss at.survivor → Left k turns n at
 left_by k turns ss n at split rising last stand none =
-    subst (λ (xs : List Survivor). Rising 1 xs → next_number 1 xs ≤ n + 1 → RepliesStand k turns xs → NoneDepends k xs at.survivor
+    subst (λ (xs : List Survivor). Rising (first_number k) xs → next_number (first_number k) xs ≤ n + 1 → RepliesStand k turns xs → NoneDepends k xs at.survivor
     → Left k turns n at) (sym split)
     (λ r l st no_one. record {
-      rising = rising_without 1 at.older at.survivor at.newer r;
-      last = (let low : next_number 1 (at.older ++ at.newer) ≤ next_number 1 (at.older ++ at.survivor ∷ at.newer) =
-          next_without 1 at.older at.survivor at.newer r in
-          let up : next_number 1 (at.older ++ at.survivor ∷ at.newer) ≤ n + 1 = l in omega arith);
+      rising = rising_without (first_number k) at.older at.survivor at.newer r;
+      last = (let low : next_number (first_number k) (at.older ++ at.newer) ≤ next_number (first_number k) (at.older ++ at.survivor ∷ at.newer) =
+          next_without (first_number k) at.older at.survivor at.newer r in
+          let up : next_number (first_number k) (at.older ++ at.survivor ∷ at.newer) ≤ n + 1 = l in omega arith);
       replies = cancel_stands k turns at.older at.survivor at.newer r no_one st;
     }) rising last stand none
 
@@ -236,7 +236,7 @@ goes_on k past (turn ∷ turns) s is legal =
 pub legal_is_run : (k : Facts) (turns : List Turn) → IsLegal k turns → IsRunOfSurvivors k turns (state_after k turns)
 legal_is_run k turns legal =
     goes_on k [] turns (start k)
-    (record { desk = refl; rising = tt; last = (let le : 1 ≤ 0 + 1 = omega arith in le); replies = λ s among. absurd among }) legal
+    (record { desk = refl; rising = tt; last = (let le : first_number k ≤ k.opening.last + 1 = omega arith in le); replies = λ s among. absurd among }) legal
 
 -- lists of turns in two parts
 pub legal_parts : (k : Facts) (s : State) (xs ys : List Turn) → IsLegalFrom k s (xs ++ ys)

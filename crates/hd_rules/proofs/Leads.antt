@@ -2,7 +2,7 @@
 use Rattle.std.proofs.Common.{◌≡◌, refl, sym, ◌∙◌, ap, subst, ℕ, Bool, true, false, if◌then◌else◌, not, List, [], ◌∷◌, Ok}
 use Rattle.std.specs.Prelude.{filter, nat_lt}
 use Rattle.hd_rules.specs.Words.{Cell, Value, Change, Refusal, Reply, Question}
-use Rattle.hd_rules.specs.Facts.{Facts}
+use Rattle.hd_rules.specs.Facts.{Facts, last_number}
 use Rattle.hd_rules.specs.Desk.{Desk, value, same_cell, put, after}
 use Rattle.hd_rules.specs.Ask.{Plan, Ask, Refuse, Accept, Done, AnswerTo, answer, outcome}
 use Rattle.hd_rules.specs.Step.{accept}
@@ -112,7 +112,7 @@ real_good k n d cs proper gentle sound = record {
 pub accepted : (k : Facts) (n m : ℕ) (d : Desk) (cs : List Change) (r : Reply) → Proper d cs → AreGentle cs → Sound k m (after cs d)
     → Leads k m d (accept k n cs r)
 accepted k n m d cs r proper gentle sound =
-    either k m d (nat_lt k.command_limit n) _ _ (λ is. refused) (λ is. record { all = real_good k m d cs proper gentle sound })
+    either k m d (nat_lt (last_number k) n) _ _ (λ is. refused) (λ is. record { all = real_good k m d cs proper gentle sound })
 
 pub leads_to : (k : Facts) (n : ℕ) (d : Desk) (plan : Plan) → AllLead k n d plan → (done : Done) → outcome k d plan ≡ Ok done
     → Good k n d done.changes

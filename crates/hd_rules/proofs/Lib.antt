@@ -36,3 +36,5 @@ pub mod Mended
 pub mod Only
 pub mod Telling
 pub mod ReplyingTurns
+pub mod Carried
+pub mod Told

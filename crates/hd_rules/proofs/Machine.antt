@@ -5,7 +5,7 @@ use Rattle.hd_rules.specs.Words.{Command, Cancel, Survivor, Refusal, TurnReply, 
 use Rattle.hd_rules.specs.declared.turns.Asked.TheVariants as ask
 use Rattle.hd_rules.specs.declared.replies.Refusal.TheVariants as refusal
 use Rattle.hd_rules.specs.declared.replies.TurnReply.TheVariants.{Done as Accepted, Refused, Cancelled, Item}
-use Rattle.hd_rules.specs.Facts.{Facts}
+use Rattle.hd_rules.specs.Facts.{Facts, first_number}
 use Rattle.hd_rules.specs.Desk.{after}
 use Rattle.hd_rules.specs.Ask.{Done}
 use Rattle.hd_rules.specs.Same.{same_asked, same_line}
@@ -97,26 +97,26 @@ at_split : (P : List Survivor → Type 0) (t : ℕ) (what : Cancel) (ss : List S
     → P (at.older ++ at.survivor ∷ at.newer) → P ss
 at_split P t what ss at is h = subst P (sym is.split) h
 
-pub decided_none : (k : Facts) (t : ℕ) (what : Cancel) (ss : List Survivor) (at : Split) → Rising 1 ss → IsTarget t what ss at
+pub decided_none : (k : Facts) (t : ℕ) (what : Cancel) (ss : List Survivor) (at : Split) → Rising (first_number k) ss → IsTarget t what ss at
     → first_dependent k ss at.survivor at.newer ≡ None → NoneDepends k ss at.survivor
 decided_none k t what ss at rising is =
-    at_split (λ xs. Rising 1 xs → first_dependent k xs at.survivor at.newer ≡ None → NoneDepends k xs at.survivor) t what ss at is
-    (none_depends k 1 at.older at.survivor at.newer) rising
+    at_split (λ xs. Rising (first_number k) xs → first_dependent k xs at.survivor at.newer ≡ None → NoneDepends k xs at.survivor) t what ss at is
+    (none_depends k (first_number k) at.older at.survivor at.newer) rising
 
-pub decided_least : (k : Facts) (t : ℕ) (what : Cancel) (ss : List Survivor) (at : Split) → Rising 1 ss → IsTarget t what ss at → (n : ℕ)
+pub decided_least : (k : Facts) (t : ℕ) (what : Cancel) (ss : List Survivor) (at : Split) → Rising (first_number k) ss → IsTarget t what ss at → (n : ℕ)
     → first_dependent k ss at.survivor at.newer ≡ Some n → IsLeastDependent k ss at.survivor n
 decided_least k t what ss at rising is =
-    at_split (λ xs. Rising 1 xs → (n : ℕ) → first_dependent k xs at.survivor at.newer ≡ Some n
+    at_split (λ xs. Rising (first_number k) xs → (n : ℕ) → first_dependent k xs at.survivor at.newer ≡ Some n
     → IsLeastDependent k xs at.survivor n) t what ss at is
-    (least_depends k 1 at.older at.survivor at.newer) rising
+    (least_depends k (first_number k) at.older at.survivor at.newer) rising
 
-pub found_none : (k : Facts) (t : ℕ) (what : Cancel) (ss : List Survivor) (at : Split) → Rising 1 ss → IsTarget t what ss at
+pub found_none : (k : Facts) (t : ℕ) (what : Cancel) (ss : List Survivor) (at : Split) → Rising (first_number k) ss → IsTarget t what ss at
     → NoneDepends k ss at.survivor → first_dependent k ss at.survivor at.newer ≡ None
 found_none k t what ss at rising is =
-    at_split (λ xs. Rising 1 xs → NoneDepends k xs at.survivor → first_dependent k xs at.survivor at.newer ≡ None) t what ss at is
-    (finds_none k 1 at.older at.survivor at.newer) rising
+    at_split (λ xs. Rising (first_number k) xs → NoneDepends k xs at.survivor → first_dependent k xs at.survivor at.newer ≡ None) t what ss at is
+    (finds_none k (first_number k) at.older at.survivor at.newer) rising
 
-found_least : (k : Facts) (t : ℕ) (what : Cancel) (ss : List Survivor) (at : Split) → Rising 1 ss → IsTarget t what ss at → (n : ℕ)
+found_least : (k : Facts) (t : ℕ) (what : Cancel) (ss : List Survivor) (at : Split) → Rising (first_number k) ss → IsTarget t what ss at → (n : ℕ)
     → IsLeastDependent k ss at.survivor n → first_dependent k ss at.survivor at.newer ≡ Some n
 found_least k t what ss at rising is n least = cases (first_dependent k ss at.survivor at.newer) refl
   where
@@ -145,7 +145,7 @@ command_is k s m command (Refused r) next h =
 command_is k s m command (Cancelled n) next h = absurd h
 command_is k s m command (Item view) next h = absurd h
 
-refused_is : (k : Facts) (s : State) (m : Message) (what : Cancel) (r : Refusal) → Rising 1 s.survivors → IsRefusedCancel k s m what r
+refused_is : (k : Facts) (s : State) (m : Message) (what : Cancel) (r : Refusal) → Rising (first_number k) s.survivors → IsRefusedCancel k s m what r
     → record { reply = Refused r; state = keeping m (Refused r) s } ≡ answered_new k s m (ask.Cancel what)
 refused_is k s m what refusal.NothingToCancel rising h =
     sym (ap (λ (o : Option Split). with_kept m (answered_cancel k s o)) ((no_target_is m.terminal what s.survivors).1 h))
@@ -154,7 +154,7 @@ refused_is k s m what (refusal.Depends n) rising h =
     ∙ ap (λ (o : Option ℕ). with_kept m (answered_target k s h.0 o)) (found_least k m.terminal what s.survivors h.0 rising h.1 n h.2))
 refused_is k s m what _ rising h = absurd h
 
-cancel_is : (k : Facts) (s : State) (m : Message) (what : Cancel) (reply : TurnReply) (next : State) → Rising 1 s.survivors
+cancel_is : (k : Facts) (s : State) (m : Message) (what : Cancel) (reply : TurnReply) (next : State) → Rising (first_number k) s.survivors
     → IsCancelTurn k s m what reply next → record { reply = reply; state = next } ≡ answered_new k s m (ask.Cancel what)
 cancel_is k s m what (Refused r) next rising h =
     (λ i. record { reply = Refused r; state = h.1 i }) ∙ refused_is k s m what r rising h.0
@@ -173,13 +173,13 @@ query_is k s m c (Accepted n reply) next h = absurd h
 query_is k s m c (Refused r) next h = absurd h
 query_is k s m c (Cancelled n) next h = absurd h
 
-new_is : (k : Facts) (s : State) (m : Message) (a : Asked) (reply : TurnReply) (next : State) → Rising 1 s.survivors
+new_is : (k : Facts) (s : State) (m : Message) (a : Asked) (reply : TurnReply) (next : State) → Rising (first_number k) s.survivors
     → IsNewTurn k s m a reply next → record { reply = reply; state = next } ≡ answered_new k s m a
 new_is k s m (ask.Command command) reply next rising h = command_is k s m command reply next h
 new_is k s m (ask.Cancel what) reply next rising h = cancel_is k s m what reply next rising h
 new_is k s m (ask.Item c) reply next rising h = query_is k s m c reply next h
 
-turn_is : (k : Facts) (s : State) (m : Message) (reply : TurnReply) (next : State) → Rising 1 s.survivors → IsTurn k s m reply next
+turn_is : (k : Facts) (s : State) (m : Message) (reply : TurnReply) (next : State) → Rising (first_number k) s.survivors → IsTurn k s m reply next
     → record { reply = reply; state = next } ≡ turn_of k s m
 turn_is k s m reply next rising (inl h) = (λ i. record { reply = reply; state = h.1 i }) ∙ sym (turn_of_repeat k s m reply h.0)
 turn_is k s m reply next rising (inr h) = new_is k s m m.asked reply next rising h.1 ∙ sym (turn_of_new k s m h.0)
@@ -190,13 +190,13 @@ command_turn : (k : Facts) (s : State) (m : Message) (new : Survivor) (r : Resul
 command_turn k s m new (Ok done) is = (done, is, refl, refl, refl)
 command_turn k s m new (Err r) is = (is, refl)
 
-target_turn : (k : Facts) (s : State) (m : Message) (what : Cancel) (at : Split) → Rising 1 s.survivors
+target_turn : (k : Facts) (s : State) (m : Message) (what : Cancel) (at : Split) → Rising (first_number k) s.survivors
     → IsTarget m.terminal what s.survivors at → (o : Option ℕ) → first_dependent k s.survivors at.survivor at.newer ≡ o
     → IsCancelTurn k s m what (with_kept m (answered_target k s at o)).reply (with_kept m (answered_target k s at o)).state
 target_turn k s m what at rising is None none = (at, is, decided_none k m.terminal what s.survivors at rising is none, refl, refl)
 target_turn k s m what at rising is (Some n) some = ((at, is, decided_least k m.terminal what s.survivors at rising is n some), refl)
 
-cancel_turn : (k : Facts) (s : State) (m : Message) (what : Cancel) → Rising 1 s.survivors → (o : Option Split)
+cancel_turn : (k : Facts) (s : State) (m : Message) (what : Cancel) → Rising (first_number k) s.survivors → (o : Option Split)
     → target m.terminal what s.survivors ≡ o
     → IsCancelTurn k s m what (with_kept m (answered_cancel k s o)).reply (with_kept m (answered_cancel k s o)).state
 cancel_turn k s m what rising None is = ((no_target_is m.terminal what s.survivors).0 is, refl)
@@ -204,14 +204,14 @@ cancel_turn k s m what rising (Some at) is =
     target_turn k s m what at rising ((target_is m.terminal what s.survivors at).0 is) (first_dependent k s.survivors at.survivor at.newer)
     refl
 
-new_turn : (k : Facts) (s : State) (m : Message) (a : Asked) → Rising 1 s.survivors
+new_turn : (k : Facts) (s : State) (m : Message) (a : Asked) → Rising (first_number k) s.survivors
     → IsNewTurn k s m a (answered_new k s m a).reply (answered_new k s m a).state
 new_turn k s m (ask.Command command) rising =
     command_turn k s m (next_survivor s m.terminal command) (outcome_of k s.desk (next_survivor s m.terminal command)) refl
 new_turn k s m (ask.Cancel what) rising = cancel_turn k s m what rising (target m.terminal what s.survivors) refl
 new_turn k s m (ask.Item c) rising = (refl, refl)
 
-pub machine_turns : (k : Facts) (s : State) (m : Message) → Rising 1 s.survivors → IsTurn k s m (turn_of k s m).reply (turn_of k s m).state
+pub machine_turns : (k : Facts) (s : State) (m : Message) → Rising (first_number k) s.survivors → IsTurn k s m (turn_of k s m).reply (turn_of k s m).state
 machine_turns k s m rising = cases (reply_again s m) refl
   where
     cases : (o : Option TurnReply) → reply_again s m ≡ o → IsTurn k s m (answered_unless k s m o).reply (answered_unless k s m o).state
@@ -222,7 +222,7 @@ machine_turns k s m rising = cases (reply_again s m) refl
           new_turn k s m m.asked rising,
         )
 
-pub turns_are_the_machines : (k : Facts) (s : State) (m : Message) (reply : TurnReply) (next : State) → Rising 1 s.survivors
+pub turns_are_the_machines : (k : Facts) (s : State) (m : Message) (reply : TurnReply) (next : State) → Rising (first_number k) s.survivors
     → IsTurn k s m reply next ↔ (turn_of k s m ≡ record { reply = reply; state = next })
 turns_are_the_machines k s m reply next rising = (
   (λ h. sym (turn_is k s m reply next rising h)),

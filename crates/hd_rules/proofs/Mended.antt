@@ -4,7 +4,7 @@ use Rattle.std.proofs.Common.{◌∷◌}
 use Rattle.std.specs.Prelude.{nat_lt, filter}
 use Rattle.std.proofs.lemmas.Bool.{ltb-true, ltb-false}
 use Rattle.hd_rules.specs.Words.{Survivor, Question, Finding}
-use Rattle.hd_rules.specs.Facts.{Facts}
+use Rattle.hd_rules.specs.Facts.{Facts, first_number}
 use Rattle.hd_rules.specs.Desk.{Desk}
 use Rattle.hd_rules.specs.Ask.{Plan, asks}
 use Rattle.hd_rules.specs.Step.{plan}
@@ -81,7 +81,7 @@ other_of m n is e = by_test (m == n) refl is
     by_test true same is = cc
     by_test false same is = number_not m n same e
 
-pub records_stand : (k : Facts) (ss : List Survivor) (c : Survivor) → Rising 1 ss → IsAmong c ss → NoneDepends k ss c
+pub records_stand : (k : Facts) (ss : List Survivor) (c : Survivor) → Rising (first_number k) ss → IsAmong c ss → NoneDepends k ss c
     → (s : Survivor) (r : Record) → IsAmong s (less c.number ss) → IsRecord k ss s r
     → IsRecord k (less c.number ss) s (mended_record k (run k (before s.number (less c.number ss))) r)
 records_stand k ss c rising in_c none s r among is =

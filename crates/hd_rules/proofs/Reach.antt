@@ -1,15 +1,15 @@
 -- Every desk that a legal run leads to is sound, and what follows from it.
-use Rattle.std.proofs.Common.{arith, ◌≡◌, refl, ap, ℕ, ◌+◌, ◌≤◌, List, [], ◌∷◌, ◌++◌, Result, Ok, Err}
+use Rattle.std.proofs.Common.{arith, ◌≡◌, refl, sym, subst, ap, ℕ, ◌+◌, ◌≤◌, List, [], ◌∷◌, ◌++◌, Result, Ok, Err}
 use Rattle.hd_rules.specs.Words.{Action, Refusal, Survivor}
 use Rattle.hd_rules.specs.declared.commands.Action.TheVariants as action
-use Rattle.hd_rules.specs.Facts.{Facts}
-use Rattle.hd_rules.specs.Desk.{Desk, opening, after}
+use Rattle.hd_rules.specs.Facts.{Facts, Opening, IsFresh, first_number}
+use Rattle.hd_rules.specs.Desk.{Desk, at_home, after}
 use Rattle.hd_rules.specs.Ask.{Done}
 use Rattle.hd_rules.specs.Settle.{tied_to}
 use Rattle.hd_rules.specs.Step.{plan, plan_of}
 use Rattle.hd_rules.specs.Run.{outcome_of, changed_by, step, run_from, run, Rising, next_number, AreChanges}
 use Rattle.hd_rules.proofs.Standing.{AllStand}
-use Rattle.hd_rules.specs.Sound.{Sound}
+use Rattle.hd_rules.specs.Sound.{Sound, MayOpen}
 use Rattle.hd_rules.proofs.Fits.{holds_later}
 use Rattle.hd_rules.proofs.Leads.{Good, Leads, asked, leads_to}
 use Rattle.hd_rules.proofs.Lending.{checkout_leads, add_leads, change_leads, renew_leads}
@@ -51,16 +51,20 @@ run_sound k n d [] sound rising = sound
 run_sound k n d (s ∷ ss) sound rising =
     run_sound k (s.number + 1) (step k d s) ss (step_sound k d s (later_sound k n s.number d rising.0 sound)) rising.1
 
-opening_sound : (k : Facts) (n : ℕ) → Sound k n (opening k)
-opening_sound k n = record {
+pub home_sound : (k : Facts) (n : ℕ) → Sound k n (at_home k.home)
+home_sound k n = record {
   holds = record { named = λ t p h e. cc; stamped = λ t p h e. cc; apart = λ t p q g h e f same. cc };
   places = record { from_one = λ c s e. cc; apart = λ x y s r in_x in_y e f branch place. cc };
   tie = record { tied = λ t p c b h. absurd h; has = λ p c b h. absurd h };
 }
 
+pub fresh_may_open : (k : Facts) → IsFresh k → MayOpen k
+fresh_may_open k is = subst (λ (o : Opening). Sound k (o.last + 1) o.desk) (sym is) (home_sound k 1)
+
 -- every desk that a legal run leads to is sound
-pub reachable_sound : (k : Facts) (n : ℕ) (ss : List Survivor) → Rising n ss → Sound k (next_number n ss) (run k ss)
-reachable_sound k n ss rising = run_sound k n (opening k) ss (opening_sound k n) rising
+pub reachable_sound : (k : Facts) (ss : List Survivor) → MayOpen k → Rising (first_number k) ss
+    → Sound k (next_number (first_number k) ss) (run k ss)
+reachable_sound k ss may rising = run_sound k (first_number k) k.opening.desk ss may rising
 
 rising_before : (n : ℕ) (before : List Survivor) (c : Survivor) (later : List Survivor) → Rising n (before ++ c ∷ later)
     → Rising n before × (next_number n before ≤ c.number)
@@ -69,25 +73,26 @@ rising_before n (s ∷ ss) c later rising =
     let rest : Rising (s.number + 1) ss × (next_number (s.number + 1) ss ≤ c.number) = rising_before (s.number + 1) ss c later rising.1 in
     ((rising.0, rest.0), rest.1)
 
-sound_before : (k : Facts) (n : ℕ) (before : List Survivor) (c : Survivor) (later : List Survivor) → Rising n (before ++ c ∷ later)
+sound_before : (k : Facts) (before : List Survivor) (c : Survivor) (later : List Survivor) → MayOpen k → Rising (first_number k) (before ++ c ∷ later)
     → Sound k c.number (run k before)
-sound_before k n before c later rising =
+sound_before k before c later may rising =
+    let n : ℕ = first_number k in
     let r : Rising n before × (next_number n before ≤ c.number) = rising_before n before c later rising in
-    later_sound k (next_number n before) c.number (run k before) r.1 (reachable_sound k n before r.0)
+    later_sound k (next_number n before) c.number (run k before) r.1 (reachable_sound k before may r.0)
 
 -- the changes of a command accepted in a legal run are of distinct cells, each to another value
-pub reachable_changes : (k : Facts) (n : ℕ) (before later : List Survivor) (c : Survivor) (done : Done) → Rising n (before ++ c ∷ later)
+pub reachable_changes : (k : Facts) (before later : List Survivor) (c : Survivor) (done : Done) → MayOpen k → Rising (first_number k) (before ++ c ∷ later)
     → outcome_of k (run k before) c ≡ Ok done → AreChanges done.changes
-reachable_changes k n before later c done rising is = (good k (run k before) c (sound_before k n before c later rising) done is).are
+reachable_changes k before later c done may rising is = (good k (run k before) c (sound_before k before c later may rising) done is).are
 
 -- the runs with and without a command on which nothing later depends
-pub differ : (k : Facts) (n : ℕ) (before later : List Survivor) (c : Survivor) (done : Done) → Rising n (before ++ c ∷ later)
+pub differ : (k : Facts) (before later : List Survivor) (c : Survivor) (done : Done) → MayOpen k → Rising (first_number k) (before ++ c ∷ later)
     → outcome_of k (run k before) c ≡ Ok done → AllStand k (after done.changes (run k before)) (run k before) later
     → DifferBy done.changes (run k (before ++ c ∷ later)) (run k (before ++ later))
-differ k n before later c done rising is stand =
-    runs_differ k before later c done is (reachable_changes k n before later c done rising is) stand
+differ k before later c done may rising is stand =
+    runs_differ k before later c done is (reachable_changes k before later c done may rising is) stand
 
 -- its changes are gentle
-pub reachable_gentle : (k : Facts) (n : ℕ) (before later : List Survivor) (c : Survivor) (done : Done) → Rising n (before ++ c ∷ later)
+pub reachable_gentle : (k : Facts) (before later : List Survivor) (c : Survivor) (done : Done) → MayOpen k → Rising (first_number k) (before ++ c ∷ later)
     → outcome_of k (run k before) c ≡ Ok done → AreGentle done.changes
-reachable_gentle k n before later c done rising is = (good k (run k before) c (sound_before k n before c later rising) done is).gentle
+reachable_gentle k before later c done may rising is = (good k (run k before) c (sound_before k before c later may rising) done is).gentle

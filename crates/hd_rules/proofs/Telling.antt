@@ -4,7 +4,7 @@ use Rattle.std.specs.Prelude.{nat_lt}
 use Rattle.hd_rules.specs.Words.{Hold, HoldKind, Loan, CopyState, Shelf, OnLoan, OnHoldShelf, InTransit, Change, Question, Action, Refusal}
 use Rattle.hd_rules.specs.Words.{Reply}
 use Rattle.hd_rules.specs.declared.commands.Action.TheVariants as action
-use Rattle.hd_rules.specs.Facts.{Facts}
+use Rattle.hd_rules.specs.Facts.{Facts, last_number}
 use Rattle.hd_rules.specs.Desk.{Desk}
 use Rattle.hd_rules.specs.Choose.{has_expired}
 use Rattle.hd_rules.specs.Ask.{Plan, Ask, Refuse, Accept, Done, AnswerTo, answer, outcome}
@@ -35,7 +35,7 @@ either a true x y h g = h
 either a false x y h g = g
 
 accepted : (a : Action) (k : Facts) (n : ℕ) (cs : List Change) (r : Reply) → TellsOf a r → Tells a (accept k n cs r)
-accepted a k n cs r h = either a (nat_lt k.command_limit n) _ _ refused (record { all = h })
+accepted a k n cs r h = either a (nat_lt (last_number k) n) _ _ refused (record { all = h })
 
 lend_tells : (a : Action) (k : Facts) (p c day : ℕ) (rest : Plan) → Tells a rest → Tells a (lend k p c day rest)
 lend_tells a k p c day rest h = asked (λ room. either a room _ _ (either a (nat_lt last_day (due_day k c day)) _ _ refused h) refused)

@@ -5,7 +5,7 @@ use Rattle.std.proofs.lemmas.List.{append-nil}
 use Rattle.hd_rules.specs.Words.{Command, Cancel, Refusal, Reply, TurnReply, Asked}
 use Rattle.hd_rules.specs.declared.turns.Asked.TheVariants as ask
 use Rattle.hd_rules.specs.declared.replies.TurnReply.TheVariants.{Done as Accepted, Cancelled}
-use Rattle.hd_rules.specs.Facts.{Facts}
+use Rattle.hd_rules.specs.Facts.{Facts, first_number}
 use Rattle.hd_rules.specs.Desk.{after}
 use Rattle.hd_rules.specs.Ask.{Done}
 use Rattle.hd_rules.specs.Run.{outcome_of, run, Rising}
@@ -171,7 +171,7 @@ run_without k turns s at next is split none desk survivors last = record {
   where
     those : less at.survivor.number s.survivors ≡ at.older ++ at.newer
     those = ap (less at.survivor.number) split
-        ∙ less_split 1 at.older at.survivor at.newer (subst (Rising 1) split is.rising)
+        ∙ less_split (first_number k) at.older at.survivor at.newer (subst (Rising (first_number k)) split is.rising)
 
     left : Left k turns s.last at
     left = left_by k turns s.survivors s.last at split is.rising is.last is.replies none

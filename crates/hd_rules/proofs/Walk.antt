@@ -4,7 +4,7 @@ use Rattle.std.proofs.Common.{◌++◌, append_assoc, Option, Some, None}
 use Rattle.std.proofs.lemmas.List.{append-nil}
 use Rattle.hd_rules.specs.Words.{Survivor}
 use Rattle.hd_rules.specs.Facts.{Facts}
-use Rattle.hd_rules.specs.Desk.{Desk, opening}
+use Rattle.hd_rules.specs.Desk.{Desk}
 use Rattle.hd_rules.specs.Step.{plan}
 use Rattle.hd_rules.specs.Run.{IsAmong, step, run, Rising}
 use Rattle.hd_rules.specs.Searches.{answered_otherwise, depends, first_dependent}
@@ -27,7 +27,7 @@ test_at k n xs d rest c ys rising without =
     ∙ ap (λ (zs : List Survivor). answered_otherwise k (run k xs) (run k zs) (plan k d.number d.command)) without
 
 pub run_one_more : (k : Facts) (xs : List Survivor) (s : Survivor) → run k (xs ++ s ∷ []) ≡ step k (run k xs) s
-run_one_more k xs s = run_from-append k (opening k) xs (s ∷ [])
+run_one_more k xs s = run_from-append k k.opening.desk xs (s ∷ [])
 
 -- a walk from the two desks on finds the same as the tests one by one
 walk_from : (k : Facts) (n : ℕ) (xs : List Survivor) (c : Survivor) (ys rest : List Survivor) → Rising n (xs ++ rest)

@@ -2,8 +2,7 @@
 use Rattle.std.specs.Prelude.{◌&&◌, ◌==◌, Option, None, List, [], ◌∷◌, if◌then◌else◌}
 use Rattle.hd_rules.specs.Words.{Hold, CopyState, Shelf, Cell, CopyCell, HoldCell, Value, CopyHas, HoldHas}
 use Rattle.hd_rules.specs.Words.{Change}
-use Rattle.hd_rules.specs.Numbers.{CopyNo, TitleNo, PatronNo}
-use Rattle.hd_rules.specs.Facts.{Facts}
+use Rattle.hd_rules.specs.Numbers.{BranchNo, CopyNo, TitleNo, PatronNo}
 pub use Rattle.hd_rules.specs.Changes.{same_cell}
 
 -- what each cell has (§ State)
@@ -12,8 +11,8 @@ pub record Desk : Type 0 where
   pub hold : TitleNo → PatronNo → Option Hold
 
 -- each copy at home, and no holds (§ State)
-abbrev pub opening : Facts → Desk
-opening k = record { copy = λ c. Shelf (k.home c); hold = λ t p. None }
+abbrev pub at_home : (CopyNo → BranchNo) → Desk
+at_home home = record { copy = λ c. Shelf (home c); hold = λ t p. None }
 
 -- what a cell has
 abbrev pub value : Desk → Cell → Value

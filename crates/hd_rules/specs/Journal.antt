@@ -3,7 +3,7 @@ use Rattle.std.specs.Prelude.{◌≡◌, ℕ, ◌+◌, ◌≤◌, Ok, List, [], 
 use Rattle.hd_rules.specs.Words.{Survivor, Reply, TurnReply}
 use Rattle.hd_rules.specs.declared.turns.Asked.TheVariants as ask
 use Rattle.hd_rules.specs.declared.replies.TurnReply.TheVariants.{Done as Accepted}
-use Rattle.hd_rules.specs.Facts.{Facts}
+use Rattle.hd_rules.specs.Facts.{Facts, first_number}
 use Rattle.hd_rules.specs.Ask.{Done}
 use Rattle.hd_rules.specs.Run.{IsAmong, outcome_of, run, Rising, next_number, before}
 use Rattle.hd_rules.specs.Turns.{Message, State, start}
@@ -60,6 +60,6 @@ module _ (k : Facts) where
   -- none is above the last one given; all their replies stand.
   pub record IsRunOfSurvivors (turns : List Turn) (s : State) : Type 0 where
     pub desk : s.desk ≡ run k s.survivors
-    pub rising : Rising 1 s.survivors
-    pub last : next_number 1 s.survivors ≤ s.last + 1
+    pub rising : Rising (first_number k) s.survivors
+    pub last : next_number (first_number k) s.survivors ≤ s.last + 1
     pub replies : RepliesStand turns s.survivors

@@ -3,8 +3,8 @@ use Rattle.std.specs.Prelude.{Bool, ◌≡◌, ◌↔◌, IsTrue, MatchOption, O
 use Rattle.std.specs.Prelude.{Some, None, List, [], ◌∷◌, ◌++◌}
 use Rattle.hd_rules.specs.Words.{Hold, Question, ValueOf, Change, Command, Cancel, Survivor, TurnReply}
 use Rattle.hd_rules.specs.Numbers.{BranchNo, CopyNo, Day, PlaceNo, TerminalNo, CommandNo}
-use Rattle.hd_rules.specs.Facts.{Facts, AreInRange}
-use Rattle.hd_rules.specs.Desk.{Desk, value, after, take_back}
+use Rattle.hd_rules.specs.Facts.{Facts, AreInRange, IsFresh, first_number}
+use Rattle.hd_rules.specs.Desk.{Desk, at_home, value, after, take_back}
 use Rattle.hd_rules.specs.Choose.{FirstCandidate, LeastFree}
 use Rattle.hd_rules.specs.Find.{choice, place}
 use Rattle.hd_rules.specs.Ask.{Done, answer, outcome, asks}
@@ -19,10 +19,12 @@ use Rattle.hd_rules.specs.Turns.{Message, State, start, IsTurn}
 use Rattle.hd_rules.specs.Machine.{turn_of}
 use Rattle.hd_rules.specs.Journal.{Turn, state_after, IsLegal, replied_from, IsRunOfSurvivors}
 use Rattle.hd_rules.specs.Headline.{Headline}
+use Rattle.hd_rules.specs.Rows.{Row, with_rows, EachMayStand}
+use Rattle.hd_rules.specs.Carry.{Renumbering, IsByNames, IsCarriedOver}
 use Rattle.hd_rules.specs.Record.{Record, IsRecord, IsKeptOf, mended_record}
 use Rattle.hd_rules.specs.Replies.{IsReplyTo}
 use Rattle.hd_rules.specs.Known.{IsKnownAction, IsKnownDesk, IsKnownDone, IsKnown, IsKnownJournal}
-use Rattle.hd_rules.specs.Sound.{IsFit, Sound, EachBackIsFit, EachOnIsFit}
+use Rattle.hd_rules.specs.Sound.{IsFit, Sound, MayOpen, EachBackIsFit, EachOnIsFit}
 
 -- After every legal list of turns, so after every list of the terminals' messages, the headline holds.
 abbrev pub TheHeadline : Type 0
@@ -40,7 +42,7 @@ pub record ALegalJournalIsTheRunOfItsSurvivors : Type 0 where
       → IsReplyTo turn.message.asked turn.reply
   -- where all that the messages name was given by the catalogue, so was all that the desk has and the replies
   -- name
-  pub known : (k : Facts) (turns : List Turn) → AreInRange k → IsLegal k turns →
+  pub known : (k : Facts) (turns : List Turn) → AreInRange k → IsKnownDesk k k.opening.desk → IsLegal k turns →
       ((turn : Turn) → IsAmong turn turns → IsKnown k turn.message.asked) → IsKnownJournal k turns
 
 -- Which lists of turns are legal.
@@ -57,7 +59,7 @@ pub record LegalJournalsGoOn : Type 0 where
 -- Each message has one turn: this reply, and this state afterwards.
 abbrev pub EachTurnIsDetermined : Type 0
 EachTurnIsDetermined =
-    (k : Facts) (s : State) (m : Message) (reply : TurnReply) (next : State) → Rising 1 s.survivors →
+    (k : Facts) (s : State) (m : Message) (reply : TurnReply) (next : State) → Rising (first_number k) s.survivors →
     IsTurn k s m reply next ↔ (turn_of k s m ≡ record { reply = reply; state = next })
 
 -- The target of a cancellation, as it is found.
@@ -67,19 +69,20 @@ pub record TheTargetIsTheNewest : Type 0 where
   pub none : (terminal : TerminalNo) (what : Cancel) (survivors : List Survivor) →
       (target terminal what survivors ≡ None) ↔ NoTarget terminal what survivors
   -- its number splits the run as it does: into those before it, and all but it
-  pub split : (older : List Survivor) (c : Survivor) (newer : List Survivor) → Rising 1 (older ++ c ∷ newer) →
+  pub split : (n : CommandNo) (older : List Survivor) (c : Survivor) (newer : List Survivor) →
+      Rising n (older ++ c ∷ newer) →
       (before c.number (older ++ c ∷ newer) ≡ older) × (less c.number (older ++ c ∷ newer) ≡ older ++ newer)
 
 -- The first later survivor that depends on a command, as it is found.
 pub record TheFirstDependentIsTheLeast : Type 0 where
   -- the search finds none where none depends, else the least number of one that does
   pub least : (k : Facts) (older : List Survivor) (c : Survivor) (newer : List Survivor) →
-      Rising 1 (older ++ c ∷ newer) →
+      Rising (first_number k) (older ++ c ∷ newer) →
       MatchOption (first_dependent k (older ++ c ∷ newer) c newer) (NoneDepends k (older ++ c ∷ newer) c)
       (IsLeastDependent k (older ++ c ∷ newer) c)
   -- the same is found by a walk from the two desks: that with the command and that without it
   pub walk : (k : Facts) (older : List Survivor) (c : Survivor) (newer : List Survivor) →
-      Rising 1 (older ++ c ∷ newer) →
+      Rising (first_number k) (older ++ c ∷ newer) →
       first_dependent k (older ++ c ∷ newer) c newer
       ≡ first_otherwise k (run k (older ++ c ∷ [])) (run k older) newer
   -- the test of dependence is exact
@@ -88,7 +91,7 @@ pub record TheFirstDependentIsTheLeast : Type 0 where
 
 -- a command that is accepted in a legal run
 pub record IsAcceptedIn (k : Facts) (survivors : List Survivor) (c : Survivor) (done : Done) : Type 0 where
-  pub rising : Rising 1 survivors
+  pub rising : Rising (first_number k) survivors
   pub among : IsAmong c survivors
   pub accepted : outcome_of k (run k (before c.number survivors)) c ≡ Ok done
 
@@ -96,21 +99,21 @@ pub record IsAcceptedIn (k : Facts) (survivors : List Survivor) (c : Survivor) (
 pub record UndoingIsTheRunWithout : Type 0 where
   -- its changes, taken back, lead to the run less it
   pub run_without : (k : Facts) (survivors : List Survivor) (c : Survivor) (done : Done) →
-      IsAcceptedIn k survivors c done → NoneDepends k survivors c
+      MayOpen k → IsAcceptedIn k survivors c done → NoneDepends k survivors c
       → take_back done.changes (run k survivors) ≡ run k (less c.number survivors)
   -- through fit desks
   pub fit : (k : Facts) (survivors : List Survivor) (c : Survivor) (done : Done) →
-      IsAcceptedIn k survivors c done → NoneDepends k survivors c
+      MayOpen k → IsAcceptedIn k survivors c done → NoneDepends k survivors c
       → EachBackIsFit k done.changes (run k survivors)
   -- each other survivor ends as it did
   pub outcomes : (k : Facts) (survivors : List Survivor) (c : Survivor) →
-      Rising 1 survivors → IsAmong c survivors → NoneDepends k survivors c →
+      Rising (first_number k) survivors → IsAmong c survivors → NoneDepends k survivors c →
       (s : Survivor) → IsAmong s (less c.number survivors) →
       outcome_of k (run k (before s.number (less c.number survivors))) s
       ≡ outcome_of k (run k (before s.number survivors)) s
   -- and its record is the same, but for what is noted
   pub records : (k : Facts) (survivors : List Survivor) (c : Survivor) →
-      Rising 1 survivors → IsAmong c survivors → NoneDepends k survivors c →
+      Rising (first_number k) survivors → IsAmong c survivors → NoneDepends k survivors c →
       (s : Survivor) (r : Record) → IsAmong s (less c.number survivors) → IsRecord k survivors s r →
       IsRecord k (less c.number survivors) s
       (mended_record k (run k (before s.number (less c.number survivors))) r)
@@ -143,8 +146,8 @@ pub record CommandsKeepDesksSound : Type 0 where
       outcome k d (plan k n command) ≡ Ok done →
       AreChanges done.changes × Sound k (n + 1) (after done.changes d)
   -- so every desk that commands lead to is sound
-  pub runs : (k : Facts) (n : CommandNo) (survivors : List Survivor) → Rising n survivors →
-      Sound k (next_number n survivors) (run k survivors)
+  pub runs : (k : Facts) (survivors : List Survivor) → MayOpen k → Rising (first_number k) survivors →
+      Sound k (next_number (first_number k) survivors) (run k survivors)
   -- what a command that names things of the catalogue writes and replies names such again
   pub known : (k : Facts) (d : Desk) (n : CommandNo) (command : Command) (done : Done) →
       AreInRange k → IsKnownDesk k d → IsKnownAction k command.action →
@@ -162,6 +165,23 @@ pub record ChoiceIsTheFirstCandidate : Type 0 where
 abbrev pub PlaceIsTheLeastFree : Type 0
 PlaceIsTheLeastFree =
     (k : Facts) (d : Desk) (b : BranchNo) (f : PlaceNo) → LeastFree k d b f ↔ (f ≡ place k d b)
+
+-- What is carried over to another catalogue is sound there, with the same stamps, and names things of it. So
+-- with its first number above them a journal may open with it.
+abbrev pub ACarriedDeskIsSound : Type 0
+ACarriedDeskIsSound =
+    (k j : Facts) (r : Renumbering) (n : CommandNo) (d e : Desk) → IsByNames k j r → Sound k n d →
+    AreInRange j → IsCarriedOver r k j d e → Sound j n e × IsKnownDesk j e
+
+-- The desk with each copy at home is one that a journal may open with.
+abbrev pub AFreshDeskMayOpen : Type 0
+AFreshDeskMayOpen = (k : Facts) → IsFresh k → MayOpen k
+
+-- Rows that say nothing twice, from the desk with each copy at home on, tell a desk that a journal may open with.
+abbrev pub RowsTellASoundDesk : Type 0
+RowsTellASoundDesk =
+    (k : Facts) (rows : List Row) → EachMayStand k (first_number k) (at_home k.home) rows →
+    k.opening.desk ≡ with_rows k (at_home k.home) rows → MayOpen k
 
 -- a test is true exactly where two values are equal
 abbrev pub IsExact : {A : Type 0} → (A → A → Bool) → Type 0

@@ -4,8 +4,8 @@
 -- in a comment is the section "Choice" of docs/desk-rules.md, where the rule stands in plain words.
 pub mod Numbers  -- what a number is of: a branch, a terminal, a title, a copy, a patron, a day, a command
 pub mod Words  -- the types of src/ by name: copies, holds, cells, changes, questions, commands, replies
-pub mod Facts  -- what a catalogue says
-pub mod Desk  -- what each cell has, the opening desk, and a desk after some changes
+pub mod Desk  -- what each cell has, the desk with each copy at home, and a desk after some changes
+pub mod Facts  -- what a catalogue says, and how a journal begins
 pub mod Choose  -- which hold a copy is for, which place is free, and what a desk counts
 pub mod Ask  -- what a command may ask, what a desk answers, and a command as a plan of questions
 pub mod Settle  -- where a copy goes when it is handed in
@@ -29,5 +29,7 @@ pub mod Differ  -- desks that differ by some changes
 pub mod Sound  -- what holds of every desk that commands lead to
 pub mod Record  -- what a journal keeps of a command
 pub mod Known  -- numbers that a catalogue has given
+pub mod Rows  -- the desk that a journal opens with, as a file tells it
+pub mod Carry  -- what goes over to a journal of another catalogue
 pub mod Replies  -- which replies a message may get
 pub mod RefusalTexts  -- the texts of refusals

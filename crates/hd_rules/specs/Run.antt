@@ -3,7 +3,7 @@ use Rattle.std.specs.Prelude.{◌≡◌, ◌+◌, ◌≤◌, ◌⊎◌, not, ◌
 use Rattle.hd_rules.specs.Words.{Refusal, Survivor}
 use Rattle.hd_rules.specs.Numbers.{CommandNo}
 use Rattle.hd_rules.specs.Facts.{Facts}
-use Rattle.hd_rules.specs.Desk.{Desk, opening, after}
+use Rattle.hd_rules.specs.Desk.{Desk, after}
 use Rattle.hd_rules.specs.Ask.{Done, outcome}
 use Rattle.hd_rules.specs.Step.{plan}
 pub use Rattle.hd_rules.specs.Changes.{Fits, Elsewhere, AreChanges}
@@ -34,7 +34,7 @@ module _ (k : Facts) where
 
   -- the desk that they lead to from the opening desk
   abbrev pub run : List Survivor → Desk
-  run ss = run_from (opening k) ss
+  run ss = run_from k.opening.desk ss
 
 -- A legal run: its commands are numbered upwards, from n on.
 abbrev pub Rising : CommandNo → List Survivor → Type 0

@@ -2,7 +2,7 @@
 use Rattle.std.specs.Prelude.{◌≡◌, ◌<◌, ◌≤◌, Option, Some, None, List, [], ◌∷◌}
 use Rattle.hd_rules.specs.Words.{Change, Hold, HoldPlace, CopyState, OnHoldShelf, InTransit}
 use Rattle.hd_rules.specs.Numbers.{BranchNo, TitleNo, CopyNo, PatronNo, HoldStamp}
-use Rattle.hd_rules.specs.Facts.{Facts}
+use Rattle.hd_rules.specs.Facts.{Facts, first_number}
 use Rattle.hd_rules.specs.Desk.{Desk, put, take_back}
 
 -- the hold has this copy, and this pickup
@@ -56,6 +56,10 @@ pub record Sound (k : Facts) (n : HoldStamp) (d : Desk) : Type 0 where
   pub holds : HoldsFit n d.hold
   pub places : PlacesFit k d.copy
   pub tie : Tie k d
+
+-- A journal may begin so: the desk is sound, and no stamp is above the last number given before.
+abbrev pub MayOpen : Facts → Type 0
+MayOpen k = Sound k (first_number k) k.opening.desk
 
 -- every desk on the way of taking these changes back, the last one first, is fit
 abbrev pub EachBackIsFit : Facts → List Change → Desk → Type 0

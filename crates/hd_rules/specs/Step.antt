@@ -7,16 +7,16 @@ use Rattle.hd_rules.specs.Words.{LentOrRenewed, Returned, Held, Deleted, Action,
 use Rattle.hd_rules.specs.declared.replies.Refusal.TheVariants as refusal
 use Rattle.hd_rules.specs.declared.commands.Action.TheVariants as action
 use Rattle.hd_rules.specs.Numbers.{BranchNo, TitleNo, CopyNo, PatronNo, Day, CommandNo}
-use Rattle.hd_rules.specs.Facts.{Facts}
+use Rattle.hd_rules.specs.Facts.{Facts, last_number}
 use Rattle.hd_rules.specs.Same.{real_changes}
 use Rattle.hd_rules.specs.Choose.{has_expired, admits}
 use Rattle.hd_rules.specs.Ask.{Plan, Ask, Refuse, Accept}
 use Rattle.hd_rules.specs.Settle.{settle, allot, tied_to, copy_becomes, hold_becomes, with_copy}
 
--- the last number is the catalogue's limit (§ All commands)
+-- no number is given above the last one (§ All commands)
 abbrev pub accept : Facts → CommandNo → List Change → Reply → Plan
 accept k n changes reply =
-    if nat_lt k.command_limit n then Refuse refusal.JournalFull
+    if nat_lt (last_number k) n then Refuse refusal.JournalFull
     else Accept (record { changes = real_changes changes; reply = reply })
 
 -- the last day that a due day may be: 9999-12-31

@@ -8,7 +8,7 @@ use Rattle.hd_rules.specs.declared.replies.Refusal.TheVariants as refusal
 use Rattle.hd_rules.specs.declared.replies.TurnReply.TheVariants.{Done as Accepted, Refused, Cancelled, Item}
 use Rattle.hd_rules.specs.Numbers.{CopyNo, TerminalNo, CommandNo}
 use Rattle.hd_rules.specs.Facts.{Facts}
-use Rattle.hd_rules.specs.Desk.{Desk, opening, after}
+use Rattle.hd_rules.specs.Desk.{Desk, after}
 use Rattle.hd_rules.specs.Choose.{count_below}
 use Rattle.hd_rules.specs.Ask.{Done}
 use Rattle.hd_rules.specs.Run.{outcome_of, run}
@@ -39,9 +39,9 @@ pub record Answered : Type 0 where
   pub reply : TurnReply
   pub state : State
 
--- the opening desk; no survivor, no number given, nothing kept
+-- the opening desk, and the last number given before; no survivor, nothing kept
 abbrev pub start : Facts → State
-start k = record { desk = opening k; survivors = []; last = 0; kept = λ t. None }
+start k = record { desk = k.opening.desk; survivors = []; last = k.opening.last; kept = λ t. None }
 
 -- A message that was answered already: a changing message that equals what is kept of
 -- its terminal's last (docs/protocol.md, "Repeats"; SIP2 2.00, sequence numbers).

@@ -1,5 +1,6 @@
 //! Laws. Each is the contract of a function without a body; its statement stands in `specs/Laws.antt`.
 
+ghost use Rattle.hd_rules.specs.Laws.{ACarriedDeskIsSound, AFreshDeskMayOpen, RowsTellASoundDesk};
 ghost use Rattle.hd_rules.specs.Laws.{ALegalJournalIsTheRunOfItsSurvivors, ChoiceIsTheFirstCandidate};
 ghost use Rattle.hd_rules.specs.Laws.{CommandsKeepDesksSound, CommandsRestOnTheirAnswers};
 ghost use Rattle.hd_rules.specs.Laws.{EachTurnIsDetermined, LegalJournalsGoOn, PlaceIsTheLeastFree};
@@ -79,4 +80,19 @@ pub fn place_is_the_least_free()
 /// The tests of equality by which the rules speak are exact.
 pub fn tests_are_exact()
     ensures { TestsAreExact }
+{}
+
+/// What is carried over to another catalogue, by names, is as sound there as it was.
+pub fn a_carried_desk_is_sound()
+    ensures { ACarriedDeskIsSound }
+{}
+
+/// With each copy at home, no holds and no number given a journal may open.
+pub fn a_fresh_desk_may_open()
+    ensures { AFreshDeskMayOpen }
+{}
+
+/// Rows that say nothing twice tell a desk that a journal may open with.
+pub fn rows_tell_a_sound_desk()
+    ensures { RowsTellASoundDesk }
 {}

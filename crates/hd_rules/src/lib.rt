@@ -23,10 +23,11 @@ pub use crate::copies::{CopyState, HoldPlace, Loan, Transit};
 pub use crate::equality::{same_asked, same_turn_reply};
 pub use crate::holds::{Hold, HoldKind};
 pub use crate::laws::{
-    a_legal_journal_is_the_run_of_its_survivors, choice_is_the_first_candidate,
-    commands_keep_desks_sound, commands_rest_on_their_answers, each_turn_is_determined, headline,
-    legal_journals_go_on, place_is_the_least_free, tests_are_exact,
-    the_first_dependent_is_the_least, the_target_is_the_newest, undoing_is_the_run_without,
+    a_carried_desk_is_sound, a_fresh_desk_may_open, a_legal_journal_is_the_run_of_its_survivors,
+    choice_is_the_first_candidate, commands_keep_desks_sound, commands_rest_on_their_answers,
+    each_turn_is_determined, headline, legal_journals_go_on, place_is_the_least_free,
+    rows_tell_a_sound_desk, tests_are_exact, the_first_dependent_is_the_least,
+    the_target_is_the_newest, undoing_is_the_run_without,
 };
 pub use crate::limits::{
     MOST_BRANCHES, MOST_COMMANDS, MOST_COPIES, MOST_LOAN_DAYS, MOST_LOANS, MOST_PATRONS,

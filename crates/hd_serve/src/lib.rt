@@ -8,10 +8,8 @@ mod options;
 mod places;
 mod serving;
 mod stop;
-mod summary;
 mod worker;
 
 pub use crate::fault::ServeFault;
 pub use crate::options::Options;
 pub use crate::serving::serve;
-pub use crate::summary::{Summary, summary_of};

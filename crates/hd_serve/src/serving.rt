@@ -34,10 +34,11 @@ use std::time::Clock;
 /// had it is closed without a reply. A read or a write that fails ends that connection alone, as one does
 /// that waits longer than the idle time; the turns that it has made stay.
 ///
-/// # Errors `CannotListen` where a connection can't be accepted: those that run are served to their end, and
-/// the hall is closed. `Unwritten` where the keeper fails to write a turn: no more connections are accepted,
-/// those that run end at their next turn or their end, and the hall is closed. `NotClosed` where the hall
-/// doesn't close. `Memory` for want of memory at the start, or where no thread can be had.
+/// # Errors
+/// `CannotListen` where a connection can't be accepted: those that run are served to their end, and the hall
+/// is closed. `Unwritten` where the keeper fails to write a turn: no more connections are accepted, those
+/// that run end at their next turn or their end, and the hall is closed. `NotClosed` where the hall doesn't
+/// close. `Memory` where the start is out of memory, or no thread can be had.
 pub fn serve<
     R: Threads + Wait + Clock + Sync,
     G: Gate,

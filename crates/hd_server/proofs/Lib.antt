@@ -1,9 +1,1 @@
-pub mod Lining
-pub mod Printed
-pub mod Prefixes
-pub mod Opening
-pub mod Playing
-pub mod Replayed
-pub mod Reading
-pub mod Ended
-pub mod Determined
+mod Counted

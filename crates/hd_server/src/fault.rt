@@ -1,68 +1,34 @@
-//! Why a program stops.
+//! Why the service stops.
 ghost use Rattle.std.specs.Prelude.{◌≡◌};
-ghost use Rattle.hd_server.specs.declared.fault.ServerFault.TheVariants.{Memory, Read, Write};
+ghost use Rattle.hd_server.specs.declared.fault.ServerFault.TheVariants.{Replay, Serve};
 
-use hd_catalogue::CatFault;
-use hd_connection::{ReadFailed, WriteFailed};
-use std::alloc::{AllocError, AllocFailed};
+use hd_replay::ReplayFault;
+use hd_serve::ServeFault;
 use thiserror::Error;
 
-/// Why a program stops before its end, printed as one line on standard error; the exit status is 1
-/// (docs/protocol.md, "The program replay").
+/// Why the service stops before its end, printed as one line on standard error; the exit status is 1.
 #[derive(Clone, Copy, Debug, PartialEq, Eq, Error)]
 pub enum ServerFault {
-    /// The catalogue file is refused, by this fault.
-    #[error("catalogue {0}")]
-    Catalogue(CatFault),
-    /// The stamp that is to be the present can't be read, or lies outside the years 0000 to 9999 in local
-    /// time.
-    #[error("bad --now")]
-    BadNow,
-    /// The input line with this number, counted from 1, doesn't begin with a session's number and one blank.
-    #[error("input line {line}: no session")]
-    NoSession { line: u64 },
-    /// The input has more than 16,777,216 bytes.
-    #[error("input too long")]
-    InputTooLong,
-    /// A read failed.
-    #[error("cannot read")]
-    Read,
-    /// A write failed, or took no byte.
-    #[error("cannot write")]
-    Write,
-    /// Want of memory.
-    #[error("no memory")]
-    Memory,
+    /// A replay stopped.
+    #[error("{0}")]
+    Replay(ReplayFault),
+    /// A server stopped.
+    #[error("{0}")]
+    Serve(ServeFault),
 }
 
-impl From<AllocError> for ServerFault {
-    ghost from_gives = { λ _ fault. fault ≡ Memory };
+impl From<ReplayFault> for ServerFault {
+    ghost from_gives = { λ why fault. fault ≡ Replay why };
 
-    fn from(_: AllocError) -> ServerFault {
-        ServerFault::Memory
+    fn from(why: ReplayFault) -> ServerFault {
+        ServerFault::Replay(why)
     }
 }
 
-impl<T: Drop> From<AllocFailed<T>> for ServerFault {
-    ghost from_gives = { λ _ fault. fault ≡ Memory };
+impl From<ServeFault> for ServerFault {
+    ghost from_gives = { λ why fault. fault ≡ Serve why };
 
-    fn from(_: AllocFailed<T>) -> ServerFault {
-        ServerFault::Memory
-    }
-}
-
-impl From<ReadFailed> for ServerFault {
-    ghost from_gives = { λ _ fault. fault ≡ Read };
-
-    fn from(_: ReadFailed) -> ServerFault {
-        ServerFault::Read
-    }
-}
-
-impl From<WriteFailed> for ServerFault {
-    ghost from_gives = { λ _ fault. fault ≡ Write };
-
-    fn from(_: WriteFailed) -> ServerFault {
-        ServerFault::Write
+    fn from(why: ServeFault) -> ServerFault {
+        ServerFault::Serve(why)
     }
 }

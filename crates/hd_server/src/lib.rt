@@ -1,13 +1,15 @@
-//! The programs of holddesk: `replay` answers the messages of a file as the server would.
+//! The service of holddesk: terminals served over TCP, and messages answered from a file.
 #![tactic(auto)]
 
 mod fault;
-mod laws;
-mod prefix;
-mod printing;
 mod replaying;
-mod sessions;
+mod serving;
+mod summary;
 
 pub use crate::fault::ServerFault;
-pub use crate::laws::replays_are_determined;
-pub use crate::replaying::{replay, replay_in};
+pub use crate::replaying::replay;
+pub use crate::serving::serve;
+pub use crate::summary::{Summary, summary_of};
+pub use hd_attend::{AttendFault, Gate, attend};
+pub use hd_replay::ReplayFault;
+pub use hd_serve::{Options, ServeFault};

@@ -1,42 +1,19 @@
-//! `replay`: the lines of an input, answered in order.
-ghost use Rattle.std.specs.Prelude.{◌≡◌, ◌⊎◌, ◌<◌, ◌≤◌, ◌+◌, ◌^◌, [], ℕ, Contains, List, Err, IfErr, IfOk};
-ghost use Rattle.std.specs.Prelude.{OnOk};
-ghost use Rattle.std.specs.Prelude.{drop, vec_len};
-ghost use Rattle.std.specs.Io.KnownBytes.{Appends};
-ghost use Rattle.hd_server.specs.Ends.{IsReplayOf, IsUntouched, ReadsAndWrites, Replay};
-ghost use Rattle.hd_server.specs.declared.fault.ServerFault.TheVariants.{Memory};
-ghost use Rattle.hd_server.specs.Inputs.{AreLines, with_rest};
-ghost use Rattle.hd_server.specs.Reasons.{HasReason};
-ghost use Rattle.hd_server.specs.Replays.{IsLegalReplay, IsStop, Replayed};
+//! `replay`: the messages of a file, answered as the server would.
+ghost use Rattle.std.specs.Prelude.{IfErr};
+ghost use Rattle.hd_server.specs.Ends.{HasReason, IsReplay};
 
 use crate::fault::ServerFault;
-use crate::sessions::Sessions;
-use hd_catalogue::Catalogue;
-use hd_connection::{Input, Output, write_all};
-use hd_date::Stamp18;
-use hd_desk::Meter;
-use std::alloc::{AllocError, Allocator};
+use hd_connection::{Input, Output};
 
-/// The most bytes that an input may have.
-const LONGEST_INPUT: usize = 16_777_216;
-
-/// How many bytes are read at once.
-const PIECE: usize = 65_536;
-
-/// Answers the messages that a reader gives, over the library of a catalogue file, and writes the replies.
+/// Answers the messages that a reader gives, over the library of a catalogue file, and writes the replies, as
+/// `hd_replay::replay` does.
 ///
-/// `now` is the present, a stamp of 18 bytes (docs/protocol.md, "Dates"); it stands in replies to unreadable
-/// dates. Each line of the input, ended by LF or by the end of input, is `<session> <message>`: a number from
-/// 1 to 64 without leading zero, one blank, and a message without its carriage return. Each reply is written
-/// as `<session> <reply>` and LF, and a session that has ended is answered `<session> ENDED`
-/// (docs/protocol.md, "The program replay"). Whole lines are answered, and their replies written, before the
-/// next read.
+/// `now` is the present, a stamp of 18 bytes (docs/protocol.md, "Dates"). Each line of the input is
+/// `<session> <message>`, and each reply is written as `<session> <reply>` and LF (docs/protocol.md, "The
+/// program replay").
 ///
-/// # Errors `Catalogue` where the file is refused, and then `BadNow`; nothing is read then. `NoSession` at
-/// the first line with no session; the lines before it are answered. `InputTooLong` past 16,777,216 bytes;
-/// the whole lines among them are answered. `Read` where a read fails; the whole lines read are answered.
-/// `Write` where a write fails, and `Memory` for want of memory, also in a session: what was written is the
-/// beginning of the replies to the first lines.
+/// # Errors
+/// `Replay`, with each of the faults of `hd_replay::replay`.
 pub fn replay<R: Input, W: Output>(
     rt: &HostRuntime,
     catalogue: &[u8],
@@ -44,7 +21,7 @@ pub fn replay<R: Input, W: Output>(
     from: &mut R,
     to: &mut W,
 ) -> Result<(), ServerFault>
-    ensures replay { IsReplayOf catalogue.now now.now (record {
+    ensures replay { IsReplay catalogue.now now.now (record {
       from = R.remaining from.old;
       from' = R.remaining from.new;
       to = W.contents to.old;
@@ -52,165 +29,6 @@ pub fn replay<R: Input, W: Output>(
     }) result }
     ensures why { IfErr result (HasReason (R.fails from.new) (W.fails to.new)) }
 {
-    replay_in(rt, rt.alloc(), catalogue, now, from, to)
-}
-
-/// The same over memory of an allocator.
-///
-/// # Errors
-/// Those of `replay`.
-pub fn replay_in<A: Allocator + Copy, R: Input, W: Output>(
-    rt: &HostRuntime,
-    alloc: A,
-    catalogue: &[u8],
-    now: &[u8],
-    from: &mut R,
-    to: &mut W,
-) -> Result<(), ServerFault>
-    ensures replay { IsReplayOf catalogue.now now.now (record {
-      from = R.remaining from.old;
-      from' = R.remaining from.new;
-      to = W.contents to.old;
-      to' = W.contents to.new;
-    }) result }
-    ensures why { IfErr result (HasReason (R.fails from.new) (W.fails to.new)) }
-{
-    match Catalogue::read(alloc, catalogue) {
-        Ok(catalogue) => match hd_date::read(now, catalogue.offset()) {
-            Ok(now) => replay_over(rt, alloc, catalogue, now, from, to),
-            Err(_) => Err(ServerFault::BadNow),
-        },
-        Err(fault) => Err(ServerFault::Catalogue(fault)),
-    }
-}
-
-/// The same over a catalogue, at a present.
-fn replay_over<A: Allocator + Copy, R: Input, W: Output>(
-    rt: &HostRuntime,
-    alloc: A,
-    catalogue: Catalogue<A>,
-    now: Stamp18,
-    from: &mut R,
-    to: &mut W,
-) -> Result<(), ServerFault>
-    ensures replay { (IsUntouched (record {
-      from = R.remaining from.old;
-      from' = R.remaining from.new;
-      to = W.contents to.old;
-      to' = W.contents to.new;
-    }) × (result ≡ Err Memory))
-        ⊎ Replay catalogue now (record {
-          from = R.remaining from.old;
-          from' = R.remaining from.new;
-          to = W.contents to.old;
-          to' = W.contents to.new;
-        }) result }
-    ensures why { IfErr result (HasReason (R.fails from.new) (W.fails to.new)) }
-{
-    let journal = hd_journal::open(alloc, rt.alloc(), Meter::new(rt), catalogue)?;
-    let mut sessions = Sessions::new(alloc, journal, now)?;
-    answer_input(alloc, &mut sessions, from, to)
-}
-
-/// Answers the lines of an input.
-fn answer_input<A: Allocator + Copy, R: Input, W: Output>(
-    alloc: A,
-    sessions: &mut Sessions<A>,
-    from: &mut R,
-    to: &mut W,
-) -> Result<(), ServerFault>
-    requires { sessions.old.lines ≡ 0 }
-    ensures reads { ReadsAndWrites sessions.old sessions.new (record {
-      from = R.remaining from.old;
-      from' = R.remaining from.new;
-      to = W.contents to.old;
-      to' = W.contents to.new;
-    }) result }
-    ensures why { IfErr result (HasReason (R.fails from.new) (W.fails to.new)) }
-    ensures legal { IsLegalReplay sessions.old → IsLegalReplay sessions.new }
-{
-    let mut input = Vec::new(alloc);
-    let mut out = Vec::new(alloc);
-    let mut piece = blank(alloc, PIECE)?;
-    let mut room = LONGEST_INPUT;
-    for _ in 0..=LONGEST_INPUT {
-        let count = from.read_some(piece.as_mut_slice())?;
-        if count == 0 {
-            return answer_rest(sessions, &mut input, &mut out, to);
-        }
-        let taken = count.min(room);
-        room -= taken;
-        input.extend_from_slice(&piece[..taken])?;
-        answer_whole(sessions, &mut input, &mut out, to)?;
-        if taken < count {
-            return Err(ServerFault::InputTooLong);
-        }
-    }
-    Err(ServerFault::InputTooLong)
-}
-
-/// Answers the whole lines of what was read, and writes the replies. What is left is the beginning of a line.
-fn answer_whole<A: Allocator + Copy, W: Output>(
-    sessions: &mut Sessions<A>,
-    input: &mut Vec<u8, A>,
-    out: &mut Vec<u8, A>,
-    to: &mut W,
-) -> Result<(), ServerFault>
-    requires lines { sessions.old.lines + vec_len input.old < 2 ^ 64 }
-    requires out { out.old.items ≡ [] }
-    ensures replayed { (whole : List (List ℕ)) × (rest : List ℕ) × (put : List ℕ)
-        × AreLines 10 input.old.items whole rest
-        × Replayed sessions.old sessions.new whole result put
-        × Appends (W.contents to.old) (W.contents to.new) put
-        × OnOk result (input.new.items ≡ rest) }
-    ensures stops { IfErr result IsStop }
-    ensures why { IfErr result (HasReason ⊥ (W.fails to.new)) }
-    ensures out { OnOk result (out.new.items ≡ []) }
-    ensures legal { IsLegalReplay sessions.old → IsLegalReplay sessions.new }
-{
-    let answered = sessions.answer_lines(input.as_mut_slice(), out);
-    write_all(to, out.as_slice())?;
-    let used = answered?;
-    out.clear();
-    take_front(input, used);
+    hd_replay::replay(rt, catalogue, now, from, to)?;
     Ok(())
-}
-
-/// Takes so many bytes away from the front.
-fn take_front<A: Allocator>(input: &mut Vec<u8, A>, count: usize)
-    requires { count ≤ vec_len input.old }
-    ensures { input.new.items ≡ drop count input.old.items }
-{
-    input.drain(..count);
-}
-
-/// Answers a last line that nothing ends, where there is one: the end of input ends it.
-fn answer_rest<A: Allocator + Copy, W: Output>(
-    sessions: &mut Sessions<A>,
-    input: &mut Vec<u8, A>,
-    out: &mut Vec<u8, A>,
-    to: &mut W,
-) -> Result<(), ServerFault>
-    requires rest { ¬ Contains input.old.items 10 }
-    requires lines { sessions.old.lines + vec_len input.old + 1 < 2 ^ 64 }
-    requires out { out.old.items ≡ [] }
-    ensures replayed { (put : List ℕ)
-        × Replayed sessions.old sessions.new (with_rest [] input.old.items) result put
-        × Appends (W.contents to.old) (W.contents to.new) put }
-    ensures stops { IfErr result IsStop }
-    ensures why { IfErr result (HasReason ⊥ (W.fails to.new)) }
-    ensures legal { IsLegalReplay sessions.old → IsLegalReplay sessions.new }
-{
-    if input.is_empty() {
-        return Ok(());
-    }
-    input.push(b'\n')?;
-    answer_whole(sessions, input, out, to)
-}
-
-/// So many bytes to read into.
-fn blank<A: Allocator>(alloc: A, length: usize) -> Result<Vec<u8, A>, AllocError>
-    ensures { IfOk result (λ bytes. vec_len bytes ≡ length) }
-{
-    vec![in alloc; 0; length]
 }

@@ -4,7 +4,7 @@ use Rattle.std.proofs.Common.{get_or, set, map, filter, refl, sym, ap, ◌∙◌
 use Rattle.std.proofs.lemmas.Bool.{eqb-false}
 use Rattle.std.proofs.lemmas.List.{get_or-set_other, get_or-set_same}
 use Rattle.std.proofs.lemmas.List.Concat.{flat_map-append}
-use Rattle.std.proofs.lemmas.List.Elements.{filter-append}
+use Rattle.std.proofs.lemmas.List.Elements.{filter-append, All-cons}
 use Rattle.std.specs.List.{All}
 use Rattle.hd_date.specs.Stamps.{Stamp}
 use Rattle.hd_rules.specs.Journal.{Turn}
@@ -16,7 +16,7 @@ use Rattle.hd_session.specs.Scripts.{AreFed, Event, Plays, Step, events_of, piec
 use Rattle.hd_session.proofs.Causes.{fed_other}
 use Rattle.hd_session.proofs.Feeding.{Cuts, IsSettled, fed_after_fed, less_room, nothing_fed_at, settled_at}
 use Rattle.hd_session.proofs.Knowing.{each_goes_on}
-use Rattle.hd_session.proofs.Strangers.{all_behind, all_more}
+use Rattle.hd_session.proofs.Strangers.{all_behind}
 
 -- all are at one present
 abbrev pub AreAt : Stamp → List Piece → Type 0
@@ -30,7 +30,7 @@ pieces_at now (step ∷ steps) i all =
     let first : step.piece.now ≡ now = all zero step (omega arith) in
     elim (step.session == i) as (λ t. AreAt now (map (λ s. s.piece)
     (cond t (step ∷ filter (λ s. s.session == i) steps) (filter (λ s. s.session == i) steps)))) [
-      | true ↦ all_more (λ (p : Piece). p.now ≡ now) step.piece (pieces_of i steps) first rest
+      | true ↦ All-cons (λ (p : Piece). p.now ≡ now) step.piece (pieces_of i steps) first rest
       | false ↦ rest
     ]
 
@@ -140,7 +140,7 @@ module _ (k : Contents) (seat : ℕ) (faults : OfficeFault → Type 0) where
       (before step.session) in
       let rest = none_ends_so f other never steps (set ss step.session first.next) ss' events first.rest
       (each_goes_on (λ (h : Hearing). h.ended ≡ Some (reason_of f) → ⊥) ss step.session first.next before now_not) in
-      (all_more (λ (e : Event). e.ended ≡ Some (reason_of f) → ⊥) event events (λ same. now_not (sym first.ended ∙ same)) rest.0, rest.1)
+      (All-cons (λ (e : Event). e.ended ≡ Some (reason_of f) → ⊥) event events (λ same. now_not (sym first.ended ∙ same)) rest.0, rest.1)
 
 -- what is written to a session in some events, and in some more
 pub written_append : (i : ℕ) (events then : List Event) → replies_written i (events ++ then) ≡ replies_written i events ++ replies_written i then

@@ -1,8 +1,8 @@
 -- Pieces that name no session.
-use Rattle.std.proofs.Common.{◌≡◌, ◌∙◌, ◌<◌, ◌≤◌, ◌+◌, ℕ, zero, suc, ap, sym, subst, arith, length, take, drop, get_or, List, [], ◌∷◌, ◌++◌}
+use Rattle.std.proofs.Common.{◌≡◌, ◌∙◌, ◌<◌, ◌≤◌, ◌+◌, ℕ, suc, ap, sym, subst, arith, length, take, drop, get_or, List, [], ◌∷◌, ◌++◌}
 use Rattle.std.proofs.Common.{take-append-drop}
 use Rattle.std.proofs.lemmas.List.{drop_more, get_or-map, length-map, length-take-le, take_all, take_more}
-use Rattle.std.proofs.lemmas.List.Elements.{All-append}
+use Rattle.std.proofs.lemmas.List.Elements.{All-append, All-cons, All-nil}
 use Rattle.std.specs.Borrow.{Bor}
 use Rattle.std.specs.List.{All}
 use Rattle.hd_date.specs.Stamps.{Stamp}
@@ -14,16 +14,6 @@ named piece = piece.0
 
 abbrev pub step_of : Stamp → ℕ × Bor (List ℕ) → Step
 step_of now piece = record { session = piece.0; piece = record { now = now; bytes = piece.1.now } }
-
--- one alone
-pub all_one : {X : Type 0} (P : X → Type 0) (x : X) → P x → All P (x ∷ [])
-all_one P x holds zero d within = holds
-all_one P x holds (suc k) d within = absurd (omega (arith, within))
-
--- one before others
-pub all_more : {X : Type 0} (P : X → Type 0) (x : X) (xs : List X) → P x → All P xs → All P (x ∷ xs)
-all_more P x xs holds all zero d within = holds
-all_more P x xs holds all (suc k) d within = all k d (omega (arith, within))
 
 -- those behind the first
 pub all_behind : {X : Type 0} (P : X → Type 0) (x : X) (xs : List X) → All P (x ∷ xs) → All P xs
@@ -37,7 +27,7 @@ one_more sessions pieces i d within known all =
     let here : get_or (named_in pieces) i (named d) ≡ named (get_or pieces i d) = get_or-map named pieces i d (named d) within in
     let more = take_more (named_in pieces) i (named d) (rw (length-map pieces named) within) in
     rw (more, here) (All-append (λ (n : ℕ). n < sessions) (take i (named_in pieces)) (named (get_or pieces i d) ∷ []) all
-    (all_one (λ (n : ℕ). n < sessions) (named (get_or pieces i d)) known))
+    (All-cons (λ (n : ℕ). n < sessions) (named (get_or pieces i d)) [] known (All-nil (λ (n : ℕ). n < sessions))))
 
 -- all do
 pub all_known : (sessions : ℕ) (pieces : List (ℕ × Bor (List ℕ))) (i : ℕ) → length pieces ≤ i

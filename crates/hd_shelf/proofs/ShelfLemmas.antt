@@ -11,11 +11,12 @@ use Rattle.hd_rules.specs.declared.limits.TheConstants.{MOST_COPIES}
 use Rattle.hd_shelf.specs.declared.boards.TheConstants.{SPAN}
 use Rattle.hd_shelf.specs.Taken.{AreCounts, AreOnBoards, is_free_after}
 use Rattle.hd_shelf.specs.Shelf.{IsShelf, IsCountedByBoard, LeastFree, StandsNowhere}
-use Rattle.hd_shelf.proofs.CopiesByPlace.{get-put, get-taken, put_here, put_elsewhere, taken_here, taken_elsewhere}
+use Rattle.hd_shelf.proofs.CopiesByPlace.{put_here, put_elsewhere, taken_here, taken_elsewhere}
 use Rattle.hd_shelf.proofs.CountLemmas.{AreCounts-lt, AreCounts-some, AreCounts-none, AreCounts-begins, AreCounts-longer}
 use Rattle.hd_shelf.proofs.CountLemmas.{AreCounts-raise, AreCounts-lower}
 use Rattle.hd_shelf.proofs.BoardLemmas.{first_is_open, closed_before_first, none_passes}
 use Rattle.hd_shelf.proofs.Pigeonhole.{taken_below}
+use Rattle.hd_lemmas.proofs.Maps.{get-insert_number, get-remove_number}
 
 -- no copy stands on an empty shelf
 nothing_in_empty : (place copy : ℕ) → get {R = nat_cmp} empty place ≡ Some copy → ⊥
@@ -31,32 +32,32 @@ IsShelf-empty = record {
 
 known-insert : (m : FinMap nat_cmp ℕ) (k c : ℕ) → IsShelf m → c < MOST_COPIES → (place copy : ℕ) → get (insert m k c) place ≡ Some copy →
     copy < MOST_COPIES
-known-insert m k c s small place copy e = grind (arith, nat_tests, get-put m k c place, s.known place copy)
+known-insert m k c s small place copy e = grind (arith, nat_tests, get-insert_number m k c place, s.known place copy)
 
 apart-insert : (m : FinMap nat_cmp ℕ) (k c : ℕ) → IsShelf m → StandsNowhere m c → (p q copy : ℕ) → get (insert m k c) p ≡ Some copy →
     get (insert m k c) q ≡ Some copy → p ≡ q
 apart-insert m k c s nowhere p q copy e f =
-    grind (arith, nat_tests, get-put m k c p, get-put m k c q, s.apart p q copy, nowhere p, nowhere q)
+    grind (arith, nat_tests, get-insert_number m k c p, get-insert_number m k c q, s.apart p q copy, nowhere p, nowhere q)
 
 -- it stays one with a copy that stood nowhere
 pub IsShelf-insert : (m : FinMap nat_cmp ℕ) (k c : ℕ) → IsShelf m → 1 ≤ k → c < MOST_COPIES → StandsNowhere m c → IsShelf (insert m k c)
 IsShelf-insert m k c s one small nowhere = record {
-  none_at_zero = grind (arith, nat_tests, get-put m k c 0, s.none_at_zero);
+  none_at_zero = grind (arith, nat_tests, get-insert_number m k c 0, s.none_at_zero);
   known = known-insert m k c s small;
   apart = apart-insert m k c s nowhere;
 }
 
 known-remove : (m : FinMap nat_cmp ℕ) (k : ℕ) → IsShelf m → (place copy : ℕ) → get (remove m k) place ≡ Some copy → copy < MOST_COPIES
-known-remove m k s place copy e = grind (arith, nat_tests, get-taken m k place, s.known place copy)
+known-remove m k s place copy e = grind (arith, nat_tests, get-remove_number m k place, s.known place copy)
 
 apart-remove : (m : FinMap nat_cmp ℕ) (k : ℕ) → IsShelf m → (p q copy : ℕ) → get (remove m k) p ≡ Some copy →
     get (remove m k) q ≡ Some copy → p ≡ q
-apart-remove m k s p q copy e f = grind (arith, nat_tests, get-taken m k p, get-taken m k q, s.apart p q copy)
+apart-remove m k s p q copy e f = grind (arith, nat_tests, get-remove_number m k p, get-remove_number m k q, s.apart p q copy)
 
 -- and without the copy of a place
 pub IsShelf-remove : (m : FinMap nat_cmp ℕ) (k : ℕ) → IsShelf m → IsShelf (remove m k)
 IsShelf-remove m k s = record {
-  none_at_zero = grind (arith, nat_tests, get-taken m k 0, s.none_at_zero);
+  none_at_zero = grind (arith, nat_tests, get-remove_number m k 0, s.none_at_zero);
   known = known-remove m k s;
   apart = apart-remove m k s;
 }

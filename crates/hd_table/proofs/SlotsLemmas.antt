@@ -7,9 +7,10 @@ use Rattle.std.proofs.lemmas.Bool.{cases_Bool}
 use Rattle.std.proofs.lemmas.List.{get_or_past}
 use Rattle.std.specs.Ordering.{nat_cmp, eq_by_cmp}
 use Rattle.std.specs.Cmp.{nat_cmp_total}
-use Rattle.std.specs.FinMap.{FinMap, get, insert, remove, find, same_map, nat_cmp-IsAntisymmetric, get-empty, get-insert, get-remove}
+use Rattle.std.specs.FinMap.{FinMap, get, insert, remove, find, same_map, nat_cmp-IsAntisymmetric, get-empty}
 use Rattle.std.specs.FinMap.{get-from_entries}
 use Rattle.hd_table.specs.Slots.{entries_from, map_of}
+use Rattle.hd_table.proofs.Maps.{get-insert_number, get-remove_number}
 
 -- the order of numbers ties equal ones
 eq_by_nat_cmp : (a b : ℕ) → eq_by_cmp nat_cmp a b ≡ (a == b)
@@ -39,15 +40,6 @@ get-map_of slots q = get-from_entries nat_cmp_total (entries_from 0 slots) q ∙
 -- two maps of numbers that answer alike are equal
 pub same_number_map : {X : Type 0} (m n : FinMap nat_cmp X) → ((q : ℕ) → get m q ≡ get n q) → m ≡ n
 same_number_map m n is = same_map nat_cmp_total nat_cmp-IsAntisymmetric m n is
-
--- what a map of numbers answers after an insertion
-pub get-insert_number : {X : Type 0} (m : FinMap nat_cmp X) (k : ℕ) (v : X) (q : ℕ) →
-    get (insert m k v) q ≡ cond (q == k) (Some v) (get m q)
-get-insert_number m k v q = get-insert nat_cmp_total m k v q ∙ ap (λ b. cond b (Some v) (get m q)) (eq_by_nat_cmp q k)
-
--- and after a removal
-pub get-remove_number : {X : Type 0} (m : FinMap nat_cmp X) (k q : ℕ) → get (remove m k) q ≡ cond (q == k) None (get m q)
-get-remove_number m k q = get-remove nat_cmp_total m k q ∙ ap (λ b. cond b None (get m q)) (eq_by_nat_cmp q k)
 
 -- one slot is written
 get_or-set : {X : Type 0} (slots : List (Option X)) (k q : ℕ) (o : Option X) → k < length slots →
@@ -93,16 +85,6 @@ map_of-past slots k l =
 -- an empty slot at the end leaves the map as it is
 pub map_of-push : {X : Type 0} (slots : List (Option X)) → map_of (slots ++ None ∷ []) ≡ map_of slots
 map_of-push slots = same_number_map _ _ (λ q. get-map_of _ q ∙ get_or-push slots q ∙ sym (get-map_of slots q))
-
-absent : {X : Type 0} (m : FinMap nat_cmp X) (k q : ℕ) → get m k ≡ None → cond (q == k) None (get m q) ≡ get m q
-absent m k q none = elim (cases_Bool (q == k)) [
-  | inl e ↦ rw e (sym (ap (get m) ((Decides-eqb q k).0 e) ∙ none))
-  | inr e ↦ rw e
-]
-
--- nor is there anything to remove where the map has no value
-pub remove-absent : {X : Type 0} (m : FinMap nat_cmp X) (k : ℕ) → get m k ≡ None → remove m k ≡ m
-remove-absent m k none = same_number_map _ _ (λ q. get-remove_number m k q ∙ absent m k q none)
 
 -- what a map of numbers answers after each change
 pub ruleset entries = (get-empty, get-insert_number, get-remove_number)

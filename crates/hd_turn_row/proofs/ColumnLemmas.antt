@@ -1,6 +1,7 @@
 -- What columns say, and their first fault.
 use Rattle.std.proofs.Common.{◌≡◌, ℕ, ◌<◌, ◌⊎◌, Option, None, Some, List, refl, sym, ap, ◌∙◌, inl, inr}
 use Rattle.std.specs.Prelude.{IfSome}
+use Rattle.std.proofs.lemmas.Option.{same_Some}
 use Rattle.hd_catalogue.specs.Contents.{Contents, branch_number, copy_number, facts_of, patron_number, title_number}
 use Rattle.hd_turn_row.specs.Columns.{AreKnownParts, AreShown, AskedTexts, IsShown, SaysAct, SaysAdmits, SaysBranch}
 use Rattle.hd_turn_row.specs.Columns.{SaysCopy, SaysPatron, SaysTitle}
@@ -14,7 +15,7 @@ use Rattle.hd_turn_row.specs.declared.fault.RowFault.{RowFault}
 use Rattle.hd_turn_row.specs.declared.form.Form.{Form}
 use Rattle.hd_turn_row.specs.declared.parts.Parts.{Parts}
 use Rattle.hd_turn_row.proofs.ActLemmas.{act_back, admits_back}
-use Rattle.hd_turn_row.proofs.NumberLemmas.{number_kept, number_known, same_some}
+use Rattle.hd_turn_row.proofs.NumberLemmas.{number_kept, number_known}
 use Rattle.hd_turn_row.proofs.PartLemmas.{same_parts}
 use Rattle.hd_turn_row.specs.Acts.{act_named, admits_named}
 
@@ -52,13 +53,13 @@ shown_still Says Still (Some part) None h all = absurd h
 shown_still Says Still (Some part) (Some text) h all = all part text h
 
 one_number : (number : List ℕ → Option ℕ) (x y : ℕ) (text : List ℕ) → number text ≡ Some x → number text ≡ Some y → x ≡ y
-one_number number x y text e f = same_some (sym e ∙ f)
+one_number number x y text e f = same_Some _ _ (sym e ∙ f)
 
 one_act : (x y : Act) (text : List ℕ) → SaysAct x text → SaysAct y text → x ≡ y
-one_act x y text e f = same_some (sym (act_back x) ∙ ap act_named (sym e ∙ f) ∙ act_back y)
+one_act x y text e f = same_Some _ _ (sym (act_back x) ∙ ap act_named (sym e ∙ f) ∙ act_back y)
 
 one_admits : (x y : Admits) (text : List ℕ) → SaysAdmits x text → SaysAdmits y text → x ≡ y
-one_admits x y text e f = same_some (sym (admits_back x) ∙ ap admits_named (sym e ∙ f) ∙ admits_back y)
+one_admits x y text e f = same_Some _ _ (sym (admits_back x) ∙ ap admits_named (sym e ∙ f) ∙ admits_back y)
 
 module _ (k : Contents) (texts : AskedTexts) where
   -- the columns show one thing at most

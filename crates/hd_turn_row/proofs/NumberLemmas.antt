@@ -1,27 +1,17 @@
 -- Numbers of names.
-use Rattle.std.proofs.Common.{◌≡◌, ℕ, suc, ◌+◌, ◌<◌, Bool, true, false, Option, None, Some, List, [], ◌∷◌, ◌++◌, length}
-use Rattle.std.proofs.Common.{refl, sym, ap, subst, ◌∙◌, inl, inr, arith}
+use Rattle.std.proofs.Common.{◌≡◌, ℕ, suc, ◌+◌, ◌<◌, Bool, true, false, Option, Some, List, [], ◌∷◌, ◌++◌, length}
+use Rattle.std.proofs.Common.{sym, ap, subst, ◌∙◌, inl, inr, arith}
 use Rattle.std.specs.List.{position_from}
 use Rattle.std.proofs.lemmas.Bool.{cases_Bool}
 use Rattle.std.proofs.lemmas.Iterator.Adapters.{position_from-zero}
 use Rattle.std.proofs.lemmas.Slice.Eq.{bytes_eq-Decides}
 use Rattle.std.specs.Prelude.{bytes_eq}
+use Rattle.std.proofs.lemmas.Option.{none-some, same_Some}
 use Rattle.hd_catalogue.specs.Names.{name_at, number_of}
 use Rattle.hd_turn_row.specs.Grown.{HasMore}
 
-pub none_some : {A : Type 0} {a : A} → None ≡ Some a → ⊥
-none_some e = cc
-
 pub differ : {b : Bool} → b ≡ true → b ≡ false → ⊥
 differ t f = cc
-
-pub same_some : {A : Type 0} {a b : A} → Some a ≡ Some b → a ≡ b
-same_some e = cc
-
--- what is no number is nothing
-pub no_number : (o : Option ℕ) → ((n : ℕ) → o ≡ Some n → ⊥) → o ≡ None
-no_number None h = refl
-no_number (Some n) h = absurd (h n refl)
 
 -- the place of a name in the rest of a list, counted on
 place : {F : Type 0} → List (List ℕ × F) → List ℕ → ℕ → Option ℕ
@@ -34,11 +24,11 @@ number_of-place names name = position_from-zero (λ e. bytes_eq name e.0) names
 place_found : {F : Type 0} (names : List (List ℕ × F)) (name : List ℕ) (i n : ℕ) → place names name i ≡ Some n →
     (k : ℕ) × (n ≡ i + k) × (name_at names k ≡ Some name) × (k < length names)
 unfolding place
-place_found [] name i n h = absurd (none_some h)
+place_found [] name i n h = absurd (none-some _ h)
 place_found (e ∷ es) name i n h = elim (cases_Bool (bytes_eq name e.0)) [
   | inl t ↦
       let here : Some i ≡ Some n = rw t at h in
-      let here : i ≡ n = same_some here in
+      let here : i ≡ n = same_Some _ _ here in
       (0, omega arith, ap Some (sym ((bytes_eq-Decides name e.0).0 t)), omega arith)
   | inr f ↦
       let more : (k : ℕ) × (n ≡ (i + 1) + k) × (name_at es k ≡ Some name) × (k < length es) =
@@ -49,7 +39,7 @@ place_found (e ∷ es) name i n h = elim (cases_Bool (bytes_eq name e.0)) [
 place_more : {F : Type 0} (names more : List (List ℕ × F)) (name : List ℕ) (i n : ℕ) → place names name i ≡ Some n
     → place (names ++ more) name i ≡ Some n
 unfolding place
-place_more [] more name i n h = absurd (none_some h)
+place_more [] more name i n h = absurd (none-some _ h)
 place_more (e ∷ es) more name i n h = elim (cases_Bool (bytes_eq name e.0)) [
   | inl t ↦
       let here : Some i ≡ Some n = rw t at h in
@@ -83,4 +73,4 @@ pub other_name : {F : Type 0} (names : List (List ℕ × F)) (name other : List 
     → (other ≡ name → ⊥) → number_of names name ≡ Some n → ⊥
 other_name names name other n at differ found =
     let here : Some other ≡ Some name = sym at ∙ number_found names name n found in
-    differ (same_some here)
+    differ (same_Some _ _ here)

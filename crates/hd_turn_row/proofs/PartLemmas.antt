@@ -1,6 +1,7 @@
 -- What is asked, column by column.
 use Rattle.std.proofs.Common.{◌≡◌, ℕ, true, false, Option, None, Some, refl, sym, ap, subst, ◌∙◌}
 use Rattle.std.specs.Prelude.{unwrap_or}
+use Rattle.std.proofs.lemmas.Option.{none-some, same_Some}
 use Rattle.hd_rules.specs.Facts.{Facts}
 use Rattle.hd_rules.specs.Known.{IsKnown, IsKnownAction, IsKnownCancel}
 use Rattle.hd_rules.specs.declared.holds.HoldKind.{HoldKind}
@@ -19,7 +20,6 @@ use Rattle.hd_turn_row.specs.declared.act.Act.TheVariants as acts
 use Rattle.hd_turn_row.specs.declared.act.Admits.{Admits}
 use Rattle.hd_turn_row.specs.declared.act.Admits.TheVariants as admitted
 use Rattle.hd_turn_row.specs.declared.parts.Parts.{Parts}
-use Rattle.hd_turn_row.proofs.NumberLemmas.{none_some, same_some}
 
 -- the parts with these values
 made : Act → Option ℕ → Option ℕ → Option ℕ → Option ℕ → Option ℕ → Option Admits → Option ℕ → Parts
@@ -128,9 +128,9 @@ cancel_back (cancel.Changing patron title) = refl
 
 asked_back : (asked : Asked) (parts : Parts) → asked_parts asked ≡ Some parts → back parts ≡ asked
 asked_back (ask.Command command) parts e =
-    sym (ap back (same_some e)) ∙ command_back command.day command.action
-asked_back (ask.Cancel what) parts e = sym (ap back (same_some e)) ∙ cancel_back what
-asked_back (ask.Item copy) parts e = absurd (none_some e)
+    sym (ap back (same_Some _ _ e)) ∙ command_back command.day command.action
+asked_back (ask.Cancel what) parts e = sym (ap back (same_Some _ _ e)) ∙ cancel_back what
+asked_back (ask.Item copy) parts e = absurd (none-some _ e)
 
 -- the same parts are those of one ask
 pub asked_once : (asked other : Asked) (parts : Parts) → asked_parts asked ≡ Some parts → asked_parts other ≡ Some parts
@@ -179,9 +179,9 @@ module _ (k : Facts) where
   -- the parts of what names known things are known
   pub parts_known : (asked : Asked) (parts : Parts) → asked_parts asked ≡ Some parts → IsKnown k asked → AreKnownParts k parts
   parts_known (ask.Command command) parts e h =
-      subst (AreKnownParts k) (same_some e) (command_known command.day command.action h)
-  parts_known (ask.Cancel what) parts e h = subst (AreKnownParts k) (same_some e) (cancel_known what h)
-  parts_known (ask.Item copy) parts e h = absurd (none_some e)
+      subst (AreKnownParts k) (same_Some _ _ e) (command_known command.day command.action h)
+  parts_known (ask.Cancel what) parts e h = subst (AreKnownParts k) (same_Some _ _ e) (cancel_known what h)
+  parts_known (ask.Item copy) parts e h = absurd (none-some _ e)
 
   known_command : (day : ℕ) (a : Action) → AreKnownParts k (command_parts day a) → IsKnownAction k a
   known_command day (action.Checkout patron copy may_renew) h = (h.patron, h.copy)
@@ -215,9 +215,9 @@ module _ (k : Facts) where
   -- and what has known parts names known things
   pub asked_known : (asked : Asked) (parts : Parts) → asked_parts asked ≡ Some parts → AreKnownParts k parts → IsKnown k asked
   asked_known (ask.Command command) parts e h =
-      known_command command.day command.action (subst (AreKnownParts k) (sym (same_some e)) h)
-  asked_known (ask.Cancel what) parts e h = known_cancel what (subst (AreKnownParts k) (sym (same_some e)) h)
-  asked_known (ask.Item copy) parts e h = absurd (none_some e)
+      known_command command.day command.action (subst (AreKnownParts k) (sym (same_Some _ _ e)) h)
+  asked_known (ask.Cancel what) parts e h = known_cancel what (subst (AreKnownParts k) (sym (same_Some _ _ e)) h)
+  asked_known (ask.Item copy) parts e h = absurd (none-some _ e)
 
 -- a command has the columns of its act
 command_fits : (day : ℕ) (a : Action) → AreFit (command_parts day a)
@@ -264,6 +264,6 @@ cancel_fits (cancel.Changing patron title) =
 
 -- what is asked has the columns of its act
 pub asked_fits : (asked : Asked) (parts : Parts) → asked_parts asked ≡ Some parts → AreFit parts
-asked_fits (ask.Command command) parts e = subst AreFit (same_some e) (command_fits command.day command.action)
-asked_fits (ask.Cancel what) parts e = subst AreFit (same_some e) (cancel_fits what)
-asked_fits (ask.Item copy) parts e = absurd (none_some e)
+asked_fits (ask.Command command) parts e = subst AreFit (same_Some _ _ e) (command_fits command.day command.action)
+asked_fits (ask.Cancel what) parts e = subst AreFit (same_Some _ _ e) (cancel_fits what)
+asked_fits (ask.Item copy) parts e = absurd (none-some _ e)

@@ -1,5 +1,6 @@
 -- Rows and what they ask.
 use Rattle.std.proofs.Common.{◌≡◌, ℕ, Option, Some, List, sym, ap, subst, ◌∙◌, inl, inr}
+use Rattle.std.proofs.lemmas.Option.{same_Some}
 use Rattle.hd_rules.specs.declared.turns.Asked.{Asked}
 use Rattle.hd_catalogue.specs.Contents.{Contents, facts_of}
 use Rattle.hd_rules.specs.Turns.{Message}
@@ -11,7 +12,7 @@ use Rattle.hd_turn_row.specs.Rows.{IsKnownMessage, IsRowOf, RowTexts}
 use Rattle.hd_turn_row.specs.declared.fault.RowFault.{RowFault}
 use Rattle.hd_turn_row.specs.declared.parts.Parts.{Parts}
 use Rattle.hd_turn_row.proofs.ColumnLemmas.{fit_unfit, parts_once, shown_grown, shown_known, shown_unread}
-use Rattle.hd_turn_row.proofs.NumberLemmas.{number_kept, number_known, same_some}
+use Rattle.hd_turn_row.proofs.NumberLemmas.{number_kept, number_known}
 use Rattle.hd_turn_row.proofs.PartLemmas.{asked_fits, asked_known, asked_once}
 
 -- the message with these
@@ -54,7 +55,7 @@ pub row_once : ((text : List ℕ) (day other : ℕ) → IsDayText day text → I
 row_once one_day k seat seat' message message' row h g =
     let same : g.parts ≡ h.parts = parts_once k row.asked one_day g.parts h.parts g.shown h.shown in (
       sym h.seat_is ∙ g.seat_is,
-      same_messages message message' (same_some (sym h.terminal ∙ g.terminal))
+      same_messages message message' (same_Some _ _ (sym h.terminal ∙ g.terminal))
           (asked_once message.asked message'.asked h.parts h.asked (g.asked ∙ ap (λ (p : Parts). Some p) same)) (sym h.line ∙ g.line),
     )
 

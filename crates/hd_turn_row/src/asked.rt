@@ -212,8 +212,5 @@ fn kind_if_any(admits: Option<Admits>, copy: &Option<CopyNo>) -> Option<HoldKind
     ensures admits { option_map admits_of result ≡ admits }
     ensures copy { option_and_then copy_of result ≡ copy.now }
 {
-    match admits {
-        Some(admits) => Some(kind_of(admits, copy)),
-        None => None,
-    }
+    admits.map(|admits| kind_of(admits, copy))
 }

@@ -1,5 +1,5 @@
 //! What is asked, column by column.
-ghost use Rattle.std.specs.Prelude.{◌≡◌, option_and_then, option_map};
+ghost use Rattle.std.specs.Prelude.{◌≡◌};
 ghost use Rattle.hd_turn_row.specs.Parts.{admits_of, bare, cancel_parts, checkout_act, command_parts};
 ghost use Rattle.hd_turn_row.specs.Parts.{copy_of};
 ghost use Rattle.hd_turn_row.specs.Parts.{asked_parts};
@@ -110,10 +110,10 @@ fn command_parts(command: &Command) -> Parts
             act: Act::Change,
             day,
             patron: Some(*patron),
-            copy: copy_if_any(kind),
+            copy: kind.as_ref().and_then(copy_of),
             title: Some(*title),
             branch: *pickup,
-            admits: admits_if_any(kind),
+            admits: kind.as_ref().map(admits_of),
             until: *expiry,
         },
         Action::Renew { patron, copy } => Parts {
@@ -189,25 +189,5 @@ fn copy_of(kind: &HoldKind) -> Option<CopyNo>
     match kind {
         HoldKind::Any | HoldKind::AtBranch => None,
         HoldKind::One(copy) => Some(*copy),
-    }
-}
-
-/// What a changed hold admits, where the change says so.
-fn admits_if_any(kind: &Option<HoldKind>) -> Option<Admits>
-    ensures { result ≡ option_map admits_of kind.now }
-{
-    match kind {
-        Some(kind) => Some(admits_of(kind)),
-        None => None,
-    }
-}
-
-/// And the copy.
-fn copy_if_any(kind: &Option<HoldKind>) -> Option<CopyNo>
-    ensures { result ≡ option_and_then copy_of kind.now }
-{
-    match kind {
-        Some(kind) => copy_of(kind),
-        None => None,
     }
 }

@@ -3,7 +3,8 @@
 use crate::fault::Fault;
 use crate::library::read_file;
 use hd_catalogue::{Catalogue, TitleNo};
-use std::io::{self, IsTerminal, Write};
+use std::alloc::{AllocError, Global};
+use std::io::{IsTerminal, Write};
 
 /// From how many bytes on a catalogue file takes so long that a terminal is told of it.
 const LONG_FILE: usize = 10_000_000;
@@ -16,31 +17,41 @@ pub(crate) fn check(rt: &HostRuntime, path: &str) -> Result<(), Fault> {
     }
     let alloc = rt.alloc();
     let catalogue = Catalogue::read(alloc, file.as_slice())?;
-    let mut report: Vec<u8> = Vec::new(alloc);
-    if write_report(&mut report, version_of(file.as_slice()), &catalogue).is_err() {
-        return Err(Fault::Memory);
-    }
+    let report = report_of(alloc, version_of(file.as_slice()), &catalogue)?;
     rt.stdout().write_all(report.as_slice())?;
     Ok(())
 }
 
-/// Writes what a catalogue file says, a line for each value, in the order of docs/operating.md.
-fn write_report<W: Write>(to: &mut W, version: u8, catalogue: &Catalogue) -> io::Result<()> {
-    writeln!(to, "version: {version}")?;
-    to.write_all(b"institution: ")?;
-    to.write_all(catalogue.institution())?;
-    writeln!(to, "\noffset: {} minutes", catalogue.offset().minutes())?;
-    writeln!(to, "command limit: {}", catalogue.command_limit())?;
-    writeln!(to, "branches: {}", catalogue.branches())?;
-    writeln!(to, "terminals: {}", catalogue.terminals())?;
-    writeln!(to, "patrons: {}", catalogue.patrons())?;
-    writeln!(to, "titles: {}", catalogue.titles())?;
-    writeln!(
-        to,
-        "titles with local priority: {}",
-        local_titles(catalogue)
-    )?;
-    writeln!(to, "copies: {}", catalogue.copies())
+/// What a catalogue file says, a line for each value, in the order of docs/operating.md.
+///
+/// An error is want of memory.
+fn report_of(alloc: Global, version: u8, catalogue: &Catalogue) -> Result<Vec<u8>, AllocError> {
+    let head = format!(in alloc; "version: {version}\ninstitution: ")?;
+    let numbers = numbers_of(alloc, catalogue)?;
+    let mut report = Vec::new(alloc);
+    report.extend_from_slice(head.as_bytes())?;
+    report.extend_from_slice(catalogue.institution())?;
+    report.extend_from_slice(numbers.as_bytes())?;
+    Ok(report)
+}
+
+/// The lines behind the institution. They are one format: a write for each line would have to be proved to
+/// end well or early by itself.
+///
+/// An error is want of memory.
+fn numbers_of(alloc: Global, catalogue: &Catalogue) -> Result<String, AllocError> {
+    format!(in alloc;
+        "\noffset: {} minutes\ncommand limit: {}\nbranches: {}\nterminals: {}\npatrons: {}\ntitles: {}\n\
+        titles with local priority: {}\ncopies: {}\n",
+        catalogue.offset().minutes(),
+        catalogue.command_limit(),
+        catalogue.branches(),
+        catalogue.terminals(),
+        catalogue.patrons(),
+        catalogue.titles(),
+        local_titles(catalogue),
+        catalogue.copies()
+    )
 }
 
 /// The version of a catalogue file that is accepted, by its first bytes: 1 or 2.

@@ -1,7 +1,7 @@
 //! Why the program stops.
 
 use hd_catalogue::CatFault;
-use hd_restore::OpenFault;
+use hd_journal_file::OpenFault;
 use hd_serve::ServeFault;
 use hd_server::ServerFault;
 use std::alloc::{AllocError, AllocFailed};
@@ -29,12 +29,9 @@ pub(crate) enum Fault {
     /// A journal's file can't be opened or ended.
     #[error("{0}")]
     Journal(OpenFault),
-    /// A replay stopped.
+    /// A replay or a server stopped.
     #[error("{0}")]
-    Replay(ServerFault),
-    /// A server stopped.
-    #[error("{0}")]
-    Serve(ServeFault),
+    Server(ServerFault),
 }
 
 impl From<CatFault> for Fault {
@@ -49,21 +46,21 @@ impl From<OpenFault> for Fault {
     }
 }
 
-impl From<hd_ledger::Fault> for Fault {
-    fn from(fault: hd_ledger::Fault) -> Fault {
+impl From<hd_turn_store::Fault> for Fault {
+    fn from(fault: hd_turn_store::Fault) -> Fault {
         Fault::Journal(OpenFault::File(fault))
     }
 }
 
 impl From<ServerFault> for Fault {
     fn from(fault: ServerFault) -> Fault {
-        Fault::Replay(fault)
+        Fault::Server(fault)
     }
 }
 
 impl From<ServeFault> for Fault {
     fn from(fault: ServeFault) -> Fault {
-        Fault::Serve(fault)
+        Fault::Server(ServerFault::Serve(fault))
     }
 }
 

@@ -6,10 +6,10 @@ use hd_catalogue::Catalogue;
 use hd_command_line::Keeping;
 use hd_desk::Meter;
 use hd_durable::DurableJournal;
-use hd_journal_file::JournalFile;
-use hd_ledger::{FileFrom, FileStore, Start, end};
-use hd_restore::{Wanted, open};
+use hd_journal_file::{JournalFile, Wanted, open};
+use hd_turn_store::{Connection, FileFrom, FileStore, Start, end};
 use sha2::{Digest, Sha256};
+use sqlite_disk::Disk;
 use std::io::IsTerminal;
 
 /// A journal whose changing turns are committed to a file before they are answered.
@@ -43,8 +43,8 @@ pub(crate) fn open_kept<S: Start>(
 }
 
 /// Ends a journal's file well: all its turns are then in the database file alone.
-pub(crate) fn close_kept<S: Start>(journal: KeptJournal<S>) -> Result<(), Fault> {
-    match end(journal.into_table().into_connection()) {
+pub(crate) fn end_kept<D: Disk + Drop>(conn: Connection<FileStore<D>>) -> Result<(), Fault> {
+    match end(conn) {
         Ok(_) => Ok(()),
         Err(fault) => Err(Fault::from(fault)),
     }

@@ -18,8 +18,8 @@ use crate::serving::{run, start};
 use crate::serving_kept::run_kept;
 use hd_command_line::{Order, Replay, VIEWS, parse};
 use hd_connection::Fallible;
-use hd_ledger::{Unknown, Wary};
 use hd_server::replay;
+use hd_turn_store::{Unknown, Wary};
 use std::io::{self, Write};
 use std::process::ExitCode;
 

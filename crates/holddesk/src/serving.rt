@@ -1,5 +1,5 @@
 //! Serving terminals over the library of a catalogue file.
-ghost use Rattle.std.specs.Prelude.{◌≡◌, [], IfOk};
+ghost use Rattle.std.specs.Prelude.{◌≡◌, ◌≤◌, [], IfOk};
 
 use crate::counted::Counted;
 use crate::fault::Fault;
@@ -10,7 +10,8 @@ use hd_command_line::Serve;
 use hd_desk::Meter;
 use hd_hall::Keeper;
 use hd_journal::Journal;
-use hd_serve::{Options, ServeFault, Summary, serve, summary_of};
+use hd_serve::ServeFault;
+use hd_server::{Options, Summary};
 use std::alloc::Global;
 use std::io;
 use std::net::{SocketAddr, TcpListener};
@@ -64,10 +65,10 @@ fn listen(
     catalogue: &Catalogue,
 ) -> Result<TcpListener, Fault> {
     let Ok(address) = order.listen.parse::<SocketAddr>() else {
-        return Err(Fault::Serve(ServeFault::CannotListen));
+        return Err(Fault::from(ServeFault::CannotListen));
     };
     let Ok(listener) = TcpListener::bind(rt, address) else {
-        return Err(Fault::Serve(ServeFault::CannotListen));
+        return Err(Fault::from(ServeFault::CannotListen));
     };
     tell_start(rt, &listener, order.workers, catalogue)?;
     Ok(listener)
@@ -103,7 +104,8 @@ pub(crate) fn run<R: Threads + Wait + Clock + Sync + Print>(
     requires { started.journal.turns ≡ [] }
 {
     let Started { listener, journal } = started;
-    let summary = summary_of(&serve_by(rt, alloc, listener, journal, order)?);
+    let options = options_of(order);
+    let summary = hd_server::serve(rt, alloc, listener, journal, &options, &OpenGate)?;
     tell_end(rt, &summary)?;
     Ok(())
 }
@@ -117,25 +119,20 @@ pub(crate) fn serve_at<
     requires { K.turns keeper ≡ [] }
 {
     let listener = listen_at(host, order, turns, keeper.catalogue())?;
-    Ok(serve_by(rt, host.alloc(), listener, keeper, order)?)
+    let options = options_of(order);
+    let alloc = host.alloc();
+    Ok(hd_serve::serve(rt, alloc, listener, keeper, &options, &OpenGate)?)
 }
 
-/// Serves terminals as the words of the command line say.
-fn serve_by<R: Threads + Wait + Clock + Sync, Q: Drop + Send, K: Keeper<Global, Q> + Drop + Send>(
-    rt: &R,
-    alloc: Global,
-    listener: TcpListener,
-    keeper: K,
-    order: &Serve<'_>,
-) -> Result<K, ServeFault>
-    requires { K.turns keeper ≡ [] }
+/// How terminals are to be served, as the words of the command line say.
+fn options_of(order: &Serve<'_>) -> Options
+    ensures workers { (1 ≤ result.workers) × (result.workers ≤ 64) }
 {
-    let options = Options {
+    Options {
         workers: order.workers.clamp(1, 64),
         connections: order.connections,
         idle: order.idle,
-    };
-    serve(rt, alloc, listener, keeper, &options, &OpenGate)
+    }
 }
 
 /// Tells how serving ended.

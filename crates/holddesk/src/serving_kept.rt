@@ -1,13 +1,13 @@
 //! Serving terminals with a journal that is kept in a file.
 
 use crate::fault::Fault;
-use crate::keeping::{KeptJournal, close_kept, open_kept};
+use crate::keeping::{end_kept, open_kept};
 use crate::serving::{serve_at, tell_end};
 use hd_command_line::{Keeping, Serve};
 use hd_durable::{DurableJournal, DurableKeeper, TurnTable};
 use hd_journal_file::JournalFile;
-use hd_ledger::{Alter, FileStore, Start};
-use hd_serve::summary_of;
+use hd_server::{Summary, summary_of};
+use hd_turn_store::{Alter, Connection, FileStore, Start};
 use sqlite_disk::Disk;
 use std::sync::Wait;
 use std::thread::Threads;
@@ -23,48 +23,47 @@ pub(crate) fn run_kept<R: Threads + Wait + Clock + Sync + Print, S: Start + Send
     order: &Serve<'_>,
 ) -> Result<(), Fault> {
     let opened = open_kept(host, start, keeping)?;
-    let served = serve_from_disks(rt, host, opened, order)?;
-    end_kept(rt, served)
+    let summary = serve_from_disks(rt, host, opened, order)?;
+    tell_end(rt, &summary)?;
+    Ok(())
 }
 
-/// Serves terminals with a journal on these disks. That it may be sent to another thread is told a part of
-/// its type at a time, here of the disks and below of what stands on them: of the whole it is too much at
-/// once.
+/// Serves terminals with a journal on these disks, and ends its file well: what it has then. That the journal
+/// may be sent to another thread is told a part of its type at a time, here of the disks and below of what
+/// stands on them: of the whole it is too much at once.
 fn serve_from_disks<R: Threads + Wait + Clock + Sync, D: Disk + Drop + Send, F: Start + Send>(
     rt: &R,
     host: &HostRuntime,
     journal: DurableJournal<JournalFile<FileStore<D>, F>>,
     order: &Serve<'_>,
-) -> Result<DurableJournal<JournalFile<FileStore<D>, F>>, Fault> {
-    serve_from_file(rt, host, journal, order)
+) -> Result<Summary, Fault> {
+    let (summary, conn) = serve_from_file(rt, host, journal, order)?;
+    end_kept(conn)?;
+    Ok(summary)
 }
 
-/// The same with a journal in a file, wherever that is stored.
+/// Serves terminals with a journal in a file, wherever that is stored: what it has then, and the file's
+/// connection.
 fn serve_from_file<R: Threads + Wait + Clock + Sync, S: Alter + Drop + Send, F: Start + Send>(
     rt: &R,
     host: &HostRuntime,
     journal: DurableJournal<JournalFile<S, F>>,
     order: &Serve<'_>,
-) -> Result<DurableJournal<JournalFile<S, F>>, Fault> {
-    serve_durable(rt, host, journal, order)
+) -> Result<(Summary, Connection<S>), Fault> {
+    let (summary, file) = serve_durable(rt, host, journal, order)?;
+    Ok((summary, file.into_connection()))
 }
 
-/// The same with a journal that commits its turns to a table.
+/// Serves terminals with a journal that commits its turns to a table: what it has then, and the table.
 fn serve_durable<R: Threads + Wait + Clock + Sync, T: TurnTable + Drop + Send>(
     rt: &R,
     host: &HostRuntime,
     journal: DurableJournal<T>,
     order: &Serve<'_>,
-) -> Result<DurableJournal<T>, Fault> {
+) -> Result<(Summary, T), Fault> {
     let turns = journal.front();
     let keeper = serve_at(rt, host, turns, DurableKeeper::new(journal), order)?;
-    Ok(keeper.into_journal())
-}
-
-/// Ends a journal's file well, and tells how serving ended.
-fn end_kept<R: Print, S: Start>(rt: &R, journal: KeptJournal<S>) -> Result<(), Fault> {
-    let summary = summary_of(journal.journal());
-    close_kept(journal)?;
-    tell_end(rt, &summary)?;
-    Ok(())
+    let served = keeper.into_journal();
+    let summary = summary_of(served.journal());
+    Ok((summary, served.into_table()))
 }

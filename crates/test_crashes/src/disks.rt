@@ -1,7 +1,7 @@
 //! The disks of a file and its log, in memory, and a crash of their machine.
 ghost use Rattle.std.specs.Prelude.{IsTrue, IfErr, IfOk};
 
-use hd_ledger::{Connection, FileStore, Files};
+use hd_turn_store::{Connection, FileStore, Files};
 use sqlite::Options;
 use sqlite_disk::{Crash, Fuse, Memory};
 use std::alloc::Global;

@@ -8,6 +8,7 @@
 #![tactic(auto)]
 
 mod disks;
+mod library;
 mod row;
 mod step;
 mod stopping;

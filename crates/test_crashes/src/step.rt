@@ -2,11 +2,12 @@
 ghost use Rattle.std.specs.Prelude.{◌≡◌, IfSome};
 ghost use Rattle.hd_rules.specs.Known.{IsKnown, IsKnownAction};
 ghost use Rattle.hd_catalogue.specs.Contents.{facts_of};
-ghost use Rattle.test_crashes.specs.Wishes.{IsOf};
+ghost use Rattle.test_kit.specs.Wishes.{IsOf};
 
 use hd_catalogue::Catalogue;
 use hd_date::{Day, OffsetMinutes};
-use hd_rules::{Action, Asked, Cancel, Command, HoldKind, TerminalNo};
+use hd_rules::{Action, Asked, Cancel, Command, HoldKind};
+use test_kit::Wish;
 
 /// What is asked of the copy `a1`, or of its title `ta`.
 #[derive(Clone, Copy)]
@@ -31,13 +32,6 @@ pub(crate) struct Step {
     pub(crate) act: Act,
     /// The message's line, where it carries a sequence digit.
     pub(crate) line: Option<&'static [u8]>,
-}
-
-/// The same by the numbers of a catalogue.
-#[derive(Clone, Copy)]
-pub(crate) struct Wish {
-    pub(crate) terminal: TerminalNo,
-    pub(crate) asked: Asked,
 }
 
 impl Step {

@@ -3,19 +3,18 @@ ghost use Rattle.std.specs.Prelude.{◌≡◌, [], IsTrue, List};
 ghost use Rattle.sqlite.specs.State.{HasCleanDisk};
 ghost use Rattle.sqlite.specs.Files.{file_state};
 ghost use Rattle.sqlite.specs.Held.{state};
-ghost use Rattle.hd_ledger.specs.Holds.{Holds};
-ghost use Rattle.hd_ledger.specs.Kept.{Head, KeptTurn};
+ghost use Rattle.hd_turn_store.specs.Holds.{Holds};
+ghost use Rattle.hd_turn_store.specs.Kept.{Head, KeptTurn};
 
 use crate::disks::{Disks, OnDisks, crash, empty, open};
+use crate::library::new_journal;
 use crate::row::Row;
 use crate::step::Step;
 use crate::whole::Whole;
-use hd_demonstration::journal;
 use hd_durable::{DurableJournal, TurnTable};
 use hd_journal::{Ask, Journal, SeatNo};
-use hd_journal_file::restore_turns;
-use hd_ledger::{Alter, Connection, Unknown, begin, is_blank, leave};
-use hd_restore::{Wanted, open_over};
+use hd_journal_file::{Wanted, open_over, restore_turns};
+use hd_turn_store::{Alter, Connection, Unknown, begin, is_blank, leave};
 use std::alloc::Global;
 
 /// One of the two disks.
@@ -62,10 +61,15 @@ const MOST_CALLS: u64 = 10_000;
 /// changes something, with all that was answered. None where one doesn't.
 pub(crate) fn calls(rt: &HostRuntime, row: &Row, disk: Disk) -> Option<u64> {
     let whole = Whole::of(rt, row.steps)?;
+    calls_beside(rt, &whole, row, disk)
+}
+
+/// The same beside the row whose turns are all taken.
+fn calls_beside(rt: &HostRuntime, whole: &Whole, row: &Row, disk: Disk) -> Option<u64> {
     for calls in 0..MOST_CALLS {
         let played = play(rt, row.steps, disk.stopped_after(rt.alloc(), calls))?;
         let is_ended = played.is_ended;
-        if !outlives(rt, &whole, played) {
+        if !outlives(rt, whole, played) {
             return None;
         }
         if is_ended {
@@ -77,7 +81,7 @@ pub(crate) fn calls(rt: &HostRuntime, row: &Row, disk: Disk) -> Option<u64> {
 
 /// Begins a journal's file on these disks, and takes the turns of a row. None where there is no memory.
 fn play(rt: &HostRuntime, steps: &[Step], disks: Disks) -> Option<Played> {
-    let journal = journal(rt)?;
+    let journal = new_journal(rt)?;
     let alloc = rt.alloc();
     match open(alloc, disks) {
         Ok(conn) => play_on(alloc, conn, journal, steps),
@@ -175,10 +179,19 @@ fn outlives(rt: &HostRuntime, whole: &Whole, played: Played) -> bool {
 
 /// The journal of the turns in a file. None where they can't be taken again.
 fn restore_journal(rt: &HostRuntime, disks: Disks) -> Option<Journal> {
-    let mut journal = journal(rt)?;
-    let mut conn = open(rt.alloc(), disks).ok()?;
-    take_again(rt.alloc(), &mut conn, &mut journal)?;
-    Some(journal)
+    match open(rt.alloc(), disks) {
+        Ok(mut conn) => restore_from(rt, &mut conn),
+        Err(_) => None,
+    }
+}
+
+/// The same of a database that is open.
+fn restore_from<S: Alter>(rt: &HostRuntime, conn: &mut Connection<S>) -> Option<Journal> {
+    let mut journal = new_journal(rt)?;
+    match take_again(rt.alloc(), conn, &mut journal) {
+        Some(()) => Some(journal),
+        None => None,
+    }
 }
 
 /// Has a journal take the turns in a file again, where one was begun in it.

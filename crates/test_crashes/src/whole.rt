@@ -1,7 +1,7 @@
 //! A row whose turns are all taken.
 
+use crate::library::new_journal;
 use crate::step::Step;
-use hd_demonstration::journal;
 use hd_journal::{Ask, Journal, SeatNo, TurnRef};
 use hd_rules::{same_asked, same_turn_reply};
 use std::alloc::Global;
@@ -15,18 +15,26 @@ pub(crate) struct Whole {
 }
 
 impl Whole {
-    /// Takes the turns of a row.
+    /// A row whose turns are all taken. None where one isn't.
     pub(crate) fn of(rt: &HostRuntime, steps: &[Step]) -> Option<Whole> {
         let mut whole = Whole {
-            journal: journal(rt)?,
+            journal: new_journal(rt)?,
             changing: Vec::new(rt.alloc()),
         };
+        match whole.take_all(rt.alloc(), steps) {
+            Some(()) => Some(whole),
+            None => None,
+        }
+    }
+
+    /// Takes the turns of a row.
+    fn take_all(&mut self, alloc: Global, steps: &[Step]) -> Option<()> {
         for step in steps {
-            if take(rt.alloc(), &mut whole.journal, step)? {
-                whole.changing.push(whole.journal.front()).ok()?;
+            if take(alloc, &mut self.journal, step)? {
+                self.changing.push(self.journal.front()).ok()?;
             }
         }
-        Some(whole)
+        Some(())
     }
 
     /// How many of the first turns change something.

@@ -5,7 +5,7 @@ use crate::serving::{Row, Scale, one, open, play};
 use crate::terminal::Terminal;
 use crate::waiting::{TURNS, nap};
 use hd_attend::Gate;
-use hd_serve::ServeFault;
+use hd_server::{ServeFault, ServerFault};
 use std::net::{Shutdown, SocketAddr, TcpStream};
 use std::os::fd::OwnedFd;
 use std::sync::Wait;
@@ -64,5 +64,5 @@ pub(crate) fn goes<R: Threads + Wait + Clock + Sync>(rt: &R, host: &HostRuntime)
         idle: 0,
     };
     let (ended, is_played) = play(rt, host, opened, scale, &row);
-    Some(is_played && ended == Err(ServeFault::CannotListen))
+    Some(is_played && ended == Err(ServerFault::Serve(ServeFault::CannotListen)))
 }

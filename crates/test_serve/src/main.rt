@@ -4,25 +4,24 @@
 //! they say and hear is played beside the server. A row waits for what has to happen, some seconds at most.
 #![tactic(auto)]
 
-mod byte_by_byte;
 mod failed_accept;
-mod five_in_a_row;
 mod full_disk;
 mod hundred_lines;
 mod idle;
+mod library;
 mod lines;
-mod long_line;
 mod present;
-mod reset;
-mod rest;
+mod script;
 mod serving;
-mod sixty_four;
 mod terminal;
 mod two_connections;
 mod unwritten_reply;
 mod unwritten_turn;
 mod waiting;
 
+use crate::script::{
+    A_LONG_LINE, A_RESET, A_REST, BYTE_BY_BYTE, FIVE_IN_A_ROW, SIXTY_FOUR, is_played,
+};
 use std::io;
 
 fn main(rt: HostRuntime) -> io::Result<()> {
@@ -42,32 +41,35 @@ fn main(rt: HostRuntime) -> io::Result<()> {
         "a turn that can't be written",
         unwritten_turn::goes(&rt, &rt),
     )?;
-    tell(&rt, "a connection reset", reset::goes(&rt, &rt))?;
-    tell(&rt, "byte by byte", byte_by_byte::goes(&rt, &rt))?;
+    tell(&rt, "a connection reset", is_played(&rt, &rt, &A_RESET))?;
+    tell(&rt, "byte by byte", is_played(&rt, &rt, &BYTE_BY_BYTE))?;
     tell(
         &rt,
         "a rest without its carriage return",
-        rest::goes(&rt, &rt),
+        is_played(&rt, &rt, &A_REST),
     )?;
     tell(&rt, "100 lines in one piece", hundred_lines::goes(&rt, &rt))?;
     tell(
         &rt,
         "five connections at one worker",
-        five_in_a_row::goes(&rt, &rt),
+        is_played(&rt, &rt, &FIVE_IN_A_ROW),
     )?;
     tell(
         &rt,
         "64 connections at 64 workers",
-        sixty_four::goes(&rt, &rt),
+        is_played(&rt, &rt, &SIXTY_FOUR),
     )?;
     tell(&rt, "an idle connection", idle::goes(&rt, &rt))?;
-    tell(&rt, "a line that is too long", long_line::goes(&rt, &rt))?;
+    tell(
+        &rt,
+        "a line that is too long",
+        is_played(&rt, &rt, &A_LONG_LINE),
+    )?;
     tell(&rt, "a failed accept", failed_accept::goes(&rt, &rt))?;
     tell(&rt, "the present", present::goes(&rt, &rt))
 }
 
 /// Prints how a row went.
 fn tell(rt: &HostRuntime, name: &str, gone: Option<bool>) -> io::Result<()> {
-    let verdict = if gone == Some(true) { "ok" } else { "FAILED" };
-    println!(rt; "{name}: {verdict}")
+    test_kit::tell(rt, name, gone == Some(true))
 }

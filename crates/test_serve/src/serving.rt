@@ -2,12 +2,12 @@
 
 ghost use Rattle.std.specs.Prelude.{◌≡◌, ◌≤◌, []};
 
+use crate::library::new_journal;
 use crate::terminal::Terminal;
 use hd_attend::Gate;
-use hd_demonstration::journal;
 use hd_hall::Keeper;
-use hd_journal::Journal;
-use hd_serve::{Options, ServeFault, Summary, serve, summary_of};
+use hd_serve::ServeFault;
+use hd_server::{Options, ServerFault, Summary};
 use std::alloc::Global;
 use std::net::{SocketAddr, TcpListener};
 use std::sync::Wait;
@@ -68,24 +68,26 @@ pub(crate) fn play<R: Threads + Wait + Clock + Sync, W: Row>(
     opened: Opened,
     scale: Scale,
     row: &W,
-) -> (Result<Summary, ServeFault>, bool)
+) -> (Result<Summary, ServerFault>, bool)
     requires workers { (1 ≤ scale.workers) × (scale.workers ≤ 64) }
 {
-    match journal(host) {
-        Some(journal) => {
-            let (ended, is_played) = play_kept(rt, host.alloc(), opened, journal, scale, row);
-            (outcome_of(ended), is_played)
-        }
-        None => (Err(ServeFault::Memory), false),
-    }
-}
-
-/// What is told of how a server ended.
-fn outcome_of(ended: Result<Journal, ServeFault>) -> Result<Summary, ServeFault> {
-    match ended {
-        Ok(journal) => Ok(summary_of(&journal)),
-        Err(fault) => Err(fault),
-    }
+    let Some(journal) = new_journal(host) else {
+        return (Err(ServerFault::Serve(ServeFault::Memory)), false);
+    };
+    let Opened {
+        listener,
+        terminals,
+    } = opened;
+    let alloc = host.alloc();
+    let options = options_of(scale);
+    join(
+        rt,
+        || -> Result<Summary, ServerFault>
+            requires turns { journal.turns ≡ [] }
+            requires workers { (1 ≤ options.workers) × (options.workers ≤ 64) }
+        { hd_server::serve(rt, alloc, listener, journal, &options, row) },
+        || row.play(terminals),
+    )
 }
 
 /// The same from whatever keeps a journal without turns: what comes back.
@@ -109,24 +111,31 @@ pub(crate) fn play_kept<
         listener,
         terminals,
     } = opened;
-    let options = Options {
-        workers: scale.workers,
-        connections: scale.connections,
-        idle: scale.idle,
-    };
+    let options = options_of(scale);
     join(
         rt,
         || -> Result<K, ServeFault>
             requires turns { K.turns keeper ≡ [] }
             requires workers { (1 ≤ options.workers) × (options.workers ≤ 64) }
-        { serve(rt, alloc, listener, keeper, &options, row) },
+        { hd_serve::serve(rt, alloc, listener, keeper, &options, row) },
         || row.play(terminals),
     )
 }
 
+/// How terminals are to be served at this scale.
+fn options_of(scale: Scale) -> Options
+    ensures workers { result.workers ≡ scale.workers }
+{
+    Options {
+        workers: scale.workers,
+        connections: scale.connections,
+        idle: scale.idle,
+    }
+}
+
 /// Whether the server ended well, with these numbers, and all went as it is to.
 pub(crate) fn is_well(
-    played: &(Result<Summary, ServeFault>, bool),
+    played: &(Result<Summary, ServerFault>, bool),
     turns: usize,
     survivors: usize,
 ) -> bool {

@@ -1,10 +1,11 @@
 use Rattle.std.proofs.Common.{◌≡◌, ◌⊎◌, ◌++◌, ◌∷◌, [], sym, subst, ap, ◌∙◌}
 use Rattle.std.specs.Prelude.{option_map}
+use Rattle.std.proofs.lemmas.Result.{on_ok_weaker, on_err_weaker}
 use Rattle.hd_catalogue.specs.Contents.{Contents, facts_of}
 use Rattle.hd_rules.specs.Journal.{Turn, IsLegal}
 use Rattle.hd_journal.specs.Asks.{IsKnownMessage}
 use Rattle.hd_journal.specs.Shown.{turn_shown}
-use Rattle.hd_durable.proofs.Durability.{last_is, on_ok, on_err}
+use Rattle.hd_durable.proofs.Durability.{last_is}
 use Rattle.hd_durable.proofs.journal.commit_last.Goals as goal
 
 pub commit-requires : goal.commit-requires
@@ -18,7 +19,7 @@ commit-requires g c =
 
 pub returns-clause-ok : goal.returns-clause-ok
 returns-clause-ok g c =
-    on_ok c.commit.result _ _
+    on_ok_weaker c.commit.result
     (λ ok turns held turn is legal holds.
     let last : turn_shown c.in-Some.last ≡ turn =
     last_is c.args.journal.now.turns turns turn c.front.result (turn_shown c.in-Some.last) is c.front.ensures.count
@@ -32,7 +33,7 @@ returns-clause-ok g c =
 
 pub returns-clause-err : goal.returns-clause-err
 returns-clause-err g c =
-    on_err c.commit.result _ _
+    on_err_weaker c.commit.result
     (λ err turns held left turn is legal holds leaves.
     let last : turn_shown c.in-Some.last ≡ turn =
     last_is c.args.journal.now.turns turns turn c.front.result (turn_shown c.in-Some.last) is c.front.ensures.count

@@ -1,5 +1,5 @@
 use Rattle.sqlite.specs.Held.{state}
-use Rattle.hd_ledger.specs.Rows.{turn_of_row}
+use Rattle.hd_turn_store.specs.Rows.{turn_of_row}
 use Rattle.hd_journal_file.proofs.Held.{left_is_held, held_more, left_either}
 use Rattle.hd_journal_file.proofs.adding.add.Goals as goal
 

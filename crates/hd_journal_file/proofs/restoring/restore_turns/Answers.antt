@@ -1,5 +1,5 @@
 use Rattle.std.proofs.Common.{subst, [], ◌++◌, take, drop, ℕ, Option}
-use Rattle.hd_ledger.specs.Kept.{piece}
+use Rattle.hd_turn_store.specs.Kept.{piece}
 use Rattle.hd_journal_file.specs.Restored.{TakesPiece}
 use Rattle.hd_journal_file.proofs.Retaken.{takes_none, takes_then, piece_taken, last_taken, all_rows, all_change}
 use Rattle.hd_journal_file.proofs.restoring.restore_turns.Goals as goal

@@ -1,8 +1,8 @@
 use Rattle.std.proofs.Common.{List, take}
 use Rattle.sqlite.specs.State.{HasCleanDisk}
 use Rattle.sqlite.specs.Held.{state}
-use Rattle.hd_ledger.specs.Holds.{Holds}
-use Rattle.hd_ledger.specs.Kept.{KeptTurn, Head}
+use Rattle.hd_turn_store.specs.Holds.{Holds}
+use Rattle.hd_turn_store.specs.Kept.{KeptTurn, Head}
 use Rattle.hd_journal_file.specs.Restored.{TakesRows}
 use Rattle.hd_journal_file.proofs.restoring.restore_turns.Given as goal
 

@@ -1,10 +1,10 @@
 use Rattle.std.proofs.Common.{◌≡◌, refl, ◌∷◌, ◌+◌, sym, ap, subst, ◌∙◌, ℕ, List, [], map, take, drop, length, arith}
 use Rattle.std.proofs.lemmas.Bool.{eqb-true}
 use Rattle.std.proofs.lemmas.List.{length-map}
-use Rattle.hd_ledger.specs.Kept.{KeptTurn, piece}
-use Rattle.hd_ledger.specs.Rows.{read_turn}
+use Rattle.hd_turn_store.specs.Kept.{KeptTurn, piece}
+use Rattle.hd_turn_store.specs.Rows.{read_turn}
 use Rattle.hd_journal_file.specs.Restored.{TakesRows}
-use Rattle.hd_ledger.specs.declared.stored.StoredTurn.{StoredTurn}
+use Rattle.hd_turn_store.specs.declared.stored.StoredTurn.{StoredTurn}
 use Rattle.hd_journal_file.proofs.restoring.take_piece.Goals as goal
 
 no_items : (rows : List StoredTurn) → length rows ≡ 0 → rows ≡ []

@@ -1,8 +1,8 @@
 use Rattle.std.proofs.Common.{List, subst, arith, map, take}
 use Rattle.std.proofs.lemmas.List.{take_all}
-use Rattle.hd_ledger.specs.Kept.{KeptTurn}
-use Rattle.hd_ledger.specs.Rows.{read_turn}
-use Rattle.hd_ledger.specs.declared.stored.StoredTurn.{StoredTurn}
+use Rattle.hd_turn_store.specs.Kept.{KeptTurn}
+use Rattle.hd_turn_store.specs.Rows.{read_turn}
+use Rattle.hd_turn_store.specs.declared.stored.StoredTurn.{StoredTurn}
 use Rattle.hd_journal_file.specs.Restored.{TakesRows}
 use Rattle.hd_journal_file.proofs.Retaken.{takes_none, takes_more, rows_front}
 use Rattle.hd_journal_file.proofs.restoring.take_rows.Goals as goal

@@ -1,5 +1,5 @@
 use Rattle.std.proofs.Common.{◌≡◌, ◌+◌, map, take}
-use Rattle.hd_ledger.specs.Rows.{read_turn}
+use Rattle.hd_turn_store.specs.Rows.{read_turn}
 use Rattle.hd_journal_file.specs.Restored.{TakesRows}
 use Rattle.hd_journal_file.proofs.restoring.take_rows.Given as goal
 

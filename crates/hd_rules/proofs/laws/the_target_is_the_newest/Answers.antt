@@ -6,5 +6,5 @@ pub returns : goal.returns
 returns c = record {
   found = target_is;
   none = no_target_is;
-  split = λ older x newer rising. (before_split 1 older x newer rising, less_split 1 older x newer rising);
+  split = λ n older x newer rising. (before_split n older x newer rising, less_split n older x newer rising);
 }

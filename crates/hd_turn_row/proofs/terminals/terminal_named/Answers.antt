@@ -1,8 +1,9 @@
 use Rattle.std.proofs.Common.{◌≡◌, Some, sym, subst, below_more, arith}
 use Rattle.hd_catalogue.specs.Contents.{facts_of, terminal_name}
 use Rattle.hd_catalogue.specs.Names.{name_at}
-use Rattle.hd_turn_row.proofs.NumberLemmas.{differ, no_number, number_known, other_name}
+use Rattle.hd_turn_row.proofs.NumberLemmas.{differ, number_known, other_name}
 use Rattle.hd_turn_row.proofs.terminals.terminal_named.Goals as goal
+use Rattle.hd_lemmas.proofs.Options.{no_number}
 
 pub loop-number-preserved : goal.loop-number-preserved
 unfolding terminal_name

@@ -1,11 +1,11 @@
-use Rattle.std.proofs.Common.{◌≡◌, ◌∙◌, sym, ap, subst}
+use Rattle.std.proofs.Common.{◌∙◌, sym, ap, subst}
 use Rattle.std.specs.Arc.{arc_value}
 use Rattle.hd_rules.specs.declared.copies.CopyState.TheVariants.{Shelf}
 use Rattle.hd_rules.specs.Desk.{Desk}
 use Rattle.hd_rules.specs.Sound.{Sound}
 use Rattle.hd_catalogue.specs.Contents.{Contents, facts_of}
 use Rattle.hd_desk.specs.Desks.{IsKeptDesk}
-use Rattle.hd_desk.proofs.Kept.{kept-opening, sound-opening}
+use Rattle.hd_desk.proofs.Kept.{kept-opening, opening-home, opens, sound-opening}
 use Rattle.hd_desk.proofs.Planned.{desk-opened, desk-opening}
 use Rattle.hd_desk.proofs.desk.Desk.open.Goals as goal
 
@@ -23,9 +23,13 @@ returns-clause-opening g c =
     desk-opening c.in_ok-copies.copies c.in_ok-holds.holds (facts_of (arc_value c.args.catalogue))
     (c.in_ok-copies.ensures.at_home ∙ ap (λ (x : Contents). λ n. Shelf ((facts_of x).home n)) c.in_ok-try_clone.ensures)
     c.in_ok-holds.ensures.none
+    ∙ sym (opening-home (arc_value c.args.catalogue))
+
+pub returns-clause-opens : goal.returns-clause-opens
+returns-clause-opens g c = opens c.in_ok-copies.copies.contents c.in_ok-copies.ensures.range
 
 pub returns-clause-sound : goal.returns-clause-sound
-returns-clause-sound g c = λ n.
+returns-clause-sound g c = λ n above.
     let k = facts_of c.in_ok-copies.copies.contents in
     let opened = desk-opened c.in_ok-copies.copies c.in_ok-holds.holds _
     c.in_ok-copies.ensures.contents c.in_ok-copies.ensures.at_home c.in_ok-holds.ensures.none in

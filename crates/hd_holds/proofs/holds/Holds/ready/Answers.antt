@@ -2,8 +2,28 @@ use Rattle.std.proofs.Common.{arith}
 use Rattle.std.proofs.Math.ListN.{set}
 use Rattle.std.specs.Arc.{arc_value}
 use Rattle.hd_holds.proofs.Kept.{ReadsPlace, index-within, kept, place-within, placed-own, placed-ready, queues-few, ready-added, ready-written, reads-own, written-own}
-use Rattle.hd_holds.proofs.Queues.{queue-ready}
+use Rattle.hd_holds.proofs.Queues.{Reads, queue-ready}
+use Rattle.hd_holds.proofs.holds.Holds.ready.Given.{Over}
+use Rattle.hd_holds.proofs.holds.Holds.ready.Goals.{After-index-place, After-index_mut}
 use Rattle.hd_holds.proofs.holds.Holds.ready.Goals as goal
+
+-- the title's place, as it was read
+at : (g : Over) (c : After-index-place g) → ReadsPlace (arc_value c.self.inside.catalogue) c.self.inside.places.items
+    c.self.inside.queues.items c.args.self.now c.number-at.result c.args.title c.index-place.result.now
+at g c = record {
+  same = c.self.view_is;
+  all = c.self.invariant;
+  index = c.number-at.ensures.value;
+  within = c.requires;
+  read = c.index-place.ensures;
+}
+
+-- and the queue that stands there
+reads : (g : Over) (c : After-index_mut g) → ReadsPlace (arc_value c.self.inside.catalogue) c.self.inside.places.items
+    c.self.inside.queues.items c.args.self.now c.number-at.result c.args.title c.index-place.result.now
+    → Reads (kept (arc_value c.self.inside.catalogue) c.self.inside.places.items c.self.inside.queues.items) c.args.self.now
+    c.args.title c.index_mut.result.now
+reads g c place = reads-own place c.if-place-gt0.true c.index_mut.result.now c.index_mut.ensures.value
 
 pub index-place-requires : goal.index-place-requires
 index-place-requires g c =
@@ -11,47 +31,24 @@ index-place-requires g c =
 
 pub index_mut-requires : goal.index_mut-requires
 index_mut-requires g c =
-    let at : ReadsPlace (arc_value c.self.inside.catalogue) c.self.inside.places.items c.self.inside.queues.items c.args.self.now
-    c.number-at.result c.args.title c.index-place.result.now =
-    record {
-      same = c.self.view_is;
-      all = c.self.invariant;
-      index = c.number-at.ensures.value;
-      within = c.requires;
-      read = c.index-place.ensures;
-    } in
-    omega (arith, place-within at, c.self.inside.queues.ok.0)
+    omega (arith, place-within (at g (goal.at.index_mut-requires g c).After-index-place), c.self.inside.queues.ok.0)
 
 pub invariant_of-self : goal.invariant_of-self
 invariant_of-self g c =
-    let at : ReadsPlace (arc_value c.self.inside.catalogue) c.self.inside.places.items c.self.inside.queues.items c.args.self.now
-    c.number-at.result c.args.title c.index-place.result.now =
-    record {
-      same = c.self.view_is;
-      all = c.self.invariant;
-      index = c.number-at.ensures.value;
-      within = c.requires;
-      read = c.index-place.ensures;
-    } in
-    let reads = reads-own at c.if-place-gt0.true c.index_mut.result.now c.index_mut.ensures.value in
-    placed-own at c.if-place-gt0.true c.ready.new.self (queue-ready reads c.ready.new.self c.ready.ensures.holds)
+    let there = goal.at.invariant_of-self g c in
+    let place = at g there.After-index-place in
+    placed-own place c.if-place-gt0.true c.ready.new.self
+    (queue-ready (reads g there.After-index_mut place) c.ready.new.self c.ready.ensures.holds)
 
 pub returns-then-place-gt0 : goal.returns-then-place-gt0
 returns-then-place-gt0 g c =
-    let at : ReadsPlace (arc_value c.self.inside.catalogue) c.self.inside.places.items c.self.inside.queues.items c.args.self.now
-    c.number-at.result c.args.title c.index-place.result.now =
-    record {
-      same = c.self.view_is;
-      all = c.self.invariant;
-      index = c.number-at.ensures.value;
-      within = c.requires;
-      read = c.index-place.ensures;
-    } in
-    let reads = reads-own at c.if-place-gt0.true c.index_mut.result.now c.index_mut.ensures.value in
+    let there = goal.at.returns-then-place-gt0 g c in
+    let place = at g there.After-index-place in
     let queues = set c.self.inside.queues.items c.index-place.result.now c.ready.new.self in
     let is =
-    ready-written c.ready.result reads (kept (arc_value c.self.inside.catalogue) c.self.inside.places.items queues) c.args.more
-    c.ready.new.self (written-own at c.if-place-gt0.true c.ready.new.self) c.ready.ensures.holds c.ready.ensures.ok c.ready.ensures.err
+    ready-written c.ready.result (reads g there.After-index_mut place)
+    (kept (arc_value c.self.inside.catalogue) c.self.inside.places.items queues) c.args.more c.ready.new.self
+    (written-own place c.if-place-gt0.true c.ready.new.self) c.ready.ensures.holds c.ready.ensures.ok c.ready.ensures.err
     c.ready.ensures.full c.ready.ensures.room in
     record { held = is.held; contents = is.contents; ok = is.ok; err = is.err; full = is.full; room = is.room }
 
@@ -63,30 +60,14 @@ add_queue-requires-clause-few g c = queues-few c.self.invariant
 
 pub invariant_of-self-then-more-gt0 : goal.invariant_of-self-then-more-gt0
 invariant_of-self-then-more-gt0 g c =
-    let at : ReadsPlace (arc_value c.self.inside.catalogue) c.self.inside.places.items c.self.inside.queues.items c.args.self.now
-    c.number-at.result c.args.title c.index-place.result.now =
-    record {
-      same = c.self.view_is;
-      all = c.self.invariant;
-      index = c.number-at.ensures.value;
-      within = c.requires;
-      read = c.index-place.ensures;
-    } in
-    placed-ready at (omega (arith, c.if-place-gt0.false)) c.add_queue.new.places.items c.add_queue.new.queues.items c.args.more c.if-more-gt0.true
-    c.add_queue.result c.add_queue.ensures.places c.add_queue.ensures.queues c.add_queue.ensures.err_places c.add_queue.ensures.err_queues
+    placed-ready (at g (goal.at.invariant_of-self-then-more-gt0 g c).After-index-place) (omega (arith, c.if-place-gt0.false))
+    c.add_queue.new.places.items c.add_queue.new.queues.items c.args.more c.if-more-gt0.true c.add_queue.result
+    c.add_queue.ensures.places c.add_queue.ensures.queues c.add_queue.ensures.err_places c.add_queue.ensures.err_queues
 
 pub returns-then-more-gt0 : goal.returns-then-more-gt0
 returns-then-more-gt0 g c =
-    let at : ReadsPlace (arc_value c.self.inside.catalogue) c.self.inside.places.items c.self.inside.queues.items c.args.self.now
-    c.number-at.result c.args.title c.index-place.result.now =
-    record {
-      same = c.self.view_is;
-      all = c.self.invariant;
-      index = c.number-at.ensures.value;
-      within = c.requires;
-      read = c.index-place.ensures;
-    } in
     let is =
-    ready-added at (omega (arith, c.if-place-gt0.false)) c.add_queue.new.places.items c.add_queue.new.queues.items c.args.more c.if-more-gt0.true
-    c.add_queue.result c.add_queue.ensures.places c.add_queue.ensures.queues c.add_queue.ensures.err_places c.add_queue.ensures.err_queues in
+    ready-added (at g (goal.at.returns-then-more-gt0 g c).After-index-place) (omega (arith, c.if-place-gt0.false))
+    c.add_queue.new.places.items c.add_queue.new.queues.items c.args.more c.if-more-gt0.true c.add_queue.result
+    c.add_queue.ensures.places c.add_queue.ensures.queues c.add_queue.ensures.err_places c.add_queue.ensures.err_queues in
     record { held = is.held; contents = is.contents; ok = is.ok; err = is.err; full = is.full; room = is.room }

@@ -5,12 +5,13 @@ use Rattle.hd_journal.specs.Asks.{turn_with_reply}
 use Rattle.hd_journal.specs.Books.{Book, IsLegalBook, facts}
 use Rattle.hd_journal.specs.Running.{Running, state_at}
 use Rattle.hd_journal.specs.Telling.{after_turn, kept_by}
-use Rattle.hd_journal.proofs.Keeping.{Makes, legal_book, kept_there, makes_kept, makes_turn, no_turn, on_err}
+use Rattle.hd_journal.proofs.Keeping.{Makes, legal_book, kept_there, makes_kept, makes_turn, no_turn}
 use Rattle.hd_journal.proofs.Keeping.{carried_answer, carried_work, repeat_answer, repeat_work}
 use Rattle.hd_journal.proofs.Raising.{rise_none}
 use Rattle.hd_journal.proofs.journal.Journal.take.Given.{Over}
 use Rattle.hd_journal.proofs.journal.Journal.take.Goals.{After-add_repeat, After-add}
 use Rattle.hd_journal.proofs.journal.Journal.take.Goals as goal
+use Rattle.hd_lemmas.proofs.Results.{on_err}
 
 pub returns-in_err-ready-clause-legal : goal.returns-in_err-ready-clause-legal
 returns-in_err-ready-clause-legal g c =

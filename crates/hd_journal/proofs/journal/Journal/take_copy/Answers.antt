@@ -1,8 +1,9 @@
 use Rattle.std.proofs.Common.{sym, subst, IfOk}
 use Rattle.hd_journal.specs.Asks.{SeatMessage, IsKnownMessage}
 use Rattle.hd_journal.specs.Books.{AddsTurn, facts}
-use Rattle.hd_journal.proofs.Keeping.{on_err, still_book}
+use Rattle.hd_journal.proofs.Keeping.{still_book}
 use Rattle.hd_journal.proofs.journal.Journal.take_copy.Goals as goal
+use Rattle.hd_lemmas.proofs.Results.{on_err}
 
 pub returns-in_err-own-clause-err : goal.returns-in_err-own-clause-err
 returns-in_err-own-clause-err g c = on_err _ _ (still_book c.args.self.now)

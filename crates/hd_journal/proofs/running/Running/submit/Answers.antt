@@ -16,13 +16,13 @@ use Rattle.hd_desk.specs.Desks.{desk_of}
 use Rattle.hd_desk.specs.DoneValue.{done_of}
 use Rattle.hd_records.specs.RecordsValue.{AreListed, HasRoomFor}
 use Rattle.hd_records.specs.Survivors.{survivor_of, survivors_of}
+use Rattle.hd_journal.specs.Deciding.{running_at}
 use Rattle.hd_journal.specs.Running.{IsRunning, Running, Submitted}
 use Rattle.hd_journal.specs.Stored.{AreStored}
 use Rattle.hd_journal.proofs.Raising.{rise_step}
 use Rattle.hd_journal.proofs.Runs.{sound_below}
 use Rattle.hd_journal.proofs.Stored.{stored_more, survivors_joined}
 use Rattle.hd_journal.proofs.Submitting.{running_more, submitted_done}
-use Rattle.hd_journal.proofs.Withdrawing.{running_at}
 use Rattle.hd_journal.proofs.running.Running.submit.Goals as goal
 
 pub ready-requires : goal.ready-requires
@@ -54,14 +54,14 @@ push-requires-clause-listed g c =
 pub apply-requires-clause-sound : goal.apply-requires-clause-sound
 apply-requires-clause-sound g c =
     let k = facts_of c.self.inside.desk.copies.contents in
-    let same : c.last-number.result ≡ c.self.inside.records.last = c.last-number.ensures ∙ c.in_ok-ready.ensures.last in
+    let same : c.last-number.result ≡ c.self.inside.records.last = c.last-number.ensures.last ∙ c.in_ok-ready.ensures.last in
     subst (λ (n : ℕ). Sound k (n + 1) (desk_of c.self.inside.desk)) (sym same)
     (sound_below c.laws.ensures.commands k (survivors_of c.self.inside.records.records) (c.self.inside.records.last + 1)
-    (desk_of c.self.inside.desk) c.self.invariant.0.desk c.self.invariant.0.may_run.rising c.self.invariant.0.last)
+    (desk_of c.self.inside.desk) c.self.invariant.0.desk c.self.invariant.0.may_run c.self.invariant.0.last)
 
 pub push-requires-clause-number : goal.push-requires-clause-number
 push-requires-clause-number g c =
-    ap (λ (x : Record). x.number) c.record_of-record.ensures ∙ ap (λ (n : ℕ). n + 1) c.last-number.ensures
+    ap (λ (x : Record). x.number) c.record_of-record.ensures ∙ ap (λ (n : ℕ). n + 1) c.last-number.ensures.last
 
 pub invariant_of-self-in-Ok : goal.invariant_of-self-in-Ok
 invariant_of-self-in-Ok g c =
@@ -69,7 +69,7 @@ invariant_of-self-in-Ok g c =
     let k = facts_of contents in
     let rs = c.self.inside.records.records in
     let n : ℕ = c.last-number.result in
-    let same : n ≡ c.self.inside.records.last = c.last-number.ensures ∙ c.in_ok-ready.ensures.last in
+    let same : n ≡ c.self.inside.records.last = c.last-number.ensures.last ∙ c.in_ok-ready.ensures.last in
     let r : Running = running_at contents rs n in
     let runs : IsRunning r (desk_of c.self.inside.desk) =
     subst (λ (m : ℕ). IsRunning (running_at contents rs m) (desk_of c.self.inside.desk)) (sym same) c.self.invariant.0 in
@@ -86,7 +86,7 @@ invariant_of-self-in-Ok g c =
     subst (λ (x : Running). IsKnownAction (facts_of x.contents) c.args.command.now.action) (sym c.self.view_is) c.requires.known in
     let more : c.push.new.self.records ≡ rs ++ kept ∷ [] =
     c.push.ensures.records ∙ (λ j. c.in_ok-ready.ensures.records j ++ c.record_of-record.ensures j ∷ []) in
-    let last : n + 1 ≡ c.push.new.self.last = sym (c.push.ensures.last ∙ ap (λ (m : ℕ). m + 1) (sym c.last-number.ensures)) in
+    let last : n + 1 ≡ c.push.new.self.last = sym (c.push.ensures.last ∙ ap (λ (m : ℕ). m + 1) (sym c.last-number.ensures.last)) in
     let desk : desk_of c.self.inside.desk ≡ run k (survivors_of rs) = c.self.invariant.0.desk in
     let one : IsRecordAt k (run k (survivors_of rs)) (survivor_of kept) kept = record {
       number = refl;
@@ -122,7 +122,7 @@ returns-in-Ok-clause-submitted g c =
     let contents = c.self.inside.desk.copies.contents in
     let rs = c.self.inside.records.records in
     let n : ℕ = c.last-number.result in
-    let same : n ≡ c.self.inside.records.last = c.last-number.ensures ∙ c.in_ok-ready.ensures.last in
+    let same : n ≡ c.self.inside.records.last = c.last-number.ensures.last ∙ c.in_ok-ready.ensures.last in
     let r : Running = running_at contents rs n in
     let kept : Record = record {
       number = n + 1;
@@ -134,7 +134,7 @@ returns-in-Ok-clause-submitted g c =
     } in
     let more : c.push.new.self.records ≡ rs ++ kept ∷ [] =
     c.push.ensures.records ∙ (λ j. c.in_ok-ready.ensures.records j ++ c.record_of-record.ensures j ∷ []) in
-    let last : n + 1 ≡ c.push.new.self.last = sym (c.push.ensures.last ∙ ap (λ (m : ℕ). m + 1) (sym c.last-number.ensures)) in
+    let last : n + 1 ≡ c.push.new.self.last = sym (c.push.ensures.last ∙ ap (λ (m : ℕ). m + 1) (sym c.last-number.ensures.last)) in
     let next : ℕ → Running = λ m. record {
       contents = c.apply.new.self.copies.contents;
       survivors = survivors_of c.push.new.self.records;

@@ -2,19 +2,20 @@ use Rattle.std.proofs.Common.{subst, inl}
 use Rattle.std.specs.Arc.{arc_value}
 use Rattle.hd_catalogue.specs.Contents.{Contents}
 use Rattle.hd_journal.specs.Shown.{turn_shown}
-use Rattle.hd_ledger.specs.Rows.{turn_of_row}
+use Rattle.hd_turn_store.specs.Rows.{turn_of_row}
 use Rattle.hd_journal_file.specs.Rows.{IsTurnRow}
-use Rattle.hd_journal_file.proofs.Results.{any_ok, any_err, ok_under, err_under}
+use Rattle.hd_journal_file.proofs.Results.{any_ok, ok_under, err_under}
 use Rattle.hd_journal_file.proofs.file.JournalFileTurnTable.commit.Goals as goal
+use Rattle.hd_lemmas.proofs.Results.{on_err}
 
 pub returns-in_err-came-clause-err : goal.returns-in_err-came-clause-err
 returns-in_err-came-clause-err g c =
-    any_err c.from_residual.result _ (λ turns left legal holds leaves.
+    on_err c.from_residual.result _ (λ turns left legal holds leaves.
     inl (c.a_crash_leaves_what_is_seen.ensures (arc_value c.args.self.now.catalogue) turns left (holds leaves.0) leaves.1))
 
 pub returns-in_err-row-clause-err : goal.returns-in_err-row-clause-err
 returns-in_err-row-clause-err g c =
-    any_err c.from_residual-in_err-row.result _ (λ turns left legal holds leaves.
+    on_err c.from_residual-in_err-row.result _ (λ turns left legal holds leaves.
     inl (c.a_crash_leaves_what_is_seen.ensures (arc_value c.args.self.now.catalogue) turns left (holds leaves.0) leaves.1))
 
 pub returns-clause-ok : goal.returns-clause-ok

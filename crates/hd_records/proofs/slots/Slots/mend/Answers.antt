@@ -13,8 +13,9 @@ use Rattle.hd_records.specs.declared.slots.Slot.{Slot}
 use Rattle.hd_records.specs.Laid.{AreLaid, record_in, records_in}
 use Rattle.hd_records.specs.Slots.{shift_slot, records_there}
 use Rattle.hd_records.specs.SlotsValue.{SlotsValue}
-use Rattle.hd_records.proofs.Laid.{laid_mended, length_stored, mended, none_mended, nothing_mended, stands_here, stored_mended}
-use Rattle.hd_records.proofs.slots.Slots.mend.Goals.{else-slot-via-then-slot+else-is_some, else-slot-via-else-slot}
+use Rattle.hd_records.proofs.Laid.{Stands, laid_mended, length_stored, mended, none_mended, nothing_mended, stands_here, stored_mended}
+use Rattle.hd_records.proofs.slots.Slots.mend.Given.{Over}
+use Rattle.hd_records.proofs.slots.Slots.mend.Goals.{After-index-slot, else-slot-via-then-slot+else-is_some, else-slot-via-else-slot}
 use Rattle.hd_records.proofs.slots.Slots.mend.Goals as goal
 
 small_in : (k : Facts) (o : Option Kept) (fs : List Finding) (cs : List Change) → is_some o ≡ true
@@ -36,32 +37,33 @@ index-slot-requires g c =
       length_stored c.self.inside.slots.items c.self.inside.findings.items c.self.inside.changes.items,
     )
 
+-- where the slot's values stand
+at : (g : Over) (c : After-index-slot g) → Stands 0 0 c.args.place c.index-slot.result.now c.self.inside.slots.items
+    c.self.inside.findings.items c.self.inside.changes.items
+at g c =
+    stands_here c.args.place c.index-slot.result.now c.self.inside.slots.items c.self.inside.findings.items c.self.inside.changes.items
+    c.index-slot.ensures (subst (λ (v : SlotsValue). c.args.place < length v.items) (sym c.self.view_is) c.requires.there) c.self.invariant
+
 pub mend_at-requires-clause-there : goal.mend_at-requires-clause-there
 mend_at-requires-clause-there g c =
-    let ss : List Slot = c.self.inside.slots.items in
-    let fs : List Finding = c.self.inside.findings.items in
-    let cs : List Change = c.self.inside.changes.items in
-    let there = subst (λ (v : SlotsValue). c.args.place < length v.items) (sym c.self.view_is) c.requires.there in
-    let at = stands_here c.args.place c.index-slot.result.now ss fs cs c.index-slot.ensures there c.self.invariant in
-    omega (arith, at.asked, at.findings, c.self.inside.findings.ok.0)
+    let is = at g (goal.at.mend_at-requires-clause-there g c).After-index-slot in
+    omega (arith, is.asked, is.findings, c.self.inside.findings.ok.0)
 
 pub mend_at-requires-clause-small : goal.mend_at-requires-clause-small
 mend_at-requires-clause-small g c =
+    let is = at g (goal.at.mend_at-requires-clause-small g c).After-index-slot in
     let k : Facts = facts_of c.args.catalogue.now in
     let s : Slot = c.index-slot.result.now in
-    let ss : List Slot = c.self.inside.slots.items in
     let fs : List Finding = c.self.inside.findings.items in
     let cs : List Change = c.self.inside.changes.items in
-    let there = subst (λ (v : SlotsValue). c.args.place < length v.items) (sym c.self.view_is) c.requires.there in
-    let at = stands_here c.args.place s ss fs cs c.index-slot.ensures there c.self.invariant in
-    let known : EachRecordIsKnown k (records_there (get_or (records_in ss fs cs) c.args.place None ∷ [])) =
+    let known : EachRecordIsKnown k (records_there (get_or (records_in c.self.inside.slots.items fs cs) c.args.place None ∷ [])) =
     subst (λ (v : SlotsValue). EachRecordIsKnown k (records_there (get_or v.items c.args.place None ∷ []))) (sym c.self.view_is)
     c.requires.known in
-    let first : at.before ≡ s.findings.first = omega (arith, at.asked) in
+    let first : is.before ≡ s.findings.first = omega (arith, is.asked) in
     subst (λ (n : ℕ). EachIsSmall (take s.findings.count (drop n fs))) first
-    (small_in k s.kept (take s.findings.count (drop at.before fs)) (take s.changes.count (drop at.ahead cs))
+    (small_in k s.kept (take s.findings.count (drop is.before fs)) (take s.changes.count (drop is.ahead cs))
     (sym c.is_some.ensures ∙ c.if-is_some.true)
-    (subst (λ (o : Option Record). EachRecordIsKnown k (records_there (o ∷ []))) at.is known))
+    (subst (λ (o : Option Record). EachRecordIsKnown k (records_there (o ∷ []))) is.is known))
 
 pub invariant_of-self : goal.invariant_of-self
 invariant_of-self g c =
@@ -97,21 +99,18 @@ returns-then-is_some-clause-items g c =
 
 pub returns-else-slot-clause-items : goal.returns-else-slot-clause-items
 returns-else-slot-clause-items g c =
+    let is = at g (goal.at.returns-else-slot-clause-items g c).After-index-slot in
     let k : Facts = facts_of c.args.catalogue.now in
     let s : Slot = c.index-slot.result.now in
-    let ss : List Slot = c.self.inside.slots.items in
-    let fs : List Finding = c.self.inside.findings.items in
-    let cs : List Change = c.self.inside.changes.items in
-    let there = subst (λ (v : SlotsValue). c.args.place < length v.items) (sym c.self.view_is) c.requires.there in
-    let at = stands_here c.args.place s ss fs cs c.index-slot.ensures there c.self.invariant in
-    let xs : List Finding = take s.findings.count (drop at.before fs) in
-    let ys : List Change = take s.changes.count (drop at.ahead cs) in
+    let rs : List (Option Record) = records_in c.self.inside.slots.items c.self.inside.findings.items c.self.inside.changes.items in
+    let xs : List Finding = take s.findings.count (drop is.before c.self.inside.findings.items) in
+    let ys : List Change = take s.changes.count (drop is.ahead c.self.inside.changes.items) in
     subst
     (λ (v : SlotsValue). v.items ≡ set v.items c.args.place (shift_slot k c.args.changes.now (get_or v.items c.args.place None)))
     c.self.view_is
     (elim c.else-slot.branch [
-      | else-slot-via-then-slot+else-is_some w ↦ none_mended k c.args.changes.now c.args.place (records_in ss fs cs)
-          (at.is ∙ none_in s.kept xs ys (sym w.is_some.ensures ∙ w.if-is_some.false))
-      | else-slot-via-else-slot w ↦ nothing_mended k c.args.changes.now c.args.place (records_in ss fs cs) s.kept xs ys at.is
-          (sym at.counts ∙ w.if-slot.false)
+      | else-slot-via-then-slot+else-is_some w ↦ none_mended k c.args.changes.now c.args.place rs
+          (is.is ∙ none_in s.kept xs ys (sym w.is_some.ensures ∙ w.if-is_some.false))
+      | else-slot-via-else-slot w ↦ nothing_mended k c.args.changes.now c.args.place rs s.kept xs ys is.is
+          (sym is.counts ∙ w.if-slot.false)
     ])

@@ -1,6 +1,6 @@
 use Rattle.std.proofs.Common.{◌≡◌, ◌-◌, sym, Some, None}
 use Rattle.std.specs.FinMap.{get}
-use Rattle.hd_shelf.proofs.CopiesByPlace.{remove-absent}
+use Rattle.hd_lemmas.proofs.Maps.{remove-absent}
 use Rattle.hd_shelf.proofs.ShelfLemmas.{IsKept-take, board_is_not_all_free}
 use Rattle.hd_shelf.proofs.places.Places.take.Goals as goal
 

@@ -1,8 +1,0 @@
-use Rattle.sqlite.specs.Held.{state}
-use Rattle.hd_ledger.proofs.Begins.{puts_head}
-use Rattle.hd_ledger.proofs.parts.put_head.Goals as goal
-
-pub returns-clause-ok : goal.returns-clause-ok
-returns-clause-ok g c clean has =
-    let ran = rw c.in_ok-execute.was at (c.execute.ensures.runs clean (rw has.inside)) in
-    puts_head (state g.S.Store c.args.tx.now.conn.now) (state g.S.Store c.execute.new.self.conn.now) c.args.digest.now _ has ran.0

@@ -1,0 +1,9 @@
+pub mod Lining
+pub mod Printed
+pub mod Prefixes
+pub mod Opening
+pub mod Playing
+pub mod Replayed
+pub mod Reading
+pub mod Ended
+pub mod Determined

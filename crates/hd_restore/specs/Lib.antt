@@ -1,2 +1,0 @@
--- A journal's file, opened.
-pub mod Opening

@@ -1,0 +1,48 @@
+-- What a STRICT table makes of values of its columns' kinds: nothing.
+use Rattle.std.proofs.Common.{◌≡◌, ℕ, pos, List, [], ◌∷◌, Bool, true, false, cond, Option, Some, None, refl}
+use Rattle.sqlite.specs.declared.types.Value.{Value}
+use Rattle.sqlite.specs.declared.types.Value.TheVariants.{Null, Int, Text as Words, Blob as Bytes}
+use Rattle.sqlite.specs.Values.{or_null}
+use Rattle.sqlite.specs.Ops.{unary}
+use Rattle.sqlite.specs.Kind.TheVariants.{Integer, Text}
+use Rattle.sqlite.specs.Cast.{cast}
+use Rattle.sqlite_rules.specs.Cast.{cast_row}
+use Rattle.sqlite_sql.specs.Term.{eval_all}
+use Rattle.hd_turn_store.specs.Kept.{KeptTurn, cells, number_cell}
+use Rattle.hd_turn_store.specs.Tables.{turn_table}
+use Rattle.hd_turn_store.proofs.InsertTexts.{turn_terms}
+
+either : (b : Bool) (x : Value) → cond b x x ≡ x
+either true x = refl
+either false x = refl
+
+pub cast_null : cast Integer Null ≡ Null
+unfolding unary
+cast_null = either _ Null
+
+pub cast_int : (n : ℕ) → cast Integer (Int (pos n)) ≡ Int (pos n)
+unfolding unary
+cast_int n = either _ (Int (pos n))
+
+cast_number : (n : Option ℕ) → cast Integer (or_null number_cell n) ≡ or_null number_cell n
+cast_number None = cast_null
+cast_number (Some n) = cast_int n
+
+cast_words : (t : Option (List ℕ)) → cast Text (or_null Words t) ≡ or_null Words t
+cast_words None = refl
+cast_words (Some t) = refl
+
+-- the row of a turn before it has its number
+pub cast_turn : (k : KeptTurn) → cast_row turn_table (eval_all turn_terms (cells k ∷ [])) ≡ Null ∷ Null ∷ cells k
+unfolding cells
+cast_turn k =
+    rw (cast_null, cast_int k.seat, cast_words k.asked.patron, cast_words k.asked.copy, cast_words k.asked.title, cast_words k.asked.branch, cast_words k.asked.admits, cast_words k.asked.until, cast_number k.number)
+
+-- the values of a turn, each known by itself
+pub cells_are : (k : KeptTurn) (seat : Value) (terminal day act : List ℕ) (patron copy title branch admits until line : Value) (outcome : List ℕ) (number : Value)
+    → seat ≡ Int (pos k.seat) → terminal ≡ k.terminal → day ≡ k.day → act ≡ k.asked.act → patron ≡ or_null Words k.asked.patron → copy ≡ or_null Words k.asked.copy
+    → title ≡ or_null Words k.asked.title → branch ≡ or_null Words k.asked.branch → admits ≡ or_null Words k.asked.admits → until ≡ or_null Words k.asked.until
+    → line ≡ or_null Bytes k.line → outcome ≡ k.outcome → number ≡ or_null number_cell k.number
+    → seat ∷ Words terminal ∷ Words day ∷ Words act ∷ patron ∷ copy ∷ title ∷ branch ∷ admits ∷ until ∷ line ∷ Words outcome ∷ number ∷ Bytes k.reply ∷ [] ≡ cells k
+unfolding cells
+cells_are k seat terminal day act patron copy title branch admits until line outcome number s t d a p c i b m u l o n = rw (s, t, d, a, p, c, i, b, m, u, l, o, n)

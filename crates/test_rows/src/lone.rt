@@ -1,0 +1,56 @@
+//! A terminal alone at a journal.
+ghost use Rattle.hd_session.specs.Standing.{IsKnownTo};
+
+use crate::library::library_of;
+use hd_date::Stamp18;
+use hd_desk::Meter;
+use hd_journal::Journal;
+use hd_session::Session;
+use std::alloc::{AllocError, Allocator};
+
+/// A terminal in a session, alone at a journal, over memory of an allocator.
+#[derive(Drop)]
+pub(crate) struct Lone<A: Allocator> {
+    journal: Journal<A>,
+    now: Stamp18,
+    session: Session<A>,
+    /// What it was answered to the last line.
+    out: Vec<u8, A>,
+    ghost known: { IsKnownTo journal.contents session.standing },
+}
+
+impl<A: Allocator + Copy> Lone<A> {
+    /// The terminal before any line, in the library of a catalogue's text and at this present. None where
+    /// there is no such library or present.
+    pub(crate) fn open(
+        rt: &HostRuntime,
+        alloc: A,
+        catalogue: &[u8],
+        now: &[u8],
+    ) -> Result<Option<Lone<A>>, AllocError> {
+        let session = Session::new(alloc)?;
+        let Some((catalogue, now)) = library_of(alloc, catalogue, now) else {
+            return Ok(None);
+        };
+        let journal = hd_journal::open(alloc, rt.alloc(), Meter::new(rt), catalogue)?;
+        Ok(Some(Lone {
+            journal,
+            now,
+            session,
+            out: Vec::new(alloc),
+        }))
+    }
+
+    /// Sends a line and its carriage return. What the line before was answered is forgotten.
+    pub(crate) fn send(&mut self, line: &[u8]) {
+        self.out.clear();
+        let _ = self
+            .session
+            .feed(line, &self.now, &mut self.journal, &mut self.out);
+    }
+
+    /// What it was answered to the last line.
+    pub(crate) fn out(&self) -> &[u8] {
+        self.out.as_slice()
+    }
+}

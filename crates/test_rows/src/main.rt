@@ -1,0 +1,53 @@
+//! Plays rows of messages and replies through `replay` and through sessions whose lines are cut into pieces;
+//! says of each whether it was answered as it is to be. Of cancellations beside many held copies it says
+//! whether they make few requests for memory.
+//!
+//! A row is a script in `data/`: `catalogue FILE` and `now DATE` say what `replay` is given. `> LINE` is a
+//! line of its input; the lines that answer it stand under it: `< LINE` whole, `<~ SESSION PART` some reply
+//! of that session with that part (several of these in a row speak of one reply), `<* SESSION` some reply of
+//! that session. `error LINE` says how `replay` ends where it doesn't end well. `gaps SESSION NUMBER` says
+//! how many gaps the session has counted at the end.
+#![tactic(auto)]
+
+mod answers;
+mod catalogues;
+mod cuts;
+mod gaps;
+mod hearing;
+mod library;
+mod lone;
+mod memory;
+mod names;
+mod replaying;
+mod row;
+mod script;
+mod terminals;
+mod ways;
+
+use crate::catalogues::read_catalogues;
+use crate::memory::cancel_with_little_memory;
+use crate::names::ROWS;
+use crate::replaying::is_replayed;
+use crate::row::Row;
+use crate::ways::hear_rows;
+use std::io;
+use test_kit::tell;
+
+fn main(rt: HostRuntime) -> io::Result<()> {
+    let mut rows = Vec::new(rt.alloc());
+    for name in ROWS {
+        rows.push(Row::read(&rt, name)?)?;
+    }
+    read_catalogues(&rt)?;
+    replay_rows(&rt, rows.as_slice())?;
+    hear_rows(&rt, rows.as_slice())?;
+    cancel_with_little_memory(&rt)
+}
+
+/// Plays each row through `replay`.
+fn replay_rows(rt: &HostRuntime, rows: &[Row]) -> io::Result<()> {
+    for row in rows {
+        tell(rt, row.name(), is_replayed(rt, row)?)?;
+    }
+    Ok(())
+}

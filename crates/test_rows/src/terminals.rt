@@ -1,0 +1,127 @@
+//! Terminals at one journal.
+ghost use Rattle.std.specs.Prelude.{◌≡◌, ◌+◌, ◌++◌, ◌∷◌, [], IfOk, OnOk, vec_len};
+ghost use Rattle.hd_catalogue.specs.Contents.{Contents};
+ghost use Rattle.hd_session.specs.Scripts.{AreKnownTo};
+ghost use Rattle.hd_session.specs.Sessions.{new_session};
+
+use crate::cuts::{Cut, pieces_of};
+use crate::library::library_of;
+use crate::row::Row;
+use hd_date::Stamp18;
+use hd_desk::Meter;
+use hd_journal::Journal;
+use hd_session::{Session, script};
+use std::alloc::{AllocError, Global};
+
+/// How many terminals there are.
+pub(crate) const TERMINALS: usize = 9;
+
+/// Terminals, each in a session, over one journal. Sessions are counted from 0.
+#[derive(Drop)]
+pub(crate) struct Terminals {
+    journal: Journal,
+    now: Stamp18,
+    sessions: Vec<Session>,
+    /// What each session was answered to the last line.
+    outs: Vec<Vec<u8>>,
+    ghost as_many: { vec_len outs ≡ vec_len sessions },
+    ghost known: { AreKnownTo journal.contents sessions.items },
+}
+
+impl Terminals {
+    /// The terminals before any line, in the library and at the present of a row. None where that has no such
+    /// library or present.
+    pub(crate) fn open(rt: &HostRuntime, row: &Row) -> Result<Option<Terminals>, AllocError> {
+        let alloc = rt.alloc();
+        let sessions = new_sessions(alloc)?;
+        let outs = empty_outs(alloc)?;
+        let Some((catalogue, now)) = library_of(alloc, row.catalogue(), row.now()) else {
+            return Ok(None);
+        };
+        let journal = hd_journal::open(alloc, alloc, Meter::new(rt), catalogue)?;
+        Ok(Some(Terminals {
+            journal,
+            now,
+            sessions,
+            outs,
+        }))
+    }
+
+    /// Sends a line of a terminal, and what ends it, cut so. What the line before was answered is forgotten.
+    pub(crate) fn send(
+        &mut self,
+        alloc: Global,
+        session: usize,
+        line: &[u8],
+        cut: Cut,
+    ) -> Result<(), AllocError> {
+        let pieces = pieces_of(alloc, session, line, cut)?;
+        for out in self.outs.iter_mut() {
+            out.clear();
+        }
+        let _ = script::run(
+            &mut self.journal,
+            &self.now,
+            self.sessions.as_mut_slice(),
+            pieces.as_slice(),
+            self.outs.as_mut_slice(),
+        );
+        Ok(())
+    }
+
+    /// What a session was answered to the last line.
+    pub(crate) fn out(&self, session: usize) -> &[u8] {
+        match self.outs.get(session) {
+            Some(out) => out.as_slice(),
+            None => b"",
+        }
+    }
+
+    /// Whether a session has ended.
+    pub(crate) fn has_ended(&self, session: usize) -> bool {
+        self.sessions
+            .get(session)
+            .is_some_and(|session| session.end().is_some())
+    }
+
+    /// How many gaps a session has counted.
+    pub(crate) fn gaps(&self, session: usize) -> Option<u64> {
+        match self.sessions.get(session) {
+            Some(session) => Some(session.gaps()),
+            None => None,
+        }
+    }
+}
+
+/// The sessions before any line.
+fn new_sessions(alloc: Global) -> Result<Vec<Session>, AllocError>
+    ensures size { IfOk result (λ sessions. vec_len sessions ≡ 9) }
+    ensures known { (k : Contents) → IfOk result (λ sessions. AreKnownTo k sessions.items) }
+{
+    let mut sessions = Vec::new(alloc);
+    for _ in 0..TERMINALS {
+        put_new(alloc, &mut sessions)?;
+    }
+    Ok(sessions)
+}
+
+/// Adds a new session.
+fn put_new(alloc: Global, sessions: &mut Vec<Session>) -> Result<(), AllocError>
+    ensures one { OnOk result (vec_len sessions.new ≡ vec_len sessions.old + 1) }
+    ensures new { OnOk result (sessions.new.items ≡ sessions.old.items ++ new_session ∷ []) }
+{
+    let session = Session::new(alloc)?;
+    sessions.push(session)?;
+    Ok(())
+}
+
+/// For each session no answer.
+fn empty_outs(alloc: Global) -> Result<Vec<Vec<u8>>, AllocError>
+    ensures { IfOk result (λ outs. vec_len outs ≡ 9) }
+{
+    let mut outs = Vec::new(alloc);
+    for _ in 0..TERMINALS {
+        outs.push(Vec::new(alloc))?;
+    }
+    Ok(outs)
+}

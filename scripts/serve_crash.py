@@ -1,0 +1,229 @@
+#!/usr/bin/env python3
+"""Stops holddesk serve --journal by kill -9 in the middle of its work, again and again, and looks that nothing is lost.
+
+    python3 scripts/serve_crash.py [--rounds N] [PROGRAM]
+
+PROGRAM is crates/holddesk/out/holddesk where it isn't given; N is 50. In each round the server is started on the same
+journal's file, and four terminals send commands and cancellations at random, until it is killed at a random moment.
+Then a copy of the file is read by the sqlite3 of Python: its integrity check has to pass, and each terminal's rows have
+to be what it was answered, in that order, with at most one more, whose reply it was waiting for. Then holddesk journal
+check takes all turns again, and what it tells has to be what the views of holddesk journal views count. At last come
+files that are refused (one that another server has open, one in no folder, one of something else, one of another
+catalogue), and a disk that is full: that needs the right to mount one, and is told as skipped where there is none.
+Needs nothing but Python 3. Status 0: nothing was lost.
+"""
+
+import dataclasses
+import os
+import random
+import re
+import shutil
+import sqlite3
+import subprocess
+import tempfile
+import threading
+import time
+
+from make_library import InTurn, branch, copy, password, patron, terminal, title
+from server import SECONDS, Server, Trouble, ask, connect, parser_of, reported, serve_words
+
+ROUNDS = 50
+TERMINALS = 4
+SEED = 1
+DATE = "20260301    100000"
+LIBRARY = InTurn(titles=2, copies=8, patrons=8, branches=2, terminals=TERMINALS, is_even=True, loan_days=(21,),
+                 renewals=(1,), loan_limits=(5,))
+GROWN = dataclasses.replace(LIBRARY, patrons=9)
+
+
+def drawn(draw):
+    """A message at random, and what its row says: act, patron, copy, title."""
+    number = draw.randrange(LIBRARY.copies) + 1
+    what, whose = copy(number), title(LIBRARY.title_of(number))
+    who, where = patron(draw.randrange(LIBRARY.patrons) + 1), branch(draw.randrange(LIBRARY.branches) + 1)
+    return draw.choice([
+        (f"11NN{DATE}{DATE}AOlib|AA{who}|AB{what}|AC|", ("checkout", who, what, None)),
+        (f"09N{DATE}{DATE}AP{where}|AOlib|AB{what}|AC|", ("checkin", None, what, None)),
+        (f"29NN{DATE}{DATE}AOlib|AA{who}|AB{what}|", ("renewal", who, what, None)),
+        (f"15+{DATE}BS{where}|BY2|AOlib|AA{who}|AJ{whose}|", ("hold", who, None, whose)),
+        (f"15-{DATE}AOlib|AA{who}|AJ{whose}|", ("delete hold", who, None, whose)),
+        (f"09N{DATE}{DATE}AP{where}|AOlib|AB{what}|AC|BIY|", ("cancel checkout", None, what, None)),
+        (f"11NN{DATE}{DATE}AOlib|AA{who}|AB{what}|AC|BIY|", ("cancel checkin", None, what, None)),
+        (f"15-{DATE}AOlib|AA{who}|AJ{whose}|BIY|", ("cancel hold", who, None, whose)),
+        (f"17{DATE}AOlib|AB{what}|", None),  # changes nothing, and has no row
+    ])
+
+
+def outcome_of(reply):
+    """What a reply says that a turn came to, and the number that it names."""
+    cancelled = re.search(r"AFCANCELLED (\d+)\|", reply)
+    if cancelled:
+        return "cancelled", int(cancelled[1])
+    return ("done" if reply[2] == "1" else "refused"), None
+
+
+class Terminal:
+    """A terminal that sends messages at random until its connection ends."""
+
+    def __init__(self, number, port, draw):
+        self.name, self.draw = terminal(number), draw
+        self.answered, self.pending = [], None
+        self.connection = connect(port)
+        reply = ask(self.connection, f"9300CN{self.name}|CO{password(number)}|".encode())
+        if reply != b"941":
+            raise Trouble(f"{self.name} is answered {reply!r} at its login")
+
+    def work(self):
+        """Sends one message after another."""
+        while True:
+            message, row = drawn(self.draw)
+            try:
+                reply = ask(self.connection, message.encode()).decode()
+            except OSError:
+                self.pending = row
+                return
+            if row:
+                self.answered.append((*row, *outcome_of(reply)))
+
+
+def kill_after(seconds, server, terminals):
+    """Has the terminals work, and kills the server after so many seconds."""
+    threads = [threading.Thread(target=terminal.work) for terminal in terminals]
+    for thread in threads:
+        thread.start()
+    time.sleep(seconds)
+    server.kill()
+    for thread in threads:
+        thread.join(SECONDS)
+
+
+def opened_copy(journal, folder):
+    """A connection of sqlite3 to a copy of a journal's files."""
+    to = os.path.join(folder, "copy")
+    for end in ("", "-wal"):
+        if os.path.exists(to + end):
+            os.remove(to + end)
+        if os.path.exists(journal + end):
+            shutil.copyfile(journal + end, to + end)
+    connection = sqlite3.connect(to)
+    if connection.execute("PRAGMA integrity_check").fetchall() != [("ok",)]:
+        raise Trouble("sqlite3 says that the file isn't whole")
+    return connection
+
+
+def compare_rows(connection, terminals, before):
+    """Compares the rows after so many with what the terminals were answered. How many rows there are."""
+    rows = {terminal.name: [] for terminal in terminals}
+    for name, *row in connection.execute(
+            "SELECT terminal, act, patron, copy, title, outcome, number FROM turn WHERE at > ? ORDER BY at", (before,)):
+        rows[name].append(tuple(row))
+    for terminal in terminals:
+        kept = rows[terminal.name]
+        told = [row if row[4] == "cancelled" else row[:5] for row in terminal.answered]
+        for row, wanted in zip(kept, told):
+            if row[:len(wanted)] != wanted:
+                raise Trouble(f"{terminal.name} was answered {wanted!r}, and the file says {row!r}")
+        more = kept[len(told):]
+        if len(kept) < len(told) or len(more) > 1 or more and more[0][:4] != terminal.pending:
+            raise Trouble(f"{terminal.name} was answered {len(told)} turns and waits for {terminal.pending!r}; "
+                          f"the file has {len(kept)}, and {more!r}")
+    return connection.execute("SELECT count(*) FROM turn").fetchone()[0]
+
+
+def compare_check(program, catalogue, journal, folder, views, turns):
+    """Compares what journal check tells with the turns, and with what the views count."""
+    done = subprocess.run([program, "journal", "check", "--catalogue", catalogue, "--journal", journal],
+                          capture_output=True, text=True, timeout=SECONDS, check=False)
+    if done.returncode != 0:
+        raise Trouble(f"journal check says {done.stderr!r}")
+    told = {name: int(count) for name, count in (line.split(": ") for line in done.stdout.splitlines())}
+    connection = opened_copy(journal, folder)
+    connection.executescript(views)
+    counted = tuple(connection.execute(f"SELECT count(*) FROM {view}").fetchone()[0] for view in ("surviving", "lent"))
+    if (told["turns"], told["survivors"], told["copies on loan"]) != (turns, *counted):
+        raise Trouble(f"journal check tells {told!r}, and there are {turns} turns, and survivors and loans {counted}")
+
+
+def compare_stops(program, catalogue, folder, rounds):
+    """Plays the rounds on one journal's file. How many turns it has then."""
+    views = subprocess.run([program, "journal", "views"], capture_output=True, text=True, timeout=SECONDS, check=True)
+    journal, turns = os.path.join(folder, "journal"), 0
+    for number in range(rounds):
+        draw = random.Random(SEED + number)
+        with Server(program, catalogue, TERMINALS, "--journal", journal) as server:
+            terminals = [Terminal(at + 1, server.port, random.Random(draw.random())) for at in range(TERMINALS)]
+            kill_after(0.02 + draw.random() / 2, server, terminals)
+        turns = compare_rows(opened_copy(journal, folder), terminals, turns)
+        compare_check(program, catalogue, journal, folder, views.stdout, turns)
+    return turns
+
+
+def compare_refusal(program, catalogue, journal, why):
+    """Looks that a server on a journal's file is refused for this reason."""
+    done = subprocess.run(serve_words(program, catalogue, 1, "--journal", journal), capture_output=True, text=True,
+                          timeout=SECONDS, check=False)
+    if (done.returncode, done.stderr) != (1, f"{why}\n"):
+        raise Trouble(f"wanted {why!r}, and it ends with {done.returncode} and says {done.stderr!r}")
+
+
+def compare_refusals(program, catalogue, folder):
+    """A second server on a file, no such folder, a file that is no journal, and another catalogue."""
+    journal = os.path.join(folder, "journal")
+    with Server(program, catalogue, TERMINALS, "--journal", journal):
+        compare_refusal(program, catalogue, journal, "another program has the journal open")
+    compare_refusal(program, catalogue, os.path.join(folder, "none", "journal"), "cannot open the journal")
+    other = os.path.join(folder, "other")
+    with sqlite3.connect(other) as connection:
+        connection.execute("CREATE TABLE something (else_)")
+    connection.close()
+    compare_refusal(program, catalogue, other, "not a journal of holddesk")
+    grown = GROWN.write(os.path.join(folder, "grown"))
+    compare_refusal(program, grown, journal, "the journal was written with another catalogue")
+    with Server(program, grown, TERMINALS, "--journal", journal, "--accept-catalogue"):
+        pass
+    compare_refusal(program, catalogue, journal, "the journal was written with another catalogue")
+
+
+def compare_full_disk(program, catalogue, folder):
+    """A disk that is full ends the server, and loses no turn that was answered. Why that was skipped, if it was."""
+    disk = os.path.join(folder, "disk")
+    os.mkdir(disk)
+    mounted = subprocess.run(["mount", "-t", "tmpfs", "-o", "size=512k", "holddesk", disk], capture_output=True,
+                             text=True, check=False)
+    if mounted.returncode != 0:
+        return f"a full disk, since none can be mounted here ({mounted.stderr.partition(chr(10))[0]})"
+    try:
+        journal = os.path.join(disk, "journal")
+        with Server(program, catalogue, TERMINALS, "--journal", journal) as server:
+            terminal = Terminal(1, server.port, random.Random(SEED))
+            terminal.work()
+            status, _, said = server.end()
+        if status != 1 or not said.endswith("the journal can't be written\n"):
+            raise Trouble(f"with a full disk it ends with {status} and says {said!r}")
+        compare_rows(opened_copy(journal, folder), [terminal], 0)
+    finally:
+        subprocess.run(["umount", disk], check=False)
+    return None
+
+
+def compare_all(program, rounds):
+    """Plays all of it: how many turns there were, and what was skipped."""
+    with tempfile.TemporaryDirectory() as folder:
+        catalogue = LIBRARY.write(os.path.join(folder, "catalogue"))
+        turns = compare_stops(program, catalogue, folder, rounds)
+        compare_refusals(program, catalogue, folder)
+        skipped = compare_full_disk(program, catalogue, folder)
+    return turns, [skipped] if skipped else []
+
+
+def main():
+    parser = parser_of(__doc__)
+    parser.add_argument("--rounds", type=int, default=ROUNDS, metavar="N", help=f"how many stops ({ROUNDS})")
+    asked = parser.parse_args()
+    turns, skipped = reported("serve_crash", compare_all, asked.program, asked.rounds)
+    print(f"serve_crash: {asked.rounds} stops, {turns} turns, none lost; {3 - len(skipped)} of 3 tests passed, "
+          f"{len(skipped)} skipped{''.join(f': {it}' for it in skipped)}")
+
+
+if __name__ == "__main__":
+    main()

@@ -1,0 +1,108 @@
+"""A holddesk serve for the scripts that ask it: how one is started, connected to, asked and ended.
+
+No script of its own: serve_smoke.py, serve_hostile.py, serve_crash.py, measure_journal.py and unproved.py import it.
+Needs nothing but Python 3.
+"""
+
+import argparse
+import os
+import re
+import socket
+import subprocess
+import sys
+
+TOP = os.path.dirname(os.path.dirname(os.path.abspath(__file__)))
+FOLDER = os.path.join(TOP, "crates", "holddesk")
+PROGRAM = os.path.join(FOLDER, "out", "holddesk")
+CATALOGUE = os.path.join(FOLDER, "data", "demonstration.catalogue")
+LOOPBACK = "127.0.0.1"
+SECONDS = 120  # the longest wait for anything
+
+
+class Trouble(Exception):
+    """What isn't as it has to be."""
+
+
+def reported(name, play, *given):
+    """What a script's play gives. What isn't as it has to be ends the script, by its name, with status 1."""
+    try:
+        return play(*given)
+    except (Trouble, OSError, subprocess.SubprocessError) as trouble:
+        sys.exit(f"{name}: {trouble}")
+
+
+def parser_of(page):
+    """The parser of a script whose page of help this is, and which takes the path of a program."""
+    summary, _, rest = page.partition("\n\n")
+    parser = argparse.ArgumentParser(description=summary, epilog=rest, usage=argparse.SUPPRESS,
+                                     formatter_class=argparse.RawDescriptionHelpFormatter)
+    parser.add_argument("program", nargs="?", default=PROGRAM, metavar="PROGRAM",
+                        help="where the program is (crates/holddesk/out/holddesk)")
+    return parser
+
+
+def serve_words(program, catalogue, workers, *words, port=0):
+    """The command line of a server at a port of the loopback, or at one that the system gives."""
+    return [program, "serve", "--catalogue", catalogue, "--listen", f"{LOOPBACK}:{port}", "--workers", str(workers),
+            *words]
+
+
+class Server:
+    """A server that listens. It is killed where it hasn't ended when the block that it is used in ends."""
+
+    def __init__(self, program, catalogue, workers, *words):
+        self.process = subprocess.Popen(serve_words(program, catalogue, workers, *words), stdin=subprocess.DEVNULL,
+                                        stdout=subprocess.PIPE, stderr=subprocess.PIPE, text=True)
+        told = []
+        for line in self.process.stderr:
+            listens = re.fullmatch(rf"listening on {re.escape(LOOPBACK)}:(\d+), {workers} workers?\n", line)
+            if listens:
+                self.port = int(listens[1])
+                return
+            told.append(line)
+        self.kill()
+        raise Trouble(f"the server doesn't listen, and says {told!r}")
+
+    def __enter__(self):
+        return self
+
+    def __exit__(self, *_):
+        if self.process.poll() is None:
+            self.kill()
+
+    def kill(self):
+        """Ends it by kill -9."""
+        self.process.kill()
+        self.process.communicate(timeout=SECONDS)
+
+    def end(self):
+        """Waits until it ends by itself: its status, what it printed, and what it said on standard error."""
+        printed, said = self.process.communicate(timeout=SECONDS)
+        return self.process.returncode, printed, said
+
+
+def connect(port, seconds=SECONDS):
+    """A connection that waits so many seconds at most for whatever is asked of it."""
+    connection = socket.create_connection((LOOPBACK, port), seconds)
+    connection.setsockopt(socket.IPPROTO_TCP, socket.TCP_NODELAY, 1)
+    return connection
+
+
+def replies_from(connection, count):
+    """So many replies, each without the carriage return that ends it."""
+    said = b""
+    while said.count(b"\r") < count:
+        piece = connection.recv(4_096)
+        if not piece:
+            raise ConnectionError(f"a connection ended after {said!r}, in the place of {count} replies")
+        said += piece
+    *replies, rest = said.split(b"\r")
+    if len(replies) > count or rest:
+        raise Trouble(f"more is answered than was asked: {said!r}")
+    return replies
+
+
+def ask(connection, message):
+    """The reply to a message, both without their carriage returns."""
+    connection.sendall(message + b"\r")
+    return replies_from(connection, 1)[0]

@@ -1,0 +1,298 @@
+#!/usr/bin/env python3
+"""Puts wrong bodies into copies of the crates, many at a time, and sees that the prover refuses each.
+
+    python3 scripts/wrong_bodies.py [--crate NAME] [--list] [--anew] [--self-test]
+
+A wrong body is a file crates/NAME/wrong/*.edit, of the form that rt ci reads in must-fail/: a line 'file: src/x.rt',
+then pairs of lines 'old: TEXT' and 'new: TEXT'; each old text stands in that file once. Edits of different functions
+are put in together, and a check looks at the edited functions alone (rattle check --only), over the proved libraries
+below. An edit comes to one of these:
+
+    refused            a goal of an edited function isn't proved: one of what it promises, of what it owes to a function
+                       that it calls, or of an invariant. Arithmetic, a cast or an index alone doesn't count. Where an
+                       answer in the function's proof files doesn't fit, it is taken out, and search tries its goal;
+                       where it didn't fit for a name alone, that goal doesn't count
+    PROVED             the edit means the same as what it replaces, or the contract lets it through
+    NOT TELLING        it is refused, also alone, but at no such goal: for a name that is gone, say
+    CAN'T BE PUT IN    the old text doesn't stand there once, or the edited crate doesn't compile
+
+What was refused is kept in ~/.cache/holddesk (or below XDG_CACHE_HOME) by a sum of all that it rests on, so that
+another run, also in another clone, tries only what changed; --anew tries all. Needs Python 3 and rt. The last line is
+'wrong bodies: N refused, M not'. Status 0: M is 0.
+"""
+
+import argparse
+import hashlib
+import os
+import re
+import shutil
+import subprocess
+import sys
+import tempfile
+from concurrent.futures import ThreadPoolExecutor
+
+from edits import Edit, edits_of, functions_of, homes_in, reached_from, read, rounds_of, sources_of
+from edits import without_answers, write
+from prove import CORES, GIGABYTES, MEMORY, TOP, said_by_rt, sums_of, uses_of_all, with_all_below
+from proved_libraries import libraries_in
+
+REFUSED, PROVED, NOT_TELLING, CANNOT = "refused", "PROVED", "NOT TELLING", "CAN'T BE PUT IN"
+# goals that say only that a step is safe, and nothing of what the function does
+SAFETY = re.compile(r"(overflow|cast|index|bounds|slice|div|rem|shift|neg|unwrap|expect)(_\w+)?(-|$)")
+OPEN_GOAL = re.compile(r"(?:note: )?(?:\./)?(src/[^:]+):(\d+):\d+: it is not proved that (.*?) \(`([^`]+)`\)")
+# what is said of an answer that doesn't fit only because a step or a goal has another name, or is gone
+MISNAMED = re.compile(
+    r"has no field|is not in scope|has no `|was not admitted|was not checked|needs a function type"
+    r"|one has `c\.(?!args)([\w-]+)[.`].*the other has `c\.(?!args|\1[.`])[\w-]+[.`]"
+)
+# how often edits are tried together; what is open then is tried alone
+ROUNDS = 3
+# what --self-test tries: edits of hd_day's src/day.rt, and what each must come to
+SELF_TEST = [
+    ("another_day", REFUSED, "Day { number: 0 }", "Day { number: 1 }"),
+    ("means_the_same", PROVED, "        if number < DAYS {", "        if !(DAYS <= number) {"),
+    ("overflow_alone", NOT_TELLING, "        self.number", "        let _ = self.number + 4_294_967_000; self.number"),
+    ("does_not_compile", CANNOT, "Day { number: 0 }", "Day { count: 0 }"),
+    ("old_text_missing", CANNOT, "Day { number: 7 }", "Day { number: 8 }"),
+]
+
+
+class Bench:
+    """A copy of a crate in which edits are checked, and the processor seconds that this took."""
+
+    def __init__(self, crate, uses, libraries, room):
+        self.crate, self.top, self.room = crate, os.path.join(TOP, "crates", crate), room
+        self.seconds, self.instead = 0, {}
+        for part in ("src", "specs", "proofs"):
+            if os.path.isdir(os.path.join(self.top, part)):
+                shutil.copytree(os.path.join(self.top, part), os.path.join(room, part))
+        kit = os.path.dirname(said_by_rt("doc"))
+        root = "main" if os.path.isfile(os.path.join(room, "src", "main.rt")) else "lib"
+        self.words = [f"{kit}/bin/rattle", "check", "--crate-name", crate, f"src/{root}.rt", "--jobs", "1"]
+        for use in ["std", *uses[crate]]:
+            self.words += ["--extern", f"{use}={libraries if use in uses else kit + '/rlibs'}/{use}.rlib"]
+        self.words += ["-L", f"dependency={kit}/rlibs", "-L", f"dependency={libraries}", "--incremental", "out"]
+        self.words += ["--antt-project", f"{kit}/rattle/logic/antt-project.json", "--logic-built", f"{kit}/logic_built"]
+
+    def check(self, edits):
+        """Puts the edits in, and gives what a check of their functions says."""
+        texts = {file: text for edit in edits for file, text in edit.pruned.items()}
+        for file, old, new in (pair for edit in edits for pair in edit.pairs):
+            texts[file] = texts.get(file, read(os.path.join(self.top, file))).replace(old, new)
+        for file, text in texts.items():
+            write(os.path.join(self.room, file), text)
+        said = self.rattle({it for edit in edits for it in edit.asks()})
+        for file in texts:
+            shutil.copy(os.path.join(self.top, file), os.path.join(self.room, file))
+        return said
+
+    def rattle(self, paths):
+        """Runs the check. For a path that fits no function, or several, its module is looked at."""
+        asked = {self.instead.get(path, path) for path in paths}
+        only = [word for path in sorted(asked) for word in ("--only", path)] if all(asked) else []
+        with open(os.path.join(self.room, "log"), "w+", encoding="utf-8", errors="replace") as log:
+            words = [*self.words, *only]
+            running = subprocess.Popen(words, cwd=self.room, stdin=subprocess.DEVNULL, stdout=log, stderr=log)
+            _, status, used = os.wait4(running.pid, 0)
+            running.returncode = os.waitstatus_to_exitcode(status)
+            self.seconds += used.ru_utime + used.ru_stime
+            log.seek(0)
+            said = log.read()
+        unknown = {path for path in asked if f"`{path}`" in said and "::" in path}
+        if running.returncode != 2 or not unknown:
+            return said
+        # (a method's path ends in its type and its name, a function's in its name)
+        self.instead |= {path: re.sub(r"(::[A-Z]\w*)?::\w+$", "", path) for path in unknown}
+        return self.rattle(paths)
+
+
+def compiles(said):
+    return re.match(r"(only|logic)=", said.rstrip("\n").rpartition("\n")[2]) is not None
+
+
+def settle(edit, verdict, said):
+    """Notes what the edit came to, says it, and keeps that it was refused."""
+    edit.verdict, edit.said = verdict, said
+    print(edit, flush=True)
+    if verdict == REFUSED and edit.kept:
+        os.makedirs(os.path.dirname(edit.kept), exist_ok=True)
+        write(edit.kept, said)
+
+
+def judge(edit, said, crate):
+    """Whether the log says what the edit comes to, and if so notes it."""
+    goals = [it.groups() for it in map(OPEN_GOAL.match, said.split("\n")) if it]
+    goals = [it for it in goals if edit.is_apart or (it[0], int(it[1]) - 1) in edit.places]
+    telling = [it for it in goals if not is_of_safety(it) and it[3] not in edit.misnamed]
+    if telling:
+        file, line, what, goal = telling[0]
+        settle(edit, REFUSED, f"`{goal}`, {file}:{line}: {what}")
+    elif are_proved(edit, said, crate):
+        settle(edit, PROVED, "it means the same as what it replaces, or the contract lets it through")
+    elif goals:
+        named = " (its answer names what the edit took away)" if goals[0][3] in edit.misnamed else ""
+        edit.said = f"`{goals[0][3]}` alone{named}, {goals[0][0]}:{goals[0][1]}: {goals[0][2]}"
+    else:
+        errors = re.findall(r"^(?:\./)?((?:src|proofs)/\S+: error.*)", said, re.M)
+        own = [line for line in errors if line.startswith(tuple(folders_of(edit)))]
+        edit.said = next(iter([*own, *errors]), said.rstrip().rpartition("\n")[2])[:200]
+    return edit.verdict is not None
+
+
+def is_of_safety(goal):
+    """Whether it says only that a step is safe, or that a loop ends."""
+    return bool(SAFETY.match(goal[3])) or goal[2].startswith("the loop ends")
+
+
+def are_proved(edit, said, crate):
+    """Whether the log says that all that was looked at is proved, or that the edited functions are."""
+    only = re.search(r"^only=(\d+) proved=(\d+)\n*\Z", said, re.M)
+    if only and only[1] == only[2] or re.search(r"^logic=proved.*\n*\Z", said, re.M):
+        return True
+    paths = [f"fn {crate}::{function.path}: " for function in edit.functions]
+    told = [line for line in said.split("\n") if line.startswith(tuple(paths))] if paths and not edit.is_apart else []
+    return told and len(told) == len(paths) and all(": proved" in line for line in told)
+
+
+def folders_of(edit):
+    """The folders of proofs/ that are of the edited functions."""
+    if edit.is_apart:
+        return ["proofs/"]
+    return [f"proofs/{function.path.replace('::', '/')}/" for function in edit.functions]
+
+
+def prune(edit, said, bench):
+    """Takes out of the edited functions' proof files the answers that the log refuses. Whether there were any more."""
+    folders, before = folders_of(edit), dict(edit.pruned)
+    errors = re.findall(r"^(?:\./)?(proofs/\S+/Answers\.antt):(\d+):\d+: error: (.*)", said, re.M)
+    for file in {file for file, _, _ in errors if file.startswith(tuple(folders))}:
+        text = edit.pruned[file] if file in edit.pruned else read(os.path.join(bench.top, file))
+        own = [(int(line) - 1, what) for other, line, what in errors if other == file]
+        edit.pruned[file], gone = without_answers(text, {line for line, _ in own})
+        edit.misnamed |= gone - without_answers(text, {line for line, what in own if not MISNAMED.search(what)})[1]
+    return edit.pruned != before
+
+
+def try_round(edits, bench):
+    """Tries the edits in one check. Those that are still open, and can be tried otherwise."""
+    said = bench.check(edits)
+    if compiles(said):
+        left = [edit for edit in edits if not judge(edit, said, bench.crate)]
+        return [edit for edit in left if prune(edit, said, bench) or len(edits) > 1]
+    if len(edits) == 1:
+        told = next((line for line in said.split("\n") if "error" in line), said.rstrip().rpartition("\n")[2])
+        settle(edits[0], CANNOT, told[:200])
+        return []
+    places = {(file, int(line) - 1) for file, line in re.findall(r"^(?:\./)?(src/[^:]+):(\d+):\d+: error", said, re.M)}
+    blamed = [edit for edit in edits if places & edit.places] or edits
+    rest = [edit for edit in edits if edit not in blamed]
+    left = [edit for one in blamed for edit in try_round([one], bench)]
+    return left + (try_round(rest, bench) if rest else [])
+
+
+def try_crate(edits, bench):
+    """Tries all edits of a crate, in rounds, and what these leave open alone."""
+    sources = sources_of(bench.crate)
+    homes = homes_in(sources)
+    reached = reached_from([it for file in sources for it in functions_of(file, sources[file], homes)])
+    left = []
+    for edit in edits:
+        if edit.misfit:
+            settle(edit, CANNOT, edit.misfit)
+        else:
+            left.append(edit)
+    for _ in range(ROUNDS):
+        left = [edit for some in rounds_of(left, reached) for edit in try_round(some, bench)]
+    for edit in left:
+        while try_round([edit], bench):
+            pass
+    for edit in edits:
+        if not edit.verdict:
+            settle(edit, NOT_TELLING, edit.said)
+
+
+def kept_at(edit, sums, kit):
+    """Where it is kept that the edit was refused."""
+    base = os.environ.get("XDG_CACHE_HOME") or os.path.expanduser("~/.cache")
+    scripts = [read(os.path.join(TOP, "scripts", it)) for it in ("wrong_bodies.py", "edits.py")]
+    name = hashlib.sha256(repr([kit, scripts, sums[edit.crate], edit.pairs]).encode()).hexdigest()
+    return os.path.join(base, "holddesk", "wrong-bodies", name)
+
+
+def try_all(edits, uses, room):
+    """Tries the edits, several crates side by side, those with most edits first. Each crate's processor seconds."""
+    crates = sorted({edit.crate for edit in edits}, key=lambda name: -sum(edit.crate == name for edit in edits))
+    below = with_those_below([use for crate in crates for use in uses[crate] if use in uses], uses)
+    libraries = libraries_in(room, below, uses)
+
+    def try_one(crate):
+        bench = Bench(crate, uses, libraries, os.path.join(room, crate))
+        try_crate([edit for edit in edits if edit.crate == crate], bench)
+        shutil.rmtree(bench.room)
+        return bench.seconds
+
+    with ThreadPoolExecutor(max(1, min(CORES, int(MEMORY / GIGABYTES)))) as pool:
+        return dict(zip(crates, pool.map(try_one, crates)))
+
+
+def with_those_below(crates, uses):
+    """The crates and all below them, each behind those that it uses."""
+    found = []
+    for crate in crates:
+        found = found if crate in found else with_all_below(crate, uses, found)
+    return found
+
+
+def self_test(uses, room):
+    """Whether edits of hd_day that mean the same, don't compile and so on come to what they must."""
+    homes = homes_in(sources_of("hd_day"))
+    edits = [Edit("hd_day", name, [("src/day.rt", old, new)], homes) for name, _, old, new in SELF_TEST]
+    try_all(edits, uses, room)
+    return all(edit.verdict == wanted for edit, (_, wanted, _, _) in zip(edits, SELF_TEST))
+
+
+def try_kept(edits, uses, room, is_anew):
+    """Tries the edits, but for those that were refused before as they stand."""
+    sums, kit = sums_of(with_those_below({edit.crate for edit in edits}, uses), uses), said_by_rt("version")
+    for edit in edits:
+        edit.kept = kept_at(edit, sums, kit)
+        if not is_anew and os.path.isfile(edit.kept):
+            edit.verdict, edit.said = REFUSED, read(edit.kept)
+    known = [edit for edit in edits if edit.verdict == REFUSED]
+    seconds = try_all([edit for edit in edits if edit not in known], uses, room) if len(known) < len(edits) else {}
+    for crate, used in seconds.items():
+        tried = sum(edit.crate == crate and edit not in known for edit in edits)
+        print(f"{crate}: {tried} tried in {used:.0f} processor seconds")
+    minutes = sum(seconds.values()) / 60
+    print(f"{len(edits) - len(known)} tried in {minutes:.1f} processor minutes; {len(known)} were refused before")
+
+
+def main():
+    parser = argparse.ArgumentParser(description="Puts wrong bodies in, and sees that the prover refuses each.")
+    parser.add_argument("--crate", help="try the wrong bodies of this crate alone")
+    parser.add_argument("--list", action="store_true", help="name the wrong bodies, and the functions that they change")
+    parser.add_argument("--anew", action="store_true", help="try also those that were refused before")
+    parser.add_argument("--self-test", action="store_true", help="see that edits that mustn't count as refused don't")
+    chosen, uses = parser.parse_args(), uses_of_all()
+    if chosen.crate and chosen.crate not in uses:
+        parser.error("no such crate in crates.txt")
+    with tempfile.TemporaryDirectory(prefix="wrong-bodies-") as room:
+        if chosen.self_test:
+            is_well = self_test(uses, room)
+            print("wrong bodies: the script tells them apart" if is_well else "wrong bodies: the script is wrong")
+            return 0 if is_well else 1
+        edits = [edit for crate in uses if chosen.crate in (None, crate) for edit in edits_of(crate)]
+        if chosen.list:
+            print("\n".join(f"{edit.crate}/{edit.name}: {' '.join(edit.asks())}" for edit in edits))
+            return 0
+        try_kept(edits, uses, room, chosen.anew)
+    refused = sum(edit.verdict == REFUSED for edit in edits)
+    for edit in edits:
+        if edit.verdict != REFUSED:
+            print(edit)
+    print(f"wrong bodies: {refused} refused, {len(edits) - refused} not")
+    return 0 if refused == len(edits) else 1
+
+
+if __name__ == "__main__":
+    sys.exit(main())
