@@ -82,7 +82,7 @@ wrong:
 	@python3 scripts/wrong_bodies.py
 
 # The gate: the picture of the crates; stored messages, hostile clients and stops by kill -9, played against a program
-# that is built without proofs for them; the wrong bodies that a
+# that is built without proofs for them; a seat of one hall at another, which the types refuse; the wrong bodies that a
 # script tries, many in a check, over libraries that rt ci proves and keeps; then all proofs, the wrong bodies that stand
 # for a promise, the tests and the stored runs. What was proved before and hasn't changed isn't proved again, and what
 # was refused isn't tried again.
@@ -91,6 +91,7 @@ test:
 	@folder=$$(mktemp -d) && trap 'rm -rf "$$folder"' EXIT && program=$$(python3 scripts/unproved.py "$$folder") && \
 	  python3 scripts/serve_smoke.py "$$program" && python3 scripts/serve_hostile.py "$$program" && \
 	  python3 scripts/serve_crash.py --rounds 5 "$$program"
+	@python3 scripts/foreign_seat_refused.py
 	@python3 scripts/wrong_bodies.py --self-test
 	@python3 scripts/wrong_bodies.py
 	@rt ci

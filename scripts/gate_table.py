@@ -1,13 +1,15 @@
 #!/usr/bin/env python3
 """Measures what each crate costs the gate, in seconds of processor time, and prints a table of it.
 
-    python3 scripts/gate_table.py [--at-once N] [--figures FILE] [--wrong FILE] [NAME ..]
+    python3 scripts/gate_table.py [--at-once N] [--no-edits] [--figures FILE] [--wrong FILE] [NAME ..]
 
-It runs rt ci with the name of each crate of crates.txt, the lowest first, with one job. rt keeps what it has proved on
-the machine, so that each call proves one crate: first without its must-fail edits, which tells its proof and that of
-its tests; then once more, which tells what rt does beside; then with the edits. With names it takes these crates and
-those below them. N crates are measured at once (1). FILE keeps the raw figures (out/gate_table.json), from which a run
-that was interrupted goes on. That of --wrong has what wrong_bodies.py told, lines of a crate, its seconds, its edits.
+It runs rt ci with the name of each crate of crates.txt, the lowest first. rt keeps what it has proved on the machine,
+so that each call proves one crate: first without its must-fail edits, which tells its proof and that of its tests;
+then once more, which tells what rt does beside; then with the edits, unless --no-edits says that they come in a later
+run. With names it takes these crates and those below them. N crates are measured at once (1), each with one job, or
+with more where fewer are ready. FILE keeps the raw figures (out/gate_table.json), from which another run goes on: it
+measures the crates that have changed and those above them. That of --wrong has what wrong_bodies.py told, lines of a
+crate, its seconds, its edits.
 
 What rt has kept from before can't be measured, and is told as kept: so it wants a machine where rt has kept nothing.
 How long tests' proofs and runs take is read from /proc four times a second. Needs Linux, rt and Python 3.
@@ -42,10 +44,13 @@ class Figures:
         self.path, self.lock = path, threading.Lock()
         self.by_crate = json.loads(path.read_text(encoding="utf-8")) if path.is_file() else {}
 
-    def of(self, name, now):
-        """Those of a crate that is as it was measured; none of one that changed."""
-        if self.by_crate.get(name, {}).get("sum") != now:
-            self.by_crate[name] = {"sum": now}
+    def of(self, name, proof, edits):
+        """Those of a crate that is as it was measured; none of one that changed, or of edits that changed."""
+        if self.by_crate.get(name, {}).get("proof") != proof:
+            self.by_crate[name] = {"proof": proof}
+        if self.by_crate[name].get("edits_of") != edits:
+            self.by_crate[name].pop("edits", None)
+            self.by_crate[name]["edits_of"] = edits
         return self.by_crate[name]
 
     def write(self):
@@ -86,12 +91,12 @@ def kind_of(words, name):
     return "tests" if "--test" in words else None
 
 
-def cost_of(folder, name):
+def cost_of(folder, name, jobs):
     """What rt ci of a crate costs in a folder (seconds in all, in its runs, in its tests' proof), and what it said."""
     children = {}
     with tempfile.TemporaryFile("w+", encoding="utf-8", errors="replace") as said:
         process = subprocess.Popen(["rt", "ci", name], cwd=folder, stdin=subprocess.DEVNULL, stdout=said,
-                                   stderr=subprocess.STDOUT, env={**os.environ, "RT_JOBS": "1"})
+                                   stderr=subprocess.STDOUT, env={**os.environ, "RT_JOBS": str(jobs)})
         while not (ended := os.wait4(process.pid, os.WNOHANG))[0]:
             for child, (words, seconds) in costs_of_children(process.pid).items():
                 kind, most = children.get(child, (None, 0))
@@ -110,13 +115,12 @@ def edits_of(name):
     return sorted((TOP / "crates" / name / "must-fail").glob("*.edit"))
 
 
-def measure(name, bare, figures, now):
+def measure(name, bare, raw, figures, jobs, calls):
     """Measures a crate, as far as its figures lack it."""
-    raw = figures.of(name, now)
-    for call, folder in [("first", bare), ("again", bare), ("edits", TOP)]:
+    for call in calls:
         if call in raw or call == "edits" and not edits_of(name):
             continue
-        raw[call], said = cost_of(folder, name)
+        raw[call], said = cost_of(TOP if call == "edits" else bare, name, jobs)
         if call == "first":
             raw["kept"] = f"{name} is kept" in said
         if call == "edits":
@@ -125,8 +129,9 @@ def measure(name, bare, figures, now):
     print(f"gate_table: {name} is measured", file=sys.stderr, flush=True)
 
 
-def measure_all(names, uses, figures, sums, at_once):
+def measure_all(names, uses, figures, at_once, calls):
     """Measures the crates, each after those below it, so many at once."""
+    sums = sums_of(names, uses)
     order = TopologicalSorter({name: [use for use in uses[name] if use in names] for name in names})
     order.prepare()
     running = {}
@@ -135,7 +140,10 @@ def measure_all(names, uses, figures, sums, at_once):
         for file in ("crates.txt", "HANDLES"):
             shutil.copy(TOP / file, bare)
         while order.is_active():
-            running |= {pool.submit(measure, it, bare, figures, sums[it]): it for it in order.get_ready()}
+            ready = order.get_ready()
+            jobs = max(1, at_once // max(1, len(running) + len(ready)))
+            raw = {it: figures.of(it, sums[it], sum_of_edits(it)) for it in ready}
+            running |= {pool.submit(measure, it, bare, raw[it], figures, jobs, calls): it for it in ready}
             for done in wait(running, return_when=FIRST_COMPLETED).done:
                 if done.exception():
                     pool.shutdown(cancel_futures=True)
@@ -197,11 +205,8 @@ def read_wrong(path):
     return {name: (float(seconds), int(edits)) for name, seconds, edits in lines}
 
 
-def sums_with_edits(names, uses):
-    """Of each crate a sum over all that its figures rest on."""
-    sums = sums_of(names, uses)
-    return {name: hashlib.sha256(repr((sums[name], [it.read_bytes() for it in edits_of(name)])).encode()).hexdigest()
-            for name in names}
+def sum_of_edits(name):
+    return hashlib.sha256(repr([(it.name, it.read_bytes()) for it in edits_of(name)]).encode()).hexdigest()
 
 
 def main():
@@ -210,6 +215,7 @@ def main():
     add = parser.add_argument
     add("names", nargs="*", metavar="NAME", help="these crates and those below them (all)")
     add("--at-once", type=int, default=1, metavar="N", help="how many crates are measured at once (1)")
+    add("--no-edits", action="store_true", help="leave the must-fail edits to a later run")
     add("--figures", type=Path, default=TOP / "out" / "gate_table.json", metavar="FILE", help="the raw figures")
     add("--wrong", metavar="FILE", help="what wrong_bodies.py told: lines of a crate, its seconds, its edits")
     asked, uses = parser.parse_args(), uses_of_all()
@@ -219,7 +225,8 @@ def main():
             parser.error(f"{name} isn't in crates.txt")
         names += [it for it in with_all_below(name, uses, []) if it not in names]
     figures, wrong = Figures(asked.figures), read_wrong(asked.wrong)
-    measure_all(names, uses, figures, sums_with_edits(names, uses), asked.at_once)
+    calls = ["first", "again"] if asked.no_edits else ["first", "again", "edits"]
+    measure_all(names, uses, figures, asked.at_once, calls)
     print_table(names, uses, figures, wrong)
 
 

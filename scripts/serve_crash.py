@@ -198,7 +198,7 @@ def compare_full_disk(program, catalogue, folder):
             terminal = Terminal(1, server.port, random.Random(SEED))
             terminal.work()
             status, _, said = server.end()
-        if status != 1 or not said.endswith("the journal can't be written\n"):
+        if status != 1 or not said.endswith("the journal can't be written: the disk is full\n"):
             raise Trouble(f"with a full disk it ends with {status} and says {said!r}")
         compare_rows(opened_copy(journal, folder), [terminal], 0)
     finally:

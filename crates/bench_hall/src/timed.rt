@@ -4,8 +4,8 @@ ghost use Rattle.std.specs.Prelude.{◌≡◌};
 
 use crate::spans::Spans;
 use hd_catalogue::Catalogue;
-use hd_hall::{Ask, Keeper, KeeperFault, TurnRef};
-use hd_journal::{Journal, OwnedAsk, Turn};
+use hd_hall::{Ask, Keeper, TurnRef};
+use hd_journal::{Journal, OwnedAsk, Turn, TurnFault};
 use std::alloc::{AllocError, Global};
 use std::sync::Arc;
 use std::time::{Clock, Instant};
@@ -41,8 +41,8 @@ impl<'r, R: Clock> Timed<'r, R> {
 }
 
 impl<'r, R: Clock> Keeper<Global, OwnedAsk<Global>> for Timed<'r, R> {
+    ghost use Rattle.hd_journal.specs.Faults.{IsMemory};
     ghost use Rattle.hd_journal.specs.Openings.{fresh};
-    ghost use Rattle.hd_journal.specs.declared.fault.KeeperFault.TheVariants as keeper;
 
     ghost asks = { λ ask. ask };
 
@@ -50,7 +50,9 @@ impl<'r, R: Clock> Keeper<Global, OwnedAsk<Global>> for Timed<'r, R> {
 
     ghost turns = { λ timed. timed.journal.turns };
 
-    ghost faults = { λ fault. fault ≡ keeper.Memory };
+    ghost faults = { IsMemory };
+
+    ghost causes = { λ old ask new. IsMemory };
 
     fn own(alloc: Global, ask: &Ask<'_>) -> Result<OwnedAsk<Global>, AllocError> {
         ask.to_owned(alloc)
@@ -68,10 +70,12 @@ impl<'r, R: Clock> Keeper<Global, OwnedAsk<Global>> for Timed<'r, R> {
         self.journal.turn_at(at)
     }
 
-    fn take(&mut self, own: OwnedAsk<Global>) -> Result<Turn, KeeperFault> {
+    fn take(&mut self, own: OwnedAsk<Global>) -> Result<Turn, TurnFault> {
         let since = Instant::now(self.clock).ok();
         let turn = self.journal.take(own);
-        self.note(since);
-        Ok(turn?)
+        if turn.is_ok() {
+            self.note(since);
+        }
+        turn
     }
 }

@@ -11,8 +11,8 @@ use Rattle.hd_date.specs.Stamps.{Stamp}
 use Rattle.hd_rules.specs.Journal.{Turn}
 use Rattle.hd_catalogue.specs.Contents.{Contents}
 use Rattle.hd_connection.specs.Streams.{IsCutShort, Streams}
-use Rattle.hd_journal.specs.declared.fault.OfficeFault.{OfficeFault}
-use Rattle.hd_session.specs.Sessions.{Feeds, Hearing, Piece, stream}
+use Rattle.hd_journal.specs.declared.fault.TurnFault.{TurnFault}
+use Rattle.hd_session.specs.Sessions.{Feeds, Hearing, Piece, Room, stream}
 use Rattle.hd_session.specs.declared.ended.Ended.{Ended}
 use Rattle.hd_attend.specs.Attending.{Attends, End, IsReadPiece, IsWritten, Leaves}
 use Rattle.hd_attend.specs.declared.fault.AttendFault.{AttendFault}
@@ -55,8 +55,8 @@ leaves_behind fault.Read first between last same is = is ∙ same
 leaves_behind fault.Write first between last same is = tt
 leaves_behind (fault.Ended why) first between last same is = is
 
-module _ (k : Contents) (seat : ℕ) (faults : OfficeFault → Type 0) where
-  module _ (now : Stamp) (room : ℕ) (bytes : List ℕ) (h h' : Hearing) (turns turns' : List Turn) (out out' : List ℕ)
+module _ (k : Contents) (seat : ℕ) (faults : TurnFault → Type 0) where
+  module _ (now : Stamp) (room : Room) (bytes : List ℕ) (h h' : Hearing) (turns turns' : List Turn) (out out' : List ℕ)
       (fed : Feeds k seat faults now room h bytes h' turns turns' out out') where
     -- a session that goes on after a piece went on before it
     pub on_after : h'.ended ≡ None → h'.ended ≡ h.ended

@@ -4,29 +4,26 @@ use Rattle.std.proofs.Common.{arith, refl, sym, ap, ◌∙◌, subst, append_ass
 use Rattle.hd_date.specs.Stamps.{Stamp}
 use Rattle.hd_rules.specs.Journal.{Turn}
 use Rattle.hd_catalogue.specs.Contents.{Contents}
-use Rattle.hd_journal.specs.declared.fault.OfficeFault.{OfficeFault}
-use Rattle.hd_session.specs.Sessions.{AreFedTo, Hearing, IsCause, IsFed, IsFedAt, Piece}
+use Rattle.hd_journal.specs.declared.fault.TurnFault.{TurnFault}
+use Rattle.hd_session.specs.Sessions.{AreFedTo, Hearing, IsCause, IsFed, IsFedAt, Piece, Room, any_room}
 use Rattle.hd_session.specs.Standing.{Stands}
 use Rattle.hd_session.specs.declared.ended.Ended.{Ended}
-use Rattle.hd_session.specs.declared.ended.Ended.TheVariants.{TooLong, Memory, Estranged, Unwritten}
 
 -- a piece of a stream
 abbrev pub piece_at : Stamp → List ℕ → Piece
 piece_at now bytes = record { now = now; bytes = bytes }
 
-module _ (k : Contents) (seat : ℕ) (faults : OfficeFault → Type 0) where
-  -- a cause with some room is one with none
-  cause_without : (room : ℕ) (s : Stands) (earlier : ℕ) (line : List ℕ) (why : Ended) → IsCause k faults room s earlier line why
-      → IsCause k faults 0 s earlier line why
-  cause_without room s earlier line TooLong never = never
-  cause_without room s earlier line Memory (inl given) = inl given
-  cause_without room s earlier line Memory (inr (some, full)) = inr (some, omega (arith, full))
-  cause_without room s earlier line Estranged given = given
-  cause_without room s earlier line Unwritten given = given
+module _ (k : Contents) (seat : ℕ) (faults : TurnFault → Type 0) where
+  -- a cause with some room is one with any
+  cause_without : (room : Room) (s : Stands) (earlier : ℕ) (line : List ℕ) (why : TurnFault) → IsCause k faults room s earlier line why
+      → IsCause k faults any_room s earlier line why
+  cause_without room s earlier line why (inl turn) = inl turn
+  cause_without room s earlier line why (inr (memory, some, before, after)) =
+      inr (memory, some, omega (arith, before), omega (arith, after))
 
   -- and so is a piece that is fed
-  fed_without : (now : Stamp) (room : ℕ) (ended : Option Ended) (h : Hearing) (piece : List ℕ) (made : List Turn) (h' : Hearing)
-      (text : List ℕ) → IsFedAt k seat faults ended now room h piece made h' text → IsFedAt k seat faults ended now 0 h piece made h' text
+  fed_without : (now : Stamp) (room : Room) (ended : Option Ended) (h : Hearing) (piece : List ℕ) (made : List Turn) (h' : Hearing)
+      (text : List ℕ) → IsFedAt k seat faults ended now room h piece made h' text → IsFedAt k seat faults ended now any_room h piece made h' text
   fed_without now room (Some why) h piece made h' text fed = fed
   fed_without now room None h piece made h' text (inl all) = inl all
   fed_without now room None h piece made h' text (inr ends) = inr (record {
@@ -42,14 +39,14 @@ module _ (k : Contents) (seat : ℕ) (faults : OfficeFault → Type 0) where
   })
 
   -- a session that goes on after a piece went on before it
-  pub went_on : (now : Stamp) (room : ℕ) (ended : Option Ended) (h : Hearing) (piece : List ℕ) (made : List Turn) (h' : Hearing)
+  pub went_on : (now : Stamp) (room : Room) (ended : Option Ended) (h : Hearing) (piece : List ℕ) (made : List Turn) (h' : Hearing)
       (text : List ℕ) → h.ended ≡ ended → IsFedAt k seat faults ended now room h piece made h' text → h'.ended ≡ None → h'.ended ≡ h.ended
   went_on now room (Some why) h piece made h' text is fed on = ap (λ (s : Hearing). s.ended) fed.1
   went_on now room None h piece made h' text is fed on = on ∙ sym is
 
   -- one piece is fed
-  pub fed_once : (now : Stamp) (room : ℕ) (h : Hearing) (bytes : List ℕ) (made : List Turn) (h' : Hearing) (text : List ℕ)
-      → IsFed k seat faults now room h bytes made h' text → AreFedTo k seat faults 0 (piece_at now bytes ∷ []) h made h' text
+  pub fed_once : (now : Stamp) (room : Room) (h : Hearing) (bytes : List ℕ) (made : List Turn) (h' : Hearing) (text : List ℕ)
+      → IsFed k seat faults now room h bytes made h' text → AreFedTo k seat faults any_room (piece_at now bytes ∷ []) h made h' text
   fed_once now room h bytes made h' text fed = record {
     first_made = made;
     then_made = [];
@@ -64,13 +61,13 @@ module _ (k : Contents) (seat : ℕ) (faults : OfficeFault → Type 0) where
 
   -- pieces are fed after others
   pub fed_then : (pieces more : List Piece) (h between h' : Hearing) (made made' : List Turn) (text text' : List ℕ)
-      → AreFedTo k seat faults 0 pieces h made between text → AreFedTo k seat faults 0 more between made' h' text'
-      → AreFedTo k seat faults 0 (pieces ++ more) h (made ++ made') h' (text ++ text')
+      → AreFedTo k seat faults any_room pieces h made between text → AreFedTo k seat faults any_room more between made' h' text'
+      → AreFedTo k seat faults any_room (pieces ++ more) h (made ++ made') h' (text ++ text')
   fed_then [] more h between h' made made' text text' first then' =
-      let from : AreFedTo k seat faults 0 more h made' h' text' =
-      subst (λ (s : Hearing). AreFedTo k seat faults 0 more s made' h' text') first.1 then' in
-      subst (λ (t : List ℕ). AreFedTo k seat faults 0 more h (made ++ made') h' (t ++ text')) (sym first.2)
-      (subst (λ (ts : List Turn). AreFedTo k seat faults 0 more h (ts ++ made') h' text') (sym first.0) from)
+      let from : AreFedTo k seat faults any_room more h made' h' text' =
+      subst (λ (s : Hearing). AreFedTo k seat faults any_room more s made' h' text') first.1 then' in
+      subst (λ (t : List ℕ). AreFedTo k seat faults any_room more h (made ++ made') h' (t ++ text')) (sym first.2)
+      (subst (λ (ts : List Turn). AreFedTo k seat faults any_room more h (ts ++ made') h' text') (sym first.0) from)
   fed_then (piece ∷ pieces) more h between h' made made' text text' first then' = record {
     first_made = first.first_made;
     then_made = first.then_made ++ made';

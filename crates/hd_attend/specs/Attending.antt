@@ -5,8 +5,8 @@ use Rattle.hd_date.specs.Stamps.{Stamp}
 use Rattle.hd_rules.specs.Journal.{Turn}
 use Rattle.hd_catalogue.specs.Contents.{Contents}
 use Rattle.hd_connection.specs.Streams.{IsCutShort, Streams}
-use Rattle.hd_journal.specs.declared.fault.OfficeFault.{OfficeFault}
-use Rattle.hd_session.specs.Sessions.{AreFedTo, Hearing, Piece, stream}
+use Rattle.hd_journal.specs.declared.fault.TurnFault.{TurnFault}
+use Rattle.hd_session.specs.Sessions.{AreFedTo, Hearing, Piece, any_room, stream}
 use Rattle.hd_session.specs.declared.ended.Ended.{Ended}
 use Rattle.hd_attend.specs.declared.fault.AttendFault.{AttendFault}
 use Rattle.hd_attend.specs.declared.fault.AttendFault.TheVariants as fault
@@ -36,7 +36,7 @@ Leaves end before after = after ≡ before
 -- A session is attended to, at a seat of a library whose office can give these faults, by a clock that may
 -- tell these presents: what was read is fed to it in pieces, each at its own present, with no bytes left out;
 -- the turns are made at the office, and the replies are written.
-pub record Attends (k : Contents) (seat : ℕ) (faults : OfficeFault → Type 0) (Tells : Stamp → Type 0)
+pub record Attends (k : Contents) (seat : ℕ) (faults : TurnFault → Type 0) (Tells : Stamp → Type 0)
     (bytes : Streams) (h h' : Hearing) (turns turns' : List Turn) (end : End) : Type 0 where
   pub pieces : List Piece
   pub are_read : All (IsReadPiece Tells) pieces
@@ -44,7 +44,7 @@ pub record Attends (k : Contents) (seat : ℕ) (faults : OfficeFault → Type 0)
   pub all : OnOk end (IsAtEnd bytes.from')
   pub made : List Turn
   pub replies : List ℕ
-  pub fed : AreFedTo k seat faults 0 pieces h made h' replies
+  pub fed : AreFedTo k seat faults any_room pieces h made h' replies
   pub turns_are : turns' ≡ turns ++ made
   pub put : List ℕ
   pub written : IsWritten end replies put

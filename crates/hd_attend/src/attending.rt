@@ -1,6 +1,6 @@
 //! Attending to a connection.
 ghost use Rattle.std.specs.Prelude.{◌≡◌, ◌<◌, ◌≤◌, [], IfErr, Some, length, map};
-ghost use Rattle.hd_hall.specs.Counters.{IsCounterFault};
+ghost use Rattle.hd_hall.specs.Faults.{IsHallFault};
 ghost use Rattle.hd_hall.specs.Submitting.{AreNext};
 ghost use Rattle.hd_session.specs.Standing.{IsKnownTo};
 ghost use Rattle.hd_attend.specs.Attending.{Attends};
@@ -132,7 +132,7 @@ pub fn attend<
     requires part { seat.old.parts ≡ 1 }
     requires place { IsKnownTo H.opening.contents state.old.standing }
     ensures attends { Attends H.opening.contents seat.old.number
-        (IsCounterFault K.faults (λ _. Unit {0})) (N.post now.now)
+        (IsHallFault K.faults (λ _. Unit {0})) (N.post now.now)
         (record {
           from = I.remaining from.old;
           from' = I.remaining from.new;

@@ -3,7 +3,7 @@ ghost use Rattle.std.specs.Prelude.{◌≡◌};
 
 use crate::gate::Gate;
 use hd_catalogue::Catalogue;
-use hd_exchange::{Ask, Office, OfficeFault, SeatNo, Turn};
+use hd_exchange::{Ask, Office, SeatNo, Turn, TurnFault};
 use std::alloc::Allocator;
 
 /// An office, with a gate that is called before each of its turns.
@@ -43,7 +43,11 @@ impl<'a, A: Allocator, O: Office<A>, G: Gate> Office<A> for Gated<'a, O, G> {
 
     ghost turns = { λ gated. O.turns gated.office.now };
 
+    ghost last_number = { λ gated. O.last_number gated.office.now };
+
     ghost faults = { O.faults };
+
+    ghost causes = { λ old new. O.causes old.office.now new.office.now };
 
     ghost holds = { λ gated. O.holds gated.office.now };
 
@@ -55,7 +59,7 @@ impl<'a, A: Allocator, O: Office<A>, G: Gate> Office<A> for Gated<'a, O, G> {
         self.office.seat()
     }
 
-    fn turn(&mut self, ask: &Ask<'_>) -> Result<Turn, OfficeFault> {
+    fn turn(&mut self, ask: &Ask<'_>) -> Result<Turn, TurnFault> {
         self.turn = self.turn.saturating_add(1);
         self.gate.before(self.session, self.turn);
         self.office.turn(ask)

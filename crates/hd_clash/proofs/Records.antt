@@ -1,21 +1,16 @@
 -- Lists of records: parts of them, and that they name things of the catalogue.
-use Rattle.std.proofs.Common.{arith, ◌≡◌, ◌==◌, ◌&&◌, refl, sym, subst, inl, inr, List, [], ◌∷◌, ◌++◌, length, Result, Ok, Err}
-use Rattle.std.proofs.lemmas.Bool.{cond_both}
-use Rattle.hd_rules.specs.declared.cells.Cell.{Cell}
-use Rattle.hd_rules.specs.declared.cells.Cell.TheVariants.{Copy as CopyCell, Hold as HoldCell}
-use Rattle.hd_rules.specs.declared.cells.Value.{Value}
-use Rattle.hd_rules.specs.declared.cells.Value.TheVariants.{Copy as CopyHas, Hold as HoldHas}
-use Rattle.hd_rules.specs.declared.cells.Change.{Change}
+use Rattle.std.proofs.Common.{arith, ◌≡◌, refl, sym, subst, List, [], ◌∷◌, ◌++◌, length, Result, Ok, Err}
 use Rattle.hd_rules.specs.declared.questions.Question.{Question}
 use Rattle.hd_rules.specs.declared.commands.Survivor.{Survivor}
 use Rattle.hd_rules.specs.declared.replies.Refusal.{Refusal}
 use Rattle.hd_rules.specs.Facts.{Facts, AreInRange}
-use Rattle.hd_rules.specs.Desk.{Desk, put, after}
+use Rattle.hd_rules.specs.Desk.{Desk}
 use Rattle.hd_rules.specs.Ask.{Done, asks}
 use Rattle.hd_rules.specs.Step.{plan}
-use Rattle.hd_rules.specs.Run.{IsAmong, outcome_of, changed_by, step, run_from}
+use Rattle.hd_rules.specs.Run.{outcome_of, changed_by, step, run_from}
 use Rattle.hd_rules.specs.Record.{Record, IsRecordAt, findings}
-use Rattle.hd_rules.specs.Known.{IsKnownCell, IsKnownAction, IsKnownState, IsKnownHeld, IsKnownValue, IsKnownDesk}
+use Rattle.hd_rules.specs.Known.{IsKnownAction, IsKnownDesk}
+use Rattle.hd_lemmas.proofs.Rules.{after_known}
 use Rattle.hd_clash.specs.Counting.{EachIsSmall}
 use Rattle.hd_clash.specs.Law.{EachQuestionIsKnown}
 use Rattle.hd_clash.specs.Records.{AreRecords, EachCommandIsKnown, IsKnownRecord, EachRecordIsKnown}
@@ -41,25 +36,6 @@ join k d (s ∷ ss) newer [] ts are = absurd are.0
 join k d (s ∷ ss) newer (r ∷ rs) ts are = (are.0.0, join k (step k d s) ss newer rs ts (are.0.1, are.1))
 
 -- a known desk stays one
-put_known : (k : Facts) (d : Desk) (x : Cell) (v : Value) → IsKnownDesk k d → IsKnownValue k v → IsKnownDesk k (put d x v)
-put_known k d (CopyCell c) (CopyHas s) known fine = record {
-  copies = λ y in_y. cond_both (c == y) s (d.copy y) (IsKnownState k) (λ e. fine) (λ other. known.copies y in_y);
-  holds = known.holds;
-}
-put_known k d (HoldCell t p) (HoldHas o) known fine = record {
-  copies = known.copies;
-  holds = λ u q in_u in_q. cond_both ((t == u) && (p == q)) o (d.hold u q) (IsKnownHeld k) (λ e. fine)
-      (λ other. known.holds u q in_u in_q);
-}
-put_known k d (CopyCell c) (HoldHas o) known fine = known
-put_known k d (HoldCell t p) (CopyHas s) known fine = known
-
-after_known : (k : Facts) (d : Desk) (cs : List Change) → IsKnownDesk k d
-    → ((change : Change) → IsAmong change cs → IsKnownCell k change.cell × IsKnownValue k change.new) → IsKnownDesk k (after cs d)
-after_known k d [] known fine = known
-after_known k d (c ∷ cs) known fine =
-    after_known k (put d c.cell c.new) cs (put_known k d c.cell c.new known (fine c (inl refl)).1) (λ change among. fine change (inr among))
-
 step_known : Rules → (k : Facts) (d : Desk) (s : Survivor) → AreInRange k → IsKnownDesk k d → IsKnownAction k s.command.action
     → IsKnownDesk k (step k d s)
 step_known rules k d s range known fine = by_outcome (outcome_of k d s) refl

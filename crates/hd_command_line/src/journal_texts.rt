@@ -42,7 +42,7 @@ pub(crate) const JOURNAL_VIEWS_EXAMPLE: &str = "Example: who has the copy a1, an
 
   $ holddesk journal views > views.sql
   $ sqlite3 -init views.sql day.journal \"SELECT patron, since FROM lent WHERE copy = 'a1'\"
-  p1|20260301";
+  p1|2026-03-01";
 
 /// The views. They are temporary, since a journal's file has two tables and nothing else.
 pub const VIEWS: &str = "\

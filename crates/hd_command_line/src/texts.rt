@@ -48,8 +48,8 @@ is longer than 1,024 bytes ends, and is answered `<session> ENDED` from then on.
 A session logs in first, by a message 93 with a terminal's name (CN) and password (CO) of the catalogue; it
 may log in again as another. Then it may check out (11), check in (09), renew (29), add, delete and change
 holds (15), and ask for an item (17); status (99) and resend (97) need no login. A message with BIY| cancels
-what this terminal did by the opposite one: 09 a checkout, 11 a checkin, 15 with - an added hold and with +
-a deleted one, 29 a renewal, and 15 with * a change.";
+what this terminal did: 09 a checkout, 11 a checkin, 15 with - an added hold and with + a deleted one, 29 a
+renewal, and 15 with * a change.";
 
 /// An example of `replay`, and its exit statuses.
 pub(crate) const REPLAY_EXAMPLE: &str = "Example: a hold, and its cancellation

@@ -2,8 +2,8 @@
 ghost use Rattle.std.specs.Prelude.{◌<◌, ◌≤◌, IfErr, IfOk, length};
 ghost use Rattle.std.specs.Io.KnownBytes.{ReadConsumes};
 
-use crate::TRIES_AGAIN;
-use std::io::{ErrorKind, Read};
+use crate::patience::{TRIES_AGAIN, is_tried_again};
+use std::io::Read;
 
 /// A read failed.
 #[derive(Clone, Copy, Debug, PartialEq, Eq)]
@@ -44,11 +44,11 @@ pub fn read_patiently<R: Read>(from: &mut R, piece: &mut [u8]) -> Result<usize, 
     ensures count { IfOk result (λ count. count ≤ length piece.new) }
     ensures read { ReadConsumes (R.remaining from.old) (R.remaining from.new) result piece.new }
 {
-    for _ in 0..=TRIES_AGAIN {
+    for tries in 0..=TRIES_AGAIN {
         match from.read(piece) {
             Ok(count) => return Ok(count),
             Err(error) => {
-                if error.kind() != ErrorKind::Interrupted {
+                if !is_tried_again(error.kind(), tries) {
                     return Err(ReadFailed);
                 }
             }

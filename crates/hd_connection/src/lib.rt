@@ -5,10 +5,8 @@
 mod fallible;
 mod input;
 mod output;
+mod patience;
 
 pub use crate::fallible::Fallible;
 pub use crate::input::{Input, ReadFailed, read_patiently};
 pub use crate::output::{Output, WriteFailed, write_all, write_patiently};
-
-/// How often in a row an interrupted call is tried again, before it is a fault.
-const TRIES_AGAIN: usize = 16;

@@ -1,11 +1,12 @@
 //! Writers that say when a write can fail.
-ghost use Rattle.std.specs.Prelude.{◌≡◌, ◌<◌, ◌≤◌, ⊤, [], IfErr, IfOk, List, MatchResult, ℕ, length, take};
+ghost use Rattle.std.specs.Prelude.{◌≡◌, ◌+◌, ◌<◌, ◌≤◌, ⊤, [], IfErr, IfOk, List, MatchResult, OnErr, ℕ};
+ghost use Rattle.std.specs.Prelude.{length, take, vec_capacity, vec_len};
 ghost use Rattle.std.specs.Io.KnownBytes.{Appends, Keeps};
 ghost use Rattle.hd_connection.specs.Streams.{IsCutShort};
 
-use crate::TRIES_AGAIN;
+use crate::patience::{TRIES_AGAIN, is_tried_again};
 use std::alloc::Allocator;
-use std::io::{ErrorKind, Sink, Write};
+use std::io::{Sink, Write};
 
 /// A write failed, or took no byte.
 #[derive(Clone, Copy, Debug, PartialEq, Eq)]
@@ -41,13 +42,25 @@ impl Output for &mut [u8] {
     }
 }
 
-/// Writing to a vector may fail for want of memory, at any time.
+/// Writing to a vector fails where it has no room for the bytes and gets none, out of memory. Of a vector alone
+/// that says nothing, since for each there are bytes that are too many; `full` says it of the bytes.
 impl<A: Allocator> Output for Vec<u8, A> {
     ghost fails = { λ _. ⊤ };
 
-    fn write_some(&mut self, bytes: &[u8]) -> Result<usize, WriteFailed> {
-        self.extend_from_slice(bytes).map_err(|_| WriteFailed)?;
-        Ok(bytes.len())
+    fn write_some(&mut self, bytes: &[u8]) -> Result<usize, WriteFailed>
+        requires { 0 < length bytes.now }
+        ensures some { IfOk result (λ n. (0 < n) × (n ≤ length bytes.now)) }
+        ensures wrote { MatchResult result
+            (λ n. Appends (Some self.old.items) (Some self.new.items) (take n bytes.now))
+            (λ _. Keeps (Some self.old.items) (Some self.new.items)) }
+        ensures why { IfErr result (λ _. ⊤) }
+        ensures all { IfOk result (λ n. n ≡ length bytes.now) }
+        ensures full { OnErr result (vec_capacity self.old < vec_len self.old + length bytes.now) }
+    {
+        match self.extend_from_slice(bytes) {
+            Ok(()) => Ok(bytes.len()),
+            Err(_) => Err(WriteFailed),
+        }
     }
 }
 
@@ -90,12 +103,12 @@ pub fn write_patiently<W: Write>(to: &mut W, bytes: &[u8]) -> Result<usize, Writ
         (λ n. Appends (W.contents to.old) (W.contents to.new) (take n bytes.now))
         (λ _. Keeps (W.contents to.old) (W.contents to.new)) }
 {
-    for _ in 0..=TRIES_AGAIN {
+    for tries in 0..=TRIES_AGAIN {
         match to.write(bytes) {
             Ok(0) => return Err(WriteFailed),
             Ok(count) => return Ok(count),
             Err(error) => {
-                if error.kind() != ErrorKind::Interrupted {
+                if !is_tried_again(error.kind(), tries) {
                     return Err(WriteFailed);
                 }
             }

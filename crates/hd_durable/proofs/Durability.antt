@@ -1,6 +1,7 @@
 -- What is kept of a turn more.
 use Rattle.std.proofs.Common.{◌≡◌, refl, sym, ◌∙◌, ap, subst, arith, ◌⊎◌, inl, inr, ℕ, Bool, true, false, if◌then◌else◌}
-use Rattle.std.proofs.Common.{List, [], ◌∷◌, ◌++◌, length, length-append, Option, Some, None, true≢false}
+use Rattle.std.proofs.Common.{List, [], ◌∷◌, ◌++◌, length, length-append, Option, Some, None}
+use Rattle.std.proofs.lemmas.Option.{none-some as none_there}
 use Rattle.std.specs.Prelude.{slice_get, take}
 use Rattle.std.proofs.lemmas.List.{append-nil}
 use Rattle.std.proofs.Math.Seq.{take-length, take-append_seam}
@@ -9,6 +10,7 @@ use Rattle.hd_rules.specs.Turns.{Message, start}
 use Rattle.hd_rules.specs.Journal.{Turn, IsLegal, state_after}
 use Rattle.hd_catalogue.specs.Contents.{Contents, facts_of}
 use Rattle.hd_journal.specs.declared.turn.Turn.{Turn as Made}
+use Rattle.hd_journal.specs.declared.fault.WriteFault.{WriteFault}
 use Rattle.hd_journal.specs.Books.{Book, AddsTurn, IsLegalBook, next_turn, facts, state, turn_numbered}
 use Rattle.hd_journal.specs.Asks.{IsKnownMessage}
 use Rattle.hd_journal.specs.Changing.{is_changing, changing}
@@ -37,6 +39,14 @@ pub last_is : (all turns : List Turn) (turn : Turn) (n : ℕ) (last : Turn) → 
 last_is all turns turn n last is number found =
     ap (of_some last)
     (found ∙ ap (turn_numbered all) number
+    ∙ subst (λ (ts : List Turn). turn_numbered ts (length ts) ≡ Some turn) (sym is) (numbered_last turns turn))
+
+-- there is one at the number of the last
+pub last_there : (all turns : List Turn) (turn : Turn) (n : ℕ) → all ≡ turns ++ turn ∷ []
+    → n ≡ length all → None ≡ turn_numbered all n → ⊥
+last_there all turns turn n is number none =
+    none_there turn
+    (none ∙ ap (turn_numbered all) number
     ∙ subst (λ (ts : List Turn). turn_numbered ts (length ts) ≡ Some turn) (sym is) (numbered_last turns turn))
 
 -- one that changes something
@@ -83,11 +93,11 @@ left_either k answered turn left before after is (inr one) =
 
 -- all were answered, and the changing ones are committed
 pub durable_all : (told : Contents) (holds leaves : List Turn → Type 0) (contents : Contents) (turns : List Turn)
-    (n : ℕ) (b : Bool) → told ≡ contents → IsLegalBook contents turns → n ≡ length turns
+    (n : ℕ) (shut : Option WriteFault) → told ≡ contents → IsLegalBook contents turns → n ≡ length turns
     → holds (changing (facts_of contents) turns)
     → ((left : List Turn) → leaves left → left ≡ changing (facts_of contents) turns)
-    → IsDurable told holds leaves contents turns n b
-durable_all told holds leaves contents turns n b same legal all held settled =
+    → IsDurable told holds leaves contents turns n shut
+durable_all told holds leaves contents turns n shut same legal all held settled =
     let whole : take n turns ≡ turns = ap (λ (m : ℕ). take m turns) all ∙ take-length turns
     in record {
       same = same;
@@ -143,30 +153,30 @@ module _ (old new : Book) (seat : ℕ) (message : Message) (made : Made) (adds :
   )
 
   -- after a turn that changes nothing
-  pub durable_same : (told : Contents) (holds leaves : List Turn → Type 0) (n : ℕ) (b : Bool)
+  pub durable_same : (told : Contents) (holds leaves : List Turn → Type 0) (n : ℕ) (shut : Option WriteFault)
       → told ≡ old.contents → is_changing (state old) message ≡ false → IsOpen holds leaves (facts old) old.turns n
-      → IsDurable told holds leaves new.contents new.turns made.at b
-  durable_same told holds leaves n b same is opened =
+      → IsDurable told holds leaves new.contents new.turns made.at shut
+  durable_same told holds leaves n shut same is opened =
       let still : changing (facts_of new.contents) new.turns ≡ changing (facts old) old.turns =
       ap (λ (c : Contents). changing (facts_of c) new.turns) adds.contents
       ∙ ap (changing (facts old)) adds.turns
       ∙ changing_same (facts old) old.turns (next_turn old seat message) is
-      in durable_all told holds leaves new.contents new.turns made.at b (same ∙ sym adds.contents) legal adds.number
+      in durable_all told holds leaves new.contents new.turns made.at shut (same ∙ sym adds.contents) legal adds.number
       (subst holds (sym still) opened.held)
       (λ left found. opened.settled left found ∙ sym still)
 
   -- after one that is committed
-  pub durable_more : (told told' : Contents) (holds leaves holds' leaves' : List Turn → Type 0) (n : ℕ) (b : Bool)
+  pub durable_more : (told told' : Contents) (holds leaves holds' leaves' : List Turn → Type 0) (n : ℕ) (shut : Option WriteFault)
       → told ≡ old.contents → told' ≡ told
       → is_changing (state old) message ≡ true → IsOpen holds leaves (facts old) old.turns n
       → Commits holds holds'
       → ((held left : List Turn) → holds' held → leaves' left → left ≡ held)
-      → IsDurable told' holds' leaves' new.contents new.turns made.at b
-  durable_more told told' holds leaves holds' leaves' n b same same' is opened ok settled =
+      → IsDurable told' holds' leaves' new.contents new.turns made.at shut
+  durable_more told told' holds leaves holds' leaves' n shut same same' is opened ok settled =
       let held : holds' (changing (facts_of new.contents) new.turns) =
       subst holds' (sym (more is))
       (ok old.turns _ (next_turn old seat message) adds.turns (legal_more is) opened.held)
-      in durable_all told' holds' leaves' new.contents new.turns made.at b (same' ∙ same ∙ sym adds.contents) legal
+      in durable_all told' holds' leaves' new.contents new.turns made.at shut (same' ∙ same ∙ sym adds.contents) legal
       adds.number held (λ left found. settled _ left held found)
 
   -- after one that may be left or not
@@ -189,13 +199,13 @@ module _ (old new : Book) (seat : ℕ) (message : Message) (made : Made) (adds :
       (err old.turns _ left (next_turn old seat message) adds.turns (legal_more is) opened.held found)))
 
   -- the journal is then shut
-  pub durable_shut : (told told' : Contents) (holds leaves holds' leaves' : List Turn → Type 0) (n : ℕ)
+  pub durable_shut : (told told' : Contents) (holds leaves holds' leaves' : List Turn → Type 0) (n : ℕ) (why : WriteFault)
       → told ≡ old.contents → told' ≡ told
       → is_changing (state old) message ≡ true → IsLegalBook old.contents (take n old.turns)
       → IsOpen holds leaves (facts old) old.turns n
       → Doubts holds leaves'
-      → IsDurable told' holds' leaves' new.contents new.turns n true
-  durable_shut told told' holds leaves holds' leaves' n still still' is before opened err =
+      → IsDurable told' holds' leaves' new.contents new.turns n (Some why)
+  durable_shut told told' holds leaves holds' leaves' n why still still' is before opened err =
       let same : take n new.turns ≡ take n old.turns =
       ap (take n) adds.turns ∙ ap (λ (m : ℕ). take m (old.turns ++ next_turn old seat message ∷ [])) opened.all
       ∙ take-append_seam old.turns (next_turn old seat message ∷ [])
@@ -208,5 +218,5 @@ module _ (old new : Book) (seat : ℕ) (message : Message) (made : Made) (adds :
         legal = subst (λ (c : Contents). IsLegalBook c (take n new.turns)) (sym adds.contents)
             (subst (IsLegalBook old.contents) (sym same) before);
         left = left_in_doubt holds leaves leaves' n is before opened err;
-        opened = λ never. absurd (true≢false never);
+        opened = λ never. absurd (none_there why (sym never));
       }

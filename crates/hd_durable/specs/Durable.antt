@@ -1,16 +1,39 @@
 -- What a durable journal keeps.
-use Rattle.std.specs.Prelude.{◌≡◌, ℕ, ◌≤◌, Bool, false, List, ◌++◌, length, take}
+use Rattle.std.specs.Prelude.{◌≡◌, ◌⊎◌, ℕ, ◌≤◌, Option, Some, None, List, ◌++◌, length, take}
 use Rattle.hd_rules.specs.Facts.{Facts}
 use Rattle.hd_rules.specs.Journal.{Turn, IsLegal}
 use Rattle.hd_catalogue.specs.Contents.{Contents, facts_of}
+use Rattle.hd_rules.specs.declared.replies.TurnReply.{TurnReply}
+use Rattle.hd_journal.specs.declared.fault.TurnFault.{TurnFault}
+use Rattle.hd_journal.specs.declared.fault.TurnFault.TheVariants as fault
+use Rattle.hd_journal.specs.declared.fault.WriteFault.{WriteFault}
+use Rattle.hd_journal.specs.Asks.{SeatMessage, turn_with_reply}
 use Rattle.hd_journal.specs.Books.{IsLegalBook}
 use Rattle.hd_journal.specs.Changing.{changing}
 
--- a durable journal is what its catalogue says, the turns that were answered, and its table
+-- a durable journal is what its catalogue says, the turns that were answered, its table, and why it is shut,
+-- where it is
 pub record DurableValue (Table : Type 0) : Type 0 where
   pub contents : Contents
   pub turns : List Turn
   pub table : Table
+  pub shut : Option WriteFault
+
+-- for these reasons some turn of what was asked may be refused
+abbrev pub refuses_turn_of : (Turn → WriteFault → Type 0) → SeatMessage → WriteFault → Type 0
+refuses_turn_of refuses ask why = (reply : TurnReply) × refuses (turn_with_reply ask reply) why
+
+-- it was shut before for this reason, or it was open and its table refused the turn for it
+abbrev pub IsShutFor : {Table : Type 0} → (WriteFault → Type 0) → DurableValue Table → WriteFault → Type 0
+IsShutFor refuses old why = (old.shut ≡ Some why) ⊎ ((old.shut ≡ None) × refuses why)
+
+-- Why a durable journal made no turn, which its table may refuse for these reasons: out of memory it is open,
+-- and stays as it was; and what couldn't be written it tells for the reason for which it is shut from then on.
+abbrev pub IsTakeFault : {Table : Type 0} → (WriteFault → Type 0) → (old new : DurableValue Table) → TurnFault
+    → Type 0
+IsTakeFault refuses old new fault.Memory = (old.shut ≡ None) × (new ≡ old)
+IsTakeFault refuses old new (fault.Estranged front) = ⊥
+IsTakeFault refuses old new (fault.Unwritten why) = (new.shut ≡ Some why) × IsShutFor refuses old why
 
 -- A stop leaves the changing turns of those that were answered, or of these and one more, which is legal too
 -- and which nobody was answered.
@@ -29,9 +52,9 @@ pub record IsOpen (holds leaves : List Turn → Type 0) (k : Facts) (turns : Lis
 
 -- The turns that were answered are a legal journal, a stop leaves them, and the table is of its catalogue.
 pub record IsDurable (told : Contents) (holds leaves : List Turn → Type 0) (contents : Contents)
-    (turns : List Turn) (number : ℕ) (is_shut : Bool) : Type 0 where
+    (turns : List Turn) (number : ℕ) (shut : Option WriteFault) : Type 0 where
   pub same : told ≡ contents
   pub within : number ≤ length turns
   pub legal : IsLegalBook contents (take number turns)
   pub left : (left : List Turn) → leaves left → IsLeft (facts_of contents) (take number turns) left
-  pub opened : is_shut ≡ false → IsOpen holds leaves (facts_of contents) turns number
+  pub opened : shut ≡ None → IsOpen holds leaves (facts_of contents) turns number

@@ -1,6 +1,6 @@
 //! The durable journal.
 
-ghost use Rattle.std.specs.Prelude.{◌≡◌, ◌⊎◌, ◌++◌, ◌∷◌, [], ℕ, Err, IfOk, List, OnErr, OnOk, length};
+ghost use Rattle.std.specs.Prelude.{◌≡◌, ◌⊎◌, ◌++◌, ◌∷◌, [], ℕ, None, IfErr, IfOk, List, OnErr, OnOk, length};
 ghost use Rattle.std.specs.Prelude.{option_map, take};
 ghost use Rattle.std.specs.Arc.{arc_value};
 ghost use Rattle.hd_catalogue.specs.Contents.{facts_of};
@@ -9,12 +9,11 @@ ghost use Rattle.hd_journal.specs.Asks.{IsKnownMessage, turn_with_reply};
 ghost use Rattle.hd_journal.specs.Books.{IsLegalBook, facts, turn_numbered};
 ghost use Rattle.hd_journal.specs.Changing.{changing};
 ghost use Rattle.hd_journal.specs.Shown.{turn_shown};
-ghost use Rattle.hd_durable.specs.Durable.{IsLeft};
+ghost use Rattle.hd_durable.specs.Durable.{IsLeft, IsTakeFault, refuses_turn_of};
 
-use crate::fault::DurableFault;
-use crate::table::{NotCommitted, TurnTable};
+use crate::table::TurnTable;
 use hd_catalogue::Catalogue;
-use hd_journal::{Journal, OwnedAsk, Turn, TurnRef};
+use hd_journal::{Journal, OwnedAsk, Turn, TurnFault, TurnRef, WriteFault};
 use std::alloc::{Allocator, Global};
 use std::marker::Model;
 use std::sync::Arc;
@@ -23,13 +22,14 @@ use std::sync::Arc;
 ///
 /// Whatever is asked, a stop at any moment leaves the changing turns of all that were answered, or of these
 /// and one more that nobody was answered (`left` of `take`). Where a turn can't be committed the journal
-/// shuts for good, and answers nothing more.
+/// shuts for good, and tells each that asks why.
 pub struct DurableJournal<T: TurnTable, A: Allocator = Global> {
     journal: Journal<A>,
     table: T,
     /// How many turns were answered.
     answered: usize,
-    is_shut: bool,
+    /// Why it is shut, where it is.
+    shut: Option<WriteFault>,
 }
 
 // Written out, so that a caller's proof sees one call and not the drop of each field.
@@ -39,7 +39,7 @@ impl<T: TurnTable + Drop, A: Allocator> Drop for DurableJournal<T, A> {
             journal: _journal,
             table: _table,
             answered: _answered,
-            is_shut: _is_shut,
+            shut: _shut,
         } = self;
     }
 }
@@ -54,14 +54,15 @@ impl<T: TurnTable, A: Allocator> Model for DurableJournal<T, A> {
       contents = d.journal.contents;
       turns = take d.answered d.journal.turns;
       table = d.table;
+      shut = d.shut;
     } };
 
     ghost invariant = { λ d. IsDurable (T.contents d.table) (T.holds d.table) (T.leaves d.table)
-        d.journal.contents d.journal.turns d.answered d.is_shut };
+        d.journal.contents d.journal.turns d.answered d.shut };
 }
 
 impl<T: TurnTable, A: Allocator + Copy> DurableJournal<T, A> {
-    /// The journal, whose changing turns this table has, told by the journal's catalogue.
+    /// The journal, whose changing turns this table has, told by the journal's catalogue. It is open.
     pub fn new(journal: Journal<A>, table: T) -> DurableJournal<T, A>
         requires catalogue { T.contents table ≡ journal.contents }
         requires held { T.holds table (changing (facts journal) journal.turns) }
@@ -70,13 +71,14 @@ impl<T: TurnTable, A: Allocator + Copy> DurableJournal<T, A> {
         ensures turns { result.turns ≡ journal.turns }
         ensures contents { result.contents ≡ journal.contents }
         ensures table { result.table ≡ table }
+        ensures open { result.shut ≡ None }
     {
         let answered = journal.front();
         DurableJournal {
             journal,
             table,
             answered,
-            is_shut: false,
+            shut: None,
         }
     }
 
@@ -84,24 +86,27 @@ impl<T: TurnTable, A: Allocator + Copy> DurableJournal<T, A> {
     /// catalogue. A turn that changes something is committed before it is answered.
     ///
     /// # Errors
-    /// `Memory`, and then the table is as it was; `Unwritten` where this turn or an earlier one couldn't be
-    /// committed. Nobody is answered.
-    pub fn take(&mut self, ask: OwnedAsk<A>) -> Result<Turn, DurableFault>
+    /// `Memory` from an open journal, which then is as it was; `Unwritten` where this turn or an earlier one
+    /// couldn't be committed, with the reason of the one that couldn't. Nobody is answered.
+    pub fn take(&mut self, ask: OwnedAsk<A>) -> Result<Turn, TurnFault>
         requires { IsKnownMessage (facts_of self.old.contents) ask.message }
         ensures turn { IfOk result (λ made.
             self.new.turns ≡ self.old.turns ++ turn_with_reply ask made.reply ∷ []) }
         ensures number { IfOk result (λ made. made.at ≡ length self.new.turns) }
+        // Only an open journal answers, and it stays open.
+        ensures open { OnOk result ((self.old.shut ≡ None) × (self.new.shut ≡ None)) }
         ensures committed { OnOk result ((left : List TurnValue) → T.leaves self.new.table left
             → left ≡ changing (facts_of self.new.contents) self.new.turns) }
         ensures left { (left : List TurnValue) → T.leaves self.new.table left
             → IsLeft (facts_of self.new.contents) self.new.turns left }
         ensures legal { IsLegalBook self.new.contents self.new.turns }
+        ensures why { IfErr result (IsTakeFault (refuses_turn_of
+            (λ turn. T.refuses self.old.table turn self.new.table) ask) self.old self.new) }
         ensures err { OnErr result (self.new.turns ≡ self.old.turns) }
-        ensures memory { result ≡ Err DurableFault.Memory → self.new.table ≡ self.old.table }
         ensures contents { self.new.contents ≡ self.old.contents }
     {
-        if self.is_shut {
-            return Err(DurableFault::Unwritten);
+        if let Some(why) = self.shut {
+            return Err(TurnFault::Unwritten(why));
         }
         if !self.journal.is_changing(&ask) {
             let turn = self.journal.take(ask)?;
@@ -109,12 +114,16 @@ impl<T: TurnTable, A: Allocator + Copy> DurableJournal<T, A> {
             return Ok(turn);
         }
         let turn = self.journal.take(ask)?;
-        // Shut until the turn is committed, and for good where it can't be.
-        self.is_shut = true;
-        commit_last(&self.journal, &mut self.table)?;
-        self.is_shut = false;
-        self.answered = turn.at;
-        Ok(turn)
+        match commit_last(&self.journal, &mut self.table) {
+            Ok(()) => {
+                self.answered = turn.at;
+                Ok(turn)
+            }
+            Err(why) => {
+                self.shut = Some(why);
+                Err(TurnFault::Unwritten(why))
+            }
+        }
     }
 }
 
@@ -161,7 +170,7 @@ impl<T: TurnTable, A: Allocator + Copy> DurableJournal<T, A> {
             journal: _journal,
             table,
             answered: _answered,
-            is_shut: _is_shut,
+            shut: _shut,
         } = self;
         table
     }
@@ -171,7 +180,7 @@ impl<T: TurnTable, A: Allocator + Copy> DurableJournal<T, A> {
 fn commit_last<T: TurnTable, A: Allocator + Copy>(
     journal: &Journal<A>,
     table: &mut T,
-) -> Result<(), NotCommitted>
+) -> Result<(), WriteFault>
     requires catalogue { T.contents table.old ≡ journal.now.contents }
     requires last { (turns : List TurnValue) × (turn : TurnValue) × (journal.now.turns ≡ turns ++ turn ∷ [])
         × IsKnownMessage (facts journal.now) turn.message }
@@ -180,6 +189,8 @@ fn commit_last<T: TurnTable, A: Allocator + Copy>(
         → T.holds table.old held → T.holds table.new (held ++ turn ∷ [])) }
     ensures settled { OnOk result ((held left : List TurnValue) → T.holds table.new held
         → T.leaves table.new left → left ≡ held) }
+    ensures why { IfErr result (λ why. (turns : List TurnValue) (turn : TurnValue)
+        → journal.now.turns ≡ turns ++ turn ∷ [] → T.refuses table.old turn table.new why) }
     ensures err { OnErr result ((turns held left : List TurnValue) (turn : TurnValue)
         → journal.now.turns ≡ turns ++ turn ∷ [] → IsLegal (facts journal.now) (held ++ turn ∷ [])
         → T.holds table.old held → T.leaves table.new left
@@ -187,7 +198,7 @@ fn commit_last<T: TurnTable, A: Allocator + Copy>(
     ensures contents { T.contents table.new ≡ T.contents table.old }
 {
     let Some(last) = journal.turn_at(journal.front()) else {
-        return Err(NotCommitted);
+        unreachable!()
     };
     table.commit(&last)
 }

@@ -2,11 +2,10 @@
 
 ghost use Rattle.std.specs.Prelude.{◌≡◌, ◌≤◌, [], drop, length};
 
-use crate::fault::DurableFault;
 use crate::journal::DurableJournal;
 use crate::table::TurnTable;
 use hd_catalogue::Catalogue;
-use hd_journal::{Ask, Keeper, KeeperFault, OwnedAsk, Turn, TurnRef};
+use hd_journal::{Ask, Keeper, OwnedAsk, Turn, TurnFault, TurnRef};
 use std::alloc::{AllocError, Allocator, Global};
 use std::sync::Arc;
 
@@ -53,6 +52,8 @@ impl<T: TurnTable, A: Allocator + Copy> DurableKeeper<T, A> {
 
 impl<T: TurnTable, A: Allocator + Copy> Keeper<A, OwnedAsk<A>> for DurableKeeper<T, A> {
     ghost use Rattle.std.specs.Prelude.{drop, take};
+    ghost use Rattle.hd_journal.specs.Faults.{IsMemoryOrUnwritten};
+    ghost use Rattle.hd_durable.specs.Durable.{IsTakeFault, refuses_turn_of};
 
     ghost asks = { λ ask. ask };
 
@@ -63,7 +64,11 @@ impl<T: TurnTable, A: Allocator + Copy> Keeper<A, OwnedAsk<A>> for DurableKeeper
 
     ghost turns = { λ keeper. drop keeper.begun keeper.journal.turns };
 
-    ghost faults = { λ fault. Unit {0} };
+    ghost faults = { IsMemoryOrUnwritten };
+
+    ghost causes = { λ old ask new. IsTakeFault (refuses_turn_of
+        (λ turn. T.refuses old.journal.table turn new.journal.table) ask)
+        old.journal new.journal };
 
     fn own(alloc: A, ask: &Ask<'_>) -> Result<OwnedAsk<A>, AllocError> {
         ask.to_owned(alloc)
@@ -85,20 +90,11 @@ impl<T: TurnTable, A: Allocator + Copy> Keeper<A, OwnedAsk<A>> for DurableKeeper
         self.journal.turn_at(self.begun + at)
     }
 
-    fn take(&mut self, own: OwnedAsk<A>) -> Result<Turn, KeeperFault> {
+    fn take(&mut self, own: OwnedAsk<A>) -> Result<Turn, TurnFault> {
         let turn = self.journal.take(own)?;
         Ok(Turn {
             at: turn.at - self.begun,
             reply: turn.reply,
         })
-    }
-}
-
-impl From<DurableFault> for KeeperFault {
-    fn from(fault: DurableFault) -> KeeperFault {
-        match fault {
-            DurableFault::Memory => KeeperFault::Memory,
-            DurableFault::Unwritten => KeeperFault::Unwritten,
-        }
     }
 }

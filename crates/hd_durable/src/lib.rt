@@ -5,13 +5,11 @@
 //! that the changing turns of a journal are all that has to be kept of it. What the table is, a trait says.
 #![tactic(auto)]
 
-mod fault;
 mod journal;
 mod keeper;
 mod laws;
 mod table;
 
-pub use crate::fault::DurableFault;
 pub use crate::journal::DurableJournal;
 pub use crate::keeper::DurableKeeper;
 pub use crate::laws::{
@@ -19,4 +17,4 @@ pub use crate::laws::{
     changing_turns_are_legal, changing_turns_leave_the_same, other_turns_change_nothing,
     the_changing_turns_of_a_beginning,
 };
-pub use crate::table::{NotCommitted, TurnTable};
+pub use crate::table::TurnTable;

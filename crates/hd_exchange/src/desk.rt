@@ -11,7 +11,7 @@ use crate::message::DeskMessage;
 use crate::refusals::refusal_reply;
 use crate::replies::reply_to;
 use crate::writing::write_reply;
-use hd_journal::{Office, OfficeFault};
+use hd_journal::{Office, TurnFault};
 use std::alloc::Allocator;
 
 /// Makes the turn of a message that asks something, and appends its reply; or appends its refusal.
@@ -21,7 +21,7 @@ pub(crate) fn answer<A: Allocator + Copy, O: Office<A>>(
     office: &mut O,
     message: &DeskMessage<'_>,
     out: &mut Vec<u8, A>,
-) -> Result<(), OfficeFault>
+) -> Result<(), TurnFault>
     requires message { IsAskable (facts_of (O.keeps office.old).contents)
         (O.keeps office.old).seat message.now }
     requires room { vec_len out.old + 2038 ≤ vec_capacity out.old }
@@ -32,6 +32,7 @@ pub(crate) fn answer<A: Allocator + Copy, O: Office<A>>(
         × (out.new.items ≡ out.old.items ++ text)
         × IsDeskAnswer (O.keeps office.old).contents message.now text made) }
     ensures why { IfErr result O.faults }
+    ensures cause { IfErr result (O.causes office.old office.new) }
     ensures asks { OnErr result (IsOk message.now.asks) }
     ensures err { OnErr result ((out.new.items ≡ out.old.items) × (O.turns office.new ≡ O.turns office.old)) }
     ensures one { MakesAtMostOne (O.turns office.old) (O.turns office.new) }

@@ -44,4 +44,4 @@ pub use crate::laws::each_body_has_one_answer;
 pub use crate::login::Login;
 pub use crate::responding::respond;
 pub use crate::said::Said;
-pub use hd_journal::{Ask, Office, OfficeFault, SeatNo, Turn};
+pub use hd_journal::{Ask, Office, OfficeFault, SeatNo, Turn, TurnFault};

@@ -16,7 +16,7 @@ use crate::message::Message;
 use crate::messages::message_of;
 use crate::said::Said;
 use hd_date::Stamp18;
-use hd_journal::{Office, OfficeFault};
+use hd_journal::{Office, TurnFault};
 use std::alloc::Allocator;
 
 /// Answers the body of a message from a session that is logged in so: appends the text of its reply, where it
@@ -30,8 +30,8 @@ use std::alloc::Allocator;
 /// gets its reply.
 ///
 /// # Errors
-/// `Memory`, `Estranged` and `Unwritten` as the office gives them, at a message that asks something of it:
-/// there is no turn, nothing is appended, and the session is logged in as before.
+/// The fault that the office gives, for its cause, at a message that asks something of it: `Memory`,
+/// `Estranged` or `Unwritten`. There is no turn, nothing is appended, and the session is logged in as before.
 pub fn respond<A: Allocator + Copy, O: Office<A>>(
     office: &mut O,
     now: &Stamp18,
@@ -39,7 +39,7 @@ pub fn respond<A: Allocator + Copy, O: Office<A>>(
     body: &[u8],
     line: Option<&[u8]>,
     out: &mut Vec<u8, A>,
-) -> Result<Said, OfficeFault>
+) -> Result<Said, TurnFault>
     requires login { ForSome login.old (IsKnownLogin (facts_of (O.keeps office.old).contents)) }
     requires short { length body.now ≤ 1024 }
     requires room { vec_len out.old + 2038 ≤ vec_capacity out.old }
@@ -52,6 +52,7 @@ pub fn respond<A: Allocator + Copy, O: Office<A>>(
         (option_map (λ bytes. bytes.now) line.entry) body.now said text made login.new) }
     ensures login { ForSome login.new (IsKnownLogin (facts_of (O.keeps office.old).contents)) }
     ensures why { IfErr result O.faults }
+    ensures cause { IfErr result (O.causes office.old office.new) }
     ensures asks { OnErr result (AsksTheOffice (O.keeps office.old).contents login.old body.now) }
     ensures err { OnErr result (
         (out.new.items ≡ out.old.items)

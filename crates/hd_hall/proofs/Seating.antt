@@ -6,7 +6,7 @@ use Rattle.std.proofs.lemmas.List.{take-append-le}
 use Rattle.std.proofs.lemmas.Option.{slice_get_within}
 use Rattle.hd_rules.specs.Journal.{Turn}
 use Rattle.hd_journal.specs.Openings.{Opening}
-use Rattle.hd_hall.specs.Receipts.{Receipted, IsLast, StandsAt, last_receipt}
+use Rattle.hd_hall.specs.Receipts.{Receipted, IsLast, StandsAt, last_receipt, number_of_last}
 use Rattle.hd_hall.specs.Seats.{SeatView, IsSeat, AreOfSeat, RiseAbove}
 use Rattle.hd_hall.specs.Submitting.{AreNext, IsNextOf}
 
@@ -45,6 +45,12 @@ last_read (x ∷ y ∷ ys) (suc k) is = last_read (y ∷ ys) k (omega arith)
 pub last_is : (rs : List Receipted) → slice_get rs (length rs - 1) ≡ last_receipt rs
 last_is [] = refl
 last_is (x ∷ xs) = last_read (x ∷ xs) (length (x ∷ xs) - 1) (omega arith)
+
+-- the last receipt's number is that of the one added
+pub number_of_last-snoc : (rs : List Receipted) (r : Receipted) → number_of_last (rs ++ r ∷ []) ≡ r.number
+number_of_last-snoc [] r = refl
+number_of_last-snoc (x ∷ []) r = refl
+number_of_last-snoc (x ∷ y ∷ ys) r = number_of_last-snoc (y ∷ ys) r
 
 -- a receipt whose turn stands in the list has a number within it
 pub stands_within : (turns : List Turn) (p : Receipted) → StandsAt turns p → p.number ≤ length turns

@@ -1,13 +1,20 @@
--- What is known of the turn of a receipt.
-use Rattle.std.proofs.Common.{List, [], ◌∷◌, ◌++◌, refl, inl, inr}
+-- What is known of the turn of a receipt, and of a fault.
+use Rattle.std.proofs.Common.{◌≡◌, ℕ, List, [], ◌∷◌, ◌++◌, length, Result, Ok, Err, IfOk, IfErr, OnOk, OnErr, refl, inl, inr, sym, ap, subst}
+use Rattle.std.proofs.Common.{arith, length-append}
 use Rattle.hd_rules.specs.Journal.{Turn}
 use Rattle.hd_rules.specs.Known.{IsKnownTurnReply}
 use Rattle.hd_rules.specs.Replies.{IsReplyTo}
 use Rattle.hd_rules.specs.Run.{IsAmong}
 use Rattle.hd_catalogue.specs.Contents.{facts_of}
-use Rattle.hd_journal.specs.Openings.{Opening}
-use Rattle.hd_hall.specs.Receipts.{Receipted}
-use Rattle.hd_hall.specs.Submitting.{IsNextOf}
+use Rattle.hd_journal.specs.Asks.{SeatMessage, turn_with_reply}
+use Rattle.hd_journal.specs.Keepers.{IsAdded}
+use Rattle.hd_journal.specs.Openings.{Opening, IsLegalSince}
+use Rattle.hd_journal.specs.declared.fault.TurnFault.{TurnFault}
+use Rattle.hd_journal.specs.declared.fault.TurnFault.TheVariants as fault
+use Rattle.hd_journal.specs.declared.turn.Turn.{Turn as Made}
+use Rattle.hd_hall.specs.Faults.{IsHallFault, IsLockFault}
+use Rattle.hd_hall.specs.Receipts.{Receipted, HoldsLast, LacksLast, receipt_of}
+use Rattle.hd_hall.specs.Submitting.{IsNextOf, IsStrangeTo}
 
 -- it is among the turns of the journal
 among_last : (turn : Turn) (begun turns : List Turn) → IsAmong turn (begun ++ (turns ++ turn ∷ []))
@@ -24,3 +31,41 @@ next_fits o rs r next = next.legal.replies r.turn (among_last r.turn o.begun nex
 pub next_known : (o : Opening) (rs : List Receipted) (r : Receipted) → IsNextOf o rs r
     → IsKnownTurnReply (facts_of o.contents) r.turn.reply
 next_known o rs r next = next.legal.known.replies r.turn (among_last r.turn o.begun next.before)
+
+-- the turn that was added behind those that hold the seat's last one is the seat's next
+pub next_of : (o : Opening) (before after : List Turn) (rs : List Receipted) (ask : SeatMessage) (told : Result Made TurnFault)
+    → IsLegalSince o after → IfOk told (λ made. IsAdded before after ask made) → OnOk told (HoldsLast before rs)
+    → IfOk told (λ made. IsNextOf o rs (receipt_of ask made))
+next_of o before after rs ask (Err why) legal added holds = tt
+next_of o before after rs ask (Ok made) legal added holds = record {
+  before = before;
+  legal = subst (λ (ts : List Turn). IsLegalSince o ts) added.turns legal;
+  number = omega (arith, added.number, ap length added.turns, length-append before (turn_with_reply ask made.reply ∷ []));
+  holds = holds;
+}
+
+-- where the journal lacks the seat's last turn, it is a legal journal that does
+pub strange_of : (o : Opening) (before after : List Turn) (rs : List Receipted) (gives : TurnFault → Type 0) (Same : Type 0)
+    (told : Result Made TurnFault) → IsLegalSince o after → OnErr told ((after ≡ before) × Same)
+    → IfErr told (IsLockFault gives (λ front. (front ≡ length before) × LacksLast before rs))
+    → IfErr told (IsLockFault gives (IsStrangeTo o rs))
+strange_of o before after rs gives Same (Ok made) legal same why = tt
+strange_of o before after rs gives Same (Err fault.Memory) legal same why = why
+strange_of o before after rs gives Same (Err (fault.Unwritten cause)) legal same why = why
+strange_of o before after rs gives Same (Err (fault.Estranged front)) legal same why =
+    elim why [
+      | inl lacks ↦ inl (record {
+        turns = before;
+        legal = subst (λ (ts : List Turn). IsLegalSince o ts) same.0 legal;
+        counted = sym lacks.0;
+        lacks = lacks.1;
+      })
+      | inr given ↦ inr given
+    ]
+
+-- a fault of a hall, whatever the seat
+pub of_any_seat : (gives : TurnFault → Type 0) (Lacks : ℕ → Type 0) (why : TurnFault) → IsHallFault gives Lacks why
+    → IsHallFault gives (λ front. Unit {0}) why
+of_any_seat gives Lacks fault.Memory is = tt
+of_any_seat gives Lacks (fault.Unwritten cause) is = is
+of_any_seat gives Lacks (fault.Estranged front) is = elim is [ inl lacks ↦ inl tt | inr given ↦ inr given ]

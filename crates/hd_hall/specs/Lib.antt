@@ -2,7 +2,6 @@ pub mod Houses
 pub mod Faults
 pub mod Receipts
 pub mod Submitting
-pub mod Counters
 pub mod Seats
 pub mod Closings
 pub mod NotClosing

@@ -1,5 +1,5 @@
 -- What a hall that didn't close gives back.
-use Rattle.std.specs.Prelude.{◌≡◌, ◌<◌, List, length}
+use Rattle.std.specs.Prelude.{◌≡◌, ◌<◌, ℕ, List, length}
 use Rattle.hd_hall.specs.Closings.{LacksReceipt}
 use Rattle.hd_journal.specs.Openings.{Opening}
 use Rattle.hd_hall.specs.Seats.{SeatView, EachSeat, IsWhole}
@@ -19,3 +19,9 @@ Misses o (SeatMissing hall back opened) seats = (back.items ≡ seats) × (lengt
 Misses {keeping = keeping} o (ReceiptDiffers keeper back number) seats =
     (back.items ≡ seats) × (keeping.opening keeper ≡ o) × LacksReceipt o (keeping.turns keeper) seats number
     × EachSeat seats IsWhole
+
+-- Of a hall that has opened so many seats: a seat is told to be missing, with that number, or these are as many.
+abbrev pub CountsOpened : {H A Q K : Type 0} {house : Ghosts H} {memory : AllocatorGhosts A}
+    {keeping : KeeperGhosts K A Q} → ℕ → NotClosed H A Q K house memory keeping → List SeatView → Type 0
+CountsOpened given (SeatMissing hall back opened) seats = opened ≡ given
+CountsOpened given (ReceiptDiffers keeper back number) seats = length seats ≡ given

@@ -33,6 +33,12 @@ last_receipt [] = None
 last_receipt (r ∷ []) = Some r
 last_receipt (r ∷ s ∷ ss) = last_receipt (s ∷ ss)
 
+-- the last receipt's number, 0 where there is none
+abbrev pub number_of_last : List Receipted → ℕ
+number_of_last [] = 0
+number_of_last (r ∷ []) = r.number
+number_of_last (r ∷ s ∷ ss) = number_of_last (s ∷ ss)
+
 abbrev pub IsLast : List Receipted → Receipted → Type 0
 IsLast receipts r = last_receipt receipts ≡ Some r
 

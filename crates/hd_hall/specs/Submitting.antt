@@ -3,10 +3,6 @@ use Rattle.std.specs.Prelude.{◌≡◌, ℕ, ◌+◌, List, [], ◌∷◌, ◌+
 use Rattle.hd_rules.specs.Journal.{Turn}
 use Rattle.hd_journal.specs.Openings.{Opening, IsLegalSince}
 use Rattle.hd_hall.specs.Receipts.{Receipted, HoldsLast, LacksLast}
-use Rattle.hd_hall.specs.declared.fault.HallFault.{HallFault}
-use Rattle.hd_hall.specs.declared.fault.HallFault.TheVariants as hall
-use Rattle.hd_journal.specs.declared.fault.KeeperFault.{KeeperFault}
-use Rattle.hd_journal.specs.declared.fault.KeeperFault.TheVariants as keeper
 
 -- The receipt is of the last turn of a legal journal of the catalogue, in which the seat's last turn before
 -- it, if there was one, stands at its own number, which is lower. Turns are numbered from the hall's opening
@@ -28,10 +24,3 @@ pub record IsStrangeTo (o : Opening) (receipts : List Receipted) (front : ℕ) :
   pub legal : IsLegalSince o turns
   pub counted : length turns ≡ front
   pub lacks : LacksLast turns receipts
-
--- Why there is no turn: the keeper gave a fault that it can give, memory was wanting before the lock was
--- taken, or the journal, of so many turns, lacks the seat's last one.
-abbrev pub IsSubmitFault : (KeeperFault → Type 0) → (ℕ → Type 0) → HallFault → Type 0
-IsSubmitFault gives Lacks hall.Memory = Unit {0}
-IsSubmitFault gives Lacks (hall.Estranged front) = Lacks front
-IsSubmitFault gives Lacks hall.Unwritten = gives keeper.Unwritten

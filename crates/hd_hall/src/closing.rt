@@ -33,11 +33,11 @@ pub(crate) fn differing<H: House, A: Allocator + Copy, Q: Drop, K: Keeper<A, Q>>
     ensures some { IfSome result (LacksReceipt (K.opening keeper.now) (K.turns keeper.now) seats.old) }
     ensures same { OnSome result (seats.new ≡ seats.old) }
     ensures whole { EachSeat seats.old IsWhole }
+    // no seat is there whose part the ledger hasn't
+    ensures apart { rest.old.parts + length seats.old ≤ H.parts }
 {
     gather(rest, seats);
-    let none = rest.empty();
-    rest.merge(none);
-    book.audit(rest);
+    audit(book, rest);
     let front = keeper.front();
     if are_there(keeper, seats) {
         return None;
@@ -62,6 +62,19 @@ fn gather<H: House, A: Allocator>(all: &mut Share<H>, seats: &mut [Seat<H, A>])
     for seat in seats.iter_mut() {
         seat.lend(all);
     }
+}
+
+/// Sees that some parts of the ledger are no more than all, and that with all of them goes all that the book
+/// counts.
+fn audit<H: House>(book: &mut Book<H>, some: &mut Share<H>)
+    ensures apart { some.old.parts ≤ H.parts }
+    ensures bound { some.old.amount ≤ book.old.total }
+    ensures whole { H.parts ≤ some.old.parts → some.old.amount ≡ book.old.total }
+    ensures same { (some.new.parts ≡ some.old.parts) × (some.new.amount ≡ some.old.amount) }
+{
+    let none = some.empty();
+    some.merge(none);
+    book.audit(some);
 }
 
 /// Gives each seat its part again.

@@ -3,17 +3,16 @@
 ghost use Rattle.std.specs.Prelude.{◌≡◌, IfErr, IfOk, OnErr};
 ghost use Rattle.hd_catalogue.specs.Contents.{facts_of};
 ghost use Rattle.hd_journal.specs.Asks.{IsKnownMessage, message_of};
-ghost use Rattle.hd_hall.specs.Receipts.{receipt_of};
+ghost use Rattle.hd_hall.specs.Faults.{IsHallFault};
+ghost use Rattle.hd_hall.specs.Receipts.{number_of_last, receipt_of};
 ghost use Rattle.hd_hall.specs.Seats.{with_receipt};
-ghost use Rattle.hd_hall.specs.Counters.{IsCounterFault};
 ghost use Rattle.hd_hall.specs.Submitting.{AreNext, IsNextOf, IsStrangeTo};
 
-use crate::fault::HallFault;
 use crate::hall::Hall;
 use crate::house::House;
 use crate::seat::Seat;
 use hd_catalogue::Catalogue;
-use hd_journal::{Ask, Journal, Keeper, Office, OfficeFault, OwnedAsk, SeatNo, Turn};
+use hd_journal::{Ask, Journal, Keeper, Office, OwnedAsk, SeatNo, Turn, TurnFault};
 use std::alloc::{Allocator, Global};
 use std::sync::Wait;
 
@@ -62,9 +61,8 @@ impl<'a, H: House, R: Wait, A: Allocator + Copy, Q: Drop, K: Keeper<A, Q> + Drop
     /// The turn is the last of the hall's journal, and its receipt is the seat's last.
     ///
     /// # Errors
-    /// `Estranged` only where the seat has receipts and the hall's journal lacks the last of them,
-    /// `Unwritten` only where the hall's keeper can give that, and `Memory` else. The seat is unchanged.
-    pub fn submit(&mut self, ask: &Ask<'_>) -> Result<Turn, OfficeFault>
+    /// Those of `Hall::submit`. The seat is unchanged.
+    pub fn submit(&mut self, ask: &Ask<'_>) -> Result<Turn, TurnFault>
         requires seat { ask.now.seat ≡ self.old.seat.now.number }
         requires known { IsKnownMessage (facts_of H.opening.contents) (message_of ask.now).message }
         ensures next { IfOk result (λ made.
@@ -73,7 +71,7 @@ impl<'a, H: House, R: Wait, A: Allocator + Copy, Q: Drop, K: Keeper<A, Q> + Drop
             self.new.seat.now ≡ with_receipt self.old.seat.now (receipt_of (message_of ask.now) made)) }
         ensures all { AreNext H.opening self.new.seat.now.receipts }
         ensures why { IfErr result
-            (IsCounterFault K.faults (IsStrangeTo H.opening self.old.seat.now.receipts)) }
+            (IsHallFault K.faults (IsStrangeTo H.opening self.old.seat.now.receipts)) }
         ensures err { OnErr result (self.new.seat.now ≡ self.old.seat.now) }
         ensures same_reference { self.new.seat.ghost_name ≡ self.old.seat.ghost_name }
     {
@@ -82,9 +80,7 @@ impl<'a, H: House, R: Wait, A: Allocator + Copy, Q: Drop, K: Keeper<A, Q> + Drop
                 at: receipt.number,
                 reply: receipt.turn.reply,
             }),
-            Err(HallFault::Memory) => Err(OfficeFault::Memory),
-            Err(HallFault::Estranged { .. }) => Err(OfficeFault::Estranged),
-            Err(HallFault::Unwritten) => Err(OfficeFault::Unwritten),
+            Err(why) => Err(why),
         }
     }
 }
@@ -101,8 +97,13 @@ impl<'a, H: House, R: Wait, A: Allocator + Copy, Q: Drop, K: Keeper<A, Q> + Drop
 
     ghost turns = { λ c. map (λ r. r.turn) c.seat.now.receipts };
 
+    ghost last_number = { λ c. number_of_last c.seat.now.receipts };
+
     /// Any, but for what the hall's keeper never gives: a journal alone never fails to write.
-    ghost faults = { IsCounterFault K.faults (λ front. Unit {0}) };
+    ghost faults = { IsHallFault K.faults (λ front. Unit {0}) };
+
+    /// Estranged only where the seat has receipts, and the hall's journal lacks the last of them.
+    ghost causes = { λ old new. IsHallFault K.faults (IsStrangeTo H.opening old.seat.now.receipts) };
 
     /// Each of the seat's receipts was the last turn of a legal journal, which held the receipt before it.
     ghost holds = { λ c. AreNext H.opening c.seat.now.receipts };
@@ -115,7 +116,7 @@ impl<'a, H: House, R: Wait, A: Allocator + Copy, Q: Drop, K: Keeper<A, Q> + Drop
         self.seat.number()
     }
 
-    fn turn(&mut self, ask: &Ask<'_>) -> Result<Turn, OfficeFault> {
+    fn turn(&mut self, ask: &Ask<'_>) -> Result<Turn, TurnFault> {
         self.submit(ask)
     }
 }

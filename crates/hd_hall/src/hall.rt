@@ -5,19 +5,18 @@ ghost use Rattle.std.specs.Arc.{arc_value};
 ghost use Rattle.hd_catalogue.specs.Contents.{facts_of};
 ghost use Rattle.hd_journal.specs.Asks.{IsKnownMessage, turn_with_reply, message_of};
 ghost use Rattle.hd_hall.specs.Closings.{AreTurnsOf};
+ghost use Rattle.hd_hall.specs.Faults.{IsHallFault, IsLockFault};
 ghost use Rattle.hd_hall.specs.Receipts.{receipt_of, receipt_shown};
 ghost use Rattle.hd_hall.specs.Seats.{EachSeat, IsWhole, with_receipt};
-ghost use Rattle.hd_hall.specs.Submitting.{AreNext, IsNextOf, IsStrangeTo, IsSubmitFault};
+ghost use Rattle.hd_hall.specs.Submitting.{AreNext, IsNextOf, IsStrangeTo};
 
-use crate::closing::differing;
-use crate::fault::HallFault;
 use crate::house::House;
 use crate::kept::Kept;
 use crate::locked::Locked;
 use crate::receipt::Receipt;
 use crate::seat::Seat;
 use hd_catalogue::Catalogue;
-use hd_journal::{Ask, Journal, Keeper, OwnedAsk, Turn};
+use hd_journal::{Ask, Journal, Keeper, OwnedAsk, Turn, TurnFault};
 use std::alloc::{Allocator, Global};
 use std::sync::ledger::{Blank, Share};
 use std::sync::{Arc, Mutex, Wait};
@@ -26,7 +25,7 @@ use std::sync::{Arc, Mutex, Wait};
 /// lock.
 ///
 /// Under the lock are the journal's keeper, the book of the ledger, the parts that no seat has and the number
-/// of seats opened. The journal is always legal.
+/// of seats opened. The journal is always legal. Each new seat has the number after the last one's, from 1 on.
 pub struct Hall<
     H: House,
     A: Allocator = Global,
@@ -85,13 +84,14 @@ impl<H: House, A: Allocator + Copy, Q: Drop, K: Keeper<A, Q> + Drop> Hall<H, A, 
     /// more.
     ///
     /// # Errors
-    /// `Memory`. The journal is dropped then.
-    pub fn new(alloc: A, keeper: K, blank: Blank) -> Result<Hall<H, A, Q, K>, HallFault>
+    /// `Memory`, where the catalogue has as many owners as can be counted: no memory is asked for. The journal
+    /// is dropped then.
+    pub fn new(alloc: A, keeper: K, blank: Blank) -> Result<Hall<H, A, Q, K>, TurnFault>
         requires turns { K.turns keeper ≡ [] }
         requires opening { K.opening keeper ≡ H.opening }
         requires name { blank.name ≡ H.name }
         requires parts { (blank.parts ≡ H.parts) × (H.parts ≡ 4294967296) }
-        ensures { IfErr result (λ why. why ≡ HallFault.Memory) }
+        ensures { IfErr result (λ why. why ≡ TurnFault.Memory) }
     {
         let catalogue = Arc::try_clone(keeper.catalogue())?;
         Ok(Hall {
@@ -108,13 +108,13 @@ impl<H: House, A: Allocator + Copy, Q: Drop, K: Keeper<A, Q> + Drop> Hall<H, A, 
         &self.catalogue
     }
 
-    /// A new seat, or `None` where all have been opened.
+    /// A new seat, of the next number (`Tickets::next`), or `None` where all have been opened.
     pub fn seat<R: Wait>(&self, rt: &R) -> Option<Seat<H, A>>
         ensures { IfSome result (λ s. (s.receipts ≡ []) × (s.parts ≡ 1) × (0 < s.number)) }
     {
-        let (number, share) = self.shared.lock(rt).seat()?;
+        let (ticket, share) = self.shared.lock(rt).seat()?;
         Some(Seat {
-            number,
+            ticket,
             receipts: Vec::new(self.alloc),
             share,
         })
@@ -128,14 +128,15 @@ impl<H: House, A: Allocator + Copy, Q: Drop, K: Keeper<A, Q> + Drop> Hall<H, A, 
     /// before the lock is taken.
     ///
     /// # Errors
-    /// `Memory`, `Estranged` where the journal lacks the seat's last turn, and `Unwritten` where the keeper
-    /// gives that. The journal's turns and the seat are unchanged.
+    /// `Memory`; `Estranged` where the journal lacks the seat's last turn, so never at a seat without receipts;
+    /// and what the keeper gives, of which a journal alone gives `Memory` and nothing else. The journal's turns
+    /// and the seat are unchanged.
     pub fn submit<'l, R: Wait>(
         &self,
         rt: &R,
         seat: &mut Seat<H, A>,
         ask: &Ask<'l>,
-    ) -> Result<Receipt<'l>, HallFault>
+    ) -> Result<Receipt<'l>, TurnFault>
         requires part { seat.old.parts ≡ 1 }
         requires seat { ask.now.seat ≡ seat.old.number }
         requires known { IsKnownMessage (facts_of H.opening.contents) (message_of ask.now).message }
@@ -144,12 +145,11 @@ impl<H: House, A: Allocator + Copy, Q: Drop, K: Keeper<A, Q> + Drop> Hall<H, A, 
         ensures next { IfOk result (λ receipt. IsNextOf H.opening seat.old.receipts (receipt_shown receipt)) }
         ensures kept { IfOk result (λ receipt. seat.new ≡ with_receipt seat.old (receipt_shown receipt)) }
         ensures all { AreNext H.opening seat.new.receipts }
-        ensures why { IfErr result
-            (IsSubmitFault K.faults (IsStrangeTo H.opening seat.old.receipts)) }
+        ensures why { IfErr result (IsHallFault K.faults (IsStrangeTo H.opening seat.old.receipts)) }
         ensures err { OnErr result (seat.new ≡ seat.old) }
     {
         let Seat {
-            number: _number,
+            ticket: _ticket,
             receipts,
             share,
         } = seat;
@@ -161,15 +161,16 @@ impl<H: House, A: Allocator + Copy, Q: Drop, K: Keeper<A, Q> + Drop> Hall<H, A, 
         Ok(Receipt::new(ask, &made))
     }
 
-    /// The journal, whose turns are the receipts of these seats, each once. It takes no memory.
+    /// The journal, whose turns are the receipts of these seats, each once. The seats are all that the hall has
+    /// opened (`Locked::close`, clause `all`). It takes no memory.
     ///
     /// Each receipt is compared with the journal's turn of its number. Where the seats stand in the order of
     /// their numbers, this is all that is compared; else each turn's receipt is looked for.
     ///
     /// # Errors
-    /// `SeatMissing` where fewer seats are handed in than were opened, and `ReceiptDiffers` where some turn
-    /// has no receipt. The seats come back as they were.
-    pub fn close(self, mut seats: Vec<Seat<H, A>, A>) -> Result<K, NotClosed<H, A, Q, K>>
+    /// `SeatMissing` exactly where fewer seats are handed in than were opened, and `ReceiptDiffers` where some
+    /// turn has no receipt. The seats come back as they were.
+    pub fn close(self, seats: Vec<Seat<H, A>, A>) -> Result<K, NotClosed<H, A, Q, K>>
         requires parts { H.parts ≡ 4294967296 }
         requires seats { EachSeat seats.items (λ s. s.parts ≡ 1) }
         ensures turns { IfOk result (λ keeper. AreTurnsOf H.opening (K.turns keeper) seats.items) }
@@ -182,41 +183,7 @@ impl<H: House, A: Allocator + Copy, Q: Drop, K: Keeper<A, Q> + Drop> Hall<H, A, 
             catalogue,
             shared,
         } = self;
-        let Locked {
-            keeper,
-            mut book,
-            mut rest,
-            opened,
-            of,
-            asks,
-        } = shared.into_inner();
-        if seats.len() < opened as usize {
-            let locked = Locked {
-                keeper,
-                book,
-                rest,
-                opened,
-                of,
-                asks,
-            };
-            return Err(NotClosed::SeatMissing {
-                hall: Hall {
-                    alloc,
-                    catalogue,
-                    shared: Mutex::new(locked),
-                },
-                seats,
-                opened,
-            });
-        }
-        match differing(&keeper, &mut book, &mut rest, seats.as_mut_slice()) {
-            None => Ok(keeper),
-            Some(number) => Err(NotClosed::ReceiptDiffers {
-                keeper,
-                seats,
-                number,
-            }),
-        }
+        shared.into_inner().close(alloc, catalogue, seats)
     }
 
     /// The lock's section of a turn, counted in the share, where the journal holds the last of these
@@ -227,14 +194,14 @@ impl<H: House, A: Allocator + Copy, Q: Drop, K: Keeper<A, Q> + Drop> Hall<H, A, 
         receipts: &[Kept<A>],
         share: &mut Share<H>,
         own: Q,
-    ) -> Result<Turn, HallFault>
+    ) -> Result<Turn, TurnFault>
         requires part { 0 < share.old.parts }
         requires known { IsKnownMessage (facts_of H.opening.contents) (K.asks own).message }
         ensures next { IfOk result (λ made.
             IsNextOf H.opening receipts.now (receipt_of (K.asks own) made)) }
         ensures share { OnOk result (share.new.amount ≡ share.old.amount + 1) }
         ensures parts { share.new.parts ≡ share.old.parts }
-        ensures why { IfErr result (IsSubmitFault K.faults (IsStrangeTo H.opening receipts.now)) }
+        ensures why { IfErr result (IsLockFault K.faults (IsStrangeTo H.opening receipts.now)) }
         ensures err { OnErr result (share.new ≡ share.old) }
     {
         self.shared.lock(rt).submit(receipts, share, own)

@@ -1,38 +1,42 @@
 //! What lies under the lock.
 
-ghost use Rattle.std.specs.Prelude.{◌≡◌, ◌≢◌, ◌+◌, ◌<◌, ◌↔◌, [], IsTrue, IsNone, IfOk, IfErr, IfSome};
+ghost use Rattle.std.specs.Prelude.{◌≡◌, ◌+◌, ◌<◌, ◌↔◌, [], IsTrue, IsNone, IfOk, IfErr, IfSome};
 ghost use Rattle.std.specs.Prelude.{IfNone, OnOk, OnErr, OnSome, false, length, option_copied};
+ghost use Rattle.std.specs.Arc.{arc_value};
 ghost use Rattle.hd_catalogue.specs.Contents.{facts_of};
 ghost use Rattle.hd_journal.specs.Asks.{IsKnownMessage};
 ghost use Rattle.hd_journal.specs.Keepers.{IsAdded};
 ghost use Rattle.hd_journal.specs.Openings.{IsLegalSince};
+ghost use Rattle.hd_hall.specs.Closings.{AreTurnsOf};
+ghost use Rattle.hd_hall.specs.Faults.{IsLockFault};
 ghost use Rattle.hd_hall.specs.Receipts.{HoldsLast, LacksLast, StandsAt, last_receipt};
-ghost use Rattle.hd_hall.specs.Submitting.{IsSubmitFault};
+ghost use Rattle.hd_hall.specs.Seats.{EachSeat, IsWhole};
 
-use crate::fault::HallFault;
+use crate::closing::differing;
+use crate::hall::{Hall, NotClosed};
 use crate::house::House;
 use crate::kept::Kept;
-use hd_journal::{Keeper, SeatNo, Turn};
+use crate::seat::Seat;
+use crate::tickets::{SEATS, Ticket, Tickets};
+use hd_catalogue::Catalogue;
+use hd_journal::{Keeper, Turn, TurnFault};
 use std::alloc::Allocator;
 use std::marker::PhantomData;
 use std::sync::ledger::{Blank, Book, Share};
+use std::sync::{Arc, Mutex};
 
-/// How many seats a hall has.
-pub(crate) const SEATS: u32 = 4_294_967_295;
-
-/// The journal's keeper, the book of the ledger, the parts that no seat has, and the number of seats opened.
+/// The journal's keeper, the book of the ledger, and the tickets of the seats that aren't opened.
+///
+/// The keeper comes out by `close` alone.
 #[derive(Drop)]
 pub(crate) struct Locked<H: House, A: Allocator, Q: Drop, K: Keeper<A, Q>> {
-    pub(crate) keeper: K,
-    pub(crate) book: Book<H>,
-    pub(crate) rest: Share<H>,
-    pub(crate) opened: u32,
-    pub(crate) of: PhantomData<A>,
-    pub(crate) asks: PhantomData<Q>,
+    keeper: K,
+    book: Book<H>,
+    tickets: Tickets<H>,
+    of: PhantomData<A>,
+    asks: PhantomData<Q>,
     ghost ours: { K.opening keeper ≡ H.opening },
     ghost counted: { book.total ≡ length (K.turns keeper) },
-    ghost given: { rest.parts + opened ≡ 4294967296 },
-    ghost empty: { rest.amount ≡ 0 },
 }
 
 impl<H: House, A: Allocator + Copy, Q: Drop, K: Keeper<A, Q>> Locked<H, A, Q, K> {
@@ -48,42 +52,37 @@ impl<H: House, A: Allocator + Copy, Q: Drop, K: Keeper<A, Q>> Locked<H, A, Q, K>
         Locked {
             keeper,
             book,
-            rest,
-            opened: 0,
+            tickets: Tickets::new(rest),
             of: PhantomData,
             asks: PhantomData,
         }
     }
 
-    /// The number of a new seat, which is the next one, and its part, or `None` where all have been opened.
-    pub(crate) fn seat(&mut self) -> Option<(SeatNo, Share<H>)>
-        ensures none { IsNone result ↔ (self.old.opened ≡ SEATS) }
-        ensures number { IfSome result (λ s. s.0 ≡ self.old.opened + 1) }
-        ensures opened { OnSome result (self.new.opened ≡ self.old.opened + 1) }
-        ensures part { IfSome result (λ s. (s.1.parts ≡ 1) × (s.1.amount ≡ 0)) }
+    /// The ticket of a new seat, of the next number, and its part of the ledger, or `None` where all have been
+    /// opened.
+    pub(crate) fn seat(&mut self) -> Option<(Ticket<H>, Share<H>)>
+        ensures none { IsNone result ↔ (self.old.tickets.given ≡ SEATS) }
+        ensures number { IfSome result (λ new. new.0 ≡ self.old.tickets.given + 1) }
+        ensures opened { OnSome result (self.new.tickets.given ≡ self.old.tickets.given + 1) }
+        ensures part { IfSome result (λ new. (new.1.parts ≡ 1) × (new.1.amount ≡ 0)) }
         ensures same { (self.new.keeper ≡ self.old.keeper) × (self.new.book ≡ self.old.book) }
-        ensures unchanged { IfNone result (self.new ≡ self.old) }
+        ensures unchanged { IfNone result (self.new.tickets ≡ self.old.tickets) }
     {
-        if self.opened == SEATS {
-            return None;
-        }
-        let share = self.rest.split_off(1, 0);
-        self.opened += 1;
-        Some((SeatNo::new(self.opened), share))
+        self.tickets.next()
     }
 
     /// Makes the turn of what is asked, counted in the share, where the journal holds the last of these
     /// receipts.
     ///
     /// # Errors
-    /// `Estranged` where it lacks that receipt's turn, and what its keeper gives. The turns and the share are
-    /// unchanged.
+    /// `Estranged` where it lacks that receipt's turn, and else what its keeper gives, for the keeper's cause.
+    /// The turns and the share are unchanged.
     pub(crate) fn submit(
         &mut self,
         receipts: &[Kept<A>],
         share: &mut Share<H>,
         own: Q,
-    ) -> Result<Turn, HallFault>
+    ) -> Result<Turn, TurnFault>
         requires part { 0 < share.old.parts }
         requires known { IsKnownMessage (facts_of H.opening.contents) (K.asks own).message }
         ensures legal { IsLegalSince H.opening (K.turns self.new.keeper) }
@@ -92,21 +91,82 @@ impl<H: House, A: Allocator + Copy, Q: Drop, K: Keeper<A, Q>> Locked<H, A, Q, K>
         ensures holds { OnOk result (HoldsLast (K.turns self.old.keeper) receipts.now) }
         ensures share { OnOk result (share.new.amount ≡ share.old.amount + 1) }
         ensures parts { share.new.parts ≡ share.old.parts }
-        ensures why { IfErr result (IsSubmitFault K.faults (λ front.
+        ensures why { IfErr result (IsLockFault K.faults (λ front.
             (front ≡ length (K.turns self.old.keeper))
             × LacksLast (K.turns self.old.keeper) receipts.now)) }
+        // where the journal holds the seat's last turn, the keeper's fault is handed on as it is
+        ensures cause { HoldsLast (K.turns self.old.keeper) receipts.now
+            → IfErr result (K.causes self.old.keeper (K.asks own) self.new.keeper) }
         ensures err { OnErr result
             ((K.turns self.new.keeper ≡ K.turns self.old.keeper) × (share.new ≡ share.old)) }
     {
         let Locked { keeper, book, .. } = self;
         if !holds_last(keeper, receipts) {
-            return Err(HallFault::Estranged {
+            return Err(TurnFault::Estranged {
                 front: keeper.front(),
             });
         }
         let turn = keeper.take(own)?;
         book.add(share, 1);
         Ok(turn)
+    }
+}
+
+impl<H: House, A: Allocator + Copy, Q: Drop, K: Keeper<A, Q> + Drop> Locked<H, A, Q, K> {
+    ghost use Rattle.hd_hall.specs.NotClosing.{CountsOpened, Misses};
+
+    /// The journal, whose turns are the receipts of these seats, each once. The seats are as many as were
+    /// opened, each with its part of the ledger: so they are all that were opened. It takes no memory.
+    ///
+    /// # Errors
+    /// `SeatMissing` exactly where fewer are handed in than were opened, and `ReceiptDiffers` where some turn
+    /// has no receipt. The seats come back as they were.
+    pub(crate) fn close(
+        self,
+        alloc: A,
+        catalogue: Arc<Catalogue<A>, A>,
+        mut seats: Vec<Seat<H, A>, A>,
+    ) -> Result<K, NotClosed<H, A, Q, K>>
+        requires catalogue { arc_value catalogue ≡ H.opening.contents }
+        requires parts { H.parts ≡ 4294967296 }
+        requires seats { EachSeat seats.items (λ s. s.parts ≡ 1) }
+        // the seats that were opened are all there
+        ensures all { OnOk result (length seats.items ≡ self.tickets.given) }
+        ensures turns { IfOk result (λ keeper. AreTurnsOf H.opening (K.turns keeper) seats.items) }
+        ensures opening { IfOk result (λ keeper. K.opening keeper ≡ H.opening) }
+        ensures in_order { OnOk result (EachSeat seats.items IsWhole) }
+        ensures missing { IfErr result (λ why. Misses H.opening why seats.items) }
+        // it is told that one is missing where one is, and how many were opened
+        ensures opened { IfErr result (λ why. CountsOpened self.tickets.given why seats.items) }
+    {
+        let opened = self.tickets.given;
+        if seats.len() < opened as usize {
+            return Err(NotClosed::SeatMissing {
+                hall: Hall {
+                    alloc,
+                    catalogue,
+                    shared: Mutex::new(self),
+                },
+                seats,
+                opened,
+            });
+        }
+        let Locked {
+            keeper,
+            mut book,
+            tickets,
+            of: _of,
+            asks: _asks,
+        } = self;
+        let mut rest = tickets.into_rest();
+        match differing(&keeper, &mut book, &mut rest, seats.as_mut_slice()) {
+            None => Ok(keeper),
+            Some(number) => Err(NotClosed::ReceiptDiffers {
+                keeper,
+                seats,
+                number,
+            }),
+        }
     }
 }
 

@@ -5,18 +5,19 @@ ghost use Rattle.hd_hall.specs.Seats.{without_part, with_part, IsSeat, IsWhole};
 
 use crate::house::House;
 use crate::kept::Kept;
+use crate::tickets::Ticket;
 use hd_journal::SeatNo;
 use std::alloc::{Allocator, Global};
 use std::marker::Model;
 use std::sync::ledger::Share;
 
-/// A place in a hall, with the receipts of the turns that were made from it, and one part of the hall's
-/// ledger.
+/// A place in a hall, with a number that no other seat of the hall has, the receipts of the turns that were
+/// made from it, and one part of the hall's ledger.
 ///
 /// Its receipts are its own, in the order of the journal, and its share of what the ledger counts is their
 /// number.
 pub struct Seat<H: House, A: Allocator = Global> {
-    pub(crate) number: SeatNo,
+    pub(crate) ticket: Ticket<H>,
     pub(crate) receipts: Vec<Kept<A>, A>,
     pub(crate) share: Share<H>,
 }
@@ -25,7 +26,7 @@ pub struct Seat<H: House, A: Allocator = Global> {
 impl<H: House, A: Allocator> Drop for Seat<H, A> {
     fn drop(self) {
         let Seat {
-            number: _number,
+            ticket: _ticket,
             receipts: _receipts,
             share: _share,
         } = self;
@@ -38,14 +39,14 @@ impl<H: House, A: Allocator> Model for Seat<H, A> {
     ghost Value = { SeatView };
 
     ghost view = { λ s. record {
-      number = s.number;
+      number = s.ticket;
       receipts = s.receipts.items;
       parts = s.share.parts;
       share = s.share.amount;
     } };
 
     ghost invariant = { λ s. IsSeat H.opening (record {
-      number = s.number;
+      number = s.ticket;
       receipts = s.receipts.items;
       parts = s.share.parts;
       share = s.share.amount;
@@ -57,7 +58,7 @@ impl<H: House, A: Allocator> Seat<H, A> {
     pub fn number(&self) -> SeatNo
         ensures { result ≡ self.now.number }
     {
-        self.number
+        self.ticket.number()
     }
 
     /// The receipts of the turns that were made from it, in order.

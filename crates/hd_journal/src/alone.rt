@@ -1,6 +1,6 @@
 //! A journal that is used alone: an office, whose seat has number 0, and a keeper.
 use crate::ask::{Ask, OwnedAsk};
-use crate::fault::{KeeperFault, OfficeFault};
+use crate::fault::TurnFault;
 use crate::journal::Journal;
 use crate::keeper::Keeper;
 use crate::numbers::SeatNo;
@@ -11,15 +11,20 @@ use std::alloc::{AllocError, Allocator};
 use std::sync::Arc;
 
 impl<A: Allocator + Copy> Office<A> for Journal<A> {
-    ghost use Rattle.std.specs.Prelude.{◌≡◌, []};
+    ghost use Rattle.std.specs.Prelude.{[], length};
     ghost use Rattle.hd_journal.specs.Books.{IsLegalBook};
-    ghost use Rattle.hd_journal.specs.declared.fault.OfficeFault.TheVariants.{Memory};
+    ghost use Rattle.hd_journal.specs.Faults.{IsMemory};
 
     ghost keeps = { λ journal. record { contents = journal.contents; seat = 0; borrows = [] } };
 
     ghost turns = { λ journal. journal.turns };
 
-    ghost faults = { λ fault. fault ≡ Memory };
+    ghost last_number = { λ journal. length journal.turns };
+
+    /// Memory, and nothing else.
+    ghost faults = { IsMemory };
+
+    ghost causes = { λ old new. IsMemory };
 
     /// All turns that the journal has come through are legal, and the headline holds of them.
     ghost holds = { λ journal. IsLegalBook journal.contents journal.turns };
@@ -32,16 +37,14 @@ impl<A: Allocator + Copy> Office<A> for Journal<A> {
         SeatNo::new(0)
     }
 
-    #[tactic(auto, using(crate::proofs::Replying::turns_grow))]
-    fn turn(&mut self, ask: &Ask<'_>) -> Result<Turn, OfficeFault> {
-        Ok(self.take_copy(ask)?)
+    fn turn(&mut self, ask: &Ask<'_>) -> Result<Turn, TurnFault> {
+        self.take_copy(ask)
     }
 }
 
 impl<A: Allocator + Copy> Keeper<A, OwnedAsk<A>> for Journal<A> {
-    ghost use Rattle.std.specs.Prelude.{◌≡◌};
+    ghost use Rattle.hd_journal.specs.Faults.{IsMemory};
     ghost use Rattle.hd_journal.specs.Openings.{fresh};
-    ghost use Rattle.hd_journal.specs.declared.fault.KeeperFault.TheVariants as keeper;
 
     ghost asks = { λ ask. ask };
 
@@ -49,7 +52,10 @@ impl<A: Allocator + Copy> Keeper<A, OwnedAsk<A>> for Journal<A> {
 
     ghost turns = { λ journal. journal.turns };
 
-    ghost faults = { λ fault. fault ≡ keeper.Memory };
+    /// Memory, and nothing else.
+    ghost faults = { IsMemory };
+
+    ghost causes = { λ old ask new. IsMemory };
 
     fn own(alloc: A, ask: &Ask<'_>) -> Result<OwnedAsk<A>, AllocError> {
         ask.to_owned(alloc)
@@ -67,7 +73,7 @@ impl<A: Allocator + Copy> Keeper<A, OwnedAsk<A>> for Journal<A> {
         Journal::turn_at(self, at)
     }
 
-    fn take(&mut self, own: OwnedAsk<A>) -> Result<Turn, KeeperFault> {
-        Ok(Journal::take(self, own)?)
+    fn take(&mut self, own: OwnedAsk<A>) -> Result<Turn, TurnFault> {
+        Journal::take(self, own)
     }
 }

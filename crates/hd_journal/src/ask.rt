@@ -70,7 +70,7 @@ impl<'a> Ask<'a> {
     /// The same with a copy of the line.
     ///
     /// # Errors
-    /// Where there is no memory for the line. Without a line none is wanted.
+    /// Out of memory, which only a line needs.
     pub fn to_owned<A: Allocator>(&self, alloc: A) -> Result<OwnedAsk<A>, AllocError>
         ensures same { IfOk result (λ own. own ≡ message_of self.now) }
         ensures no_line { self.now.line ≡ None → IsOk result }

@@ -1,63 +1,49 @@
-//! Why a turn isn't made: by a journal, by an office that sessions ask, and under a hall's lock.
+//! Why a turn isn't made: by a journal, an office that sessions ask, a hall, or whatever keeps a journal.
 
 ghost use Rattle.std.specs.Prelude.{◌≡◌};
-ghost use Rattle.hd_journal.specs.declared.fault.Fault.TheVariants.{Memory};
-ghost use Rattle.hd_journal.specs.declared.fault.OfficeFault.TheVariants as office;
-ghost use Rattle.hd_journal.specs.declared.fault.KeeperFault.TheVariants as keeper;
+ghost use Rattle.hd_journal.specs.declared.fault.TurnFault.TheVariants.{Memory, Unwritten};
 
 use std::alloc::AllocError;
 
-/// Why a turn isn't made. Nothing is changed then.
+/// Why a turn isn't made: by a journal, an office, a hall, or whatever keeps a journal. There is no turn more
+/// then.
+///
+/// Which of these can come each says of itself: a journal alone gives `Memory`, and nothing else.
 #[derive(Clone, Copy, PartialEq, Eq, Debug)]
-pub enum Fault {
-    /// There was no memory for it.
+pub enum TurnFault {
+    /// Out of memory.
     Memory,
+    /// The journal, of `front` turns, lacks the last turn that this side saw: it is another journal.
+    Estranged { front: usize },
+    /// The turn, or an earlier one, couldn't be written to where the turns outlive a stop.
+    Unwritten(WriteFault),
 }
 
-impl From<AllocError> for Fault {
+impl From<AllocError> for TurnFault {
     ghost from_gives = { λ _ fault. fault ≡ Memory };
 
-    fn from(_: AllocError) -> Fault {
-        Fault::Memory
+    fn from(_: AllocError) -> TurnFault {
+        TurnFault::Memory
     }
 }
 
-/// Why an office makes no turn. It has no turn more then.
+impl From<WriteFault> for TurnFault {
+    ghost from_gives = { λ why fault. fault ≡ Unwritten why };
+
+    fn from(why: WriteFault) -> TurnFault {
+        TurnFault::Unwritten(why)
+    }
+}
+
+/// Why a turn couldn't be written to where turns outlive a stop. It is printed in the operator's words.
 #[derive(Clone, Copy, PartialEq, Eq, Debug)]
-pub enum OfficeFault {
-    /// There was no memory for it.
+pub enum WriteFault {
+    /// Out of memory while its row was made or written.
     Memory,
-    /// The office's turns aren't those that the session saw: it has come to another journal.
-    Estranged,
-    /// The office keeps its turns where they outlive a stop, and this one or an earlier one couldn't be
-    /// written.
-    Unwritten,
-}
-
-/// A journal alone wants nothing but memory.
-impl From<Fault> for OfficeFault {
-    ghost from_gives = { λ _ fault. fault ≡ office.Memory };
-
-    fn from(fault: Fault) -> OfficeFault {
-        match fault {
-            Fault::Memory => OfficeFault::Memory,
-        }
-    }
-}
-
-/// Why a keeper makes no turn. It has no turn more then.
-#[derive(Clone, Copy, PartialEq, Eq, Debug)]
-pub enum KeeperFault {
-    /// There was no memory for it.
-    Memory,
-    /// Turns are kept where they outlive a stop, and this one or an earlier one couldn't be written.
-    Unwritten,
-}
-
-impl From<Fault> for KeeperFault {
-    ghost from_gives = { λ _ fault. fault ≡ keeper.Memory };
-
-    fn from(_: Fault) -> KeeperFault {
-        KeeperFault::Memory
-    }
+    /// The disk is full.
+    DiskFull,
+    /// The system refused the write.
+    Refused,
+    /// A name of the turn isn't UTF-8.
+    NotText,
 }

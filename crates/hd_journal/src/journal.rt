@@ -1,6 +1,6 @@
 //! The journal.
 
-ghost use Rattle.std.specs.Prelude.{◌≡◌, ◌<◌, [], None, IfOk, OnErr, length, option_map};
+ghost use Rattle.std.specs.Prelude.{◌≡◌, ◌<◌, [], None, IfErr, IfOk, OnErr, length, option_map};
 ghost use Rattle.hd_catalogue.specs.Contents.{facts_of};
 ghost use Rattle.hd_records.specs.Shown.{record_shown as shown_record};
 ghost use Rattle.hd_journal.specs.Stored.{IsRecordOf};
@@ -10,10 +10,11 @@ ghost use Rattle.hd_desk.specs.Desks.{Opens, contents, desk_of};
 ghost use Rattle.hd_journal.specs.Asks.{IsKnownMessage, asking, message_of};
 ghost use Rattle.hd_journal.specs.Books.{AddsTurn, IsLegalBook, MakesNoTurn, facts, state, turn_numbered};
 ghost use Rattle.hd_journal.specs.Changing.{is_changing};
+ghost use Rattle.hd_journal.specs.Faults.{IsMemory};
 ghost use Rattle.hd_journal.specs.Shown.{turn_shown};
 
 use crate::ask::{Ask, OwnedAsk};
-use crate::fault::Fault;
+use crate::fault::TurnFault;
 use crate::laws::journal_laws;
 use crate::numbers::SeatNo;
 use crate::running::Running;
@@ -27,7 +28,7 @@ use std::marker::Model;
 
 /// Every turn, and the desk of the commands that were not cancelled.
 ///
-/// What a terminal asks is one call, and makes one turn or, for want of memory, none. A message that equals
+/// What a terminal asks is one call, and makes one turn or, out of memory, none. A message that equals
 /// what is kept of the terminal's last changing message gets the same reply again, and nothing else changes
 /// (docs/protocol.md, "Repeats").
 ///
@@ -100,11 +101,12 @@ impl<A: Allocator + Copy> Journal<A> {
     /// The turn is the ask itself with its reply: nothing is copied.
     ///
     /// # Errors
-    /// `Memory`. There is no turn then.
-    pub fn take(&mut self, ask: OwnedAsk<A>) -> Result<Turn, Fault>
+    /// `Memory`, and no other. There is no turn then.
+    pub fn take(&mut self, ask: OwnedAsk<A>) -> Result<Turn, TurnFault>
         requires { IsKnownMessage (facts self.old) ask.message }
         ensures turn { IfOk result (AddsTurn self.old self.new ask.seat ask.message) }
         ensures legal { IsLegalBook self.new.contents self.new.turns }
+        ensures why { IfErr result IsMemory }
         ensures err { OnErr result (MakesNoTurn self.old self.new) }
     {
         journal_laws();
@@ -120,11 +122,12 @@ impl<A: Allocator + Copy> Journal<A> {
     }
 
     /// One turn: what a terminal of a seat asks, of which the journal makes its own copy. As `take`.
-    pub fn take_copy(&mut self, ask: &Ask<'_>) -> Result<Turn, Fault>
+    pub fn take_copy(&mut self, ask: &Ask<'_>) -> Result<Turn, TurnFault>
         requires { IsKnownMessage (facts self.old) (message_of ask.now).message }
         ensures turn { IfOk result (AddsTurn self.old self.new (message_of ask.now).seat
             (message_of ask.now).message) }
         ensures legal { IsLegalBook self.new.contents self.new.turns }
+        ensures why { IfErr result IsMemory }
         ensures err { OnErr result (MakesNoTurn self.old self.new) }
     {
         let own = ask.to_owned(self.alloc())?;
@@ -139,12 +142,13 @@ impl<A: Allocator + Copy> Journal<A> {
         seat: SeatNo,
         command: &Command,
         line: Option<&[u8]>,
-    ) -> Result<Turn, Fault>
+    ) -> Result<Turn, TurnFault>
         requires known { IsKnownAction (facts self.old) command.now.action }
         requires terminal { terminal < (facts self.old).terminals }
         ensures turn { IfOk result (AddsTurn self.old self.new seat
             (asking terminal (Asked.Command command.now) (option_map (λ bytes. bytes.now) line.entry))) }
         ensures legal { IsLegalBook self.new.contents self.new.turns }
+        ensures why { IfErr result IsMemory }
         ensures err { OnErr result (MakesNoTurn self.old self.new) }
     {
         self.take_copy(&Ask::new(seat, terminal, Asked::Command(*command), line))
@@ -158,24 +162,31 @@ impl<A: Allocator + Copy> Journal<A> {
         seat: SeatNo,
         what: &Cancel,
         line: Option<&[u8]>,
-    ) -> Result<Turn, Fault>
+    ) -> Result<Turn, TurnFault>
         requires known { IsKnownCancel (facts self.old) what.now }
         requires terminal { terminal < (facts self.old).terminals }
         ensures turn { IfOk result (AddsTurn self.old self.new seat
             (asking terminal (Asked.Cancel what.now) (option_map (λ bytes. bytes.now) line.entry))) }
         ensures legal { IsLegalBook self.new.contents self.new.turns }
+        ensures why { IfErr result IsMemory }
         ensures err { OnErr result (MakesNoTurn self.old self.new) }
     {
         self.take_copy(&Ask::new(seat, terminal, Asked::Cancel(*what), line))
     }
 
     /// One turn: a terminal's query of a copy. As `take`.
-    pub fn query(&mut self, terminal: TerminalNo, seat: SeatNo, item: CopyNo) -> Result<Turn, Fault>
+    pub fn query(
+        &mut self,
+        terminal: TerminalNo,
+        seat: SeatNo,
+        item: CopyNo,
+    ) -> Result<Turn, TurnFault>
         requires known { item < (facts self.old).copies }
         requires terminal { terminal < (facts self.old).terminals }
         ensures turn { IfOk result (AddsTurn self.old self.new seat
             (asking terminal (Asked.Item item) None)) }
         ensures legal { IsLegalBook self.new.contents self.new.turns }
+        ensures why { IfErr result IsMemory }
         ensures err { OnErr result (MakesNoTurn self.old self.new) }
     {
         self.take_copy(&Ask::new(seat, terminal, Asked::Item(item), None))

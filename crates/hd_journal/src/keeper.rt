@@ -9,10 +9,10 @@ ghost use Rattle.hd_journal.specs.Books.{turn_numbered};
 ghost use Rattle.hd_journal.specs.Shown.{turn_shown};
 ghost use Rattle.hd_journal.specs.Keepers.{IsAdded};
 ghost use Rattle.hd_journal.specs.Openings.{Opening, IsLegalSince};
-ghost use Rattle.hd_journal.specs.declared.fault.KeeperFault.{KeeperFault};
+ghost use Rattle.hd_journal.specs.declared.fault.TurnFault.{TurnFault};
 
 use crate::ask::Ask;
-use crate::fault::KeeperFault;
+use crate::fault::TurnFault;
 use crate::turn::{Turn, TurnRef};
 use hd_catalogue::Catalogue;
 use std::alloc::{AllocError, Allocator};
@@ -33,12 +33,15 @@ pub trait Keeper<A: Allocator, Q: Drop> {
     ghost turns: { Self → List Turn };
 
     /// The faults that it can give.
-    ghost faults: { KeeperFault → Type 0 };
+    ghost faults: { TurnFault → Type 0 };
+
+    /// Why it gave this fault at what was asked, by what it was before and is then.
+    ghost causes: { Self → SeatMessage → Self → TurnFault → Type 0 };
 
     /// What it keeps of an ask.
     ///
     /// # Errors
-    /// Where there is no memory for it.
+    /// Out of memory.
     fn own(alloc: A, ask: &Ask<'_>) -> Result<Q, AllocError>
         ensures { IfOk result (λ own. asks own ≡ message_of ask.now) };
 
@@ -58,12 +61,13 @@ pub trait Keeper<A: Allocator, Q: Drop> {
     /// One turn: what a terminal of a seat asks. What it names, and the terminal, are of the catalogue.
     ///
     /// # Errors
-    /// There is no turn then.
-    fn take(&mut self, own: Q) -> Result<Turn, KeeperFault>
+    /// Those of `faults`, each for its cause. There is no turn then.
+    fn take(&mut self, own: Q) -> Result<Turn, TurnFault>
         requires { IsKnownMessage (facts_of (opening self.old).contents) (asks own).message }
         ensures turn { IfOk result (λ made. IsAdded (turns self.old) (turns self.new) (asks own) made) }
         ensures legal { IsLegalSince (opening self.new) (turns self.new) }
         ensures why { IfErr result faults }
+        ensures cause { IfErr result (causes self.old (asks own) self.new) }
         ensures err { OnErr result (turns self.new ≡ turns self.old) }
         ensures same { opening self.new ≡ opening self.old };
 }

@@ -15,6 +15,7 @@ mod line;
 mod numbers;
 mod office;
 mod opening;
+mod printing;
 mod room;
 mod running;
 mod told;
@@ -22,7 +23,7 @@ mod turn;
 
 pub use crate::ask::{Ask, OwnedAsk};
 pub use crate::entry::Entry;
-pub use crate::fault::{Fault, KeeperFault, OfficeFault};
+pub use crate::fault::{TurnFault, TurnFault as Fault, TurnFault as OfficeFault, WriteFault};
 pub use crate::journal::Journal;
 pub use crate::keeper::Keeper;
 pub use crate::numbers::SeatNo;

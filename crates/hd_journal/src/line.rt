@@ -37,7 +37,7 @@ impl<A: Allocator> Line<A> {
     }
 }
 
-/// A copy of the line, where there is one. Without a line no memory is wanted.
+/// A copy of the line, where there is one. Without a line no memory is needed.
 pub(crate) fn copy_if_any<A: Allocator>(
     alloc: A,
     line: Option<&[u8]>,
@@ -55,10 +55,7 @@ pub(crate) fn copy_if_any<A: Allocator>(
 pub(crate) fn bytes_if_any<A: Allocator>(line: &Option<Line<A>>) -> Option<&[u8]>
     ensures { option_map (λ bytes. bytes.now) result ≡ line.now }
 {
-    match line {
-        Some(line) => Some(line.bytes()),
-        None => None,
-    }
+    line.as_ref().map(|line| line.bytes())
 }
 
 /// Whether two lines are the same bytes. It is the test by which the turn machine tells a repeat.

@@ -1,15 +1,15 @@
 //! Offices.
-ghost use Rattle.std.specs.Prelude.{◌≡◌, ◌++◌, ◌∷◌, [], List, IfErr, IfOk, OnErr};
+ghost use Rattle.std.specs.Prelude.{◌≡◌, ◌++◌, ◌∷◌, [], ℕ, List, IfErr, IfOk, OnErr};
 ghost use Rattle.hd_rules.specs.Journal.{Turn};
 ghost use Rattle.hd_rules.specs.Known.{IsKnownTurnReply};
 ghost use Rattle.hd_rules.specs.Replies.{IsReplyTo};
 ghost use Rattle.hd_catalogue.specs.Contents.{facts_of};
 ghost use Rattle.hd_journal.specs.Asks.{IsKnownMessage, turn_with_reply, message_of};
-ghost use Rattle.hd_journal.specs.declared.fault.OfficeFault.{OfficeFault};
+ghost use Rattle.hd_journal.specs.declared.fault.TurnFault.{TurnFault};
 ghost use Rattle.hd_journal.specs.Offices.{Keeps};
 
 use crate::ask::Ask;
-use crate::fault::OfficeFault;
+use crate::fault::TurnFault;
 use crate::numbers::SeatNo;
 use crate::turn::Turn;
 use hd_catalogue::Catalogue;
@@ -24,8 +24,14 @@ pub trait Office<A: Allocator> {
     /// The turns that were made through it, in order.
     ghost turns: { Self → List Turn };
 
+    /// The number of the last turn that was made through it, in the journal that has that turn.
+    ghost last_number: { Self → ℕ };
+
     /// The faults that it can give.
-    ghost faults: { OfficeFault → Type 0 };
+    ghost faults: { TurnFault → Type 0 };
+
+    /// Why it gave this fault, by what it was before and is then.
+    ghost causes: { Self → Self → TurnFault → Type 0 };
 
     /// What holds of it after each turn, whatever the turns.
     ghost holds: { Self → Type 0 };
@@ -41,16 +47,21 @@ pub trait Office<A: Allocator> {
     /// One turn: what a terminal asks at this seat. The terminal, and all that it asks, are of the office's
     /// catalogue.
     ///
-    /// Its reply is one to what was asked and names things of the catalogue. At a fault there is no turn.
-    fn turn(&mut self, ask: &Ask<'_>) -> Result<Turn, OfficeFault>
+    /// Its reply is one to what was asked and names things of the catalogue.
+    ///
+    /// # Errors
+    /// Those of `faults`, each for its cause. There is no turn then.
+    fn turn(&mut self, ask: &Ask<'_>) -> Result<Turn, TurnFault>
         requires seat { ask.now.seat ≡ (keeps self.old).seat }
         requires known { IsKnownMessage (facts_of (keeps self.old).contents) (message_of ask.now).message }
         ensures turn { IfOk result (λ made.
             turns self.new ≡ turns self.old ++ turn_with_reply (message_of ask.now) made.reply ∷ []) }
+        ensures number { IfOk result (λ made. made.at ≡ last_number self.new) }
         ensures reply { IfOk result (λ made. IsReplyTo ask.now.asked made.reply) }
         ensures names { IfOk result (λ made.
             IsKnownTurnReply (facts_of (keeps self.old).contents) made.reply) }
         ensures why { IfErr result faults }
+        ensures cause { IfErr result (causes self.old self.new) }
         ensures err { OnErr result (turns self.new ≡ turns self.old) }
         ensures same { keeps self.new ≡ keeps self.old }
         ensures holds { holds self.new };

@@ -11,7 +11,8 @@ use std::sync::Arc;
 
 /// The catalogue, for the desk and whoever else reads it.
 ///
-/// An error is want of memory.
+/// # Errors
+/// Out of memory.
 pub fn share<A: Allocator>(
     alloc: A,
     catalogue: Catalogue<A>,
@@ -24,7 +25,8 @@ pub fn share<A: Allocator>(
 /// A journal without turns: each copy is on the open shelf of its home, and nobody has a hold. `inline` is
 /// never asked for memory (`Desk::open`).
 ///
-/// An error is want of memory.
+/// # Errors
+/// Out of memory.
 pub fn open<A: Allocator + Copy>(
     alloc: A,
     inline: Global,

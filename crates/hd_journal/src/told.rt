@@ -10,7 +10,7 @@ use crate::ask::OwnedAsk;
 use crate::entry::Entry;
 use crate::room::reach;
 use crate::turn::{Turn, TurnRef};
-use hd_log::Log;
+use hd_blocks::BlockList;
 use hd_rules::{TerminalNo, TurnReply};
 use std::alloc::{AllocError, Allocator};
 use std::marker::Model;
@@ -18,7 +18,7 @@ use std::marker::Model;
 /// The turns, and by terminal the place of its last changing turn.
 #[derive(Drop)]
 pub(crate) struct Told<A: Allocator> {
-    turns: Log<Entry<A>, A>,
+    turns: BlockList<Entry<A>, A>,
     places: Vec<Option<usize>, A>,
 }
 
@@ -43,7 +43,7 @@ impl<A: Allocator + Copy> Told<A> {
         ensures places { result.places ≡ [] }
     {
         Told {
-            turns: Log::new(alloc),
+            turns: BlockList::new(alloc),
             places: Vec::new(alloc),
         }
     }

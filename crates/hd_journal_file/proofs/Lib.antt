@@ -4,4 +4,6 @@ pub mod Held
 pub mod Tells
 pub mod Results
 pub mod Retaken
+pub mod Refusing
+pub mod Unwritten
 pub mod Keeping

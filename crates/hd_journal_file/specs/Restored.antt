@@ -1,12 +1,22 @@
 -- A journal that takes the rows of a file again.
-use Rattle.std.specs.Prelude.{◌≡◌, ℕ, ◌+◌, true, List, [], ◌∷◌, ◌++◌, length, Option, Some, None}
+use Rattle.std.specs.Prelude.{◌≡◌, ◌≢◌, ℕ, ◌+◌, ◌^◌, ◌≤◌, true, false, List, [], ◌∷◌, ◌++◌, length}
+use Rattle.std.specs.Prelude.{Option, Some, None}
 use Rattle.hd_rules.specs.Journal.{Turn}
+use Rattle.hd_rules.specs.Turns.{Message}
 use Rattle.hd_rules.specs.declared.replies.TurnReply.{TurnReply}
-use Rattle.hd_journal.specs.Books.{Book, facts, state}
+use Rattle.hd_journal.specs.Books.{Book, facts, state, machine_answer}
 use Rattle.hd_journal.specs.Changing.{is_changing, changing}
 use Rattle.hd_turn_store.specs.Kept.{KeptTurn}
+use Rattle.hd_turn_store.specs.Faults.{IsReadingFault}
+use Rattle.hd_turn_row.specs.Faults.{IsFirstFault}
 use Rattle.hd_turn_row.specs.Replies.{outcome_word, number_column, IsReplyText}
-use Rattle.hd_journal_file.specs.Rows.{IsTurnRow, AreTurnRows}
+use Rattle.hd_turn_row.specs.Rows.{IsRowOf}
+use Rattle.hd_journal_file.specs.Rows.{texts, IsTurnRow, AreTurnRows}
+use Rattle.hd_journal_file.specs.declared.fault.CameColumn.{CameColumn}
+use Rattle.hd_journal_file.specs.declared.fault.CameColumn.TheVariants.{Outcome, Number, Reply}
+use Rattle.hd_journal_file.specs.declared.fault.RestoreFault.{RestoreFault}
+use Rattle.hd_journal_file.specs.declared.fault.RestoreFault.TheVariants.{Unread, Memory, NoTurn, NoChange}
+use Rattle.hd_journal_file.specs.declared.fault.RestoreFault.TheVariants.{Differs, TooMany}
 
 -- what a turn came to is what its row says
 pub record CameToRow (reply : TurnReply) (row : KeptTurn) : Type 0 where
@@ -34,3 +44,46 @@ pub record TakesRows (old new : Book) (rows : List KeptTurn) : Type 0 where
 abbrev pub TakesPiece : Book → Book → List KeptTurn → ℕ → Option ℕ → Type 0
 TakesPiece old new rows after None = (rows ≡ []) × TakesRows old new rows
 TakesPiece old new rows after (Some last) = (last ≡ after + length rows) × TakesRows old new rows
+
+-- The first column of a row that says something else than what a turn came to.
+abbrev pub DiffersFirst : TurnReply → KeptTurn → CameColumn → Type 0
+DiffersFirst reply row Outcome = row.outcome ≢ outcome_word reply
+DiffersFirst reply row Number = (row.outcome ≡ outcome_word reply) × (row.number ≢ number_column reply)
+DiffersFirst reply row Reply =
+    (row.outcome ≡ outcome_word reply) × (row.number ≡ number_column reply) × ¬ IsReplyText reply row.reply
+
+-- what a row asks of a journal
+pub record RowAsks (book : Book) (row : KeptTurn) : Type 0 where
+  pub seat : ℕ
+  pub message : Message
+  pub is : IsRowOf book.contents seat message (texts row)
+
+-- Why it doesn't take the turn of the row with a number.
+abbrev pub RefusesRow : Book → KeptTurn → ℕ → RestoreFault → Type 0
+RefusesRow book row number (NoTurn at why) =
+    (at ≡ number) × IsFirstFault book.contents (texts row).terminal (texts row).asked why
+RefusesRow book row number (NoChange at) =
+    (at ≡ number) × ((asks : RowAsks book row) × (is_changing (state book) asks.message ≡ false))
+RefusesRow book row number (Differs at column) =
+    (at ≡ number)
+    × ((asks : RowAsks book row) × DiffersFirst (machine_answer book asks.message).reply row column)
+RefusesRow book row number Memory = Unit {0}
+RefusesRow book row number (Unread fault) = ⊥
+RefusesRow book row number TooMany = ⊥
+
+-- It took the turns of the first of some rows, which come after `after` others, and not that of the next.
+pub record StopsAt (old : Book) (rows : List KeptTurn) (after : ℕ) (fault : RestoreFault) : Type 0 where
+  pub book : Book
+  pub before : List KeptTurn
+  pub row : KeptTurn
+  pub later : List KeptTurn
+  pub rows_are : rows ≡ before ++ row ∷ later
+  pub took : TakesRows old book before
+  pub refuses : RefusesRow book row (after + length before + 1) fault
+
+-- Why it doesn't take the turns of all these rows: they can't be read, or there are more than can be counted,
+-- or one is refused.
+abbrev pub RefusesRows : Book → List KeptTurn → ℕ → RestoreFault → Type 0
+RefusesRows old rows after (Unread fault) = IsReadingFault fault
+RefusesRows old rows after TooMany = 2 ^ 32 ≤ after + length rows + 1
+RefusesRows old rows after fault = StopsAt old rows after fault

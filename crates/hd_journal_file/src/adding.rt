@@ -1,17 +1,19 @@
 //! A row more, as a turn more.
 
-ghost use Rattle.std.specs.Prelude.{◌≡◌, ◌⊎◌, ◌++◌, ◌∷◌, [], List, OnErr, OnOk};
+ghost use Rattle.std.specs.Prelude.{◌≡◌, ◌⊎◌, ◌++◌, ◌∷◌, [], IfErr, List, OnErr, OnOk};
 ghost use Rattle.sqlite.specs.State.{HasCleanDisk};
 ghost use Rattle.sqlite.specs.Held.{state};
 ghost use Rattle.hd_catalogue.specs.Contents.{Contents, facts_of};
 ghost use Rattle.hd_rules.specs.Journal.{IsLegal, Turn};
 ghost use Rattle.hd_turn_store.specs.Rows.{turn_of_row};
 ghost use Rattle.hd_journal_file.specs.Held.{HasTurns, LeavesTurns};
+ghost use Rattle.hd_journal_file.specs.Refused.{IsRefusedBy, write_fault};
 ghost use Rattle.hd_journal_file.specs.Rows.{IsTurnRow};
 
-use hd_durable::NotCommitted;
+use hd_journal::WriteFault;
 use hd_turn_row::a_row_is_of_one_message;
 use hd_turn_store::{Alter, Connection, TurnRow, append};
+use sqlite::{Error as SqlError, ErrorCode};
 
 /// A crash leaves of a file what the connection sees.
 pub(crate) fn a_crash_leaves_what_is_seen<S: Alter>(_conn: &Connection<S>)
@@ -24,8 +26,8 @@ pub(crate) fn a_crash_leaves_what_is_seen<S: Alter>(_conn: &Connection<S>)
 /// Commits the row of a turn more.
 ///
 /// # Errors
-/// Where it can't be written. A crash may then leave the turn or not.
-pub(crate) fn add<S: Alter>(conn: &mut Connection<S>, row: &TurnRow<'_>) -> Result<(), NotCommitted>
+/// Why it can't be written. A crash may then leave the turn or not.
+pub(crate) fn add<S: Alter>(conn: &mut Connection<S>, row: &TurnRow<'_>) -> Result<(), WriteFault>
     ensures clean { HasCleanDisk (state S.Store conn.new) → HasCleanDisk (state S.Store conn.old) }
     ensures ok { HasCleanDisk (state S.Store conn.new) → OnOk result ((k : Contents) (turns : List Turn)
         (turn : Turn) → IsTurnRow k turn (turn_of_row row.now) → IsLegal (facts_of k) (turns ++ turn ∷ [])
@@ -37,10 +39,23 @@ pub(crate) fn add<S: Alter>(conn: &mut Connection<S>, row: &TurnRow<'_>) -> Resu
         (turns left : List Turn) (turn : Turn) → IsTurnRow k turn (turn_of_row row.now)
         → IsLegal (facts_of k) (turns ++ turn ∷ []) → HasTurns k (state S.Store conn.old) turns
         → LeavesTurns k (state S.Store conn.new) left → (left ≡ turns) ⊎ (left ≡ turns ++ turn ∷ [])) }
+    ensures why { HasCleanDisk (state S.Store conn.new) → IfErr result (IsRefusedBy (state S.Store conn.old)
+        (state S.Store conn.new) (turn_of_row row.now)) }
 {
     a_row_is_of_one_message();
     match append(conn, row) {
         Ok(()) => Ok(()),
-        Err(_) => Err(NotCommitted),
+        Err(error) => Err(told(error)),
+    }
+}
+
+/// What a failed write is told as.
+fn told(error: SqlError) -> WriteFault
+    ensures { result ≡ write_fault error }
+{
+    match error {
+        SqlError::SqliteFailure(ErrorCode::OutOfMemory) => WriteFault::Memory,
+        SqlError::SqliteFailure(ErrorCode::DiskFull) => WriteFault::DiskFull,
+        _ => WriteFault::Refused,
     }
 }

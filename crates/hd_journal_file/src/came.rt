@@ -1,10 +1,9 @@
 //! What a turn came to.
 
-ghost use Rattle.std.specs.Prelude.{IfOk};
+ghost use Rattle.std.specs.Prelude.{◌≡◌, IfErr, IfOk};
 ghost use Rattle.hd_journal_file.specs.Came.{ComesTo};
 
-use hd_durable::NotCommitted;
-use hd_journal::TurnReply;
+use hd_journal::{TurnReply, WriteFault};
 use hd_turn_row::{number_of, outcome_of, reply_text};
 use std::alloc::Global;
 
@@ -22,9 +21,10 @@ pub(crate) struct CameTo {
 /// What a turn with this reply came to.
 ///
 /// # Errors
-/// Where there is no memory for it.
-pub(crate) fn came_to(alloc: Global, reply: &TurnReply) -> Result<CameTo, NotCommitted>
-    ensures { IfOk result (ComesTo reply.now) }
+/// Out of memory.
+pub(crate) fn came_to(alloc: Global, reply: &TurnReply) -> Result<CameTo, WriteFault>
+    ensures came { IfOk result (ComesTo reply.now) }
+    ensures why { IfErr result (λ fault. fault ≡ WriteFault.Memory) }
 {
     match reply_text(alloc, reply) {
         Ok(text) => Ok(CameTo {
@@ -32,6 +32,6 @@ pub(crate) fn came_to(alloc: Global, reply: &TurnReply) -> Result<CameTo, NotCom
             number: number_of(reply),
             reply: text,
         }),
-        Err(_) => Err(NotCommitted),
+        Err(_) => Err(WriteFault::Memory),
     }
 }

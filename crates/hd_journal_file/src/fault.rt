@@ -19,7 +19,7 @@ pub enum CameColumn {
 pub enum RestoreFault {
     /// The file can't be read.
     Unread(Fault),
-    /// There was no memory for it.
+    /// Out of memory.
     Memory,
     /// The row is that of no turn.
     NoTurn {

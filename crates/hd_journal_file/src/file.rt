@@ -6,13 +6,14 @@ ghost use Rattle.sqlite.specs.Held.{state};
 ghost use Rattle.sqlite.specs.WalFiles.{image_at};
 ghost use Rattle.hd_rules.specs.Journal.{Turn};
 ghost use Rattle.hd_journal_file.specs.Held.{HoldsJournal, MayLeave};
+ghost use Rattle.hd_journal_file.specs.Refused.{RefusesTurn};
 
 use crate::adding::{a_crash_leaves_what_is_seen, add};
 use crate::came::came_to;
 use crate::telling::turn_row;
 use hd_catalogue::Catalogue;
-use hd_durable::{NotCommitted, TurnTable};
-use hd_journal::TurnRef;
+use hd_durable::TurnTable;
+use hd_journal::{TurnRef, WriteFault};
 use hd_turn_row::RowDays;
 use hd_turn_store::{Alter, Connection, Start};
 use std::alloc::{Allocator, Global};
@@ -96,7 +97,10 @@ impl<S: Alter, F: Start, A: Allocator + Copy> TurnTable for JournalFile<S, F, A>
     ghost leaves = { λ file. MayLeave (image_at F.Start) file.is_new (arc_value file.catalogue)
         (state S.Store file.conn) };
 
-    fn commit(&mut self, turn: &TurnRef<'_>) -> Result<(), NotCommitted> {
+    ghost refuses = { λ old turn new fault. RefusesTurn (arc_value old.catalogue) (state S.Store old.conn)
+        turn (state S.Store new.conn) fault };
+
+    fn commit(&mut self, turn: &TurnRef<'_>) -> Result<(), WriteFault> {
         a_crash_leaves_what_is_seen(&self.conn);
         let came = came_to(self.alloc, &turn.reply)?;
         let days = RowDays::of(&turn.asked);

@@ -1,5 +1,8 @@
 //! Why a journal's file can't be opened.
 
+ghost use Rattle.std.specs.Prelude.{◌≡◌};
+ghost use Rattle.hd_journal_file.specs.declared.open_fault.OpenFault.TheVariants.{File, Turns, Memory};
+
 use crate::fault::RestoreFault;
 use hd_turn_row::{Column, RowFault};
 use hd_turn_store::Fault;
@@ -15,23 +18,29 @@ pub enum OpenFault {
     OtherCatalogue,
     /// Its turns can't be taken again.
     Turns(RestoreFault),
-    /// Want of memory.
+    /// Out of memory.
     Memory,
 }
 
 impl From<Fault> for OpenFault {
+    ghost from_gives = { λ why fault. fault ≡ File why };
+
     fn from(fault: Fault) -> OpenFault {
         OpenFault::File(fault)
     }
 }
 
 impl From<RestoreFault> for OpenFault {
+    ghost from_gives = { λ why fault. fault ≡ Turns why };
+
     fn from(fault: RestoreFault) -> OpenFault {
         OpenFault::Turns(fault)
     }
 }
 
 impl From<AllocError> for OpenFault {
+    ghost from_gives = { λ _ fault. fault ≡ Memory };
+
     fn from(_: AllocError) -> OpenFault {
         OpenFault::Memory
     }

@@ -1,18 +1,22 @@
 //! Opening a journal's file.
 
-ghost use Rattle.std.specs.Prelude.{◌≡◌, [], false, IfOk, IsTrue, List, OnOk};
+ghost use Rattle.std.specs.Prelude.{◌≡◌, ◌⊎◌, ◌↔◌, [], codes, false, Err, IfErr, IfOk, IsErrAnd, IsTrue};
+ghost use Rattle.std.specs.Prelude.{List, OnErr, OnOk};
 ghost use Rattle.sqlite.specs.Files.{file_state};
 ghost use Rattle.sqlite.specs.Held.{state};
 ghost use Rattle.sqlite.specs.State.{HasCleanDisk};
+ghost use Rattle.sqlite.specs.Tree.{Trees};
 ghost use Rattle.sqlite.specs.WalFiles.{image_at};
-ghost use Rattle.hd_journal.specs.Books.{IsLegalBook, facts};
+ghost use Rattle.hd_journal.specs.Books.{facts};
 ghost use Rattle.hd_journal.specs.Changing.{changing};
-ghost use Rattle.hd_turn_store.specs.Holds.{Holds};
 ghost use Rattle.hd_turn_store.specs.Crashes.{HoldsTurns};
-ghost use Rattle.hd_turn_store.specs.Kept.{Head, KeptTurn};
+ghost use Rattle.hd_turn_store.specs.Faults.{IsReadingFault};
+ghost use Rattle.hd_turn_store.specs.Holds.{Holds};
+ghost use Rattle.hd_turn_store.specs.Kept.{Head, KeptTurn, new_head};
+ghost use Rattle.hd_turn_store.specs.declared.fault.Fault.{Fault as StoreFault};
+ghost use Rattle.hd_turn_store.specs.declared.fault.Fault.TheVariants as store;
 ghost use Rattle.hd_journal_file.specs.Held.{IsReliable};
-ghost use Rattle.hd_journal_file.specs.Rows.{AreTurnRows};
-ghost use Rattle.hd_journal_file.specs.Opening.{AreFound, AreHeld};
+ghost use Rattle.hd_journal_file.specs.Opening.{AreFound, AreHeld, IsRedated, IsTaken, RefusesFile};
 
 use crate::file::JournalFile;
 use crate::open_fault::OpenFault;
@@ -39,7 +43,7 @@ pub struct Wanted<'a> {
 /// `journal` has no turns, and its catalogue is the one that is wanted.
 ///
 /// # Errors
-/// Each of `OpenFault`. The turns in the file stay as they were.
+/// Each of `OpenFault`. The turns in the file stay as they were (`left` of `take_again`).
 pub fn open<S: Start>(
     rt: &HostRuntime,
     path: &str,
@@ -49,7 +53,17 @@ pub fn open<S: Start>(
 ) -> Result<DurableJournal<JournalFile<FileStore<FileFrom<S>>, S>>, OpenFault>
     requires { journal.turns ≡ [] }
     ensures contents { IfOk result (λ opened. opened.contents ≡ journal.contents) }
-    ensures found { IfOk result (λ opened. AreFound (image_at S.Start) opened.table.is_new
+    // Of the path no clause says more: what its files hold is `S`.
+    ensures memory { path.now ≡ codes ":memory:"
+        → IsErrAnd result (λ fault. fault ≡ OpenFault.File store.CannotOpen) }
+    // One is begun only where the files held none, and is of the wanted catalogue.
+    ensures new { IfOk result (λ opened. HasCleanDisk (file_state opened.table.conn)
+        → IsTrue opened.table.is_new → (head : Head) (rows : List KeptTurn)
+        → ¬ HoldsTurns (image_at S.Start) head rows) }
+    ensures begun { IfOk result (λ opened. HasCleanDisk (file_state opened.table.conn)
+        → IsTrue opened.table.is_new → (opened.turns ≡ [])
+        × Holds (file_state opened.table.conn) (new_head wanted.now.digest.now) []) }
+    ensures found { IfOk result (λ opened. AreFound (image_at S.Start) opened.table.is_new wanted.now
         (file_state opened.table.conn) opened.contents opened.turns) }
 {
     let (conn, is_new) = hd_turn_store::open(rt, path, start, wanted.digest)?;
@@ -60,7 +74,8 @@ pub fn open<S: Start>(
 /// connection sees is what `F` stands for.
 ///
 /// # Errors
-/// `File`, `OtherCatalogue`, `Turns` and `Memory`. The turns in the file stay as they were.
+/// `File`, `OtherCatalogue`, `Turns` and `Memory`. The turns in the file stay as they were (`left` of
+/// `take_again`).
 pub fn open_over<S: Alter + Drop, F: Start>(
     alloc: Global,
     mut conn: Connection<S>,
@@ -74,9 +89,18 @@ pub fn open_over<S: Alter + Drop, F: Start>(
     requires seen { HasCleanDisk (state S.Store conn) → is_new ≡ false → (head : Head) (rows : List KeptTurn)
         → HoldsTurns (image_at F.Start) head rows → Holds (state S.Store conn) head rows }
     ensures contents { IfOk result (λ opened. opened.contents ≡ journal.contents) }
-    ensures found { IfOk result (λ opened. AreFound (image_at F.Start) opened.table.is_new
+    ensures told { IfOk result (λ opened. opened.table.is_new ≡ is_new) }
+    ensures clean { IfOk result (λ opened. HasCleanDisk (state S.Store opened.table.conn)
+        → HasCleanDisk (state S.Store conn)) }
+    // A journal that was just begun is left as it is.
+    ensures new { IfOk result (λ opened. IsTrue is_new → (opened.turns ≡ []) × (opened.table.conn ≡ conn)) }
+    ensures taken { IfOk result (λ opened. HasCleanDisk (state S.Store opened.table.conn) → is_new ≡ false
+        → (head : Head) (rows : List KeptTurn) → Holds (state S.Store conn) head rows
+        → IsTaken wanted.now (state S.Store opened.table.conn) head rows opened.contents opened.turns) }
+    ensures found { IfOk result (λ opened. AreFound (image_at F.Start) opened.table.is_new wanted.now
         (state S.Store opened.table.conn) opened.contents opened.turns) }
-    ensures new { IfOk result (λ opened. IsTrue is_new → opened.turns ≡ []) }
+    ensures other { result ≡ Err OpenFault.OtherCatalogue → wanted.now.is_other_accepted ≡ false }
+    ensures memory { IsTrue is_new → IfErr result (λ fault. fault ≡ OpenFault.Memory) }
 {
     if is_new {
         return Ok(durable(alloc, conn, true, journal)?);
@@ -86,6 +110,9 @@ pub fn open_over<S: Alter + Drop, F: Start>(
 }
 
 /// Has a journal without turns take the turns of a file again, which is then of the catalogue that is wanted.
+///
+/// # Errors
+/// `File`, `OtherCatalogue` and `Turns`.
 fn take_again<S: Alter>(
     alloc: Global,
     conn: &mut Connection<S>,
@@ -94,12 +121,20 @@ fn take_again<S: Alter>(
 ) -> Result<(), OpenFault>
     requires { journal.old.turns ≡ [] }
     ensures clean { HasCleanDisk (state S.Store conn.new) → HasCleanDisk (state S.Store conn.old) }
-    ensures held { HasCleanDisk (state S.Store conn.new) → OnOk result ((head : Head) (rows : List KeptTurn)
-        → Holds (state S.Store conn.old) head rows
-        → (later : Head) × Holds (state S.Store conn.new) later rows
-        × AreTurnRows journal.new.contents journal.new.turns rows) }
+    ensures taken { HasCleanDisk (state S.Store conn.new) → OnOk result ((head : Head) (rows : List KeptTurn)
+        → Holds (state S.Store conn.old) head rows → IsTaken wanted.now (state S.Store conn.new) head rows
+        journal.new.contents journal.new.turns) }
     ensures changing { OnOk result (changing (facts journal.new) journal.new.turns ≡ journal.new.turns) }
     ensures contents { OnOk result (journal.new.contents ≡ journal.old.contents) }
+    ensures why { HasCleanDisk (state S.Store conn.new) → IfErr result (λ fault. (head : Head)
+        (rows : List KeptTurn) → Holds (state S.Store conn.old) head rows
+        → RefusesFile wanted.now journal.old head rows fault) }
+    ensures other { result ≡ Err OpenFault.OtherCatalogue → wanted.now.is_other_accepted ≡ false }
+    // Where it is refused a stop leaves what it could leave before: head and rows, but for a digest whose
+    // write failed after all turns were taken.
+    ensures left { HasCleanDisk (state S.Store conn.new) → OnErr result ((head : Head) (rows : List KeptTurn)
+        → Holds (state S.Store conn.old) head rows → (db : Trees) → (state S.Store conn.new).may_leave db
+        → (state S.Store conn.old).may_leave db ⊎ IsRedated wanted.now journal.new head rows db) }
 {
     let is_same = is_of(conn, wanted.digest)?;
     if !is_same && !wanted.is_other_accepted {
@@ -113,10 +148,21 @@ fn take_again<S: Alter>(
 }
 
 /// Whether a journal's file is of the catalogue file with this digest.
+///
+/// # Errors
+/// `File`, where its head can't be read.
 fn is_of<S: Alter>(conn: &mut Connection<S>, digest: &[u8; 32]) -> Result<bool, OpenFault>
     ensures clean { HasCleanDisk (state S.Store conn.new) → HasCleanDisk (state S.Store conn.old) }
     ensures same { HasCleanDisk (state S.Store conn.new) → OnOk result ((head : Head) (rows : List KeptTurn)
         → Holds (state S.Store conn.old) head rows → Holds (state S.Store conn.new) head rows) }
+    ensures is_of { HasCleanDisk (state S.Store conn.new) → IfOk result (λ is_same. (head : Head)
+        (rows : List KeptTurn) → Holds (state S.Store conn.old) head rows
+        → IsTrue is_same ↔ (head.catalogue ≡ digest.now)) }
+    ensures why { IfErr result (λ fault. (why : StoreFault) × (fault ≡ OpenFault.File why)
+        × IsReadingFault why) }
+    ensures crash { HasCleanDisk (state S.Store conn.new) → (head : Head) (rows : List KeptTurn)
+        → Holds (state S.Store conn.old) head rows → (db : Trees) → (state S.Store conn.new).may_leave db
+        → (state S.Store conn.old).may_leave db }
 {
     let heading = catalogue(conn)?;
     Ok(heading.catalogue.as_slice() == digest.as_slice())
@@ -125,7 +171,7 @@ fn is_of<S: Alter>(conn: &mut Connection<S>, digest: &[u8; 32]) -> Result<bool, 
 /// The journal whose turns the file holds, to commit to it what more changes.
 ///
 /// # Errors
-/// Want of memory.
+/// Out of memory.
 fn durable<S: Alter + Drop, F: Start>(
     alloc: Global,
     conn: Connection<S>,

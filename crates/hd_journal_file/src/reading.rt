@@ -1,19 +1,22 @@
 //! The row that is kept of a turn, as it is read.
 
-ghost use Rattle.std.specs.Prelude.{◌≡◌, IfOk, OnOk, option_map, string_bytes};
+ghost use Rattle.std.specs.Prelude.{◌≡◌, ◌⊎◌, IfErr, IfOk, OnOk, option_map, string_bytes};
 ghost use Rattle.std.specs.Option.{option_copied};
 ghost use Rattle.hd_catalogue.specs.Contents.{facts_of};
 ghost use Rattle.hd_journal.specs.Asks.{IsKnownMessage};
 ghost use Rattle.hd_turn_store.specs.Rows.{read_turn};
 ghost use Rattle.hd_turn_row.specs.Rows.{IsRowOf, row_texts};
-ghost use Rattle.hd_journal_file.specs.Restored.{CameToRow};
+ghost use Rattle.hd_turn_row.specs.Faults.{IsFirstFault};
+ghost use Rattle.hd_journal_file.specs.Restored.{CameToRow, DiffersFirst};
 ghost use Rattle.hd_journal_file.specs.Rows.{day_of, texts};
+ghost use Rattle.hd_turn_row.specs.declared.fault.RowFault.{RowFault};
+ghost use Rattle.hd_journal_file.specs.declared.fault.CameColumn.{CameColumn as Column};
 
 use crate::came::came_to;
 use crate::fault::{CameColumn, RestoreFault};
 use hd_catalogue::Catalogue;
 use hd_journal::{Ask, OwnedAsk, SeatNo, TurnReply};
-use hd_turn_row::{AskedColumns, Row, ask_of};
+use hd_turn_row::{AskedColumns, Row, ask_of, replies_of_one_text_are_one};
 use hd_turn_store::StoredTurn;
 use std::alloc::{Allocator, Global};
 
@@ -52,10 +55,7 @@ fn name_in(name: &Option<String>) -> Option<&[u8]>
 fn line_in(line: &Option<Vec<u8>>) -> Option<&[u8]>
     ensures { option_copied result ≡ option_map (λ b. b.items) line.now }
 {
-    match line {
-        Some(line) => Some(line.as_slice()),
-        None => None,
-    }
+    line.as_ref().map(|line| line.as_slice())
 }
 
 /// The text of a day, or `None` where it is empty.
@@ -81,6 +81,9 @@ pub(crate) fn own_ask<A: Allocator + Copy>(
     ensures row { IfOk result
         (λ own. IsRowOf catalogue.now own.seat own.message (texts (read_turn kept.now))) }
     ensures known { IfOk result (λ own. IsKnownMessage (facts_of catalogue.now) own.message) }
+    ensures why { IfErr result (λ fault. (fault ≡ RestoreFault.Memory)
+        ⊎ ((why : RowFault) × (fault ≡ RestoreFault.NoTurn at why) × IsFirstFault catalogue.now
+        (texts (read_turn kept.now)).terminal (texts (read_turn kept.now)).asked why)) }
 {
     let row = row_in(kept);
     let ask = match ask_of(catalogue, &row) {
@@ -94,7 +97,7 @@ pub(crate) fn own_ask<A: Allocator + Copy>(
     }
 }
 
-/// Compares what a turn came to with its row. `at` is the row's number.
+/// Compares what a turn came to with its row, a column after the other. `at` is the row's number.
 ///
 /// # Errors
 /// `Differs` and `Memory`.
@@ -104,8 +107,12 @@ pub(crate) fn compare(
     kept: &StoredTurn,
     at: u32,
 ) -> Result<(), RestoreFault>
-    ensures { OnOk result (CameToRow reply.now (read_turn kept.now)) }
+    ensures same { OnOk result (CameToRow reply.now (read_turn kept.now)) }
+    ensures why { IfErr result (λ fault. (fault ≡ RestoreFault.Memory)
+        ⊎ ((column : Column) × (fault ≡ RestoreFault.Differs at column)
+        × DiffersFirst reply.now (read_turn kept.now) column)) }
 {
+    replies_of_one_text_are_one();
     let Ok(came) = came_to(alloc, reply) else {
         return Err(RestoreFault::Memory);
     };

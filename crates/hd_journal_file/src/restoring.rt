@@ -1,14 +1,16 @@
 //! A journal from the rows of its file.
 
-ghost use Rattle.std.specs.Prelude.{◌≡◌, ◌+◌, [], List, IfOk, OnOk, drop, length, map, take};
+ghost use Rattle.std.specs.Prelude.{◌≡◌, ◌+◌, ◌<◌, [], List, IfErr, IfOk, IfSome, OnOk, drop, length, map};
+ghost use Rattle.std.specs.Prelude.{take};
 ghost use Rattle.sqlite.specs.State.{HasCleanDisk};
 ghost use Rattle.sqlite.specs.Held.{state};
+ghost use Rattle.sqlite.specs.Tree.{Trees};
 ghost use Rattle.hd_journal.specs.Books.{IsLegalBook, facts};
 ghost use Rattle.hd_journal.specs.Changing.{changing};
 ghost use Rattle.hd_turn_store.specs.Holds.{Holds};
 ghost use Rattle.hd_turn_store.specs.Kept.{Head, KeptTurn, piece};
 ghost use Rattle.hd_turn_store.specs.Rows.{read_turn};
-ghost use Rattle.hd_journal_file.specs.Restored.{TakesPiece, TakesRow, TakesRows};
+ghost use Rattle.hd_journal_file.specs.Restored.{RefusesRow, RefusesRows, TakesPiece, TakesRow, TakesRows};
 ghost use Rattle.hd_journal_file.specs.Rows.{AreTurnRows};
 
 use crate::fault::RestoreFault;
@@ -29,7 +31,8 @@ fn take_row<A: Allocator + Copy>(
     kept: &StoredTurn,
     at: u32,
 ) -> Result<(), RestoreFault>
-    ensures { OnOk result (TakesRow journal.old journal.new (read_turn kept.now)) }
+    ensures took { OnOk result (TakesRow journal.old journal.new (read_turn kept.now)) }
+    ensures why { IfErr result (RefusesRow journal.old (read_turn kept.now) at) }
 {
     let own = own_ask(journal.desk().catalogue(), alloc, kept, at)?;
     if !journal.is_changing(&own) {
@@ -55,6 +58,7 @@ fn take_rows<A: Allocator + Copy>(
 ) -> Result<u32, RestoreFault>
     ensures number { IfOk result (λ at. at ≡ after + length rows.now) }
     ensures rows { OnOk result (TakesRows journal.old journal.new (map read_turn rows.now)) }
+    ensures why { IfErr result (RefusesRows journal.old (map read_turn rows.now) after) }
 {
     a_turn_more_is_kept_where_it_changes();
     let mut at = after;
@@ -87,6 +91,13 @@ fn take_piece<S: Alter, A: Allocator + Copy>(
     ensures rows { HasCleanDisk (state S.Store conn.new) → IfOk result (λ last. (head : Head)
         (rows : List KeptTurn) → Holds (state S.Store conn.old) head rows
         → TakesPiece journal.old journal.new (take piece (drop after rows)) after last) }
+    ensures more { IfOk result (λ last. IfSome last (λ last. after < last)) }
+    ensures why { HasCleanDisk (state S.Store conn.new) → IfErr result (λ fault. (head : Head)
+        (rows : List KeptTurn) → Holds (state S.Store conn.old) head rows
+        → RefusesRows journal.old (take piece (drop after rows)) after fault) }
+    ensures crash { HasCleanDisk (state S.Store conn.new) → (head : Head) (rows : List KeptTurn)
+        → Holds (state S.Store conn.old) head rows → (db : Trees) → (state S.Store conn.new).may_leave db
+        → (state S.Store conn.old).may_leave db }
 {
     let rows = match turns(conn, memory, after) {
         Ok(rows) => rows,
@@ -105,7 +116,8 @@ fn take_piece<S: Alter, A: Allocator + Copy>(
 /// the row says.
 ///
 /// # Errors
-/// The first row that isn't such. The journal is to be dropped then.
+/// The first row that isn't such, and what is wrong with it. The journal is to be dropped then; the file is
+/// as it was.
 pub fn restore_turns<S: Alter, A: Allocator + Copy>(
     conn: &mut Connection<S>,
     memory: Global,
@@ -121,6 +133,13 @@ pub fn restore_turns<S: Alter, A: Allocator + Copy>(
     ensures changing { OnOk result (changing (facts journal.new) journal.new.turns ≡ journal.new.turns) }
     ensures contents { OnOk result (journal.new.contents ≡ journal.old.contents) }
     ensures legal { OnOk result (IsLegalBook journal.new.contents journal.new.turns) }
+    ensures why { HasCleanDisk (state S.Store conn.new) → IfErr result (λ fault. (head : Head)
+        (rows : List KeptTurn) → Holds (state S.Store conn.old) head rows
+        → RefusesRows journal.old rows 0 fault) }
+    // What a stop leaves of the file is what it could leave before.
+    ensures crash { HasCleanDisk (state S.Store conn.new) → (head : Head) (rows : List KeptTurn)
+        → Holds (state S.Store conn.old) head rows → (db : Trees) → (state S.Store conn.new).may_leave db
+        → (state S.Store conn.old).may_leave db }
 {
     let mut at = 0;
     for _piece in 0..u32::MAX {

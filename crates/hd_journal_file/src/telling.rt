@@ -1,6 +1,6 @@
 //! The row of a turn.
 
-ghost use Rattle.std.specs.Prelude.{◌≡◌, [], IfOk, Some, option_map};
+ghost use Rattle.std.specs.Prelude.{◌≡◌, [], IfErr, IfOk, IfSome, IsUtf8, Some, option_map};
 ghost use Rattle.std.specs.Option.{option_copied};
 ghost use Rattle.hd_catalogue.specs.Contents.{facts_of};
 ghost use Rattle.hd_journal.specs.Asks.{IsKnownMessage};
@@ -9,12 +9,12 @@ ghost use Rattle.hd_turn_row.specs.Rows.{AreDaysOfAsked, message_of, row_texts};
 ghost use Rattle.hd_turn_store.specs.Rows.{turn_of_row};
 ghost use Rattle.hd_journal_file.specs.Came.{ComesTo};
 ghost use Rattle.hd_journal_file.specs.Rows.{IsTurnRow, day_of, texts};
-ghost use Rattle.hd_journal_file.specs.Told.{TellsTurn, TellsNames};
+ghost use Rattle.hd_turn_row.specs.Columns.{asked_texts};
+ghost use Rattle.hd_journal_file.specs.Told.{AreNameTexts, AreTexts, HasNoRow, TellsTurn, TellsNames};
 
 use crate::came::CameTo;
 use hd_catalogue::Catalogue;
-use hd_durable::NotCommitted;
-use hd_journal::TurnRef;
+use hd_journal::{TurnRef, WriteFault};
 use hd_turn_row::{AskedColumns, Row, RowAsk, RowDays, row_of};
 use hd_turn_store::{NamesRow, TurnRow};
 use std::alloc::Allocator;
@@ -22,21 +22,23 @@ use std::alloc::Allocator;
 /// The row of a turn that came to this. Its message is known to the catalogue, and the days are its own.
 ///
 /// # Errors
-/// Where the turn is a query's, or a name of the catalogue isn't UTF-8.
+/// `NotText` where a name of the catalogue isn't UTF-8, and `Refused` where the turn is a query's, which has
+/// no row.
 pub(crate) fn turn_row<'a, 't: 'a, A: Allocator + Copy>(
     catalogue: &'a Catalogue<A>,
     turn: &TurnRef<'t>,
     days: &'a RowDays,
     came: &'a CameTo,
-) -> Result<TurnRow<'a>, NotCommitted>
+) -> Result<TurnRow<'a>, WriteFault>
     requires known { IsKnownMessage (facts_of catalogue.now) (turn_shown turn.now).message }
     requires days { AreDaysOfAsked turn.now.asked days.now }
     requires came { ComesTo turn.now.reply came.now }
-    ensures { IfOk result (λ row. IsTurnRow catalogue.now (turn_shown turn.now) (turn_of_row row)) }
+    ensures row { IfOk result (λ row. IsTurnRow catalogue.now (turn_shown turn.now) (turn_of_row row)) }
+    ensures why { IfErr result (HasNoRow catalogue.now (turn_shown turn.now)) }
 {
     let ask = ask_of(turn);
     let Some(row) = row_of(catalogue, &ask, days) else {
-        return Err(NotCommitted);
+        return Err(WriteFault::Refused);
     };
     row_with(&row, came)
 }
@@ -61,10 +63,11 @@ fn ask_of<'a, 't: 'a>(turn: &TurnRef<'t>) -> RowAsk<'a>
 /// The row of a turn, with what that came to.
 ///
 /// # Errors
-/// Where a text isn't UTF-8.
-fn row_with<'a>(row: &Row<'a>, came: &'a CameTo) -> Result<TurnRow<'a>, NotCommitted>
+/// `NotText` where a text isn't UTF-8.
+fn row_with<'a>(row: &Row<'a>, came: &'a CameTo) -> Result<TurnRow<'a>, WriteFault>
     requires { ¬ (option_copied row.now.asked.day ≡ Some []) }
-    ensures { IfOk result (TellsTurn row.now came.now) }
+    ensures row { IfOk result (TellsTurn row.now came.now) }
+    ensures why { IfErr result (λ fault. (fault ≡ WriteFault.NotText) × ¬ AreTexts (row_texts row.now)) }
 {
     let terminal = text(row.terminal)?;
     let day = day_text(row.asked.day)?;
@@ -84,9 +87,11 @@ fn row_with<'a>(row: &Row<'a>, came: &'a CameTo) -> Result<TurnRow<'a>, NotCommi
 /// What was asked, by names.
 ///
 /// # Errors
-/// Where one isn't UTF-8.
-fn names<'a>(asked: &AskedColumns<'a>) -> Result<NamesRow<'a>, NotCommitted>
-    ensures { IfOk result (TellsNames asked.now) }
+/// `NotText` where one isn't UTF-8.
+fn names<'a>(asked: &AskedColumns<'a>) -> Result<NamesRow<'a>, WriteFault>
+    ensures names { IfOk result (TellsNames asked.now) }
+    ensures why { IfErr result (λ fault. (fault ≡ WriteFault.NotText)
+        × ¬ AreNameTexts (asked_texts asked.now)) }
 {
     Ok(NamesRow {
         act: text(asked.act)?,
@@ -102,22 +107,25 @@ fn names<'a>(asked: &AskedColumns<'a>) -> Result<NamesRow<'a>, NotCommitted>
 /// The bytes as a text.
 ///
 /// # Errors
-/// Where they aren't UTF-8.
-fn text(bytes: &[u8]) -> Result<&str, NotCommitted>
-    ensures { IfOk result (λ text. text.now ≡ bytes.now) }
+/// `NotText` where they aren't UTF-8.
+fn text(bytes: &[u8]) -> Result<&str, WriteFault>
+    ensures text { IfOk result (λ text. text.now ≡ bytes.now) }
+    ensures why { IfErr result (λ fault. (fault ≡ WriteFault.NotText) × ¬ IsUtf8 bytes.now) }
 {
     match str::from_utf8(bytes) {
         Ok(text) => Ok(text),
-        Err(_) => Err(NotCommitted),
+        Err(_) => Err(WriteFault::NotText),
     }
 }
 
 /// The bytes as a text, where there are any.
 ///
 /// # Errors
-/// Where they aren't UTF-8.
-fn text_if_any(bytes: Option<&[u8]>) -> Result<Option<&str>, NotCommitted>
-    ensures { IfOk result (λ text. option_map (λ t. t.now) text ≡ option_copied bytes.entry) }
+/// `NotText` where they aren't UTF-8.
+fn text_if_any(bytes: Option<&[u8]>) -> Result<Option<&str>, WriteFault>
+    ensures text { IfOk result (λ text. option_map (λ t. t.now) text ≡ option_copied bytes.entry) }
+    ensures why { IfErr result (λ fault. (fault ≡ WriteFault.NotText)
+        × ¬ IfSome (option_copied bytes.entry) IsUtf8) }
 {
     match bytes {
         Some(bytes) => match text(bytes) {
@@ -131,10 +139,12 @@ fn text_if_any(bytes: Option<&[u8]>) -> Result<Option<&str>, NotCommitted>
 /// A day's text, or the empty one where there is no day.
 ///
 /// # Errors
-/// Where it isn't UTF-8.
-fn day_text(day: Option<&[u8]>) -> Result<&str, NotCommitted>
+/// `NotText` where it isn't UTF-8.
+fn day_text(day: Option<&[u8]>) -> Result<&str, WriteFault>
     requires { ¬ (option_copied day ≡ Some []) }
-    ensures { IfOk result (λ text. day_of text.now ≡ option_copied day.entry) }
+    ensures text { IfOk result (λ text. day_of text.now ≡ option_copied day.entry) }
+    ensures why { IfErr result (λ fault. (fault ≡ WriteFault.NotText)
+        × ¬ IfSome (option_copied day.entry) IsUtf8) }
 {
     match day {
         Some(day) => text(day),

@@ -13,8 +13,9 @@ use Rattle.hd_rules.proofs.Cancelling.{run_from-append}
 -- cells, and what one has after a write
 pub use Rattle.hd_rules.proofs.Undo.{same_cell_is, same_cell_refl, value_fits, copy_inj, hold_inj}
 pub use Rattle.hd_rules.proofs.Undo.{put_same, put_elsewhere, put_alike, after_alike, after_elsewhere}
--- sound desks
+-- sound desks, and those that know what they name
 pub use Rattle.hd_rules.proofs.Reach.{later_sound}
+pub use Rattle.hd_rules.proofs.FamiliarTurns.{after_known}
 -- the numbers of survivors rise
 pub use Rattle.hd_rules.proofs.Splits.{rising_at, rising_after, rising_later, rising_without}
 pub use Rattle.hd_rules.proofs.Journals.{rising_more}

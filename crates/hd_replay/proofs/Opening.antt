@@ -4,6 +4,7 @@ use Rattle.std.proofs.lemmas.Option.{none-some}
 use Rattle.hd_catalogue.specs.Contents.{Contents}
 use Rattle.hd_session.specs.Scripts.{AreKnownTo, session_at}
 use Rattle.hd_session.specs.Sessions.{Hearing, new_session}
+use Rattle.hd_session.specs.declared.ended.Ended.TheVariants as ended
 use Rattle.hd_replay.specs.Replays.{AreEmpty, AreOfOffice}
 
 -- new sessions stand nowhere
@@ -19,7 +20,7 @@ new_known k n i at some = absurd (none-some at (sym (ap (λ (s : Hearing). s.sta
 pub new_of_office : (n : ℕ) → AreOfOffice (replicate n new_session)
 new_of_office n i =
     let goes_on = ap (λ (s : Hearing). s.ended) (new_at n i) in
-    (λ estranged. none-some _ (sym goes_on ∙ estranged), λ unwritten. none-some _ (sym goes_on ∙ unwritten))
+    λ what other same. none-some (ended.Turn what) (sym goes_on ∙ same)
 
 -- one out more, with nothing in it
 pub empty_more : (outs : List (List ℕ)) → AreEmpty outs → AreEmpty (outs ++ [] ∷ [])

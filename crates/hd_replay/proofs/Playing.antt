@@ -6,7 +6,7 @@ use Rattle.std.proofs.lemmas.Bool.{cases_lt, eq-eqb, eqb-false, ne_eqb}
 use Rattle.std.proofs.lemmas.List.{get_or_past, get_or-set_same, get_or-set_other}
 use Rattle.hd_rules.specs.Journal.{Turn}
 use Rattle.hd_catalogue.specs.Contents.{Contents}
-use Rattle.hd_journal.specs.declared.fault.OfficeFault.TheVariants as office
+use Rattle.hd_journal.specs.declared.fault.TurnFault.TheVariants as turn_fault
 use Rattle.std.proofs.Math.Seq.{take-append_seam}
 use Rattle.hd_session.specs.Endings.{EndsWell}
 use Rattle.hd_session.specs.Scripts.{AreFed, Event, IsFaultOf, Plays, Step, session_at, replies_written}
@@ -39,13 +39,6 @@ pub at_place : (ss : List Hearing) (i : ℕ) (d : Hearing) → i < length ss →
 at_place [] i d within = absurd (omega (arith, within))
 at_place (s ∷ ss) zero d within = refl
 at_place (s ∷ ss) (suc i) d within = at_place ss i d (omega (arith, within))
-
--- a journal alone, which wants nothing but memory, is never estranged, and writes nothing
-pub estranged_is_no_memory : faults office.Estranged → ⊥
-estranged_is_no_memory same = let other : office.Estranged ≡ office.Memory = same in cc
-
-pub unwritten_is_no_memory : faults office.Unwritten → ⊥
-unwritten_is_no_memory same = let other : office.Unwritten ≡ office.Memory = same in cc
 
 -- One step is played: one event comes of it.
 pub record OneFed (step : Step) (ss : List Hearing) (events : List Event) (ss' : List Hearing) : Type 0 where
@@ -159,12 +152,12 @@ module _ (number : ℕ) (text bytes rest : List ℕ) (parts : List (List ℕ)) (
   line_put (Err why) out out' same counted office memory well prints =
       (prints.0, subst (λ (f : ReplayFault). ReplayedUpTo f before after (line_of message ∷ []) prints.0) (sym memory) part, prints.2)
     where
-      last : (end : Option Ended) → IsOfOffice end → EndsWell end ⊎ (end ≡ Some ended.Memory)
-      last None office = inl (inl refl)
-      last (Some ended.TooLong) office = inl (inr refl)
-      last (Some ended.Memory) office = inr refl
-      last (Some ended.Estranged) office = absurd (office.0 refl)
-      last (Some ended.Unwritten) office = absurd (office.1 refl)
+      last : (end : Option Ended) → IsOfOffice end → EndsWell end ⊎ (end ≡ Some (ended.Turn turn_fault.Memory))
+      last None alone = inl (inl refl)
+      last (Some ended.TooLong) alone = inl (inr refl)
+      last (Some (ended.Turn turn_fault.Memory)) alone = inr refl
+      last (Some (ended.Turn (turn_fault.Estranged front))) alone = absurd (alone (turn_fault.Estranged front) (λ same. cc) refl)
+      last (Some (ended.Turn (turn_fault.Unwritten why))) alone = absurd (alone (turn_fault.Unwritten why) (λ same. cc) refl)
 
       part : PartReplayed before after (line_of message ∷ []) prints.0
       part = record {
@@ -173,7 +166,7 @@ module _ (number : ℕ) (text bytes rest : List ℕ) (parts : List (List ℕ)) (
         split = refl;
         text = flat_map (printed_line number) parts ++ end_text number ended_so;
         replays =
-            line_replayed AreWellToLast (λ event is. subst (λ (end : Option Ended). EndsWell end ⊎ (end ≡ Some ended.Memory)) (sym is)
+            line_replayed AreWellToLast (λ event is. subst (λ (end : Option Ended). EndsWell end ⊎ (end ≡ Some (ended.Turn turn_fault.Memory))) (sym is)
             (last ended_so office)) same counted;
         begins = prints.1;
       }

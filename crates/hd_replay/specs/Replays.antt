@@ -5,8 +5,8 @@ use Rattle.hd_date.specs.Stamps.{Stamp}
 use Rattle.hd_rules.specs.Journal.{Turn}
 use Rattle.hd_catalogue.specs.Contents.{Contents}
 use Rattle.hd_journal.specs.Books.{IsLegalBook}
-use Rattle.hd_journal.specs.declared.fault.OfficeFault.{OfficeFault}
-use Rattle.hd_journal.specs.declared.fault.OfficeFault.TheVariants as fault
+use Rattle.hd_journal.specs.declared.fault.TurnFault.{TurnFault}
+use Rattle.hd_journal.specs.declared.fault.TurnFault.TheVariants as fault
 use Rattle.hd_session.specs.Endings.{EndsWell}
 use Rattle.hd_session.specs.Scripts.{AreFed, Event, Step, session_at, turns_of}
 use Rattle.hd_session.specs.Sessions.{Hearing, new_session}
@@ -36,8 +36,8 @@ before_any_line k now =
 abbrev pub IsLegalReplay : Progress → Type 0
 IsLegalReplay p = IsLegalBook p.contents p.turns
 
--- what a journal alone can give: want of memory, and no other fault
-abbrev pub faults : OfficeFault → Type 0
+-- what a journal alone can give: that it is out of memory, and no other fault
+abbrev pub faults : TurnFault → Type 0
 faults what = what ≡ fault.Memory
 
 -- what a message brings to its session at a present: its text, and a carriage return (13)
@@ -49,10 +49,10 @@ step_of now message =
 abbrev pub IsWell : Event → Type 0
 IsWell event = EndsWell event.ended
 
--- so it is after all events but the last, at which want of memory may have ended its session
+-- so it is after all events but the last, at which a session may have ended out of memory
 abbrev pub AreWellToLast : List Event → Type 0
 AreWellToLast [] = ⊤
-AreWellToLast (event ∷ []) = IsWell event ⊎ (event.ended ≡ Some ended.Memory)
+AreWellToLast (event ∷ []) = IsWell event ⊎ (event.ended ≡ Some (ended.Turn fault.Memory))
 AreWellToLast (event ∷ next ∷ events) = IsWell event × AreWellToLast (next ∷ events)
 
 -- Lines are replayed: they are messages, and are played as a script, of which this text is printed. Of its
@@ -87,7 +87,7 @@ pub record StoppedAt (before after : Progress) (lines : List (List ℕ)) (number
   pub replayed : AllReplayed before after first text
 
 -- Some of the lines are replayed, the first ones, and their text is put out up to some point. Each end of a
--- session is a line too long; but at the last of them it may be want of memory.
+-- session is a line too long; but at the last of them it may be that it was out of memory.
 pub record PartReplayed (before after : Progress) (lines : List (List ℕ)) (part : List ℕ) : Type 0 where
   pub first : List (List ℕ)
   pub later : List (List ℕ)
@@ -124,9 +124,9 @@ ReplayedOnto before after lines end out out' =
 abbrev pub AreEmpty : List (List ℕ) → Type 0
 AreEmpty outs = (i : ℕ) → slice_index_or outs i [] ≡ []
 
--- no end that a journal alone doesn't give: as estranged, or for a turn that it couldn't write
+-- no end by a fault that a journal alone doesn't give
 abbrev pub IsOfOffice : Option Ended → Type 0
-IsOfOffice end = (end ≢ Some ended.Estranged) × (end ≢ Some ended.Unwritten)
+IsOfOffice end = (what : TurnFault) → what ≢ fault.Memory → end ≢ Some (ended.Turn what)
 
 abbrev pub AreOfOffice : List Hearing → Type 0
 AreOfOffice sessions = (i : ℕ) → IsOfOffice (session_at sessions i).ended

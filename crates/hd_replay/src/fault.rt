@@ -30,7 +30,7 @@ pub enum ReplayFault {
     /// A write failed, or took no byte.
     #[error("cannot write")]
     Write,
-    /// Want of memory.
+    /// Out of memory.
     #[error("no memory")]
     Memory,
 }

@@ -10,13 +10,13 @@ ghost use Rattle.hd_session.specs.declared.ended.Ended.TheVariants as ended;
 
 use crate::fault::ReplayFault;
 use hd_field::line;
-use hd_session::Ended;
+use hd_session::{Ended, TurnFault};
 use itoa::Buffer;
 use std::alloc::{AllocError, Allocator};
 
 /// Prints what a session answers to a line: its replies, and `ENDED` where a line too long has ended it.
 ///
-/// An error is want of memory, here or in the session. The text is printed up to some point then.
+/// An error is that it is out of memory, here or in the session. The text is printed up to some point then.
 pub(crate) fn print_answer<A: Allocator>(
     out: &mut Vec<u8, A>,
     session: usize,
@@ -39,9 +39,9 @@ pub(crate) fn print_answer<A: Allocator>(
     }
 }
 
-/// Prints that a line too long has ended a session. Want of memory in the session is an error.
+/// Prints that a line too long has ended a session. That the session was out of memory is an error.
 ///
-/// An error is want of memory. The text is printed up to some point then.
+/// An error is that it is out of memory. The text is printed up to some point then.
 fn print_end<A: Allocator>(
     out: &mut Vec<u8, A>,
     session: usize,
@@ -57,15 +57,16 @@ fn print_end<A: Allocator>(
             print_line(out, session, b"ENDED")?;
             Ok(())
         }
-        Ended::Memory => Err(ReplayFault::Memory),
-        Ended::Estranged | Ended::Unwritten => unreachable!(),
+        Ended::Turn(TurnFault::Memory) => Err(ReplayFault::Memory),
+        Ended::Turn(TurnFault::Estranged { .. }) => unreachable!(),
+        Ended::Turn(TurnFault::Unwritten(_)) => unreachable!(),
     }
 }
 
 /// Prints the replies of a session, each with the session's number before it and a line feed in the place of
 /// its carriage return.
 ///
-/// An error is want of memory. The text is printed up to some point then.
+/// An error is that it is out of memory. The text is printed up to some point then.
 fn print_replies<A: Allocator>(
     out: &mut Vec<u8, A>,
     session: usize,
@@ -86,7 +87,7 @@ fn print_replies<A: Allocator>(
 
 /// Prints a line of a session.
 ///
-/// An error is want of memory. The line is printed up to some point then.
+/// An error is that it is out of memory. The line is printed up to some point then.
 fn print_line<A: Allocator>(
     out: &mut Vec<u8, A>,
     session: usize,

@@ -125,7 +125,7 @@ impl<A: Allocator + Copy> Sessions<A> {
     }
 
     /// Feeds a message with its carriage return to a session, and prints what it answers. A session that a
-    /// line too long has ended prints `ENDED`; want of memory in it is a fault.
+    /// line too long has ended prints `ENDED`; that it was out of memory is a fault.
     fn feed(&mut self, number: usize, piece: &[u8], out: &mut Vec<u8, A>) -> Result<(), ReplayFault>
         requires lines { self.old.lines + 1 < 2 ^ 64 }
         requires from_one { 1 ≤ number }

@@ -34,7 +34,7 @@ put_known k d (HoldCell t p) (HoldHas o) known fine = record {
 put_known k d (CopyCell c) (HoldHas o) known fine = known
 put_known k d (HoldCell t p) (CopyHas s) known fine = known
 
-after_known : (k : Facts) (d : Desk) (cs : List Change) → IsKnownDesk k d
+pub after_known : (k : Facts) (d : Desk) (cs : List Change) → IsKnownDesk k d
     → ((change : Change) → IsAmong change cs → IsKnownCell k change.cell × IsKnownValue k change.new) → IsKnownDesk k (after cs d)
 after_known k d [] known fine = known
 after_known k d (c ∷ cs) known fine =

@@ -1,13 +1,30 @@
 //! The present.
-ghost use Rattle.std.specs.Prelude.{pos, IfNone, IfSome};
+ghost use Rattle.std.specs.Prelude.{◌≡◌, pos, IfNone, IfSome};
 ghost use Rattle.hd_date.specs.Clock.{IsPresent, IsStampAt, IsTold};
+ghost use Rattle.hd_serve.specs.Told.{seconds_told};
 
 use hd_date::{OffsetMinutes, Stamp18};
-use std::time::Clock;
+use std::io;
+use std::time::Duration;
 
-/// The present in local time, as a clock tells it, and `00000101    000000` where it can't be read.
-pub(crate) fn present<R: Clock>(rt: &R, offset: OffsetMinutes) -> Stamp18 {
-    stamp_of(rt.since_1970().ok().map(|since| since.as_secs()), offset)
+/// The present in local time, as a clock tells it that is asked now, and `00000101    000000` where it can't be
+/// read.
+pub(crate) fn present<C: Fn() -> io::Result<Duration>>(clock: &C, offset: OffsetMinutes) -> Stamp18
+    requires { C.IsAlwaysCallable clock.now }
+    // the clock was asked, and may have told this
+    ensures { (told : _) × C.post clock.now told × IsPresent (seconds_told told) offset result }
+{
+    stamp_of(seconds_of(clock()), offset)
+}
+
+/// The whole seconds that a clock has told, if it could be read.
+fn seconds_of(told: io::Result<Duration>) -> Option<u64>
+    ensures { result ≡ seconds_told told }
+{
+    match told {
+        Ok(since) => Some(since.as_secs()),
+        Err(_) => None,
+    }
 }
 
 /// The present where the seconds that a clock has told since 1970-01-01, 00:00, of universal time are these.

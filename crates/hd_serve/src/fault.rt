@@ -2,7 +2,7 @@
 ghost use Rattle.std.specs.Prelude.{◌≡◌};
 ghost use Rattle.hd_serve.specs.declared.fault.ServeFault.TheVariants.{Memory};
 
-use hd_hall::HallFault;
+use hd_journal::WriteFault;
 use std::alloc::AllocError;
 use thiserror::Error;
 
@@ -15,10 +15,11 @@ pub enum ServeFault {
     /// The journal isn't the one that the receipts of the connections are of.
     #[error("not closed")]
     NotClosed,
-    /// The keeper of the journal failed to write a turn. Those that were answered stay written.
-    #[error("the journal can't be written")]
-    Unwritten,
-    /// Want of memory, or of a first thread.
+    /// The keeper of the journal failed to write a turn, for this reason. Those that were answered stay
+    /// written.
+    #[error("the journal can't be written: {0}")]
+    Unwritten(WriteFault),
+    /// Out of memory at the start, or no first thread could be had.
     #[error("no memory")]
     Memory,
 }
@@ -27,14 +28,6 @@ impl From<AllocError> for ServeFault {
     ghost from_gives = { λ _ fault. fault ≡ Memory };
 
     fn from(_: AllocError) -> ServeFault {
-        ServeFault::Memory
-    }
-}
-
-impl From<HallFault> for ServeFault {
-    ghost from_gives = { λ _ fault. fault ≡ Memory };
-
-    fn from(_: HallFault) -> ServeFault {
         ServeFault::Memory
     }
 }

@@ -1,6 +1,8 @@
 //! The seats of the connections, kept until the hall is closed.
-ghost use Rattle.std.specs.Prelude.{◌≡◌, [], IfOk};
+ghost use Rattle.std.specs.Prelude.{◌≡◌, ◌-◌, ◌<◌, ◌≤◌, ◌++◌, ◌∷◌, [], None, Some, IfOk, OnErr, OnOk, length};
+ghost use Rattle.std.specs.Prelude.{map, slice_set};
 ghost use Rattle.hd_hall.specs.Seats.{EachSeat};
+ghost use Rattle.hd_serve.specs.Places.{all_in};
 
 use hd_hall::{House, Seat};
 use std::alloc::{AllocError, Global};
@@ -41,8 +43,12 @@ impl<H: House> Places<H> {
 
     /// Makes room to keep one seat more.
     ///
-    /// An error is want of memory.
-    pub(crate) fn add(&mut self) -> Result<(), AllocError> {
+    /// # Errors
+    /// Out of memory. There is no place more then.
+    pub(crate) fn add(&mut self) -> Result<(), AllocError>
+        ensures ok { OnOk result (self.new.places.items ≡ self.old.places.items ++ None ∷ []) }
+        ensures err { OnErr result (self.new.places.items ≡ self.old.places.items) }
+    {
         let count = self.places.len().saturating_add(1);
         self.seats.reserve(count)?;
         self.places.push(None)?;
@@ -50,7 +56,13 @@ impl<H: House> Places<H> {
     }
 
     /// Keeps a seat in its place. There is one, since room is made before each seat is opened.
-    pub(crate) fn keep(&mut self, held: Held<H>) {
+    pub(crate) fn keep(&mut self, held: Held<H>)
+        // the seat of number n stands at place n, from 1, and all others where they stood
+        ensures kept { held.seat.number - 1 < length self.old.places.items → self.new.places.items
+            ≡ slice_set self.old.places.items (held.seat.number - 1) (Some held) }
+        ensures none { length self.old.places.items ≤ held.seat.number - 1 → self.new.places.items
+            ≡ self.old.places.items }
+    {
         let number = held.seat.number().number() as usize;
         if let Some(place) = self.places.get_mut(number.saturating_sub(1)) {
             *place = Some(held);
@@ -59,9 +71,12 @@ impl<H: House> Places<H> {
 
     /// The seats, in the order of their numbers.
     ///
-    /// An error is want of memory, where room wasn't made.
+    /// # Errors
+    /// Out of memory, where room wasn't made.
     pub(crate) fn into_seats(self) -> Result<Vec<Seat<H>>, AllocError>
-        ensures { IfOk result (λ seats. EachSeat seats.items (λ s. s.parts ≡ 1)) }
+        ensures seats { IfOk result (λ seats. seats.items
+            ≡ map (λ held. held.seat) (all_in self.places.items)) }
+        ensures parts { IfOk result (λ seats. EachSeat seats.items (λ s. s.parts ≡ 1)) }
     {
         let Places { places, mut seats } = self;
         for place in places {
@@ -74,9 +89,13 @@ impl<H: House> Places<H> {
 }
 
 /// Adds a seat to a list.
+///
+/// # Errors
+/// Out of memory.
 fn add_seat<H: House>(seats: &mut Vec<Seat<H>>, held: Held<H>) -> Result<(), AllocError>
     requires { EachSeat seats.old.items (λ s. s.parts ≡ 1) }
-    ensures { EachSeat seats.new.items (λ s. s.parts ≡ 1) }
+    ensures parts { EachSeat seats.new.items (λ s. s.parts ≡ 1) }
+    ensures items { OnOk result (seats.new.items ≡ seats.old.items ++ held.seat ∷ []) }
 {
     let Held { seat } = held;
     seats.push(seat)?;

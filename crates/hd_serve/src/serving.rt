@@ -1,6 +1,7 @@
 //! Serving terminals over TCP.
 ghost use Rattle.std.specs.Prelude.{◌≡◌, ◌≤◌, [], IfOk};
 ghost use Rattle.hd_journal.specs.Openings.{IsLegalSince};
+ghost use Rattle.hd_serve.specs.Ends.{answered};
 
 use crate::accepting::{Arrived, accept};
 use crate::fault::ServeFault;
@@ -11,6 +12,7 @@ use crate::worker::Service;
 use crossbeam_channel::{Sender, bounded};
 use hd_attend::Gate;
 use hd_hall::{Hall, House, Keeper};
+use hd_journal::WriteFault;
 use std::alloc::Global;
 use std::marker::Brand;
 use std::net::TcpListener;
@@ -36,9 +38,9 @@ use std::time::Clock;
 ///
 /// # Errors
 /// `CannotListen` where a connection can't be accepted: those that run are served to their end, and the hall
-/// is closed. `Unwritten` where the keeper fails to write a turn: no more connections are accepted, those
-/// that run end at their next turn or their end, and the hall is closed. `NotClosed` where the hall doesn't
-/// close. `Memory` where the start is out of memory, or no thread can be had.
+/// is closed. `Unwritten`, with the reason, where the keeper fails to write a turn: no more connections are
+/// accepted, those that run end at their next turn or their end, and the hall is closed. `NotClosed` where
+/// the hall doesn't close. `Memory` where the start is out of memory, or no thread can be had.
 pub fn serve<
     R: Threads + Wait + Clock + Sync,
     G: Gate,
@@ -87,7 +89,9 @@ fn serve_in<
     let Ok(stop) = Stop::of(listener) else {
         return Err(ServeFault::CannotListen);
     };
-    let hall = Hall::<H, Global, Q, K>::new(alloc, keeper, blank)?;
+    let Ok(hall) = Hall::<H, Global, Q, K>::new(alloc, keeper, blank) else {
+        return Err(ServeFault::Memory);
+    };
     let places = Mutex::new(Places::new(alloc));
     let (to, from) = bounded(alloc, options.workers as usize)?;
     let service = Service {
@@ -105,11 +109,25 @@ fn serve_in<
     let Ok(keeper) = hall.close(seats) else {
         return Err(ServeFault::NotClosed);
     };
-    served?;
-    if stop.is_wanted(rt) {
-        return Err(ServeFault::Unwritten);
+    answer(served, stop.why(rt), keeper)
+}
+
+/// What a server answers whose hall has closed, where its accepting ended so, and, if it was to stop, why.
+fn answer<K: Drop>(
+    served: Result<(), ServeFault>,
+    stop: Option<WriteFault>,
+    keeper: K,
+) -> Result<K, ServeFault>
+    ensures answer { result ≡ answered served stop keeper }
+    ensures keeper { IfOk result (λ closed. closed ≡ keeper) }
+{
+    if let Err(fault) = served {
+        return Err(fault);
     }
-    Ok(keeper)
+    match stop {
+        Some(why) => Err(ServeFault::Unwritten(why)),
+        None => Ok(keeper),
+    }
 }
 
 /// Starts the workers, hands them the connections, and returns when all are served.

@@ -1,5 +1,6 @@
 //! Serving one connection after another.
 ghost use Rattle.std.specs.Prelude.{◌≡◌};
+ghost use Rattle.hd_serve.specs.Ends.{stop_of};
 ghost use Rattle.hd_session.specs.Sessions.{new_session};
 
 use crate::accepting::Arrived;
@@ -10,6 +11,7 @@ use crossbeam_channel::Receiver;
 use hd_attend::{AttendFault, Gate, attend};
 use hd_connection::Fallible;
 use hd_hall::{Hall, House, Keeper, Seat};
+use hd_journal::{TurnFault, WriteFault};
 use hd_session::{Ended, Session};
 use std::alloc::Global;
 use std::io;
@@ -74,7 +76,8 @@ impl<'a, H: House, R: Wait + Clock, G: Gate, Q: Drop, K: Keeper<Global, Q> + Dro
         requires state { state ≡ new_session }
     {
         let offset = self.hall.catalogue().offset();
-        let now = || present(self.rt, offset);
+        let clock = || self.rt.since_1970();
+        let now = || present(&clock, offset);
         let mut reader = Fallible(&arrived.stream);
         let mut writer = Fallible(&arrived.stream);
         let ended = attend(
@@ -89,10 +92,20 @@ impl<'a, H: House, R: Wait + Clock, G: Gate, Q: Drop, K: Keeper<Global, Q> + Dro
             &now,
             self.gate,
         );
-        if let Err(AttendFault::Ended(Ended::Unwritten)) = ended {
-            self.stop.want(self.rt);
+        if let Some(why) = stop_of(ended) {
+            self.stop.want(self.rt, why);
         }
         Held::new(seat)
+    }
+}
+
+/// Why no more connections are to be served, where one has ended so: a turn of it couldn't be written.
+fn stop_of(ended: Result<(), AttendFault>) -> Option<WriteFault>
+    ensures { result ≡ stop_of ended }
+{
+    match ended {
+        Err(AttendFault::Ended(Ended::Turn(TurnFault::Unwritten(why)))) => Some(why),
+        _ => None,
     }
 }
 

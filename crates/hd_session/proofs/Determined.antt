@@ -3,7 +3,7 @@ use Rattle.std.proofs.Common.{◌≡◌, inl, inr, ℕ, zero, Bool, true, false,
 use Rattle.std.proofs.Common.{arith, refl, sym, ap, ap₂, ◌∙◌, subst, append_assoc, set}
 use Rattle.std.proofs.lemmas.Option.{none-some}
 use Rattle.hd_date.specs.Stamps.{Stamp}
-use Rattle.hd_field.specs.Streams.{Begun, begun_after, lines_in}
+use Rattle.hd_field.specs.Streams.{Begun, lines_in}
 use Rattle.hd_guard.specs.Reading.{Reading, CheckedLine, PlainLine, WrongLine, read_line}
 use Rattle.hd_rules.specs.Facts.{Facts}
 use Rattle.hd_rules.specs.Journal.{IsLegal, IsLegalFrom, Turn, state_from}
@@ -14,16 +14,16 @@ use Rattle.hd_catalogue.specs.Contents.{Contents, facts_of}
 use Rattle.hd_journal.specs.Asks.{SeatMessage}
 use Rattle.hd_exchange.specs.Answers.{IsAnswer}
 use Rattle.hd_exchange.specs.Turns.{messages_of}
-use Rattle.hd_journal.specs.declared.fault.OfficeFault.{OfficeFault}
+use Rattle.hd_journal.specs.declared.fault.TurnFault.{TurnFault}
 use Rattle.hd_exchange.specs.declared.login.Login.{Login}
 use Rattle.hd_exchange.specs.declared.said.Said.{Said}
 use Rattle.hd_session.specs.Endings.{EndsWell}
 use Rattle.hd_session.specs.Scripts.{AreFed, Event, Step, session_at, turns_of}
-use Rattle.hd_session.specs.Sessions.{AreHeard, Hearing, IsCause, IsFedAt}
+use Rattle.hd_session.specs.Sessions.{AreHeard, Hearing, IsFedAt, any_room}
 use Rattle.hd_session.specs.Standing.{IsAnswered, IsHeard, IsReadAndAnswered, Stands, line_with}
 use Rattle.hd_session.specs.Trailers.{last_after, text_said}
 use Rattle.hd_session.specs.declared.ended.Ended.{Ended}
-use Rattle.hd_session.specs.declared.ended.Ended.TheVariants.{TooLong, Memory, Estranged, Unwritten}
+use Rattle.hd_session.specs.declared.ended.Ended.TheVariants as end
 use Rattle.hd_session.proofs.Feeding.{end_of}
 use Rattle.hd_session.proofs.Strangers.{all_behind}
 
@@ -91,16 +91,10 @@ same_event a b session made text ended =
     ∙ (ap (λ (x : List ℕ). let e : Event = record { session = b.session; made = b.made; text = x; ended = a.ended } in e) text
     ∙ ap (λ (x : Option Ended). let e : Event = record { session = b.session; made = b.made; text = b.text; ended = x } in e) ended))
 
--- no cause of an end is a good one
-no_cause : (k : Contents) (faults : OfficeFault → Type 0) (room : ℕ) (s : Stands) (earlier : ℕ) (line : List ℕ) (why : Ended)
-    → IsCause k faults room s earlier line why → EndsWell (Some why) → ⊥
-no_cause k faults room s earlier line TooLong cause well = absurd cause
-no_cause k faults room s earlier line Memory cause (inl none) = none-some Memory (sym none)
-no_cause k faults room s earlier line Memory cause (inr long) = let other : Some Memory ≡ Some TooLong = long in cc
-no_cause k faults room s earlier line Estranged cause (inl none) = none-some Estranged (sym none)
-no_cause k faults room s earlier line Estranged cause (inr long) = let other : Some Estranged ≡ Some TooLong = long in cc
-no_cause k faults room s earlier line Unwritten cause (inl none) = none-some Unwritten (sym none)
-no_cause k faults room s earlier line Unwritten cause (inr long) = let other : Some Unwritten ≡ Some TooLong = long in cc
+-- where a line's turn isn't made it doesn't end well
+no_turn : (why : TurnFault) → EndsWell (Some (end.Turn why)) → ⊥
+no_turn why (inl none) = none-some (end.Turn why) (sym none)
+no_turn why (inr long) = let other : Some (end.Turn why) ≡ Some end.TooLong = long in cc
 
 module _ (asks : (k : Contents) (seat : ℕ) (now : Stamp) (login : Option Login) (line : Option (List ℕ)) (body : List ℕ)
     (says says' : Said) (text text' : List ℕ) (made made' : List Turn) (next next' : Option Login)
@@ -188,12 +182,12 @@ module _ (asks : (k : Contents) (seat : ℕ) (now : Stamp) (login : Option Login
           p.all_text ∙ (ap₂ (λ (a b : List ℕ). a ++ b) here.1 rest.2 ∙ sym q.all_text),
         )
 
-  module _ (faults : OfficeFault → Type 0) where
+  module _ (faults : TurnFault → Type 0) where
     -- a piece that is fed to a session, which ends well
-    one_piece : (now : Stamp) (at : State) (end : Option Ended) (h : Hearing) (piece : List ℕ) (made made' : List Turn)
+    one_piece : (now : Stamp) (at : State) (before : Option Ended) (h : Hearing) (piece : List ℕ) (made made' : List Turn)
         (next next' : Hearing) (text text' : List ℕ) (more more' : List Turn) → IsLegalFrom (facts_of k) at (made ++ more)
         → IsLegalFrom (facts_of k) at (made' ++ more') → EndsWell next.ended → EndsWell next'.ended
-        → IsFedAt k seat faults end now 0 h piece made next text → IsFedAt k seat faults end now 0 h piece made' next' text'
+        → IsFedAt k seat faults before now any_room h piece made next text → IsFedAt k seat faults before now any_room h piece made' next' text'
         → (made ≡ made') × (next ≡ next') × (text ≡ text')
     one_piece now at (Some why) h piece made made' next next' text text' more more' legal legal' well well' p q =
         (p.0 ∙ sym q.0, p.1 ∙ sym q.1, p.2 ∙ sym q.2)
@@ -208,9 +202,9 @@ module _ (asks : (k : Contents) (seat : ℕ) (now : Stamp) (login : Option Login
           one.2,
         )
     one_piece now at None h piece made made' next next' text text' more more' legal legal' well well' (inr p) q =
-        absurd (no_cause k faults 0 next.standing (length p.before) p.line p.why p.cause (subst EndsWell p.ended well))
+        absurd (no_turn p.why (subst EndsWell p.ended well))
     one_piece now at None h piece made made' next next' text text' more more' legal legal' well well' (inl p) (inr q) =
-        absurd (no_cause k faults 0 next'.standing (length q.before) q.line q.why q.cause (subst EndsWell q.ended well'))
+        absurd (no_turn q.why (subst EndsWell q.ended well'))
 
     -- steps that are played one after the other
     one_play : (at : State) (steps : List Step) (ss ends ends' : List Hearing) (events events' : List Event)

@@ -6,24 +6,23 @@ use Rattle.hd_date.specs.Stamps.{Stamp}
 use Rattle.hd_rules.specs.Journal.{Turn}
 use Rattle.hd_catalogue.specs.Contents.{Contents}
 use Rattle.hd_field.specs.Streams.{Begun, begun_after, after_return, lines_in}
-use Rattle.hd_journal.specs.declared.fault.OfficeFault.{OfficeFault}
-use Rattle.hd_journal.specs.declared.fault.OfficeFault.TheVariants as fault
+use Rattle.hd_journal.specs.declared.fault.TurnFault.{TurnFault}
 use Rattle.hd_session.specs.declared.ended.Ended.{Ended}
-use Rattle.hd_session.specs.declared.ended.Ended.TheVariants.{TooLong, Memory, Estranged, Unwritten}
-use Rattle.hd_session.specs.Standing.{Stands, LineAsks}
-use Rattle.hd_session.specs.Sessions.{Answers, AreHeard, EndsAtLine, Feeds, Hearing, HearsAll, IsCause, IsFed, IsFedAt, reason_of}
+use Rattle.hd_session.specs.declared.ended.Ended.TheVariants as end
+use Rattle.hd_session.specs.Standing.{Stands}
+use Rattle.hd_session.specs.Sessions.{Answers, AreHeard, EndsAtLine, Feeds, Hearing, HearsAll, IsCause, IsFed, IsFedAt, Room}
 use Rattle.hd_session.proofs.Hearing.{heard_append}
 
 -- a session ends where its line has grown too long
 abbrev pub end_of : Bool → Option Ended
-end_of long = if long then Some TooLong else None
+end_of long = if long then Some end.TooLong else None
 
 pub long_where_ended : (long : Bool) (why : Ended) → end_of long ≡ Some why → long ≡ true
 long_where_ended true why is = refl
 long_where_ended false why is = absurd (none-some why is)
 
 pub short_where_open : (long : Bool) → end_of long ≡ None → long ≡ false
-short_where_open true is = absurd (none-some TooLong (sym is))
+short_where_open true is = absurd (none-some end.TooLong (sym is))
 short_where_open false is = refl
 
 -- a session that hasn't ended has no line that is too long
@@ -40,25 +39,15 @@ nothing_heard : (b : Begun) (bytes : List ℕ) → b.too_long ≡ true → (line
 nothing_heard b [] long = (refl, refl)
 nothing_heard b (byte ∷ bytes) long = rw long (refl, refl)
 
--- the causes of ends
-module _ (k : Contents) (faults : OfficeFault → Type 0) where
-  -- at a line that more lines come before, with more room by what the replies to these take
-  pub cause_later : (room left : ℕ) (s : Stands) (more earlier all : ℕ) (line : List ℕ) (why : Ended) → all ≡ more + earlier
-      → room ≤ left + 2048 * more → IsCause k faults left s earlier line why → IsCause k faults room s all line why
-  cause_later room left s more earlier all line TooLong is fits never = never
-  cause_later room left s more earlier all line Memory is fits (inl given) = inl given
-  cause_later room left s more earlier all line Memory is fits (inr (some, full)) = inr (some, omega (arith, is, fits, full))
-  cause_later room left s more earlier all line Estranged is fits given = given
-  cause_later room left s more earlier all line Unwritten is fits given = given
+-- a cause at a line that more lines come before, with more room by what the replies to these take
+pub cause_later : (k : Contents) (faults : TurnFault → Type 0) (room left : Room) (s : Stands) (more earlier all : ℕ) (line : List ℕ)
+    (why : TurnFault) → all ≡ more + earlier → room.before ≤ left.before + 2048 * more → room.after ≤ left.after
+    → IsCause k faults left s earlier line why → IsCause k faults room s all line why
+cause_later k faults room left s more earlier all line why is fits leaves (inl turn) = inl turn
+cause_later k faults room left s more earlier all line why is fits leaves (inr (memory, some, before, after)) =
+    inr (memory, some, omega (arith, is, fits, before), omega (arith, leaves, after))
 
-  -- a fault of the office
-  pub cause_of : (room : ℕ) (s : Stands) (earlier : ℕ) (line : List ℕ) (f : OfficeFault) → faults f → LineAsks k s line
-      → IsCause k faults room s earlier line (reason_of f)
-  cause_of room s earlier line fault.Memory given asks = inl (given, asks)
-  cause_of room s earlier line fault.Estranged given asks = (given, asks)
-  cause_of room s earlier line fault.Unwritten given asks = (given, asks)
-
-module _ (cuts : Cuts) (k : Contents) (seat : ℕ) (faults : OfficeFault → Type 0) (now : Stamp) where
+module _ (cuts : Cuts) (k : Contents) (seat : ℕ) (faults : TurnFault → Type 0) (now : Stamp) where
   -- a piece that is heard whole, after another
   pub all_after_all : (first second : List ℕ) (made made' : List Turn) (h between h' : Hearing) (text text' : List ℕ)
       → HearsAll k seat now h first made between text → HearsAll k seat now between second made' h' text'
@@ -75,11 +64,11 @@ module _ (cuts : Cuts) (k : Contents) (seat : ℕ) (faults : OfficeFault → Typ
       }
 
   -- one that ends the session, after another
-  pub end_after_all : (room left : ℕ) (first second : List ℕ) (made made' : List Turn) (h between h' : Hearing) (text text' : List ℕ)
-      → room ≤ left + 2048 * length (lines_in h.begun first)
+  pub end_after_all : (room left : Room) (first second : List ℕ) (made made' : List Turn) (h between h' : Hearing) (text text' : List ℕ)
+      → room.before ≤ left.before + 2048 * length (lines_in h.begun first) → room.after ≤ left.after
       → HearsAll k seat now h first made between text → EndsAtLine k seat faults now left between second made' h' text'
       → EndsAtLine k seat faults now room h (first ++ second) (made ++ made') h' (text ++ text')
-  end_after_all room left first second made made' h between h' text text' fits a b =
+  end_after_all room left first second made made' h between h' text text' fits leaves a b =
       let lines : lines_in h.begun (first ++ second) ≡ lines_in h.begun first ++ lines_in between.begun second =
       cuts.lines h.begun first second ∙ ap (λ (x : Begun). lines_in h.begun first ++ lines_in x second) (sym a.begun) in
       record {
@@ -92,7 +81,7 @@ module _ (cuts : Cuts) (k : Contents) (seat : ℕ) (faults : OfficeFault → Typ
             a.heard b.heard;
         why = b.why;
         cause = cause_later k faults room left h'.standing (length (lines_in h.begun first)) (length b.before)
-            (length (lines_in h.begun first ++ b.before)) b.line b.why (length-append (lines_in h.begun first) b.before) fits b.cause;
+            (length (lines_in h.begun first ++ b.before)) b.line b.why (length-append (lines_in h.begun first) b.before) fits leaves b.cause;
         begun = b.begun;
         ended = b.ended;
       }
@@ -112,7 +101,7 @@ module _ (cuts : Cuts) (k : Contents) (seat : ℕ) (faults : OfficeFault → Typ
         ended = a.ended;
       }
 
-  pub end_then_more : (room : ℕ) (first second : List ℕ) (made : List Turn) (h between : Hearing) (text : List ℕ)
+  pub end_then_more : (room : Room) (first second : List ℕ) (made : List Turn) (h between : Hearing) (text : List ℕ)
       → EndsAtLine k seat faults now room h first made between text
       → EndsAtLine k seat faults now room h (first ++ second) made between text
   end_then_more room first second made h between text a = record {
@@ -130,40 +119,42 @@ module _ (cuts : Cuts) (k : Contents) (seat : ℕ) (faults : OfficeFault → Typ
   }
 
   -- a piece after another, where the session had ended before the first, or between them, or not
-  pub one_after_other : (e e' : Option Ended) (room left : ℕ) (first second : List ℕ) (made made' : List Turn) (h between h' : Hearing)
-      (text text' : List ℕ) → room ≤ left + 2048 * length (lines_in h.begun first) → h.ended ≡ e → between.ended ≡ e'
+  pub one_after_other : (e e' : Option Ended) (room left : Room) (first second : List ℕ) (made made' : List Turn) (h between h' : Hearing)
+      (text text' : List ℕ) → room.before ≤ left.before + 2048 * length (lines_in h.begun first) → room.after ≤ left.after
+      → h.ended ≡ e → between.ended ≡ e'
       → IsFedAt k seat faults e now room h first made between text → IsFedAt k seat faults e' now left between second made' h' text'
       → IsFedAt k seat faults e now room h (first ++ second) (made ++ made') h' (text ++ text')
-  one_after_other (Some why) (Some then_why) room left first second made made' h between h' text text' fits is next a b =
+  one_after_other (Some why) (Some then_why) room left first second made made' h between h' text text' fits leaves is next a b =
       (ap₂ (λ (x y : List Turn). x ++ y) a.0 b.0, b.1 ∙ a.1, ap₂ (λ (x y : List ℕ). x ++ y) a.2 b.2)
-  one_after_other (Some why) None room left first second made made' h between h' text text' fits is next a b =
+  one_after_other (Some why) None room left first second made made' h between h' text text' fits leaves is next a b =
       absurd (none-some why (sym next ∙ (ap (λ (x : Hearing). x.ended) a.1 ∙ is)))
-  one_after_other None (Some why) room left first second made made' h between h' text text' fits is next (inl a) b =
+  one_after_other None (Some why) room left first second made made' h between h' text text' fits leaves is next (inl a) b =
       inl (rw (b.0, b.1, b.2, append-nil made, append-nil text)
       (long_then_more first second made h between text (long_where_ended between.begun.too_long why (sym a.ended ∙ next)) a))
-  one_after_other None (Some why) room left first second made made' h between h' text text' fits is next (inr a) b =
+  one_after_other None (Some why) room left first second made made' h between h' text text' fits leaves is next (inr a) b =
       inr (rw (b.0, b.1, b.2, append-nil made, append-nil text) (end_then_more room first second made h between text a))
-  one_after_other None None room left first second made made' h between h' text text' fits is next (inl a) (inl b) =
+  one_after_other None None room left first second made made' h between h' text text' fits leaves is next (inl a) (inl b) =
       inl (all_after_all first second made made' h between h' text text' a b)
-  one_after_other None None room left first second made made' h between h' text text' fits is next (inl a) (inr b) =
-      inr (end_after_all room left first second made made' h between h' text text' fits a b)
-  one_after_other None None room left first second made made' h between h' text text' fits is next (inr a) b =
-      absurd (none-some a.why (sym next ∙ a.ended))
+  one_after_other None None room left first second made made' h between h' text text' fits leaves is next (inl a) (inr b) =
+      inr (end_after_all room left first second made made' h between h' text text' fits leaves a b)
+  one_after_other None None room left first second made made' h between h' text text' fits leaves is next (inr a) b =
+      absurd (none-some (end.Turn a.why) (sym next ∙ a.ended))
 
-  pub fed_after_fed : (room left : ℕ) (first second : List ℕ) (made made' : List Turn) (h between h' : Hearing) (text text' : List ℕ)
-      → room ≤ left + 2048 * length (lines_in h.begun first)
+  pub fed_after_fed : (room left : Room) (first second : List ℕ) (made made' : List Turn) (h between h' : Hearing) (text text' : List ℕ)
+      → room.before ≤ left.before + 2048 * length (lines_in h.begun first) → room.after ≤ left.after
       → IsFed k seat faults now room h first made between text → IsFed k seat faults now left between second made' h' text'
       → IsFed k seat faults now room h (first ++ second) (made ++ made') h' (text ++ text')
-  fed_after_fed room left first second made made' h between h' text text' fits a b =
-      one_after_other h.ended between.ended room left first second made made' h between h' text text' fits refl refl a b
+  fed_after_fed room left first second made made' h between h' text text' fits leaves a b =
+      one_after_other h.ended between.ended room left first second made made' h between h' text text' fits leaves refl refl a b
 
-module _ (k : Contents) (seat : ℕ) (faults : OfficeFault → Type 0) (now : Stamp) where
+module _ (k : Contents) (seat : ℕ) (faults : TurnFault → Type 0) (now : Stamp) where
   -- with less room
-  less_room_at : (e : Option Ended) (room less : ℕ) (piece : List ℕ) (made : List Turn) (h h' : Hearing) (text : List ℕ) → less ≤ room
+  less_room_at : (e : Option Ended) (room less : Room) (piece : List ℕ) (made : List Turn) (h h' : Hearing) (text : List ℕ)
+      → less.before ≤ room.before → less.after ≤ room.after
       → IsFedAt k seat faults e now room h piece made h' text → IsFedAt k seat faults e now less h piece made h' text
-  less_room_at (Some why) room less piece made h h' text fits a = a
-  less_room_at None room less piece made h h' text fits (inl a) = inl a
-  less_room_at None room less piece made h h' text fits (inr a) = inr (record {
+  less_room_at (Some why) room less piece made h h' text fits leaves a = a
+  less_room_at None room less piece made h h' text fits leaves (inl a) = inl a
+  less_room_at None room less piece made h h' text fits leaves (inr a) = inr (record {
     before = a.before;
     line = a.line;
     later = a.later;
@@ -171,22 +162,23 @@ module _ (k : Contents) (seat : ℕ) (faults : OfficeFault → Type 0) (now : St
     heard = a.heard;
     why = a.why;
     cause = cause_later k faults less room h'.standing 0 (length a.before) (length a.before) a.line a.why (omega arith)
-        (omega (arith, fits)) a.cause;
+        (omega (arith, fits)) leaves a.cause;
     begun = a.begun;
     ended = a.ended;
   })
 
-  pub less_room : (room less : ℕ) (piece : List ℕ) (made : List Turn) (h h' : Hearing) (text : List ℕ) → less ≤ room
+  pub less_room : (room less : Room) (piece : List ℕ) (made : List Turn) (h h' : Hearing) (text : List ℕ)
+      → less.before ≤ room.before → less.after ≤ room.after
       → IsFed k seat faults now room h piece made h' text → IsFed k seat faults now less h piece made h' text
-  less_room room less piece made h h' text fits fed = less_room_at h.ended room less piece made h h' text fits fed
+  less_room room less piece made h h' text fits leaves fed = less_room_at h.ended room less piece made h h' text fits leaves fed
 
   -- a session that has ended hears nothing
-  pub fed_ended : (room : ℕ) (piece : List ℕ) (h : Hearing) (why : Ended) → h.ended ≡ Some why
+  pub fed_ended : (room : Room) (piece : List ℕ) (h : Hearing) (why : Ended) → h.ended ≡ Some why
       → IsFed k seat faults now room h piece [] h []
   fed_ended room piece h why is =
       subst (λ (e : Option Ended). IsFedAt k seat faults e now room h piece [] h []) (sym is) (refl, refl, refl)
 
-  pub feeds_ended : (room : ℕ) (piece : List ℕ) (h : Hearing) (why : Ended) (turns : List Turn) (out : List ℕ) → h.ended ≡ Some why
+  pub feeds_ended : (room : Room) (piece : List ℕ) (h : Hearing) (why : Ended) (turns : List Turn) (out : List ℕ) → h.ended ≡ Some why
       → Feeds k seat faults now room h piece h turns turns out out
   feeds_ended room piece h why turns out is = record {
     made = [];
@@ -197,14 +189,14 @@ module _ (k : Contents) (seat : ℕ) (faults : OfficeFault → Type 0) (now : St
   }
 
   -- and one that hasn't, some of it
-  pub fed_open : (room : ℕ) (piece : List ℕ) (made : List Turn) (h h' : Hearing) (text : List ℕ) → h.ended ≡ None
+  pub fed_open : (room : Room) (piece : List ℕ) (made : List Turn) (h h' : Hearing) (text : List ℕ) → h.ended ≡ None
       → HearsAll k seat now h piece made h' text ⊎ EndsAtLine k seat faults now room h piece made h' text
       → IsFed k seat faults now room h piece made h' text
   fed_open room piece made h h' text is hears =
       subst (λ (e : Option Ended). IsFedAt k seat faults e now room h piece made h' text) (sym is) hears
 
   -- all lines of it are answered
-  pub feeds_all : (room : ℕ) (piece : List ℕ) (h h' : Hearing) (turns turns' : List Turn) (out out' : List ℕ) → h.ended ≡ None
+  pub feeds_all : (room : Room) (piece : List ℕ) (h h' : Hearing) (turns turns' : List Turn) (out out' : List ℕ) → h.ended ≡ None
       → h'.begun ≡ begun_after h.begun piece → h'.ended ≡ end_of h'.begun.too_long
       → Answers k seat now (lines_in h.begun piece) h.standing h'.standing turns turns' out out'
       → Feeds k seat faults now room h piece h' turns turns' out out'
@@ -217,12 +209,13 @@ module _ (k : Contents) (seat : ℕ) (faults : OfficeFault → Type 0) (now : St
   }
 
   -- or those before one that can't be
-  pub feeds_until : (room left : ℕ) (piece : List ℕ) (h h' : Hearing) (turns turns' : List Turn) (out out' : List ℕ)
-      (before later : List (List ℕ)) (line : List ℕ) (why : Ended) → h.ended ≡ None → lines_in h.begun piece ≡ before ++ line ∷ later
-      → room ≤ left + 2048 * length before → IsCause k faults left h'.standing 0 line why → h'.begun ≡ after_return → h'.ended ≡ Some why
+  pub feeds_until : (room left : Room) (piece : List ℕ) (h h' : Hearing) (turns turns' : List Turn) (out out' : List ℕ)
+      (before later : List (List ℕ)) (line : List ℕ) (why : TurnFault) → h.ended ≡ None → lines_in h.begun piece ≡ before ++ line ∷ later
+      → room.before ≤ left.before + 2048 * length before → room.after ≤ left.after → IsCause k faults left h'.standing 0 line why
+      → h'.begun ≡ after_return → h'.ended ≡ Some (end.Turn why)
       → Answers k seat now before h.standing h'.standing turns turns' out out'
       → Feeds k seat faults now room h piece h' turns turns' out out'
-  feeds_until room left piece h h' turns turns' out out' before later line why is split fits cause begun ended answers = record {
+  feeds_until room left piece h h' turns turns' out out' before later line why is split fits leaves cause begun ended answers = record {
     made = answers.made;
     text = answers.text;
     fed = fed_open room piece answers.made h h' answers.text is (inr (record {
@@ -232,7 +225,7 @@ module _ (k : Contents) (seat : ℕ) (faults : OfficeFault → Type 0) (now : St
       split = split;
       heard = answers.heard;
       why = why;
-      cause = cause_later k faults room left h'.standing (length before) 0 (length before) line why (omega arith) fits cause;
+      cause = cause_later k faults room left h'.standing (length before) 0 (length before) line why (omega arith) fits leaves cause;
       begun = begun;
       ended = ended;
     }));
@@ -241,7 +234,7 @@ module _ (k : Contents) (seat : ℕ) (faults : OfficeFault → Type 0) (now : St
   }
 
   -- nothing is fed
-  pub nothing_fed_at : (e : Option Ended) (room : ℕ) (h : Hearing) → h.ended ≡ e → IsSettled h
+  pub nothing_fed_at : (e : Option Ended) (room : Room) (h : Hearing) → h.ended ≡ e → IsSettled h
       → IsFedAt k seat faults e now room h [] [] h []
   nothing_fed_at (Some why) room h is settled = (refl, refl, refl)
   nothing_fed_at None room h is settled = inl (record {
@@ -251,9 +244,9 @@ module _ (k : Contents) (seat : ℕ) (faults : OfficeFault → Type 0) (now : St
   })
 
   -- a session stays settled
-  pub settled_at : (e : Option Ended) (room : ℕ) (piece : List ℕ) (made : List Turn) (h h' : Hearing) (text : List ℕ) → h.ended ≡ e
+  pub settled_at : (e : Option Ended) (room : Room) (piece : List ℕ) (made : List Turn) (h h' : Hearing) (text : List ℕ) → h.ended ≡ e
       → IsFedAt k seat faults e now room h piece made h' text → IsSettled h'
   settled_at (Some why) room piece made h h' text is a none =
       absurd (none-some why (sym none ∙ (ap (λ (x : Hearing). x.ended) a.1 ∙ is)))
   settled_at None room piece made h h' text is (inl a) none = short_where_open h'.begun.too_long (sym a.ended ∙ none)
-  settled_at None room piece made h h' text is (inr a) none = absurd (none-some a.why (sym none ∙ a.ended))
+  settled_at None room piece made h h' text is (inr a) none = absurd (none-some (end.Turn a.why) (sym none ∙ a.ended))

@@ -9,9 +9,10 @@ use Rattle.std.specs.List.{All}
 use Rattle.hd_date.specs.Stamps.{Stamp}
 use Rattle.hd_rules.specs.Journal.{Turn}
 use Rattle.hd_catalogue.specs.Contents.{Contents}
-use Rattle.hd_journal.specs.declared.fault.OfficeFault.{OfficeFault}
-use Rattle.hd_journal.specs.declared.fault.OfficeFault.TheVariants as fault
-use Rattle.hd_session.specs.Sessions.{AreFedTo, Feeds, Hearing, IsFed, Piece, new_session, reason_of, stream}
+use Rattle.hd_journal.specs.declared.fault.TurnFault.{TurnFault}
+use Rattle.hd_journal.specs.declared.fault.TurnFault.TheVariants.{Memory}
+use Rattle.hd_session.specs.declared.ended.Ended.TheVariants as end
+use Rattle.hd_session.specs.Sessions.{AreFedTo, Feeds, Hearing, IsFed, Piece, Room, any_room, new_session, stream}
 use Rattle.hd_session.specs.Scripts.{AreFed, Event, Plays, Step, events_of, pieces_of, session_at, text_of, turns_of, replies_written}
 use Rattle.hd_session.proofs.Causes.{fed_other}
 use Rattle.hd_session.proofs.Feeding.{Cuts, IsSettled, fed_after_fed, less_room, nothing_fed_at, settled_at}
@@ -34,7 +35,7 @@ pieces_at now (step ∷ steps) i all =
       | false ↦ rest
     ]
 
-module _ (k : Contents) (seat : ℕ) (faults : OfficeFault → Type 0) where
+module _ (k : Contents) (seat : ℕ) (faults : TurnFault → Type 0) where
   -- some steps, and then some more
   pub fed_append : (steps more : List Step) (ss between ss' : List Hearing) (events then : List Event)
       → AreFed k seat faults steps ss events between → AreFed k seat faults more between then ss'
@@ -54,7 +55,7 @@ module _ (k : Contents) (seat : ℕ) (faults : OfficeFault → Type 0) where
   -- what a session hears of a script are its own pieces
   pub hears_pieces : (steps : List Step) (ss ss' : List Hearing) (events : List Event) (i : ℕ) → i < length ss
       → AreFed k seat faults steps ss events ss'
-      → AreFedTo k seat faults 0 (pieces_of i steps) (session_at ss i) (turns_of (events_of i events)) (session_at ss' i) (replies_written i events)
+      → AreFedTo k seat faults any_room (pieces_of i steps) (session_at ss i) (turns_of (events_of i events)) (session_at ss' i) (replies_written i events)
   hears_pieces [] ss ss' events i within (none, same) = rw (none, same) (refl, refl, refl)
   hears_pieces (step ∷ steps) ss ss' [] i within none = absurd none
   hears_pieces (step ∷ steps) ss ss' (event ∷ events) i within first =
@@ -63,15 +64,15 @@ module _ (k : Contents) (seat : ℕ) (faults : OfficeFault → Type 0) where
       let longer : i < length then = rw (length-set ss step.session next) within in
       let rest = hears_pieces steps then ss' events i longer first.rest in
       elim (step.session == i) as (λ t. (step.session == i) ≡ t
-      → AreFedTo k seat faults 0 (pieces_of i (step ∷ steps)) (session_at ss i) (turns_of (events_of i (event ∷ events)))
+      → AreFedTo k seat faults any_room (pieces_of i (step ∷ steps)) (session_at ss i) (turns_of (events_of i (event ∷ events)))
       (session_at ss' i) (replies_written i (event ∷ events))) [
         | true ↦ λ is.
             let here : step.session ≡ i = eqb-true _ _ is in
             let own : (event.session == i) ≡ true = ap (λ (n : ℕ). n == i) first.same ∙ is in
             let there : session_at then i ≡ next =
             subst (λ (n : ℕ). session_at (set ss n next) i ≡ next) (sym here) (get_or-set_same ss i next new_session within) in
-            let heard : IsFed k seat faults step.piece.now 0 (session_at ss i) step.piece.bytes event.made next event.text =
-            subst (λ (n : ℕ). IsFed k seat faults step.piece.now 0
+            let heard : IsFed k seat faults step.piece.now any_room (session_at ss i) step.piece.bytes event.made next event.text =
+            subst (λ (n : ℕ). IsFed k seat faults step.piece.now any_room
             (session_at ss n) step.piece.bytes event.made next event.text) here first.fed in
             rw (is, own) (record {
               first_made = event.made;
@@ -92,7 +93,7 @@ module _ (k : Contents) (seat : ℕ) (faults : OfficeFault → Type 0) where
       ] refl
 
   -- pieces at one present are one
-  pub one_present : Cuts → (now : Stamp) (room : ℕ) (pieces : List Piece) (h : Hearing) (made : List Turn) (h' : Hearing) (text : List ℕ)
+  pub one_present : Cuts → (now : Stamp) (room : Room) (pieces : List Piece) (h : Hearing) (made : List Turn) (h' : Hearing) (text : List ℕ)
       → AreAt now pieces → IsSettled h → AreFedTo k seat faults room pieces h made h' text
       → IsFed k seat faults now room h (stream pieces) made h' text
   one_present cuts now room [] h made h' text all settled (none, same, nothing) =
@@ -107,10 +108,10 @@ module _ (k : Contents) (seat : ℕ) (faults : OfficeFault → Type 0) where
       (all_behind (λ (p : Piece). p.now ≡ now) piece pieces all) goes_on more.rest in
       rw (more.all_made, more.all_text) (fed_after_fed cuts k seat faults now room room piece.bytes
       (stream pieces) more.first_made more.then_made
-      h more.between h' more.first_text more.then_text (omega arith) first rest)
+      h more.between h' more.first_text more.then_text (omega arith) (omega arith) first rest)
 
   -- those of a new session
-  pub new_at_one_present : Cuts → (now : Stamp) (room : ℕ) (pieces : List Piece) (made : List Turn) (h' : Hearing) (text : List ℕ)
+  pub new_at_one_present : Cuts → (now : Stamp) (room : Room) (pieces : List Piece) (made : List Turn) (h' : Hearing) (text : List ℕ)
       → AreAt now pieces → AreFedTo k seat faults room pieces new_session made h' text
       → IsFed k seat faults now room new_session (stream pieces) made h' text
   new_at_one_present cuts now room pieces made h' text all fed =
@@ -119,28 +120,28 @@ module _ (k : Contents) (seat : ℕ) (faults : OfficeFault → Type 0) where
   -- a session that was new hears its stream
   pub new_hears_stream : Cuts → (now : Stamp) (steps : List Step) (ss ss' : List Hearing) (events : List Event) (i : ℕ) → i < length ss
       → All (λ step. step.piece.now ≡ now) steps → AreFed k seat faults steps ss events ss' → session_at ss i ≡ new_session
-      → IsFed k seat faults now 0 new_session (stream (pieces_of i steps)) (turns_of (events_of i events)) (session_at ss' i)
+      → IsFed k seat faults now any_room new_session (stream (pieces_of i steps)) (turns_of (events_of i events)) (session_at ss' i)
       (replies_written i events)
   new_hears_stream cuts now steps ss ss' events i within all fed new =
-      new_at_one_present cuts now 0 (pieces_of i steps) _ _ _ (pieces_at now steps i all)
-      (subst (λ (h : Hearing). AreFedTo k seat faults 0 (pieces_of i steps) h (turns_of (events_of i events)) (session_at ss' i)
+      new_at_one_present cuts now any_room (pieces_of i steps) _ _ _ (pieces_at now steps i all)
+      (subst (λ (h : Hearing). AreFedTo k seat faults any_room (pieces_of i steps) h (turns_of (events_of i events)) (session_at ss' i)
       (replies_written i events))
       new (hears_pieces steps ss ss' events i within fed))
 
-  -- no session ends by a fault that isn't want of memory and that its office can't give
-  pub none_ends_so : (f : OfficeFault) → ¬ (f ≡ fault.Memory) → ¬ faults f → (steps : List Step) (ss ss' : List Hearing) (events : List Event)
-      → AreFed k seat faults steps ss events ss' → ((i : ℕ) → (session_at ss i).ended ≡ Some (reason_of f) → ⊥)
-      → All (λ event. event.ended ≡ Some (reason_of f) → ⊥) events × ((i : ℕ) → (session_at ss' i).ended ≡ Some (reason_of f) → ⊥)
+  -- no session ends by a fault that isn't for want of memory and that its office can't give
+  pub none_ends_so : (f : TurnFault) → ¬ (f ≡ Memory) → ¬ faults f → (steps : List Step) (ss ss' : List Hearing) (events : List Event)
+      → AreFed k seat faults steps ss events ss' → ((i : ℕ) → (session_at ss i).ended ≡ Some (end.Turn f) → ⊥)
+      → All (λ event. event.ended ≡ Some (end.Turn f) → ⊥) events × ((i : ℕ) → (session_at ss' i).ended ≡ Some (end.Turn f) → ⊥)
   none_ends_so f other never [] ss ss' events (none, same) before = rw (none, same) (λ i d within. absurd (omega (arith, within)), before)
   none_ends_so f other never (step ∷ steps) ss ss' [] none before = absurd none
   none_ends_so f other never (step ∷ steps) ss ss' (event ∷ events) first before =
-      let now_not : first.next.ended ≡ Some (reason_of f) → ⊥ =
-      fed_other k seat faults f other never step.piece.now 0 step.piece.bytes event.made
+      let now_not : first.next.ended ≡ Some (end.Turn f) → ⊥ =
+      fed_other k seat faults f other never step.piece.now any_room step.piece.bytes event.made
       (session_at ss step.session) first.next event.text first.fed
       (before step.session) in
       let rest = none_ends_so f other never steps (set ss step.session first.next) ss' events first.rest
-      (each_goes_on (λ (h : Hearing). h.ended ≡ Some (reason_of f) → ⊥) ss step.session first.next before now_not) in
-      (All-cons (λ (e : Event). e.ended ≡ Some (reason_of f) → ⊥) event events (λ same. now_not (sym first.ended ∙ same)) rest.0, rest.1)
+      (each_goes_on (λ (h : Hearing). h.ended ≡ Some (end.Turn f) → ⊥) ss step.session first.next before now_not) in
+      (All-cons (λ (e : Event). e.ended ≡ Some (end.Turn f) → ⊥) event events (λ same. now_not (sym first.ended ∙ same)) rest.0, rest.1)
 
 -- what is written to a session in some events, and in some more
 pub written_append : (i : ℕ) (events then : List Event) → replies_written i (events ++ then) ≡ replies_written i events ++ replies_written i then
@@ -152,7 +153,7 @@ written_append i events then =
 pub turns_append : (events then : List Event) → turns_of (events ++ then) ≡ turns_of events ++ turns_of then
 turns_append events then = flat_map-append (λ (event : Event). event.made) events then
 
-module _ (k : Contents) (seat : ℕ) (faults : OfficeFault → Type 0) where
+module _ (k : Contents) (seat : ℕ) (faults : TurnFault → Type 0) where
   -- as many sessions are left
   pub fed_length : (steps : List Step) (ss ss' : List Hearing) (events : List Event) → AreFed k seat faults steps ss events ss'
       → length ss' ≡ length ss
@@ -188,7 +189,7 @@ module _ (k : Contents) (seat : ℕ) (faults : OfficeFault → Type 0) where
   }
 
   -- one step is played
-  pub plays_one : (step : Step) (ss : List Hearing) (room : ℕ) (next : Hearing) (turns turns' : List Turn) (outs : List (List ℕ))
+  pub plays_one : (step : Step) (ss : List Hearing) (room : Room) (next : Hearing) (turns turns' : List Turn) (outs : List (List ℕ))
       (out : List ℕ) → step.session < length ss → length outs ≡ length ss
       → Feeds k seat faults step.piece.now room (session_at ss step.session) step.piece.bytes next turns turns'
       (get_or outs step.session []) out
@@ -200,9 +201,8 @@ module _ (k : Contents) (seat : ℕ) (faults : OfficeFault → Type 0) where
         fed = record {
           next = next;
           same = refl;
-          fed = less_room k seat faults step.piece.now room 0 step.piece.bytes feeds.made (session_at ss step.session) next feeds.text
-              (omega arith)
-              feeds.fed;
+          fed = less_room k seat faults step.piece.now room any_room step.piece.bytes feeds.made (session_at ss step.session) next feeds.text
+              (omega arith) (omega arith) feeds.fed;
           ended = refl;
           rest = (refl, refl);
         };

@@ -5,12 +5,12 @@ use Rattle.std.specs.Borrow.{Bor}
 use Rattle.hd_date.specs.Stamps.{Stamp}
 use Rattle.hd_rules.specs.Journal.{Turn}
 use Rattle.hd_catalogue.specs.Contents.{Contents}
-use Rattle.hd_journal.specs.declared.fault.OfficeFault.{OfficeFault}
+use Rattle.hd_journal.specs.declared.fault.TurnFault.{TurnFault}
 use Rattle.hd_session.specs.declared.ended.Ended.{Ended}
 use Rattle.hd_session.specs.declared.script.ScriptFault.{ScriptFault}
 use Rattle.hd_session.specs.declared.script.ScriptFault.TheVariants.{Stranger}
 use Rattle.hd_session.specs.Standing.{IsKnownTo}
-use Rattle.hd_session.specs.Sessions.{Hearing, IsFed, Piece, new_session}
+use Rattle.hd_session.specs.Sessions.{Hearing, IsFed, Piece, any_room, new_session}
 
 -- One step of a script: a piece of a session's stream. Sessions are counted from 0.
 pub record Step : Type 0 where
@@ -54,14 +54,14 @@ abbrev pub AreKnownTo : Contents → List Hearing → Type 0
 AreKnownTo k sessions = (i : ℕ) → IsKnownTo k (session_at sessions i).standing
 
 -- Scripts at a seat of a library, whose office can give these faults.
-module _ (k : Contents) (seat : ℕ) (faults : OfficeFault → Type 0) where
+module _ (k : Contents) (seat : ℕ) (faults : TurnFault → Type 0) where
   -- One step more is played, by its session.
   pub record FeedsOne (AreFed : List Hearing → List Event → List Hearing → Type 0) (step : Step)
       (ss : List Hearing) (event : Event) (events : List Event) (ss' : List Hearing) : Type 0 where
     pub next : Hearing
     pub same : event.session ≡ step.session
-    pub fed : IsFed k seat faults step.piece.now 0 (session_at ss step.session) step.piece.bytes event.made
-        next event.text
+    pub fed : IsFed k seat faults step.piece.now any_room (session_at ss step.session) step.piece.bytes
+        event.made next event.text
     pub ended : event.ended ≡ next.ended
     pub rest : AreFed (slice_set ss step.session next) events ss'
 

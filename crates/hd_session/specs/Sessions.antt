@@ -1,14 +1,14 @@
 -- Sessions: the lines of a stream, each answered in turn.
-use Rattle.std.specs.Prelude.{◌≡◌, ◌⊎◌, ℕ, ◌+◌, ◌*◌, ◌<◌, List, [], ◌∷◌, ◌++◌, length, flat_map}
-use Rattle.std.specs.Prelude.{Option, None, Some, if◌then◌else◌}
+use Rattle.std.specs.Prelude.{◌≡◌, ◌⊎◌, ℕ, ◌+◌, ◌-◌, ◌*◌, ◌<◌, List, [], ◌∷◌, ◌++◌, length, flat_map}
+use Rattle.std.specs.Prelude.{Option, None, Some, Vec, if◌then◌else◌, vec_capacity, vec_len}
 use Rattle.hd_date.specs.Stamps.{Stamp}
 use Rattle.hd_rules.specs.Journal.{Turn}
 use Rattle.hd_catalogue.specs.Contents.{Contents}
 use Rattle.hd_field.specs.Streams.{Begun, stream_start, lines_in, begun_after, after_return}
-use Rattle.hd_journal.specs.declared.fault.OfficeFault.{OfficeFault}
-use Rattle.hd_journal.specs.declared.fault.OfficeFault.TheVariants as fault
+use Rattle.hd_journal.specs.declared.fault.TurnFault.{TurnFault}
+use Rattle.hd_journal.specs.declared.fault.TurnFault.TheVariants.{Memory}
 use Rattle.hd_session.specs.declared.ended.Ended.{Ended}
-use Rattle.hd_session.specs.declared.ended.Ended.TheVariants.{TooLong, Memory, Estranged, Unwritten}
+use Rattle.hd_session.specs.declared.ended.Ended.TheVariants as end
 use Rattle.hd_session.specs.Standing.{Stands, IsHeard, LineAsks, nowhere}
 
 -- A session, as contracts see it: what has come of its line, where it stands, and whether it has ended and
@@ -57,51 +57,70 @@ module _ (k : Contents) (seat : ℕ) (now : Stamp) where
       : Type 0 where
     pub heard : AreHeard (lines_in h.begun piece) h.standing made h'.standing text
     pub begun : h'.begun ≡ begun_after h.begun piece
-    pub ended : h'.ended ≡ (if h'.begun.too_long then Some TooLong else None)
+    pub ended : h'.ended ≡ (if h'.begun.too_long then Some end.TooLong else None)
 
 -- there is something to a line: an empty one is answered nothing, and any other by some reply
 abbrev pub IsSomeLine : List ℕ → Type 0
 IsSomeLine line = 0 < length line
 
--- why a session ends that stands so, at a line that comes after so many others of a piece: its office gave
--- a fault that it can give, and the line asks something of it; or there was no memory for the line's reply,
--- since so much room isn't enough for it behind the replies to the others, at 2,048 bytes each
-abbrev pub IsCause : Contents → (OfficeFault → Type 0) → ℕ → Stands → ℕ → List ℕ → Ended → Type 0
-IsCause k faults room s earlier line TooLong = ⊥
-IsCause k faults room s earlier line Memory =
-    (faults fault.Memory × LineAsks k s line) ⊎ (IsSomeLine line × (room < 2048 * (earlier + 1)))
-IsCause k faults room s earlier line Estranged = faults fault.Estranged × LineAsks k s line
-IsCause k faults room s earlier line Unwritten = faults fault.Unwritten × LineAsks k s line
+-- How many bytes more an out has room for, at least: before a piece is fed, and once its replies stand in it.
+pub record Room : Type 0 where
+  pub before : ℕ
+  pub after : ℕ
+
+-- that of an out before and after
+abbrev pub room_of : {A : Type 0} → Vec ℕ A → Vec ℕ A → Room
+room_of old new = record { before = vec_capacity old - vec_len old; after = vec_capacity new - vec_len new }
+
+-- an out of which nothing is known
+abbrev pub any_room : Room
+any_room = record { before = 0; after = 0 }
+
+-- an office that can give these faults refuses the line's turn by this one: so the line asks something of it
+abbrev pub IsTurnRefused : Contents → (TurnFault → Type 0) → Stands → List ℕ → TurnFault → Type 0
+IsTurnRefused k faults s line why = faults why × LineAsks k s line
+
+-- the room of a line's reply is refused, out of memory, after so many lines of a piece: there was too little
+-- for it behind the replies to these, at 2,048 bytes each; and too little is left, so that it wasn't made
+abbrev pub IsRoomRefused : Room → ℕ → List ℕ → TurnFault → Type 0
+IsRoomRefused room earlier line why =
+    (why ≡ Memory) × IsSomeLine line × (room.before < 2048 * (earlier + 1)) × (room.after < 2048)
+
+-- why a session ends that stands so, at a line that comes after so many others of a piece: the turn of this
+-- line is refused, or the room of its reply
+abbrev pub IsCause : Contents → (TurnFault → Type 0) → Room → Stands → ℕ → List ℕ → TurnFault → Type 0
+IsCause k faults room s earlier line why =
+    IsTurnRefused k faults s line why ⊎ IsRoomRefused room earlier line why
 
 -- Sessions at a seat of a library, whose office can give these faults.
-module _ (k : Contents) (seat : ℕ) (faults : OfficeFault → Type 0) where
+module _ (k : Contents) (seat : ℕ) (faults : TurnFault → Type 0) where
   -- A session ends at a line that can't be answered, for a cause. Those before it are; it makes no turn and
   -- gets no reply. The session stands as before it, and the line is given up.
-  pub record EndsAtLine (now : Stamp) (room : ℕ) (h : Hearing) (piece : List ℕ) (made : List Turn)
+  pub record EndsAtLine (now : Stamp) (room : Room) (h : Hearing) (piece : List ℕ) (made : List Turn)
       (h' : Hearing) (text : List ℕ) : Type 0 where
     pub before : List (List ℕ)
     pub line : List ℕ
     pub later : List (List ℕ)
     pub split : lines_in h.begun piece ≡ before ++ line ∷ later
     pub heard : AreHeard k seat now before h.standing made h'.standing text
-    pub why : Ended
+    pub why : TurnFault
     pub cause : IsCause k faults room h'.standing (length before) line why
     pub begun : h'.begun ≡ after_return
-    pub ended : h'.ended ≡ Some why
+    pub ended : h'.ended ≡ Some (end.Turn why)
 
   -- a session that has ended, or not, is fed a piece of its stream
-  abbrev pub IsFedAt : Option Ended → Stamp → ℕ → Hearing → List ℕ → List Turn → Hearing → List ℕ → Type 0
+  abbrev pub IsFedAt : Option Ended → Stamp → Room → Hearing → List ℕ → List Turn → Hearing → List ℕ → Type 0
   IsFedAt (Some why) now room h piece made h' text = (made ≡ []) × (h' ≡ h) × (text ≡ [])
   IsFedAt None now room h piece made h' text =
       HearsAll k seat now h piece made h' text ⊎ EndsAtLine now room h piece made h' text
 
-  -- a session is fed a piece of its stream at a present, with room for so many bytes of replies: these turns
-  -- are made, it goes on so, and it is answered with this text. One that has ended hears nothing more.
-  abbrev pub IsFed : Stamp → ℕ → Hearing → List ℕ → List Turn → Hearing → List ℕ → Type 0
+  -- a session is fed a piece of its stream at a present, with so much room for replies: these turns are made,
+  -- it goes on so, and it is answered with this text. One that has ended hears nothing more.
+  abbrev pub IsFed : Stamp → Room → Hearing → List ℕ → List Turn → Hearing → List ℕ → Type 0
   IsFed now room h piece made h' text = IsFedAt h.ended now room h piece made h' text
 
   -- One piece more is fed.
-  pub record FedMore (AreFed : Hearing → List Turn → Hearing → List ℕ → Type 0) (room : ℕ) (h : Hearing)
+  pub record FedMore (AreFed : Hearing → List Turn → Hearing → List ℕ → Type 0) (room : Room) (h : Hearing)
       (piece : Piece) (made : List Turn) (h' : Hearing) (text : List ℕ) : Type 0 where
     pub first_made : List Turn
     pub then_made : List Turn
@@ -115,12 +134,12 @@ module _ (k : Contents) (seat : ℕ) (faults : OfficeFault → Type 0) where
 
   -- pieces of a stream are fed to a session one after the other, each at its present, and with so much room
   -- at least: these turns are made, it goes on so, and it is answered with this text
-  abbrev pub AreFedTo : ℕ → List Piece → Hearing → List Turn → Hearing → List ℕ → Type 0
+  abbrev pub AreFedTo : Room → List Piece → Hearing → List Turn → Hearing → List ℕ → Type 0
   AreFedTo room [] h made h' text = (made ≡ []) × (h' ≡ h) × (text ≡ [])
   AreFedTo room (piece ∷ pieces) h made h' text = FedMore (AreFedTo room pieces) room h piece made h' text
 
   -- A session is fed a piece at an office: the turns are added there, and the text is appended.
-  pub record Feeds (now : Stamp) (room : ℕ) (h : Hearing) (piece : List ℕ) (h' : Hearing)
+  pub record Feeds (now : Stamp) (room : Room) (h : Hearing) (piece : List ℕ) (h' : Hearing)
       (turns turns' : List Turn) (out out' : List ℕ) : Type 0 where
     pub made : List Turn
     pub text : List ℕ
@@ -136,9 +155,3 @@ pub record Answers (k : Contents) (seat : ℕ) (now : Stamp) (lines : List (List
   pub heard : AreHeard k seat now lines s made next text
   pub turns_are : turns' ≡ turns ++ made
   pub out_is : out' ≡ out ++ text
-
--- why a session ends whose office gives this fault
-abbrev pub reason_of : OfficeFault → Ended
-reason_of fault.Memory = Memory
-reason_of fault.Estranged = Estranged
-reason_of fault.Unwritten = Unwritten

@@ -1,6 +1,6 @@
 -- Where a session stands, and what a line of it is answered.
 use Rattle.std.specs.Prelude.{◌≡◌, ◌==◌, ℕ, ◌+◌, Bool, true, false, List, [], ◌∷◌, Option, Some, None}
-use Rattle.std.specs.Prelude.{if◌then◌else◌, nat_lt}
+use Rattle.std.specs.Prelude.{if◌then◌else◌, nat_lt, option_map}
 use Rattle.std.specs.Option.{ForSome}
 use Rattle.hd_date.specs.Stamps.{Stamp}
 use Rattle.hd_guard.specs.Reading.{Reading, PlainLine, CheckedLine, WrongLine, read_line}
@@ -46,8 +46,7 @@ gaps_after (Some digit) gaps (Some next) = if next == next_digit digit then gaps
 
 -- the line, where it carried a digit: by it a repeat is known
 abbrev pub line_with : Option ℕ → List ℕ → Option (List ℕ)
-line_with None line = None
-line_with (Some digit) line = Some line
+line_with digit line = option_map (λ _. line) digit
 
 -- What a line is answered at a seat of a library, at a present.
 module _ (k : Contents) (seat : ℕ) (now : Stamp) where

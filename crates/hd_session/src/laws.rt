@@ -7,9 +7,11 @@ ghost use Rattle.hd_field.specs.Streams.{lines_in};
 ghost use Rattle.hd_session.specs.Endings.{EndsWell};
 ghost use Rattle.hd_session.specs.Scripts.{AreFed, Event, Step};
 ghost use Rattle.hd_session.specs.Scripts.{events_of, pieces_of, session_at, turns_of, replies_written};
-ghost use Rattle.hd_session.specs.Sessions.{AreFedTo, Hearing, IsFed, Piece, new_session, reason_of, stream};
-ghost use Rattle.hd_journal.specs.declared.fault.OfficeFault.{OfficeFault};
-ghost use Rattle.hd_journal.specs.declared.fault.OfficeFault.TheVariants as fault;
+ghost use Rattle.hd_session.specs.Sessions.{AreFedTo, Hearing, IsFed, Piece, Room, any_room, new_session};
+ghost use Rattle.hd_session.specs.Sessions.{stream};
+ghost use Rattle.hd_session.specs.declared.ended.Ended.TheVariants as end;
+ghost use Rattle.hd_journal.specs.declared.fault.TurnFault.{TurnFault};
+ghost use Rattle.hd_journal.specs.declared.fault.TurnFault.TheVariants as fault;
 
 use hd_exchange::{Office, each_body_has_one_answer};
 use hd_field::cuts_change_nothing;
@@ -19,9 +21,10 @@ use std::alloc::Allocator;
 /// at once: however a stream is cut, the same turns are made and the same text is answered. The second piece
 /// may come with less room, by what the replies to the first have taken.
 pub fn pieces_are_one<A: Allocator, O: Office<A>>()
-    ensures { (k : Contents) (seat : ℕ) (now : Stamp) (room left : ℕ)
+    ensures { (k : Contents) (seat : ℕ) (now : Stamp) (room left : Room)
         (first then : List ℕ) (made made' : List Turn) (h between h' : Hearing) (text text' : List ℕ)
-        → room ≤ left + 2048 * length (lines_in h.begun first)
+        → room.before ≤ left.before + 2048 * length (lines_in h.begun first)
+        → room.after ≤ left.after
         → IsFed k seat O.faults now room h first made between text
         → IsFed k seat O.faults now left between then made' h' text'
         → IsFed k seat O.faults now room h (first ++ then) (made ++ made') h' (text ++ text') }
@@ -31,7 +34,7 @@ pub fn pieces_are_one<A: Allocator, O: Office<A>>()
 
 /// A new session that is fed pieces of its stream at one present is one that is fed its whole stream at once.
 pub fn pieces_at_one_present<A: Allocator, O: Office<A>>()
-    ensures { (k : Contents) (seat : ℕ) (now : Stamp) (room : ℕ) (pieces : List Piece) (made : List Turn)
+    ensures { (k : Contents) (seat : ℕ) (now : Stamp) (room : Room) (pieces : List Piece) (made : List Turn)
         (h' : Hearing) (text : List ℕ)
         → All (λ piece. piece.now ≡ now) pieces
         → AreFedTo k seat O.faults room pieces new_session made h' text
@@ -48,36 +51,36 @@ pub fn sessions_hear_their_streams<A: Allocator, O: Office<A>>()
         (events : List Event) (i : ℕ)
         → i < length ss
         → AreFed k seat O.faults steps ss events ss'
-        → AreFedTo k seat O.faults 0 (pieces_of i steps) (session_at ss i) (turns_of (events_of i events))
-        (session_at ss' i) (replies_written i events) }
+        → AreFedTo k seat O.faults any_room (pieces_of i steps) (session_at ss i)
+        (turns_of (events_of i events)) (session_at ss' i) (replies_written i events) }
     ensures whole { (k : Contents) (seat : ℕ) (now : Stamp) (steps : List Step)
         (ss ss' : List Hearing) (events : List Event) (i : ℕ)
         → i < length ss
         → All (λ step. step.piece.now ≡ now) steps
         → AreFed k seat O.faults steps ss events ss'
         → session_at ss i ≡ new_session
-        → IsFed k seat O.faults now 0 new_session (stream (pieces_of i steps)) (turns_of (events_of i events))
-        (session_at ss' i) (replies_written i events) }
+        → IsFed k seat O.faults now any_room new_session (stream (pieces_of i steps))
+        (turns_of (events_of i events)) (session_at ss' i) (replies_written i events) }
 {
     cuts_change_nothing();
 }
 
-/// A fault that isn't want of memory, and that an office can't give, ends no session: so a journal alone,
-/// which is never estranged and writes nothing, ends none by these.
+/// A fault that isn't `Memory`, and that an office can't give, ends no session: so a journal alone, which is
+/// never estranged and writes nothing, ends none by these.
 pub fn no_session_ends_by_another_fault<A: Allocator, O: Office<A>>()
-    ensures fed { (k : Contents) (seat : ℕ) (now : Stamp) (room : ℕ) (piece : List ℕ)
-        (made : List Turn) (h h' : Hearing) (text : List ℕ) (what : OfficeFault)
+    ensures fed { (k : Contents) (seat : ℕ) (now : Stamp) (room : Room) (piece : List ℕ)
+        (made : List Turn) (h h' : Hearing) (text : List ℕ) (what : TurnFault)
         → ¬ what ≡ fault.Memory → ¬ O.faults what
         → IsFed k seat O.faults now room h piece made h' text
-        → ¬ h.ended ≡ Some (reason_of what)
-        → ¬ h'.ended ≡ Some (reason_of what) }
+        → ¬ h.ended ≡ Some (end.Turn what)
+        → ¬ h'.ended ≡ Some (end.Turn what) }
     ensures script { (k : Contents) (seat : ℕ) (steps : List Step) (ss ss' : List Hearing)
-        (events : List Event) (what : OfficeFault)
+        (events : List Event) (what : TurnFault)
         → ¬ what ≡ fault.Memory → ¬ O.faults what
         → AreFed k seat O.faults steps ss events ss'
-        → ((i : ℕ) → ¬ (session_at ss i).ended ≡ Some (reason_of what))
-        → All (λ event. ¬ event.ended ≡ Some (reason_of what)) events
-        × ((i : ℕ) → ¬ (session_at ss' i).ended ≡ Some (reason_of what)) }
+        → ((i : ℕ) → ¬ (session_at ss i).ended ≡ Some (end.Turn what))
+        → All (λ event. ¬ event.ended ≡ Some (end.Turn what)) events
+        × ((i : ℕ) → ¬ (session_at ss' i).ended ≡ Some (end.Turn what)) }
 {}
 
 /// A script in which each session goes on, or is ended by a line too long, is determined by its pieces. Where

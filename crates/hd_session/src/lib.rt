@@ -14,4 +14,4 @@ pub use crate::laws::{
     scripts_are_determined, sessions_hear_their_streams,
 };
 pub use crate::session::Session;
-pub use hd_exchange::{Ask, Login, Office, OfficeFault, Turn};
+pub use hd_exchange::{Ask, Login, Office, OfficeFault, Turn, TurnFault};

@@ -34,6 +34,8 @@ pub fn run<A: Allocator + Copy, O: Office<A>>(
     ensures plays { OnOk result (Plays (O.keeps office.old).contents (O.keeps office.old).seat O.faults
         (steps_of now.now pieces.now) sessions.old sessions.new (O.turns office.old) (O.turns office.new)
         (map (λ out. out.items) outs.old) (map (λ out. out.items) outs.new)) }
+    // Each piece names one of the sessions.
+    ensures named { OnOk result (All (λ session. session < length sessions.old) (named_in pieces.now)) }
     ensures stranger { IfErr result (IsFaultOf (length sessions.old) (named_in pieces.now)) }
     ensures nothing { OnErr result (
         (sessions.new ≡ sessions.old)

@@ -1,14 +1,14 @@
 //! Sessions.
-ghost use Rattle.std.specs.Prelude.{◌≡◌, ◌≤◌, ◌+◌, ◌*◌, ◌-◌, ◌∷◌, [], Some, None, IfErr, IfOk, OnOk, OnErr};
+ghost use Rattle.std.specs.Prelude.{◌≡◌, ◌≤◌, ◌+◌, ◌*◌, ◌∷◌, [], Some, None, IfErr, IfOk, OnOk, OnErr};
 ghost use Rattle.std.specs.Prelude.{length, vec_capacity, vec_len};
 ghost use Rattle.hd_field.specs.Streams.{lines_in};
-ghost use Rattle.hd_session.specs.Sessions.{Answers, Feeds, IsCause, new_session};
+ghost use Rattle.hd_session.specs.Sessions.{Answers, Feeds, IsCause, new_session, room_of};
 ghost use Rattle.hd_session.specs.Standing.{IsKnownTo};
 
 use crate::ended::Ended;
 use crate::standing::{LONGEST_REPLY, Standing};
 use hd_date::Stamp18;
-use hd_exchange::Office;
+use hd_exchange::{Office, TurnFault};
 use hd_field::Stream;
 use std::alloc::{AllocError, Allocator, Global};
 use std::marker::Model;
@@ -44,7 +44,7 @@ impl<A: Allocator + Copy> Session<A> {
     /// terminal.
     ///
     /// # Errors
-    /// An error is want of memory.
+    /// Where it is out of memory.
     pub fn new(alloc: A) -> Result<Session<A>, AllocError>
         ensures { IfOk result (λ session. session ≡ new_session) }
     {
@@ -66,10 +66,10 @@ impl<A: Allocator + Copy> Session<A> {
     /// # Errors
     /// Why the session ended, at this piece or before. One that has ended does nothing more.
     ///
-    /// `TooLong` where a line comes to 1,025 bytes; the lines before it are answered. `Memory`, `Estranged`
-    /// and `Unwritten` at a line that asks something of an office that gives this fault, and `Memory` also
-    /// where `out` hasn't the room for the line's reply and can't grow. The lines before it are answered; it
-    /// makes no turn, and the session stands as before it.
+    /// `TooLong` where a line comes to 1,025 bytes; the lines before it are answered. `Turn` at a line that asks
+    /// something of an office that gives this fault, and as `Memory` also where `out` hasn't the room for the
+    /// line's reply and can't grow. The lines before it are answered; it makes no turn, and the session stands
+    /// as before it.
     pub fn feed<O: Office<A>>(
         &mut self,
         piece: &[u8],
@@ -79,7 +79,7 @@ impl<A: Allocator + Copy> Session<A> {
     ) -> Result<(), Ended>
         requires place { IsKnownTo (O.keeps office.old).contents self.old.standing }
         ensures fed { Feeds (O.keeps office.old).contents (O.keeps office.old).seat O.faults now.now
-            (vec_capacity out.old - vec_len out.old) self.old piece.now self.new
+            (room_of out.old out.new) self.old piece.now self.new
             (O.turns office.old) (O.turns office.new) out.old.items out.new.items }
         ensures open { OnOk result (self.new.ended ≡ None) }
         ensures ended { IfErr result (λ why. self.new.ended ≡ Some why) }
@@ -127,7 +127,7 @@ impl<A: Allocator + Copy> Session<A> {
         requires place { IsKnownTo (O.keeps office.old).contents self.old.standing }
         requires open { self.old.ended ≡ None }
         ensures fed { Feeds (O.keeps office.old).contents (O.keeps office.old).seat O.faults now.now
-            (vec_capacity out.old - vec_len out.old) self.old piece.now self.new
+            (room_of out.old out.new) self.old piece.now self.new
             (O.turns office.old) (O.turns office.new) out.old.items out.new.items }
         ensures short { vec_len out.new
             ≤ vec_len out.old + 2048 * length (lines_in self.old.begun piece.now) }
@@ -145,7 +145,7 @@ impl<A: Allocator + Copy> Session<A> {
             match answered {
                 Ok(()) => rest = behind,
                 Err(why) => {
-                    self.ended = Some(why);
+                    self.ended = Some(Ended::Turn(why));
                     return;
                 }
             }
@@ -160,14 +160,15 @@ impl<A: Allocator + Copy> Session<A> {
 /// nothing.
 ///
 /// # Errors
-/// Why its session ends. There is no turn and no reply then, and the session stands where it stood.
+/// The fault of the office, or `Memory` where the reply's room can't be made. There is no turn and no reply
+/// then, and the session stands where it stood.
 fn answer_line<A: Allocator + Copy, O: Office<A>>(
     standing: &mut Standing<A>,
     now: &Stamp18,
     line: &[u8],
     office: &mut O,
     out: &mut Vec<u8, A>,
-) -> Result<(), Ended>
+) -> Result<(), TurnFault>
     requires place { IsKnownTo (O.keeps office.old).contents standing.old }
     requires line { length line.now ≤ 1024 }
     ensures heard { OnOk result (Answers (O.keeps office.old).contents (O.keeps office.old).seat now.now
@@ -178,7 +179,7 @@ fn answer_line<A: Allocator + Copy, O: Office<A>>(
         × (O.turns office.new ≡ O.turns office.old)
         × (out.new.items ≡ out.old.items)) }
     ensures cause { IfErr result (IsCause (O.keeps office.old).contents O.faults
-        (vec_capacity out.old - vec_len out.old) standing.old 0 line.now) }
+        (room_of out.old out.new) standing.old 0 line.now) }
     ensures short { vec_len out.new ≤ vec_len out.old + 2048 }
     ensures capacity { vec_capacity out.old ≤ vec_capacity out.new }
     ensures place { IsKnownTo (O.keeps office.old).contents standing.new }
@@ -188,11 +189,6 @@ fn answer_line<A: Allocator + Copy, O: Office<A>>(
     if line.is_empty() {
         return Ok(());
     }
-    if out.reserve(LONGEST_REPLY).is_err() {
-        return Err(Ended::Memory);
-    }
-    match standing.hear(now, line, office, out) {
-        Ok(()) => Ok(()),
-        Err(fault) => Err(Ended::of(fault)),
-    }
+    out.reserve(LONGEST_REPLY)?;
+    standing.hear(now, line, office, out)
 }

@@ -10,7 +10,7 @@ ghost use Rattle.hd_session.specs.Trailers.{last_after, text_said};
 
 use crate::closing::{close, put_send_again};
 use hd_date::Stamp18;
-use hd_exchange::{Login, Office, OfficeFault, Said, respond};
+use hd_exchange::{Login, Office, Said, TurnFault, respond};
 use hd_guard::{Guarded, Seq, trailer};
 use std::alloc::{AllocError, Allocator};
 use std::marker::Model;
@@ -82,7 +82,7 @@ impl<A: Allocator + Copy> Standing<A> {
         line: &[u8],
         office: &mut O,
         out: &mut Vec<u8, A>,
-    ) -> Result<(), OfficeFault>
+    ) -> Result<(), TurnFault>
         requires place { IsKnownTo (O.keeps office.old).contents self.old }
         requires some { IsSomeLine line.now }
         requires line { length line.now ≤ 1024 }
@@ -137,7 +137,7 @@ impl<A: Allocator + Copy> Standing<A> {
         whole: &Whole<'_>,
         office: &mut O,
         out: &mut Vec<u8, A>,
-    ) -> Result<(), OfficeFault>
+    ) -> Result<(), TurnFault>
         requires place { IsKnownTo (O.keeps office.old).contents self.old }
         requires body { length whole.now.body.now ≤ 1024 }
         requires room { vec_len out.old + 2048 ≤ vec_capacity out.old }
@@ -245,8 +245,5 @@ impl<A: Allocator + Copy> Standing<A> {
 fn line_with<'a>(digit: Option<Seq>, line: &'a [u8]) -> Option<&'a [u8]>
     ensures { option_map (λ bytes. bytes.now) result ≡ line_with digit line.now }
 {
-    match digit {
-        Some(_) => Some(line),
-        None => None,
-    }
+    digit.map(|_| line)
 }

@@ -9,7 +9,8 @@ use std::alloc::{AllocError, Allocator};
 
 /// Appends pieces, each with a blank before it where something stands there.
 ///
-/// An error is want of memory. Some of the pieces may stand there then.
+/// # Errors
+/// Out of memory. Some of the pieces may stand there then.
 pub(crate) fn append<A: Allocator>(out: &mut Vec<u8, A>, pieces: &[Piece]) -> Result<(), AllocError>
     ensures { OnOk result (IsJoined pieces.now out.old.items out.new.items) }
 {

@@ -22,7 +22,7 @@ use std::alloc::{AllocError, Allocator};
 /// only grew keeps. A refusal has its own words (docs/protocol.md, "Refusals").
 ///
 /// # Errors
-/// Want of memory.
+/// Out of memory.
 pub fn reply_text<A: Allocator>(alloc: A, reply: &TurnReply) -> Result<Vec<u8, A>, AllocError>
     ensures { IfOk result (λ text. IsReplyText reply.now text.items) }
 {

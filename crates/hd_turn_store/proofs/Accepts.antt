@@ -19,7 +19,8 @@ use Rattle.sqlite.proofs.Callers.{IsPlain, command_of, statement_of, runs_as, on
 use Rattle.hd_turn_store.specs.Kept.{KeptTurn, Head}
 use Rattle.hd_turn_store.specs.Tables.{journal_table, journal_schema, head_row, Stores}
 use Rattle.hd_turn_store.specs.Holds.{Holds}
-use Rattle.hd_turn_store.proofs.UpdateTexts.{update_head_text, update_head_is, update_head_plain, update_head, update_query}
+use Rattle.hd_turn_store.specs.Texts.{update_head_text}
+use Rattle.hd_turn_store.proofs.UpdateTexts.{update_head_is, update_head_plain, update_head, update_query}
 use Rattle.hd_turn_store.proofs.Order.{cmp_equal}
 use Rattle.hd_turn_store.proofs.Values.{cast_null, cast_int}
 use Rattle.hd_turn_store.proofs.Steps.{went, same_value, one_is_not_zero}

@@ -11,7 +11,8 @@ use Rattle.sqlite.proofs.Callers.{IsPlain, command_of, statement_of, runs_as}
 use Rattle.hd_turn_store.specs.Kept.{KeptTurn, Head, cells}
 use Rattle.hd_turn_store.specs.Tables.{journal_schema, Stores}
 use Rattle.hd_turn_store.specs.Holds.{Holds, SeesTurns}
-use Rattle.hd_turn_store.proofs.InsertTexts.{insert_turn_text, insert_turn_is, insert_turn_plain, insert_turn}
+use Rattle.hd_turn_store.specs.Texts.{insert_turn_text}
+use Rattle.hd_turn_store.proofs.InsertTexts.{insert_turn_is, insert_turn_plain, insert_turn}
 use Rattle.hd_turn_store.proofs.Steps.{does_add}
 
 -- under the schema that the state has

@@ -9,12 +9,10 @@ use Rattle.sqlite.specs.Listing.{understood}
 use Rattle.sqlite_tied.specs.Compute.{everything}
 use Rattle.sqlite.proofs.Callers.{IsPlain, command_of}
 use Rattle.hd_turn_store.specs.Tables.{journal_schema}
+use Rattle.hd_turn_store.specs.Texts.{insert_turn_text}
 
 abbrev pub insert_journal_text : List ℕ
 insert_journal_text = codes "INSERT INTO journal (only, format, catalogue) VALUES (1, 1, ?1)"
-
-abbrev pub insert_turn_text : List ℕ
-insert_turn_text = codes "INSERT INTO turn (seat, terminal, day, act, patron, copy, title, branch, admits, until, line, outcome, number, reply) VALUES (?1, ?2, ?3, ?4, ?5, ?6, ?7, ?8, ?9, ?10, ?11, ?12, ?13, ?14)"
 
 abbrev pub head_terms : List Term
 head_terms = lit (Int (pos 1)) ∷ lit Null ∷ lit (Int (pos 1)) ∷ col 0 0 ∷ []

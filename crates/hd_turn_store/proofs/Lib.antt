@@ -12,3 +12,4 @@ pub mod Finding
 pub mod Accepts
 pub mod Decodes
 pub mod Columns
+pub mod Blank

@@ -9,9 +9,7 @@ use Rattle.sqlite.specs.Query.{Query, inner, end}
 use Rattle.sqlite_tied.specs.Compute.{everything}
 use Rattle.sqlite.proofs.Callers.{IsPlain, command_of}
 use Rattle.hd_turn_store.specs.Tables.{journal_schema}
-
-abbrev pub update_head_text : List ℕ
-update_head_text = codes "UPDATE journal SET catalogue = ?1"
+use Rattle.hd_turn_store.specs.Texts.{update_head_text}
 
 abbrev pub update_query : Query
 update_query = record {

@@ -1,12 +1,17 @@
 -- Which fault an error of the database is told as.
-use Rattle.std.specs.Prelude.{⊤}
+use Rattle.std.specs.Prelude.{◌≡◌, ◌≢◌, ℕ, List, [], ◌∷◌, ⊤, Err}
 use Rattle.sqlite.specs.declared.error.ErrorCode.TheVariants as code
 use Rattle.sqlite.specs.declared.error.Error.{Error}
 use Rattle.sqlite.specs.declared.error.Error.TheVariants.{SqliteFailure, SqlInputError, InvalidColumnType}
 use Rattle.sqlite.specs.declared.error.Error.TheVariants.{IntegralValueOutOfRange, Utf8Error}
+use Rattle.sqlite.specs.declared.types.Value.TheVariants.{Blob}
+use Rattle.sqlite.specs.State.{State, Executes}
 use Rattle.hd_turn_store.specs.declared.fault.Fault.{Fault}
 use Rattle.hd_turn_store.specs.declared.fault.Fault.TheVariants.{Busy, CannotOpen, Damaged, NotAJournal}
-use Rattle.hd_turn_store.specs.declared.fault.Fault.TheVariants.{CannotWrite, CannotRead, Memory}
+use Rattle.hd_turn_store.specs.declared.fault.Fault.TheVariants.{DiskFull, CannotWrite, CannotRead}
+use Rattle.hd_turn_store.specs.declared.fault.Fault.TheVariants.{Memory, UnknownFormat}
+use Rattle.hd_turn_store.specs.Kept.{KeptTurn, cells, known_format}
+use Rattle.hd_turn_store.specs.Texts.{insert_turn_text, update_head_text}
 
 -- where the files are opened
 abbrev pub opening_fault : Error → Fault
@@ -15,12 +20,13 @@ opening_fault (SqliteFailure code.CannotOpen) = CannotOpen
 opening_fault (SqliteFailure code.NotADatabase) = NotAJournal
 opening_fault (SqliteFailure code.DatabaseCorrupt) = Damaged
 opening_fault (SqliteFailure code.OutOfMemory) = Memory
-opening_fault (SqliteFailure code.DiskFull) = CannotWrite
+opening_fault (SqliteFailure code.DiskFull) = DiskFull
 opening_fault _ = CannotRead
 
 -- where something is written
 abbrev pub writing_fault : Error → Fault
 writing_fault (SqliteFailure code.OutOfMemory) = Memory
+writing_fault (SqliteFailure code.DiskFull) = DiskFull
 writing_fault _ = CannotWrite
 
 -- where something is read
@@ -35,6 +41,7 @@ reading_fault _ = CannotRead
 
 -- what a write may be told as
 abbrev pub IsWritingFault : Fault → Type 0
+IsWritingFault DiskFull = ⊤
 IsWritingFault CannotWrite = ⊤
 IsWritingFault Memory = ⊤
 IsWritingFault _ = ⊥
@@ -46,3 +53,17 @@ IsReadingFault NotAJournal = ⊤
 IsReadingFault CannotRead = ⊤
 IsReadingFault Memory = ⊤
 IsReadingFault _ = ⊥
+
+-- SQLite refused to put this turn by this error.
+abbrev pub RefusesTurn : State → State → KeptTurn → Error → Type 0
+RefusesTurn old new kept error = Executes insert_turn_text (cells kept) old new (Err error)
+
+-- SQLite refused to put another digest into the head, which this fault tells.
+abbrev pub RefusesDigest : State → State → List ℕ → Fault → Type 0
+RefusesDigest old new digest fault =
+    (error : Error) × Executes update_head_text (Blob digest ∷ []) old new (Err error) × (fault ≡ writing_fault error)
+
+-- Why a journal of a format is refused: another format than the known one is told, or its head can't be read.
+abbrev pub RefusesFormat : ℕ → Fault → Type 0
+RefusesFormat format (UnknownFormat told) = (told ≡ format) × (format ≢ known_format)
+RefusesFormat format fault = IsReadingFault fault

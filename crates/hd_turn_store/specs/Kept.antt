@@ -31,9 +31,13 @@ pub record Head : Type 0 where
   pub format : ℕ
   pub catalogue : List ℕ
 
--- the format that is written
+-- the format that is written, and the only one that is known
+abbrev pub known_format : ℕ
+known_format = 1
+
+-- the head of a journal that is begun
 abbrev pub new_head : List ℕ → Head
-new_head digest = record { format = 1; catalogue = digest }
+new_head digest = record { format = known_format; catalogue = digest }
 
 abbrev pub number_cell : ℕ → Value
 number_cell n = Int (pos n)

@@ -24,13 +24,16 @@ pub enum Fault {
     /// The journal was written in this other format.
     #[error("format {0} isn't known")]
     UnknownFormat(u32),
-    /// The disk is full, or refused a write.
+    /// The disk is full.
+    #[error("the journal can't be written: the disk is full")]
+    DiskFull,
+    /// The system refused a write.
     #[error("the journal can't be written")]
     CannotWrite,
     /// The disk refused a read.
     #[error("the journal can't be read")]
     CannotRead,
-    /// Want of memory.
+    /// Out of memory.
     #[error("out of memory")]
     Memory,
 }
@@ -46,7 +49,7 @@ impl Fault {
             SqlError::SqliteFailure(ErrorCode::NotADatabase) => Fault::NotAJournal,
             SqlError::SqliteFailure(ErrorCode::DatabaseCorrupt) => Fault::Damaged,
             SqlError::SqliteFailure(ErrorCode::OutOfMemory) => Fault::Memory,
-            SqlError::SqliteFailure(ErrorCode::DiskFull) => Fault::CannotWrite,
+            SqlError::SqliteFailure(ErrorCode::DiskFull) => Fault::DiskFull,
             _ => Fault::CannotRead,
         }
     }
@@ -58,6 +61,7 @@ impl Fault {
     {
         match error {
             SqlError::SqliteFailure(ErrorCode::OutOfMemory) => Fault::Memory,
+            SqlError::SqliteFailure(ErrorCode::DiskFull) => Fault::DiskFull,
             _ => Fault::CannotWrite,
         }
     }

@@ -1,16 +1,19 @@
 //! A journal in a file.
 
-ghost use Rattle.std.specs.Prelude.{◌≡◌, [], false, List, IsTrue, IfOk};
+ghost use Rattle.std.specs.Prelude.{◌≡◌, [], codes, false, List, IsErrAnd, IsTrue, IfErr, IfOk};
 ghost use Rattle.sqlite_wal.specs.Files.{outcomes};
 ghost use Rattle.sqlite_wal.specs.Reads.{AreClean};
 ghost use Rattle.sqlite.specs.State.{HasCleanDisk};
 ghost use Rattle.sqlite.specs.Files.{file_state};
+ghost use Rattle.sqlite.specs.Held.{state};
+ghost use Rattle.sqlite.specs.Tree.{Trees};
 ghost use Rattle.sqlite.specs.WalFiles.{image_at};
 ghost use Rattle.sqlite.specs.Recovery.{Image};
 ghost use Rattle.sqlite_store.specs.FileStore.{state as store_state, view};
 ghost use Rattle.sqlite_trees.specs.View.{IsClean};
-ghost use Rattle.hd_turn_store.specs.Kept.{KeptTurn, Head, new_head};
-ghost use Rattle.hd_turn_store.specs.Tables.{journal_schema};
+ghost use Rattle.hd_turn_store.specs.Kept.{KeptTurn, Head, known_format, new_head};
+ghost use Rattle.hd_turn_store.specs.Faults.{IsWritingFault};
+ghost use Rattle.hd_turn_store.specs.Tables.{journal_schema, no_schema};
 ghost use Rattle.hd_turn_store.specs.Holds.{Holds};
 ghost use Rattle.hd_turn_store.specs.Crashes.{HoldsTurns, HoldsTurnsAlone};
 
@@ -18,7 +21,7 @@ use crate::fault::Fault;
 use crate::heading::check;
 use crate::storing::begin;
 use crate::table::is_blank;
-use sqlite::{Connection, FileFrom, FileStore, Files, Start};
+use sqlite::{Alter, Connection, FileFrom, FileStore, Files, Start};
 use sqlite_disk::Disk;
 
 /// Lets a journal go, with what is in the log left there. Whatever a crash leaves of the files, then or
@@ -32,9 +35,10 @@ pub fn leave<D: Disk + Drop>(conn: Connection<FileStore<D>>) -> FileStore<D>
 
 /// Ends a journal well: its turns are then in the database file alone, also after a crash.
 pub fn end<D: Disk + Drop>(conn: Connection<FileStore<D>>) -> Result<Files<D>, Fault>
-    ensures { IfOk result (λ files. AreClean D.Disk files.log files.db → (head : Head) (ks : List KeptTurn)
+    ensures copied { IfOk result (λ files. AreClean D.Disk files.log files.db → (head : Head) (ks : List KeptTurn)
         → Holds (file_state conn) head ks → (left : Image) → outcomes D.Disk files.log files.db left
         → HoldsTurnsAlone left head ks) }
+    ensures fault { IfErr result IsWritingFault }
 {
     match conn.close_files() {
         Ok(files) => Ok(files),
@@ -45,14 +49,19 @@ pub fn end<D: Disk + Drop>(conn: Connection<FileStore<D>>) -> Result<Files<D>, F
     }
 }
 
+/// A connection to the database in the file of this path.
 fn connect<S: Start>(
     rt: &HostRuntime,
     path: &str,
     start: S,
 ) -> Result<Connection<FileStore<FileFrom<S>>>, Fault>
+    ensures memory { path.now ≡ codes ":memory:" → IsErrAnd result (λ fault. fault ≡ Fault.CannotOpen) }
     ensures found { IfOk result (λ c. HasCleanDisk (file_state c) → (head : Head) (ks : List KeptTurn)
         → HoldsTurns (image_at S.Start) head ks → (file_state c).now.schema ≡ journal_schema
         → Holds (file_state c) head ks) }
+    // Files that hold a journal show its tables.
+    ensures blank { IfOk result (λ c. HasCleanDisk (file_state c) → (file_state c).now.schema ≡ no_schema
+        → (head : Head) (ks : List KeptTurn) → ¬ HoldsTurns (image_at S.Start) head ks) }
     ensures outside { IfOk result (λ c. (file_state c).in_transaction ≡ false) }
 {
     match Connection::open_from(rt, path, false, start) {
@@ -61,25 +70,55 @@ fn connect<S: Start>(
     }
 }
 
-/// Opens a journal, also one that a crash ended: it has the head and the turns that the files hold. Where
-/// there is no file, an empty one, or one that a crash left before its tables were made, it is begun; with
-/// the connection comes whether it was. A file with other tables is `NotAJournal`.
+/// Begins a journal in a database without a table, and sees of another whether it is one that can be read. Says
+/// whether it was begun. What a journal's files hold stays, whatever this answers.
+fn begin_or_check<S: Alter>(conn: &mut Connection<S>, digest: &[u8; 32]) -> Result<bool, Fault>
+    ensures clean { HasCleanDisk (state S.Store conn.new) → HasCleanDisk (state S.Store conn.old) }
+    ensures begun { HasCleanDisk (state S.Store conn.new) → IfOk result (λ is_new. IsTrue is_new
+        → Holds (state S.Store conn.new) (new_head digest.now) []) }
+    ensures blank { IfOk result (λ is_new. IsTrue is_new → (state S.Store conn.old).now.schema ≡ no_schema) }
+    ensures journal { IfOk result (λ is_new. is_new ≡ false
+        → (state S.Store conn.old).now.schema ≡ journal_schema) }
+    ensures same { HasCleanDisk (state S.Store conn.new) → IfOk result (λ is_new. is_new ≡ false
+        → (head : Head) (ks : List KeptTurn) → Holds (state S.Store conn.old) head ks
+        → Holds (state S.Store conn.new) head ks) }
+    ensures known { HasCleanDisk (state S.Store conn.new) → IfOk result (λ is_new. is_new ≡ false
+        → (head : Head) (ks : List KeptTurn) → Holds (state S.Store conn.old) head ks
+        → head.format ≡ known_format) }
+    ensures crash { HasCleanDisk (state S.Store conn.new) → (head : Head) (ks : List KeptTurn)
+        → Holds (state S.Store conn.old) head ks → (db : Trees) → (state S.Store conn.new).may_leave db
+        → (state S.Store conn.old).may_leave db }
+{
+    if is_blank(conn.schema()) {
+        begin(conn, digest)?;
+        return Ok(true);
+    }
+    check(conn)?;
+    Ok(false)
+}
+
+/// Opens a journal, also one that a crash ended: it has the head and the turns that the files hold, in the
+/// known format. Where there is no file, an empty one, or one that a crash left before its tables were made,
+/// it is begun; with the connection comes whether it was. A file with other tables is `NotAJournal`.
 pub fn open<S: Start>(
     rt: &HostRuntime,
     path: &str,
     start: S,
     digest: &[u8; 32],
 ) -> Result<(Connection<FileStore<FileFrom<S>>>, bool), Fault>
+    // Of the path no clause says more: what its files hold is `S`.
+    ensures memory { path.now ≡ codes ":memory:" → IsErrAnd result (λ fault. fault ≡ Fault.CannotOpen) }
     ensures begun { IfOk result (λ r. HasCleanDisk (file_state r.0) → IsTrue r.1 → Holds (file_state r.0)
         (new_head digest.now) []) }
+    // It is begun only where the files held no journal.
+    ensures new { IfOk result (λ r. HasCleanDisk (file_state r.0) → IsTrue r.1 → (head : Head)
+        (ks : List KeptTurn) → ¬ HoldsTurns (image_at S.Start) head ks) }
     ensures restored { IfOk result (λ r. HasCleanDisk (file_state r.0) → r.1 ≡ false → (head : Head)
         (ks : List KeptTurn) → HoldsTurns (image_at S.Start) head ks → Holds (file_state r.0) head ks) }
+    ensures known { IfOk result (λ r. HasCleanDisk (file_state r.0) → r.1 ≡ false → (head : Head)
+        (ks : List KeptTurn) → HoldsTurns (image_at S.Start) head ks → head.format ≡ known_format) }
 {
     let mut conn = connect(rt, path, start)?;
-    if is_blank(conn.schema()) {
-        begin(&mut conn, digest)?;
-        return Ok((conn, true));
-    }
-    check(&mut conn)?;
-    Ok((conn, false))
+    let is_new = begin_or_check(&mut conn, digest)?;
+    Ok((conn, is_new))
 }

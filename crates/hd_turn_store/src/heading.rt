@@ -4,11 +4,11 @@ ghost use Rattle.std.specs.Prelude.{◌≡◌, ◌⊎◌, ◌∷◌, [], List, I
 ghost use Rattle.sqlite.specs.State.{HasCleanDisk};
 ghost use Rattle.sqlite.specs.Held.{state};
 ghost use Rattle.sqlite.specs.Tree.{Trees};
-ghost use Rattle.hd_turn_store.specs.Kept.{KeptTurn, Head, head_cells};
+ghost use Rattle.hd_turn_store.specs.Kept.{KeptTurn, Head, head_cells, known_format};
 ghost use Rattle.hd_turn_store.specs.Tables.{Stores, journal_schema};
 ghost use Rattle.hd_turn_store.specs.Holds.{Holds};
 ghost use Rattle.hd_turn_store.specs.Rows.{read_head};
-ghost use Rattle.hd_turn_store.specs.Faults.{IsWritingFault, IsReadingFault};
+ghost use Rattle.hd_turn_store.specs.Faults.{IsWritingFault, IsReadingFault, RefusesDigest, RefusesFormat};
 
 use crate::fault::Fault;
 use crate::stored::{Heading, heading_in};
@@ -81,6 +81,8 @@ pub fn accept<S: Alter>(conn: &mut Connection<S>, digest: &[u8; 32]) -> Result<(
         → Holds (state S.Store conn.old) head ks → (db : Trees) → (state S.Store conn.new).may_leave db
         → Stores (record head { catalogue = digest.now }) ks db) }
     ensures fault { IfErr result IsWritingFault }
+    ensures told { HasCleanDisk (state S.Store conn.new) → IfErr result (RefusesDigest
+        (state S.Store conn.old) (state S.Store conn.new) digest.now) }
 {
     match conn.execute(UPDATE_HEAD, &[ValueRef::Blob(digest)]) {
         Ok(_) => Ok(()),
@@ -88,12 +90,20 @@ pub fn accept<S: Alter>(conn: &mut Connection<S>, digest: &[u8; 32]) -> Result<(
     }
 }
 
-/// Whether a journal can be read: its tables are those of a journal, and its format is known.
+/// Whether a journal can be read: its tables are those of a journal, and its format is the known one. What the
+/// files hold stays.
 pub(crate) fn check<S: Alter>(conn: &mut Connection<S>) -> Result<(), Fault>
     ensures clean { HasCleanDisk (state S.Store conn.new) → HasCleanDisk (state S.Store conn.old) }
     ensures schema { OnOk result ((state S.Store conn.old).now.schema ≡ journal_schema) }
     ensures same { HasCleanDisk (state S.Store conn.new) → OnOk result ((head : Head) (ks : List KeptTurn)
         → Holds (state S.Store conn.old) head ks → Holds (state S.Store conn.new) head ks) }
+    ensures known { HasCleanDisk (state S.Store conn.new) → OnOk result ((head : Head) (ks : List KeptTurn)
+        → Holds (state S.Store conn.old) head ks → head.format ≡ known_format) }
+    ensures fault { HasCleanDisk (state S.Store conn.new) → IfErr result (λ fault. (head : Head)
+        (ks : List KeptTurn) → Holds (state S.Store conn.old) head ks → RefusesFormat head.format fault) }
+    ensures crash { HasCleanDisk (state S.Store conn.new) → (head : Head) (ks : List KeptTurn)
+        → Holds (state S.Store conn.old) head ks → (db : Trees) → (state S.Store conn.new).may_leave db
+        → (state S.Store conn.old).may_leave db }
 {
     if !is_journal(conn.schema()) {
         return Err(Fault::NotAJournal);

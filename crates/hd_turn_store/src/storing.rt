@@ -8,7 +8,7 @@ ghost use Rattle.hd_turn_store.specs.Kept.{KeptTurn, Head, new_head, piece};
 ghost use Rattle.hd_turn_store.specs.Tables.{Stores, no_schema};
 ghost use Rattle.hd_turn_store.specs.Holds.{Holds};
 ghost use Rattle.hd_turn_store.specs.Rows.{turn_of_row, read_turn};
-ghost use Rattle.hd_turn_store.specs.Faults.{IsWritingFault, IsReadingFault};
+ghost use Rattle.hd_turn_store.specs.Faults.{IsWritingFault, IsReadingFault, RefusesTurn};
 
 use crate::fault::Fault;
 use crate::parts::{INSERT_TURN, fill, put};
@@ -60,7 +60,10 @@ fn begin_blank<S: Alter>(conn: &mut Connection<S>, digest: &[u8; 32]) -> Result<
 }
 
 /// Commits one turn more. Where it fails, the file holds the turns before or these and the new one.
-pub fn append<S: Alter>(conn: &mut Connection<S>, row: &TurnRow<'_>) -> Result<(), Fault>
+///
+/// # Errors
+/// SQLite's own, so that the operator is told why.
+pub fn append<S: Alter>(conn: &mut Connection<S>, row: &TurnRow<'_>) -> Result<(), Error>
     ensures clean { HasCleanDisk (state S.Store conn.new) → HasCleanDisk (state S.Store conn.old) }
     ensures ok { HasCleanDisk (state S.Store conn.new) → OnOk result ((head : Head) (ks : List KeptTurn)
         → Holds (state S.Store conn.old) head ks
@@ -71,12 +74,13 @@ pub fn append<S: Alter>(conn: &mut Connection<S>, row: &TurnRow<'_>) -> Result<(
     ensures durable { HasCleanDisk (state S.Store conn.new) → OnOk result ((head : Head) (ks : List KeptTurn)
         → Holds (state S.Store conn.old) head ks → (db : Trees) → (state S.Store conn.new).may_leave db
         → Stores head (ks ++ turn_of_row row.now ∷ []) db) }
-    ensures fault { IfErr result IsWritingFault }
+    ensures err { HasCleanDisk (state S.Store conn.new) → IfErr result (RefusesTurn (state S.Store conn.old)
+        (state S.Store conn.new) (turn_of_row row.now)) }
 {
     let values = cells(row);
     match conn.execute(INSERT_TURN, &values) {
         Ok(_) => Ok(()),
-        Err(error) => Err(Fault::of_writing(error)),
+        Err(error) => Err(error),
     }
 }
 

@@ -24,7 +24,8 @@ pub(crate) fn check(rt: &HostRuntime, path: &str) -> Result<(), Fault> {
 
 /// What a catalogue file says, a line for each value, in the order of docs/operating.md.
 ///
-/// An error is want of memory.
+/// # Errors
+/// Out of memory.
 fn report_of(alloc: Global, version: u8, catalogue: &Catalogue) -> Result<Vec<u8>, AllocError> {
     let head = format!(in alloc; "version: {version}\ninstitution: ")?;
     let numbers = numbers_of(alloc, catalogue)?;
@@ -38,7 +39,8 @@ fn report_of(alloc: Global, version: u8, catalogue: &Catalogue) -> Result<Vec<u8
 /// The lines behind the institution. They are one format: a write for each line would have to be proved to
 /// end well or early by itself.
 ///
-/// An error is want of memory.
+/// # Errors
+/// Out of memory.
 fn numbers_of(alloc: Global, catalogue: &Catalogue) -> Result<String, AllocError> {
     format!(in alloc;
         "\noffset: {} minutes\ncommand limit: {}\nbranches: {}\nterminals: {}\npatrons: {}\ntitles: {}\n\

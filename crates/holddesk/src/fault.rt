@@ -23,7 +23,7 @@ pub(crate) enum Fault {
     /// What the program tells can't be written.
     #[error("cannot write")]
     CannotWrite,
-    /// Want of memory before the first connection, or for what `check` tells.
+    /// Out of memory before the first connection, or for what `check` tells.
     #[error("no memory")]
     Memory,
     /// A journal's file can't be opened or ended.

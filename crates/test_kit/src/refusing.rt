@@ -1,8 +1,10 @@
 //! An allocator for tests: it passes requests for memory on to another allocator, refuses the one that it is
 //! told to, and counts them.
 //!
-//! It shows how a call bears want of memory at each of its requests, and how many requests it makes. A
+//! It shows what a call does that is out of memory at any of its requests, and how many requests it makes. A
 //! collection takes it by reference, and a reference to it is `Copy`: `Vec::new(&refusing)`.
+ghost use Rattle.std.specs.Prelude.{◌≡◌, ◌+◌, ◌-◌, ◌^◌, ◌<◌, ◌≤◌, ◌↔◌, IsTrue};
+
 use std::alloc::{AllocError, Allocator};
 use std::cell::Cell;
 
@@ -34,7 +36,7 @@ impl<B: Allocator> Refusing<B> {
 
     /// How many requests there were since it was last told which one to refuse.
     pub fn requests(&self) -> u64 {
-        self.told.get().wrapping_sub(self.left.get())
+        requests_made(self.told.get(), self.left.get())
     }
 }
 
@@ -50,9 +52,28 @@ impl<B: Allocator> Drop for Refusing<B> {
 
 /// Counts a request, and tells whether it is the one to refuse.
 fn tick(left: &Cell<u64>) -> bool {
-    let count = left.get();
-    left.set(count.wrapping_sub(1));
-    count == 0
+    let (is_refused, behind) = request(left.get());
+    left.set(behind);
+    is_refused
+}
+
+/// A request, where so many are passed on before the one that is refused: whether it is that one, and how
+/// many are passed on behind it before one is refused.
+fn request(left: u64) -> (bool, u64)
+    ensures refused { IsTrue result.0 ↔ left ≡ 0 }
+    ensures passed_on { 0 < left → result.1 + 1 ≡ left }
+    // behind the one that is refused the number goes on from the greatest
+    ensures behind { left ≡ 0 → result.1 ≡ 2 ^ 64 - 1 }
+{
+    (left == 0, left.wrapping_sub(1))
+}
+
+/// How many requests were made, where so many were to be passed on, and so many are left.
+fn requests_made(told: u64, left: u64) -> u64
+    ensures to_pass_on { left ≤ told → result + left ≡ told }
+    ensures behind { told < left → result + left ≡ told + 2 ^ 64 }
+{
+    told.wrapping_sub(left)
 }
 
 unsafe impl<B: Allocator> Allocator for Refusing<B> {

@@ -3,8 +3,8 @@
 ghost use Rattle.std.specs.Prelude.{◌≡◌, [], ℕ};
 
 use hd_catalogue::Catalogue;
-use hd_hall::{Keeper, KeeperFault};
-use hd_journal::{Ask, Journal, OwnedAsk, Turn, TurnRef};
+use hd_hall::Keeper;
+use hd_journal::{Ask, Journal, OwnedAsk, Turn, TurnFault, TurnRef, WriteFault};
 use std::alloc::{AllocError, Global};
 use std::sync::Arc;
 
@@ -25,6 +25,7 @@ impl FullDisk {
 }
 
 impl Keeper<Global, OwnedAsk<Global>> for FullDisk {
+    ghost use Rattle.hd_journal.specs.Faults.{IsMemoryOrUnwritten};
     ghost use Rattle.hd_journal.specs.Openings.{fresh};
 
     ghost asks = { λ ask. ask };
@@ -33,7 +34,9 @@ impl Keeper<Global, OwnedAsk<Global>> for FullDisk {
 
     ghost turns = { λ disk. disk.journal.turns };
 
-    ghost faults = { λ fault. Unit {0} };
+    ghost faults = { IsMemoryOrUnwritten };
+
+    ghost causes = { λ old ask new. IsMemoryOrUnwritten };
 
     fn own(alloc: Global, ask: &Ask<'_>) -> Result<OwnedAsk<Global>, AllocError> {
         ask.to_owned(alloc)
@@ -51,10 +54,10 @@ impl Keeper<Global, OwnedAsk<Global>> for FullDisk {
         self.journal.turn_at(at)
     }
 
-    fn take(&mut self, ask: OwnedAsk<Global>) -> Result<Turn, KeeperFault> {
+    fn take(&mut self, ask: OwnedAsk<Global>) -> Result<Turn, TurnFault> {
         if self.journal.front() >= self.room {
-            return Err(KeeperFault::Unwritten);
+            return Err(TurnFault::Unwritten(WriteFault::DiskFull));
         }
-        Ok(self.journal.take(ask)?)
+        self.journal.take(ask)
     }
 }

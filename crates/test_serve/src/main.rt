@@ -41,6 +41,11 @@ fn main(rt: HostRuntime) -> io::Result<()> {
         "a turn that can't be written",
         unwritten_turn::goes(&rt, &rt),
     )?;
+    tell(
+        &rt,
+        "the same behind the last connection",
+        unwritten_turn::goes_behind_the_last(&rt, &rt),
+    )?;
     tell(&rt, "a connection reset", is_played(&rt, &rt, &A_RESET))?;
     tell(&rt, "byte by byte", is_played(&rt, &rt, &BYTE_BY_BYTE))?;
     tell(

@@ -1,12 +1,17 @@
 use Rattle.std.proofs.Common.{◌≡◌, ◌⊎◌, ◌++◌, ◌∷◌, [], sym, subst, ap, ◌∙◌}
 use Rattle.std.specs.Prelude.{option_map}
-use Rattle.std.proofs.lemmas.Result.{on_ok_weaker, on_err_weaker}
+use Rattle.std.proofs.lemmas.Result.{on_ok_weaker, on_err_weaker, IfErr-weaker}
 use Rattle.hd_catalogue.specs.Contents.{Contents, facts_of}
 use Rattle.hd_rules.specs.Journal.{Turn, IsLegal}
 use Rattle.hd_journal.specs.Asks.{IsKnownMessage}
 use Rattle.hd_journal.specs.Shown.{turn_shown}
-use Rattle.hd_durable.proofs.Durability.{last_is}
+use Rattle.hd_durable.proofs.Durability.{last_is, last_there}
 use Rattle.hd_durable.proofs.journal.commit_last.Goals as goal
+
+pub unreachable-requires : goal.unreachable-requires
+unreachable-requires g c =
+    last_there c.args.journal.now.turns c.requires.last.0 c.requires.last.1 c.front.result c.requires.last.2
+    c.front.ensures.count c.in_default.ensures
 
 pub commit-requires : goal.commit-requires
 commit-requires g c =
@@ -44,3 +49,13 @@ returns-clause-err g c =
     (subst (λ (x : Turn). IsLegal (facts_of c.args.journal.now.contents) (held ++ x ∷ [])) (sym last) legal))
     holds leaves))
     c.commit.ensures.err
+
+pub returns-clause-why : goal.returns-clause-why
+returns-clause-why g c =
+    IfErr-weaker c.commit.result _ _
+    (λ why refused turns turn is.
+    subst (λ (x : Turn). g.T.TurnTable.refuses c.args.table.now x c.commit.new.self why)
+    (last_is c.args.journal.now.turns turns turn c.front.result (turn_shown c.in-Some.last) is c.front.ensures.count
+    (ap (option_map turn_shown) (sym c.in-Some.is) ∙ c.turn_at.ensures))
+    refused)
+    c.commit.ensures.why

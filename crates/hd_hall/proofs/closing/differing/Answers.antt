@@ -5,17 +5,19 @@ use Rattle.hd_hall.specs.Seats.{SeatView, with_part, shares, all_receipts}
 use Rattle.hd_hall.proofs.Lending.{whole_counts, lent_receipts, lent_parts, held_again}
 use Rattle.hd_hall.proofs.Covering.{covers_permutes, receipt_of}
 use Rattle.hd_hall.proofs.Once.{lent_there, there_permutes}
+use Rattle.hd_hall.proofs.closing.differing.Given.{Over}
+use Rattle.hd_hall.proofs.closing.differing.Goals.{After-audit}
 use Rattle.hd_hall.proofs.closing.differing.Goals as goal
+
+-- the turns are as many as the seats' shares say
+counted : (g : Over) (c : After-audit g) → length (g.K.Keeper.turns c.args.keeper.now) ≡ shares c.args.seats.now
+counted g c =
+    let total = c.audit.ensures.whole (omega (arith, c.gather.ensures.parts, c.requires.all)) in
+    omega (arith, total, c.gather.ensures.amount, c.requires.empty.0, c.requires.counted)
 
 pub returns-then-are_there-clause-none : goal.returns-then-are_there-clause-none
 returns-then-are_there-clause-none g c =
-    let parts = ap (λ (s : _). s.parts) c.empty-none.ensures.same in
-    let amount = ap (λ (s : _). s.amount) c.empty-none.ensures.same in
-    let all : c.merge.new.self.parts ≡ g.H.Ledger.parts =
-    omega (arith, c.gather.ensures.parts, c.empty-none.ensures.parts, c.merge.ensures.parts, c.merge.ensures.apart, c.requires.all) in
-    let total = c.audit.ensures.whole all in
-    let counts : length (g.K.Keeper.turns c.args.keeper.now) ≡ shares c.args.seats.now =
-    omega (arith, c.gather.ensures.amount, c.empty-none.ensures.amount, c.merge.ensures.amount, c.requires.empty.0, c.requires.counted) in
+    let counts = counted g (goal.at.returns-then-are_there-clause-none g c).After-audit in
     let there = c.are_there.ensures.0 c.if-are_there.true in
     let here : AreThere (g.K.Keeper.turns c.args.keeper.now) 0 c.args.seats.now =
     lent_there (g.K.Keeper.turns c.args.keeper.now) 0 c.args.seats.now
@@ -28,13 +30,7 @@ returns-then-are_there-clause-none g c =
 
 pub returns-in-None-clause-none : goal.returns-in-None-clause-none
 returns-in-None-clause-none g c =
-    let parts = ap (λ (s : _). s.parts) c.empty-none.ensures.same in
-    let amount = ap (λ (s : _). s.amount) c.empty-none.ensures.same in
-    let all : c.merge.new.self.parts ≡ g.H.Ledger.parts =
-    omega (arith, c.gather.ensures.parts, c.empty-none.ensures.parts, c.merge.ensures.parts, c.merge.ensures.apart, c.requires.all) in
-    let total = c.audit.ensures.whole all in
-    let counts : length (g.K.Keeper.turns c.args.keeper.now) ≡ shares c.args.seats.now =
-    omega (arith, c.gather.ensures.amount, c.empty-none.ensures.amount, c.merge.ensures.amount, c.requires.empty.0, c.requires.counted) in
+    let counts = counted g (goal.at.returns-in-None-clause-none g c).After-audit in
     let has = rw (c.gather.ensures.lent, lent_receipts) at c.in-None.ensures.none in
     record {
       legal = c.front-front.ensures.legal;
@@ -52,22 +48,14 @@ give_back-requires-clause-lent g c = rw c.gather.ensures.lent (lent_parts c.args
 pub give_back-requires-clause-amount : goal.give_back-requires-clause-amount
 give_back-requires-clause-amount g c =
     let counts = whole_counts c.args.seats.now c.gather.ensures.whole in
-    let same = ap (λ (s : _). s.amount) c.empty-none.ensures.same in
     rw (c.gather.ensures.lent, lent_receipts)
-    (omega (arith, c.gather.ensures.amount, c.merge.ensures.amount, c.audit.ensures.amount, c.empty-none.ensures.amount))
+    (omega (arith, counts, c.gather.ensures.amount, c.audit.ensures.same.1))
 
 pub returns-in-Some-clause-some : goal.returns-in-Some-clause-some
 returns-in-Some-clause-some g c =
-    let parts = ap (λ (s : _). s.parts) c.empty-none.ensures.same in
-    let amount = ap (λ (s : _). s.amount) c.empty-none.ensures.same in
-    let all : c.merge.new.self.parts ≡ g.H.Ledger.parts =
-    omega (arith, c.gather.ensures.parts, c.empty-none.ensures.parts, c.merge.ensures.parts, c.merge.ensures.apart, c.requires.all) in
-    let total = c.audit.ensures.whole all in
-    let counts : length (g.K.Keeper.turns c.args.keeper.now) ≡ shares c.args.seats.now =
-    omega (arith, c.gather.ensures.amount, c.empty-none.ensures.amount, c.merge.ensures.amount, c.requires.empty.0, c.requires.counted) in
     record {
       legal = c.front-front.ensures.legal;
-      counted = counts;
+      counted = counted g (goal.at.returns-in-Some-clause-some g c).After-audit;
       lacks = rw (c.gather.ensures.lent, lent_receipts) at c.in-Some.ensures.some;
     }
 

@@ -1,4 +1,4 @@
-use Rattle.std.proofs.Common.{◌≡◌, ◌∙◌, List, [], refl, sym, subst, true≢false}
+use Rattle.std.proofs.Common.{◌∙◌, List, [], refl, sym, subst, true≢false}
 use Rattle.hd_rules.specs.Journal.{Turn}
 use Rattle.hd_journal_file.specs.Rows.{AreTurnRows}
 use Rattle.hd_journal_file.proofs.opening.open_over.Goals as goal
@@ -22,13 +22,19 @@ durable-requires-2-clause-held g c reliable =
     let found = reliable.found refl in
     let early = c.take_again.ensures.clean reliable.clean in
     let seen = c.requires.seen early c.if-is_new.false found.0 found.1 found.2 in
-    let held = c.in_ok-take_again.ensures.held reliable.clean found.0 found.1 seen in
-    record { head = held.0; rows = found.1; holds = held.1; are = held.2 }
+    let taken = c.in_ok-take_again.ensures.taken reliable.clean found.0 found.1 seen in
+    record { head = _; rows = found.1; holds = taken.holds; are = taken.are }
+
+pub returns-clause-taken : goal.returns-clause-taken
+returns-clause-taken g c clean old head rows holds =
+    let late = rw c.in_ok-durable-2.ensures.file.0 at clean in
+    let taken = c.in_ok-take_again.ensures.taken late head rows holds in
+    rw (c.in_ok-durable-2.ensures.contents, c.in_ok-durable-2.ensures.turns, c.in_ok-durable-2.ensures.file.0) taken
 
 pub returns-clause-found : goal.returns-clause-found
 returns-clause-found g c clean old head rows found =
     let late = rw c.in_ok-durable-2.ensures.file.0 at clean in
     let early = c.take_again.ensures.clean late in
     let seen = c.requires.seen early c.if-is_new.false head rows found in
-    let held = c.in_ok-take_again.ensures.held late head rows seen in
-    rw (c.in_ok-durable-2.ensures.contents, c.in_ok-durable-2.ensures.turns) held.2
+    let taken = c.in_ok-take_again.ensures.taken late head rows seen in
+    rw (c.in_ok-durable-2.ensures.contents, c.in_ok-durable-2.ensures.turns, c.in_ok-durable-2.ensures.file.0) taken

@@ -1,12 +1,13 @@
-use Rattle.std.proofs.Common.{List, take}
+use Rattle.std.proofs.Common.{◌≡◌, ◌≤◌, List, length, take}
 use Rattle.sqlite.specs.State.{HasCleanDisk}
 use Rattle.sqlite.specs.Held.{state}
+use Rattle.sqlite.specs.Tree.{Trees}
 use Rattle.hd_turn_store.specs.Holds.{Holds}
 use Rattle.hd_turn_store.specs.Kept.{KeptTurn, Head}
 use Rattle.hd_journal_file.specs.Restored.{TakesRows}
 use Rattle.hd_journal_file.proofs.restoring.restore_turns.Given as goal
 
--- some rows are taken, and with a clean disk the first ones
+-- some rows are taken, and with a clean disk the first ones, of which there are as many as are counted
 abbrev pub invariant-loop-piece : goal.invariant-loop-piece
 invariant-loop-piece g l =
     let old = state g.S.Store l.initial.conn in
@@ -15,5 +16,8 @@ invariant-loop-piece g l =
       clean : HasCleanDisk now → HasCleanDisk old;
       took : (rows : List KeptTurn) × TakesRows l.initial.journal l.journal rows;
       rows : HasCleanDisk now → (head : Head) (rows : List KeptTurn) → Holds old head rows
-          → Holds now head rows × TakesRows l.initial.journal l.journal (take l.at rows);
+          → Holds now head rows × TakesRows l.initial.journal l.journal (take l.at rows) × (length (take l.at rows) ≡ l.at);
+      crash : HasCleanDisk now → (head : Head) (rows : List KeptTurn) → Holds old head rows
+          → (db : Trees) → now.may_leave db → old.may_leave db;
+      many : l._piece ≤ l.at;
     }

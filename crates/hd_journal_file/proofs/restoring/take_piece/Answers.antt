@@ -3,7 +3,9 @@ use Rattle.std.proofs.lemmas.Bool.{eqb-true}
 use Rattle.std.proofs.lemmas.List.{length-map}
 use Rattle.hd_turn_store.specs.Kept.{KeptTurn, piece}
 use Rattle.hd_turn_store.specs.Rows.{read_turn}
-use Rattle.hd_journal_file.specs.Restored.{TakesRows}
+use Rattle.hd_journal_file.specs.Restored.{RefusesRows, TakesRows}
+use Rattle.hd_journal_file.specs.declared.fault.RestoreFault.{RestoreFault}
+use Rattle.hd_journal_file.proofs.Results.{passed}
 use Rattle.hd_turn_store.specs.declared.stored.StoredTurn.{StoredTurn}
 use Rattle.hd_journal_file.proofs.restoring.take_piece.Goals as goal
 
@@ -34,3 +36,14 @@ returns-clause-rows g c clean head rows holds =
           ∙ ap (λ (n : ℕ). c.args.after + n) (sym (length-map c.as_slice.result.now read_turn) ∙ ap length all),
       subst (λ (ks : List KeptTurn). TakesRows c.args.journal.now c.take_rows.new.journal ks) all c.in_ok-last.ensures.rows,
     )
+
+pub returns-in_err-last-clause-why : goal.returns-in_err-last-clause-why
+returns-in_err-last-clause-why g c clean =
+    passed c.from_residual.result _ _ c.from_residual.ensures.1 (λ fault is head rows holds.
+    let read : map read_turn c.in-Ok.rows.items ≡ take piece (drop c.args.after rows) =
+    c.in-Ok.ensures.ok clean head rows holds in
+    let all : map read_turn c.as_slice.result.now ≡ take piece (drop c.args.after rows) =
+    ap (map read_turn) c.as_slice.ensures.value ∙ read in
+    subst (λ (f : RestoreFault). RefusesRows c.args.journal.now (take piece (drop c.args.after rows)) c.args.after f) (sym is)
+    (subst (λ (ks : List KeptTurn). RefusesRows c.args.journal.now ks c.args.after c.in_err-last.field-0.0) all
+    c.in_err-last.ensures.why))

@@ -3,8 +3,7 @@ use Rattle.hd_catalogue.specs.Contents.{Contents}
 use Rattle.hd_journal.specs.Offices.{Keeps}
 use Rattle.hd_session.specs.Scripts.{AreKnownTo}
 use Rattle.hd_replay.specs.Replays.{AreOfOffice}
-use Rattle.hd_journal.specs.declared.fault.OfficeFault.TheVariants as office
-use Rattle.hd_replay.proofs.Playing.{estranged_is_no_memory, no_stranger, unwritten_is_no_memory, written_back}
+use Rattle.hd_replay.proofs.Playing.{no_stranger, written_back}
 use Rattle.hd_replay.proofs.sessions.play.Goals as goal
 
 pub returns-clause-plays : goal.returns-clause-plays
@@ -34,9 +33,7 @@ returns-clause-office g c =
     let law = c.no_session_ends_by_another_fault.ensures.script c.args.journal.now.contents 0
     (record { session = c.args.at; piece = record { now = c.args.now.now; bytes = c.args.piece.now } } ∷ [])
     c.as_mut_slice.result.now c.run.new.sessions plays.events in
-    let estranged = (law office.Estranged estranged_is_no_memory estranged_is_no_memory plays.fed (λ i. (before i).0)).1 in
-    let unwritten = (law office.Unwritten unwritten_is_no_memory unwritten_is_no_memory plays.fed (λ i. (before i).1)).1 in
-    rw sessions (λ i. (estranged i, unwritten i))
+    rw sessions (λ i what other. (law what other other plays.fed (λ j. before j what other)).1 i)
 
 pub run-requires-clause-known : goal.run-requires-clause-known
 run-requires-clause-known g c = subst (AreKnownTo c.args.journal.now.contents) (sym c.as_mut_slice.ensures.value) c.requires.known

@@ -6,8 +6,8 @@ use Rattle.hd_turn_store.specs.Tables.{Stores}
 use Rattle.hd_turn_store.proofs.Adds.{lasting}
 use Rattle.hd_turn_store.proofs.file.end.Goals as goal
 
-pub returns-in-Ok : goal.returns-in-Ok
-returns-in-Ok g c clean head ks holds left may =
+pub returns-in-Ok-clause-copied : goal.returns-in-Ok-clause-copied
+returns-in-Ok-clause-copied g c clean head ks holds left may =
     let it = (c.in-Ok.ensures.copied clean).left left may in
     let last = file_state c.args.conn in
     let rows = lasting last head ks last.committed.trees holds refl in

@@ -26,3 +26,6 @@ returns-in-Err-clause-crash g c clean head ks holds db may =
       | inl was ↦ inl was
       | inr it ↦ inr (accept_commits (state g.S.Store c.args.conn.now) c.args.digest.now head ks db holds it)
     ]
+
+pub returns-in-Err-clause-told : goal.returns-in-Err-clause-told
+returns-in-Err-clause-told g c clean = (c.in-Err.error, c.in-Err.ensures.runs clean, c.of_writing.ensures.value)

@@ -1,6 +1,9 @@
-use Rattle.std.proofs.Common.{inl, inr}
+use Rattle.std.proofs.Common.{inl, inr, subst, Err}
+use Rattle.sqlite.specs.Order.{Row}
+use Rattle.sqlite.specs.State.{Executes}
 use Rattle.sqlite.specs.Held.{state}
 use Rattle.hd_turn_store.specs.Rows.{turn_of_row}
+use Rattle.hd_turn_store.specs.Texts.{insert_turn_text}
 use Rattle.hd_turn_store.proofs.Adds.{adds, commits, lasting}
 use Rattle.hd_turn_store.proofs.storing.append.Goals as goal
 
@@ -26,3 +29,8 @@ returns-in-Err-clause-crash g c clean head ks holds db may =
       | inl was ↦ inl was
       | inr it ↦ inr (commits (state g.S.Store c.args.conn.now) (turn_of_row c.args.row.now) _ head ks db c.cells-values.ensures holds it)
     ]
+
+pub returns-in-Err-clause-err : goal.returns-in-Err-clause-err
+returns-in-Err-clause-err g c clean =
+    subst (λ (values : Row). Executes insert_turn_text values (state g.S.Store c.args.conn.now) (state g.S.Store c.execute.new.self) (Err c.in-Err.error))
+    c.cells-values.ensures (c.in-Err.ensures.runs clean)

@@ -1,22 +1,30 @@
-use Rattle.std.proofs.Common.{refl, sym, subst, ◌∙◌, Bool, false}
+use Rattle.std.proofs.Common.{refl, sym, subst, ap, ◌∙◌, inl, inr, Option, None}
+use Rattle.std.proofs.lemmas.Result.{err_from_is_err_and}
 use Rattle.hd_catalogue.specs.Contents.{facts_of}
 use Rattle.hd_journal.specs.Asks.{IsKnownMessage}
-use Rattle.hd_durable.specs.Durable.{DurableValue, IsDurable}
+use Rattle.hd_journal.specs.declared.fault.WriteFault.{WriteFault}
+use Rattle.hd_durable.specs.Durable.{DurableValue, IsDurable, refuses_turn_of}
 use Rattle.hd_durable.proofs.Durability.{committed, durable_more, durable_same, durable_shut, last_known, left_in_doubt}
+use Rattle.hd_durable.proofs.Refusing.{out_of_memory, refused_one}
 use Rattle.hd_durable.proofs.journal.DurableJournal.take.Given.{Over}
-use Rattle.hd_durable.proofs.journal.DurableJournal.take.Goals.{In_ok-commit_last, In_ok-turn}
+use Rattle.hd_durable.proofs.journal.DurableJournal.take.Goals.{In-Ok, In_ok-turn}
 use Rattle.hd_durable.proofs.journal.DurableJournal.take.Goals as goal
 
+-- it was shut before
+pub returns-in-Some-clause-why : goal.returns-in-Some-clause-why
+returns-in-Some-clause-why g c =
+    let is = sym (ap (λ (d : DurableValue g.row.T.Denot). d.shut) c.self.view_is) ∙ c.in-Some.is in (is, inl is)
+
 -- a turn that changes nothing leaves it durable
-same : (g : Over) (c : In_ok-turn g) (b : Bool)
+same : (g : Over) (c : In_ok-turn g) (shut : Option WriteFault)
     → IsDurable (g.T.TurnTable.contents c.self.inside.table) (g.T.TurnTable.holds c.self.inside.table)
-    (g.T.TurnTable.leaves c.self.inside.table) c.take.new.self.contents c.take.new.self.turns c.in_ok-turn.turn.at b
-same g c b =
+    (g.T.TurnTable.leaves c.self.inside.table) c.take.new.self.contents c.take.new.self.turns c.in_ok-turn.turn.at shut
+same g c shut =
     durable_same c.self.inside.journal c.take.new.self c.args.ask.seat c.args.ask.message c.in_ok-turn.turn
     c.in_ok-turn.ensures.turn c.take.ensures.legal (g.T.TurnTable.contents c.self.inside.table)
-    (g.T.TurnTable.holds c.self.inside.table) (g.T.TurnTable.leaves c.self.inside.table) c.self.inside.answered b
+    (g.T.TurnTable.holds c.self.inside.table) (g.T.TurnTable.leaves c.self.inside.table) c.self.inside.answered shut
     c.self.invariant.same (sym c.is_changing.ensures ∙ c.if-not-is_changing.true)
-    (c.self.invariant.opened c.if-self.false)
+    (c.self.invariant.opened c.in_default.is)
 
 pub invariant_of-self-then-not-is_changing : goal.invariant_of-self-then-not-is_changing
 invariant_of-self-then-not-is_changing g c =
@@ -26,11 +34,11 @@ pub returns-then-not-is_changing-clause-committed :
     goal.returns-then-not-is_changing-clause-committed
 returns-then-not-is_changing-clause-committed g c =
     committed _ _ (facts_of c.take.new.self.contents) c.take.new.self.turns c.in_ok-turn.turn.at
-    ((same g (goal.at.returns-then-not-is_changing-clause-committed g c).In_ok-turn false).opened refl)
+    ((same g (goal.at.returns-then-not-is_changing-clause-committed g c).In_ok-turn None).opened refl)
 
 pub returns-then-not-is_changing-clause-left : goal.returns-then-not-is_changing-clause-left
 returns-then-not-is_changing-clause-left g c =
-    (same g (goal.at.returns-then-not-is_changing-clause-left g c).In_ok-turn false).left
+    (same g (goal.at.returns-then-not-is_changing-clause-left g c).In_ok-turn None).left
 
 pub commit_last-requires-clause-catalogue : goal.commit_last-requires-clause-catalogue
 commit_last-requires-clause-catalogue g c = c.self.invariant.same ∙ sym c.in_ok-turn-2.ensures.turn.contents
@@ -42,45 +50,84 @@ commit_last-requires-clause-last g c =
     (subst (λ (d : DurableValue g.row.T.Denot). IsKnownMessage (facts_of d.contents) c.args.ask.message)
     (sym c.self.view_is) c.requires)
 
-pub invariant_of-self-in_err-commit_last : goal.invariant_of-self-in_err-commit_last
-invariant_of-self-in_err-commit_last g c =
+pub invariant_of-self-in-Err : goal.invariant_of-self-in-Err
+invariant_of-self-in-Err g c =
     durable_shut c.self.inside.journal c.take-2.new.self c.args.ask.seat c.args.ask.message c.in_ok-turn-2.turn
     c.in_ok-turn-2.ensures.turn c.take-2.ensures.legal
     (g.T.TurnTable.contents c.self.inside.table) (g.T.TurnTable.contents c.commit_last.new.table)
     (g.T.TurnTable.holds c.self.inside.table) (g.T.TurnTable.leaves c.self.inside.table)
-    (g.T.TurnTable.holds c.commit_last.new.table) (g.T.TurnTable.leaves c.commit_last.new.table) c.self.inside.answered
+    (g.T.TurnTable.holds c.commit_last.new.table) (g.T.TurnTable.leaves c.commit_last.new.table) c.self.inside.answered c.in-Err.why
     c.self.invariant.same c.commit_last.ensures.contents (sym c.is_changing.ensures ∙ c.if-not-is_changing.false)
-    c.self.invariant.legal (c.self.invariant.opened c.if-self.false) c.in_err-commit_last.ensures.err
+    c.self.invariant.legal (c.self.invariant.opened c.in_default.is) c.in-Err.ensures.err
 
-pub returns-in_err-commit_last-clause-left : goal.returns-in_err-commit_last-clause-left
-returns-in_err-commit_last-clause-left g c =
+pub returns-in-Err-clause-left : goal.returns-in-Err-clause-left
+returns-in-Err-clause-left g c =
     left_in_doubt c.self.inside.journal c.take-2.new.self c.args.ask.seat c.args.ask.message c.in_ok-turn-2.turn
     c.in_ok-turn-2.ensures.turn c.take-2.ensures.legal
     (g.T.TurnTable.holds c.self.inside.table) (g.T.TurnTable.leaves c.self.inside.table)
     (g.T.TurnTable.leaves c.commit_last.new.table) c.self.inside.answered
     (sym c.is_changing.ensures ∙ c.if-not-is_changing.false) c.self.invariant.legal
-    (c.self.invariant.opened c.if-self.false) c.in_err-commit_last.ensures.err
+    (c.self.invariant.opened c.in_default.is) c.in-Err.ensures.err
 
 -- nor does one that is committed
-more : (g : Over) (c : In_ok-commit_last g) (b : Bool)
+more : (g : Over) (c : In-Ok g) (shut : Option WriteFault)
     → IsDurable (g.T.TurnTable.contents c.commit_last.new.table) (g.T.TurnTable.holds c.commit_last.new.table)
-    (g.T.TurnTable.leaves c.commit_last.new.table) c.take-2.new.self.contents c.take-2.new.self.turns c.in_ok-turn-2.turn.at b
-more g c b =
+    (g.T.TurnTable.leaves c.commit_last.new.table) c.take-2.new.self.contents c.take-2.new.self.turns c.in_ok-turn-2.turn.at shut
+more g c shut =
     durable_more c.self.inside.journal c.take-2.new.self c.args.ask.seat c.args.ask.message c.in_ok-turn-2.turn
     c.in_ok-turn-2.ensures.turn c.take-2.ensures.legal
     (g.T.TurnTable.contents c.self.inside.table) (g.T.TurnTable.contents c.commit_last.new.table)
     (g.T.TurnTable.holds c.self.inside.table) (g.T.TurnTable.leaves c.self.inside.table)
-    (g.T.TurnTable.holds c.commit_last.new.table) (g.T.TurnTable.leaves c.commit_last.new.table) c.self.inside.answered b
+    (g.T.TurnTable.holds c.commit_last.new.table) (g.T.TurnTable.leaves c.commit_last.new.table) c.self.inside.answered shut
     c.self.invariant.same c.commit_last.ensures.contents (sym c.is_changing.ensures ∙ c.if-not-is_changing.false)
-    (c.self.invariant.opened c.if-self.false) c.in_ok-commit_last.ensures.ok c.in_ok-commit_last.ensures.settled
+    (c.self.invariant.opened c.in_default.is) c.in-Ok.ensures.ok c.in-Ok.ensures.settled
 
-pub invariant_of-self-2 : goal.invariant_of-self-2
-invariant_of-self-2 g c = more g (goal.at.invariant_of-self-2 g c).In_ok-commit_last _
+pub invariant_of-self-in-Ok : goal.invariant_of-self-in-Ok
+invariant_of-self-in-Ok g c = more g (goal.at.invariant_of-self-in-Ok g c).In-Ok _
 
-pub returns-clause-committed : goal.returns-clause-committed
-returns-clause-committed g c =
+pub returns-in-Ok-clause-committed : goal.returns-in-Ok-clause-committed
+returns-in-Ok-clause-committed g c =
     committed _ _ (facts_of c.take-2.new.self.contents) c.take-2.new.self.turns c.in_ok-turn-2.turn.at
-    ((more g (goal.at.returns-clause-committed g c).In_ok-commit_last false).opened refl)
+    ((more g (goal.at.returns-in-Ok-clause-committed g c).In-Ok None).opened refl)
 
-pub returns-clause-left : goal.returns-clause-left
-returns-clause-left g c = (more g (goal.at.returns-clause-left g c).In_ok-commit_last false).left
+pub returns-in-Ok-clause-left : goal.returns-in-Ok-clause-left
+returns-in-Ok-clause-left g c = (more g (goal.at.returns-in-Ok-clause-left g c).In-Ok None).left
+
+-- out of memory
+pub returns-in_err-turn-clause-why : goal.returns-in_err-turn-clause-why
+returns-in_err-turn-clause-why g c =
+    let p = err_from_is_err_and c.from_residual.result c.from_residual.ensures.1 in
+    rw (p.1, p.2)
+    (out_of_memory _ _ _ c.self.inside.answered c.self.inside.table c.self.inside.shut _ _ c.self.view_is c.in_default.is
+    c.in_err-turn.ensures.why c.in_err-turn.ensures.err)
+
+pub returns-in_err-turn-2-clause-why : goal.returns-in_err-turn-2-clause-why
+returns-in_err-turn-2-clause-why g c =
+    let p = err_from_is_err_and c.from_residual-in_err-turn-2.result c.from_residual-in_err-turn-2.ensures.1 in
+    rw (p.1, p.2)
+    (out_of_memory _ _ _ c.self.inside.answered c.self.inside.table c.self.inside.shut _ _ c.self.view_is c.in_default.is
+    c.in_err-turn-2.ensures.why c.in_err-turn-2.ensures.err)
+
+-- the table refuses it
+pub returns-in-Err-clause-why : goal.returns-in-Err-clause-why
+returns-in-Err-clause-why g c = (
+  refl,
+  inr (
+    sym (ap (λ (d : DurableValue g.row.T.Denot). d.shut) c.self.view_is) ∙ c.in_default.is,
+    subst
+        (λ (d : DurableValue g.row.T.Denot). refuses_turn_of
+        (λ turn. g.T.TurnTable.refuses d.table turn c.commit_last.new.table) c.args.ask c.in-Err.why)
+        c.self.view_is
+        (refused_one (λ turn. g.T.TurnTable.refuses c.self.inside.table turn c.commit_last.new.table) c.self.inside.journal c.take-2.new.self c.args.ask
+        c.in_ok-turn-2.turn c.in-Err.why c.in_ok-turn-2.ensures.turn c.in-Err.ensures.why),
+  ),
+)
+
+-- it stays open
+pub returns-then-not-is_changing-clause-open : goal.returns-then-not-is_changing-clause-open
+returns-then-not-is_changing-clause-open g c =
+    (sym (ap (λ (d : DurableValue g.row.T.Denot). d.shut) c.self.view_is) ∙ c.in_default.is, c.in_default.is)
+
+pub returns-in-Ok-clause-open : goal.returns-in-Ok-clause-open
+returns-in-Ok-clause-open g c =
+    (sym (ap (λ (d : DurableValue g.row.T.Denot). d.shut) c.self.view_is) ∙ c.in_default.is, c.in_default.is)

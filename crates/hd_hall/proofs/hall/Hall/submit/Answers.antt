@@ -11,7 +11,7 @@ use Rattle.hd_hall.proofs.hall.Hall.submit.Goals as goal
 -- the seat that is left
 abbrev left : (g : Over) → After-push_reserved g → SeatView
 left g c = record {
-  number = c.seat.inside.number;
+  number = c.seat.inside.ticket;
   receipts = c.push_reserved.new.self.items;
   parts = c.take.new.share.parts;
   share = c.take.new.share.amount;

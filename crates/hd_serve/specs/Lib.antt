@@ -1,0 +1,4 @@
+pub mod Accepting
+pub mod Ends
+pub mod Places
+pub mod Told

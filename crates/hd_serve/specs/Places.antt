@@ -1,0 +1,8 @@
+-- Places for things that come back.
+use Rattle.std.specs.Prelude.{List, [], ◌∷◌, Option, Some, None}
+
+-- what stands at the places, in their order
+abbrev pub all_in : {X : Type 0} → List (Option X) → List X
+all_in [] = []
+all_in (None ∷ places) = all_in places
+all_in (Some x ∷ places) = x ∷ all_in places

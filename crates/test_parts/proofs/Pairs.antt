@@ -1,0 +1,19 @@
+-- One seat, and two, with a part each.
+use Rattle.std.proofs.Common.{◌≡◌, List, ◌∷◌, ◌++◌, [], zero, suc, subst}
+use Rattle.std.proofs.lemmas.Option.{none-some, same_Some}
+use Rattle.hd_hall.specs.Seats.{EachSeat, SeatView}
+
+pub with_parts : (one two : SeatView) → one.parts ≡ 1 → two.parts ≡ 1 → EachSeat (one ∷ two ∷ []) (λ s. s.parts ≡ 1)
+with_parts one two first second zero s is = subst (λ (seat : SeatView). seat.parts ≡ 1) (same_Some one s is) first
+with_parts one two first second (suc zero) s is = subst (λ (seat : SeatView). seat.parts ≡ 1) (same_Some two s is) second
+with_parts one two first second (suc (suc k)) s is = absurd (none-some s is)
+
+pub with_part : (one : SeatView) → one.parts ≡ 1 → EachSeat (one ∷ []) (λ s. s.parts ≡ 1)
+with_part one has zero s is = subst (λ (seat : SeatView). seat.parts ≡ 1) (same_Some one s is) has
+with_part one has (suc k) s is = absurd (none-some s is)
+
+pub with_more : (seats : List SeatView) (one : SeatView) → EachSeat seats (λ s. s.parts ≡ 1) → one.parts ≡ 1
+    → EachSeat (seats ++ one ∷ []) (λ s. s.parts ≡ 1)
+with_more [] one each has k s is = with_part one has k s is
+with_more (first ∷ seats) one each has zero s is = each zero s is
+with_more (first ∷ seats) one each has (suc k) s is = with_more seats one (λ n t at. each (suc n) t at) has k s is

@@ -1,0 +1,78 @@
+//! Lines that come with damage.
+
+use crate::attending::alone::feed_alone;
+use crate::attending::hall::play;
+use crate::attending::lines::{LINES, RETURN};
+use crate::attending::wire::{Then, Wire};
+use std::alloc::{AllocError, Global};
+use std::io;
+use std::sync::Wait;
+use test_kit::Count;
+
+/// What has happened to a line on its way.
+#[derive(Clone, Copy)]
+enum Damage {
+    /// It is cut off before this byte.
+    CutOff,
+    /// This byte came as that one.
+    Byte(u8),
+}
+
+const ROWS: [(&str, &[Damage]); 2] = [
+    ("lines cut off", &[Damage::CutOff]),
+    (
+        "lines with a byte set",
+        &[
+            Damage::Byte(0x00),
+            Damage::Byte(0x7C),
+            Damage::Byte(0x0D),
+            Damage::Byte(0xFF),
+        ],
+    ),
+];
+
+/// Plays the lines with damage at each of their bytes.
+pub(crate) fn play_damaged<R: Wait>(rt: &R, host: &HostRuntime) -> io::Result<()> {
+    for (what, damages) in ROWS {
+        let mut count = Count::NONE;
+        for damage in damages {
+            for (at, byte) in LINES.iter().enumerate() {
+                if *byte != RETURN {
+                    count.add(is_borne(rt, host, *damage, at) == Some(true));
+                }
+            }
+        }
+        count.print(host, what)?;
+    }
+    Ok(())
+}
+
+/// Whether a connection whose line comes with damage there ends well, with the replies and the turns of a
+/// session alone.
+fn is_borne<R: Wait>(rt: &R, host: &HostRuntime, damage: Damage, at: usize) -> Option<bool> {
+    let bytes = damaged_lines(host.alloc(), damage, at).ok()?;
+    let wire = Wire::new(bytes.as_slice(), Then::Closes);
+    let outcome = play(rt, host, &wire)?;
+    let alone = feed_alone(host, bytes.as_slice())?;
+    Some(
+        outcome.end.is_ok()
+            && alone.end.is_ok()
+            && outcome.text.as_slice() == alone.text.as_slice()
+            && outcome.has_turns_of(&alone),
+    )
+}
+
+/// The lines, of which one comes with damage there.
+fn damaged_lines(alloc: Global, damage: Damage, at: usize) -> Result<Vec<u8>, AllocError> {
+    let (before, rest) = LINES.split_at(at.min(LINES.len()));
+    let mut bytes = Vec::from_slice(alloc, before)?;
+    let lost = match damage {
+        Damage::CutOff => rest.iter().position(|byte| *byte == RETURN).unwrap_or(0),
+        Damage::Byte(byte) => {
+            bytes.push(byte)?;
+            1
+        }
+    };
+    bytes.extend_from_slice(rest.get(lost..).unwrap_or(b""))?;
+    Ok(bytes)
+}

@@ -1,0 +1,108 @@
+//! Journals and desks beside one another: what their public calls tell.
+use crate::library::Memory;
+use hd_desk::Desk;
+use hd_journal::{Journal, RecordRef, TurnRef};
+use hd_rules::{CopyState, Hold, ItemView, same_asked, same_turn_reply};
+use std::alloc::Allocator;
+use test_kit::{COPIES, PATRONS, TITLES};
+
+/// Whether two journals have the same turns, the same records of the same survivors, and the same desk.
+pub(crate) fn are_alike(one: &Journal<Memory<'_>>, other: &Journal<Memory<'_>>) -> bool {
+    have_same_turns(one, other)
+        && have_same_records(one, other)
+        && are_desks_alike(one.desk(), other.desk())
+}
+
+/// Whether two journals have the same turns.
+fn have_same_turns(one: &Journal<Memory<'_>>, other: &Journal<Memory<'_>>) -> bool {
+    for at in 1..=one.front() {
+        let (Some(turn), Some(twin)) = (one.turn_at(at), other.turn_at(at)) else {
+            return false;
+        };
+        if !(turn.seat == twin.seat && is_same_but_for_its_seat(&turn, &twin)) {
+            return false;
+        }
+    }
+    one.front() == other.front()
+}
+
+/// Whether two turns are the same, but for their seats.
+pub(crate) fn is_same_but_for_its_seat(one: &TurnRef<'_>, other: &TurnRef<'_>) -> bool {
+    one.terminal == other.terminal
+        && one.line == other.line
+        && same_asked(&one.asked, &other.asked)
+        && same_turn_reply(&one.reply, &other.reply)
+}
+
+/// Whether two journals have the same records under the same numbers, and no others.
+fn have_same_records(one: &Journal<Memory<'_>>, other: &Journal<Memory<'_>>) -> bool {
+    for number in 1..=one.last() {
+        match (one.record(number), other.record(number)) {
+            (Some(record), Some(twin)) => {
+                if !is_same_record(&record, &twin) {
+                    return false;
+                }
+            }
+            (None, None) => {}
+            _ => return false,
+        }
+    }
+    one.last() == other.last()
+}
+
+/// Whether two records are the same.
+fn is_same_record(one: &RecordRef<'_>, other: &RecordRef<'_>) -> bool {
+    one.survivor == other.survivor
+        && one.reply == other.reply
+        && one.findings == other.findings
+        && one.changes == other.changes
+}
+
+/// Whether two desks of the library have, and show, the same of each copy, and the same holds.
+pub(crate) fn are_desks_alike<A: Allocator + Copy, B: Allocator + Copy>(
+    one: &Desk<A>,
+    other: &Desk<B>,
+) -> bool {
+    have_same_copies(one, other) && have_same_holds(one, other)
+}
+
+/// Whether two desks have and show the same of each copy.
+fn have_same_copies<A: Allocator + Copy, B: Allocator + Copy>(
+    one: &Desk<A>,
+    other: &Desk<B>,
+) -> bool {
+    for name in COPIES {
+        if copy(one, name) != copy(other, name) {
+            return false;
+        }
+    }
+    true
+}
+
+/// Where the copy of a name is, and what a desk shows of it.
+fn copy<A: Allocator + Copy>(desk: &Desk<A>, name: &[u8]) -> Option<(CopyState, ItemView)> {
+    let copy = desk.catalogue().copy(name)?;
+    Some((desk.copy(copy), desk.item(copy)))
+}
+
+/// Whether each patron has the same holds at two desks.
+fn have_same_holds<A: Allocator + Copy, B: Allocator + Copy>(
+    one: &Desk<A>,
+    other: &Desk<B>,
+) -> bool {
+    for title in TITLES {
+        for patron in PATRONS {
+            if hold(one, title, patron) != hold(other, title, patron) {
+                return false;
+            }
+        }
+    }
+    true
+}
+
+/// The hold of the title that the patron has.
+fn hold<A: Allocator + Copy>(desk: &Desk<A>, title: &[u8], patron: &[u8]) -> Option<Hold> {
+    let title = desk.catalogue().title(title)?;
+    let patron = desk.catalogue().patron(patron)?;
+    desk.hold(title, patron)
+}

@@ -1,0 +1,106 @@
+//! Rows of two seats at a hall.
+
+/// A row: what the first seat asks, then what the second asks, and how the two are handed in.
+#[derive(Clone, Copy)]
+pub(crate) struct Row {
+    /// As it is printed.
+    pub(crate) name: &'static str,
+    pub(crate) first: Step,
+    pub(crate) second: Step,
+    pub(crate) closing: Closing,
+    /// How many commands survive.
+    pub(crate) survivors: usize,
+}
+
+/// A hold of any copy of `ta`, to be fetched at `north`, and what comes of it.
+#[derive(Clone, Copy)]
+pub(crate) struct Step {
+    pub(crate) terminal: &'static [u8],
+    pub(crate) patron: &'static [u8],
+    /// The message's line, where it carries a sequence digit.
+    pub(crate) line: Option<&'static [u8]>,
+    pub(crate) told: Told,
+}
+
+/// What comes of a hold.
+#[derive(Clone, Copy)]
+pub(crate) enum Told {
+    /// It is accepted as the command of this number.
+    Number(u64),
+    /// It is refused, since the patron has one.
+    HoldExists,
+}
+
+/// How the seats are handed in.
+#[derive(Clone, Copy)]
+pub(crate) enum Closing {
+    /// The first, then the second.
+    InOrder,
+    /// The second, then the first.
+    OutOfOrder,
+    /// The first alone, which doesn't close the hall; then the second too.
+    FirstAlone,
+    /// The second alone, which doesn't close the hall; then the first too.
+    SecondAlone,
+}
+
+/// Each patron's hold is accepted.
+const HELD_BY_1: Step = Step {
+    terminal: b"t1",
+    patron: b"p1",
+    line: None,
+    told: Told::Number(1),
+};
+
+const HELD_BY_2: Step = Step {
+    terminal: b"t2",
+    patron: b"p2",
+    line: None,
+    told: Told::Number(2),
+};
+
+/// The second seat comes too late with the hold of the first.
+const HELD_ALREADY: Step = Step {
+    told: Told::HoldExists,
+    ..HELD_BY_1
+};
+
+/// The rows.
+pub(crate) const ROWS: [Row; 3] = [
+    Row {
+        name: "two seats",
+        first: HELD_BY_1,
+        second: HELD_ALREADY,
+        closing: Closing::FirstAlone,
+        survivors: 1,
+    },
+    Row {
+        name: "seat missing",
+        first: HELD_BY_1,
+        second: HELD_BY_2,
+        closing: Closing::SecondAlone,
+        survivors: 2,
+    },
+    Row {
+        name: "seats out of order",
+        first: HELD_BY_1,
+        second: HELD_BY_2,
+        closing: Closing::OutOfOrder,
+        survivors: 2,
+    },
+];
+
+/// Two seats whose messages carry digits of their own, so that the second is no repeat.
+pub(crate) const TWO_SEATS_WITH_DIGITS: Row = Row {
+    name: "two seats with digits",
+    first: Step {
+        line: Some(b"15+20260301    100000BSnorth|BY2|AOlib|AAp1|AJta|AY1AZF097"),
+        ..HELD_BY_1
+    },
+    second: Step {
+        line: Some(b"15+20260301    100000BSnorth|BY2|AOlib|AAp1|AJta|AY2AZF096"),
+        ..HELD_ALREADY
+    },
+    closing: Closing::InOrder,
+    survivors: 1,
+};

@@ -1,0 +1,67 @@
+//! Lines and inputs that are as long as they may be, and longer.
+use crate::replaying::run;
+use hd_connection::Fallible;
+use hd_replay::{ReplayFault, replay};
+use std::alloc::{AllocError, Global};
+use std::io::{self, Read};
+use test_kit::{CATALOGUE, NOW};
+
+/// A hold in a session with a line of so many bytes, at least 33.
+fn line_of(alloc: Global, session: &[u8], length: usize) -> Result<Vec<u8>, AllocError> {
+    let mut line = Vec::from_slice(alloc, session)?;
+    line.extend_from_slice(b" 15+20260301    100000AAp1|AJta|AC")?;
+    for _ in 33..length {
+        line.push(b'x')?;
+    }
+    line.push(b'\n')?;
+    Ok(line)
+}
+
+/// Whether a line of 1,024 bytes is answered, and one of a byte more ends its session, and no other.
+pub(crate) fn is_a_long_line_ended(rt: &HostRuntime) -> Result<bool, AllocError> {
+    let mut input = Vec::from_slice(rt.alloc(), b"7 9300CNt1|COpw|\n")?;
+    input.extend_from_slice(line_of(rt.alloc(), b"7", 1024)?.as_slice())?;
+    input.extend_from_slice(line_of(rt.alloc(), b"64", 1025)?.as_slice())?;
+    input.extend_from_slice(b"64 97\n7 00\n64 \n")?;
+    let (out, end) = run(rt, CATALOGUE, input.as_slice());
+    let wanted = b"7 941
+7 161Y20260301    100000BR1|BSnorth|AOlib|AAp1|AJta|
+64 ENDED
+64 ENDED
+7 96
+64 ENDED
+"
+        .as_slice();
+    Ok(end == Ok(()) && out.as_slice() == wanted)
+}
+
+/// A reader that gives so many bytes, none of which ends a line.
+#[derive(Drop)]
+struct EndlessLine {
+    left: usize,
+}
+
+impl Read for EndlessLine {
+    fn read(&mut self, piece: &mut [u8]) -> io::Result<usize> {
+        let count = self.left.min(piece.len());
+        for byte in piece.iter_mut() {
+            *byte = b'x';
+        }
+        self.left -= count;
+        Ok(count)
+    }
+}
+
+/// Whether an input of 16,777,216 bytes is taken, and one of a byte more isn't.
+pub(crate) fn has_an_input_a_longest_length(rt: &HostRuntime) -> bool {
+    ends_so(rt, 16_777_216, ReplayFault::NoSession { line: 1 })
+        && ends_so(rt, 16_777_217, ReplayFault::InputTooLong)
+}
+
+/// Whether an input of so many bytes, none of which ends a line, ends so, and nothing is written.
+fn ends_so(rt: &HostRuntime, length: usize, wanted: ReplayFault) -> bool {
+    let mut from = Fallible(EndlessLine { left: length });
+    let mut out = Vec::new(rt.alloc());
+    let end = replay(rt, CATALOGUE, NOW, &mut from, &mut out);
+    end == Err(wanted) && out.is_empty()
+}
