@@ -1,5 +1,5 @@
 # The commands of the README. All need the Rattle kit's command rt on the path.
-.PHONY: help try run day hostile stops load install uninstall wrong test
+.PHONY: help try run day hostile stops years load install uninstall wrong test
 
 PREFIX ?= /usr/local
 
@@ -9,7 +9,8 @@ help:
 	@echo 'make run        prove what changed (half an hour or more at first), build holddesk, and answer the stored messages'
 	@echo 'make day        after make run: play stored messages through four connections of holddesk serve'
 	@echo 'make hostile    after make run: hostile clients beside a terminal that has to be answered'
-	@echo 'make stops      after make run: 50 times kill -9 of holddesk serve --journal, and nothing is lost'
+	@echo 'make stops      after make run: kill -9 of holddesk serve 50 times and of carry at each write, and nothing is lost'
+	@echo 'make years      after make run: 700 days of a small library, a carry each night, compared with a model'
 	@echo 'make load       after make run: turns a second beside a server that only echoes (four minutes; rustc)'
 	@echo 'make install    after make run: the program and its manual page, below PREFIX ($(PREFIX)) and DESTDIR'
 	@echo 'make uninstall  take them away again'
@@ -39,7 +40,7 @@ install:
 	@test -x crates/holddesk/out/holddesk || { echo 'make install: say make run first, which builds the program' >&2; exit 1; }
 	install -D -m 755 crates/holddesk/out/holddesk $(DESTDIR)$(PREFIX)/bin/holddesk
 	install -D -m 644 man/holddesk.1 $(DESTDIR)$(PREFIX)/share/man/man1/holddesk.1
-	install -D -m 644 examples/holddesk.service $(DESTDIR)$(PREFIX)/share/doc/holddesk/holddesk.service
+	install -D -m 644 -t $(DESTDIR)$(PREFIX)/share/doc/holddesk examples/holddesk.service examples/holddesk-night.service examples/holddesk-night.timer
 	install -D -m 644 crates/holddesk/data/demonstration.catalogue $(DESTDIR)$(PREFIX)/share/doc/holddesk/demonstration.catalogue
 
 uninstall:
@@ -51,9 +52,15 @@ uninstall:
 hostile:
 	@python3 scripts/serve_hostile.py
 
-# 50 stops by kill -9 of holddesk serve --journal, as make run has built it; the gate plays 5, without proofs.
+# 50 stops by kill -9 of holddesk serve --journal, as make run has built it, and one before each call of holddesk carry
+# that changes a file; the gate plays 5 of the first, without proofs.
 stops:
 	@python3 scripts/serve_crash.py
+	@python3 scripts/carry_stops.py
+
+# Two years of a small library with a carry each night; the gate plays 8 days, without proofs.
+years:
+	@python3 scripts/two_years.py
 
 # How fast holddesk serve, as make run has built it, answers beside a server that only echoes: four minutes. Needs rustc
 # and Python 3. LOAD has other words for hd_load compare (bench/out/hd_load --help).
@@ -90,7 +97,8 @@ test:
 	@python3 scripts/draw_house.py --check
 	@folder=$$(mktemp -d) && trap 'rm -rf "$$folder"' EXIT && program=$$(python3 scripts/unproved.py "$$folder") && \
 	  python3 scripts/serve_smoke.py "$$program" && python3 scripts/serve_hostile.py "$$program" && \
-	  python3 scripts/serve_crash.py --rounds 5 "$$program"
+	  python3 scripts/serve_crash.py --rounds 5 "$$program" && python3 scripts/carry_rows.py "$$program" && \
+	  python3 scripts/two_years.py --days 8 "$$program"
 	@python3 scripts/foreign_seat_refused.py
 	@python3 scripts/wrong_bodies.py --self-test
 	@python3 scripts/wrong_bodies.py

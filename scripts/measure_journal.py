@@ -18,7 +18,7 @@ import tempfile
 import time
 
 from make_library import write_with_room
-from server import CATALOGUE, LOOPBACK, TOP, Server, Trouble, parser_of, reported
+from server import CATALOGUE, LOOPBACK, TOP, Server, Trouble, begun, parser_of, reported
 
 LOAD = os.path.join(TOP, "bench", "out", "hd_load")
 WAYS = {"in memory": [], "in a file": ["--journal"], "in a file, wary": ["--journal", "--journal-wary"]}
@@ -45,7 +45,8 @@ def print_speeds(program, catalogue, folder, seconds):
     """Prints the turns a second in each way."""
     for connections, counted in ((1, "1 connection"), (16, "16 connections")):
         for number, way in enumerate(WAYS):
-            words = words_of(way, os.path.join(folder, f"speed-{connections}-{number}"))
+            path = begun(program, catalogue, os.path.join(folder, f"speed-{connections}-{number}"))
+            words = words_of(way, path)
             figures = figures_of(program, catalogue, connections, words, ["--seconds", str(seconds)])
             print(f"| turns a second, {counted}, journal {way} | {figures['turns_a_second']:.0f} |", flush=True)
 
@@ -58,7 +59,7 @@ def rows_of(path):
 
 def print_restart(program, catalogue, folder, turns):
     """Prints how long so many turns take to be taken again, with how much memory, and how large their file is."""
-    path, rows = os.path.join(folder, "long"), 0
+    path, rows = begun(program, catalogue, os.path.join(folder, "long")), 0
     while rows < turns:
         length = ["--turns", str(max(1, (turns - rows) // 13))]  # of 16 connections; four of five turns have a row
         figures_of(program, catalogue, 16, ["--journal", path], length)

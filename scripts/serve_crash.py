@@ -7,13 +7,15 @@ PROGRAM is crates/holddesk/out/holddesk where it isn't given; N is 50. In each r
 journal's file, and four terminals send commands and cancellations at random, until it is killed at a random moment.
 Then a copy of the file is read by the sqlite3 of Python: its integrity check has to pass, and each terminal's rows have
 to be what it was answered, in that order, with at most one more, whose reply it was waiting for. Then holddesk journal
-check takes all turns again, and what it tells has to be what the views of holddesk journal views count. At last come
-files that are refused (one that another server has open, one in no folder, one of something else, one of another
-catalogue), and a disk that is full: that needs the right to mount one, and is told as skipped where there is none.
+check takes all turns again, and what it tells has to be what the views of holddesk journal views count; these are
+tried with a file of 20,000 turns, too. At last come files that are refused (one that another server has open, one that
+isn't there, one without its log, one of something else, one of another catalogue), and a disk that is full: that needs
+the right to mount one, and is told as skipped where there is none.
 Needs nothing but Python 3. Status 0: nothing was lost.
 """
 
 import dataclasses
+import filecmp
 import os
 import random
 import re
@@ -25,10 +27,12 @@ import threading
 import time
 
 from make_library import InTurn, branch, copy, password, patron, terminal, title
-from server import SECONDS, Server, Trouble, ask, connect, parser_of, reported, serve_words
+from server import SECONDS, Server, Trouble, ask, begun, connect, parser_of, reported, serve_words
 
 ROUNDS = 50
 TERMINALS = 4
+MANY = 20_000  # turns that the views are tried with
+SOON = 10  # seconds that they may take: 0.5 are usual
 SEED = 1
 DATE = "20260301    100000"
 LIBRARY = InTurn(titles=2, copies=8, patrons=8, branches=2, terminals=TERMINALS, is_even=True, loan_days=(21,),
@@ -147,7 +151,7 @@ def compare_check(program, catalogue, journal, folder, views, turns):
 def compare_stops(program, catalogue, folder, rounds):
     """Plays the rounds on one journal's file. How many turns it has then."""
     views = subprocess.run([program, "journal", "views"], capture_output=True, text=True, timeout=SECONDS, check=True)
-    journal, turns = os.path.join(folder, "journal"), 0
+    journal, turns = begun(program, catalogue, os.path.join(folder, "journal")), 0
     for number in range(rounds):
         draw = random.Random(SEED + number)
         with Server(program, catalogue, TERMINALS, "--journal", journal) as server:
@@ -155,7 +159,39 @@ def compare_stops(program, catalogue, folder, rounds):
             kill_after(0.02 + draw.random() / 2, server, terminals)
         turns = compare_rows(opened_copy(journal, folder), terminals, turns)
         compare_check(program, catalogue, journal, folder, views.stdout, turns)
+    compare_views(program, catalogue, folder, views.stdout)
     return turns
+
+
+def made_up(draw, copies, turns):
+    """Rows of a journal at random, of loans, renewals and returns, and what is lent then: copy, patron, since when."""
+    lent, rows = {}, []
+    for at in range(1, turns + 1):
+        what, who, day = copy(draw.randrange(copies) + 1), patron(draw.randrange(3) + 1), f"2026-03-{at % 28 + 1:02}"
+        act = draw.choice(["checkin", "renewal"]) if what in lent else "checkout"
+        if act == "checkin":
+            del lent[what]
+            who = None
+        elif act == "renewal":
+            who = lent[what][0]
+        else:
+            lent[what] = who, day
+        rows.append((at, day, act, who, what, at))
+    return rows, sorted((what, *whose) for what, whose in lent.items())
+
+
+def compare_views(program, catalogue, folder, views):
+    """Looks that the views of a file of many turns are right, and told soon: no work for each pair of turns."""
+    connection = opened_copy(begun(program, catalogue, os.path.join(folder, "many")), folder)
+    rows, lent = made_up(random.Random(SEED), MANY // 10, MANY)
+    connection.executemany("INSERT INTO turn (at, seat, terminal, day, act, patron, copy, outcome, number, reply) "
+                           "VALUES (?, 1, 't', ?, ?, ?, ?, 'done', ?, x'')", rows)
+    connection.executescript(views)
+    begins = time.monotonic()
+    told = sorted(connection.execute("SELECT copy, patron, since FROM lent").fetchall())
+    taken = time.monotonic() - begins
+    if told != lent or taken > SOON:
+        raise Trouble(f"of {MANY} turns lent tells {len(told)} copies and wanted {len(lent)}, in {taken:.1f} s")
 
 
 def compare_refusal(program, catalogue, journal, why):
@@ -166,16 +202,37 @@ def compare_refusal(program, catalogue, journal, why):
         raise Trouble(f"wanted {why!r}, and it ends with {done.returncode} and says {done.stderr!r}")
 
 
+def compare_missing_log(program, catalogue, folder, journal):
+    """A journal without its log, and a log without its journal: neither is served, begun anew or changed."""
+    alone, log = os.path.join(folder, "alone"), os.path.join(folder, "log")
+    shutil.copyfile(journal, alone)
+    shutil.copyfile(f"{journal}-wal", f"{log}-wal")
+    compare_refusal(program, catalogue, alone, "the journal's log is missing")
+    compare_refusal(program, catalogue, log, f"there is the log {log}-wal, and not its journal")
+    for path, why in ((alone, f"there is a journal at {alone}"),
+                      (log, f"there is the log {log}-wal, and not its journal")):
+        done = subprocess.run([program, "journal", "begin", "--catalogue", catalogue, "--journal", path],
+                              capture_output=True, text=True, timeout=SECONDS, check=False)
+        if (done.returncode, done.stdout, done.stderr) != (1, "", f"{why}\n"):
+            raise Trouble(f"journal begin at {path} ends with {done.returncode} and says {done.stderr!r}")
+    if os.path.exists(f"{alone}-wal") or os.path.exists(log) or not filecmp.cmp(journal, alone, shallow=False):
+        raise Trouble("a journal without its log was changed")
+
+
 def compare_refusals(program, catalogue, folder):
-    """A second server on a file, no such folder, a file that is no journal, and another catalogue."""
+    """A second server on a file, no such file, one without its log, one that is no journal, and another catalogue."""
     journal = os.path.join(folder, "journal")
     with Server(program, catalogue, TERMINALS, "--journal", journal):
         compare_refusal(program, catalogue, journal, "another program has the journal open")
-    compare_refusal(program, catalogue, os.path.join(folder, "none", "journal"), "cannot open the journal")
+    missing = os.path.join(folder, "none", "journal")
+    compare_refusal(program, catalogue, missing, f"there is no journal at {missing}")
+    compare_missing_log(program, catalogue, folder, journal)
     other = os.path.join(folder, "other")
     with sqlite3.connect(other) as connection:
         connection.execute("CREATE TABLE something (else_)")
     connection.close()
+    with open(f"{other}-wal", "wb"):
+        pass
     compare_refusal(program, catalogue, other, "not a journal of holddesk")
     grown = GROWN.write(os.path.join(folder, "grown"))
     compare_refusal(program, grown, journal, "the journal was written with another catalogue")
@@ -193,7 +250,7 @@ def compare_full_disk(program, catalogue, folder):
     if mounted.returncode != 0:
         return f"a full disk, since none can be mounted here ({mounted.stderr.partition(chr(10))[0]})"
     try:
-        journal = os.path.join(disk, "journal")
+        journal = begun(program, catalogue, os.path.join(disk, "journal"))
         with Server(program, catalogue, TERMINALS, "--journal", journal) as server:
             terminal = Terminal(1, server.port, random.Random(SEED))
             terminal.work()

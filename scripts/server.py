@@ -42,9 +42,29 @@ def parser_of(page):
 
 
 def serve_words(program, catalogue, workers, *words, port=0):
-    """The command line of a server at a port of the loopback, or at one that the system gives."""
-    return [program, "serve", "--catalogue", catalogue, "--listen", f"{LOOPBACK}:{port}", "--workers", str(workers),
-            *words]
+    """The command line of a server at a port of the loopback, or at one that the system gives. Where there is no
+    catalogue the words say where the library is."""
+    return [program, "serve", *(["--catalogue", catalogue] if catalogue else []), "--listen", f"{LOOPBACK}:{port}",
+            "--workers", str(workers), *words]
+
+
+def begun(program, catalogue, journal, *words):
+    """The path of a journal's file, which holddesk journal begin has made."""
+    done = subprocess.run([program, "journal", "begin", "--catalogue", catalogue, "--journal", journal, *words],
+                          capture_output=True, text=True, timeout=SECONDS, check=False)
+    if (done.returncode, done.stdout) != (0, f"begun: {journal}\n"):
+        raise Trouble(f"journal begin ends with {done.returncode} and says {done.stdout + done.stderr!r}")
+    return journal
+
+
+def begun_folder(program, catalogue, folder):
+    """The path of a library's folder, which is made, and which holddesk journal begin has begun."""
+    os.mkdir(folder)
+    done = subprocess.run([program, "journal", "begin", "--catalogue", catalogue, "--library", folder],
+                          capture_output=True, text=True, timeout=SECONDS, check=False)
+    if done.returncode != 0:
+        raise Trouble(f"journal begin ends with {done.returncode} and says {done.stderr!r}")
+    return folder
 
 
 class Server:

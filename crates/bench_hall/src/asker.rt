@@ -48,7 +48,7 @@ impl Asker {
             0 | 5 | 8 => self.checkout(),
             2 => self.renewal(),
             4 | 9 => self.checkin(),
-            6 => Asked::Cancel(Cancel::Loan(self.copy)),
+            6 => Asked::Cancel(Cancel::Checkout(self.copy)),
             _ => Asked::Item(self.copy),
         }
     }
@@ -71,7 +71,7 @@ impl Asker {
     {
         Asked::Command(Command {
             day: self.day,
-            action: Action::Renew {
+            action: Action::Renewal {
                 patron: self.patron,
                 copy: self.copy,
             },

@@ -55,7 +55,7 @@ impl<'r, R: Clock> Keeper<Global, OwnedAsk<Global>> for Timed<'r, R> {
     ghost causes = { λ old ask new. IsMemory };
 
     fn own(alloc: Global, ask: &Ask<'_>) -> Result<OwnedAsk<Global>, AllocError> {
-        ask.to_owned(alloc)
+        OwnedAsk::of(alloc, ask)
     }
 
     fn catalogue(&self) -> &Arc<Catalogue> {

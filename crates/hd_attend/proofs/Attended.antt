@@ -1,27 +1,23 @@
 -- A session that is fed what is read, and whose replies are written.
 use Rattle.std.proofs.Common.{◌≡◌, ℕ, ◌+◌, ◌≤◌, ◌<◌, List, [], ◌∷◌, ◌++◌, Option, None, Some, Ok, Err, OnOk}
-use Rattle.std.proofs.Common.{IsErr, IsErrAnd, length, length-append, arith, refl, sym, ap, ap₂, ◌∙◌, subst, append_assoc, append-nil}
-use Rattle.std.proofs.KnownBytes.{Appends-nil, Appends-trans, Consumes-kept, Consumes-nil, Consumes-trans}
+use Rattle.std.proofs.Common.{IsErr, IsErrAnd, length, length-append, arith, refl, sym, ap, ap₂, ◌∙◌, subst, append-nil}
+use Rattle.std.proofs.KnownBytes.{Appends-nil, Appends-trans, Consumes-nil, Consumes-trans}
 use Rattle.std.proofs.Math.Seq.{drop-append_seam, take-add, take-append_seam}
 use Rattle.std.proofs.lemmas.Bool.{false≢true}
 use Rattle.std.proofs.lemmas.Grind.{flat_map-append}
 use Rattle.std.proofs.lemmas.List.Elements.{All-append, All-cons, All-nil, All-weaker}
-use Rattle.std.specs.Io.KnownBytes.{Appends, Consumes, IsAtEnd, Keeps}
+use Rattle.std.specs.Io.KnownBytes.{Appends, Consumes, IsAtEnd}
 use Rattle.hd_date.specs.Stamps.{Stamp}
 use Rattle.hd_rules.specs.Journal.{Turn}
 use Rattle.hd_catalogue.specs.Contents.{Contents}
-use Rattle.hd_connection.specs.Streams.{IsCutShort, Streams}
+use Rattle.hd_connection.specs.Streams.{IsCutShort, Streams, streams}
 use Rattle.hd_journal.specs.declared.fault.TurnFault.{TurnFault}
-use Rattle.hd_session.specs.Sessions.{Feeds, Hearing, Piece, Room, stream}
+use Rattle.hd_session.specs.Sessions.{Hearing, IsFed, Piece, Room, StaysKnown, stream}
 use Rattle.hd_session.specs.declared.ended.Ended.{Ended}
 use Rattle.hd_attend.specs.Attending.{Attends, End, IsReadPiece, IsWritten, Leaves}
 use Rattle.hd_attend.specs.declared.fault.AttendFault.{AttendFault}
 use Rattle.hd_attend.specs.declared.fault.AttendFault.TheVariants as fault
 use Rattle.hd_attend.proofs.Feeding.{fed_once, fed_then, piece_at, went_on}
-
--- what is read and written
-abbrev pub streams : Option (List ℕ) → Option (List ℕ) → Option (List ℕ) → Option (List ℕ) → Streams
-streams from from' to to' = record { from = from; from' = from'; to = to; to' = to' }
 
 -- nothing is left of a piece that is fed
 nothing_left : (end : End) → OnOk end (IsAtEnd (Some []))
@@ -56,28 +52,27 @@ leaves_behind fault.Write first between last same is = tt
 leaves_behind (fault.Ended why) first between last same is = is
 
 module _ (k : Contents) (seat : ℕ) (faults : TurnFault → Type 0) where
-  module _ (now : Stamp) (room : Room) (bytes : List ℕ) (h h' : Hearing) (turns turns' : List Turn) (out out' : List ℕ)
-      (fed : Feeds k seat faults now room h bytes h' turns turns' out out') where
+  module _ (now : Stamp) (room : Room) (bytes : List ℕ) (h h' : Hearing) (made : List Turn) (text : List ℕ)
+      (fed : IsFed k seat faults now room h bytes made h' text) where
     -- a session that goes on after a piece went on before it
     pub on_after : h'.ended ≡ None → h'.ended ≡ h.ended
-    on_after on = went_on k seat faults now room h.ended h bytes fed.made h' fed.text refl fed.fed on
+    on_after on = went_on k seat faults now room h.ended h bytes made h' text refl fed on
 
     -- one piece is fed, and of its replies that is written which the end says
-    pub attends_piece : (to to' : Option (List ℕ)) (end : End) (sent put : List ℕ) → 0 < length bytes → length bytes ≤ 512
-        → out ≡ [] → sent ≡ out' → IsWritten end sent put → Appends to to' put → Leaves end h.ended h'.ended
-        → Attends k seat faults (λ present. present ≡ now) (streams (Some bytes) (Some []) to to') h h' turns turns' end
-    attends_piece to to' end sent put some short empty is written wrote leaves =
-        let all : fed.text ≡ sent = sym (is ∙ (fed.out_is ∙ ap (λ (o : List ℕ). o ++ fed.text) empty)) in
+    pub attends_piece : (to to' : Option (List ℕ)) (end : End) (out out' sent put : List ℕ) → 0 < length bytes → length bytes ≤ 512
+        → StaysKnown k h.state h'.state → out ≡ [] → out' ≡ out ++ text → sent ≡ out' → IsWritten end sent put → Appends to to' put
+        → Leaves end h.ended h'.ended → Attends k seat faults (λ present. present ≡ now) (streams (Some bytes) (Some []) to to') made h h' end
+    attends_piece to to' end out out' sent put some short known empty is same written wrote leaves =
+        let all : text ≡ sent = sym (same ∙ (is ∙ ap (λ (o : List ℕ). o ++ text) empty)) in
         let is_read : IsReadPiece (λ present. present ≡ now) (piece_at now bytes) = record { some = some; short = short; present = refl } in
         record {
           pieces = piece_at now bytes ∷ [];
           are_read = All-cons (IsReadPiece (λ present. present ≡ now)) (piece_at now bytes) [] is_read (All-nil _);
           read = sym (append-nil (bytes ++ []) ∙ append-nil bytes);
           all = nothing_left end;
-          made = fed.made;
-          replies = fed.text;
-          fed = fed_once k seat faults now room h bytes fed.made h' fed.text fed.fed;
-          turns_are = fed.turns_are;
+          replies = text;
+          fed = fed_once k seat faults now room h bytes made h' text fed;
+          known = known;
           put = put;
           written = subst (λ (t : List ℕ). IsWritten end t put) (sym all) written;
           wrote = wrote;
@@ -86,68 +81,29 @@ module _ (k : Contents) (seat : ℕ) (faults : TurnFault → Type 0) where
 
   module _ (Tells : Stamp → Type 0) where
     -- nothing is read yet
-    pub attends_none : (from to : Option (List ℕ)) (h : Hearing) (turns : List Turn)
-        → Attends k seat faults Tells (streams from from to to) h h turns turns (Err fault.Read)
-    attends_none from to h turns = record {
+    pub attends_none : (from to : Option (List ℕ)) (h : Hearing) → Attends k seat faults Tells (streams from from to to) [] h h (Err fault.Read)
+    attends_none from to h = record {
       pieces = [];
       are_read = All-nil _;
       read = Consumes-nil from;
       all = tt;
-      made = [];
       replies = [];
       fed = (refl, refl, refl);
-      turns_are = sym (append-nil turns);
+      known = λ known. known;
       put = [];
       written = refl;
       wrote = Appends-nil to;
       leaves = refl;
     }
 
-    module _ (from from' from'' to to' : Option (List ℕ)) (h h' : Hearing) (turns turns' : List Turn)
-        (far : Attends k seat faults Tells (streams from from' to to') h h' turns turns' (Err fault.Read)) where
-      -- a read fails
-      pub attends_failed : Keeps from' from''
-          → Attends k seat faults Tells (streams from from'' to to') h h' turns turns' (Err fault.Read)
-      attends_failed kept = record {
-        pieces = far.pieces;
-        are_read = far.are_read;
-        read = Consumes-kept from from' from'' (stream far.pieces) far.read kept;
-        all = tt;
-        made = far.made;
-        replies = far.replies;
-        fed = far.fed;
-        turns_are = far.turns_are;
-        put = far.put;
-        written = far.written;
-        wrote = far.wrote;
-        leaves = far.leaves;
-      }
-
-      -- nothing more comes
-      pub attends_all : Consumes from' from'' [] → IsAtEnd from''
-          → Attends k seat faults Tells (streams from from'' to to') h h' turns turns' (Ok tt)
-      attends_all none end = record {
-        pieces = far.pieces;
-        are_read = far.are_read;
-        read = subst (λ (bytes : List ℕ). Consumes from from'' bytes) (append-nil (stream far.pieces))
-            (Consumes-trans from from' from'' (stream far.pieces) [] far.read none);
-        all = end;
-        made = far.made;
-        replies = far.replies;
-        fed = far.fed;
-        turns_are = far.turns_are;
-        put = far.put;
-        written = far.written;
-        wrote = far.wrote;
-        leaves = far.leaves;
-      }
-
+    module _ (from from' from'' to to' : Option (List ℕ)) (made : List Turn) (h h' : Hearing)
+        (far : Attends k seat faults Tells (streams from from' to to') made h h' (Err fault.Read)) where
       -- a piece more is read and fed
-      pub attends_more : (bytes : List ℕ) (Now : Stamp → Type 0) (to'' : Option (List ℕ)) (last : Hearing) (then' : List Turn)
-          (end : AttendFault) → Consumes from' from'' bytes → ((now : Stamp) → Now now → Tells now)
-          → Attends k seat faults Now (streams (Some bytes) (Some []) to' to'') h' last turns' then' (Err end)
-          → Attends k seat faults Tells (streams from from'' to to'') h last turns then' (Err end)
-      attends_more bytes Now to'' last then' end read tells next =
+      pub attends_more : (bytes : List ℕ) (Now : Stamp → Type 0) (to'' : Option (List ℕ)) (more : List Turn) (last : Hearing) (end : AttendFault)
+          → Consumes from' from'' bytes → ((now : Stamp) → Now now → Tells now)
+          → Attends k seat faults Now (streams (Some bytes) (Some []) to' to'') more h' last (Err end)
+          → Attends k seat faults Tells (streams from from'' to to'') (made ++ more) h last (Err end)
+      attends_more bytes Now to'' more last end read tells next =
           let whole : bytes ≡ stream next.pieces = next.read ∙ append-nil (stream next.pieces) in
           let two : stream (far.pieces ++ next.pieces) ≡ stream far.pieces ++ stream next.pieces =
           flat_map-append (λ (piece : Piece). piece.bytes) far.pieces next.pieces in
@@ -159,10 +115,9 @@ module _ (k : Contents) (seat : ℕ) (faults : TurnFault → Type 0) where
                 (ap (λ (b : List ℕ). stream far.pieces ++ b) whole ∙ sym two)
                 (Consumes-trans from from' from'' (stream far.pieces) bytes far.read read);
             all = tt;
-            made = far.made ++ next.made;
             replies = far.replies ++ next.replies;
-            fed = fed_then k seat faults far.pieces next.pieces h h' last far.made next.made far.replies next.replies far.fed next.fed;
-            turns_are = next.turns_are ∙ (ap (λ (ts : List Turn). ts ++ next.made) far.turns_are ∙ append_assoc turns far.made next.made);
+            fed = fed_then k seat faults far.pieces next.pieces h h' last made more far.replies next.replies far.fed next.fed;
+            known = λ known. next.known (far.known known);
             put = far.put ++ next.put;
             written = written_behind end far.replies next.replies far.put next.put far.written next.written;
             wrote = Appends-trans to to' to'' far.put next.put far.wrote next.wrote;
@@ -170,26 +125,25 @@ module _ (k : Contents) (seat : ℕ) (faults : TurnFault → Type 0) where
           }
 
   -- a fault is passed on
-  pub attends_passed : (Tells : Stamp → Type 0) (bytes : Streams) (h h' : Hearing) (turns turns' : List Turn) (end : End)
+  pub attends_passed : (Tells : Stamp → Type 0) (bytes : Streams) (made : List Turn) (h h' : Hearing) (end : End)
       (fault : AttendFault) → IsErr end → IsErrAnd end (λ what. what ≡ fault)
-      → Attends k seat faults Tells bytes h h' turns turns' (Err fault)
-      → Attends k seat faults Tells bytes h h' turns turns' end
-  attends_passed Tells bytes h h' turns turns' (Ok done) fault err is attends = absurd (false≢true err)
-  attends_passed Tells bytes h h' turns turns' (Err what) fault err is attends =
-      subst (λ (f : AttendFault). Attends k seat faults Tells bytes h h' turns turns' (Err f)) (sym is) attends
+      → Attends k seat faults Tells bytes made h h' (Err fault)
+      → Attends k seat faults Tells bytes made h h' end
+  attends_passed Tells bytes made h h' (Ok done) fault err is attends = absurd (false≢true err)
+  attends_passed Tells bytes made h h' (Err what) fault err is attends =
+      subst (λ (f : AttendFault). Attends k seat faults Tells bytes made h h' (Err f)) (sym is) attends
 
   -- a piece is answered, and the session goes on: as where a read fails then
-  pub goes_on : (Tells : Stamp → Type 0) (bytes : Streams) (h h' : Hearing) (turns turns' : List Turn)
-      → Attends k seat faults Tells bytes h h' turns turns' (Ok tt) → Attends k seat faults Tells bytes h h' turns turns' (Err fault.Read)
-  goes_on Tells bytes h h' turns turns' done = record {
+  pub goes_on : (Tells : Stamp → Type 0) (bytes : Streams) (made : List Turn) (h h' : Hearing)
+      → Attends k seat faults Tells bytes made h h' (Ok tt) → Attends k seat faults Tells bytes made h h' (Err fault.Read)
+  goes_on Tells bytes made h h' done = record {
     pieces = done.pieces;
     are_read = done.are_read;
     read = done.read;
     all = tt;
-    made = done.made;
     replies = done.replies;
     fed = done.fed;
-    turns_are = done.turns_are;
+    known = done.known;
     put = done.put;
     written = done.written;
     wrote = done.wrote;

@@ -6,7 +6,7 @@ use Rattle.hd_rules.specs.Journal.{Turn}
 use Rattle.hd_catalogue.specs.Contents.{Contents}
 use Rattle.hd_journal.specs.declared.fault.TurnFault.{TurnFault}
 use Rattle.hd_session.specs.Sessions.{AreFedTo, Hearing, IsCause, IsFed, IsFedAt, Piece, Room, any_room}
-use Rattle.hd_session.specs.Standing.{Stands}
+use Rattle.hd_session.specs.States.{State}
 use Rattle.hd_session.specs.declared.ended.Ended.{Ended}
 
 -- a piece of a stream
@@ -15,7 +15,7 @@ piece_at now bytes = record { now = now; bytes = bytes }
 
 module _ (k : Contents) (seat : ℕ) (faults : TurnFault → Type 0) where
   -- a cause with some room is one with any
-  cause_without : (room : Room) (s : Stands) (earlier : ℕ) (line : List ℕ) (why : TurnFault) → IsCause k faults room s earlier line why
+  cause_without : (room : Room) (s : State) (earlier : ℕ) (line : List ℕ) (why : TurnFault) → IsCause k faults room s earlier line why
       → IsCause k faults any_room s earlier line why
   cause_without room s earlier line why (inl turn) = inl turn
   cause_without room s earlier line why (inr (memory, some, before, after)) =
@@ -33,7 +33,7 @@ module _ (k : Contents) (seat : ℕ) (faults : TurnFault → Type 0) where
     split = ends.split;
     heard = ends.heard;
     why = ends.why;
-    cause = cause_without room h'.standing (length ends.before) ends.line ends.why ends.cause;
+    cause = cause_without room h'.state (length ends.before) ends.line ends.why ends.cause;
     begun = ends.begun;
     ended = ends.ended;
   })

@@ -1,12 +1,12 @@
 -- Attending to a connection: its session is fed what the reader gives, and the writer is given the replies.
-use Rattle.std.specs.Prelude.{◌≡◌, ℕ, ◌<◌, ◌≤◌, ⊤, List, ◌++◌, All, Option, Some, Result, Err, OnOk, length}
+use Rattle.std.specs.Prelude.{◌≡◌, ℕ, ◌<◌, ◌≤◌, ⊤, List, All, Option, Some, Result, Err, OnOk, length}
 use Rattle.std.specs.Io.KnownBytes.{Appends, Consumes, IsAtEnd}
 use Rattle.hd_date.specs.Stamps.{Stamp}
 use Rattle.hd_rules.specs.Journal.{Turn}
-use Rattle.hd_catalogue.specs.Contents.{Contents}
 use Rattle.hd_connection.specs.Streams.{IsCutShort, Streams}
+use Rattle.hd_catalogue.specs.Contents.{Contents}
 use Rattle.hd_journal.specs.declared.fault.TurnFault.{TurnFault}
-use Rattle.hd_session.specs.Sessions.{AreFedTo, Hearing, Piece, any_room, stream}
+use Rattle.hd_session.specs.Sessions.{AreFedTo, Hearing, Piece, StaysKnown, any_room, stream}
 use Rattle.hd_session.specs.declared.ended.Ended.{Ended}
 use Rattle.hd_attend.specs.declared.fault.AttendFault.{AttendFault}
 use Rattle.hd_attend.specs.declared.fault.AttendFault.TheVariants as fault
@@ -35,17 +35,16 @@ Leaves end before after = after ≡ before
 
 -- A session is attended to, at a seat of a library whose office can give these faults, by a clock that may
 -- tell these presents: what was read is fed to it in pieces, each at its own present, with no bytes left out;
--- the turns are made at the office, and the replies are written.
+-- these turns are made, and the replies are written.
 pub record Attends (k : Contents) (seat : ℕ) (faults : TurnFault → Type 0) (Tells : Stamp → Type 0)
-    (bytes : Streams) (h h' : Hearing) (turns turns' : List Turn) (end : End) : Type 0 where
+    (bytes : Streams) (made : List Turn) (h h' : Hearing) (end : End) : Type 0 where
   pub pieces : List Piece
   pub are_read : All (IsReadPiece Tells) pieces
   pub read : Consumes bytes.from bytes.from' (stream pieces)
   pub all : OnOk end (IsAtEnd bytes.from')
-  pub made : List Turn
   pub replies : List ℕ
   pub fed : AreFedTo k seat faults any_room pieces h made h' replies
-  pub turns_are : turns' ≡ turns ++ made
+  pub known : StaysKnown k h.state h'.state
   pub put : List ℕ
   pub written : IsWritten end replies put
   pub wrote : Appends bytes.to bytes.to' put

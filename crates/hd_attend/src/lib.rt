@@ -1,12 +1,11 @@
 //! Attending to one connection: its session is fed what comes, at its office, and the replies are sent.
 #![tactic(auto)]
 
+mod announced;
 mod attending;
 mod fault;
-mod gate;
-mod gated;
+mod surroundings;
 
-pub use crate::attending::{attend, attend_office};
+pub use crate::attending::attend;
 pub use crate::fault::AttendFault;
-pub use crate::gate::Gate;
-pub use crate::gated::Gated;
+pub use crate::surroundings::Surroundings;

@@ -1,10 +1,13 @@
 -- Files and their lines.
 use Rattle.std.proofs.Common.{Option, ◌≡◌, ℕ, ◌+◌, ◌⊎◌, None, Some, Result, Ok, Err, List, [], ◌∷◌, ◌++◌, length, refl, sym, ap, subst, ◌∙◌}
 use Rattle.std.proofs.Common.{inl, inr, arith, append_assoc, append-nil, length-append}
-use Rattle.std.specs.Prelude.{fold}
-use Rattle.hd_catalogue.specs.Contents.{Contents}
+use Rattle.std.specs.Prelude.{fold, Bool, true, false, codes, if◌then◌else◌}
+use Rattle.std.specs.Str.{bytes_eq}
+use Rattle.hd_catalogue.specs.Contents.{Contents, no_rows}
 use Rattle.hd_catalogue.specs.Files.{EachPasses, IsAccepted, IsFirstBad, cause_of, contents_of}
-use Rattle.hd_catalogue.specs.Lines.{first_contents, header_cause, line_cause, with_line}
+use Rattle.hd_catalogue.specs.Lines.{Heading, begun_by, first_contents, header_cause, heading_of, line_cause, title_values, with_branch}
+use Rattle.hd_catalogue.specs.Lines.{with_copy_line, with_line, with_patron, with_terminal, with_title, with_values}
+use Rattle.hd_catalogue.specs.Text.{as_one, as_two, as_three, values_of}
 use Rattle.hd_catalogue.specs.Reading.{Names}
 use Rattle.hd_catalogue.specs.declared.cause.CatFault.{CatFault}
 use Rattle.hd_catalogue.specs.declared.cause.Cause.{Cause}
@@ -172,3 +175,58 @@ first_bad_one all f g a b m n =
   where
     back : {x y : Cause} → Some x ≡ Some y → x ≡ y
     back e = cc
+
+either_keeps : (k : Contents) (b : Bool) (g h : Contents) → g.opening ≡ k.opening → h.opening ≡ k.opening
+    → (if b then g else h).opening ≡ k.opening
+either_keeps k true g h e f = e
+either_keeps k false g h e f = f
+
+branch_keeps : (k : Contents) (o : Option (List ℕ)) → (with_branch k o).opening ≡ k.opening
+branch_keeps k None = refl
+branch_keeps k (Some v) = refl
+
+patron_keeps : (k : Contents) (o : Option (List ℕ × List ℕ)) → (with_patron k o).opening ≡ k.opening
+patron_keeps k None = refl
+patron_keeps k (Some v) = refl
+
+terminal_keeps : (k : Contents) (o : Option (List ℕ × List ℕ × List ℕ)) → (with_terminal k o).opening ≡ k.opening
+terminal_keeps k None = refl
+terminal_keeps k (Some v) = refl
+
+title_keeps : (k : Contents) (o : Option (List ℕ × List ℕ × List ℕ × List ℕ)) → (with_title k o).opening ≡ k.opening
+title_keeps k None = refl
+title_keeps k (Some v) = refl
+
+copy_keeps : (k : Contents) (o : Option (List ℕ × List ℕ × List ℕ)) → (with_copy_line k o).opening ≡ k.opening
+copy_keeps k None = refl
+copy_keeps k (Some v) = refl
+
+-- no line tells a row of the opening
+values_keep : (k : Contents) (values : List (List ℕ)) → (with_values k values).opening ≡ k.opening
+values_keep k [] = refl
+values_keep k (kind ∷ values) =
+    either_keeps k (bytes_eq kind (codes "B")) _ _ (branch_keeps k (as_one values))
+    (either_keeps k (bytes_eq kind (codes "S")) _ _ (terminal_keeps k (as_three values))
+    (either_keeps k (bytes_eq kind (codes "P")) _ _ (patron_keeps k (as_two values))
+    (either_keeps k (bytes_eq kind (codes "T")) _ _ (title_keeps k (title_values k.settings.version values))
+    (either_keeps k (bytes_eq kind (codes "C")) _ _ (copy_keeps k (as_three values)) refl))))
+
+line_keeps : (k : Contents) (line : List ℕ) → (with_line k line).opening ≡ k.opening
+unfolding with_line
+line_keeps k line = values_keep k (values_of line)
+
+lines_keep : (k : Contents) (more : List (List ℕ)) → (fold with_line k more).opening ≡ k.opening
+lines_keep k [] = refl
+lines_keep k (line ∷ more) = lines_keep (with_line k line) more ∙ line_keeps k line
+
+first_fresh : (line : List ℕ) → (first_contents line).opening ≡ no_rows
+unfolding first_contents
+first_fresh line = by_heading (heading_of (values_of line))
+  where
+    by_heading : (o : Option Heading) → (begun_by o).opening ≡ no_rows
+    by_heading None = refl
+    by_heading (Some heading) = refl
+
+-- a file tells no rows
+pub accepted_fresh : (all : List (List ℕ)) (k : Contents) → IsAccepted all k → k.opening ≡ no_rows
+accepted_fresh all k is = ap (λ h. h.opening) is.says ∙ (lines_keep (first_contents is.first) is.more ∙ first_fresh is.first)

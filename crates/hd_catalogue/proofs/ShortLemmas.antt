@@ -1,8 +1,8 @@
--- A catalogue keeps short names with one more.
+-- A catalogue keeps proper names with one more.
 use Rattle.std.proofs.Common.{◌≡◌, ℕ, zero, suc, true, List, [], ◌∷◌, ◌++◌, Some, subst, arith}
 use Rattle.std.proofs.lemmas.Bool.Decides.{nat_tests}
 use Rattle.std.proofs.lemmas.Option.{none-some}
-use Rattle.hd_catalogue.specs.Contents.{AreShortNames, HasShortNames, IsShortName, without_names}
+use Rattle.hd_catalogue.specs.Contents.{AreNames, HasNames, IsShortName, without_names}
 use Rattle.hd_catalogue.specs.Lines.{are_names}
 use Rattle.hd_catalogue.specs.Text.{is_name}
 use Rattle.hd_catalogue.specs.declared.facts.Settings.{Settings}
@@ -12,25 +12,25 @@ pub name-short : (bytes : List ℕ) → is_name bytes ≡ true → IsShortName b
 name-short bytes h = (grind (arith, nat_tests, h), grind (arith, nat_tests, h))
 
 -- and the first of three names
-pub first-short : (a b c : List ℕ) → are_names a b c ≡ true → IsShortName a
+pub first-name : (a b c : List ℕ) → are_names a b c ≡ true → is_name a ≡ true
 unfolding are_names
-first-short a b c h = name-short a (grind (arith, h))
+first-name a b c h = grind (arith, h)
 
 -- names, and one more
-pub short-push : {F : Type 0} (names : List (List ℕ × F)) (e : List ℕ × F) → AreShortNames names → IsShortName e.0
-    → AreShortNames (names ++ e ∷ [])
-short-push [] e all new zero name h = subst IsShortName (some_is h) new
+pub names-push : {F : Type 0} (names : List (List ℕ × F)) (e : List ℕ × F) → AreNames names → is_name e.0 ≡ true
+    → AreNames (names ++ e ∷ [])
+names-push [] e all new zero name h = subst (λ n. is_name n ≡ true) (some_is h) new
   where
     some_is : {A : Type 0} {x y : A} → Some x ≡ Some y → x ≡ y
     some_is h = cc
-short-push [] e all new (suc i) name h = all i name h
-short-push (x ∷ xs) e all new zero name h = all 0 name h
-short-push (x ∷ xs) e all new (suc i) name h = short-push xs e (λ n other is. all (suc n) other is) new i name h
+names-push [] e all new (suc i) name h = all i name h
+names-push (x ∷ xs) e all new zero name h = all 0 name h
+names-push (x ∷ xs) e all new (suc i) name h = names-push xs e (λ n other is. all (suc n) other is) new i name h
 
 -- a catalogue without names
-pub short-none : (settings : Settings) (institution : List ℕ) → IsShortName institution → HasShortNames (without_names settings institution)
-short-none settings institution short = record {
-  institution = short;
+pub names-none : (settings : Settings) (institution : List ℕ) → is_name institution ≡ true → HasNames (without_names settings institution)
+names-none settings institution name = record {
+  institution = name;
   branches = λ i name is. absurd (none-some _ is);
   terminals = λ i name is. absurd (none-some _ is);
   patrons = λ i name is. absurd (none-some _ is);

@@ -1,9 +1,15 @@
 -- A catalogue stays sound with one more name.
-use Rattle.std.proofs.Common.{◌≡◌, ℕ, zero, suc, ◌<◌, ◌≤◌, ◌⊎◌, List, [], ◌∷◌, ◌++◌, length, refl, sym, inl, inr, subst, arith}
-use Rattle.std.proofs.Common.{length-append, Result, Ok, Err, OnOk, is_err, false, Option, Some, IfSome}
-use Rattle.hd_rules.specs.declared.limits.TheConstants.{MOST_BRANCHES, MOST_COMMANDS, MOST_COPIES, MOST_LOANS, MOST_LOAN_DAYS, MOST_PATRONS}
+use Rattle.std.proofs.Common.{◌≡◌, ℕ, zero, suc, ◌+◌, ◌<◌, ◌≤◌, ◌⊎◌, List, [], ◌∷◌, ◌++◌, length, refl, sym, inl, inr, subst, arith}
+use Rattle.std.proofs.Common.{length-append, Result, Ok, Err, OnOk, is_err, false, Option, None, Some, IfSome, All, slice_index_or}
+use Rattle.hd_rules.specs.declared.limits.TheConstants.{MOST_BRANCHES, MOST_COMMANDS, MOST_COPIES, MOST_GIVEN, MOST_LOANS, MOST_LOAN_DAYS, MOST_PATRONS}
 use Rattle.hd_rules.specs.declared.limits.TheConstants.{MOST_RENEWALS, MOST_TERMINALS, MOST_TITLES}
-use Rattle.hd_catalogue.specs.Contents.{Contents, IsSound, branch_of, facts_of, fact_of, without_names}
+use Rattle.hd_rules.specs.declared.rows.OpeningRow.{OpeningRow}
+use Rattle.hd_rules.specs.declared.holds.HoldKind.{HoldKind}
+use Rattle.hd_rules.specs.declared.holds.HoldKind.TheVariants.{Any, One, AtBranch}
+use Rattle.hd_rules.specs.declared.rows.OpeningRow.TheVariants as row
+use Rattle.hd_rules.specs.Facts.{Facts}
+use Rattle.hd_rules.specs.Known.{IsKnownCopy, IsKnownKind, IsKnownRow}
+use Rattle.hd_catalogue.specs.Contents.{Contents, Fits, IsSound, branch_of, facts_of, fact_of, told_by, without_names}
 use Rattle.hd_catalogue.specs.Terminal.{Terminal}
 use Rattle.hd_catalogue.specs.declared.facts.BranchFacts.{BranchFacts}
 use Rattle.hd_catalogue.specs.declared.facts.CopyFacts.{CopyFacts}
@@ -33,6 +39,43 @@ each-push fact none P names e all new i h = elim (known-push fact none names e i
 room : {F : Type 0} (names : List (List ℕ × F)) (e : List ℕ × F) (most : ℕ) → length names < most → length (names ++ e ∷ []) ≤ most
 room names e most h = omega (arith, length-append names (e ∷ []))
 
+longer : {F : Type 0} (names : List (List ℕ × F)) (e : List ℕ × F) → length names ≤ length (names ++ e ∷ [])
+longer names e = omega (arith, length-append names (e ∷ []))
+
+-- what is known stays so where there is more of each kind
+more-kind : (j k : Facts) (kind : HoldKind) → j.copies ≤ k.copies → IsKnownKind j kind → IsKnownKind k kind
+more-kind j k Any more known = tt
+more-kind j k (One c) more known = omega (arith, more, known)
+more-kind j k AtBranch more known = tt
+
+more-copy : (j k : Facts) (copy : Option ℕ) → j.copies ≤ k.copies → IsKnownCopy j copy → IsKnownCopy k copy
+more-copy j k None more known = tt
+more-copy j k (Some c) more known = omega (arith, more, known)
+
+more-known : (j k : Facts) (r : OpeningRow) → j.branches ≤ k.branches → j.titles ≤ k.titles → j.copies ≤ k.copies
+    → j.patrons ≤ k.patrons → IsKnownRow j r → IsKnownRow k r
+more-known j k (row.Loan c l) b t x p known = (omega (arith, x, known.0), omega (arith, p, known.1))
+more-known j k (row.OpenShelf c to) b t x p known = (omega (arith, x, known.0), omega (arith, b, known.1))
+more-known j k (row.Hold u h) b t x p known = (
+  omega (arith, t, known.0),
+  record {
+    patron = omega (arith, p, known.1.patron);
+    kind = more-kind j k h.kind x known.1.kind;
+    pickup = omega (arith, b, known.1.pickup);
+    copy = more-copy j k h.copy x known.1.copy;
+  },
+)
+more-known j k (row.HoldShelf c q place) b t x p known = (omega (arith, x, known.0), omega (arith, p, known.1))
+more-known j k (row.HoldTransit c q from) b t x p known =
+    (omega (arith, x, known.0), omega (arith, p, known.1), omega (arith, b, known.2))
+more-known j k (row.Transit c from to) b t x p known =
+    (omega (arith, x, known.0), omega (arith, b, known.1), omega (arith, b, known.2))
+
+pub more-fit : (j k : Facts) (n : ℕ) (rows : List OpeningRow) → j.branches ≤ k.branches → j.titles ≤ k.titles → j.copies ≤ k.copies
+    → j.patrons ≤ k.patrons → All (Fits j n) rows → All (Fits k n) rows
+more-fit j k n rows b t x p all = λ i d below.
+    let fits = all i d below in (more-known j k (slice_index_or rows i d) b t x p fits.0, fits.1)
+
 -- a catalogue without names
 pub sound-none : (settings : Settings) (institution : List ℕ) → 1 ≤ settings.command_limit → settings.command_limit ≤ MOST_COMMANDS
     → IsSound (without_names settings institution)
@@ -53,6 +96,8 @@ sound-none settings institution some most = record {
     command_limit = most;
   };
   terminals = λ t h. absurd (omega arith);
+  rows = λ i d h. absurd (omega (arith, h));
+  last = omega arith;
 }
 
 pub sound-branch : (k : Contents) (e : List ℕ × BranchFacts) → IsSound k → length k.branches < MOST_BRANCHES
@@ -74,6 +119,9 @@ sound-branch k e s h = record {
     command_limit = s.facts.command_limit;
   };
   terminals = λ t l. omega (arith, s.terminals t l, length-append k.branches (e ∷ []));
+  rows = more-fit (facts_of k) (facts_of (record k { branches = k.branches ++ e ∷ [] })) (k.opening.last + 1) k.opening.rows
+      (longer k.branches e) (omega arith) (omega arith) (omega arith) s.rows;
+  last = s.last;
 }
 
 pub sound-terminal : (k : Contents) (name : List ℕ) (facts : Terminal) → IsSound k → length k.terminals < MOST_TERMINALS
@@ -96,6 +144,9 @@ sound-terminal k name facts s h branch = record {
     command_limit = s.facts.command_limit;
   };
   terminals = each-push (λ terminal. terminal.branch) 0 (λ b. b < length k.branches) k.terminals (name, facts) s.terminals branch;
+  rows = more-fit (facts_of k) (facts_of (record k { terminals = k.terminals ++ (name, facts) ∷ [] })) (k.opening.last + 1) k.opening.rows
+      (omega arith) (omega arith) (omega arith) (omega arith) s.rows;
+  last = s.last;
 }
 
 pub sound-patron : (k : Contents) (name : List ℕ) (facts : PatronFacts) → IsSound k → length k.patrons < MOST_PATRONS
@@ -118,6 +169,9 @@ sound-patron k name facts s h limit = record {
     command_limit = s.facts.command_limit;
   };
   terminals = s.terminals;
+  rows = more-fit (facts_of k) (facts_of (record k { patrons = k.patrons ++ (name, facts) ∷ [] })) (k.opening.last + 1) k.opening.rows
+      (omega arith) (omega arith) (omega arith) (longer k.patrons (name, facts)) s.rows;
+  last = s.last;
 }
 
 pub sound-title : (k : Contents) (name : List ℕ) (facts : TitleFacts) → IsSound k → length k.titles < MOST_TITLES
@@ -140,6 +194,9 @@ sound-title k name facts s h days renewals = record {
     command_limit = s.facts.command_limit;
   };
   terminals = s.terminals;
+  rows = more-fit (facts_of k) (facts_of (record k { titles = k.titles ++ (name, facts) ∷ [] })) (k.opening.last + 1) k.opening.rows
+      (omega arith) (longer k.titles (name, facts)) (omega arith) (omega arith) s.rows;
+  last = s.last;
 }
 
 pub sound-copy : (k : Contents) (name : List ℕ) (facts : CopyFacts) → IsSound k → length k.copies < MOST_COPIES
@@ -162,6 +219,33 @@ sound-copy k name facts s h title home = record {
     command_limit = s.facts.command_limit;
   };
   terminals = s.terminals;
+  rows = more-fit (facts_of k) (facts_of (record k { copies = k.copies ++ (name, facts) ∷ [] })) (k.opening.last + 1) k.opening.rows
+      (omega arith) (omega arith) (longer k.copies (name, facts)) (omega arith) s.rows;
+  last = s.last;
+}
+
+-- with another opening, whose rows fit
+pub sound-opening : (k : Contents) (rows : List OpeningRow) (last : ℕ) → IsSound k → All (Fits (facts_of k) (last + 1)) rows
+    → last ≤ MOST_GIVEN → IsSound (record k { opening = told_by rows last })
+unfolding facts_of branch_of
+sound-opening k rows last s fit most = record {
+  facts = record {
+    branches = s.facts.branches;
+    terminals = s.facts.terminals;
+    titles = s.facts.titles;
+    copies = s.facts.copies;
+    patrons = s.facts.patrons;
+    home = s.facts.home;
+    title_of = s.facts.title_of;
+    loan_days = s.facts.loan_days;
+    renewals = s.facts.renewals;
+    loan_limit = s.facts.loan_limit;
+    some_command = s.facts.some_command;
+    command_limit = s.facts.command_limit;
+  };
+  terminals = s.terminals;
+  rows = more-fit (facts_of k) (facts_of (record k { opening = told_by rows last })) (last + 1) rows (omega arith) (omega arith) (omega arith) (omega arith) fit;
+  last = most;
 }
 
 -- a fact of Ok, where the result is no Err

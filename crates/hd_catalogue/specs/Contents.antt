@@ -1,18 +1,37 @@
--- What a catalogue says: a list for each kind of name. A name's
+-- What a catalogue says: a list for each kind of name, and how its journal begins. A name's
 -- number is its place, from 0, in the order of first appearance.
-use Rattle.std.specs.Prelude.{◌≡◌, ℕ, ◌<◌, ◌≤◌, Bool, true, false, List, [], length, Option, None, Some}
+use Rattle.std.specs.Prelude.{◌≡◌, ℕ, ◌+◌, ◌<◌, ◌≤◌, Bool, true, false, List, [], All, length, Option, None, Some}
 use Rattle.std.specs.Prelude.{if◌then◌else◌, option_and_then}
 use Rattle.std.specs.Option.{option_map_or}
 use Rattle.std.specs.Str.{bytes_eq}
+use Rattle.hd_catalogue.specs.Text.{is_name}
 use Rattle.hd_catalogue.specs.Names.{facts_at, name_at, number_of}
-use Rattle.hd_rules.specs.Facts.{AreInRange, Facts}
+use Rattle.hd_rules.specs.declared.limits.TheConstants.{MOST_GIVEN}
+use Rattle.hd_rules.specs.declared.rows.OpeningRow.{OpeningRow}
+use Rattle.hd_rules.specs.Numbers.{CommandNo, HoldStamp}
+use Rattle.hd_rules.specs.Facts.{AreInRange, Facts, IsFresh}
 use Rattle.hd_rules.specs.Desk.{at_home}
+use Rattle.hd_rules.specs.Known.{IsKnownRow}
+use Rattle.hd_rules.specs.Rows.{IsInBounds, with_rows}
 use Rattle.hd_catalogue.specs.declared.facts.Settings.{Settings}
 use Rattle.hd_catalogue.specs.declared.facts.BranchFacts.{BranchFacts}
 use Rattle.hd_catalogue.specs.declared.facts.PatronFacts.{PatronFacts}
 use Rattle.hd_catalogue.specs.declared.facts.TitleFacts.{TitleFacts}
 use Rattle.hd_catalogue.specs.declared.facts.CopyFacts.{CopyFacts}
 use Rattle.hd_catalogue.specs.Terminal.{Terminal}
+
+-- How the catalogue's journal begins: by these rows from the desk with each copy at home on, and behind the
+-- last number that was given before.
+pub record OpeningRows : Type 0 where
+  pub rows : List OpeningRow
+  pub last : CommandNo
+
+abbrev pub told_by : List OpeningRow → CommandNo → OpeningRows
+told_by rows last = record { rows = rows; last = last }
+
+-- with each copy at home, no holds, and no number given
+abbrev pub no_rows : OpeningRows
+no_rows = told_by [] 0
 
 pub record Contents : Type 0 where
   pub settings : Settings
@@ -22,6 +41,7 @@ pub record Contents : Type 0 where
   pub patrons : List (List ℕ × PatronFacts)
   pub titles : List (List ℕ × TitleFacts)
   pub copies : List (List ℕ × CopyFacts)
+  pub opening : OpeningRows
 
 -- a catalogue without names
 abbrev pub without_names : Settings → List ℕ → Contents
@@ -34,6 +54,7 @@ without_names settings institution =
       patrons = [];
       titles = [];
       copies = [];
+      opening = no_rows;
     }
 
 -- what is known of the name with a number, and else a value that stands for nothing
@@ -55,8 +76,17 @@ facts_of k = record {
   loan_limit = fact_of (λ patron. patron.loan_limit) 0 k.patrons;
   priority = fact_of (λ title. title.local_priority) false k.titles;
   command_limit = k.settings.command_limit;
-  opening = record { desk = at_home (fact_of (λ copy. copy.home) 0 k.copies); last = 0 };
+  opening = record {
+    desk =
+        with_rows (fact_of (λ copy. copy.title) 0 k.copies)
+        (at_home (fact_of (λ copy. copy.home) 0 k.copies)) k.opening.rows;
+    last = k.opening.last;
+  };
 }
+
+-- where no rows are told and no number was given, the journal is its library's first
+abbrev pub WithoutRowsIsFresh : Type 0
+WithoutRowsIsFresh = (k : Contents) → k.opening ≡ no_rows → IsFresh (facts_of k)
 
 -- the branch of a terminal
 unfoldable pub branch_of : Contents → ℕ → ℕ
@@ -108,28 +138,36 @@ copy_name k number = name_at k.copies number
 unfoldable pub patron_name : Contents → ℕ → Option (List ℕ)
 patron_name k number = name_at k.patrons number
 
--- The facts keep to the limits, and each number that they name is one of the catalogue.
+-- all that the row names is in the catalogue, and its numbers are in their bounds, where the next number
+-- that a command is given is n
+abbrev pub Fits : Facts → HoldStamp → OpeningRow → Type 0
+Fits k n row = IsKnownRow k row × IsInBounds n row
+
+-- The facts keep to the limits, and each number that they or the rows of the opening name is one of the
+-- catalogue.
 pub record IsSound (k : Contents) : Type 0 where
   pub facts : AreInRange (facts_of k)
   pub terminals : (t : ℕ) → t < length k.terminals → branch_of k t < length k.branches
+  pub rows : All (Fits (facts_of k) (k.opening.last + 1)) k.opening.rows
+  pub last : k.opening.last ≤ MOST_GIVEN
 
 -- a name of 1 to 60 bytes
 abbrev pub IsShortName : List ℕ → Type 0
 IsShortName name = (1 ≤ length name) × (length name ≤ 60)
 
--- each of these is one
-abbrev pub AreShortNames : {F : Type 0} → List (List ℕ × F) → Type 0
-AreShortNames names = (number : ℕ) (name : List ℕ) → name_at names number ≡ Some name → IsShortName name
+-- each of these is a name of such bytes as a name may have
+abbrev pub AreNames : {F : Type 0} → List (List ℕ × F) → Type 0
+AreNames names = (number : ℕ) (name : List ℕ) → name_at names number ≡ Some name → is_name name ≡ true
 
--- the institution and every name have 1 to 60 bytes
-pub record HasShortNames (k : Contents) : Type 0 where
-  pub institution : IsShortName k.institution
-  pub branches : AreShortNames k.branches
-  pub terminals : AreShortNames k.terminals
-  pub patrons : AreShortNames k.patrons
-  pub titles : AreShortNames k.titles
-  pub copies : AreShortNames k.copies
+-- the institution is one, and every name
+pub record HasNames (k : Contents) : Type 0 where
+  pub institution : is_name k.institution ≡ true
+  pub branches : AreNames k.branches
+  pub terminals : AreNames k.terminals
+  pub patrons : AreNames k.patrons
+  pub titles : AreNames k.titles
+  pub copies : AreNames k.copies
 
 -- what holds of each catalogue
 abbrev pub IsCatalogue : Contents → Type 0
-IsCatalogue k = IsSound k × HasShortNames k
+IsCatalogue k = IsSound k × HasNames k

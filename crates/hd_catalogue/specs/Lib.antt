@@ -8,3 +8,4 @@ pub mod Headings
 pub mod Files
 pub mod Reading
 pub mod Causes
+pub mod Openings

@@ -1,17 +1,21 @@
 //! The catalogue.
-ghost use Rattle.std.specs.Prelude.{◌≡◌, ◌≤◌};
+ghost use Rattle.std.specs.Prelude.{◌≡◌, ◌≤◌, true};
 ghost use Rattle.hd_rules.specs.declared.limits.TheConstants.{MOST_COMMANDS};
-ghost use Rattle.hd_catalogue.specs.Contents.{IsShortName, without_names};
+ghost use Rattle.hd_catalogue.specs.Contents.{without_names};
+ghost use Rattle.hd_catalogue.specs.Text.{is_name};
 
 use crate::facts::{BranchFacts, CopyFacts, PatronFacts, Settings, TitleFacts};
 use crate::names::Names;
 use crate::terminal::TerminalFacts;
+use hd_rules::OpeningRow;
 use std::alloc::{Allocator, Global};
 use std::marker::Model;
 
 /// What a catalogue file says, found by name or by number (docs/catalogue.md).
 ///
-/// The names of each kind are numbered from 0, in the order in which they first appear in the file.
+/// The names of each kind are numbered from 0, in the order in which they first appear in the file. It also
+/// has how its journal begins: as the library's first one, until [`with_opening`](Catalogue::with_opening)
+/// says another desk.
 pub struct Catalogue<A: Allocator = Global> {
     pub(crate) settings: Settings,
     pub(crate) institution: Vec<u8, A>,
@@ -20,6 +24,8 @@ pub struct Catalogue<A: Allocator = Global> {
     pub(crate) patrons: Names<PatronFacts, A>,
     pub(crate) titles: Names<TitleFacts, A>,
     pub(crate) copies: Names<CopyFacts, A>,
+    pub(crate) rows: Vec<OpeningRow, A>,
+    pub(crate) last: u32,
 }
 
 // Written out, so that a caller's proof sees one call and not the drop of each field.
@@ -33,12 +39,14 @@ impl<A: Allocator> Drop for Catalogue<A> {
             patrons: _patrons,
             titles: _titles,
             copies: _copies,
+            rows: _rows,
+            last: _last,
         } = self;
     }
 }
 
 impl<A: Allocator> Model for Catalogue<A> {
-    ghost use Rattle.hd_catalogue.specs.Contents.{Contents, IsCatalogue};
+    ghost use Rattle.hd_catalogue.specs.Contents.{Contents, IsCatalogue, told_by};
 
     ghost Value = { Contents };
 
@@ -50,6 +58,7 @@ impl<A: Allocator> Model for Catalogue<A> {
       patrons = c.patrons;
       titles = c.titles;
       copies = c.copies;
+      opening = told_by c.rows.items c.last;
     } };
 
     ghost invariant = { λ c. IsCatalogue (record {
@@ -60,6 +69,7 @@ impl<A: Allocator> Model for Catalogue<A> {
       patrons = c.patrons;
       titles = c.titles;
       copies = c.copies;
+      opening = told_by c.rows.items c.last;
     }) };
 }
 
@@ -68,7 +78,7 @@ impl<A: Allocator + Copy> Catalogue<A> {
     pub(crate) fn new(alloc: A, settings: Settings, institution: Vec<u8, A>) -> Catalogue<A>
         requires some_command { 1 ≤ settings.command_limit }
         requires commands { settings.command_limit ≤ MOST_COMMANDS }
-        requires short { IsShortName institution.items }
+        requires name { is_name institution.items ≡ true }
         ensures { result ≡ without_names settings institution.items }
     {
         Catalogue {
@@ -79,6 +89,8 @@ impl<A: Allocator + Copy> Catalogue<A> {
             patrons: Names::new(alloc),
             titles: Names::new(alloc),
             copies: Names::new(alloc),
+            rows: Vec::new(alloc),
+            last: 0,
         }
     }
 }

@@ -1,6 +1,6 @@
-//! Which files are accepted.
+//! Which files are accepted, and what a catalogue without rows opens with.
 ghost use Rattle.std.specs.Prelude.{◌≡◌, ℕ, List};
-ghost use Rattle.hd_catalogue.specs.Contents.{Contents};
+ghost use Rattle.hd_catalogue.specs.Contents.{Contents, WithoutRowsIsFresh};
 ghost use Rattle.hd_catalogue.specs.Files.{IsAccepted, IsFirstBad};
 
 use crate::cause::{CatFault, Cause};
@@ -13,4 +13,9 @@ pub fn accepted_or_refused()
     ensures one { (all : List (List ℕ)) (k h : Contents) → IsAccepted all k → IsAccepted all h → k ≡ h }
     ensures first { (all : List (List ℕ)) (f g : CatFault) → IsFirstBad all f → IsFirstBad all g
         → ¬ (f.cause ≡ Cause.Memory) → ¬ (g.cause ≡ Cause.Memory) → f ≡ g }
+{}
+
+/// Where no rows are told and no number was given before, each copy is at home, and there are no holds.
+pub fn without_rows_is_fresh()
+    ensures { WithoutRowsIsFresh }
 {}

@@ -5,13 +5,13 @@ ghost use Rattle.hd_catalogue.specs.Files.{lines_of};
 
 /// A text's first line without its end, and what follows it.
 #[derive(Clone, Copy)]
-pub(crate) struct FirstLine<'a> {
-    pub(crate) line: &'a [u8],
-    pub(crate) after: &'a [u8],
+pub struct FirstLine<'a> {
+    pub line: &'a [u8],
+    pub after: &'a [u8],
 }
 
 /// The first line of a text. An empty text is one empty line.
-pub(crate) fn first_line(text: &[u8]) -> FirstLine<'_>
+pub fn first_line(text: &[u8]) -> FirstLine<'_>
     ensures first { lines_of text.now ≡ result.line.now ∷ lines result.after.now }
     ensures lines { 0 < length text.now → lines text.now ≡ result.line.now ∷ lines result.after.now }
     ensures within { length result.after.now ≤ length text.now }

@@ -3,10 +3,11 @@
 //! Each number is one that this catalogue gave.
 #![tactic(auto, unfolding(crate::specs::Contents::facts_of, crate::specs::Contents::branch_of))]
 
-ghost use Rattle.std.specs.Prelude.{◌≡◌, ◌<◌};
+ghost use Rattle.std.specs.Prelude.{◌≡◌, ◌<◌, true};
 ghost use Rattle.hd_rules.specs.Facts.{AreInRange};
 ghost use Rattle.hd_catalogue.specs.Contents.{IsShortName, branch_of};
 ghost use Rattle.hd_catalogue.specs.Contents.{facts_of};
+ghost use Rattle.hd_catalogue.specs.Text.{is_name};
 
 use crate::catalogue::Catalogue;
 use hd_date::OffsetMinutes;
@@ -17,6 +18,7 @@ impl<A: Allocator + Copy> Catalogue<A> {
     /// The institution, which replies carry in AO.
     pub fn institution(&self) -> &[u8]
         ensures name { result.now ≡ self.now.institution }
+        ensures proper { is_name result.now ≡ true }
         ensures short { IsShortName result.now }
     {
         self.institution.as_slice()
@@ -35,14 +37,6 @@ impl<A: Allocator + Copy> Catalogue<A> {
         ensures facts { AreInRange (facts_of self.now) }
     {
         self.settings.command_limit
-    }
-
-    /// The last number that was given before the catalogue's journal begins: 0, since each journal is its
-    /// library's first.
-    pub fn last_before(&self) -> u32
-        ensures { result ≡ (facts_of self.now).opening.last }
-    {
-        0
     }
 
     /// How many branches there are.

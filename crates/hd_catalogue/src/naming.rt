@@ -3,8 +3,9 @@
 //! Each number is one that this catalogue gave.
 #![tactic(auto, unfolding(crate::specs::Contents::facts_of, crate::specs::Contents::branch_number, crate::specs::Contents::title_number, crate::specs::Contents::copy_number, crate::specs::Contents::patron_number, crate::specs::Contents::branch_name, crate::specs::Contents::terminal_name, crate::specs::Contents::title_name, crate::specs::Contents::copy_name, crate::specs::Contents::patron_name,))]
 
-ghost use Rattle.std.specs.Prelude.{◌≡◌, ◌<◌, Some};
+ghost use Rattle.std.specs.Prelude.{◌≡◌, ◌<◌, Some, true};
 ghost use Rattle.hd_catalogue.specs.Names.{number_of};
+ghost use Rattle.hd_catalogue.specs.Text.{is_name};
 ghost use Rattle.hd_catalogue.specs.Contents.{IsShortName, facts_of};
 ghost use Rattle.hd_catalogue.specs.Contents.{branch_name, copy_name, patron_name, terminal_name, title_name};
 ghost use Rattle.hd_catalogue.specs.Contents.{branch_number, copy_number, patron_number, title_number};
@@ -19,6 +20,7 @@ impl<A: Allocator + Copy> Catalogue<A> {
         requires { branch < (facts_of self.now).branches }
         ensures name { branch_name self.now branch ≡ Some result.now }
         ensures found { branch_number self.now result.now ≡ Some branch }
+        ensures proper { is_name result.now ≡ true }
         ensures short { IsShortName result.now }
     {
         let number = branch.number() as usize;
@@ -30,6 +32,7 @@ impl<A: Allocator + Copy> Catalogue<A> {
         requires { terminal < (facts_of self.now).terminals }
         ensures name { terminal_name self.now terminal ≡ Some result.now }
         ensures found { number_of self.now.terminals result.now ≡ Some terminal }
+        ensures proper { is_name result.now ≡ true }
         ensures short { IsShortName result.now }
     {
         let number = terminal.number() as usize;
@@ -41,6 +44,7 @@ impl<A: Allocator + Copy> Catalogue<A> {
         requires { title < (facts_of self.now).titles }
         ensures name { title_name self.now title ≡ Some result.now }
         ensures found { title_number self.now result.now ≡ Some title }
+        ensures proper { is_name result.now ≡ true }
         ensures short { IsShortName result.now }
     {
         let number = title.number() as usize;
@@ -52,6 +56,7 @@ impl<A: Allocator + Copy> Catalogue<A> {
         requires { copy < (facts_of self.now).copies }
         ensures name { copy_name self.now copy ≡ Some result.now }
         ensures found { copy_number self.now result.now ≡ Some copy }
+        ensures proper { is_name result.now ≡ true }
         ensures short { IsShortName result.now }
     {
         let number = copy.number() as usize;
@@ -63,6 +68,7 @@ impl<A: Allocator + Copy> Catalogue<A> {
         requires { patron < (facts_of self.now).patrons }
         ensures name { patron_name self.now patron ≡ Some result.now }
         ensures found { patron_number self.now result.now ≡ Some patron }
+        ensures proper { is_name result.now ≡ true }
         ensures short { IsShortName result.now }
     {
         let number = patron.number() as usize;

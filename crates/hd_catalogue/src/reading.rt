@@ -1,5 +1,6 @@
 //! Reads a catalogue file.
-ghost use Rattle.std.specs.Prelude.{IfErr, IfOk};
+ghost use Rattle.std.specs.Prelude.{◌≡◌, IfErr, IfOk};
+ghost use Rattle.hd_catalogue.specs.Contents.{no_rows};
 ghost use Rattle.hd_catalogue.specs.Files.{IsAccepted, IsFirstBad, lines_of};
 ghost use Rattle.hd_catalogue.specs.Lines.{first_contents, header_cause, line_cause, values_cause, with_line};
 ghost use Rattle.hd_catalogue.specs.Lines.{with_values};
@@ -16,9 +17,11 @@ use std::alloc::Allocator;
 impl<A: Allocator + Copy> Catalogue<A> {
     /// Reads a catalogue file, or names its first bad line and the cause.
     ///
-    /// The format is that of docs/catalogue.md. `Memory` is named only at a line that passes.
+    /// The format is that of docs/catalogue.md. `Memory` is named only at a line that passes. The catalogue's
+    /// journal is its library's first one.
     pub fn read(alloc: A, bytes: &[u8]) -> Result<Catalogue<A>, CatFault>
         ensures accepted { IfOk result (λ catalogue. IsAccepted (lines_of bytes.now) catalogue) }
+        ensures rows { IfOk result (λ catalogue. catalogue.opening ≡ no_rows) }
         ensures refused { IfErr result (λ fault. IsFirstBad (lines_of bytes.now) fault) }
     {
         let first = first_line(bytes);

@@ -17,21 +17,21 @@ const LONGEST_NAME: usize = 60;
 const MOST_DIGITS: usize = 9;
 
 /// Whether a line, without its end, is longer than a line may be.
-pub(crate) fn is_long(line: &[u8]) -> bool
+pub fn is_long(line: &[u8]) -> bool
     ensures { result ≡ is_long line.now }
 {
     line.len() > LONGEST_LINE
 }
 
 /// Whether a line's first value is this letter.
-pub(crate) fn is_letter(letter: u8, kind: &[u8]) -> bool
+pub fn is_letter(letter: u8, kind: &[u8]) -> bool
     ensures { result ≡ is_letter letter kind.now }
 {
     kind == [letter].as_slice()
 }
 
 /// Whether these bytes are a name.
-pub(crate) fn is_name(bytes: &[u8]) -> bool
+pub fn is_name(bytes: &[u8]) -> bool
     ensures { result ≡ is_name bytes.now }
 {
     if bytes.is_empty() || bytes.len() > LONGEST_NAME {
@@ -72,7 +72,7 @@ fn digits(digits: &[u8]) -> Option<u32>
 }
 
 /// The number that these bytes write, if it is at most `most`.
-pub(crate) fn number(most: u32, bytes: &[u8]) -> Option<u32>
+pub fn number(most: u32, bytes: &[u8]) -> Option<u32>
     ensures value { result ≡ number_to most bytes.now }
     ensures within { IfSome result (λ number. number ≤ most) }
 {

@@ -6,7 +6,7 @@ use std::marker::Model;
 
 /// The values of a line that are still to be taken, in order. Bars separate them, and nothing is copied.
 #[derive(Drop)]
-pub(crate) struct Values<'a> {
+pub struct Values<'a> {
     left: Option<&'a [u8]>,
 }
 
@@ -21,14 +21,14 @@ impl<'a> Model for Values<'a> {
 
 impl<'a> Values<'a> {
     /// The values of a line.
-    pub(crate) fn of(line: &'a [u8]) -> Values<'a>
+    pub fn of(line: &'a [u8]) -> Values<'a>
         ensures { result ≡ values_of line.now }
     {
         Values { left: Some(line) }
     }
 
     /// Takes the next value, if there is one left.
-    pub(crate) fn take(&mut self) -> Option<&'a [u8]>
+    pub fn take(&mut self) -> Option<&'a [u8]>
         ensures value { option_map (λ value. value.now) result ≡ slice_get self.old 0 }
         ensures rest { self.new ≡ drop 1 self.old }
     {
@@ -48,7 +48,7 @@ impl<'a> Values<'a> {
     }
 
     /// The one value that is left, where it is just one.
-    pub(crate) fn one(mut self) -> Option<&'a [u8]>
+    pub fn one(mut self) -> Option<&'a [u8]>
         ensures { option_map (λ a. a.now) result ≡ as_one self.entry }
     {
         let a = self.take()?;
@@ -59,7 +59,7 @@ impl<'a> Values<'a> {
     }
 
     /// The two values that are left, where they are just two.
-    pub(crate) fn two(mut self) -> Option<(&'a [u8], &'a [u8])>
+    pub fn two(mut self) -> Option<(&'a [u8], &'a [u8])>
         ensures { option_map (λ v. (v.0.now, v.1.now)) result ≡ as_two self.entry }
     {
         let a = self.take()?;
@@ -71,7 +71,7 @@ impl<'a> Values<'a> {
     }
 
     /// The three values that are left, where they are just three.
-    pub(crate) fn three(mut self) -> Option<(&'a [u8], &'a [u8], &'a [u8])>
+    pub fn three(mut self) -> Option<(&'a [u8], &'a [u8], &'a [u8])>
         ensures { option_map (λ v. (v.0.now, v.1.now, v.2.now)) result ≡ as_three self.entry }
     {
         let a = self.take()?;
@@ -84,7 +84,7 @@ impl<'a> Values<'a> {
     }
 
     /// The four values that are left, where they are just four.
-    pub(crate) fn four(mut self) -> Option<(&'a [u8], &'a [u8], &'a [u8], &'a [u8])>
+    pub fn four(mut self) -> Option<(&'a [u8], &'a [u8], &'a [u8], &'a [u8])>
         ensures { option_map (λ v. (v.0.now, v.1.now, v.2.now, v.3.now)) result ≡ as_four self.entry }
     {
         let a = self.take()?;

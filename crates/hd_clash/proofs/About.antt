@@ -60,8 +60,8 @@ of_action k d (action.OffLine p c due) tie = of_copy k (action.OffLine p c due) 
 of_action k d (action.Checkin c b) tie = (of_copy k (action.Checkin c b) c refl, number_self b)
 of_action k d (action.Add p t kind pickup expiry) tie = of_title k (action.Add p t kind pickup expiry) t refl
 of_action k d (action.Delete p t) tie = (of_title k (action.Delete p t) t refl, of_its_copy k d p t tie)
-of_action k d (action.ChangeHold p t kind pickup expiry) tie = of_title k (action.ChangeHold p t kind pickup expiry) t refl
-of_action k d (action.Renew p c) tie = of_copy k (action.Renew p c) c refl
+of_action k d (action.Change p t kind pickup expiry) tie = of_title k (action.Change p t kind pickup expiry) t refl
+of_action k d (action.Renewal p c) tie = of_copy k (action.Renewal p c) c refl
 
 pub questions_of_command : (k : Facts) (d : Desk) (n : ℕ) (command : Command) (q : Question) → Tie k d
     → IsAmong q (asks k d (plan k n command)) → IsOfCommand k command q

@@ -56,8 +56,8 @@ OfAction P k d (action.OffLine p c due) = OfCopy P k c
 OfAction P k d (action.Checkin c b) = OfCopy P k c × P (Place b)
 OfAction P k d (action.Add p t kind pickup expiry) = OfTitle P t
 OfAction P k d (action.Delete p t) = OfTitle P t × OfItsCopy P k (d.hold t p)
-OfAction P k d (action.ChangeHold p t kind pickup expiry) = OfTitle P t
-OfAction P k d (action.Renew p c) = OfCopy P k c
+OfAction P k d (action.Change p t kind pickup expiry) = OfTitle P t
+OfAction P k d (action.Renewal p c) = OfCopy P k c
 
 asked : {P : Question → Type 0} {k : Facts} {d : Desk} {q : Question} {rest : AnswerTo q → Plan} → P q
     → ((a : AnswerTo q) → answer k d q ≡ a → Asked P k d (rest a)) → Asked P k d (Ask q rest)
@@ -208,9 +208,9 @@ plan_asks P k d n day (action.Checkin c b) of = checkin_asks P k d n c b day of.
 plan_asks P k d n day (action.Add p t kind pickup expiry) of = asked (of.hold p) (λ old told. add_asks P k d n _ t day old of)
 plan_asks P k d n day (action.Delete p t) of =
     asked (of.0.hold p) (λ old told. delete_asks P k d n t p day old (its_copy P k (d.hold t p) old told of.1))
-plan_asks P k d n day (action.ChangeHold p t kind pickup expiry) of =
+plan_asks P k d n day (action.Change p t kind pickup expiry) of =
     asked (of.hold p) (λ old told. change_asks P k d n t p kind pickup expiry day old of)
-plan_asks P k d n day (action.Renew p c) of = asked of.value (λ old told. renew_asks P k d n p c day old of)
+plan_asks P k d n day (action.Renewal p c) of = asked of.value (λ old told. renew_asks P k d n p c day old of)
 
 each_asked : (P : Question → Type 0) (k : Facts) (d : Desk) (p : Plan) (q : Question) → AllAsked P k d p → IsAmong q (asks k d p) → P q
 each_asked P k d (Ask x rest) q h (inl e) = subst P (sym e) h.0

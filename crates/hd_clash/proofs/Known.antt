@@ -34,8 +34,8 @@ of_action k d (action.Checkin c b) range desk known = (of_copy k c range known.0
 of_action k d (action.Add p t kind pickup expiry) range desk known = of_title k t known.1
 of_action k d (action.Delete p t) range desk known =
     (of_title k t known.1, of_its_copy k (d.hold t p) range (desk.holds t p known.1 known.0))
-of_action k d (action.ChangeHold p t kind pickup expiry) range desk known = of_title k t known.1
-of_action k d (action.Renew p c) range desk known = of_copy k c range known.1
+of_action k d (action.Change p t kind pickup expiry) range desk known = of_title k t known.1
+of_action k d (action.Renewal p c) range desk known = of_copy k c range known.1
 
 each_known : (k : Facts) (d : Desk) (qs : List Question) → ((q : Question) → IsAmong q qs → IsKnownQuestion k q)
     → EachQuestionIsKnown k (findings k d qs)

@@ -21,8 +21,8 @@ keys_of_action k (action.OffLine p c due) = title_alone (k.title_of c)
 keys_of_action k (action.Checkin c b) = record { title = k.title_of c; patron = None; branch = Some b }
 keys_of_action k (action.Add p t kind pickup expiry) = title_alone t
 keys_of_action k (action.Delete p t) = title_alone t
-keys_of_action k (action.ChangeHold p t kind pickup expiry) = title_alone t
-keys_of_action k (action.Renew p c) = title_alone (k.title_of c)
+keys_of_action k (action.Change p t kind pickup expiry) = title_alone t
+keys_of_action k (action.Renewal p c) = title_alone (k.title_of c)
 
 -- what a command asks about
 abbrev pub keys_of_command : Facts → Command → CommandKeys

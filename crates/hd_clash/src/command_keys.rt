@@ -53,12 +53,12 @@ impl CommandKeys {
                 patron: None,
                 branch: Some(*branch),
             },
-            Action::OffLine { copy, .. } | Action::Renew { copy, .. } => {
+            Action::OffLine { copy, .. } | Action::Renewal { copy, .. } => {
                 CommandKeys::title_alone(catalogue.title_of(*copy))
             }
             Action::Add { title, .. }
             | Action::Delete { title, .. }
-            | Action::ChangeHold { title, .. } => CommandKeys::title_alone(*title),
+            | Action::Change { title, .. } => CommandKeys::title_alone(*title),
         }
     }
 

@@ -1,6 +1,6 @@
 //! Commands, as they are put together.
 
-use clap::{Arg, Command};
+use clap::{Arg, ArgGroup, Command};
 use std::alloc::AllocError;
 
 /// A command that is put together. Want of memory may end that after each part, and drops what there is by
@@ -24,7 +24,7 @@ impl<'a> Building<'a> {
 
     /// Adds an option.
     ///
-    /// An error is want of memory.
+    /// It fails where it is out of memory.
     pub(crate) fn arg(self, arg: Arg<'a>) -> Result<Building<'a>, AllocError> {
         match self.into_command().arg(arg) {
             Ok(command) => Ok(Building { command }),
@@ -32,9 +32,19 @@ impl<'a> Building<'a> {
         }
     }
 
+    /// Adds a group of options.
+    ///
+    /// It fails where it is out of memory.
+    pub(crate) fn group(self, group: ArgGroup<'a>) -> Result<Building<'a>, AllocError> {
+        match self.into_command().group(group) {
+            Ok(command) => Ok(Building { command }),
+            Err(error) => Err(error),
+        }
+    }
+
     /// Adds a command below this one.
     ///
-    /// An error is want of memory.
+    /// It fails where it is out of memory.
     pub(crate) fn subcommand(self, below: Building<'a>) -> Result<Building<'a>, AllocError> {
         match self.into_command().subcommand(below.into_command()) {
             Ok(command) => Ok(Building { command }),

@@ -1,7 +1,33 @@
 //! What the help of `journal` says, and the views that it prints.
 
 /// What `journal` does, in a line.
-pub(crate) const JOURNAL_ABOUT: &str = "Checks a journal's file, or prints views of it for sqlite3";
+pub(crate) const JOURNAL_ABOUT: &str = "Begins a journal's file, checks it, or prints views of it";
+
+/// What `journal begin` does, in a line.
+pub(crate) const JOURNAL_BEGIN_ABOUT: &str = "Begins a journal's file, which isn't there yet";
+
+/// What `journal begin` does.
+pub(crate) const JOURNAL_BEGIN: &str = "Begins a journal's file, which isn't there yet
+
+The file is made, and its log beside it, FILE-wal: the two belong together. The journal is of the catalogue
+file that is given, by its SHA-256, and has no turns: its desk has every copy on the open shelf of its home,
+and no holds. `serve` and `journal check` never begin a journal, so that a mistake in a path isn't answered
+with an empty desk. Nothing that is there already is written over.
+
+With --library the catalogue is copied into that folder, as 0001.catalogue, and its journal is 0001.journal
+there.";
+
+/// An example of `journal begin`, and its exit statuses.
+pub(crate) const JOURNAL_BEGIN_EXAMPLE: &str = "Example:
+
+  $ holddesk journal begin --catalogue demonstration.catalogue --journal day.journal
+  begun: day.journal
+  $ holddesk serve --catalogue demonstration.catalogue --journal day.journal \\
+      --listen 127.0.0.1:6001 --workers 4
+
+Exit status: 0 well; 1 a fault, printed as one line (`there is a journal at FILE`, `there is a library in
+DIR`, and those of the catalogue and of a journal's file, which docs/operating.md has with what to do); 2 the
+command line was refused.";
 
 /// What `journal check` does, in a line.
 pub(crate) const JOURNAL_CHECK_ABOUT: &str =
@@ -35,42 +61,48 @@ pub(crate) const JOURNAL_VIEWS: &str = "Prints views of a journal's file, in SQL
 
 `surviving` has the commands that were done and not cancelled, `moved` those of them that lent, renewed or
 took back a copy, and `lent` the copies on loan: copy, patron, since which day, and until which day where
-that was told off line. A file is locked while `serve` has it open; read a copy of it, made after a stop.";
+that was told off line. With --opening they know the loans that the journal began with, of which they tell
+until which day and not since which. A file is locked while `serve` has it open; read a copy of it and its
+log, made after a stop.";
 
 /// An example of `journal views`.
 pub(crate) const JOURNAL_VIEWS_EXAMPLE: &str = "Example: who has the copy a1, and since when
 
   $ holddesk journal views > views.sql
-  $ sqlite3 -init views.sql day.journal \"SELECT patron, since FROM lent WHERE copy = 'a1'\"
+  $ cp day.journal copy.journal && cp day.journal-wal copy.journal-wal
+  $ sqlite3 -init views.sql copy.journal \"SELECT patron, since FROM lent WHERE copy = 'a1'\"
   p1|2026-03-01";
 
-/// The views. They are temporary, since a journal's file has two tables and nothing else.
+/// The views. They are temporary, since a journal's file has two tables and nothing else. They want a table
+/// `opened` of the loans that the journal began with: copy, patron and the day on which each is due.
 pub const VIEWS: &str = "\
 -- The commands that were done and not cancelled.
 CREATE TEMP VIEW surviving AS
-SELECT t.number, t.at, t.seat, t.terminal, t.day, t.act, t.patron, t.copy, t.title, t.branch, t.admits,
-  t.until
-FROM turn t
-WHERE t.outcome = 'done'
-  AND NOT EXISTS (SELECT 1 FROM turn c WHERE c.outcome = 'cancelled' AND c.number = t.number);
+SELECT number, at, seat, terminal, day, act, patron, copy, title, branch, admits, until
+FROM turn
+WHERE outcome = 'done' AND number NOT IN (SELECT number FROM turn WHERE outcome = 'cancelled');
 
--- Those of them that lent, renewed or took back a copy.
+-- Those of them that lent, renewed or took back a copy, behind the loans that the journal began with.
 CREATE TEMP VIEW moved AS
-SELECT number, copy, patron, day, until, act = 'checkin' AS is_return
+SELECT 0 AS number, copy, patron, NULL AS day, until, 0 AS is_return
+FROM opened
+UNION ALL
+SELECT number, copy, patron, day, until, act = 'checkin'
 FROM surviving
 WHERE act IN ('checkout', 'checkout or renewal', 'checkout off line', 'renewal', 'checkin');
 
--- The copies on loan: the last that moved such a copy wasn't a return. The loan began with the first command
--- after the last return, or after the last of another patron.
+-- The copies on loan. A loan, and a stay at home, begins with a copy's first command, with a return, and with
+-- one after a return or after one of another patron; the copy is on loan where the last such command is no
+-- return.
 CREATE TEMP VIEW lent AS
-SELECT l.copy, l.patron,
-  (SELECT f.day FROM moved f
-   WHERE f.copy = l.copy
-     AND f.number > COALESCE((SELECT max(b.number) FROM moved b
-                              WHERE b.copy = l.copy AND (b.is_return OR b.patron <> l.patron)), 0)
-   ORDER BY f.number LIMIT 1) AS since,
-  l.until
-FROM moved l
-WHERE NOT l.is_return
-  AND NOT EXISTS (SELECT 1 FROM moved n WHERE n.copy = l.copy AND n.number > l.number);
+WITH step AS (
+  SELECT number, copy, patron, day, is_return,
+    is_return OR lag(is_return, 1, 1) OVER earlier OR patron IS NOT lag(patron) OVER earlier AS begins
+  FROM moved
+  WINDOW earlier AS (PARTITION BY copy ORDER BY number)),
+begun AS (SELECT copy, patron, day AS since, is_return, max(number) FROM step WHERE begins GROUP BY copy),
+latest AS (SELECT copy, until, max(number) FROM moved GROUP BY copy)
+SELECT copy, patron, since, until
+FROM begun JOIN latest USING (copy)
+WHERE NOT is_return;
 ";

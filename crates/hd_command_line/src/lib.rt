@@ -2,13 +2,18 @@
 #![tactic(auto)]
 
 mod building;
+mod carry_texts;
 mod commands;
 mod journal_texts;
 mod options;
 mod orders;
 mod parsing;
+mod show_texts;
 mod texts;
 
 pub use crate::journal_texts::VIEWS;
-pub use crate::orders::{Check, Keeping, Order, Replay, Serve};
+pub use crate::orders::{
+    Carry, Check, JournalBegin, JournalCheck, JournalShow, JournalViews, LibraryFiles, Listing,
+    Order, Place, Replay, Serve,
+};
 pub use crate::parsing::parse;

@@ -47,14 +47,11 @@ pub(crate) fn idle<'a>(alloc: Global) -> Arg<'a> {
 }
 
 /// The option that has the journal's file synced twice a turn.
-///
-/// An error is want of memory.
-pub(crate) fn wary<'a>(alloc: Global) -> Result<Arg<'a>, AllocError> {
+pub(crate) fn wary<'a>(alloc: Global) -> Arg<'a> {
     Arg::new(alloc, "journal-wary")
         .long("journal-wary")
         .help("Sync the journal's file twice a turn, for disks that may tear a write")
         .action(ArgAction::SetTrue)
-        .requires_arg("journal")
 }
 
 /// The option of the present.
@@ -67,12 +64,43 @@ pub(crate) fn now<'a>(alloc: Global) -> Arg<'a> {
         .action(ArgAction::Set)
 }
 
+/// The option of a library's folder, in the place of its files.
+///
+/// It fails where it is out of memory.
+pub(crate) fn library<'a>(alloc: Global) -> Result<Arg<'a>, AllocError> {
+    Ok(folder(alloc)?.conflicts_with("catalogue")?)
+}
+
+/// The option of a library's folder.
+///
+/// It fails where it is out of memory.
+pub(crate) fn folder<'a>(alloc: Global) -> Result<Arg<'a>, AllocError> {
+    Arg::new(alloc, "library")
+        .long("library")
+        .value_name("DIR")
+        .help("The folder of a library's numbered files, of which the last complete ones are meant")
+        .action(ArgAction::Set)
+        .conflicts_with("opening")?
+        .conflicts_with("journal")
+}
+
+/// The option of the opening file.
+pub(crate) fn opening<'a>(alloc: Global) -> Arg<'a> {
+    Arg::new(alloc, "opening")
+        .long("opening")
+        .value_name("FILE")
+        .help(
+            "The file of how the journal begins, which `carry` has written; without it each copy is at home",
+        )
+        .action(ArgAction::Set)
+}
+
 /// The option of the journal's file.
 pub(crate) fn journal<'a>(alloc: Global) -> Arg<'a> {
     Arg::new(alloc, "journal")
         .long("journal")
         .value_name("FILE")
-        .help("The SQLite file of the journal, which outlives a stop")
+        .help("The SQLite file of the journal, which outlives a stop; its log is FILE-wal")
         .action(ArgAction::Set)
 }
 
@@ -92,6 +120,37 @@ pub(crate) fn catalogue<'a>(alloc: Global) -> Arg<'a> {
         .long("catalogue")
         .value_name("FILE")
         .help("The file of the library's branches, terminals, patrons, titles and copies")
+        .action(ArgAction::Set)
+}
+
+/// The option of the new catalogue file.
+pub(crate) fn to<'a>(alloc: Global) -> Arg<'a> {
+    Arg::new(alloc, "to")
+        .long("to")
+        .value_name("FILE")
+        .help("The new catalogue file, which may be the old one")
         .required(true)
+        .action(ArgAction::Set)
+}
+
+/// The option of the opening file that is to be.
+///
+/// It fails where it is out of memory.
+pub(crate) fn into<'a>(alloc: Global) -> Result<Arg<'a>, AllocError> {
+    Arg::new(alloc, "into")
+        .long("into")
+        .value_name("FILE")
+        .help("The opening file to write, which isn't there yet")
+        .action(ArgAction::Set)
+        .conflicts_with("library")?
+        .required_unless_present("library")
+}
+
+/// The option of the copies whose loans are dropped.
+pub(crate) fn write_off<'a>(alloc: Global) -> Arg<'a> {
+    Arg::new(alloc, "write-off")
+        .long("write-off")
+        .value_name("FILE")
+        .help("A file with a copy's name in each line: the loans of these are dropped, and told")
         .action(ArgAction::Set)
 }

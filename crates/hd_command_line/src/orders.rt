@@ -3,30 +3,56 @@
 /// What the program is asked to do.
 #[derive(Clone, Copy)]
 pub enum Order<'a> {
-    /// To tell what a catalogue file says.
+    /// To tell what a library's files say.
     Check(Check<'a>),
     /// To answer the messages of its input.
     Replay(Replay<'a>),
     /// To serve terminals.
     Serve(Serve<'a>),
+    /// To carry a library over to another catalogue.
+    Carry(Carry<'a>),
+    /// To begin a journal's file.
+    JournalBegin(JournalBegin<'a>),
     /// To check a journal's file.
-    JournalCheck(Keeping<'a>),
+    JournalCheck(JournalCheck<'a>),
+    /// To list what is at the desk of a journal's file.
+    JournalShow(JournalShow<'a>),
     /// To print views of a journal's file.
-    JournalViews,
+    JournalViews(JournalViews<'a>),
+}
+
+/// Where a library lies.
+#[derive(Clone, Copy)]
+pub enum Place<'a> {
+    /// In files that are named one by one.
+    Files(LibraryFiles<'a>),
+    /// In a folder of numbered files, of which the last complete ones are meant.
+    Folder(&'a str),
+}
+
+/// The files of a library, by their paths.
+#[derive(Clone, Copy)]
+pub struct LibraryFiles<'a> {
+    /// The catalogue file.
+    pub catalogue: &'a str,
+    /// The opening file, where the journal doesn't begin with each copy at home.
+    pub opening: Option<&'a str>,
+    /// The journal's file, where it is kept in one.
+    pub journal: Option<&'a str>,
 }
 
 /// What `check` is asked to do.
 #[derive(Clone, Copy)]
 pub struct Check<'a> {
-    /// The path of the catalogue file.
-    pub catalogue: &'a str,
+    /// Which library it is.
+    pub library: Place<'a>,
 }
 
 /// What `replay` is asked to do.
 #[derive(Clone, Copy)]
 pub struct Replay<'a> {
-    /// The path of the catalogue file.
-    pub catalogue: &'a str,
+    /// Which library it is.
+    pub library: LibraryFiles<'a>,
     /// The stamp that is to be the present.
     pub now: &'a str,
 }
@@ -34,8 +60,8 @@ pub struct Replay<'a> {
 /// What `serve` is asked to do.
 #[derive(Clone, Copy)]
 pub struct Serve<'a> {
-    /// The path of the catalogue file.
-    pub catalogue: &'a str,
+    /// Which library it is.
+    pub library: Place<'a>,
     /// The address and port to listen at.
     pub listen: &'a str,
     /// How many connections are served at once.
@@ -44,34 +70,76 @@ pub struct Serve<'a> {
     pub connections: u32,
     /// After how many idle seconds a connection is dropped; 0: never.
     pub idle: u32,
-    /// The path of the file that the journal is kept in, if it is.
-    pub journal: Option<&'a str>,
-    /// Whether each turn is synced twice there.
+    /// Whether each turn is synced twice in the journal's file.
     pub is_wary: bool,
-    /// Whether a journal that was written with another catalogue is accepted.
-    pub is_other_accepted: bool,
-}
-
-impl<'a> Serve<'a> {
-    /// How the journal is kept in a file, if it is.
-    pub fn keeping(&self) -> Option<Keeping<'a>> {
-        let journal = self.journal?;
-        Some(Keeping {
-            catalogue: self.catalogue,
-            journal,
-            is_other_accepted: self.is_other_accepted,
-        })
-    }
-}
-
-/// In which file a journal is kept, and what is accepted of it.
-#[derive(Clone, Copy)]
-pub struct Keeping<'a> {
-    /// The path of the catalogue file.
-    pub catalogue: &'a str,
-    /// The path of the journal's file.
-    pub journal: &'a str,
     /// Whether a journal that was written with another catalogue is accepted, where each of its turns is
     /// answered the same with this one.
     pub is_other_accepted: bool,
+}
+
+/// What `carry` is asked to do.
+#[derive(Clone, Copy)]
+pub struct Carry<'a> {
+    /// Which library it is.
+    pub library: Place<'a>,
+    /// The path of the new catalogue file.
+    pub to: &'a str,
+    /// The path of the opening file that is to be, where the library isn't in a folder.
+    pub into: Option<&'a str>,
+    /// The path of the file of copies whose loans are dropped, if there is one.
+    pub write_off: Option<&'a str>,
+}
+
+/// What `journal begin` is asked to do.
+#[derive(Clone, Copy)]
+pub struct JournalBegin<'a> {
+    /// The catalogue and, where it has one, its opening.
+    pub library: LibraryFiles<'a>,
+    /// The folder that the catalogue and the journal are to lie in, where they are to be numbered.
+    pub folder: Option<&'a str>,
+}
+
+/// What `journal check` is asked to do.
+#[derive(Clone, Copy)]
+pub struct JournalCheck<'a> {
+    /// Which library it is.
+    pub library: Place<'a>,
+    /// Whether a journal that was written with another catalogue is accepted, where each of its turns is
+    /// answered the same with this one.
+    pub is_other_accepted: bool,
+}
+
+/// What `journal show` is asked to do.
+#[derive(Clone, Copy)]
+pub struct JournalShow<'a> {
+    /// Which library it is.
+    pub library: Place<'a>,
+    /// What is to be listed.
+    pub listing: Listing<'a>,
+    /// Whether it is to be JSON.
+    pub is_json: bool,
+}
+
+/// What `journal views` is asked to do.
+#[derive(Clone, Copy)]
+pub struct JournalViews<'a> {
+    /// The path of the opening file that the journal begins with, where it begins with one.
+    pub opening: Option<&'a str>,
+}
+
+/// What of a desk is to be listed.
+#[derive(Clone, Copy)]
+pub enum Listing<'a> {
+    /// All copies.
+    Copies,
+    /// The queue of the title with this name.
+    Queue(&'a str),
+    /// The hold shelf of the branch with this name.
+    Shelf(&'a str),
+    /// The copies that are on their way.
+    Transits,
+    /// The loans that were due before this day.
+    Overdue(&'a str),
+    /// The holds whose last day was before this day.
+    Expired(&'a str),
 }

@@ -79,7 +79,9 @@ connections share one desk. `holddesk replay --help` says what a session may ask
 When the port is bound, a line on standard error says so, with the port that the system gave where 0 was
 asked for. The desk is kept in memory, and a stop loses it: the next start begins with the catalogue. With
 --journal each turn that changes something is written to that file before it is answered, and the next start
-goes on where the last one stopped; `holddesk journal --help` says what else there is for such a file.";
+goes on where the last one stopped. `holddesk journal begin` makes such a file: one that isn't there is a
+fault here. `holddesk journal --help` says what else there is for it. With --library the catalogue and the
+journal are those of a folder, which `holddesk journal begin --library` makes.";
 
 /// An example of `serve`, and its exit statuses.
 pub(crate) const SERVE_EXAMPLE: &str =

@@ -42,8 +42,8 @@ impl Output for &mut [u8] {
     }
 }
 
-/// Writing to a vector fails where it has no room for the bytes and gets none, out of memory. Of a vector alone
-/// that says nothing, since for each there are bytes that are too many; `full` says it of the bytes.
+/// Writing to a vector fails where it has no room for the bytes and gets none, out of memory. Of a vector
+/// alone that says nothing, since for each there are bytes that are too many; `full` says it of the bytes.
 impl<A: Allocator> Output for Vec<u8, A> {
     ghost fails = { λ _. ⊤ };
 

@@ -4,6 +4,7 @@ use Rattle.std.proofs.Common.{◌∙◌, inl, inr, arith, eq-eqb}
 use mir.Val.{bool_byte}
 use Rattle.std.proofs.lemmas.Bool.{cases_lt, ne_eqb}
 use Rattle.std.proofs.lemmas.Bool.Decides.{nat_tests}
+use Rattle.std.specs.Prelude.{MatchOption}
 use Rattle.std.specs.List.{slice_get}
 use Rattle.std.specs.FinMap.{get}
 use Rattle.hd_rules.specs.declared.holds.HoldKind.{HoldKind}
@@ -20,7 +21,7 @@ use Rattle.hd_loans.specs.Counts.{is_loan_to, loans_of}
 use Rattle.hd_lemmas.proofs.Counts.{one, count_below-changed, count_below-none, count_below-same}
 use Rattle.hd_stock.specs.Counts.{of_home, of_title}
 use Rattle.hd_copies.specs.IndexesValue.{IndexesValue}
-use Rattle.hd_copies.specs.Standing.{AreStates, stands_ready, state_in}
+use Rattle.hd_copies.specs.Standing.{AreStates, IsFree, StandsAt, stands_ready, state_in}
 use Rattle.hd_copies.specs.Indexing.{copy_at, is_placed, is_on_open_shelf, loan_of, no_shelf, shelf_count}
 use Rattle.hd_copies.specs.Keeping.{AreKept}
 use Rattle.hd_copies.proofs.Moving.{found_in}
@@ -110,6 +111,23 @@ least-is law k states x d b f kept l e is = (law k d b f).0 (record { from_one =
         let taken = some_number (copy_at x.shelves b g) (is.least g from below) in
         let there = placed_in k states taken.0 b g kept.fit (kept.indexed.shelves.stands b g taken.0 taken.1) in
         (taken.0, there.0, (λ i. stands_at b g (e i taken.0)) ∙ there.1)
+
+-- the copy at a place, or none
+pub at-is : (k : Facts) (states : List CopyState) (x : IndexesValue) (b q : ℕ) (o : Option ℕ) → AreKept k states x →
+    b < k.branches → o ≡ copy_at x.shelves b q →
+    MatchOption o (IsFree k (state_in states) b q) (StandsAt k (state_in states) b q)
+at-is k states x b q (Some c) kept l is =
+    let there = placed_in k states c b q kept.fit (kept.indexed.shelves.stands b q c (sym is)) in
+    record { known = there.0; there = there.1 }
+at-is k states x b q None kept l is = λ c in_c. by_test c in_c (stands_at b q (state_in states c)) refl
+  where
+    by_test : (c : ℕ) → c < k.copies → (t : Bool) → stands_at b q (state_in states c) ≡ t → t ≡ false
+    by_test c in_c true stands = absurd (
+        let placed : is_placed b q (slice_get states c) ≡ true =
+        ap (is_placed b q) (found_in states c (omega (arith, kept.fit.copies))) ∙ stands in
+        let some : copy_at x.shelves b q ≡ Some c = kept.indexed.shelves.found b q c l placed in
+        let no : None ≡ Some c = is ∙ some in let never : ⊥ = cc in never)
+    by_test c in_c false stands = refl
 
 -- a test as a number
 pub bit-one : (b : Bool) → bool_byte b ≡ one b

@@ -1,5 +1,5 @@
 -- Where copies are and may go.
-use Rattle.std.specs.Prelude.{◌≡◌, ◌≢◌, ℕ, ◌<◌, ◌≤◌, Bool, false, ◌==◌, ◌&&◌, nat_lt, List, length, get_or}
+use Rattle.std.specs.Prelude.{◌≡◌, ◌≢◌, ℕ, ◌<◌, ◌≤◌, Bool, true, false, ◌==◌, ◌&&◌, nat_lt, List, length, get_or}
 use Rattle.std.specs.Prelude.{slice_index}
 use Rattle.hd_rules.specs.declared.copies.HoldPlace.{HoldPlace}
 use Rattle.hd_rules.specs.declared.copies.CopyState.{CopyState}
@@ -41,6 +41,15 @@ HasRoom rooms (InTransit t) = Unit {0}
 pub record IsAlone (k : Facts) (copies : ℕ → CopyState) (c : ℕ) (s : HoldPlace) : Type 0 where
   pub from_one : 1 ≤ s.place
   pub alone : (x : ℕ) → x < k.copies → x ≢ c → stands_at s.branch s.place (copies x) ≡ false
+
+-- the copy, one of the catalogue, stands at this place of the branch's hold shelf
+pub record StandsAt (k : Facts) (copies : ℕ → CopyState) (b place c : ℕ) : Type 0 where
+  pub known : c < k.copies
+  pub there : stands_at b place (copies c) ≡ true
+
+-- and none does
+abbrev pub IsFree : Facts → (ℕ → CopyState) → ℕ → ℕ → Type 0
+IsFree k copies b place = (c : ℕ) → c < k.copies → stands_at b place (copies c) ≡ false
 
 -- a copy that goes to a hold shelf has its place alone
 abbrev pub IsWelcome : Facts → (ℕ → CopyState) → ℕ → CopyState → Type 0

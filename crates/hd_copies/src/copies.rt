@@ -1,7 +1,7 @@
 //! The copies.
 #![tactic(auto, unfolding(crate::specs::Standing::standing))]
 
-ghost use Rattle.std.specs.Prelude.{◌≡◌, ℕ, ◌<◌, ◌==◌, IfOk, OnOk, OnErr, if◌then◌else◌};
+ghost use Rattle.std.specs.Prelude.{◌≡◌, ℕ, ◌<◌, ◌==◌, IfOk, MatchOption, OnOk, OnErr, if◌then◌else◌};
 ghost use Rattle.std.specs.Arc.{arc_value};
 ghost use Rattle.hd_rules.specs.declared.copies.CopyState.{CopyState};
 ghost use Rattle.hd_rules.specs.declared.copies.CopyState.TheVariants.{Shelf};
@@ -12,8 +12,8 @@ ghost use Rattle.hd_rules.specs.Find.{place};
 ghost use Rattle.hd_rules.specs.Known.{IsKnownState};
 ghost use Rattle.hd_rules.specs.Sound.{PlacesFit};
 ghost use Rattle.hd_catalogue.specs.Contents.{facts_of};
-ghost use Rattle.hd_copies.specs.Standing.{AreAtHome, HasRoom, IsFromOne, IsWelcome, facts, standing};
-ghost use Rattle.hd_copies.specs.Standing.{stands_ready};
+ghost use Rattle.hd_copies.specs.Standing.{AreAtHome, HasRoom, IsFree, IsFromOne, IsWelcome, StandsAt, facts};
+ghost use Rattle.hd_copies.specs.Standing.{standing, stands_ready};
 
 use crate::indexes::Indexes;
 use hd_catalogue::Catalogue;
@@ -141,6 +141,15 @@ impl<A: Allocator + Copy> Copies<A> {
     {
         place_is_the_least_free();
         self.indexes.shelves[branch.number() as usize].least_free()
+    }
+
+    /// The copy that stands at this place of the branch's hold shelf, or `None` where none does.
+    pub fn at(&self, branch: BranchNo, place: u32) -> Option<CopyNo>
+        requires { branch < (facts self.now).branches }
+        ensures { MatchOption result (IsFree (facts self.now) (standing self.now) branch place)
+            (StandsAt (facts self.now) (standing self.now) branch place) }
+    {
+        self.indexes.shelves[branch.number() as usize].at(place)
     }
 
     /// How many copies of the title that a hold of this kind and pickup admits stand on open shelves.

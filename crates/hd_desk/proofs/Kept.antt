@@ -1,12 +1,12 @@
 -- What stays true of a desk.
-use Rattle.std.proofs.Common.{◌≡◌, refl, sym, subst, ℕ, Bool, true, false, cond, ◌==◌, ◌&&◌, Option, None}
+use Rattle.std.proofs.Common.{◌≡◌, sym, subst, ℕ, Bool, true, false, cond, ◌==◌, ◌&&◌, Option}
 use Rattle.hd_rules.specs.declared.holds.Hold.{Hold}
 use Rattle.hd_rules.specs.declared.copies.CopyState.{CopyState}
 use Rattle.hd_rules.specs.declared.cells.Cell.{Cell}
 use Rattle.hd_rules.specs.declared.cells.Cell.TheVariants.{Copy as CopyCell, Hold as HoldCell}
 use Rattle.hd_rules.specs.declared.cells.Value.{Value}
 use Rattle.hd_rules.specs.declared.cells.Value.TheVariants.{Copy as CopyHas, Hold as HoldHas}
-use Rattle.hd_rules.specs.Facts.{Facts, AreInRange, first_number}
+use Rattle.hd_rules.specs.Facts.{Facts, AreInRange}
 use Rattle.hd_rules.specs.Desk.{Desk, at_home, put}
 use Rattle.hd_rules.specs.Known.{IsKnownDesk, IsKnownHeld, IsKnownState, IsKnownValue}
 use Rattle.hd_rules.specs.Sound.{IsFit, Sound}
@@ -16,15 +16,7 @@ use Rattle.hd_copies.specs.Standing.{standing}
 use Rattle.hd_holds.specs.HoldsValue.{HoldsValue}
 use Rattle.hd_holds.specs.Held.{patron_hold}
 use Rattle.hd_desk.specs.DeskValue.{DeskValue}
-use Rattle.hd_desk.specs.Desks.{IsKeptDesk, Opens, contents, desk_of, facts}
-
--- the desk with each copy at home is sound
-pub sound-opening : (k : Facts) (n : ℕ) → Sound k n (at_home k.home)
-sound-opening k n = record {
-  holds = record { named = λ t p h e. cc; stamped = λ t p h e. cc; apart = λ t p q g h e f same. cc };
-  places = record { from_one = λ c s e. cc; apart = λ x y s r in_x in_y e f branch place. cc };
-  tie = record { tied = λ t p c b h. absurd h; has = λ p c b h. absurd h };
-}
+use Rattle.hd_desk.specs.Desks.{IsKeptDesk, contents, desk_of, facts}
 
 pub kept-opening : (k : Facts) → AreInRange k → IsKeptDesk k (at_home k.home)
 kept-opening k range = record {
@@ -84,16 +76,3 @@ kept-put d e cell v same desk known fit kept =
     record { range = kept.range; known = known-put (facts d) (desk_of d) cell v known kept.known; fit = fit } in
     subst (λ (x : Desk). IsKeptDesk (facts e) x) (sym desk)
     (subst (λ (x : Contents). IsKeptDesk (facts_of x) (put (desk_of d) cell v)) (sym same) here)
-
--- each journal is its library's first: it opens with each copy at home
-pub opening-home : (x : Contents) → (facts_of x).opening.desk ≡ at_home (facts_of x).home
-unfolding facts_of
-opening-home x = refl
-
-pub opens : (x : Contents) → AreInRange (facts_of x) → Opens (facts_of x)
-opens x range =
-    let k : Facts = facts_of x in
-    record {
-      sound = subst (Sound k (first_number k)) (sym (opening-home x)) (sound-opening k (first_number k));
-      known = subst (IsKnownDesk k) (sym (opening-home x)) (kept-opening k range).known;
-    }

@@ -4,3 +4,4 @@ pub mod Writing
 pub mod Making
 pub mod Planned
 pub mod TakenBack
+pub mod Telling

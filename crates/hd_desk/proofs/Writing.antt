@@ -31,7 +31,7 @@ here c s v = rw (eq-eqb c c refl) refl
 there : (c x : ℕ) (s v : CopyState) → (c == x) ≡ false → cond (c == x) s v ≡ v
 there c x s v other = rw other refl
 
-at-place : (b place : ℕ) (v : CopyState) → stands_at b place v ≡ true → (r : HoldPlace) × (v ≡ OnHoldShelf r) × (b ≡ r.branch)
+pub at-place : (b place : ℕ) (v : CopyState) → stands_at b place v ≡ true → (r : HoldPlace) × (v ≡ OnHoldShelf r) × (b ≡ r.branch)
     × (place ≡ r.place)
 at-place b place (OnHoldShelf r) is =
     (r, refl, sym (eqb-true r.branch b (and_parts _ _ is).0), sym (eqb-true r.place place (and_parts _ _ is).1))

@@ -1,5 +1,5 @@
 -- How a plan is followed at a desk, question by question.
-use Rattle.std.specs.Prelude.{◌≡◌, ℕ, Option, None, Some, Result, Ok}
+use Rattle.std.specs.Prelude.{◌≡◌, ℕ, ◌<◌, ◌≤◌, Option, None, Some, Result, Ok}
 use Rattle.std.specs.Prelude.{Err, List, [], ◌∷◌, ◌++◌, map}
 use Rattle.hd_rules.specs.declared.questions.Question.{Question}
 use Rattle.hd_rules.specs.declared.holds.Hold.{Hold}
@@ -11,6 +11,7 @@ use Rattle.hd_rules.specs.Desk.{Desk}
 use Rattle.hd_rules.specs.Ask.{Plan, Ask, Refuse, Accept, Done, answer}
 use Rattle.hd_rules.specs.Known.{IsKnownQuestion}
 use Rattle.hd_queue.specs.Holds.{HasPatronsOnce, IsInOrder, hold_of}
+use Rattle.hd_holds.specs.Held.{queue_of}
 use Rattle.hd_desk.specs.DeskValue.{DeskValue}
 use Rattle.hd_desk.specs.Desks.{facts, desk_of}
 
@@ -48,3 +49,12 @@ pub record IsQueueOf (k : Facts) (d : Desk) (t : ℕ) (holds : List Hold) : Type
   pub each : (p : ℕ) → d.hold t p ≡ hold_of holds p
   pub ordered : IsInOrder holds
   pub once : HasPatronsOnce holds
+
+-- Each title's holds in order of stamp. Past the last title nobody has a hold.
+pub record AreQueuesOf (k : Facts) (d : Desk) (queues : ℕ → List Hold) : Type 0 where
+  pub queue : (t : ℕ) → t < k.titles → IsQueueOf k d t (queues t)
+  pub past : (t p : ℕ) → k.titles ≤ t → d.hold t p ≡ None
+
+-- the holds of each title, as the desk has them
+unfoldable pub queues_of : DeskValue → ℕ → List Hold
+queues_of d t = (queue_of d.holds.queues t).holds

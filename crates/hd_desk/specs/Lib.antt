@@ -6,4 +6,5 @@ pub mod Cells
 pub mod DoneValue
 pub mod Telling
 pub mod Rooms
+pub mod Rows
 pub mod Laws

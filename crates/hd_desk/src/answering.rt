@@ -3,7 +3,7 @@
 
 ghost use Rattle.std.specs.Prelude.{◌≡◌, ◌<◌};
 ghost use Rattle.hd_rules.specs.Notes.{told_answer};
-ghost use Rattle.hd_desk.specs.Asking.{IsQueueOf};
+ghost use Rattle.hd_desk.specs.Asking.{AreQueuesOf, IsQueueOf, queues_of};
 ghost use Rattle.hd_rules.specs.Find.{choice, place};
 ghost use Rattle.hd_rules.specs.Choose.{loans, on_shelf, position};
 ghost use Rattle.hd_rules.specs.Known.{IsKnownHeld, IsKnownQuestion};
@@ -42,10 +42,19 @@ impl<A: Allocator + Copy> Desk<A> {
         }
     }
 
+    /// How many titles there are, each with its queue.
+    pub fn titles(&self) -> usize
+        ensures count { result ≡ (facts self.now).titles }
+        ensures queues { AreQueuesOf (facts self.now) (desk_of self.now) (queues_of self.now) }
+    {
+        self.holds.titles()
+    }
+
     /// The title's queue.
     pub fn queue(&self, title: TitleNo) -> QueueView<'_>
         requires { title < (facts self.now).titles }
-        ensures { IsQueueOf (facts self.now) (desk_of self.now) title result }
+        ensures queue { IsQueueOf (facts self.now) (desk_of self.now) title result }
+        ensures value { result ≡ queues_of self.now title }
     {
         self.holds.view(title)
     }

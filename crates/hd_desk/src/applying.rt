@@ -144,7 +144,7 @@ impl<'a, A: Allocator + Copy> Inquiry<'a, A> {
                 let held = self.hold(title, patron);
                 self.delete(number, title, patron, day, &held)
             }
-            Action::ChangeHold {
+            Action::Change {
                 patron,
                 title,
                 kind,
@@ -159,7 +159,7 @@ impl<'a, A: Allocator + Copy> Inquiry<'a, A> {
                 let held = self.hold(title, patron);
                 self.change(number, title, patron, &wishes, day, &held)
             }
-            Action::Renew { patron, copy } => {
+            Action::Renewal { patron, copy } => {
                 let message = Lending {
                     number,
                     patron,

@@ -54,6 +54,19 @@ impl<A: Allocator + Copy> Cells for Desk<A> {
 }
 
 impl<A: Allocator + Copy> Desk<A> {
+    /// The cell gets this value, once there is room for it. Want of memory changes no cell.
+    pub(crate) fn fill(&mut self, cell: Cell, value: Value) -> Result<(), AllocError>
+        requires known { MayHave (facts self.old) cell value }
+        requires fit { IsFit (facts self.old) (put (desk_of self.old) cell value) }
+        ensures ok { OnOk result (desk_of self.new ≡ put (desk_of self.old) cell value) }
+        ensures err { OnErr result (desk_of self.new ≡ desk_of self.old) }
+        ensures contents { contents self.new ≡ contents self.old }
+    {
+        self.ready_cell(&cell, &value, 1)?;
+        self.put(cell, value);
+        Ok(())
+    }
+
     /// Makes room for that many writes like this one. The end of a hold needs none, nor does the cell's own
     /// value.
     fn ready_cell(&mut self, cell: &Cell, value: &Value, more: usize) -> Result<(), AllocError>

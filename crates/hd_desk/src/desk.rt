@@ -1,20 +1,26 @@
 //! The desk.
 #![tactic(auto, unfolding(crate::specs::Desks::desk_of))]
 
-ghost use Rattle.std.specs.Prelude.{◌≡◌, ◌<◌, ◌≤◌, ℕ, IfOk};
+ghost use Rattle.std.specs.Prelude.{◌≡◌, ◌<◌, ◌≤◌, ℕ, [], IfErr, IfOk, OnOk};
 ghost use Rattle.std.specs.Arc.{arc_value};
+ghost use Rattle.hd_rules.specs.Desk.{at_home};
 ghost use Rattle.hd_rules.specs.Facts.{first_number};
 ghost use Rattle.hd_rules.specs.Known.{IsKnownHeld, IsKnownState};
 ghost use Rattle.hd_rules.specs.Sound.{Sound};
 ghost use Rattle.hd_rules.specs.Turns.{item_view};
 ghost use Rattle.hd_catalogue.specs.Contents.{facts_of};
+ghost use Rattle.hd_desk.specs.declared.open_fault.OpenFault.TheVariants.{Memory};
 ghost use Rattle.hd_desk.specs.Desks.{IsKeptDesk, Opens, contents, desk_of, facts};
+ghost use Rattle.hd_desk.specs.Rows.{IsRefused, RowsMayStand};
 
+use crate::open_fault::OpenFault;
 use hd_catalogue::Catalogue;
 use hd_copies::Copies;
 use hd_holds::Holds;
 use hd_queue::QueueView;
-use hd_rules::{CopyNo, CopyState, Hold, ItemView, PatronNo, TitleNo};
+use hd_rules::{
+    CopyNo, CopyState, Hold, ItemView, PatronNo, TitleNo, known_rows_tell_a_known_desk,
+};
 use std::alloc::{AllocError, Allocator, Global};
 use std::marker::Model;
 use std::sync::Arc;
@@ -54,21 +60,44 @@ impl<A: Allocator> Model for Desk<A> {
 }
 
 impl<A: Allocator + Copy> Desk<A> {
-    /// The desk that a catalogue's journal opens with: each copy at home, and no holds. It is sound, with the
-    /// first number that a command is given or any above it.
+    /// The desk that a catalogue's journal opens with: each copy at home and no holds, and then what the
+    /// catalogue's opening rows say, one after another. It is sound, with the first number that a command is
+    /// given or any above it.
     ///
     /// `inline` is never asked for memory: it stands in lists of at most four changes, which are kept in
     /// place.
+    ///
+    /// # Errors
+    /// `Row` for the first row that may not stand behind those before it, and why; `Memory`. Without rows it
+    /// can only be `Memory`.
     pub fn open(
         alloc: A,
         inline: Global,
         catalogue: Arc<Catalogue<A>, A>,
-    ) -> Result<Desk<A>, AllocError>
+    ) -> Result<Desk<A>, OpenFault>
         ensures contents { IfOk result (λ desk. contents desk ≡ arc_value catalogue) }
         ensures opening { IfOk result (λ desk. desk_of desk ≡ (facts_of (arc_value catalogue)).opening.desk) }
         ensures opens { IfOk result (λ desk. Opens (facts desk)) }
         ensures sound { IfOk result (λ desk. (n : ℕ) → first_number (facts desk) ≤ n
             → Sound (facts desk) n (desk_of desk)) }
+        ensures stand { OnOk result (RowsMayStand (arc_value catalogue)) }
+        ensures refused { IfErr result (IsRefused (arc_value catalogue)) }
+        ensures fresh { (arc_value catalogue).opening.rows ≡ [] → IfErr result (λ fault. fault ≡ Memory) }
+    {
+        known_rows_tell_a_known_desk();
+        let mut desk = Desk::at_home(alloc, inline, Arc::try_clone(&catalogue)?)?;
+        desk.put_rows(catalogue.opening())?;
+        Ok(desk)
+    }
+
+    /// Each copy at home, and no holds.
+    fn at_home(
+        alloc: A,
+        inline: Global,
+        catalogue: Arc<Catalogue<A>, A>,
+    ) -> Result<Desk<A>, AllocError>
+        ensures contents { IfOk result (λ desk. contents desk ≡ arc_value catalogue) }
+        ensures desk { IfOk result (λ desk. desk_of desk ≡ at_home (facts_of (arc_value catalogue)).home) }
     {
         let copies = Copies::open(alloc, Arc::try_clone(&catalogue)?)?;
         let holds = Holds::open(alloc, catalogue)?;

@@ -8,7 +8,7 @@ use Rattle.hd_rules.specs.Facts.{Facts}
 use Rattle.hd_rules.specs.Turns.{Message, State}
 use Rattle.hd_rules.specs.Machine.{reply_again, answered_new, answered_unless, turn_of}
 use Rattle.hd_rules.specs.Journal.{Turn, state_from, IsLegalFrom}
-use Rattle.hd_journal.specs.Asks.{is_query}
+use Rattle.hd_rules.specs.Messages.{is_query}
 use Rattle.hd_journal.specs.Changing.{is_changing, changing_from}
 
 -- a query leaves the state

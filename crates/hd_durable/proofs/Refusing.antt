@@ -6,7 +6,7 @@ use Rattle.hd_journal.specs.declared.fault.TurnFault.{TurnFault}
 use Rattle.hd_journal.specs.declared.fault.TurnFault.TheVariants as fault
 use Rattle.hd_journal.specs.declared.fault.WriteFault.{WriteFault}
 use Rattle.hd_journal.specs.declared.turn.Turn.{Turn as Made}
-use Rattle.hd_journal.specs.Asks.{SeatMessage}
+use Rattle.hd_rules.specs.Messages.{SeatMessage}
 use Rattle.hd_journal.specs.Books.{Book, AddsTurn, MakesNoTurn, machine_answer, next_turn}
 use Rattle.hd_journal.specs.Faults.{IsMemory, IsMemoryOrUnwritten}
 use Rattle.hd_durable.specs.Durable.{DurableValue, IsShutFor, IsTakeFault, refuses_turn_of}

@@ -7,7 +7,7 @@ use Rattle.hd_rules.specs.declared.replies.TurnReply.{TurnReply}
 use Rattle.hd_journal.specs.declared.fault.TurnFault.{TurnFault}
 use Rattle.hd_journal.specs.declared.fault.TurnFault.TheVariants as fault
 use Rattle.hd_journal.specs.declared.fault.WriteFault.{WriteFault}
-use Rattle.hd_journal.specs.Asks.{SeatMessage, turn_with_reply}
+use Rattle.hd_rules.specs.Messages.{SeatMessage, turn_with_reply}
 use Rattle.hd_journal.specs.Books.{IsLegalBook}
 use Rattle.hd_journal.specs.Changing.{changing}
 
@@ -28,7 +28,8 @@ abbrev pub IsShutFor : {Table : Type 0} → (WriteFault → Type 0) → DurableV
 IsShutFor refuses old why = (old.shut ≡ Some why) ⊎ ((old.shut ≡ None) × refuses why)
 
 -- Why a durable journal made no turn, which its table may refuse for these reasons: out of memory it is open,
--- and stays as it was; and what couldn't be written it tells for the reason for which it is shut from then on.
+-- and stays as it was; and what couldn't be written it tells for the reason for which it is shut from then
+-- on.
 abbrev pub IsTakeFault : {Table : Type 0} → (WriteFault → Type 0) → (old new : DurableValue Table) → TurnFault
     → Type 0
 IsTakeFault refuses old new fault.Memory = (old.shut ≡ None) × (new ≡ old)

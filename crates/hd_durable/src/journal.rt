@@ -5,7 +5,7 @@ ghost use Rattle.std.specs.Prelude.{option_map, take};
 ghost use Rattle.std.specs.Arc.{arc_value};
 ghost use Rattle.hd_catalogue.specs.Contents.{facts_of};
 ghost use Rattle.hd_rules.specs.Journal.{IsLegal, Turn as TurnValue};
-ghost use Rattle.hd_journal.specs.Asks.{IsKnownMessage, turn_with_reply};
+ghost use Rattle.hd_rules.specs.Messages.{IsKnownMessage, turn_with_reply};
 ghost use Rattle.hd_journal.specs.Books.{IsLegalBook, facts, turn_numbered};
 ghost use Rattle.hd_journal.specs.Changing.{changing};
 ghost use Rattle.hd_journal.specs.Shown.{turn_shown};
@@ -108,16 +108,15 @@ impl<T: TurnTable, A: Allocator + Copy> DurableJournal<T, A> {
         if let Some(why) = self.shut {
             return Err(TurnFault::Unwritten(why));
         }
-        if !self.journal.is_changing(&ask) {
-            let turn = self.journal.take(ask)?;
-            self.answered = turn.at;
-            return Ok(turn);
+        let new = self.journal.take_new(ask)?;
+        if !new.is_changing {
+            self.answered = new.made.at;
+            return Ok(new.made);
         }
-        let turn = self.journal.take(ask)?;
         match commit_last(&self.journal, &mut self.table) {
             Ok(()) => {
-                self.answered = turn.at;
-                Ok(turn)
+                self.answered = new.made.at;
+                Ok(new.made)
             }
             Err(why) => {
                 self.shut = Some(why);
@@ -197,7 +196,7 @@ fn commit_last<T: TurnTable, A: Allocator + Copy>(
         → (left ≡ held) ⊎ (left ≡ held ++ turn ∷ [])) }
     ensures contents { T.contents table.new ≡ T.contents table.old }
 {
-    let Some(last) = journal.turn_at(journal.front()) else {
+    let Some(last) = journal.last_turn() else {
         unreachable!()
     };
     table.commit(&last)

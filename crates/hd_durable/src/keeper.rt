@@ -71,7 +71,7 @@ impl<T: TurnTable, A: Allocator + Copy> Keeper<A, OwnedAsk<A>> for DurableKeeper
         old.journal new.journal };
 
     fn own(alloc: A, ask: &Ask<'_>) -> Result<OwnedAsk<A>, AllocError> {
-        ask.to_owned(alloc)
+        OwnedAsk::of(alloc, ask)
     }
 
     fn catalogue(&self) -> &Arc<Catalogue<A>, A> {

@@ -3,7 +3,7 @@
 ghost use Rattle.std.specs.Prelude.{◌≡◌, ◌⊎◌, ◌++◌, ◌∷◌, [], IfErr, List, OnErr, OnOk};
 ghost use Rattle.hd_rules.specs.Journal.{IsLegal, Turn};
 ghost use Rattle.hd_catalogue.specs.Contents.{Contents, facts_of};
-ghost use Rattle.hd_journal.specs.Asks.{IsKnownMessage};
+ghost use Rattle.hd_rules.specs.Messages.{IsKnownMessage};
 ghost use Rattle.hd_journal.specs.Shown.{turn_shown};
 ghost use Rattle.hd_journal.specs.declared.fault.WriteFault.{WriteFault};
 

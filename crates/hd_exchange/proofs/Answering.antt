@@ -9,8 +9,8 @@ use Rattle.hd_rules.specs.declared.replies.TurnReply.{TurnReply}
 use Rattle.hd_rules.specs.declared.replies.TurnReply.TheVariants.{Refused}
 use Rattle.hd_rules.specs.declared.turns.Asked.{Asked}
 use Rattle.hd_catalogue.specs.Contents.{Contents}
-use Rattle.hd_journal.specs.Asks.{turn_with_reply, message_of}
-use Rattle.hd_journal.specs.declared.ask.Ask.{Ask}
+use Rattle.hd_rules.specs.Messages.{turn_with_reply, message_of}
+use Rattle.hd_rules.specs.declared.ask.Ask.{Ask}
 use Rattle.hd_exchange.specs.Answers.{IsAnswer, IsAnswerTo, IsDeskAnswer, IsAnsweredSo, asked_in}
 use Rattle.hd_exchange.specs.Arrivals.{Arrival}
 use Rattle.hd_exchange.specs.Asks.{kind_of}
@@ -19,7 +19,7 @@ use Rattle.hd_exchange.specs.Replies.{IsReply}
 use Rattle.hd_exchange.specs.declared.login.Login.{Login}
 use Rattle.hd_exchange.specs.declared.message.DeskMessage.{DeskMessage}
 use Rattle.hd_exchange.specs.declared.message.Message.{Message}
-use Rattle.hd_exchange.specs.declared.said.Said.{Said}
+use Rattle.hd_exchange.specs.declared.reply_kind.ReplyKind.{ReplyKind}
 
 module _ (k seen : Contents) (message : DeskMessage) (reply : Reply) (here : seen ≡ k) where
   -- by the reply to what it asked
@@ -59,7 +59,7 @@ module _ (k seen : Contents) (message : DeskMessage) (reply : Reply) (here : see
 
 -- the answer to a message is that to its body
 pub answer_of : (k seen : Contents) (seat at : ℕ) (now : Stamp) (login : Option Login) (line : Option (List ℕ))
-    (came : Arrival) (body : List ℕ) (message : Message) (says : Said) (text : List ℕ) (made : List Turn)
+    (came : Arrival) (body : List ℕ) (message : Message) (says : ReplyKind) (text : List ℕ) (made : List Turn)
     (next : Option Login) → seen ≡ k → at ≡ seat
     → came ≡ record { seat = at; present = now; login = login; line = line } → IsBodyOf seen came body message
     → IsAnswerTo k now login message says text made next → IsAnswer k seat now login line body says text made next

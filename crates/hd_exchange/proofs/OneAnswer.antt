@@ -19,8 +19,8 @@ use Rattle.hd_rules.specs.declared.replies.TurnReply.{TurnReply}
 use Rattle.hd_rules.specs.declared.replies.TurnReply.TheVariants.{Refused}
 use Rattle.hd_rules.specs.declared.turns.Asked.{Asked}
 use Rattle.hd_catalogue.specs.Contents.{Contents}
-use Rattle.hd_journal.specs.Asks.{SeatMessage, turn_with_reply}
-use Rattle.hd_journal.specs.declared.ask.Ask.{Ask}
+use Rattle.hd_rules.specs.Messages.{SeatMessage, turn_with_reply}
+use Rattle.hd_rules.specs.declared.ask.Ask.{Ask}
 use Rattle.hd_exchange.specs.Answers.{IsAnswer, IsAnswerTo, IsDeskAnswer, IsAnsweredSo, SaysStatus, asked_in, login_after, login_answer_text}
 use Rattle.hd_exchange.specs.Arrivals.{Arrival, ask_of}
 use Rattle.hd_exchange.specs.Dates.{AreDatesOf, IsReadAs as IsDate, IsReadIfAny, IsStatedAs, PrintsDate}
@@ -33,13 +33,13 @@ use Rattle.hd_exchange.specs.declared.message.DeskMessage.{DeskMessage}
 use Rattle.hd_exchange.specs.declared.message.Message.{Message}
 use Rattle.hd_exchange.specs.declared.message.Message.TheVariants as OfMessage
 use Rattle.hd_exchange.specs.declared.message.SessionMessage.TheVariants as own
-use Rattle.hd_exchange.specs.declared.said.Said.{Said}
-use Rattle.hd_exchange.specs.declared.said.Said.TheVariants as said
+use Rattle.hd_exchange.specs.declared.reply_kind.ReplyKind.{ReplyKind}
+use Rattle.hd_exchange.specs.declared.reply_kind.ReplyKind.TheVariants as said
 use Rattle.hd_exchange.proofs.OneReading.{Gist, Asks, Repeats, Reported, Taken, Unknown, gist, gist_read, one_reading, unread}
 use Rattle.hd_exchange.proofs.OneReply.{one_text}
 
 -- two answers of the same turns are the same
-abbrev pub AreOne : List Turn → List Turn → Said → Said → List ℕ → List ℕ → Option LoggedIn → Option LoggedIn → Type 0
+abbrev pub AreOne : List Turn → List Turn → ReplyKind → ReplyKind → List ℕ → List ℕ → Option LoggedIn → Option LoggedIn → Type 0
 AreOne made made' says says' text text' next next' =
     (messages_of made ≡ messages_of made') × (made ≡ made' → (says ≡ says') × (text ≡ text') × (next ≡ next'))
 
@@ -139,7 +139,7 @@ module _ (print_one : (stamp : Stamp) (text other : List ℕ) → Prints stamp t
 
     module _ (k : Contents) (now : Stamp) (login : Option LoggedIn) where
       -- what a message that comes to this is answered
-      abbrev IsAnswered : Arrival → Gist → Said → List ℕ → List Turn → Option LoggedIn → Type 0
+      abbrev IsAnswered : Arrival → Gist → ReplyKind → List ℕ → List Turn → Option LoggedIn → Type 0
       IsAnswered arrival (Taken taken) says text made next =
           (says ≡ said.Reply) × (text ≡ login_answer_text taken) × (made ≡ []) × (next ≡ login_after login taken)
       IsAnswered arrival Reported says text made next = (says ≡ said.Reply) × SaysStatus k now text × (made ≡ []) × (next ≡ login)
@@ -150,7 +150,7 @@ module _ (print_one : (stamp : Stamp) (text other : List ℕ) → Prints stamp t
           × ((message : DeskMessage) × IsMessageOf k arrival stated message × IsDeskAnswer k message text made)
           × (next ≡ login)
 
-      module _ (arrival : Arrival) (says : Said) (text : List ℕ) (made : List Turn) (next : Option LoggedIn) where
+      module _ (arrival : Arrival) (says : ReplyKind) (text : List ℕ) (made : List Turn) (next : Option LoggedIn) where
         -- a login that is taken so
         taken_so : (taken named : Option LoggedIn) → taken ≡ named
             → IsAnswerTo k now login (OfMessage.Session (own.Login taken)) says text made next
@@ -223,7 +223,7 @@ module _ (print_one : (stamp : Stamp) (text other : List ℕ) → Prints stamp t
           )
 
       -- two answers to messages that come to the same
-      one_answered : (arrival : Arrival) (g : Gist) (says says' : Said) (text text' : List ℕ) (made made' : List Turn)
+      one_answered : (arrival : Arrival) (g : Gist) (says says' : ReplyKind) (text text' : List ℕ) (made made' : List Turn)
           (next next' : Option LoggedIn) → IsAnswered arrival g says text made next → IsAnswered arrival g says' text' made' next'
           → AreOne made made' says says' text text' next next'
       one_answered arrival (Taken taken) says says' text text' made made' next next' p q =
@@ -240,7 +240,7 @@ module _ (print_one : (stamp : Stamp) (text other : List ℕ) → Prints stamp t
 
     -- two answers to one body
     pub one_answer : (k : Contents) (seat : ℕ) (now : Stamp) (login : Option LoggedIn) (line : Option (List ℕ)) (body : List ℕ)
-        (says says' : Said) (text text' : List ℕ) (made made' : List Turn) (next next' : Option LoggedIn)
+        (says says' : ReplyKind) (text text' : List ℕ) (made made' : List Turn) (next next' : Option LoggedIn)
         → IsAnswer k seat now login line body says text made next → IsAnswer k seat now login line body says' text' made' next'
         → AreOne made made' says says' text text' next next'
     one_answer k seat now login line body says says' text text' made made' next next' p q =

@@ -43,7 +43,7 @@ use Rattle.hd_exchange.specs.HoldReplies.{IsHoldOutcome}
 use Rattle.hd_exchange.specs.ItemReplies.{IsCirculation, IsItemOutcome}
 use Rattle.hd_exchange.specs.LoanReplies.{IsLoanOutcome, IsLoanReply}
 use Rattle.hd_exchange.specs.Replies.{IsReply}
-use Rattle.hd_exchange.specs.declared.repeated.Repeated.{Repeated}
+use Rattle.hd_exchange.specs.declared.repeated.RepeatedValues.{RepeatedValues}
 
 -- a name that is printed
 abbrev Name : Type 0
@@ -106,7 +106,7 @@ module _ (k : Contents) where
   abbrev loan_told : Result Asked Refusal → TurnReply → Loan
   loan_told asked (Refused refusal) = (2, false, None, 0, Some refusal)
   loan_told (Ok (ask.Command command)) (Done n (LentOrRenewed t due renewal)) = (0, renewal, title_name k t, due, None)
-  loan_told (Ok (ask.Cancel (cancel.Return c))) (Cancelled n) = (1, false, title_name k ((facts_of k).title_of c), n, None)
+  loan_told (Ok (ask.Cancel (cancel.Checkin c))) (Cancelled n) = (1, false, title_name k ((facts_of k).title_of c), n, None)
   loan_told (Ok (ask.Cancel (cancel.Renewal c))) (Cancelled n) = (1, false, title_name k ((facts_of k).title_of c), n, None)
   loan_told _ _ = (3, false, None, 0, None)
 
@@ -115,7 +115,7 @@ module _ (k : Contents) where
   loan_is asked (Refused refusal) (OfLoan.Refused given) is = rw is refl
   loan_is (Ok (ask.Command command)) (Done n (LentOrRenewed t due renewal)) (OfLoan.Lent renewed title day) is =
       rw (is.0, is.1, is.2) refl
-  loan_is (Ok (ask.Cancel (cancel.Return c))) (Cancelled n) (OfLoan.Cancelled title number) is = rw (is.0, is.1) refl
+  loan_is (Ok (ask.Cancel (cancel.Checkin c))) (Cancelled n) (OfLoan.Cancelled title number) is = rw (is.0, is.1) refl
   loan_is (Ok (ask.Cancel (cancel.Renewal c))) (Cancelled n) (OfLoan.Cancelled title number) is = rw (is.0, is.1) refl
   loan_is _ _ _ none = absurd none
 
@@ -135,7 +135,7 @@ module _ (k : Contents) where
   abbrev checkin_told : Result Asked Refusal → TurnReply → Checkin
   checkin_told asked (Refused refusal) = (2, None, None, 0, (0, 0, None), Some refusal)
   checkin_told (Ok (ask.Command command)) (Done n (Returned t b now)) = (0, branch_name k b, title_name k t, 0, where_told now, None)
-  checkin_told (Ok (ask.Cancel (cancel.Loan c))) (Cancelled n) =
+  checkin_told (Ok (ask.Cancel (cancel.Checkout c))) (Cancelled n) =
       (1, branch_name k ((facts_of k).home c), title_name k ((facts_of k).title_of c), n, (0, 0, None), None)
   checkin_told _ _ = (3, None, None, 0, (0, 0, None), None)
 
@@ -144,7 +144,7 @@ module _ (k : Contents) where
   checkin_is asked (Refused refusal) (OfCheckin.Refused given) is = rw is refl
   checkin_is (Ok (ask.Command command)) (Done n (Returned t b now)) (OfCheckin.Returned home title whereabouts) is =
       rw (is.0, is.1, where_is now whereabouts is.2) refl
-  checkin_is (Ok (ask.Cancel (cancel.Loan c))) (Cancelled n) (OfCheckin.Cancelled home title number) is = rw (is.0, is.1, is.2) refl
+  checkin_is (Ok (ask.Cancel (cancel.Checkout c))) (Cancelled n) (OfCheckin.Cancelled home title number) is = rw (is.0, is.1, is.2) refl
   checkin_is _ _ _ none = absurd none
 
   abbrev hold_told : Name → Result Asked Refusal → TurnReply → Hold
@@ -152,9 +152,9 @@ module _ (k : Contents) where
   hold_told own (Ok (ask.Command command)) (Done n (Held t stands at hold)) =
       (0, stands, hold.expiry, at, branch_name k hold.pickup, title_name k t, None)
   hold_told own (Ok (ask.Command command)) (Done n (Deleted t)) = (1, false, None, 0, None, title_name k t, None)
-  hold_told own (Ok (ask.Cancel (cancel.Adding p t))) (Cancelled n) = (2, false, None, n, None, title_name k t, None)
-  hold_told own (Ok (ask.Cancel (cancel.Deletion p t))) (Cancelled n) = (2, false, None, n, None, title_name k t, None)
-  hold_told own (Ok (ask.Cancel (cancel.Changing p t))) (Cancelled n) = (2, false, None, n, None, title_name k t, None)
+  hold_told own (Ok (ask.Cancel (cancel.Add p t))) (Cancelled n) = (2, false, None, n, None, title_name k t, None)
+  hold_told own (Ok (ask.Cancel (cancel.Delete p t))) (Cancelled n) = (2, false, None, n, None, title_name k t, None)
+  hold_told own (Ok (ask.Cancel (cancel.Change p t))) (Cancelled n) = (2, false, None, n, None, title_name k t, None)
   hold_told _ _ _ = (4, false, None, 0, None, None, None)
 
   hold_is : (own : Name) (asked : Result Asked Refusal) (told : TurnReply) (o : HoldOutcome) → IsHoldOutcome k own asked told o
@@ -163,9 +163,9 @@ module _ (k : Contents) where
   hold_is own (Ok (ask.Command command)) (Done n (Held t stands at hold)) (OfHold.Held available expiry position pickup title) is =
       rw (is.0, is.1, is.2, is.3, is.4) refl
   hold_is own (Ok (ask.Command command)) (Done n (Deleted t)) (OfHold.Deleted title) is = rw is refl
-  hold_is own (Ok (ask.Cancel (cancel.Adding p t))) (Cancelled n) (OfHold.Cancelled title number) is = rw (is.0, is.1) refl
-  hold_is own (Ok (ask.Cancel (cancel.Deletion p t))) (Cancelled n) (OfHold.Cancelled title number) is = rw (is.0, is.1) refl
-  hold_is own (Ok (ask.Cancel (cancel.Changing p t))) (Cancelled n) (OfHold.Cancelled title number) is = rw (is.0, is.1) refl
+  hold_is own (Ok (ask.Cancel (cancel.Add p t))) (Cancelled n) (OfHold.Cancelled title number) is = rw (is.0, is.1) refl
+  hold_is own (Ok (ask.Cancel (cancel.Delete p t))) (Cancelled n) (OfHold.Cancelled title number) is = rw (is.0, is.1) refl
+  hold_is own (Ok (ask.Cancel (cancel.Change p t))) (Cancelled n) (OfHold.Cancelled title number) is = rw (is.0, is.1) refl
   hold_is _ _ _ _ none = absurd none
 
   abbrev copy_told : CopyState → Copy
@@ -292,7 +292,7 @@ item_texts a b (OfItem.Refused r) (OfItem.Refused r') date copy same =
 item_texts a b _ _ date copy same = absurd (omega (arith, ap (λ (x : Question). x.0) same))
 
 -- The reply to a message that states the same, asked the same and was told the same.
-module _ (k : Contents) (r q : Repeated) (asked : Result Asked Refusal) (told : TurnReply) (date : r.date ≡ q.date)
+module _ (k : Contents) (r q : RepeatedValues) (asked : Result Asked Refusal) (told : TurnReply) (date : r.date ≡ q.date)
     (patron : option_copied r.patron ≡ option_copied q.patron) (copy : option_copied r.copy ≡ option_copied q.copy)
     (title : option_copied r.title ≡ option_copied q.title) where
   -- a value that may be missing

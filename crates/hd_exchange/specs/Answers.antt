@@ -11,8 +11,8 @@ use Rattle.hd_rules.specs.declared.replies.TurnReply.{TurnReply}
 use Rattle.hd_rules.specs.declared.replies.TurnReply.TheVariants.{Refused}
 use Rattle.hd_rules.specs.declared.turns.Asked.{Asked}
 use Rattle.hd_catalogue.specs.Contents.{Contents}
-use Rattle.hd_journal.specs.Asks.{turn_with_reply, message_of}
-use Rattle.hd_journal.specs.declared.ask.Ask.{Ask}
+use Rattle.hd_rules.specs.Messages.{turn_with_reply, message_of}
+use Rattle.hd_rules.specs.declared.ask.Ask.{Ask}
 use Rattle.hd_exchange.specs.Arrivals.{Arrival}
 use Rattle.hd_exchange.specs.Messages.{IsBodyOf}
 use Rattle.hd_exchange.specs.Replies.{IsReply}
@@ -22,8 +22,8 @@ use Rattle.hd_exchange.specs.declared.message.Message.{Message}
 use Rattle.hd_exchange.specs.declared.message.Message.TheVariants.{Session, Desk}
 use Rattle.hd_exchange.specs.declared.message.SessionMessage.{SessionMessage}
 use Rattle.hd_exchange.specs.declared.message.SessionMessage.TheVariants.{Login, Status, Resend, Unsupported}
-use Rattle.hd_exchange.specs.declared.said.Said.{Said}
-use Rattle.hd_exchange.specs.declared.said.Said.TheVariants as said
+use Rattle.hd_exchange.specs.declared.reply_kind.ReplyKind.{ReplyKind}
+use Rattle.hd_exchange.specs.declared.reply_kind.ReplyKind.TheVariants as said
 
 -- what a message is told, and the turns that this makes: what is refused beforehand makes none, and all else
 -- one
@@ -63,7 +63,7 @@ pub record SaysStatus (k : Contents) (now : Stamp) (text : List ℕ) : Type 0 wh
   pub spelled : text ≡ reply_text (reply.Status status)
 
 -- what is said to a message that asks nothing of the desk: one that isn't supported is to be sent again
-abbrev pub said_alone : SessionMessage → Said
+abbrev pub said_alone : SessionMessage → ReplyKind
 said_alone (Login taken) = said.Reply
 said_alone Status = said.Reply
 said_alone Resend = said.LastReply
@@ -82,7 +82,7 @@ IsTextAlone k now _ text = text ≡ []
 
 module _ (k : Contents) (now : Stamp) (login : Option LoggedIn) where
   -- what is said to a message, and the turns that this makes: none where it asks nothing of the desk
-  abbrev pub IsAnswerTo : Message → Said → List ℕ → List Turn → Option LoggedIn → Type 0
+  abbrev pub IsAnswerTo : Message → ReplyKind → List ℕ → List Turn → Option LoggedIn → Type 0
   IsAnswerTo (Session message) says text made next =
       (says ≡ said_alone message)
       × IsTextAlone k now message text
@@ -93,7 +93,8 @@ module _ (k : Contents) (now : Stamp) (login : Option LoggedIn) where
 
 -- The same of the body of a message that comes so, with its line where that carried a sequence digit.
 pub record IsAnswer (k : Contents) (seat : ℕ) (now : Stamp) (login : Option LoggedIn) (line : Option (List ℕ))
-    (body : List ℕ) (says : Said) (text : List ℕ) (made : List Turn) (next : Option LoggedIn) : Type 0 where
+    (body : List ℕ) (says : ReplyKind) (text : List ℕ) (made : List Turn) (next : Option LoggedIn)
+    : Type 0 where
   pub message : Message
   pub reads : IsBodyOf k (record { seat = seat; present = now; login = login; line = line }) body message
   pub answers : IsAnswerTo k now login message says text made next

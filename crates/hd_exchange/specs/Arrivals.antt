@@ -4,7 +4,7 @@ use Rattle.hd_date.specs.Stamps.{Stamp}
 use Rattle.hd_rules.specs.Facts.{Facts}
 use Rattle.hd_rules.specs.declared.turns.Asked.{Asked}
 use Rattle.hd_catalogue.specs.Contents.{Contents, branch_of}
-use Rattle.hd_journal.specs.Asks.{SeatMessage, asking, kept_line}
+use Rattle.hd_rules.specs.Messages.{SeatMessage, asking, kept_line}
 use Rattle.hd_exchange.specs.declared.login.Login.{Login}
 
 -- The seat that takes it, the present, its session's login, and its line where that carried a sequence digit.

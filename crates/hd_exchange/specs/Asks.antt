@@ -42,7 +42,7 @@ checkout_asks k r dates =
     need (patron_number k r.patron.now) UnknownPatron (λ patron.
     need (copy_number k r.copy.now) UnknownItem (λ copy.
     Ok (
-    if r.cancels then ask.Cancel (cancel.Return copy)
+    if r.cancels then ask.Cancel (cancel.Checkin copy)
     else command stamp.day (checkout_action r.renews due patron copy))))))
 
 -- the branch that AP names, or the terminal's own where it names none
@@ -56,7 +56,7 @@ checkin_asks k own r dates =
     need dates.transaction BadDate (λ stamp.
     need (copy_number k r.copy.now) UnknownItem (λ copy.
     Ok (
-    if r.cancels then ask.Cancel (cancel.Loan copy)
+    if r.cancels then ask.Cancel (cancel.Checkout copy)
     else command stamp.day (action.Checkin copy (return_branch k own (option_copied r.branch))))))
 
 -- a renewal (29)
@@ -68,7 +68,7 @@ renew_asks k r dates =
     need (title_asked k (option_copied r.title) (Some copy)) UnknownTitle (λ title.
     Ok (
     if r.cancels then ask.Cancel (cancel.Renewal copy)
-    else command stamp.day (action.Renew patron copy))))))
+    else command stamp.day (action.Renewal patron copy))))))
 
 -- a question about a copy (17)
 abbrev pub item_asks : Contents → ItemRequest → Dates → Result Asked Refusal
@@ -84,18 +84,18 @@ kind_of_action (action.OffLine p c due) = kind.Checkout
 kind_of_action (action.Checkin c b) = kind.Checkin
 kind_of_action (action.Add p t sort pickup expiry) = kind.Hold
 kind_of_action (action.Delete p t) = kind.Hold
-kind_of_action (action.ChangeHold p t sort pickup expiry) = kind.Hold
-kind_of_action (action.Renew p c) = kind.Renew
+kind_of_action (action.Change p t sort pickup expiry) = kind.Hold
+kind_of_action (action.Renewal p c) = kind.Renew
 
 -- and of those that take something back: a checkout a return, a checkin a loan, a renewal a renewal, a hold
 -- message one on a hold
 abbrev pub kind_of_cancel : Cancel → DeskKind
-kind_of_cancel (cancel.Return c) = kind.Checkout
-kind_of_cancel (cancel.Loan c) = kind.Checkin
+kind_of_cancel (cancel.Checkin c) = kind.Checkout
+kind_of_cancel (cancel.Checkout c) = kind.Checkin
 kind_of_cancel (cancel.Renewal c) = kind.Renew
-kind_of_cancel (cancel.Adding p t) = kind.Hold
-kind_of_cancel (cancel.Deletion p t) = kind.Hold
-kind_of_cancel (cancel.Changing p t) = kind.Hold
+kind_of_cancel (cancel.Add p t) = kind.Hold
+kind_of_cancel (cancel.Delete p t) = kind.Hold
+kind_of_cancel (cancel.Change p t) = kind.Hold
 
 -- the kind of the messages that ask so
 abbrev pub kind_of : Asked → DeskKind

@@ -16,7 +16,7 @@ use Rattle.hd_rules.specs.declared.replies.TurnReply.TheVariants.{Refused, Done,
 use Rattle.hd_rules.specs.declared.turns.Asked.{Asked}
 use Rattle.hd_rules.specs.declared.turns.Asked.TheVariants as ask
 use Rattle.hd_catalogue.specs.Contents.{Contents, branch_name, facts_of, title_name}
-use Rattle.hd_exchange.specs.declared.repeated.Repeated.{Repeated}
+use Rattle.hd_exchange.specs.declared.repeated.RepeatedValues.{RepeatedValues}
 
 module _ (k : Contents) where
   -- where a copy is that was taken in; no return leaves a copy on loan, which would show as the open shelf
@@ -34,14 +34,15 @@ module _ (k : Contents) where
   IsCheckinOutcome (Ok (ask.Command command)) (Done n (Returned t b now))
       (OfCheckin.Returned home title whereabouts) =
       (branch_name k b ≡ Some home.now) × (title_name k t ≡ Some title.now) × IsWhereabouts now whereabouts
-  IsCheckinOutcome (Ok (ask.Cancel (cancel.Loan c))) (Cancelled n) (OfCheckin.Cancelled home title number) =
+  IsCheckinOutcome (Ok (ask.Cancel (cancel.Checkout c))) (Cancelled n)
+      (OfCheckin.Cancelled home title number) =
       (branch_name k ((facts_of k).home c) ≡ Some home.now)
       × (title_name k ((facts_of k).title_of c) ≡ Some title.now)
       × (number ≡ n)
   IsCheckinOutcome _ _ _ = ⊥
 
   -- The reply to it.
-  pub record IsCheckinReply (r : Repeated) (asked : Result Asked Refusal) (told : TurnReply)
+  pub record IsCheckinReply (r : RepeatedValues) (asked : Result Asked Refusal) (told : TurnReply)
       (reply : CheckinReply) : Type 0 where
     pub date : reply.date.now ≡ r.date
     pub institution : reply.institution.now ≡ k.institution

@@ -22,7 +22,7 @@ use Rattle.hd_catalogue.specs.Contents.{Contents, branch_number, copy_number, pa
 use Rattle.hd_exchange.specs.Asks.{command, need}
 use Rattle.hd_exchange.specs.Names.{if_given, title_asked}
 use Rattle.hd_exchange.specs.declared.dates.Dates.{Dates}
-use Rattle.hd_exchange.specs.declared.holds.Named.{Named}
+use Rattle.hd_exchange.specs.declared.holds.HoldNames.{HoldNames}
 use Rattle.hd_exchange.specs.declared.holds.Wish.{Wish}
 
 -- which copies a new hold admits: where BY doesn't say so, the copy that is named, or else any; BY 3 without
@@ -44,27 +44,28 @@ changed_kind (Some OneCopy) None = None
 changed_kind (Some OneCopy) (Some copy) = Some (kind.One copy)
 
 -- the adding of a hold: it is picked up at the terminal's own branch where BS names none
-abbrev pub hold_addition : Named → Wish → ℕ → Action
+abbrev pub hold_addition : HoldNames → Wish → ℕ → Action
 hold_addition named wish own =
     action.Add named.patron named.title (added_kind wish.wanted named.copy) (unwrap_or wish.pickup own)
     wish.expiry
 
 -- the change of a hold: what the message doesn't say stays
-abbrev pub hold_change : Named → Wish → Action
+abbrev pub hold_change : HoldNames → Wish → Action
 hold_change named wish =
-    action.ChangeHold named.patron named.title (changed_kind wish.wanted named.copy) wish.pickup wish.expiry
+    action.Change named.patron named.title (changed_kind wish.wanted named.copy) wish.pickup wish.expiry
 
 -- what a hold message does
-abbrev pub hold_action : Mode → Named → Wish → ℕ → Action
+abbrev pub hold_action : Mode → HoldNames → Wish → ℕ → Action
 hold_action mode.Add named wish own = hold_addition named wish own
 hold_action mode.Delete named wish own = action.Delete named.patron named.title
 hold_action mode.Change named wish own = hold_change named wish
 
--- what a cancelling hold message takes back: the opposite
-abbrev pub hold_cancel : Mode → Named → Cancel
-hold_cancel mode.Add named = cancel.Deletion named.patron named.title
-hold_cancel mode.Delete named = cancel.Adding named.patron named.title
-hold_cancel mode.Change named = cancel.Changing named.patron named.title
+-- what a cancelling hold message takes back: an addition a deletion, a deletion an addition, and a change a
+-- change
+abbrev pub hold_cancel : Mode → HoldNames → Cancel
+hold_cancel mode.Add named = cancel.Delete named.patron named.title
+hold_cancel mode.Delete named = cancel.Add named.patron named.title
+hold_cancel mode.Change named = cancel.Change named.patron named.title
 
 -- the branch that wishes name for the pickup
 abbrev pub pickup_name : Option Wishes → Option (List ℕ)
@@ -82,7 +83,7 @@ expiry_text None = None
 expiry_text (Some wishes) = option_copied wishes.expiry
 
 -- a hold message whose names are known
-abbrev pub hold_named : Contents → ℕ → HoldRequest → ℕ → Option ℕ → Named → Result Asked Refusal
+abbrev pub hold_named : Contents → ℕ → HoldRequest → ℕ → Option ℕ → HoldNames → Result Asked Refusal
 hold_named k own r day expiry named =
     if r.cancels then Ok (ask.Cancel (hold_cancel r.mode named))
     else need (if_given (branch_number k) (pickup_name r.wishes)) UnknownBranch (λ pickup.

@@ -12,7 +12,7 @@ use Rattle.hd_rules.specs.declared.replies.TurnReply.TheVariants.{Refused, Done,
 use Rattle.hd_rules.specs.declared.turns.Asked.{Asked}
 use Rattle.hd_rules.specs.declared.turns.Asked.TheVariants as ask
 use Rattle.hd_catalogue.specs.Contents.{Contents, branch_name, title_name}
-use Rattle.hd_exchange.specs.declared.repeated.Repeated.{Repeated}
+use Rattle.hd_exchange.specs.declared.repeated.RepeatedValues.{RepeatedValues}
 
 module _ (k : Contents) where
   -- what is said of a hold message with this title that asked this and was told that: the hold; or, where it
@@ -26,16 +26,16 @@ module _ (k : Contents) where
       × (branch_name k hold.pickup ≡ Some pickup.now) × (title_name k t ≡ Some title.now)
   IsHoldOutcome own (Ok (ask.Command command)) (Done n (Deleted t)) (OfHold.Deleted title) =
       title_name k t ≡ Some title.now
-  IsHoldOutcome own (Ok (ask.Cancel (cancel.Adding p t))) (Cancelled n) (OfHold.Cancelled title number) =
+  IsHoldOutcome own (Ok (ask.Cancel (cancel.Add p t))) (Cancelled n) (OfHold.Cancelled title number) =
       (title_name k t ≡ Some title.now) × (number ≡ n)
-  IsHoldOutcome own (Ok (ask.Cancel (cancel.Deletion p t))) (Cancelled n) (OfHold.Cancelled title number) =
+  IsHoldOutcome own (Ok (ask.Cancel (cancel.Delete p t))) (Cancelled n) (OfHold.Cancelled title number) =
       (title_name k t ≡ Some title.now) × (number ≡ n)
-  IsHoldOutcome own (Ok (ask.Cancel (cancel.Changing p t))) (Cancelled n) (OfHold.Cancelled title number) =
+  IsHoldOutcome own (Ok (ask.Cancel (cancel.Change p t))) (Cancelled n) (OfHold.Cancelled title number) =
       (title_name k t ≡ Some title.now) × (number ≡ n)
   IsHoldOutcome _ _ _ _ = ⊥
 
   -- The reply to it; it has an AB only where there is one to repeat.
-  pub record IsHoldReply (r : Repeated) (asked : Result Asked Refusal) (told : TurnReply)
+  pub record IsHoldReply (r : RepeatedValues) (asked : Result Asked Refusal) (told : TurnReply)
       (reply : HoldReply) : Type 0 where
     pub date : reply.date.now ≡ r.date
     pub institution : reply.institution.now ≡ k.institution

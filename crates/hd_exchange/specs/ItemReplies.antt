@@ -14,7 +14,7 @@ use Rattle.hd_rules.specs.declared.replies.TurnReply.TheVariants.{Refused, Item}
 use Rattle.hd_rules.specs.declared.turns.Asked.{Asked}
 use Rattle.hd_rules.specs.declared.turns.Asked.TheVariants as ask
 use Rattle.hd_catalogue.specs.Contents.{Contents, branch_name, facts_of, title_name}
-use Rattle.hd_exchange.specs.declared.repeated.Repeated.{Repeated}
+use Rattle.hd_exchange.specs.declared.repeated.RepeatedValues.{RepeatedValues}
 
 module _ (k : Contents) where
   -- where a copy is: on a shelf of this branch, on loan till this day, or in transit
@@ -36,7 +36,7 @@ module _ (k : Contents) where
   IsItemOutcome _ _ _ = ⊥
 
   -- The reply to it.
-  pub record IsItemReply (r : Repeated) (asked : Result Asked Refusal) (told : TurnReply)
+  pub record IsItemReply (r : RepeatedValues) (asked : Result Asked Refusal) (told : TurnReply)
       (reply : ItemReply) : Type 0 where
     pub date : reply.date.now ≡ r.date
     pub copy : reply.copy.now ≡ unwrap_or (option_copied r.copy) []

@@ -14,5 +14,7 @@ pub mod ItemReplies
 pub mod Replies
 -- and all together, what a body is answered: `IsAnswer`, which may be read first.
 pub mod Answers
--- And how many turns a message makes, and what turns are asked, for the law that this is one answer.
+-- And what a call leaves of an office and of an out,
+pub mod Works
+-- and what turns are asked, for the law that this is one answer.
 pub mod Turns

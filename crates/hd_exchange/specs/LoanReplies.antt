@@ -12,7 +12,7 @@ use Rattle.hd_rules.specs.declared.replies.TurnReply.TheVariants.{Refused, Done,
 use Rattle.hd_rules.specs.declared.turns.Asked.{Asked}
 use Rattle.hd_rules.specs.declared.turns.Asked.TheVariants as ask
 use Rattle.hd_catalogue.specs.Contents.{Contents, facts_of, title_name}
-use Rattle.hd_exchange.specs.declared.repeated.Repeated.{Repeated}
+use Rattle.hd_exchange.specs.declared.repeated.RepeatedValues.{RepeatedValues}
 
 module _ (k : Contents) where
   -- what is said of a checkout or a renewal that asked this and was told that: the loan; or, where one took
@@ -22,14 +22,14 @@ module _ (k : Contents) where
   IsLoanOutcome (Ok (ask.Command command)) (Done n (LentOrRenewed t due renewal))
       (OfLoan.Lent renewed title day) =
       (renewed ≡ renewal) × (title_name k t ≡ Some title.now) × (day.now ≡ due)
-  IsLoanOutcome (Ok (ask.Cancel (cancel.Return c))) (Cancelled n) (OfLoan.Cancelled title number) =
+  IsLoanOutcome (Ok (ask.Cancel (cancel.Checkin c))) (Cancelled n) (OfLoan.Cancelled title number) =
       (title_name k ((facts_of k).title_of c) ≡ Some title.now) × (number ≡ n)
   IsLoanOutcome (Ok (ask.Cancel (cancel.Renewal c))) (Cancelled n) (OfLoan.Cancelled title number) =
       (title_name k ((facts_of k).title_of c) ≡ Some title.now) × (number ≡ n)
   IsLoanOutcome _ _ _ = ⊥
 
   -- The reply to it.
-  pub record IsLoanReply (r : Repeated) (asked : Result Asked Refusal) (told : TurnReply)
+  pub record IsLoanReply (r : RepeatedValues) (asked : Result Asked Refusal) (told : TurnReply)
       (reply : LoanReply) : Type 0 where
     pub date : reply.date.now ≡ r.date
     pub institution : reply.institution.now ≡ k.institution

@@ -24,8 +24,8 @@ use Rattle.hd_rules.specs.declared.replies.Refusal.{Refusal}
 use Rattle.hd_rules.specs.declared.replies.Refusal.TheVariants as refusal
 use Rattle.hd_rules.specs.declared.turns.Asked.{Asked}
 use Rattle.hd_catalogue.specs.Contents.{Contents, terminal_number}
-use Rattle.hd_journal.specs.Asks.{IsKnownMessage as IsKnownAsk, message_of}
-use Rattle.hd_journal.specs.declared.ask.Ask.{Ask}
+use Rattle.hd_rules.specs.Messages.{IsKnownMessage as IsKnownAsk, message_of}
+use Rattle.hd_rules.specs.declared.ask.Ask.{Ask}
 use Rattle.hd_exchange.specs.Arrivals.{Arrival, IsKnownLogin, ask_of, login_of}
 use Rattle.hd_exchange.specs.Asks.{checkin_asks, checkout_asks, item_asks, kind_of, need, renew_asks}
 use Rattle.hd_exchange.specs.Dates.{AreDatesOf}
@@ -37,7 +37,7 @@ use Rattle.hd_exchange.specs.declared.message.Message.{Message}
 use Rattle.hd_exchange.specs.declared.message.Message.TheVariants as OfMessage
 use Rattle.hd_exchange.specs.declared.message.SessionMessage.{SessionMessage}
 use Rattle.hd_exchange.specs.declared.message.SessionMessage.TheVariants as own
-use Rattle.hd_exchange.specs.declared.repeated.Repeated.{Repeated}
+use Rattle.hd_exchange.specs.declared.repeated.RepeatedValues.{RepeatedValues}
 use Rattle.hd_exchange.specs.declared.values.Values.{Values}
 
 -- What a message states that asks something of the desk: its kind, its transaction date, the other date that
@@ -156,7 +156,7 @@ pub record IsMessageOf (k : Contents) (arrival : Arrival) (stated : Stated) (mes
   pub asked : IsAskedAs arrival (asked_by arrival.login stated dates) message.asks
 
 -- the same of what is repeated
-abbrev pub bytes_repeated : Repeated → ℕ
+abbrev pub bytes_repeated : RepeatedValues → ℕ
 bytes_repeated r =
     bytes_of (option_copied r.patron) + bytes_of (option_copied r.copy) + bytes_of (option_copied r.title)
 

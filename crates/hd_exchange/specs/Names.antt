@@ -3,7 +3,7 @@ use Rattle.std.specs.Prelude.{ℕ, ◌==◌, ◌<◌, List, Option, None, Some, 
 use Rattle.std.specs.Option.{option_map}
 use Rattle.hd_rules.specs.Facts.{Facts}
 use Rattle.hd_catalogue.specs.Contents.{Contents, facts_of, title_number}
-use Rattle.hd_exchange.specs.declared.holds.Named.{Named}
+use Rattle.hd_exchange.specs.declared.holds.HoldNames.{HoldNames}
 
 -- the number of a name that may be given: none where none is given, and nothing where there is no such name
 abbrev pub if_given : (List ℕ → Option ℕ) → Option (List ℕ) → Option (Option ℕ)
@@ -23,7 +23,7 @@ title_asked k (Some name) None = title_number k name
 title_asked k (Some name) (Some copy) = if_same (title_number k name) ((facts_of k).title_of copy)
 
 -- The patron, the title and the copy that a hold message names are of the catalogue.
-pub record IsKnownNamed (k : Facts) (named : Named) : Type 0 where
+pub record AreKnownNames (k : Facts) (named : HoldNames) : Type 0 where
   pub patron : named.patron < k.patrons
   pub title : named.title < k.titles
   pub copy : IfSome named.copy (λ copy. copy < k.copies)

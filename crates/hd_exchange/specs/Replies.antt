@@ -13,10 +13,10 @@ use Rattle.hd_exchange.specs.CheckinReplies.{IsCheckinReply}
 use Rattle.hd_exchange.specs.HoldReplies.{IsHoldReply}
 use Rattle.hd_exchange.specs.ItemReplies.{IsItemReply}
 use Rattle.hd_exchange.specs.LoanReplies.{IsLoanReply}
-use Rattle.hd_exchange.specs.declared.repeated.Repeated.{Repeated}
+use Rattle.hd_exchange.specs.declared.repeated.RepeatedValues.{RepeatedValues}
 
 -- the reply to a message of this kind that asked this, or was refused beforehand, and was told that
-abbrev pub IsReply : Contents → DeskKind → Repeated → Result Asked Refusal → TurnReply → Reply → Type 0
+abbrev pub IsReply : Contents → DeskKind → RepeatedValues → Result Asked Refusal → TurnReply → Reply → Type 0
 IsReply k kind.Checkout r asked told (Checkout reply) = IsLoanReply k r asked told reply
 IsReply k kind.Checkin r asked told (Checkin reply) = IsCheckinReply k r asked told reply
 IsReply k kind.Hold r asked told (Hold reply) = IsHoldReply k r asked told reply

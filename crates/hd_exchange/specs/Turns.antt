@@ -1,11 +1,7 @@
--- How many turns a message makes, and what turns are asked.
-use Rattle.std.specs.Prelude.{◌≡◌, ◌≤◌, List, ◌++◌, length, map}
+-- What turns are asked.
+use Rattle.std.specs.Prelude.{List, map}
 use Rattle.hd_rules.specs.Journal.{Turn}
-use Rattle.hd_journal.specs.Asks.{SeatMessage}
-
--- one turn was made, or none
-abbrev pub MakesAtMostOne : List Turn → List Turn → Type 0
-MakesAtMostOne before after = (made : List Turn) × (length made ≤ 1) × (after ≡ before ++ made)
+use Rattle.hd_rules.specs.Messages.{SeatMessage}
 
 -- the messages of some turns, in order, each with its seat
 abbrev pub messages_of : List Turn → List SeatMessage

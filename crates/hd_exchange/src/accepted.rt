@@ -13,7 +13,7 @@ ghost use Rattle.hd_exchange.specs.Replies.{IsReply};
 use crate::checkin_replies::{checkin_reply, whereabouts};
 use crate::hold_replies::hold_reply;
 use crate::loan_replies::loan_reply;
-use crate::repeated::Repeated;
+use crate::repeated::RepeatedValues;
 use hd_catalogue::Catalogue;
 use hd_message::{CheckinOutcome, HoldOutcome, LoanOutcome, Reply};
 use hd_rules::{Action, Command, Reply as Told};
@@ -22,7 +22,7 @@ use std::alloc::Allocator;
 /// The reply to a message whose command was accepted and tells this.
 pub(crate) fn accepted_reply<'a, A: Allocator + Copy>(
     catalogue: &'a Catalogue<A>,
-    repeated: &'a Repeated<'a>,
+    repeated: &'a RepeatedValues<'a>,
     command: &Command,
     told: &'a Told,
 ) -> Reply<'a>
@@ -47,7 +47,7 @@ pub(crate) fn accepted_reply<'a, A: Allocator + Copy>(
             };
             let reply = loan_reply(catalogue, repeated, outcome);
             match &command.action {
-                Action::Renew { .. } => Reply::Renew(reply),
+                Action::Renewal { .. } => Reply::Renew(reply),
                 _ => Reply::Checkout(reply),
             }
         }

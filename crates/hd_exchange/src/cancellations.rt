@@ -12,7 +12,7 @@ ghost use Rattle.hd_exchange.specs.Replies.{IsReply};
 use crate::checkin_replies::checkin_reply;
 use crate::hold_replies::hold_reply;
 use crate::loan_replies::loan_reply;
-use crate::repeated::Repeated;
+use crate::repeated::RepeatedValues;
 use hd_catalogue::Catalogue;
 use hd_message::{CheckinOutcome, HoldOutcome, LoanOutcome, Reply};
 use hd_rules::Cancel;
@@ -21,7 +21,7 @@ use std::alloc::Allocator;
 /// The reply to a message that took the command of this number back.
 pub(crate) fn cancellation_reply<'a, A: Allocator + Copy>(
     catalogue: &'a Catalogue<A>,
-    repeated: &'a Repeated<'a>,
+    repeated: &'a RepeatedValues<'a>,
     what: &Cancel,
     number: u64,
 ) -> Reply<'a>
@@ -32,7 +32,7 @@ pub(crate) fn cancellation_reply<'a, A: Allocator + Copy>(
     ensures short { IsShort result }
 {
     match what {
-        Cancel::Return(copy) => {
+        Cancel::Checkin(copy) => {
             let title = catalogue.title_name(catalogue.title_of(*copy));
             let outcome = LoanOutcome::Cancelled { title, number };
             Reply::Checkout(loan_reply(catalogue, repeated, outcome))
@@ -42,7 +42,7 @@ pub(crate) fn cancellation_reply<'a, A: Allocator + Copy>(
             let outcome = LoanOutcome::Cancelled { title, number };
             Reply::Renew(loan_reply(catalogue, repeated, outcome))
         }
-        Cancel::Loan(copy) => {
+        Cancel::Checkout(copy) => {
             let outcome = CheckinOutcome::Cancelled {
                 home: catalogue.branch_name(catalogue.home(*copy)),
                 title: catalogue.title_name(catalogue.title_of(*copy)),
@@ -50,7 +50,7 @@ pub(crate) fn cancellation_reply<'a, A: Allocator + Copy>(
             };
             Reply::Checkin(checkin_reply(catalogue, repeated, outcome))
         }
-        Cancel::Adding(_, title) | Cancel::Deletion(_, title) | Cancel::Changing(_, title) => {
+        Cancel::Add(_, title) | Cancel::Delete(_, title) | Cancel::Change(_, title) => {
             let title = catalogue.title_name(*title);
             let outcome = HoldOutcome::Cancelled { title, number };
             Reply::Hold(hold_reply(catalogue, repeated, outcome))

@@ -7,16 +7,16 @@ ghost use Rattle.hd_rules.specs.Known.{IsKnownState};
 ghost use Rattle.hd_exchange.specs.CheckinReplies.{IsWhereabouts};
 ghost use Rattle.hd_exchange.specs.Messages.{bytes_repeated};
 
-use crate::repeated::Repeated;
+use crate::repeated::RepeatedValues;
 use hd_catalogue::Catalogue;
 use hd_message::{CheckinOutcome, CheckinReply, Whereabouts};
 use hd_rules::{CopyState, HoldPlace};
 use std::alloc::Allocator;
 
-/// The reply to a checkin that came to this.
+/// The reply to a checkin with this outcome.
 pub(crate) fn checkin_reply<'a, A: Allocator + Copy>(
     catalogue: &'a Catalogue<A>,
-    repeated: &'a Repeated<'a>,
+    repeated: &'a RepeatedValues<'a>,
     outcome: CheckinOutcome<'a>,
 ) -> CheckinReply<'a>
     ensures date { result.date.now ≡ repeated.now.date }

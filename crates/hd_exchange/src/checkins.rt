@@ -39,7 +39,7 @@ impl<'a, A: Allocator + Copy> DeskRequest<A> for CheckinRequest<'a> {
         let stamp = dates.transaction.ok_or(Refusal::BadDate)?;
         let copy = catalogue.copy(self.copy).ok_or(Refusal::UnknownItem)?;
         if self.cancels {
-            return Ok(Asked::Cancel(Cancel::Loan(copy)));
+            return Ok(Asked::Cancel(Cancel::Checkout(copy)));
         }
         let branch = return_branch(catalogue, own, self.branch);
         Ok(Asked::Command(Command {

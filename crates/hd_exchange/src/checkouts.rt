@@ -43,7 +43,7 @@ impl<'a, A: Allocator + Copy> DeskRequest<A> for CheckoutRequest<'a> {
         let patron = catalogue.patron(self.patron).ok_or(Refusal::UnknownPatron)?;
         let copy = catalogue.copy(self.copy).ok_or(Refusal::UnknownItem)?;
         if self.cancels {
-            return Ok(Asked::Cancel(Cancel::Return(copy)));
+            return Ok(Asked::Cancel(Cancel::Checkin(copy)));
         }
         Ok(Asked::Command(Command {
             day: stamp.day(),

@@ -1,11 +1,11 @@
 //! Answering a message that asks something of the desk.
-ghost use Rattle.std.specs.Prelude.{◌≡◌, ◌+◌, ◌≤◌, ◌++◌, ℕ, List, IfErr, IsOk, OnOk, OnErr};
-ghost use Rattle.std.specs.Prelude.{vec_len, vec_capacity};
+ghost use Rattle.std.specs.Prelude.{◌+◌, ◌≤◌, [], ℕ, List, IfErr, IsOk, OnOk, OnErr};
+ghost use Rattle.std.specs.Prelude.{length, vec_len, vec_capacity};
 ghost use Rattle.hd_rules.specs.Journal.{Turn};
 ghost use Rattle.hd_catalogue.specs.Contents.{facts_of};
 ghost use Rattle.hd_exchange.specs.Answers.{IsDeskAnswer};
 ghost use Rattle.hd_exchange.specs.Messages.{IsAskable};
-ghost use Rattle.hd_exchange.specs.Turns.{MakesAtMostOne};
+ghost use Rattle.hd_exchange.specs.Works.{Extends, Works};
 
 use crate::message::DeskMessage;
 use crate::refusals::refusal_reply;
@@ -28,18 +28,15 @@ pub(crate) fn answer<A: Allocator + Copy, O: Office<A>>(
     ensures answer { OnOk result (
         (made : List Turn)
         × (text : List ℕ)
-        × (O.turns office.new ≡ O.turns office.old ++ made)
-        × (out.new.items ≡ out.old.items ++ text)
-        × IsDeskAnswer (O.keeps office.old).contents message.now text made) }
-    ensures why { IfErr result O.faults }
-    ensures cause { IfErr result (O.causes office.old office.new) }
+        × IsDeskAnswer (O.keeps office.old).contents message.now text made
+        × Works O.Office office.old office.new made
+        × Extends out.old out.new text
+        × (length made ≤ 1)
+        × (length text ≤ 2038)) }
+    // At a fault there is no turn and no text.
+    ensures err { OnErr result (Works O.Office office.old office.new [] × Extends out.old out.new []) }
+    ensures why { IfErr result (λ why. O.faults why × O.causes office.old office.new why) }
     ensures asks { OnErr result (IsOk message.now.asks) }
-    ensures err { OnErr result ((out.new.items ≡ out.old.items) × (O.turns office.new ≡ O.turns office.old)) }
-    ensures one { MakesAtMostOne (O.turns office.old) (O.turns office.new) }
-    ensures short { vec_len out.new ≤ vec_len out.old + 2038 }
-    ensures capacity { vec_capacity out.old ≤ vec_capacity out.new }
-    ensures same { O.keeps office.new ≡ O.keeps office.old }
-    ensures holds { O.holds office.old → O.holds office.new }
 {
     match &message.asks {
         Ok(ask) => {

@@ -4,15 +4,15 @@ ghost use Rattle.std.specs.Option.{option_copied, unwrap_or};
 ghost use Rattle.hd_message.specs.Lengths.{IsPrintedDate, IsName, bytes_of};
 ghost use Rattle.hd_exchange.specs.Messages.{bytes_repeated};
 
-use crate::repeated::Repeated;
+use crate::repeated::RepeatedValues;
 use hd_catalogue::Catalogue;
 use hd_message::{HoldOutcome, HoldReply};
 use std::alloc::Allocator;
 
-/// The reply to a hold message that came to this. It has an AB only where there is one to repeat.
+/// The reply to a hold message with this outcome. It has an AB only where there is one to repeat.
 pub(crate) fn hold_reply<'a, A: Allocator + Copy>(
     catalogue: &'a Catalogue<A>,
-    repeated: &'a Repeated<'a>,
+    repeated: &'a RepeatedValues<'a>,
     outcome: HoldOutcome<'a>,
 ) -> HoldReply<'a>
     ensures date { result.date.now ≡ repeated.now.date }

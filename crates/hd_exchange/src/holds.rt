@@ -8,7 +8,7 @@ ghost use Rattle.hd_exchange.specs.Asks.{kind_of, kind_of_action, kind_of_cancel
 ghost use Rattle.hd_exchange.specs.HoldAsks.{added_kind, changed_kind, hold_action};
 ghost use Rattle.hd_exchange.specs.HoldAsks.{hold_addition, hold_cancel, hold_change, hold_named};
 ghost use Rattle.hd_exchange.specs.Messages.{AreValuesOf, hold_states};
-ghost use Rattle.hd_exchange.specs.Names.{IsKnownNamed};
+ghost use Rattle.hd_exchange.specs.Names.{AreKnownNames};
 
 use crate::dates::Dates;
 use crate::names::{branch_if_given, copy_if_given, title_of};
@@ -23,7 +23,7 @@ use std::alloc::Allocator;
 
 /// What a hold message names, looked up.
 #[derive(Clone, Copy)]
-pub(crate) struct Named {
+pub(crate) struct HoldNames {
     patron: PatronNo,
     title: TitleNo,
     copy: Option<CopyNo>,
@@ -65,7 +65,7 @@ impl<'a, A: Allocator + Copy> DeskRequest<A> for HoldRequest<'a> {
         let patron = catalogue.patron(self.patron).ok_or(Refusal::UnknownPatron)?;
         let copy = copy_if_given(catalogue, self.copy).ok_or(Refusal::UnknownItem)?;
         let title = title_of(catalogue, self.title, &copy).ok_or(Refusal::UnknownTitle)?;
-        let named = Named {
+        let named = HoldNames {
             patron,
             title,
             copy,
@@ -82,10 +82,10 @@ fn hold_named<A: Allocator + Copy>(
     request: &HoldRequest<'_>,
     day: Day,
     expiry: Option<Day>,
-    named: &Named,
+    named: &HoldNames,
 ) -> Result<Asked, Refusal>
     requires own { own < (facts_of catalogue.now).branches }
-    requires named { IsKnownNamed (facts_of catalogue.now) named.now }
+    requires named { AreKnownNames (facts_of catalogue.now) named.now }
     ensures asked { result ≡ hold_named catalogue.now own request.now day expiry named.now }
     ensures kind { IfOk result (λ asked. kind_of asked ≡ kind.Hold) }
     ensures known { IfOk result (IsKnown (facts_of catalogue.now)) }
@@ -107,10 +107,10 @@ fn hold_named<A: Allocator + Copy>(
 }
 
 /// What a hold message that doesn't cancel does; `own` is the branch of its terminal.
-fn hold_action(mode: Mode, named: &Named, wish: &Wish, own: BranchNo) -> Action
+fn hold_action(mode: Mode, named: &HoldNames, wish: &Wish, own: BranchNo) -> Action
     ensures action { result ≡ hold_action mode named.now wish.now own }
     ensures kind { kind_of_action result ≡ kind.Hold }
-    ensures known { (k : Facts) → IsKnownNamed k named.now
+    ensures known { (k : Facts) → AreKnownNames k named.now
         → IfSome wish.now.pickup (λ branch. branch < k.branches)
         → own < k.branches → IsKnownAction k result }
 {
@@ -125,10 +125,10 @@ fn hold_action(mode: Mode, named: &Named, wish: &Wish, own: BranchNo) -> Action
 }
 
 /// The adding of a hold: it is picked up at the terminal's own branch where the message names none.
-fn addition(named: &Named, wish: &Wish, own: BranchNo) -> Action
+fn addition(named: &HoldNames, wish: &Wish, own: BranchNo) -> Action
     ensures action { result ≡ hold_addition named.now wish.now own }
     ensures kind { kind_of_action result ≡ kind.Hold }
-    ensures known { (k : Facts) → IsKnownNamed k named.now
+    ensures known { (k : Facts) → AreKnownNames k named.now
         → IfSome wish.now.pickup (λ branch. branch < k.branches)
         → own < k.branches → IsKnownAction k result }
 {
@@ -154,14 +154,14 @@ fn added_kind(wanted: Option<Wanted>, copy: Option<CopyNo>) -> HoldKind
 }
 
 /// The change of a hold: what the message doesn't say stays.
-fn change(named: &Named, wish: &Wish) -> Action
+fn change(named: &HoldNames, wish: &Wish) -> Action
     ensures action { result ≡ hold_change named.now wish.now }
     ensures kind { kind_of_action result ≡ kind.Hold }
-    ensures known { (k : Facts) → IsKnownNamed k named.now
+    ensures known { (k : Facts) → AreKnownNames k named.now
         → IfSome wish.now.pickup (λ branch. branch < k.branches)
         → IsKnownAction k result }
 {
-    Action::ChangeHold {
+    Action::Change {
         patron: named.patron,
         title: named.title,
         kind: changed_kind(wish.wanted, named.copy),
@@ -185,14 +185,14 @@ fn changed_kind(wanted: Option<Wanted>, copy: Option<CopyNo>) -> Option<HoldKind
 
 /// What a cancellation takes back: for a delete the newest add, for an add the newest delete, for a change
 /// the newest change.
-fn hold_cancel(mode: Mode, named: &Named) -> Cancel
+fn hold_cancel(mode: Mode, named: &HoldNames) -> Cancel
     ensures cancel { result ≡ hold_cancel mode named.now }
     ensures kind { kind_of_cancel result ≡ kind.Hold }
-    ensures known { (k : Facts) → IsKnownNamed k named.now → IsKnownCancel k result }
+    ensures known { (k : Facts) → AreKnownNames k named.now → IsKnownCancel k result }
 {
     match mode {
-        Mode::Delete => Cancel::Adding(named.patron, named.title),
-        Mode::Add => Cancel::Deletion(named.patron, named.title),
-        Mode::Change => Cancel::Changing(named.patron, named.title),
+        Mode::Delete => Cancel::Add(named.patron, named.title),
+        Mode::Add => Cancel::Delete(named.patron, named.title),
+        Mode::Change => Cancel::Change(named.patron, named.title),
     }
 }

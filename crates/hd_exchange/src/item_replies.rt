@@ -9,14 +9,17 @@ ghost use Rattle.hd_rules.specs.declared.turns.Asked.TheVariants as ask;
 ghost use Rattle.hd_exchange.specs.ItemReplies.{IsCirculation, IsItemOutcome};
 ghost use Rattle.hd_exchange.specs.Messages.{bytes_repeated};
 
-use crate::repeated::Repeated;
+use crate::repeated::RepeatedValues;
 use hd_catalogue::Catalogue;
 use hd_message::{Circulation, ItemOutcome, ItemReply};
 use hd_rules::{CopyNo, CopyState, ItemView};
 use std::alloc::Allocator;
 
-/// The reply to a question that came to this.
-pub(crate) fn item_reply<'a>(repeated: &'a Repeated<'a>, outcome: ItemOutcome<'a>) -> ItemReply<'a>
+/// The reply to a question with this outcome.
+pub(crate) fn item_reply<'a>(
+    repeated: &'a RepeatedValues<'a>,
+    outcome: ItemOutcome<'a>,
+) -> ItemReply<'a>
     ensures date { result.date.now ≡ repeated.now.date }
     ensures copy { result.copy.now ≡ unwrap_or (option_copied repeated.now.copy) [] }
     ensures outcome { result.outcome ≡ outcome.entry }

@@ -4,15 +4,15 @@ ghost use Rattle.std.specs.Option.{option_copied, unwrap_or};
 ghost use Rattle.hd_message.specs.Lengths.{IsPrintedDate, IsName};
 ghost use Rattle.hd_exchange.specs.Messages.{bytes_repeated};
 
-use crate::repeated::Repeated;
+use crate::repeated::RepeatedValues;
 use hd_catalogue::Catalogue;
 use hd_message::{LoanOutcome, LoanReply};
 use std::alloc::Allocator;
 
-/// The reply to a checkout or a renewal that came to this.
+/// The reply to a checkout or a renewal with this outcome.
 pub(crate) fn loan_reply<'a, A: Allocator + Copy>(
     catalogue: &'a Catalogue<A>,
-    repeated: &'a Repeated<'a>,
+    repeated: &'a RepeatedValues<'a>,
     outcome: LoanOutcome<'a>,
 ) -> LoanReply<'a>
     ensures date { result.date.now ≡ repeated.now.date }

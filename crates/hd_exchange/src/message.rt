@@ -1,7 +1,7 @@
 //! Messages, as they ask nothing of the desk or are one ask of it.
 
 use crate::login::Login;
-use crate::repeated::Repeated;
+use crate::repeated::RepeatedValues;
 use hd_journal::Ask;
 use hd_message::DeskKind;
 use hd_rules::Refusal;
@@ -12,7 +12,7 @@ pub(crate) struct DeskMessage<'a> {
     /// What kind of message it is.
     pub(crate) kind: DeskKind,
     /// What its reply repeats of it.
-    pub(crate) repeated: Repeated<'a>,
+    pub(crate) repeated: RepeatedValues<'a>,
     /// What it asks, or the first refusal by the session, its dates and its names.
     pub(crate) asks: Result<Ask<'a>, Refusal>,
 }

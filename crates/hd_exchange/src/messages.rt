@@ -8,8 +8,8 @@ ghost use Rattle.hd_exchange.specs.Messages.{IsBodyOf, NamesKnownThings, IsReque
 
 use crate::checkins::checkin_values;
 use crate::checkouts::checkout_values;
+use crate::context::MessageContext;
 use crate::holds::hold_values;
-use crate::incoming::Incoming;
 use crate::items::item_values;
 use crate::logins::login_made;
 use crate::message::{Message, SessionMessage};
@@ -23,21 +23,21 @@ use std::alloc::Allocator;
 /// The message of a body.
 pub(crate) fn message_of<'a, A: Allocator + Copy>(
     catalogue: &Catalogue<A>,
-    incoming: &Incoming<'a>,
+    context: &MessageContext<'a>,
     body: &'a [u8],
 ) -> Message<'a>
-    requires login { ForSome incoming.now.login (IsKnownLogin (facts_of catalogue.now)) }
+    requires login { ForSome context.now.login (IsKnownLogin (facts_of catalogue.now)) }
     requires short { length body.now ≤ 1024 }
-    ensures message { IsBodyOf catalogue.now incoming.now body.now result }
-    ensures known { NamesKnownThings (facts_of catalogue.now) incoming.now.seat result }
+    ensures message { IsBodyOf catalogue.now context.now body.now result }
+    ensures known { NamesKnownThings (facts_of catalogue.now) context.now.seat result }
 {
     repeated_values_fit_their_body();
     match read(body) {
-        Ok(request) => message_read(catalogue, incoming, &request),
+        Ok(request) => message_read(catalogue, context, &request),
         Err(Unreadable::Login) => Message::Session(SessionMessage::Login(None)),
         Err(Unreadable::Desk(message)) => {
             let values = unreadable_values(&message);
-            Message::Desk(desk_message(catalogue, incoming, &message, &values))
+            Message::Desk(desk_message(catalogue, context, &message, &values))
         }
     }
 }
@@ -45,13 +45,13 @@ pub(crate) fn message_of<'a, A: Allocator + Copy>(
 /// The message that a request is.
 fn message_read<'a, A: Allocator + Copy>(
     catalogue: &Catalogue<A>,
-    incoming: &Incoming<'a>,
+    context: &MessageContext<'a>,
     request: &Request<'a>,
 ) -> Message<'a>
-    requires login { ForSome incoming.now.login (IsKnownLogin (facts_of catalogue.now)) }
+    requires login { ForSome context.now.login (IsKnownLogin (facts_of catalogue.now)) }
     requires short { repeated_bytes request.now ≤ 1024 }
-    ensures message { IsRequestAs catalogue.now incoming.now request.now result }
-    ensures known { NamesKnownThings (facts_of catalogue.now) incoming.now.seat result }
+    ensures message { IsRequestAs catalogue.now context.now request.now result }
+    ensures known { NamesKnownThings (facts_of catalogue.now) context.now.seat result }
 {
     match request {
         Request::Login(request) => {
@@ -60,23 +60,23 @@ fn message_read<'a, A: Allocator + Copy>(
         Request::Status => Message::Session(SessionMessage::Status),
         Request::Checkout(request) => {
             let values = checkout_values(request);
-            Message::Desk(desk_message(catalogue, incoming, request, &values))
+            Message::Desk(desk_message(catalogue, context, request, &values))
         }
         Request::Checkin(request) => {
             let values = checkin_values(request);
-            Message::Desk(desk_message(catalogue, incoming, request, &values))
+            Message::Desk(desk_message(catalogue, context, request, &values))
         }
         Request::Hold(request) => {
             let values = hold_values(request);
-            Message::Desk(desk_message(catalogue, incoming, request, &values))
+            Message::Desk(desk_message(catalogue, context, request, &values))
         }
         Request::Renew(request) => {
             let values = renew_values(request);
-            Message::Desk(desk_message(catalogue, incoming, request, &values))
+            Message::Desk(desk_message(catalogue, context, request, &values))
         }
         Request::Item(request) => {
             let values = item_values(request);
-            Message::Desk(desk_message(catalogue, incoming, request, &values))
+            Message::Desk(desk_message(catalogue, context, request, &values))
         }
         Request::Resend => Message::Session(SessionMessage::Resend),
         Request::Unsupported => Message::Session(SessionMessage::Unsupported),

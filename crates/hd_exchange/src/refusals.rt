@@ -11,7 +11,7 @@ use crate::checkin_replies::checkin_reply;
 use crate::hold_replies::hold_reply;
 use crate::item_replies::item_reply;
 use crate::loan_replies::loan_reply;
-use crate::repeated::Repeated;
+use crate::repeated::RepeatedValues;
 use hd_catalogue::Catalogue;
 use hd_message::{CheckinOutcome, DeskKind, HoldOutcome, ItemOutcome, LoanOutcome, Reply};
 use hd_rules::Refusal;
@@ -21,7 +21,7 @@ use std::alloc::Allocator;
 pub(crate) fn refusal_reply<'a, A: Allocator + Copy>(
     catalogue: &'a Catalogue<A>,
     kind: DeskKind,
-    repeated: &'a Repeated<'a>,
+    repeated: &'a RepeatedValues<'a>,
     refusal: Refusal,
 ) -> Reply<'a>
     requires short { bytes_repeated repeated.now ≤ 1024 }

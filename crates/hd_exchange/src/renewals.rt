@@ -43,7 +43,7 @@ impl<'a, A: Allocator + Copy> DeskRequest<A> for RenewRequest<'a> {
         }
         Ok(Asked::Command(Command {
             day: stamp.day(),
-            action: Action::Renew { patron, copy },
+            action: Action::Renewal { patron, copy },
         }))
     }
 }

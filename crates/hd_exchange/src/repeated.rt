@@ -2,7 +2,7 @@
 
 /// What a reply repeats of its message.
 #[derive(Clone, Copy)]
-pub(crate) struct Repeated<'a> {
+pub(crate) struct RepeatedValues<'a> {
     /// The transaction date in local form, or the present where that is missing or unreadable.
     pub(crate) date: [u8; 18],
     /// AA, the patron identifier; nothing where the message has none.

@@ -12,7 +12,7 @@ use crate::accepted::accepted_reply;
 use crate::cancellations::cancellation_reply;
 use crate::item_replies::{item_reply, outcome_of_view};
 use crate::refusals::refusal_reply;
-use crate::repeated::Repeated;
+use crate::repeated::RepeatedValues;
 use hd_catalogue::Catalogue;
 use hd_message::{DeskKind, Reply};
 use hd_rules::{Action, Asked, Cancel, TurnReply};
@@ -21,7 +21,7 @@ use std::alloc::Allocator;
 /// The reply to a message whose turn asked this and was told that.
 pub(crate) fn reply_to<'a, A: Allocator + Copy>(
     catalogue: &'a Catalogue<A>,
-    repeated: &'a Repeated<'a>,
+    repeated: &'a RepeatedValues<'a>,
     asked: &Asked,
     told: &'a TurnReply,
 ) -> Reply<'a>
@@ -67,8 +67,8 @@ fn kind_of_action(action: &Action) -> DeskKind
     match action {
         Action::Checkout { .. } | Action::OffLine { .. } => DeskKind::Checkout,
         Action::Checkin { .. } => DeskKind::Checkin,
-        Action::Add { .. } | Action::Delete { .. } | Action::ChangeHold { .. } => DeskKind::Hold,
-        Action::Renew { .. } => DeskKind::Renew,
+        Action::Add { .. } | Action::Delete { .. } | Action::Change { .. } => DeskKind::Hold,
+        Action::Renewal { .. } => DeskKind::Renew,
     }
 }
 
@@ -77,9 +77,9 @@ fn kind_of_cancel(what: &Cancel) -> DeskKind
     ensures { result ≡ kind_of_cancel what.now }
 {
     match what {
-        Cancel::Return(_) => DeskKind::Checkout,
-        Cancel::Loan(_) => DeskKind::Checkin,
+        Cancel::Checkin(_) => DeskKind::Checkout,
+        Cancel::Checkout(_) => DeskKind::Checkin,
         Cancel::Renewal(_) => DeskKind::Renew,
-        Cancel::Adding(..) | Cancel::Deletion(..) | Cancel::Changing(..) => DeskKind::Hold,
+        Cancel::Add(..) | Cancel::Delete(..) | Cancel::Change(..) => DeskKind::Hold,
     }
 }

@@ -8,10 +8,10 @@ ghost use Rattle.hd_exchange.specs.Asks.{kind_of};
 ghost use Rattle.hd_exchange.specs.Messages.{AreValuesOf, IsAskAt, IsAskable, IsAskedAs, IsMessageOf, Stated};
 ghost use Rattle.hd_exchange.specs.Messages.{asked_by, bytes_stated};
 
+use crate::context::MessageContext;
 use crate::dates::{Dates, dates_of};
-use crate::incoming::Incoming;
 use crate::message::DeskMessage;
-use crate::repeated::Repeated;
+use crate::repeated::RepeatedValues;
 use crate::values::Values;
 use hd_catalogue::Catalogue;
 use hd_journal::Ask;
@@ -34,18 +34,18 @@ pub(crate) trait DeskRequest<A: Allocator + Copy> {
 /// The message that a request with these values is.
 pub(crate) fn desk_message<'a, A: Allocator + Copy, R: DeskRequest<A>>(
     catalogue: &Catalogue<A>,
-    incoming: &Incoming<'a>,
+    context: &MessageContext<'a>,
     request: &R,
     values: &Values<'a>,
 ) -> DeskMessage<'a>
-    requires login { ForSome incoming.now.login (IsKnownLogin (facts_of catalogue.now)) }
+    requires login { ForSome context.now.login (IsKnownLogin (facts_of catalogue.now)) }
     requires values { AreValuesOf (R.states catalogue.now request.now) values.now }
     requires short { bytes_stated (R.states catalogue.now request.now) ≤ 1024 }
-    ensures message { IsMessageOf catalogue.now incoming.now (R.states catalogue.now request.now) result }
-    ensures known { IsAskable (facts_of catalogue.now) incoming.now.seat result }
+    ensures message { IsMessageOf catalogue.now context.now (R.states catalogue.now request.now) result }
+    ensures known { IsAskable (facts_of catalogue.now) context.now.seat result }
 {
     let dates = dates_of(
-        incoming.present(),
+        &context.present,
         values.date,
         values.other,
         catalogue.offset(),
@@ -53,30 +53,30 @@ pub(crate) fn desk_message<'a, A: Allocator + Copy, R: DeskRequest<A>>(
     let date = dates.printed;
     DeskMessage {
         kind: values.kind,
-        repeated: Repeated {
+        repeated: RepeatedValues {
             date,
             patron: values.patron,
             copy: values.copy,
             title: values.title,
         },
-        asks: session_asks(catalogue, incoming, request, &dates),
+        asks: session_asks(catalogue, context, request, &dates),
     }
 }
 
 /// What a session asks by a request, or the first refusal.
 fn session_asks<'a, A: Allocator + Copy, R: DeskRequest<A>>(
     catalogue: &Catalogue<A>,
-    incoming: &Incoming<'a>,
+    context: &MessageContext<'a>,
     request: &R,
     dates: &Dates,
 ) -> Result<Ask<'a>, Refusal>
-    requires login { ForSome incoming.now.login (IsKnownLogin (facts_of catalogue.now)) }
-    ensures asked { IsAskedAs incoming.now
-        (asked_by incoming.now.login (R.states catalogue.now request.now) dates.now) result }
-    ensures ask { IfOk result (IsAskAt (facts_of catalogue.now) incoming.now.seat
+    requires login { ForSome context.now.login (IsKnownLogin (facts_of catalogue.now)) }
+    ensures asked { IsAskedAs context.now
+        (asked_by context.now.login (R.states catalogue.now request.now) dates.now) result }
+    ensures ask { IfOk result (IsAskAt (facts_of catalogue.now) context.now.seat
         (R.states catalogue.now request.now).kind) }
 {
-    let login = incoming.login().ok_or(Refusal::NotLoggedIn)?;
+    let login = context.login.ok_or(Refusal::NotLoggedIn)?;
     let asked = request.asks(catalogue, login.branch, dates)?;
-    Ok(incoming.ask(&login, asked))
+    Ok(context.ask(&login, asked))
 }

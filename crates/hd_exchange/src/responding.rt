@@ -1,20 +1,20 @@
 //! What a message is answered.
-ghost use Rattle.std.specs.Prelude.{◌≡◌, ◌+◌, ◌≤◌, ◌++◌, ℕ, List, IfErr, IfOk, OnErr, length, option_map};
+ghost use Rattle.std.specs.Prelude.{◌≡◌, ◌+◌, ◌≤◌, [], ℕ, List, IfErr, IfOk, OnErr, length, option_map};
 ghost use Rattle.std.specs.Prelude.{vec_len, vec_capacity};
 ghost use Rattle.std.specs.Option.{ForSome};
 ghost use Rattle.hd_rules.specs.Journal.{Turn};
 ghost use Rattle.hd_catalogue.specs.Contents.{facts_of};
 ghost use Rattle.hd_exchange.specs.Answers.{AsksTheOffice, IsAnswer};
 ghost use Rattle.hd_exchange.specs.Arrivals.{IsKnownLogin};
-ghost use Rattle.hd_exchange.specs.Turns.{MakesAtMostOne};
+ghost use Rattle.hd_exchange.specs.Works.{Extends, Works};
 
 use crate::alone::answer_alone;
+use crate::context::MessageContext;
 use crate::desk::answer;
-use crate::incoming::Incoming;
 use crate::login::Login;
 use crate::message::Message;
 use crate::messages::message_of;
-use crate::said::Said;
+use crate::reply_kind::ReplyKind;
 use hd_date::Stamp18;
 use hd_journal::{Office, TurnFault};
 use std::alloc::Allocator;
@@ -39,39 +39,42 @@ pub fn respond<A: Allocator + Copy, O: Office<A>>(
     body: &[u8],
     line: Option<&[u8]>,
     out: &mut Vec<u8, A>,
-) -> Result<Said, TurnFault>
+) -> Result<ReplyKind, TurnFault>
     requires login { ForSome login.old (IsKnownLogin (facts_of (O.keeps office.old).contents)) }
     requires short { length body.now ≤ 1024 }
     requires room { vec_len out.old + 2038 ≤ vec_capacity out.old }
+    // One turn is made or none, and at most 2,038 bytes are appended.
     ensures answer { IfOk result (λ said.
         (made : List Turn)
         × (text : List ℕ)
-        × (O.turns office.new ≡ O.turns office.old ++ made)
-        × (out.new.items ≡ out.old.items ++ text)
         × IsAnswer (O.keeps office.old).contents (O.keeps office.old).seat now.now login.old
-        (option_map (λ bytes. bytes.now) line.entry) body.now said text made login.new) }
+        (option_map (λ bytes. bytes.now) line.entry) body.now said text made login.new
+        × Works O.Office office.old office.new made
+        × Extends out.old out.new text
+        × (length made ≤ 1)
+        × (length text ≤ 2038)) }
     ensures login { ForSome login.new (IsKnownLogin (facts_of (O.keeps office.old).contents)) }
-    ensures why { IfErr result O.faults }
-    ensures cause { IfErr result (O.causes office.old office.new) }
-    ensures asks { OnErr result (AsksTheOffice (O.keeps office.old).contents login.old body.now) }
+    // At a fault there is no turn and no text, and the session is logged in as before.
     ensures err { OnErr result (
-        (out.new.items ≡ out.old.items)
-        × (login.new ≡ login.old)
-        × (O.turns office.new ≡ O.turns office.old)) }
-    ensures one { MakesAtMostOne (O.turns office.old) (O.turns office.new) }
-    ensures short { vec_len out.new ≤ vec_len out.old + 2038 }
-    ensures capacity { vec_capacity out.old ≤ vec_capacity out.new }
-    ensures same { O.keeps office.new ≡ O.keeps office.old }
-    ensures holds { O.holds office.old → O.holds office.new }
+        Works O.Office office.old office.new []
+        × Extends out.old out.new []
+        × (login.new ≡ login.old)) }
+    ensures why { IfErr result (λ why. O.faults why × O.causes office.old office.new why) }
+    ensures asks { OnErr result (AsksTheOffice (O.keeps office.old).contents login.old body.now) }
 {
-    let incoming = Incoming::new(office.seat(), now, *login, line);
-    match message_of(office.catalogue(), &incoming, body) {
+    let context = MessageContext {
+        present: *now,
+        seat: office.seat(),
+        login: *login,
+        line,
+    };
+    match message_of(office.catalogue(), &context, body) {
         Message::Session(message) => {
             Ok(answer_alone(office.catalogue(), now, &message, login, out))
         }
         Message::Desk(message) => {
             answer(office, &message, out)?;
-            Ok(Said::Reply)
+            Ok(ReplyKind::Reply)
         }
     }
 }

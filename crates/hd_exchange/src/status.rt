@@ -1,6 +1,7 @@
 //! Status messages (99).
-ghost use Rattle.std.specs.Prelude.{◌≡◌, ◌+◌, ◌≤◌, ◌++◌, ℕ, List, vec_len, vec_capacity};
+ghost use Rattle.std.specs.Prelude.{◌+◌, ◌≤◌, ℕ, List, length, vec_len, vec_capacity};
 ghost use Rattle.hd_exchange.specs.Answers.{SaysStatus};
+ghost use Rattle.hd_exchange.specs.Works.{Extends};
 
 use crate::writing::write_reply;
 use hd_catalogue::Catalogue;
@@ -15,10 +16,10 @@ pub(crate) fn write_status<A: Allocator + Copy>(
     out: &mut Vec<u8, A>,
 )
     requires room { vec_len out.old + 2038 ≤ vec_capacity out.old }
-    ensures text { (text : List ℕ) × (out.new.items ≡ out.old.items ++ text)
-        × SaysStatus catalogue.now now.now text }
-    ensures short { vec_len out.new ≤ vec_len out.old + 2038 }
-    ensures capacity { vec_capacity out.old ≤ vec_capacity out.new }
+    ensures { (text : List ℕ)
+        × SaysStatus catalogue.now now.now text
+        × Extends out.old out.new text
+        × (length text ≤ 2038) }
 {
     let date = now.print();
     let reply = StatusReply {

@@ -38,7 +38,7 @@ impl<A: Allocator> Stream<A> {
     /// A stream before its first byte, with room for its longest line.
     ///
     /// # Errors
-    /// An error is want of memory.
+    /// Out of memory.
     pub fn new(alloc: A) -> Result<Stream<A>, AllocError>
         ensures { IfOk result (λ stream. stream ≡ stream_start) }
     {

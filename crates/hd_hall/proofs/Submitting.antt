@@ -6,13 +6,13 @@ use Rattle.hd_rules.specs.Known.{IsKnownTurnReply}
 use Rattle.hd_rules.specs.Replies.{IsReplyTo}
 use Rattle.hd_rules.specs.Run.{IsAmong}
 use Rattle.hd_catalogue.specs.Contents.{facts_of}
-use Rattle.hd_journal.specs.Asks.{SeatMessage, turn_with_reply}
+use Rattle.hd_rules.specs.Messages.{SeatMessage, turn_with_reply}
 use Rattle.hd_journal.specs.Keepers.{IsAdded}
 use Rattle.hd_journal.specs.Openings.{Opening, IsLegalSince}
 use Rattle.hd_journal.specs.declared.fault.TurnFault.{TurnFault}
 use Rattle.hd_journal.specs.declared.fault.TurnFault.TheVariants as fault
 use Rattle.hd_journal.specs.declared.turn.Turn.{Turn as Made}
-use Rattle.hd_hall.specs.Faults.{IsHallFault, IsLockFault}
+use Rattle.hd_hall.specs.Faults.{IsHallFault, IsLockFault, IsSubmitFault}
 use Rattle.hd_hall.specs.Receipts.{Receipted, HoldsLast, LacksLast, receipt_of}
 use Rattle.hd_hall.specs.Submitting.{IsNextOf, IsStrangeTo}
 
@@ -52,20 +52,30 @@ pub strange_of : (o : Opening) (before after : List Turn) (rs : List Receipted) 
 strange_of o before after rs gives Same (Ok made) legal same why = tt
 strange_of o before after rs gives Same (Err fault.Memory) legal same why = why
 strange_of o before after rs gives Same (Err (fault.Unwritten cause)) legal same why = why
-strange_of o before after rs gives Same (Err (fault.Estranged front)) legal same why =
-    elim why [
-      | inl lacks ↦ inl (record {
-        turns = before;
-        legal = subst (λ (ts : List Turn). IsLegalSince o ts) same.0 legal;
-        counted = sym lacks.0;
-        lacks = lacks.1;
-      })
-      | inr given ↦ inr given
-    ]
+strange_of o before after rs gives Same (Err (fault.Estranged front)) legal same why = record {
+  turns = before;
+  legal = subst (λ (ts : List Turn). IsLegalSince o ts) same.0 legal;
+  counted = sym why.0;
+  lacks = why.1;
+}
 
--- a fault of a hall, whatever the seat
-pub of_any_seat : (gives : TurnFault → Type 0) (Lacks : ℕ → Type 0) (why : TurnFault) → IsHallFault gives Lacks why
-    → IsHallFault gives (λ front. Unit {0}) why
-of_any_seat gives Lacks fault.Memory is = tt
-of_any_seat gives Lacks (fault.Unwritten cause) is = is
-of_any_seat gives Lacks (fault.Estranged front) is = elim is [ inl lacks ↦ inl tt | inr given ↦ inr given ]
+-- a fault of a hall, whatever is asked
+pub of_any_ask : (Needs : Type 0) (gives : TurnFault → Type 0) (Lacks : ℕ → Type 0) (why : TurnFault)
+    → IsSubmitFault Needs gives Lacks why → IsHallFault gives Lacks why
+of_any_ask Needs gives Lacks fault.Memory is = tt
+of_any_ask Needs gives Lacks (fault.Unwritten cause) is = is
+of_any_ask Needs gives Lacks (fault.Estranged front) is = is
+
+-- and whatever the seat
+pub of_any_seat : (Needs : Type 0) (gives : TurnFault → Type 0) (Lacks : ℕ → Type 0) (why : TurnFault)
+    → IsSubmitFault Needs gives Lacks why → IsHallFault gives (λ front. Unit {0}) why
+of_any_seat Needs gives Lacks fault.Memory is = tt
+of_any_seat Needs gives Lacks (fault.Unwritten cause) is = is
+of_any_seat Needs gives Lacks (fault.Estranged front) is = tt
+
+-- what the lock's section gives is one of a turn
+pub of_lock : (Needs : Type 0) (gives : TurnFault → Type 0) (Lacks : ℕ → Type 0) (why : TurnFault)
+    → IsLockFault gives Lacks why → IsSubmitFault Needs gives Lacks why
+of_lock Needs gives Lacks fault.Memory is = inr is
+of_lock Needs gives Lacks (fault.Unwritten cause) is = is
+of_lock Needs gives Lacks (fault.Estranged front) is = is

@@ -20,7 +20,8 @@ Misses {keeping = keeping} o (ReceiptDiffers keeper back number) seats =
     (back.items ≡ seats) × (keeping.opening keeper ≡ o) × LacksReceipt o (keeping.turns keeper) seats number
     × EachSeat seats IsWhole
 
--- Of a hall that has opened so many seats: a seat is told to be missing, with that number, or these are as many.
+-- Of a hall that has opened so many seats: a seat is told to be missing, with that number, or these are as
+-- many.
 abbrev pub CountsOpened : {H A Q K : Type 0} {house : Ghosts H} {memory : AllocatorGhosts A}
     {keeping : KeeperGhosts K A Q} → ℕ → NotClosed H A Q K house memory keeping → List SeatView → Type 0
 CountsOpened given (SeatMissing hall back opened) seats = opened ≡ given

@@ -1,7 +1,7 @@
 -- Receipts, and where their turns stand.
 use Rattle.std.specs.Prelude.{◌≡◌, ℕ, ◌+◌, ◌-◌, ◌<◌, List, [], ◌∷◌, Option, Some, None, slice_get}
 use Rattle.hd_rules.specs.Journal.{Turn}
-use Rattle.hd_journal.specs.Asks.{SeatMessage, turn_with_reply}
+use Rattle.hd_rules.specs.Messages.{SeatMessage, turn_with_reply}
 use Rattle.hd_journal.specs.Shown.{turn_shown}
 use Rattle.hd_journal.specs.declared.turn.Turn.{Turn as Made}
 use Rattle.hd_hall.specs.declared.receipt.Receipt.{Receipt}

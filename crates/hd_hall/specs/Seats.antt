@@ -1,5 +1,5 @@
 -- Seats.
-use Rattle.std.specs.Prelude.{◌≡◌, ℕ, ◌+◌, ◌<◌, List, [], ◌∷◌, ◌++◌, length, Some, slice_get}
+use Rattle.std.specs.Prelude.{◌≡◌, ℕ, ◌+◌, ◌*◌, ◌/◌, ◌<◌, ◌≤◌, List, [], ◌∷◌, ◌++◌, length, Some, slice_get}
 use Rattle.std.specs.List.{flat_map}
 use Rattle.hd_journal.specs.Openings.{Opening}
 use Rattle.hd_hall.specs.Receipts.{Receipted}
@@ -37,6 +37,10 @@ pub record IsWhole (s : SeatView) : Type 0 where
   pub own : AreOfSeat s.number s.receipts
   pub in_order : RiseAbove 0 s.receipts
   pub counted : s.share ≡ length s.receipts
+
+-- There is room for as many receipts as the next multiple of sixteen, so it grows at every sixteenth alone.
+abbrev pub HasRoom : ℕ → ℕ → Type 0
+HasRoom count room = (count + 15) / 16 * 16 ≤ room
 
 -- the seat while it lends its part
 abbrev pub without_part : SeatView → SeatView

@@ -10,10 +10,10 @@ ghost use Rattle.hd_hall.specs.Closings.{AreThere, AreTurnsOf, IsLacking, LacksR
 ghost use Rattle.hd_hall.specs.Receipts.{StandsAt};
 ghost use Rattle.hd_hall.specs.Seats.{EachSeat, IsWhole, all_receipts, with_part, without_part, shares};
 
+use crate::hall_state::stands;
 use crate::house::House;
-use crate::kept::Kept;
-use crate::locked::stands;
 use crate::seat::Seat;
+use crate::stored_receipt::StoredReceipt;
 use hd_journal::{Keeper, TurnRef};
 use std::alloc::Allocator;
 use std::sync::ledger::{Book, Share};
@@ -111,7 +111,7 @@ fn are_there<H: House, A: Allocator + Copy, Q: Drop, K: Keeper<A, Q>>(
 /// Whether each receipt is of the journal's turn of its number.
 fn all_stand<A: Allocator + Copy, Q: Drop, K: Keeper<A, Q>>(
     keeper: &K,
-    receipts: &[Kept<A>],
+    receipts: &[StoredReceipt<A>],
 ) -> bool
     ensures { IsTrue result ↔ All (StandsAt (K.turns keeper.now)) receipts.now }
 {
@@ -178,7 +178,7 @@ fn has_receipt<H: House, A: Allocator>(
 }
 
 /// Whether one of these is the turn's receipt.
-fn holds<A: Allocator>(receipts: &[Kept<A>], number: usize, turn: &TurnRef<'_>) -> bool
+fn holds<A: Allocator>(receipts: &[StoredReceipt<A>], number: usize, turn: &TurnRef<'_>) -> bool
     ensures { IsTrue result
         ↔ Contains receipts.now (record { number = number; turn = turn_shown turn.now }) }
 {

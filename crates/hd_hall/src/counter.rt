@@ -2,8 +2,8 @@
 
 ghost use Rattle.std.specs.Prelude.{◌≡◌, IfErr, IfOk, OnErr};
 ghost use Rattle.hd_catalogue.specs.Contents.{facts_of};
-ghost use Rattle.hd_journal.specs.Asks.{IsKnownMessage, message_of};
-ghost use Rattle.hd_hall.specs.Faults.{IsHallFault};
+ghost use Rattle.hd_rules.specs.Messages.{IsKnownMessage, message_of};
+ghost use Rattle.hd_hall.specs.Faults.{IsSubmitFault, NeedsMemory};
 ghost use Rattle.hd_hall.specs.Receipts.{number_of_last, receipt_of};
 ghost use Rattle.hd_hall.specs.Seats.{with_receipt};
 ghost use Rattle.hd_hall.specs.Submitting.{AreNext, IsNextOf, IsStrangeTo};
@@ -70,8 +70,8 @@ impl<'a, H: House, R: Wait, A: Allocator + Copy, Q: Drop, K: Keeper<A, Q> + Drop
         ensures kept { IfOk result (λ made.
             self.new.seat.now ≡ with_receipt self.old.seat.now (receipt_of (message_of ask.now) made)) }
         ensures all { AreNext H.opening self.new.seat.now.receipts }
-        ensures why { IfErr result
-            (IsHallFault K.faults (IsStrangeTo H.opening self.old.seat.now.receipts)) }
+        ensures why { IfErr result (IsSubmitFault (NeedsMemory self.old.seat.now.receipts ask.now.line) K.faults
+            (IsStrangeTo H.opening self.old.seat.now.receipts)) }
         ensures err { OnErr result (self.new.seat.now ≡ self.old.seat.now) }
         ensures same_reference { self.new.seat.ghost_name ≡ self.old.seat.ghost_name }
     {
@@ -88,6 +88,7 @@ impl<'a, H: House, R: Wait, A: Allocator + Copy, Q: Drop, K: Keeper<A, Q> + Drop
 impl<'a, H: House, R: Wait, A: Allocator + Copy, Q: Drop, K: Keeper<A, Q> + Drop> Office<A>
     for Counter<'a, H, R, A, Q, K> {
     ghost use Rattle.std.specs.Prelude.{map, [], ◌∷◌};
+    ghost use Rattle.hd_hall.specs.Faults.{IsHallFault};
 
     ghost keeps = { λ c. record {
       contents = H.opening.contents;

@@ -3,18 +3,18 @@
 ghost use Rattle.std.specs.Prelude.{◌≡◌, ◌+◌, ◌<◌, [], ℕ, Err, IfOk, IfErr, IfSome, OnOk, OnErr};
 ghost use Rattle.std.specs.Arc.{arc_value};
 ghost use Rattle.hd_catalogue.specs.Contents.{facts_of};
-ghost use Rattle.hd_journal.specs.Asks.{IsKnownMessage, turn_with_reply, message_of};
+ghost use Rattle.hd_rules.specs.Messages.{IsKnownMessage, turn_with_reply, message_of};
 ghost use Rattle.hd_hall.specs.Closings.{AreTurnsOf};
-ghost use Rattle.hd_hall.specs.Faults.{IsHallFault, IsLockFault};
+ghost use Rattle.hd_hall.specs.Faults.{IsLockFault, IsSubmitFault, NeedsMemory};
 ghost use Rattle.hd_hall.specs.Receipts.{receipt_of, receipt_shown};
 ghost use Rattle.hd_hall.specs.Seats.{EachSeat, IsWhole, with_receipt};
 ghost use Rattle.hd_hall.specs.Submitting.{AreNext, IsNextOf, IsStrangeTo};
 
+use crate::hall_state::HallState;
 use crate::house::House;
-use crate::kept::Kept;
-use crate::locked::Locked;
 use crate::receipt::Receipt;
-use crate::seat::Seat;
+use crate::seat::{Seat, ready};
+use crate::stored_receipt::StoredReceipt;
 use hd_catalogue::Catalogue;
 use hd_journal::{Ask, Journal, Keeper, OwnedAsk, Turn, TurnFault};
 use std::alloc::{Allocator, Global};
@@ -25,7 +25,8 @@ use std::sync::{Arc, Mutex, Wait};
 /// lock.
 ///
 /// Under the lock are the journal's keeper, the book of the ledger, the parts that no seat has and the number
-/// of seats opened. The journal is always legal. Each new seat has the number after the last one's, from 1 on.
+/// of seats opened. The journal is always legal. Each new seat has the number after the last one's, from 1
+/// on.
 pub struct Hall<
     H: House,
     A: Allocator = Global,
@@ -34,7 +35,7 @@ pub struct Hall<
 > {
     pub(crate) alloc: A,
     pub(crate) catalogue: Arc<Catalogue<A>, A>,
-    pub(crate) shared: Mutex<Locked<H, A, Q, K>>,
+    pub(crate) shared: Mutex<HallState<H, A, Q, K>>,
     ghost ours: { arc_value catalogue ≡ H.opening.contents },
 }
 
@@ -84,8 +85,8 @@ impl<H: House, A: Allocator + Copy, Q: Drop, K: Keeper<A, Q> + Drop> Hall<H, A, 
     /// more.
     ///
     /// # Errors
-    /// `Memory`, where the catalogue has as many owners as can be counted: no memory is asked for. The journal
-    /// is dropped then.
+    /// `Memory`, where the catalogue has as many owners as can be counted: no memory is asked for. The
+    /// journal is dropped then.
     pub fn new(alloc: A, keeper: K, blank: Blank) -> Result<Hall<H, A, Q, K>, TurnFault>
         requires turns { K.turns keeper ≡ [] }
         requires opening { K.opening keeper ≡ H.opening }
@@ -97,7 +98,7 @@ impl<H: House, A: Allocator + Copy, Q: Drop, K: Keeper<A, Q> + Drop> Hall<H, A, 
         Ok(Hall {
             alloc,
             catalogue,
-            shared: Mutex::new(Locked::new(keeper, blank)),
+            shared: Mutex::new(HallState::new(keeper, blank)),
         })
     }
 
@@ -128,9 +129,10 @@ impl<H: House, A: Allocator + Copy, Q: Drop, K: Keeper<A, Q> + Drop> Hall<H, A, 
     /// before the lock is taken.
     ///
     /// # Errors
-    /// `Memory`; `Estranged` where the journal lacks the seat's last turn, so never at a seat without receipts;
-    /// and what the keeper gives, of which a journal alone gives `Memory` and nothing else. The journal's turns
-    /// and the seat are unchanged.
+    /// `Memory`, which the hall itself gives at a line and at each sixteenth receipt alone; `Estranged` where
+    /// the journal lacks the seat's last turn, so never at a seat without receipts; and what the keeper
+    /// gives, of which a journal alone gives `Memory` and nothing else. The journal's turns and the seat are
+    /// unchanged.
     pub fn submit<'l, R: Wait>(
         &self,
         rt: &R,
@@ -145,7 +147,9 @@ impl<H: House, A: Allocator + Copy, Q: Drop, K: Keeper<A, Q> + Drop> Hall<H, A, 
         ensures next { IfOk result (λ receipt. IsNextOf H.opening seat.old.receipts (receipt_shown receipt)) }
         ensures kept { IfOk result (λ receipt. seat.new ≡ with_receipt seat.old (receipt_shown receipt)) }
         ensures all { AreNext H.opening seat.new.receipts }
-        ensures why { IfErr result (IsHallFault K.faults (IsStrangeTo H.opening seat.old.receipts)) }
+        // before the lock, memory is needed for a copy of a line, and for each sixteenth receipt
+        ensures why { IfErr result (IsSubmitFault (NeedsMemory seat.old.receipts ask.now.line) K.faults
+            (IsStrangeTo H.opening seat.old.receipts)) }
         ensures err { OnErr result (seat.new ≡ seat.old) }
     {
         let Seat {
@@ -153,23 +157,23 @@ impl<H: House, A: Allocator + Copy, Q: Drop, K: Keeper<A, Q> + Drop> Hall<H, A, 
             receipts,
             share,
         } = seat;
-        receipts.reserve(1)?;
-        let copy = ask.to_owned(self.alloc)?;
+        ready(receipts)?;
+        let copy = OwnedAsk::of(self.alloc, ask)?;
         let own = K::own(self.alloc, ask)?;
         let made = self.take(rt, receipts, share, own)?;
-        receipts.push_reserved(Kept::new(copy, &made));
+        receipts.push_reserved(StoredReceipt::new(copy, &made));
         Ok(Receipt::new(ask, &made))
     }
 
-    /// The journal, whose turns are the receipts of these seats, each once. The seats are all that the hall has
-    /// opened (`Locked::close`, clause `all`). It takes no memory.
+    /// The journal, whose turns are the receipts of these seats, each once. The seats are all that the hall
+    /// has opened (`HallState::close`, clause `all`). It takes no memory.
     ///
     /// Each receipt is compared with the journal's turn of its number. Where the seats stand in the order of
     /// their numbers, this is all that is compared; else each turn's receipt is looked for.
     ///
     /// # Errors
-    /// `SeatMissing` exactly where fewer seats are handed in than were opened, and `ReceiptDiffers` where some
-    /// turn has no receipt. The seats come back as they were.
+    /// `SeatMissing` exactly where fewer seats are handed in than were opened, and `ReceiptDiffers` where
+    /// some turn has no receipt. The seats come back as they were.
     pub fn close(self, seats: Vec<Seat<H, A>, A>) -> Result<K, NotClosed<H, A, Q, K>>
         requires parts { H.parts ≡ 4294967296 }
         requires seats { EachSeat seats.items (λ s. s.parts ≡ 1) }
@@ -191,7 +195,7 @@ impl<H: House, A: Allocator + Copy, Q: Drop, K: Keeper<A, Q> + Drop> Hall<H, A, 
     fn take<R: Wait>(
         &self,
         rt: &R,
-        receipts: &[Kept<A>],
+        receipts: &[StoredReceipt<A>],
         share: &mut Share<H>,
         own: Q,
     ) -> Result<Turn, TurnFault>

@@ -4,17 +4,17 @@
 mod closing;
 mod counter;
 mod hall;
+mod hall_state;
 mod house;
-mod kept;
-mod locked;
 mod receipt;
 mod seat;
+mod stored_receipt;
 mod tickets;
 
 pub use crate::counter::Counter;
 pub use crate::hall::{Hall, NotClosed};
 pub use crate::house::House;
-pub use crate::kept::Kept;
 pub use crate::receipt::Receipt;
 pub use crate::seat::Seat;
+pub use crate::stored_receipt::StoredReceipt;
 pub use hd_journal::{Ask, Keeper, TurnFault as HallFault, TurnRef};

@@ -1,15 +1,18 @@
 //! Seats.
 
-ghost use Rattle.std.specs.Prelude.{◌≡◌, ◌+◌, ◌<◌, ◌≤◌, length};
-ghost use Rattle.hd_hall.specs.Seats.{without_part, with_part, IsSeat, IsWhole};
+ghost use Rattle.std.specs.Prelude.{◌≡◌, ◌+◌, ◌<◌, ◌≤◌, ◌%◌, OnErr, OnOk, length, vec_capacity};
+ghost use Rattle.hd_hall.specs.Seats.{HasRoom, without_part, with_part, IsSeat, IsWhole};
 
 use crate::house::House;
-use crate::kept::Kept;
+use crate::stored_receipt::StoredReceipt;
 use crate::tickets::Ticket;
 use hd_journal::SeatNo;
-use std::alloc::{Allocator, Global};
+use std::alloc::{AllocError, Allocator, Global};
 use std::marker::Model;
 use std::sync::ledger::Share;
+
+/// For how many receipts a seat makes room at a time.
+const PIECE: usize = 16;
 
 /// A place in a hall, with a number that no other seat of the hall has, the receipts of the turns that were
 /// made from it, and one part of the hall's ledger.
@@ -18,7 +21,7 @@ use std::sync::ledger::Share;
 /// number.
 pub struct Seat<H: House, A: Allocator = Global> {
     pub(crate) ticket: Ticket<H>,
-    pub(crate) receipts: Vec<Kept<A>, A>,
+    pub(crate) receipts: Vec<StoredReceipt<A>, A>,
     pub(crate) share: Share<H>,
 }
 
@@ -34,7 +37,8 @@ impl<H: House, A: Allocator> Drop for Seat<H, A> {
 }
 
 impl<H: House, A: Allocator> Model for Seat<H, A> {
-    ghost use Rattle.hd_hall.specs.Seats.{SeatView, IsSeat};
+    ghost use Rattle.std.specs.Prelude.{length, vec_capacity};
+    ghost use Rattle.hd_hall.specs.Seats.{HasRoom, SeatView, IsSeat};
 
     ghost Value = { SeatView };
 
@@ -50,7 +54,7 @@ impl<H: House, A: Allocator> Model for Seat<H, A> {
       receipts = s.receipts.items;
       parts = s.share.parts;
       share = s.share.amount;
-    }) };
+    }) × HasRoom (length s.receipts.items) (vec_capacity s.receipts) };
 }
 
 impl<H: House, A: Allocator> Seat<H, A> {
@@ -62,7 +66,7 @@ impl<H: House, A: Allocator> Seat<H, A> {
     }
 
     /// The receipts of the turns that were made from it, in order.
-    pub fn receipts(&self) -> &[Kept<A>]
+    pub fn receipts(&self) -> &[StoredReceipt<A>]
         ensures receipts { result.now ≡ self.now.receipts }
         ensures seat { IsSeat H.opening self.now }
     {
@@ -93,4 +97,21 @@ impl<H: House, A: Allocator> Seat<H, A> {
         let count = self.receipts.len() as u64;
         all.give(&mut self.share, 1, count);
     }
+}
+
+/// Makes room for one receipt more: for sixteen, where there are as many as there was room for.
+///
+/// # Errors
+/// Out of memory, which is asked for at every sixteenth receipt alone.
+pub(crate) fn ready<A: Allocator>(receipts: &mut Vec<StoredReceipt<A>, A>) -> Result<(), AllocError>
+    requires { HasRoom (length receipts.old.items) (vec_capacity receipts.old) }
+    ensures items { receipts.new.items ≡ receipts.old.items }
+    ensures still { HasRoom (length receipts.new.items) (vec_capacity receipts.new) }
+    ensures more { OnOk result (HasRoom (length receipts.new.items + 1) (vec_capacity receipts.new)) }
+    ensures full { OnErr result (length receipts.old.items % 16 ≡ 0) }
+{
+    if receipts.len() % PIECE == 0 {
+        receipts.reserve(PIECE)?;
+    }
+    Ok(())
 }

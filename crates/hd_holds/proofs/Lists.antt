@@ -1,15 +1,16 @@
 -- The holds of one title, as a list.
 use Rattle.std.proofs.Common.{◌≡◌, ◌≢◌, ℕ, ◌<◌, ◌==◌, nat_lt, Bool, true, false, cond, List, [], ◌∷◌, Option, None, Some, refl, ap, sym}
 use Rattle.std.proofs.Common.{◌∙◌, inl, inr, ◌⊎◌, arith, eq-eqb}
+use Rattle.std.specs.Prelude.{◌||◌, ◌↔◌, IsTrue}
 use Rattle.std.proofs.lemmas.Bool.Decides.{nat_tests}
 use Rattle.std.proofs.lemmas.Grind.{common_steps}
 use Rattle.std.proofs.lemmas.Bool.{cases_Bool, eqb-true}
 use Rattle.hd_rules.specs.declared.holds.Hold.{Hold}
 use Rattle.hd_rules.specs.Facts.{Facts}
 use Rattle.hd_rules.specs.Known.{IsKnownHeld, IsKnownHold}
-use Rattle.hd_queue.specs.Holds.{AllAfter, HasNoStamp, HasPatronsOnce, IsInOrder, hold_of, with_hold, without}
+use Rattle.hd_queue.specs.Holds.{AllAfter, HasNoStamp, HasPatronsOnce, IsInOrder, has_stamp, hold_of, with_hold, without}
 use Rattle.hd_queue.specs.Laws.{QueuesStayInOrder}
-use Rattle.hd_holds.specs.Held.{AreKnown, AreOfPatrons, IsQueue, with_held}
+use Rattle.hd_holds.specs.Held.{AreKnown, AreOfPatrons, IsQueue, IsStampOf, with_held}
 use Rattle.hd_holds.proofs.Counts.{hold_of-here, hold_of-other}
 
 some-is : (g h : Hold) → Some g ≡ Some h → g ≡ h
@@ -64,6 +65,39 @@ no_stamp n (h ∷ hs) once other = (other h.patron h (hold_of-here h hs), no_sta
   where
     later : (p : ℕ) (g : Hold) → hold_of hs p ≡ Some g → hold_of (h ∷ hs) p ≡ Some g
     later p g is = hold_of-other h hs p (λ (e : p ≡ h.patron). let none : hold_of hs p ≡ None = ap (hold_of hs) e ∙ once.0 in cc) ∙ is
+
+-- a hold has the stamp where the list's test says so
+stamp-found : (n : ℕ) (hs : List Hold) → HasPatronsOnce hs → has_stamp hs n ≡ true → IsStampOf n (hold_of hs)
+stamp-found n [] once on = absurd (let no : ⊥ = cc in no)
+stamp-found n (x ∷ xs) once on = by_test (x.stamp == n) refl on (stamp-found n xs once.1)
+  where
+    by_test : (b : Bool) → (x.stamp == n) ≡ b → (b || has_stamp xs n) ≡ true → (has_stamp xs n ≡ true → IsStampOf n (hold_of xs)) →
+        IsStampOf n (hold_of (x ∷ xs))
+    by_test true same here later = (x.patron, x, hold_of-here x xs, eqb-true x.stamp n same)
+    by_test false other there later =
+        let at = later there in (
+          at.0,
+          at.1,
+          hold_of-other x xs at.0 (λ (e : at.0 ≡ x.patron).
+              let none : hold_of xs at.0 ≡ None = ap (hold_of xs) e ∙ once.0 in
+              let some : hold_of xs at.0 ≡ Some at.1 = at.2 in cc) ∙ at.2,
+          at.3,
+        )
+
+either-test : (b c : Bool) → c ≡ true → (b || c) ≡ true
+either-test true c on = refl
+either-test false c on = on
+
+stamp-there : (n : ℕ) (hs : List Hold) (p : ℕ) (g : Hold) → hold_of hs p ≡ Some g → g.stamp ≡ n → has_stamp hs n ≡ true
+stamp-there n [] p g has same = absurd (let no : ⊥ = cc in no)
+stamp-there n (x ∷ xs) p g has same = elim (hold_of-cases x xs p g has) [
+  | inl here ↦
+      let first : (x.stamp == n) ≡ true = eq-eqb x.stamp n (ap (λ (h : Hold). h.stamp) here.1 ∙ same) in rw first refl
+  | inr there ↦ either-test (x.stamp == n) (has_stamp xs n) (stamp-there n xs p g there same)
+]
+
+pub stamp-told : (n : ℕ) (hs : List Hold) (r : Bool) → HasPatronsOnce hs → r ≡ has_stamp hs n → IsTrue r ↔ IsStampOf n (hold_of hs)
+stamp-told n hs r once is = (λ on. stamp-found n hs once (sym is ∙ on), λ at. is ∙ stamp-there n hs at.0 at.1 at.2 at.3)
 
 -- the list without a patron's hold has those of the others
 pub hold_of-without : (hs : List Hold) (p q : ℕ) → hold_of (without hs p) q ≡ cond (p == q) None (hold_of hs q)

@@ -34,6 +34,10 @@ IsWelcome holds title patron None = Unit {0}
 IsWelcome holds title patron (Some h) =
     (h.patron ≡ patron) × ((q : ℕ) (g : Hold) → holds title q ≡ Some g → g.stamp ≡ h.stamp → q ≡ patron)
 
+-- one of a title's holds has this stamp
+abbrev pub IsStampOf : ℕ → (ℕ → Option Hold) → Type 0
+IsStampOf stamp holds = (patron : ℕ) × (hold : Hold) × (holds patron ≡ Some hold) × (hold.stamp ≡ stamp)
+
 -- the holds of a title in which a patron's has become this
 abbrev pub with_held : List Hold → ℕ → Option Hold → List Hold
 with_held holds patron None = without holds patron

@@ -2,7 +2,7 @@
 #![tactic(auto, unfolding(crate::specs::Held::patron_hold, crate::specs::Held::room_of))]
 
 ghost use Rattle.std.specs.Prelude.{[], ◌≡◌, ◌+◌, ◌<◌, ◌≤◌, ◌==◌, ◌&&◌, ℕ, if◌then◌else◌, IfOk, None, OnErr};
-ghost use Rattle.std.specs.Prelude.{◌^◌, OnOk, Option, is_some, length, slice_set};
+ghost use Rattle.std.specs.Prelude.{◌^◌, ◌↔◌, IsTrue, OnOk, Option, is_some, length, slice_set};
 ghost use Rattle.std.specs.Arc.{arc_value};
 ghost use Rattle.std.specs.Option.{ForSome};
 ghost use Rattle.hd_rules.specs.Choose.{count_below, position};
@@ -10,8 +10,8 @@ ghost use Rattle.hd_rules.specs.Desk.{Desk};
 ghost use Rattle.hd_rules.specs.Known.{IsKnownHeld};
 ghost use Rattle.hd_rules.specs.Sound.{AreNamed, StampsApart};
 ghost use Rattle.hd_queue.specs.Holds.{HasNoStamp, HasPatronsOnce, IsInOrder, hold_of, without};
-ghost use Rattle.hd_holds.specs.Held.{AreKnown, AreOfPatrons, AreQueues, IsQueue, IsWelcome, facts};
-ghost use Rattle.hd_holds.specs.Held.{patron_hold};
+ghost use Rattle.hd_holds.specs.Held.{AreKnown, AreOfPatrons, AreQueues, IsQueue, IsStampOf};
+ghost use Rattle.hd_holds.specs.Held.{IsWelcome, facts, patron_hold};
 ghost use Rattle.hd_holds.specs.Held.{queue_of, room_of, with_held};
 ghost use Rattle.hd_holds.specs.Places.{HasOneMore};
 
@@ -126,6 +126,14 @@ impl<A: Allocator + Copy> Holds<A> {
         }
     }
 
+    /// Whether a hold of the title has this stamp. It is found without a walk over the queue.
+    pub fn has_stamp(&self, title: TitleNo, stamp: u64) -> bool
+        requires { title < (facts self.now).titles }
+        ensures { IsTrue result ↔ IsStampOf stamp (patron_hold self.now title) }
+    {
+        self.queue(title).has_stamp(stamp)
+    }
+
     /// The position that a hold with this stamp has in the title's queue, from 1.
     pub fn position(&self, title: TitleNo, stamp: u64) -> u64
         requires { title < (facts self.now).titles }
@@ -144,9 +152,18 @@ impl<A: Allocator + Copy> Holds<A> {
         self.queue(title).len() as u32
     }
 
+    /// How many titles there are, each with its queue.
+    pub fn titles(&self) -> usize
+        ensures count { result ≡ (facts self.now).titles }
+        ensures queues { AreQueues (facts self.now) self.now.queues }
+    {
+        self.places.len()
+    }
+
     /// The title's queue. The stamps rise, and no patron has two holds.
     pub fn view(&self, title: TitleNo) -> QueueView<'_>
         requires { title < (facts self.now).titles }
+        ensures queue { result ≡ (queue_of self.now.queues title).holds }
         ensures holds { (p : ℕ) → patron_hold self.now title p ≡ hold_of result p }
         ensures ordered { IsInOrder result }
         ensures once { HasPatronsOnce result }

@@ -1,6 +1,7 @@
 -- A journal goes on by one turn.
 use Rattle.std.proofs.Common.{arith, ◌≡◌, refl, sym, ◌∙◌, ap, subst, ℕ, ◌+◌, ◌≤◌, inl, inr}
 use Rattle.std.proofs.Common.{List, [], ◌∷◌, ◌++◌, length, length-append, Option, Some, None}
+use Rattle.std.proofs.Common.{Bool, true, false, ◌&&◌, is_none, not}
 use Rattle.hd_rules.specs.declared.turns.Asked.{Asked}
 use Rattle.hd_rules.specs.declared.turns.Asked.TheVariants as ask
 use Rattle.hd_rules.specs.declared.replies.TurnReply.{TurnReply}
@@ -13,15 +14,16 @@ use Rattle.hd_catalogue.specs.Contents.{Contents, facts_of}
 use Rattle.hd_desk.specs.Desks.{Opens}
 use Rattle.hd_footprint.specs.Meter.{Counts}
 use Rattle.hd_journal.specs.declared.turn.Turn.{Turn as OneTurn}
-use Rattle.hd_journal.specs.Asks.{asking}
+use Rattle.hd_rules.specs.Messages.{asking, is_query}
+use Rattle.hd_journal.specs.Changing.{is_changing}
 use Rattle.hd_journal.specs.Laws.{JournalLaws}
-use Rattle.hd_journal.specs.Running.{Running, IsCarriedOut, state_at, state_alone}
-use Rattle.hd_journal.specs.Telling.{Told, after_turn, kept_in, kept_by}
+use Rattle.hd_journal.specs.SurvivorRun.{SurvivorRun, IsCarriedOut, state_at, state_alone}
+use Rattle.hd_journal.specs.TurnLog.{TurnLog, after_turn, kept_in, kept_by}
 use Rattle.hd_journal.specs.Working.{IsWork, OnlyRise}
-use Rattle.hd_journal.specs.Books.{Book, AddsTurn, IsLegalBook, MakesNoTurn, AskKnown, IsKept}
+use Rattle.hd_journal.specs.Books.{Book, AddsTurn, IsLegalBook, MakesNoTurn, AskKnown, IsKept, state}
 
 -- the answer to a repeat
-pub repeat_answer : (r : Running) (kept : ℕ → Option Kept) (m : Message) (reply : TurnReply)
+pub repeat_answer : (r : SurvivorRun) (kept : ℕ → Option Kept) (m : Message) (reply : TurnReply)
     → Some reply ≡ kept_reply (kept m.terminal) m.asked m.line
     → turn_of (facts_of r.contents) (state_at r kept) m ≡ record { reply = reply; state = state_at r kept }
 repeat_answer r kept m reply is = ap (answered_unless (facts_of r.contents) (state_at r kept) m) (sym is)
@@ -30,7 +32,7 @@ abbrev turn_with : ℕ → ℕ → Asked → Option (List ℕ) → TurnReply →
 turn_with seat terminal asked line reply = record { seat = seat; message = asking terminal asked line; reply = reply }
 
 -- the answer to another message
-new_answer : (r next : Running) (kept : ℕ → Option Kept) (seat terminal : ℕ) (asked : Asked) (line : Option (List ℕ)) (reply : TurnReply)
+new_answer : (r next : SurvivorRun) (kept : ℕ → Option Kept) (seat terminal : ℕ) (asked : Asked) (line : Option (List ℕ)) (reply : TurnReply)
     → None ≡ kept_reply (kept terminal) asked line
     → IsCarriedOut r terminal asked reply next
     → turn_of (facts_of r.contents) (state_at r kept) (asking terminal asked line)
@@ -45,7 +47,7 @@ new_answer r next kept seat terminal (ask.Item copy) line reply new is =
     ap (answered_unless (facts_of r.contents) (state_at r kept) (asking terminal (ask.Item copy) line)) (sym new)
     ∙ (λ j. record { reply = sym is.0 j; state = state_at (sym is.1 j) kept })
 
-pub carried_answer : (r next : Running) (kept : ℕ → Option Kept) (turn : Turn)
+pub carried_answer : (r next : SurvivorRun) (kept : ℕ → Option Kept) (turn : Turn)
     → None ≡ kept_reply (kept turn.message.terminal) turn.message.asked turn.message.line
     → IsCarriedOut r turn.message.terminal turn.message.asked turn.reply next
     → turn_of (facts_of r.contents) (state_at r kept) turn.message
@@ -60,7 +62,7 @@ still_work k s terminal (ask.Command command) reply work = refl
 still_work k s terminal (ask.Cancel what) reply work = refl
 still_work k s terminal (ask.Item copy) reply work = refl
 
-pub repeat_work : (r : Running) (kept : ℕ → Option Kept) (m : Message) (reply : TurnReply) (work : Counts)
+pub repeat_work : (r : SurvivorRun) (kept : ℕ → Option Kept) (m : Message) (reply : TurnReply) (work : Counts)
     → Some reply ≡ kept_reply (kept m.terminal) m.asked m.line
     → IsWork (facts_of r.contents) (state_at r kept) m.terminal m.asked (reply_again (state_at r kept) m) work work
 repeat_work r kept m reply work is =
@@ -68,14 +70,14 @@ repeat_work r kept m reply work is =
     (still_work (facts_of r.contents) (state_at r kept) m.terminal m.asked reply work)
 
 -- what is kept has no part in the work of another message
-work_beside : (r : Running) (kept : ℕ → Option Kept) (terminal : ℕ) (asked : Asked) (old new : Counts)
+work_beside : (r : SurvivorRun) (kept : ℕ → Option Kept) (terminal : ℕ) (asked : Asked) (old new : Counts)
     → IsWork (facts_of r.contents) (state_alone r) terminal asked None old new
     → IsWork (facts_of r.contents) (state_at r kept) terminal asked None old new
 work_beside r kept terminal (ask.Command command) old new is = is
 work_beside r kept terminal (ask.Cancel what) old new is = is
 work_beside r kept terminal (ask.Item copy) old new is = is
 
-pub carried_work : (r : Running) (kept : ℕ → Option Kept) (m : Message) (old new : Counts)
+pub carried_work : (r : SurvivorRun) (kept : ℕ → Option Kept) (m : Message) (old new : Counts)
     → None ≡ kept_reply (kept m.terminal) m.asked m.line
     → IsWork (facts_of r.contents) (state_alone r) m.terminal m.asked None old new
     → IsWork (facts_of r.contents) (state_at r kept) m.terminal m.asked (reply_again (state_at r kept) m) old new
@@ -84,7 +86,7 @@ carried_work r kept m old new none is =
     (work_beside r kept m.terminal m.asked old new is)
 
 -- what the machine answers next, by the state that it has come to
-pub record Goes (turns more : List Turn) (r next : Running) (kept later : ℕ → Option Kept) (turn : Turn) : Type 0 where
+pub record Goes (turns more : List Turn) (r next : SurvivorRun) (kept later : ℕ → Option Kept) (turn : Turn) : Type 0 where
   pub was : IsKept turns r kept
   pub contents : next.contents ≡ r.contents
   pub items : more ≡ turns ++ turn ∷ []
@@ -92,14 +94,14 @@ pub record Goes (turns more : List Turn) (r next : Running) (kept later : ℕ �
   pub known : IsKnown (facts_of r.contents) turn.message.asked
   pub answer : turn_of (facts_of r.contents) (state_at r kept) turn.message ≡ record { reply = turn.reply; state = state_at next later }
 
-pub answered_so : (turns items : List Turn) (r next : Running) (kept later : ℕ → Option Kept) (turn : Turn)
+pub answered_so : (turns items : List Turn) (r next : SurvivorRun) (kept later : ℕ → Option Kept) (turn : Turn)
     → Goes turns items r next kept later turn
     → turn_of (facts_of r.contents) (state_after (facts_of r.contents) turns) turn.message
     ≡ record { reply = turn.reply; state = state_at next later }
 answered_so turns items r next kept later turn h =
     ap (λ (s : State). turn_of (facts_of r.contents) s turn.message) h.was.state ∙ h.answer
 
-pub state_goes : JournalLaws → (turns items : List Turn) (r next : Running) (kept later : ℕ → Option Kept) (turn : Turn)
+pub state_goes : JournalLaws → (turns items : List Turn) (r next : SurvivorRun) (kept later : ℕ → Option Kept) (turn : Turn)
     → Goes turns items r next kept later turn
     → state_after (facts_of r.contents) (turns ++ turn ∷ []) ≡ state_at next later
 state_goes laws turns items r next kept later turn h =
@@ -115,7 +117,7 @@ known_more k (first ∷ turns) turn all known one (inl same) = all one (inl same
 known_more k (first ∷ turns) turn all known one (inr later) =
     known_more k turns turn (λ x among. all x (inr among)) known one later
 
-kept_after : JournalLaws → (turns items : List Turn) (r next : Running) (kept later : ℕ → Option Kept) (turn : Turn)
+kept_after : JournalLaws → (turns items : List Turn) (r next : SurvivorRun) (kept later : ℕ → Option Kept) (turn : Turn)
     → Goes turns items r next kept later turn
     → IsKept (turns ++ turn ∷ []) (record { contents = r.contents; survivors = next.survivors; last = next.last }) later
 kept_after laws turns items r next kept later turn h =
@@ -134,21 +136,21 @@ kept_after laws turns items r next kept later turn h =
       last = omega (arith, length-append turns (turn ∷ []));
     }
 
-pub kept_on : JournalLaws → (turns items : List Turn) (r next : Running) (kept later : ℕ → Option Kept) (turn : Turn)
+pub kept_on : JournalLaws → (turns items : List Turn) (r next : SurvivorRun) (kept later : ℕ → Option Kept) (turn : Turn)
     → Goes turns items r next kept later turn → IsKept items next later
 kept_on laws turns items r next kept later turn h =
-    let there : Contents → Running = λ x. record { contents = x; survivors = next.survivors; last = next.last } in
+    let there : Contents → SurvivorRun = λ x. record { contents = x; survivors = next.survivors; last = next.last } in
     subst (λ (xs : List Turn). IsKept xs next later) (sym h.items)
     (subst (λ (x : Contents). IsKept (turns ++ turn ∷ []) (there x) later) (sym h.contents)
     (kept_after laws turns items r next kept later turn h))
 
 -- a journal without turns
-pub kept_at_start : (contents : Contents) (r : Running) (turns : List Turn) (places : List (Option ℕ))
+pub kept_at_start : (contents : Contents) (r : SurvivorRun) (turns : List Turn) (places : List (Option ℕ))
     → AreInRange (facts_of contents) → Opens (facts_of contents)
     → r ≡ record { contents = contents; survivors = []; last = (facts_of contents).opening.last }
     → turns ≡ [] → places ≡ [] → IsKept turns r (kept_in turns places)
 kept_at_start contents r turns places range opens is none nowhere =
-    let opening : Running =
+    let opening : SurvivorRun =
     record { contents = contents; survivors = []; last = (facts_of contents).opening.last } in
     let start_kept : IsKept [] opening (kept_in [] []) = record {
       range = range;
@@ -158,12 +160,12 @@ kept_at_start contents r turns places range opens is none nowhere =
       state = λ j. state_at opening (λ t. None);
       last = omega arith;
     } in
-    subst (λ (x : Running). IsKept turns x (kept_in turns places)) (sym is)
+    subst (λ (x : SurvivorRun). IsKept turns x (kept_in turns places)) (sym is)
     (subst (λ (xs : List Turn). IsKept xs opening (kept_in xs places)) (sym none)
     (subst (λ (ps : List (Option ℕ)). IsKept [] opening (kept_in [] ps)) (sym nowhere) start_kept))
 
 -- what the laws say of what is kept
-pub legal_book : JournalLaws → (turns : List Turn) (r : Running) (kept : ℕ → Option Kept) → IsKept turns r kept
+pub legal_book : JournalLaws → (turns : List Turn) (r : SurvivorRun) (kept : ℕ → Option Kept) → IsKept turns r kept
     → IsLegalBook r.contents turns
 legal_book laws turns r kept is = record {
   legal = is.legal;
@@ -174,19 +176,19 @@ legal_book laws turns r kept is = record {
 }
 
 -- the same of a journal that is equal to its parts
-pub legal_there : JournalLaws → (turns : List Turn) (r : Running) (kept : ℕ → Option Kept) (work : Counts) (book : Book)
+pub legal_there : JournalLaws → (turns : List Turn) (r : SurvivorRun) (kept : ℕ → Option Kept) (work : Counts) (book : Book)
     → IsKept turns r kept → record { contents = r.contents; turns = turns; work = work } ≡ book → IsLegalBook book.contents book.turns
 legal_there laws turns r kept work book is same =
     subst (λ (x : Book). IsLegalBook x.contents x.turns) same (legal_book laws turns r kept is)
 
 -- the same at a list and what is kept that are equal to these
-pub kept_there : (turns more : List Turn) (r : Running) (kept later : ℕ → Option Kept)
+pub kept_there : (turns more : List Turn) (r : SurvivorRun) (kept later : ℕ → Option Kept)
     → IsKept turns r kept → more ≡ turns → later ≡ kept → IsKept more r later
 kept_there turns more r kept later is same still =
     subst (λ (xs : List Turn). IsKept xs r later) (sym same) (subst (λ (x : ℕ → Option Kept). IsKept turns r x) (sym still) is)
 
 -- a journal of these parts
-abbrev pub book_at : Running → List Turn → Counts → Book
+abbrev pub book_at : SurvivorRun → List Turn → Counts → Book
 book_at r turns work = record { contents = r.contents; turns = turns; work = work }
 
 -- nothing was done
@@ -194,15 +196,15 @@ pub still_book : (book : Book) → MakesNoTurn book book
 still_book book = record { contents = refl; turns = refl; work = ([], refl) }
 
 -- no turn was made
-pub no_turn : (was ready : Told) (r next : Running) (old new : Counts) (book : Book)
+pub no_turn : (was ready : TurnLog) (r next : SurvivorRun) (old new : Counts) (book : Book)
     → book_at r was.turns old ≡ book → ready.turns ≡ was.turns → next ≡ r → OnlyRise old new
     → MakesNoTurn book (book_at next ready.turns new)
 no_turn was ready r next old new book same still stays rise =
     subst (λ (x : Book). MakesNoTurn x (book_at next ready.turns new)) same
-    (record { contents = ap (λ (x : Running). x.contents) stays; turns = still; work = rise })
+    (record { contents = ap (λ (x : SurvivorRun). x.contents) stays; turns = still; work = rise })
 
 -- One turn of the code: room was made, which changes nothing; the machine answers so; the turn was added; its work is counted.
-pub record Makes (was ready now : Told) (r next : Running) (turn : Turn) (old new : Counts) : Type 0 where
+pub record Makes (was ready now : TurnLog) (r next : SurvivorRun) (turn : Turn) (old new : Counts) : Type 0 where
   pub kept : IsKept was.turns r (kept_by was)
   pub ready_turns : ready.turns ≡ was.turns
   pub ready_kept : kept_by ready ≡ kept_by was
@@ -215,7 +217,7 @@ pub record Makes (was ready now : Told) (r next : Running) (turn : Turn) (old ne
   pub work : IsWork (facts_of r.contents) (state_at r (kept_by ready)) turn.message.terminal turn.message.asked
       (reply_again (state_at r (kept_by ready)) turn.message) old new
 
-goes_on : (was ready now : Told) (r next : Running) (turn : Turn) (old new : Counts) → Makes was ready now r next turn old new
+goes_on : (was ready now : TurnLog) (r next : SurvivorRun) (turn : Turn) (old new : Counts) → Makes was ready now r next turn old new
     → Goes ready.turns now.turns r next (kept_by ready) (kept_by now) turn
 goes_on was ready now r next turn old new h = record {
   was = kept_there was.turns ready.turns r (kept_by was) (kept_by ready) h.kept h.ready_turns h.ready_kept;
@@ -226,13 +228,13 @@ goes_on was ready now r next turn old new h = record {
   answer = h.answer;
 }
 
-pub makes_kept : JournalLaws → (was ready now : Told) (r next : Running) (turn : Turn) (old new : Counts)
+pub makes_kept : JournalLaws → (was ready now : TurnLog) (r next : SurvivorRun) (turn : Turn) (old new : Counts)
     → Makes was ready now r next turn old new
     → IsKept now.turns next (kept_by now)
 makes_kept laws was ready now r next turn old new h =
     kept_on laws ready.turns now.turns r next (kept_by ready) (kept_by now) turn (goes_on was ready now r next turn old new h)
 
-adds_here : JournalLaws → (was ready now : Told) (r next : Running) (turn : Turn) (old new : Counts)
+adds_here : JournalLaws → (was ready now : TurnLog) (r next : SurvivorRun) (turn : Turn) (old new : Counts)
     → Makes was ready now r next turn old new
     → AddsTurn (book_at r ready.turns old) (book_at next now.turns new) turn.seat turn.message
     (record { at = length now.turns; reply = turn.reply })
@@ -255,7 +257,7 @@ adds_here laws was ready now r next turn old new h =
     }
 
 -- the turn was added to the journal, and this is told of it
-pub makes_turn : JournalLaws → (was ready now : Told) (r next : Running) (turn : Turn) (old new : Counts)
+pub makes_turn : JournalLaws → (was ready now : TurnLog) (r next : SurvivorRun) (turn : Turn) (old new : Counts)
     (book : Book) (made : OneTurn)
     → Makes was ready now r next turn old new
     → book_at r was.turns old ≡ book
@@ -266,3 +268,40 @@ makes_turn laws was ready now r next turn old new book made h same is =
     subst (λ (x : Book). AddsTurn x (book_at next now.turns new) turn.seat turn.message made) there
     (subst (λ (x : OneTurn). AddsTurn (book_at r ready.turns old) (book_at next now.turns new) turn.seat turn.message x) (sym is)
     (adds_here laws was ready now r next turn old new h))
+
+not_and : (b : Bool) → (b && false) ≡ false
+not_and true = refl
+not_and false = refl
+
+just_and : (b : Bool) → (b && true) ≡ b
+just_and true = refl
+just_and false = refl
+
+-- whether the message changes something, by what is kept of its terminal's last
+changing_by : (was ready : TurnLog) (r : SurvivorRun) (work : Counts) (book : Book) (message : Message)
+    → IsKept was.turns r (kept_by was) → kept_by ready ≡ kept_by was → book_at r was.turns work ≡ book
+    → is_changing (state book) message
+    ≡ (not (is_query message.asked) && is_none (kept_reply (kept_by ready message.terminal) message.asked message.line))
+changing_by was ready r work book message kept still same =
+    ap (λ (x : Book). is_changing (state x) message) (sym same)
+    ∙ ap (λ (s : State). is_changing s message) (kept.state ∙ ap (state_at r) (sym still))
+
+-- a repeat changes nothing
+pub repeat_same : (was ready : TurnLog) (r : SurvivorRun) (work : Counts) (book : Book) (message : Message) (reply : TurnReply)
+    → IsKept was.turns r (kept_by was) → kept_by ready ≡ kept_by was → book_at r was.turns work ≡ book
+    → Some reply ≡ kept_reply (kept_by ready message.terminal) message.asked message.line
+    → false ≡ is_changing (state book) message
+repeat_same was ready r work book message reply kept still same is =
+    sym (changing_by was ready r work book message kept still same
+    ∙ ap (λ (o : Option TurnReply). not (is_query message.asked) && is_none o) (sym is)
+    ∙ not_and (not (is_query message.asked)))
+
+-- what is no repeat changes something where it is no query
+pub anew_changes : (was ready : TurnLog) (r : SurvivorRun) (work : Counts) (book : Book) (message : Message)
+    → IsKept was.turns r (kept_by was) → kept_by ready ≡ kept_by was → book_at r was.turns work ≡ book
+    → (let none : Option TurnReply = None in none ≡ kept_reply (kept_by ready message.terminal) message.asked message.line)
+    → not (is_query message.asked) ≡ is_changing (state book) message
+anew_changes was ready r work book message kept still same is =
+    sym (changing_by was ready r work book message kept still same
+    ∙ ap (λ (o : Option TurnReply). not (is_query message.asked) && is_none o) (sym is)
+    ∙ just_and (not (is_query message.asked)))

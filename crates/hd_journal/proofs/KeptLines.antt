@@ -5,7 +5,7 @@ use Rattle.std.proofs.lemmas.Bool.{eqb-true, eqb-false}
 use Rattle.std.proofs.lemmas.List.{get_or-set_same, get_or-set_other}
 use Rattle.hd_rules.specs.Turns.{kept_of}
 use Rattle.hd_rules.specs.Journal.{Turn}
-use Rattle.hd_journal.specs.Telling.{kept_turn, kept_at, kept_in, with_turn, AreTurns}
+use Rattle.hd_journal.specs.TurnLog.{kept_turn, kept_at, kept_in, with_turn, AreTurns}
 
 -- a turn that stands among those before
 same_turn : (turns : List Turn) (turn : Turn) (i : ℕ) → i < length turns → slice_get (turns ++ turn ∷ []) i ≡ slice_get turns i

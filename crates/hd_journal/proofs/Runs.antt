@@ -6,7 +6,7 @@ use Rattle.hd_rules.specs.Desk.{Desk}
 use Rattle.hd_rules.specs.Laws.{CommandsKeepDesksSound}
 use Rattle.hd_rules.specs.Run.{step, run, Rising, next_number}
 use Rattle.hd_rules.specs.Sound.{Sound}
-use Rattle.hd_journal.specs.Running.{IsKnownSurvivor, AllKnownSurvivors, MayRun}
+use Rattle.hd_journal.specs.SurvivorRun.{IsKnownSurvivor, AllKnownSurvivors, MayRun}
 use Rattle.hd_lemmas.proofs.Rules.{later_sound, rising_without, rising_more, run_from_more}
 
 pub run_more : (k : Facts) (xs : List Survivor) (s : Survivor) (d e : Desk) → d ≡ run k xs → e ≡ step k d s → e ≡ run k (xs ++ s ∷ [])

@@ -26,7 +26,7 @@ use Rattle.hd_records.specs.RecordsValue.{AreListed, AreOfCatalogue, RecordsValu
 use Rattle.hd_records.specs.Survivors.{survivor_of, survivors_of, changes_in, changes_of, newer, older}
 use Rattle.hd_journal.specs.Deciding.{IsAt, Parts}
 use Rattle.hd_journal.specs.Laws.{CancellationLaws}
-use Rattle.hd_journal.specs.Running.{AllKnownSurvivors, MayRun}
+use Rattle.hd_journal.specs.SurvivorRun.{AllKnownSurvivors, MayRun}
 use Rattle.hd_journal.specs.Stored.{AreStored, EachCanBeUndone}
 use Rattle.hd_journal.specs.Working.{questions_from}
 

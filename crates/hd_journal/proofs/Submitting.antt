@@ -10,7 +10,7 @@ use Rattle.hd_rules.specs.Ask.{Done}
 use Rattle.hd_rules.specs.Run.{run, outcome_of, changed_by, step, next_number}
 use Rattle.hd_rules.specs.Machine.{answered_command}
 use Rattle.hd_catalogue.specs.Contents.{Contents, facts_of}
-use Rattle.hd_journal.specs.Running.{Running, IsRunning, IsKnownSurvivor, Submitted, state_at}
+use Rattle.hd_journal.specs.SurvivorRun.{SurvivorRun, LeadsTo, IsKnownSurvivor, Submitted, state_at}
 use Rattle.hd_journal.proofs.Runs.{run_more, may_run_last}
 
 -- an accepted command is one step
@@ -21,9 +21,9 @@ next_last : (n : ℕ) (xs : List Survivor) (s : Survivor) → next_number n (xs 
 next_last n [] s = refl
 next_last n (x ∷ xs) s = next_last (x.number + 1) xs s
 
-more : (r : Running) (d e : Desk) (new : Survivor) (done : Done) → IsRunning r d → IsKnownSurvivor (facts_of r.contents) new
+more : (r : SurvivorRun) (d e : Desk) (new : Survivor) (done : Done) → LeadsTo r d → IsKnownSurvivor (facts_of r.contents) new
     → new.number ≡ r.last + 1 → outcome_of (facts_of r.contents) d new ≡ Ok done → e ≡ after done.changes d
-    → IsRunning (record { contents = r.contents; survivors = r.survivors ++ new ∷ []; last = r.last + 1 }) e
+    → LeadsTo (record { contents = r.contents; survivors = r.survivors ++ new ∷ []; last = r.last + 1 }) e
 more r d e new done is adds number accepted goes =
     let first : ℕ = first_number (facts_of r.contents) in
     let low : next_number first r.survivors ≤ r.last + 1 = is.last in
@@ -34,20 +34,20 @@ more r d e new done is adds number accepted goes =
       last = omega arith;
     }
 
-pub running_more : (r : Running) (d e : Desk) (contents : Contents) (items : List Survivor) (new : Survivor) (done : Done) → IsRunning r d
+pub running_more : (r : SurvivorRun) (d e : Desk) (contents : Contents) (items : List Survivor) (new : Survivor) (done : Done) → LeadsTo r d
     → IsKnownSurvivor (facts_of r.contents) new → new.number ≡ r.last + 1 → contents ≡ r.contents → items ≡ r.survivors ++ new ∷ []
     → outcome_of (facts_of r.contents) d new ≡ Ok done → e ≡ after done.changes d
-    → IsRunning (record { contents = contents; survivors = items; last = r.last + 1 }) e
+    → LeadsTo (record { contents = contents; survivors = items; last = r.last + 1 }) e
 running_more r d e contents items new done is adds number same goes_on accepted goes =
-    subst (λ (x : Contents). IsRunning (record { contents = x; survivors = items; last = r.last + 1 }) e) (sym same)
-    (subst (λ (xs : List Survivor). IsRunning (record { contents = r.contents; survivors = xs; last = r.last + 1 }) e) (sym goes_on)
+    subst (λ (x : Contents). LeadsTo (record { contents = x; survivors = items; last = r.last + 1 }) e) (sym same)
+    (subst (λ (xs : List Survivor). LeadsTo (record { contents = r.contents; survivors = xs; last = r.last + 1 }) e) (sym goes_on)
     (more r d e new done is adds number accepted goes))
 
 -- the survivor that a command becomes
-abbrev new_of : Running → ℕ → Command → Survivor
+abbrev new_of : SurvivorRun → ℕ → Command → Survivor
 new_of r terminal command = record { number = r.last + 1; terminal = terminal; command = command }
 
-done_so : (r : Running) (d : Desk) (terminal : ℕ) (command : Command) (done : Done) → d ≡ run (facts_of r.contents) r.survivors
+done_so : (r : SurvivorRun) (d : Desk) (terminal : ℕ) (command : Command) (done : Done) → d ≡ run (facts_of r.contents) r.survivors
     → outcome_of (facts_of r.contents) d (new_of r terminal command) ≡ Ok done
     → Submitted r terminal command (Accepted (r.last + 1) done.reply)
     (record { contents = r.contents; survivors = r.survivors ++ new_of r terminal command ∷ []; last = r.last + 1 })
@@ -64,11 +64,11 @@ done_so r d terminal command done at accepted kept =
       state = record { desk = desk j; survivors = r.survivors ++ new ∷ []; last = new.number; kept = kept };
     })
 
-pub submitted_done : (r : Running) (d : Desk) (contents : Contents) (items : List Survivor) (terminal : ℕ) (command : Command) (done : Done)
+pub submitted_done : (r : SurvivorRun) (d : Desk) (contents : Contents) (items : List Survivor) (terminal : ℕ) (command : Command) (done : Done)
     → d ≡ run (facts_of r.contents) r.survivors → contents ≡ r.contents → items ≡ r.survivors ++ new_of r terminal command ∷ []
     → outcome_of (facts_of r.contents) d (new_of r terminal command) ≡ Ok done
     → Submitted r terminal command (Accepted (r.last + 1) done.reply) (record { contents = contents; survivors = items; last = r.last + 1 })
 submitted_done r d contents items terminal command done at same goes_on accepted =
-    subst (λ (x : Running). Submitted r terminal command (Accepted (r.last + 1) done.reply) x)
+    subst (λ (x : SurvivorRun). Submitted r terminal command (Accepted (r.last + 1) done.reply) x)
     (λ j. record { contents = sym same j; survivors = sym goes_on j; last = r.last + 1 })
     (done_so r d terminal command done at accepted)

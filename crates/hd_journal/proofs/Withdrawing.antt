@@ -23,9 +23,9 @@ use Rattle.hd_clash.specs.Clash.{first_clash}
 use Rattle.hd_records.specs.Looks.{after_looks, questions_of}
 use Rattle.hd_records.specs.RecordsValue.{RecordsValue}
 use Rattle.hd_records.specs.Survivors.{survivor_of, survivors_of, changes_of, newer, older, target_of}
-use Rattle.hd_journal.specs.Deciding.{AreKept, IsRefused, IsTargetAt, MayGo, Parts, running_at, split_of}
+use Rattle.hd_journal.specs.Deciding.{AreKept, IsRefused, IsTargetAt, MayGo, Parts, run_at, split_of}
 use Rattle.hd_journal.specs.Laws.{CancellationLaws}
-use Rattle.hd_journal.specs.Running.{Running, IsRunning, MayRun, Withdrawn, state_at}
+use Rattle.hd_journal.specs.SurvivorRun.{SurvivorRun, LeadsTo, MayRun, Withdrawn, state_at}
 use Rattle.hd_journal.specs.Working.{IsCancellationWork, IsDecidedSo, IsDecision, cells_of}
 use Rattle.hd_journal.proofs.Runs.{may_run_without}
 use Rattle.hd_journal.proofs.Stored.{CanGo, can_go, changes_there, done_of_record, first_is, parts_at, stored_of}
@@ -62,13 +62,13 @@ dependent_is laws k terminal what value n o at is =
 decided : (laws : CancellationLaws) (contents : Contents) (terminal : ℕ) (what : Cancel) (value : RecordsValue) (n : ℕ) (o : Option ℕ)
     (kept : ℕ → Option Kept) (at : IsTargetAt (facts_of contents) terminal what value n)
     → first_clash (facts_of contents) (changes_of n value.records) (newer n value.records) ≡ o
-    → answered_cancel (facts_of contents) (state_at (running_at contents value.records value.last) kept)
+    → answered_cancel (facts_of contents) (state_at (run_at contents value.records value.last) kept)
     (target terminal what (survivors_of value.records))
-    ≡ answered_target (facts_of contents) (state_at (running_at contents value.records value.last) kept)
+    ≡ answered_target (facts_of contents) (state_at (run_at contents value.records value.last) kept)
     (split_of value.records n at.record_there) o
 decided laws contents terminal what value n o kept at is =
     let k : Facts = facts_of contents in
-    let r : Running = running_at contents value.records value.last in
+    let r : SurvivorRun = run_at contents value.records value.last in
     ap (answered_cancel k (state_at r kept)) at.is_target
     ∙ ap (answered_target k (state_at r kept) (split_of value.records n at.record_there))
     (dependent_is laws k terminal what value n o at is)
@@ -83,7 +83,7 @@ goes_at laws k terminal what value n old new goes =
 pub refused_nothing : (contents : Contents) (terminal : ℕ) (what : Cancel) (value : RecordsValue)
     → target terminal what (survivors_of value.records) ≡ None → IsRefused contents terminal what value refusal.NothingToCancel
 refused_nothing contents terminal what value none kept =
-    ap (answered_cancel (facts_of contents) (state_at (running_at contents value.records value.last) kept)) none
+    ap (answered_cancel (facts_of contents) (state_at (run_at contents value.records value.last) kept)) none
 
 pub refused_depends : (laws : CancellationLaws) (contents : Contents) (terminal : ℕ) (what : Cancel) (value : RecordsValue) (n m : ℕ)
     → IsTargetAt (facts_of contents) terminal what value n
@@ -96,7 +96,7 @@ pub withdrawn_stands : (laws : CancellationLaws) (contents : Contents) (terminal
     (next : Contents) (items : List Survivor) → IsTargetAt (facts_of contents) terminal what value n
     → first_clash (facts_of contents) (changes_of n value.records) (newer n value.records) ≡ None
     → next ≡ contents → items ≡ survivors_of (older n value.records) ++ survivors_of (newer n value.records)
-    → Withdrawn (running_at contents value.records value.last) terminal what (Cancelled n)
+    → Withdrawn (run_at contents value.records value.last) terminal what (Cancelled n)
     (record { contents = next; survivors = items; last = value.last })
 withdrawn_stands laws contents terminal what value n next items at is same rest kept =
     decided laws contents terminal what value n None kept at is
@@ -152,10 +152,10 @@ next_less n (x ∷ xs) c newer le rising =
     next_less (x.number + 1) xs c newer (omega arith) rising.1
 
 -- what is left is a run
-pub running_without : (r : Running) (d e : Desk) (older newer : List Survivor) (c : Survivor) (contents : Contents) (items : List Survivor)
-    → IsRunning r d → r.survivors ≡ older ++ c ∷ newer → contents ≡ r.contents → items ≡ older ++ newer
+pub running_without : (r : SurvivorRun) (d e : Desk) (older newer : List Survivor) (c : Survivor) (contents : Contents) (items : List Survivor)
+    → LeadsTo r d → r.survivors ≡ older ++ c ∷ newer → contents ≡ r.contents → items ≡ older ++ newer
     → e ≡ run (facts_of r.contents) (older ++ newer)
-    → IsRunning (record { contents = contents; survivors = items; last = r.last }) e
+    → LeadsTo (record { contents = contents; survivors = items; last = r.last }) e
 running_without r d e older newer c contents items is split same rest goes =
     let k : Facts = facts_of r.contents in
     let may : MayRun k (older ++ newer) = may_run_without k older c newer (subst (MayRun k) split is.may_run) in
@@ -163,7 +163,7 @@ running_without r d e older newer c contents items is split same rest goes =
     let whole : Rising first (older ++ c ∷ newer) = subst (Rising first) split is.may_run.rising in
     let low : next_number first (older ++ c ∷ newer) ≤ r.last + 1 =
     subst (λ (xs : List Survivor). next_number first xs ≤ r.last + 1) split is.last in
-    subst (λ (x : Running). IsRunning x e) (λ j. record { contents = sym same j; survivors = sym rest j; last = r.last })
+    subst (λ (x : SurvivorRun). LeadsTo x e) (λ j. record { contents = sym same j; survivors = sym rest j; last = r.last })
     (record {
       desk = goes;
       may_run = may;

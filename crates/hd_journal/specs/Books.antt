@@ -12,7 +12,7 @@ use Rattle.hd_catalogue.specs.Contents.{Contents, facts_of}
 use Rattle.hd_desk.specs.Desks.{Opens}
 use Rattle.hd_footprint.specs.Meter.{Counts}
 use Rattle.hd_journal.specs.declared.turn.Turn.{Turn as Made}
-use Rattle.hd_journal.specs.Running.{Running, state_at}
+use Rattle.hd_journal.specs.SurvivorRun.{SurvivorRun, state_at}
 use Rattle.hd_journal.specs.Working.{IsWork, OnlyRise}
 
 -- A journal is its catalogue, its turns, and the work that was counted. Desk, survivors and what is kept
@@ -76,7 +76,7 @@ AskKnown k turns = (turn : Turn) → IsAmong turn turns → IsKnown k turn.messa
 
 -- The journal may begin, its turns are legal, of messages that name things of the catalogue, the machine has
 -- come to this state, and no more numbers are given than there are turns.
-pub record IsKept (turns : List Turn) (r : Running) (k : ℕ → Option Kept) : Type 0 where
+pub record IsKept (turns : List Turn) (r : SurvivorRun) (k : ℕ → Option Kept) : Type 0 where
   pub range : AreInRange (facts_of r.contents)
   pub opens : Opens (facts_of r.contents)
   pub known : AskKnown (facts_of r.contents) turns

@@ -4,7 +4,7 @@ use Rattle.hd_rules.specs.Facts.{Facts}
 use Rattle.hd_rules.specs.Turns.{Message, State, start}
 use Rattle.hd_rules.specs.Machine.{reply_again, turn_of}
 use Rattle.hd_rules.specs.Journal.{Turn}
-use Rattle.hd_journal.specs.Asks.{is_query}
+use Rattle.hd_rules.specs.Messages.{is_query}
 
 -- neither a query, nor answered already
 abbrev pub is_changing : State → Message → Bool

@@ -15,13 +15,13 @@ use Rattle.hd_clash.specs.Records.{AreRecords}
 use Rattle.hd_records.specs.Looks.{questions_of}
 use Rattle.hd_records.specs.RecordsValue.{AreListed, AreOfCatalogue, RecordsValue}
 use Rattle.hd_records.specs.Survivors.{changes_of, newer, older, record_of, survivor_of, survivors_of}
-use Rattle.hd_journal.specs.Running.{MayRun, Running, Withdrawn}
+use Rattle.hd_journal.specs.SurvivorRun.{MayRun, SurvivorRun, Withdrawn}
 use Rattle.hd_journal.specs.Stored.{AreStored}
 use Rattle.hd_journal.specs.Working.{IsDecision, OnlyRise}
 
 -- what runs, by its records
-abbrev pub running_at : Contents → List Record → ℕ → Running
-running_at contents rs last = record { contents = contents; survivors = survivors_of rs; last = last }
+abbrev pub run_at : Contents → List Record → ℕ → SurvivorRun
+run_at contents rs last = record { contents = contents; survivors = survivors_of rs; last = last }
 
 -- The survivors may be run, each record is its survivor's, and all are listed.
 pub record AreKept (k : Facts) (value : RecordsValue) : Type 0 where
@@ -32,8 +32,8 @@ pub record AreKept (k : Facts) (value : RecordsValue) : Type 0 where
 -- the cancellation is refused so, and the run is left as it was
 abbrev pub IsRefused : Contents → ℕ → Cancel → RecordsValue → Refusal → Type 0
 IsRefused contents terminal what value refusal =
-    Withdrawn (running_at contents value.records value.last) terminal what (Refused refusal)
-    (running_at contents value.records value.last)
+    Withdrawn (run_at contents value.records value.last) terminal what (Refused refusal)
+    (run_at contents value.records value.last)
 
 -- a number, and the record of it
 pub record IsAt (rs : List Record) (n : ℕ) (r : Record) : Type 0 where

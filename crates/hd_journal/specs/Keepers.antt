@@ -1,7 +1,7 @@
 -- What a keeper's turn adds.
 use Rattle.std.specs.Prelude.{◌≡◌, List, [], ◌∷◌, ◌++◌, length}
 use Rattle.hd_rules.specs.Journal.{Turn}
-use Rattle.hd_journal.specs.Asks.{SeatMessage, turn_with_reply}
+use Rattle.hd_rules.specs.Messages.{SeatMessage, turn_with_reply}
 use Rattle.hd_journal.specs.declared.turn.Turn.{Turn as Made}
 
 -- One turn was added, behind all others: what was asked, with the reply that was made. It has the number of

@@ -1,10 +1,9 @@
-pub mod Asks
-pub mod Running
+pub mod SurvivorRun
 pub mod Working
 pub mod Stored
 pub mod Deciding
 pub mod Laws
-pub mod Telling
+pub mod TurnLog
 pub mod Books
 pub mod Shown
 pub mod Changing

@@ -1,12 +1,12 @@
 //! A journal that is used alone: an office, whose seat has number 0, and a keeper.
-use crate::ask::{Ask, OwnedAsk};
+use crate::ask::OwnedAsk;
 use crate::fault::TurnFault;
 use crate::journal::Journal;
 use crate::keeper::Keeper;
-use crate::numbers::SeatNo;
 use crate::office::Office;
 use crate::turn::{Turn, TurnRef};
 use hd_catalogue::Catalogue;
+use hd_rules::{Ask, SeatNo};
 use std::alloc::{AllocError, Allocator};
 use std::sync::Arc;
 
@@ -58,7 +58,7 @@ impl<A: Allocator + Copy> Keeper<A, OwnedAsk<A>> for Journal<A> {
     ghost causes = { λ old ask new. IsMemory };
 
     fn own(alloc: A, ask: &Ask<'_>) -> Result<OwnedAsk<A>, AllocError> {
-        ask.to_owned(alloc)
+        OwnedAsk::of(alloc, ask)
     }
 
     fn catalogue(&self) -> &Arc<Catalogue<A>, A> {

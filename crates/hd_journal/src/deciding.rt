@@ -14,8 +14,9 @@ use hd_records::Records;
 use hd_rules::{Cancel, Refusal, TerminalNo};
 use std::alloc::Allocator;
 
-/// The number of the survivor that the terminal's cancellation takes back, or why it takes none back: there is
-/// none, or a later one depends on it. The records that are looked at are counted, and the answers compared.
+/// The number of the survivor that the terminal's cancellation takes back, or why it takes none back: there
+/// is none, or a later one depends on it. The records that are looked at are counted, and the answers
+/// compared.
 pub(crate) fn decide<A: Allocator + Copy>(
     catalogue: &Catalogue<A>,
     records: &Records<A>,

@@ -3,7 +3,7 @@
 ghost use Rattle.std.specs.Prelude.{◌≡◌, ◌↔◌, Some, IsTrue};
 ghost use Rattle.hd_rules.specs.Turns.{kept_of};
 ghost use Rattle.hd_rules.specs.Machine.{kept_reply};
-ghost use Rattle.hd_journal.specs.Asks.{is_query};
+ghost use Rattle.hd_rules.specs.Messages.{is_query};
 ghost use Rattle.hd_journal.specs.Shown.{turn_shown};
 
 use crate::ask::OwnedAsk;

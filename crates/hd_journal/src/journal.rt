@@ -7,22 +7,21 @@ ghost use Rattle.hd_journal.specs.Stored.{IsRecordOf};
 ghost use Rattle.hd_rules.specs.Known.{IsKnownAction, IsKnownCancel};
 ghost use Rattle.hd_rules.specs.Run.{run};
 ghost use Rattle.hd_desk.specs.Desks.{Opens, contents, desk_of};
-ghost use Rattle.hd_journal.specs.Asks.{IsKnownMessage, asking, message_of};
+ghost use Rattle.hd_rules.specs.Messages.{IsKnownMessage, asking, message_of};
 ghost use Rattle.hd_journal.specs.Books.{AddsTurn, IsLegalBook, MakesNoTurn, facts, state, turn_numbered};
 ghost use Rattle.hd_journal.specs.Changing.{is_changing};
 ghost use Rattle.hd_journal.specs.Faults.{IsMemory};
 ghost use Rattle.hd_journal.specs.Shown.{turn_shown};
 
-use crate::ask::{Ask, OwnedAsk};
+use crate::ask::OwnedAsk;
 use crate::fault::TurnFault;
 use crate::laws::journal_laws;
-use crate::numbers::SeatNo;
-use crate::running::Running;
-use crate::told::Told;
-use crate::turn::{Turn, TurnRef};
+use crate::survivor_run::SurvivorRun;
+use crate::turn::{NewTurn, Turn, TurnRef};
+use crate::turn_log::TurnLog;
 use hd_desk::{Desk, Meter};
 use hd_records::{RecordRef, Survivors};
-use hd_rules::{Asked, Cancel, Command, CopyNo, TerminalNo};
+use hd_rules::{Ask, Asked, Cancel, Command, CopyNo, SeatNo, TerminalNo};
 use std::alloc::{Allocator, Global};
 use std::marker::Model;
 
@@ -37,8 +36,8 @@ use std::marker::Model;
 /// below.
 pub struct Journal<A: Allocator = Global> {
     alloc: A,
-    running: Running<A>,
-    told: Told<A>,
+    run: SurvivorRun<A>,
+    log: TurnLog<A>,
     meter: Meter,
 }
 
@@ -47,8 +46,8 @@ impl<A: Allocator> Drop for Journal<A> {
     fn drop(self) {
         let Journal {
             alloc: _alloc,
-            running: _running,
-            told: _told,
+            run: _run,
+            log: _log,
             meter: _meter,
         } = self;
     }
@@ -56,17 +55,17 @@ impl<A: Allocator> Drop for Journal<A> {
 
 impl<A: Allocator> Model for Journal<A> {
     ghost use Rattle.hd_journal.specs.Books.{Book, IsKept};
-    ghost use Rattle.hd_journal.specs.Telling.{kept_by};
+    ghost use Rattle.hd_journal.specs.TurnLog.{kept_by};
 
     ghost Value = { Book };
 
     ghost view = { λ journal. record {
-      contents = journal.running.contents;
-      turns = journal.told.turns;
+      contents = journal.run.contents;
+      turns = journal.log.turns;
       work = journal.meter;
     } };
 
-    ghost invariant = { λ journal. IsKept journal.told.turns journal.running (kept_by journal.told) };
+    ghost invariant = { λ journal. IsKept journal.log.turns journal.run (kept_by journal.log) };
 }
 
 impl<A: Allocator + Copy> Journal<A> {
@@ -82,8 +81,8 @@ impl<A: Allocator + Copy> Journal<A> {
         prove!(0 < desk.catalogue().command_limit());
         Journal {
             alloc,
-            running: Running::new(alloc, desk),
-            told: Told::new(alloc),
+            run: SurvivorRun::new(alloc, desk),
+            log: TurnLog::new(alloc),
             meter,
         }
     }
@@ -109,16 +108,40 @@ impl<A: Allocator + Copy> Journal<A> {
         ensures why { IfErr result IsMemory }
         ensures err { OnErr result (MakesNoTurn self.old self.new) }
     {
+        let new = self.take_new(ask)?;
+        Ok(new.made)
+    }
+
+    /// One turn, as `take`, and whether it changes something.
+    ///
+    /// # Errors
+    /// `Memory`, and no other. There is no turn then.
+    pub fn take_new(&mut self, ask: OwnedAsk<A>) -> Result<NewTurn, TurnFault>
+        requires { IsKnownMessage (facts self.old) ask.message }
+        ensures turn { IfOk result (λ new. AddsTurn self.old self.new ask.seat ask.message new.made) }
+        ensures changing { IfOk result (λ new.
+            new.is_changing ≡ is_changing (state self.old) ask.message) }
+        ensures legal { IsLegalBook self.new.contents self.new.turns }
+        ensures why { IfErr result IsMemory }
+        ensures err { OnErr result (MakesNoTurn self.old self.new) }
+    {
         journal_laws();
-        self.told.ready(ask.terminal())?;
-        let repeated = self.told.kept_reply(&ask);
+        self.log.ready(ask.terminal())?;
+        let repeated = self.log.kept_reply(&ask);
         if let Some(reply) = repeated {
             let again = ask.with_reply(reply);
-            return Ok(self.told.add_repeat(again));
+            return Ok(NewTurn {
+                made: self.log.add_repeat(again),
+                is_changing: false,
+            });
         }
-        let reply = self.running.answer(&ask, &mut self.meter)?;
+        let is_changing = !ask.is_query();
+        let reply = self.run.answer(&ask, &mut self.meter)?;
         let turn = ask.with_reply(reply);
-        Ok(self.told.add(turn))
+        Ok(NewTurn {
+            made: self.log.add(turn),
+            is_changing,
+        })
     }
 
     /// One turn: what a terminal of a seat asks, of which the journal makes its own copy. As `take`.
@@ -130,7 +153,7 @@ impl<A: Allocator + Copy> Journal<A> {
         ensures why { IfErr result IsMemory }
         ensures err { OnErr result (MakesNoTurn self.old self.new) }
     {
-        let own = ask.to_owned(self.alloc())?;
+        let own = OwnedAsk::of(self.alloc(), ask)?;
         self.take(own)
     }
 
@@ -204,7 +227,7 @@ impl<A: Allocator + Copy> Journal<A> {
     pub fn is_changing(&self, ask: &OwnedAsk<A>) -> bool
         ensures { result ≡ is_changing (state self.now) ask.now.message }
     {
-        !ask.is_query() && self.told.kept_reply(ask).is_none()
+        !ask.is_query() && self.log.kept_reply(ask).is_none()
     }
 
     /// How many turns there are.
@@ -213,14 +236,22 @@ impl<A: Allocator + Copy> Journal<A> {
         ensures legal { IsLegalBook self.now.contents self.now.turns }
     {
         journal_laws();
-        self.told.len()
+        self.log.len()
     }
 
     /// The turn of a number, from 1, or `None` where there is none.
     pub fn turn_at(&self, at: usize) -> Option<TurnRef<'_>>
         ensures { option_map turn_shown result ≡ turn_numbered self.now.turns at }
     {
-        self.told.turn(at.checked_sub(1)?)
+        self.log.turn(at.checked_sub(1)?)
+    }
+
+    /// The last turn, or `None` before the first.
+    pub fn last_turn(&self) -> Option<TurnRef<'_>>
+        ensures { option_map turn_shown result
+            ≡ turn_numbered self.now.turns (length self.now.turns) }
+    {
+        self.turn_at(self.log.len())
     }
 
     /// What is kept of the surviving command of a number, or `None` where no survivor has it: what it asked
@@ -229,21 +260,21 @@ impl<A: Allocator + Copy> Journal<A> {
         ensures { IsRecordOf (facts self.now) (state self.now).survivors number
             (option_map shown_record result) }
     {
-        self.running.record(number)
+        self.run.record(number)
     }
 
     /// The commands that were accepted and not cancelled, by number.
     pub fn survivors(&self) -> Survivors<'_>
         ensures { result ≡ (state self.now).survivors }
     {
-        self.running.survivors()
+        self.run.survivors()
     }
 
     /// The last number given, or that given before where none was.
     pub fn last(&self) -> u64
         ensures { result ≡ (state self.now).last }
     {
-        self.running.last()
+        self.run.last()
     }
 
     /// The desk: that of the run of the survivors.
@@ -254,7 +285,7 @@ impl<A: Allocator + Copy> Journal<A> {
         ensures legal { IsLegalBook self.now.contents self.now.turns }
     {
         journal_laws();
-        self.running.desk()
+        self.run.desk()
     }
 
     /// The work that was done: command steps, and cells written.

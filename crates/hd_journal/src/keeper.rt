@@ -1,20 +1,21 @@
 //! What keeps a hall's journal.
 
-ghost use Rattle.std.specs.Prelude.{◌≡◌, List, IfErr, IfOk, OnErr, length, option_map};
+ghost use Rattle.std.specs.Prelude.{◌≡◌, List, None, IfErr, IfOk, IsOk, OnErr, length, option_map};
 ghost use Rattle.std.specs.Arc.{arc_value};
 ghost use Rattle.hd_rules.specs.Journal.{Turn};
 ghost use Rattle.hd_catalogue.specs.Contents.{facts_of};
-ghost use Rattle.hd_journal.specs.Asks.{IsKnownMessage, SeatMessage, message_of};
+ghost use Rattle.hd_rules.specs.Messages.{IsKnownMessage, SeatMessage, message_of};
 ghost use Rattle.hd_journal.specs.Books.{turn_numbered};
+ghost use Rattle.hd_journal.specs.Faults.{IsMemoryOrUnwritten};
 ghost use Rattle.hd_journal.specs.Shown.{turn_shown};
 ghost use Rattle.hd_journal.specs.Keepers.{IsAdded};
 ghost use Rattle.hd_journal.specs.Openings.{Opening, IsLegalSince};
 ghost use Rattle.hd_journal.specs.declared.fault.TurnFault.{TurnFault};
 
-use crate::ask::Ask;
 use crate::fault::TurnFault;
 use crate::turn::{Turn, TurnRef};
 use hd_catalogue::Catalogue;
+use hd_rules::Ask;
 use std::alloc::{AllocError, Allocator};
 use std::sync::Arc;
 
@@ -32,7 +33,7 @@ pub trait Keeper<A: Allocator, Q: Drop> {
     /// The turns that it has come through since, in order.
     ghost turns: { Self → List Turn };
 
-    /// The faults that it can give.
+    /// The faults that it can give: out of memory, or a turn that couldn't be written.
     ghost faults: { TurnFault → Type 0 };
 
     /// Why it gave this fault at what was asked, by what it was before and is then.
@@ -41,9 +42,10 @@ pub trait Keeper<A: Allocator, Q: Drop> {
     /// What it keeps of an ask.
     ///
     /// # Errors
-    /// Out of memory.
+    /// Out of memory, which only a line needs.
     fn own(alloc: A, ask: &Ask<'_>) -> Result<Q, AllocError>
-        ensures { IfOk result (λ own. asks own ≡ message_of ask.now) };
+        ensures same { IfOk result (λ own. asks own ≡ message_of ask.now) }
+        ensures no_line { ask.now.line ≡ None → IsOk result };
 
     /// The catalogue.
     fn catalogue(&self) -> &Arc<Catalogue<A>, A>
@@ -67,6 +69,8 @@ pub trait Keeper<A: Allocator, Q: Drop> {
         ensures turn { IfOk result (λ made. IsAdded (turns self.old) (turns self.new) (asks own) made) }
         ensures legal { IsLegalSince (opening self.new) (turns self.new) }
         ensures why { IfErr result faults }
+        // That the journal is another one only a hall can tell, by a seat's last turn.
+        ensures own { IfErr result IsMemoryOrUnwritten }
         ensures cause { IfErr result (causes self.old (asks own) self.new) }
         ensures err { OnErr result (turns self.new ≡ turns self.old) }
         ensures same { opening self.new ≡ opening self.old };

@@ -12,24 +12,24 @@ mod journal;
 mod keeper;
 mod laws;
 mod line;
-mod numbers;
 mod office;
 mod opening;
 mod printing;
 mod room;
-mod running;
-mod told;
+mod survivor_run;
 mod turn;
+mod turn_log;
 
-pub use crate::ask::{Ask, OwnedAsk};
+pub use crate::ask::OwnedAsk;
 pub use crate::entry::Entry;
 pub use crate::fault::{TurnFault, TurnFault as Fault, TurnFault as OfficeFault, WriteFault};
 pub use crate::journal::Journal;
 pub use crate::keeper::Keeper;
-pub use crate::numbers::SeatNo;
 pub use crate::office::Office;
 pub use crate::opening::{open, share};
-pub use crate::turn::{Turn, TurnRef};
-pub use hd_desk::{Catalogue, Desk};
+pub use crate::turn::{NewTurn, Turn, TurnRef};
+pub use hd_desk::{Catalogue, Desk, OpenFault, RowFault};
 pub use hd_records::{RecordRef, Survivors};
-pub use hd_rules::{Asked, Cancel, Command, Refusal, Reply, Survivor, TerminalNo, TurnReply};
+pub use hd_rules::{
+    Ask, Asked, Cancel, Command, Refusal, Reply, SeatNo, Survivor, TerminalNo, TurnReply,
+};

@@ -4,15 +4,14 @@ ghost use Rattle.hd_rules.specs.Journal.{Turn};
 ghost use Rattle.hd_rules.specs.Known.{IsKnownTurnReply};
 ghost use Rattle.hd_rules.specs.Replies.{IsReplyTo};
 ghost use Rattle.hd_catalogue.specs.Contents.{facts_of};
-ghost use Rattle.hd_journal.specs.Asks.{IsKnownMessage, turn_with_reply, message_of};
+ghost use Rattle.hd_rules.specs.Messages.{IsKnownMessage, turn_with_reply, message_of};
 ghost use Rattle.hd_journal.specs.declared.fault.TurnFault.{TurnFault};
 ghost use Rattle.hd_journal.specs.Offices.{Keeps};
 
-use crate::ask::Ask;
 use crate::fault::TurnFault;
-use crate::numbers::SeatNo;
 use crate::turn::Turn;
 use hd_catalogue::Catalogue;
+use hd_rules::{Ask, SeatNo};
 use std::alloc::Allocator;
 
 /// What takes the turns of sessions: a journal alone, or a seat of a hall.

@@ -1,11 +1,13 @@
 //! A journal over a library's catalogue, before its first turn.
-ghost use Rattle.std.specs.Prelude.{◌≡◌, [], IfOk};
+ghost use Rattle.std.specs.Prelude.{◌≡◌, [], IfErr, IfOk};
 ghost use Rattle.std.specs.Arc.{arc_value};
+ghost use Rattle.hd_desk.specs.declared.open_fault.OpenFault.TheVariants.{Memory};
+ghost use Rattle.hd_desk.specs.Rows.{IsRefused};
 ghost use Rattle.hd_journal.specs.Books.{IsLegalBook};
 
 use crate::journal::Journal;
 use hd_catalogue::Catalogue;
-use hd_desk::{Desk, Meter};
+use hd_desk::{Desk, Meter, OpenFault};
 use std::alloc::{AllocError, Allocator, Global};
 use std::sync::Arc;
 
@@ -22,20 +24,23 @@ pub fn share<A: Allocator>(
     Ok(Arc::new(alloc, catalogue)?)
 }
 
-/// A journal without turns: each copy is on the open shelf of its home, and nobody has a hold. `inline` is
-/// never asked for memory (`Desk::open`).
+/// A journal without turns, over the desk that the catalogue's opening rows tell. `inline` is never asked for
+/// memory (`Desk::open`).
 ///
 /// # Errors
-/// Out of memory.
+/// `Row` for the first row that may not stand behind those before it, and why; `Memory`. Over a catalogue
+/// without rows it can only be `Memory`.
 pub fn open<A: Allocator + Copy>(
     alloc: A,
     inline: Global,
     meter: Meter,
     catalogue: Catalogue<A>,
-) -> Result<Journal<A>, AllocError>
+) -> Result<Journal<A>, OpenFault>
     ensures turns { IfOk result (λ journal. journal.turns ≡ []) }
     ensures contents { IfOk result (λ journal. journal.contents ≡ catalogue) }
     ensures legal { IfOk result (λ journal. IsLegalBook journal.contents journal.turns) }
+    ensures refused { IfErr result (IsRefused catalogue) }
+    ensures fresh { catalogue.opening.rows ≡ [] → IfErr result (λ fault. fault ≡ Memory) }
 {
     let desk = Desk::open(alloc, inline, share(alloc, catalogue)?)?;
     Ok(Journal::new(alloc, desk, meter))

@@ -1,9 +1,10 @@
 //! Turns, as they are told.
 
 ghost use Rattle.std.specs.Prelude.{◌≡◌};
+ghost use Rattle.hd_rules.specs.Messages.{message_of, turn_with_reply};
+ghost use Rattle.hd_journal.specs.Shown.{turn_shown};
 
-use crate::numbers::SeatNo;
-use hd_rules::{Asked, TerminalNo, TurnReply};
+use hd_rules::{Ask, Asked, SeatNo, TerminalNo, TurnReply};
 
 /// A turn that was made.
 #[derive(Clone, Copy, PartialEq, Eq, Debug)]
@@ -23,6 +24,15 @@ impl Turn {
     }
 }
 
+/// A turn that was just made, and whether it changes something.
+#[derive(Clone, Copy, PartialEq, Eq, Debug)]
+pub struct NewTurn {
+    /// The turn.
+    pub made: Turn,
+    /// Whether it changes something: it asks for a change, and wasn't answered already.
+    pub is_changing: bool,
+}
+
 /// A turn of a journal.
 #[derive(Clone, Copy)]
 pub struct TurnRef<'a> {
@@ -36,4 +46,19 @@ pub struct TurnRef<'a> {
     pub line: Option<&'a [u8]>,
     /// The reply.
     pub reply: TurnReply,
+}
+
+impl<'a> TurnRef<'a> {
+    /// The turn of what is asked, with its reply. It lends the asker's own line.
+    pub fn of(ask: &Ask<'a>, reply: TurnReply) -> TurnRef<'a>
+        ensures { turn_shown result ≡ turn_with_reply (message_of ask.now) reply }
+    {
+        TurnRef {
+            seat: ask.seat(),
+            terminal: ask.terminal(),
+            asked: *ask.what_is_asked(),
+            line: ask.line(),
+            reply,
+        }
+    }
 }

@@ -15,7 +15,7 @@ use Rattle.hd_turn_store.specs.Rows.{read_turn}
 use Rattle.hd_turn_store.specs.declared.stored.StoredTurn.{StoredTurn}
 use Rattle.hd_journal_file.specs.Rows.{texts}
 use Rattle.hd_journal_file.specs.Restored.{DiffersFirst, RefusesRow, RefusesRows, RowAsks, StopsAt, TakesRows}
-use Rattle.hd_journal_file.specs.declared.fault.CameColumn.{CameColumn}
+use Rattle.hd_journal_file.specs.declared.fault.OutcomeColumn.{OutcomeColumn}
 use Rattle.hd_journal_file.specs.declared.fault.RestoreFault.{RestoreFault}
 use Rattle.hd_journal_file.specs.declared.fault.RestoreFault.TheVariants.{Unread, Memory, NoTurn, NoChange, Differs, TooMany}
 use Rattle.hd_journal_file.proofs.Retaken.{takes_then}
@@ -41,7 +41,7 @@ asks_of book row seat message k same is = record {
 -- it came to something else
 pub refuses_came : (old new : Book) (seat : ℕ) (message : Message) (made : Made) (k : Contents) (row : KeptTurn) (at : ℕ) (fault : RestoreFault)
     → AddsTurn old new seat message made → k ≡ old.contents → IsRowOf k seat message (texts row)
-    → (fault ≡ Memory) ⊎ ((column : CameColumn) × (fault ≡ Differs at column) × DiffersFirst made.reply row column)
+    → (fault ≡ Memory) ⊎ ((column : OutcomeColumn) × (fault ≡ Differs at column) × DiffersFirst made.reply row column)
     → RefusesRow old row at fault
 refuses_came old new seat message made k row at fault adds same is (inl memory) =
     subst (λ (f : RestoreFault). RefusesRow old row at f) (sym memory) tt

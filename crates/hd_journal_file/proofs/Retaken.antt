@@ -15,14 +15,14 @@ use Rattle.hd_turn_store.specs.Kept.{KeptTurn, piece}
 use Rattle.hd_turn_store.specs.Rows.{read_turn}
 use Rattle.hd_turn_store.specs.declared.stored.StoredTurn.{StoredTurn}
 use Rattle.hd_journal_file.specs.Rows.{texts, IsTurnRow, AreTurnRows}
-use Rattle.hd_journal_file.specs.Restored.{CameToRow, TakesPiece, TakesRow, TakesRows}
+use Rattle.hd_journal_file.specs.Restored.{HasOutcome, TakesPiece, TakesRow, TakesRows}
 use Rattle.hd_journal_file.proofs.Same.{rows_more}
 
 pub takes_row : (old new : Book) (seat : ℕ) (message : Message) (made : Made) (k : Contents) (row : KeptTurn)
     → AddsTurn old new seat message made → k ≡ old.contents → IsRowOf k seat message (texts row)
-    → is_changing (state old) message ≡ true → CameToRow made.reply row → TakesRow old new row
+    → is_changing (state old) message ≡ true → HasOutcome made.reply row → TakesRow old new row
 takes_row old new seat message made k row adds same is changes came =
-    let said : CameToRow (machine_answer old message).reply row = subst (λ (r : TurnReply). CameToRow r row) adds.reply came
+    let said : HasOutcome (machine_answer old message).reply row = subst (λ (r : TurnReply). HasOutcome r row) adds.reply came
     in record {
       contents = adds.contents;
       turn = next_turn old seat message;

@@ -10,10 +10,10 @@ use Rattle.hd_turn_row.specs.Rows.{IsRowOf, row_texts}
 use Rattle.hd_turn_row.specs.declared.row.Row.{Row}
 use Rattle.hd_turn_store.specs.declared.row.TurnRow.{TurnRow}
 use Rattle.hd_turn_store.specs.Rows.{turn_of_row}
-use Rattle.hd_journal_file.specs.Came.{ComesTo}
+use Rattle.hd_journal_file.specs.Outcome.{AreColumnsOf}
 use Rattle.hd_journal_file.specs.Rows.{IsTurnRow}
 use Rattle.hd_journal_file.specs.Told.{TellsTurn}
-use Rattle.hd_journal_file.specs.declared.came.CameTo.{CameTo}
+use Rattle.hd_journal_file.specs.declared.outcome.OutcomeColumns.{OutcomeColumns}
 
 -- the text of a day isn't empty
 pub some_day : (day : Option ℕ) (text : Option (List ℕ)) → IsShown IsDayText day text → ¬ (text ≡ Some [])
@@ -23,8 +23,8 @@ some_day (Some day) None shown is = absurd shown
 some_day (Some day) (Some text) shown is = let spelled = shown.spelled in cc
 
 -- what tells a turn's row, and what that came to, is the turn's row
-pub tells_turn : (k : Contents) (turn : Turn) (seat : ℕ) (message : Message) (row : Row) (came : CameTo) (told : TurnRow)
-    → seat ≡ turn.seat → message ≡ turn.message → IsRowOf k seat message (row_texts row) → ComesTo turn.reply came
+pub tells_turn : (k : Contents) (turn : Turn) (seat : ℕ) (message : Message) (row : Row) (came : OutcomeColumns) (told : TurnRow)
+    → seat ≡ turn.seat → message ≡ turn.message → IsRowOf k seat message (row_texts row) → AreColumnsOf turn.reply came
     → TellsTurn row came told → IsTurnRow k turn (turn_of_row told)
 tells_turn k turn seat message row came told seat_is message_is is comes tells = record {
   asked = subst (IsRowOf k turn.seat turn.message) (sym tells.asked)

@@ -1,5 +1,5 @@
 -- A journal's turns in its file, to be read in this order.
-pub mod Came  -- what a turn came to, in its row's columns
+pub mod Outcome  -- what a turn came to, in its row's columns
 pub mod Rows  -- the rows of turns
 pub mod Told  -- a row as it is handed in
 pub mod Refused  -- why a turn isn't committed

@@ -12,14 +12,14 @@ use Rattle.hd_turn_row.specs.Faults.{IsFirstFault}
 use Rattle.hd_turn_row.specs.Replies.{outcome_word, number_column, IsReplyText}
 use Rattle.hd_turn_row.specs.Rows.{IsRowOf}
 use Rattle.hd_journal_file.specs.Rows.{texts, IsTurnRow, AreTurnRows}
-use Rattle.hd_journal_file.specs.declared.fault.CameColumn.{CameColumn}
-use Rattle.hd_journal_file.specs.declared.fault.CameColumn.TheVariants.{Outcome, Number, Reply}
+use Rattle.hd_journal_file.specs.declared.fault.OutcomeColumn.{OutcomeColumn}
+use Rattle.hd_journal_file.specs.declared.fault.OutcomeColumn.TheVariants.{Outcome, Number, Reply}
 use Rattle.hd_journal_file.specs.declared.fault.RestoreFault.{RestoreFault}
 use Rattle.hd_journal_file.specs.declared.fault.RestoreFault.TheVariants.{Unread, Memory, NoTurn, NoChange}
 use Rattle.hd_journal_file.specs.declared.fault.RestoreFault.TheVariants.{Differs, TooMany}
 
 -- what a turn came to is what its row says
-pub record CameToRow (reply : TurnReply) (row : KeptTurn) : Type 0 where
+pub record HasOutcome (reply : TurnReply) (row : KeptTurn) : Type 0 where
   pub outcome : row.outcome ≡ outcome_word reply
   pub number : row.number ≡ number_column reply
   pub told : IsReplyText reply row.reply
@@ -46,7 +46,7 @@ TakesPiece old new rows after None = (rows ≡ []) × TakesRows old new rows
 TakesPiece old new rows after (Some last) = (last ≡ after + length rows) × TakesRows old new rows
 
 -- The first column of a row that says something else than what a turn came to.
-abbrev pub DiffersFirst : TurnReply → KeptTurn → CameColumn → Type 0
+abbrev pub DiffersFirst : TurnReply → KeptTurn → OutcomeColumn → Type 0
 DiffersFirst reply row Outcome = row.outcome ≢ outcome_word reply
 DiffersFirst reply row Number = (row.outcome ≡ outcome_word reply) × (row.number ≢ number_column reply)
 DiffersFirst reply row Reply =

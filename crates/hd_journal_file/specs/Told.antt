@@ -15,7 +15,7 @@ use Rattle.hd_turn_store.specs.declared.row.TurnRow.{TurnRow}
 use Rattle.hd_turn_store.specs.Kept.{Named}
 use Rattle.hd_turn_store.specs.Rows.{names_of_row, turn_of_row}
 use Rattle.hd_journal_file.specs.Rows.{texts}
-use Rattle.hd_journal_file.specs.declared.came.CameTo.{CameTo}
+use Rattle.hd_journal_file.specs.declared.outcome.OutcomeColumns.{OutcomeColumns}
 
 -- the names of what was asked, in their columns
 abbrev pub names_in : AskedColumns → Named
@@ -33,7 +33,7 @@ abbrev pub TellsNames : AskedColumns → NamesRow → Type 0
 TellsNames asked row = names_of_row row ≡ names_in asked
 
 -- It tells what a row tells, and what that came to.
-pub record TellsTurn (row : Row) (came : CameTo) (turn : TurnRow) : Type 0 where
+pub record TellsTurn (row : Row) (came : OutcomeColumns) (turn : TurnRow) : Type 0 where
   pub asked : texts (turn_of_row turn) ≡ row_texts row
   pub outcome : (turn_of_row turn).outcome ≡ came.outcome.now
   pub number : (turn_of_row turn).number ≡ came.number

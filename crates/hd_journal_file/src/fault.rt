@@ -5,7 +5,7 @@ use hd_turn_store::Fault;
 
 /// A column of what a turn came to.
 #[derive(Clone, Copy, PartialEq, Eq, Debug)]
-pub enum CameColumn {
+pub enum OutcomeColumn {
     /// How it went.
     Outcome,
     /// The number of the command that the reply names.
@@ -38,7 +38,7 @@ pub enum RestoreFault {
         /// The number of the row.
         at: u32,
         /// The first column that differs.
-        column: CameColumn,
+        column: OutcomeColumn,
     },
     /// There are more rows than can be counted.
     TooMany,

@@ -9,7 +9,7 @@ ghost use Rattle.hd_journal_file.specs.Held.{HoldsJournal, MayLeave};
 ghost use Rattle.hd_journal_file.specs.Refused.{RefusesTurn};
 
 use crate::adding::{a_crash_leaves_what_is_seen, add};
-use crate::came::came_to;
+use crate::outcome::outcome_columns;
 use crate::telling::turn_row;
 use hd_catalogue::Catalogue;
 use hd_durable::TurnTable;
@@ -102,7 +102,7 @@ impl<S: Alter, F: Start, A: Allocator + Copy> TurnTable for JournalFile<S, F, A>
 
     fn commit(&mut self, turn: &TurnRef<'_>) -> Result<(), WriteFault> {
         a_crash_leaves_what_is_seen(&self.conn);
-        let came = came_to(self.alloc, &turn.reply)?;
+        let came = outcome_columns(self.alloc, &turn.reply)?;
         let days = RowDays::of(&turn.asked);
         let row = turn_row(&self.catalogue, turn, &days, &came)?;
         add(&mut self.conn, &row)

@@ -5,16 +5,16 @@
 #![tactic(auto)]
 
 mod adding;
-mod came;
 mod fault;
 mod file;
 mod open_fault;
 mod opening;
+mod outcome;
 mod reading;
 mod restoring;
 mod telling;
 
-pub use crate::fault::{CameColumn, RestoreFault};
+pub use crate::fault::{OutcomeColumn, RestoreFault};
 pub use crate::file::JournalFile;
 pub use crate::open_fault::OpenFault;
 pub use crate::opening::{Wanted, open, open_over};

@@ -3,19 +3,19 @@
 ghost use Rattle.std.specs.Prelude.{◌≡◌, ◌⊎◌, IfErr, IfOk, OnOk, option_map, string_bytes};
 ghost use Rattle.std.specs.Option.{option_copied};
 ghost use Rattle.hd_catalogue.specs.Contents.{facts_of};
-ghost use Rattle.hd_journal.specs.Asks.{IsKnownMessage};
+ghost use Rattle.hd_rules.specs.Messages.{IsKnownMessage};
 ghost use Rattle.hd_turn_store.specs.Rows.{read_turn};
 ghost use Rattle.hd_turn_row.specs.Rows.{IsRowOf, row_texts};
 ghost use Rattle.hd_turn_row.specs.Faults.{IsFirstFault};
-ghost use Rattle.hd_journal_file.specs.Restored.{CameToRow, DiffersFirst};
+ghost use Rattle.hd_journal_file.specs.Restored.{HasOutcome, DiffersFirst};
 ghost use Rattle.hd_journal_file.specs.Rows.{day_of, texts};
 ghost use Rattle.hd_turn_row.specs.declared.fault.RowFault.{RowFault};
-ghost use Rattle.hd_journal_file.specs.declared.fault.CameColumn.{CameColumn as Column};
+ghost use Rattle.hd_journal_file.specs.declared.fault.OutcomeColumn.{OutcomeColumn as Column};
 
-use crate::came::came_to;
-use crate::fault::{CameColumn, RestoreFault};
+use crate::fault::{OutcomeColumn, RestoreFault};
+use crate::outcome::outcome_columns;
 use hd_catalogue::Catalogue;
-use hd_journal::{Ask, OwnedAsk, SeatNo, TurnReply};
+use hd_journal::{OwnedAsk, TurnReply};
 use hd_turn_row::{AskedColumns, Row, ask_of, replies_of_one_text_are_one};
 use hd_turn_store::StoredTurn;
 use std::alloc::{Allocator, Global};
@@ -90,8 +90,7 @@ pub(crate) fn own_ask<A: Allocator + Copy>(
         Ok(ask) => ask,
         Err(why) => return Err(RestoreFault::NoTurn { at, why }),
     };
-    let own = Ask::new(SeatNo::new(ask.seat), ask.terminal, ask.asked, ask.line);
-    match own.to_owned(alloc) {
+    match OwnedAsk::of(alloc, &ask) {
         Ok(own) => Ok(own),
         Err(_) => Err(RestoreFault::Memory),
     }
@@ -107,29 +106,29 @@ pub(crate) fn compare(
     kept: &StoredTurn,
     at: u32,
 ) -> Result<(), RestoreFault>
-    ensures same { OnOk result (CameToRow reply.now (read_turn kept.now)) }
+    ensures same { OnOk result (HasOutcome reply.now (read_turn kept.now)) }
     ensures why { IfErr result (λ fault. (fault ≡ RestoreFault.Memory)
         ⊎ ((column : Column) × (fault ≡ RestoreFault.Differs at column)
         × DiffersFirst reply.now (read_turn kept.now) column)) }
 {
     replies_of_one_text_are_one();
-    let Ok(came) = came_to(alloc, reply) else {
+    let Ok(came) = outcome_columns(alloc, reply) else {
         return Err(RestoreFault::Memory);
     };
     if kept.outcome.as_str() != came.outcome {
-        return Err(differs(at, CameColumn::Outcome));
+        return Err(differs(at, OutcomeColumn::Outcome));
     }
     if kept.number != came.number {
-        return Err(differs(at, CameColumn::Number));
+        return Err(differs(at, OutcomeColumn::Number));
     }
     if kept.reply.as_slice() != came.reply.as_slice() {
-        return Err(differs(at, CameColumn::Reply));
+        return Err(differs(at, OutcomeColumn::Reply));
     }
     Ok(())
 }
 
 /// That a column of a row differs.
-fn differs(at: u32, column: CameColumn) -> RestoreFault
+fn differs(at: u32, column: OutcomeColumn) -> RestoreFault
     ensures { result ≡ RestoreFault.Differs at column }
 {
     RestoreFault::Differs { at, column }

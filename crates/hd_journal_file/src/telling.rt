@@ -1,21 +1,23 @@
 //! The row of a turn.
 
-ghost use Rattle.std.specs.Prelude.{◌≡◌, [], IfErr, IfOk, IfSome, IsUtf8, Some, option_map};
+ghost use Rattle.std.specs.Prelude.{◌≡◌, [], IfErr, IfNone, IfOk, IfSome, IsUtf8, None, Some, option_map};
 ghost use Rattle.std.specs.Option.{option_copied};
 ghost use Rattle.hd_catalogue.specs.Contents.{facts_of};
-ghost use Rattle.hd_journal.specs.Asks.{IsKnownMessage};
+ghost use Rattle.hd_rules.specs.Messages.{IsKnownMessage, asking, kept_line, message_of};
 ghost use Rattle.hd_journal.specs.Shown.{turn_shown};
-ghost use Rattle.hd_turn_row.specs.Rows.{AreDaysOfAsked, message_of, row_texts};
+ghost use Rattle.hd_turn_row.specs.Parts.{asked_parts};
+ghost use Rattle.hd_turn_row.specs.Rows.{AreDaysOfAsked, IsRowOf, row_texts};
 ghost use Rattle.hd_turn_store.specs.Rows.{turn_of_row};
-ghost use Rattle.hd_journal_file.specs.Came.{ComesTo};
+ghost use Rattle.hd_journal_file.specs.Outcome.{AreColumnsOf};
 ghost use Rattle.hd_journal_file.specs.Rows.{IsTurnRow, day_of, texts};
 ghost use Rattle.hd_turn_row.specs.Columns.{asked_texts};
 ghost use Rattle.hd_journal_file.specs.Told.{AreNameTexts, AreTexts, HasNoRow, TellsTurn, TellsNames};
 
-use crate::came::CameTo;
+use crate::outcome::OutcomeColumns;
 use hd_catalogue::Catalogue;
 use hd_journal::{TurnRef, WriteFault};
-use hd_turn_row::{AskedColumns, Row, RowAsk, RowDays, row_of};
+use hd_rules::{Ask, Asked};
+use hd_turn_row::{AskedColumns, Row, RowDays, row_of};
 use hd_turn_store::{NamesRow, TurnRow};
 use std::alloc::Allocator;
 
@@ -28,43 +30,59 @@ pub(crate) fn turn_row<'a, 't: 'a, A: Allocator + Copy>(
     catalogue: &'a Catalogue<A>,
     turn: &TurnRef<'t>,
     days: &'a RowDays,
-    came: &'a CameTo,
+    came: &'a OutcomeColumns,
 ) -> Result<TurnRow<'a>, WriteFault>
     requires known { IsKnownMessage (facts_of catalogue.now) (turn_shown turn.now).message }
     requires days { AreDaysOfAsked turn.now.asked days.now }
-    requires came { ComesTo turn.now.reply came.now }
+    requires came { AreColumnsOf turn.now.reply came.now }
     ensures row { IfOk result (λ row. IsTurnRow catalogue.now (turn_shown turn.now) (turn_of_row row)) }
     ensures why { IfErr result (HasNoRow catalogue.now (turn_shown turn.now)) }
 {
-    let ask = ask_of(turn);
-    let Some(row) = row_of(catalogue, &ask, days) else {
+    let Some(row) = asked_row(catalogue, turn, days) else {
         return Err(WriteFault::Refused);
     };
     row_with(&row, came)
 }
 
-/// What a turn asked.
-fn ask_of<'a, 't: 'a>(turn: &TurnRef<'t>) -> RowAsk<'a>
-    ensures seat { result.seat ≡ (turn_shown turn.now).seat }
-    ensures message { message_of result ≡ (turn_shown turn.now).message }
+/// The row of what a turn asked, or `None` of a query.
+fn asked_row<'a, 't: 'a, A: Allocator + Copy>(
+    catalogue: &'a Catalogue<A>,
+    turn: &TurnRef<'t>,
+    days: &'a RowDays,
+) -> Option<Row<'a>>
+    requires known { IsKnownMessage (facts_of catalogue.now) (turn_shown turn.now).message }
+    requires days { AreDaysOfAsked turn.now.asked days.now }
+    ensures row { IfSome result (λ row. IsRowOf catalogue.now (turn_shown turn.now).seat
+        (turn_shown turn.now).message (row_texts row)) }
+    ensures query { IfNone result (asked_parts turn.now.asked ≡ None) }
+{
+    match &turn.asked {
+        Asked::Command(_) | Asked::Cancel(_) => row_of(catalogue, &ask_of(turn), days),
+        Asked::Item(_) => None,
+    }
+}
+
+/// What a turn asked. A query is told without a line.
+fn ask_of<'a, 't: 'a>(turn: &TurnRef<'t>) -> Ask<'a>
+    ensures { message_of result
+        ≡ record {
+          seat = (turn_shown turn.now).seat;
+          message = asking turn.now.terminal turn.now.asked
+              (kept_line turn.now.asked (turn_shown turn.now).message.line);
+        } }
 {
     let line: Option<&'a [u8]> = match turn.line {
         Some(line) => Some(line),
         None => None,
     };
-    RowAsk {
-        seat: turn.seat.number(),
-        terminal: turn.terminal,
-        asked: turn.asked,
-        line,
-    }
+    Ask::new(turn.seat, turn.terminal, turn.asked, line)
 }
 
 /// The row of a turn, with what that came to.
 ///
 /// # Errors
 /// `NotText` where a text isn't UTF-8.
-fn row_with<'a>(row: &Row<'a>, came: &'a CameTo) -> Result<TurnRow<'a>, WriteFault>
+fn row_with<'a>(row: &Row<'a>, came: &'a OutcomeColumns) -> Result<TurnRow<'a>, WriteFault>
     requires { ¬ (option_copied row.now.asked.day ≡ Some []) }
     ensures row { IfOk result (TellsTurn row.now came.now) }
     ensures why { IfErr result (λ fault. (fault ≡ WriteFault.NotText) × ¬ AreTexts (row_texts row.now)) }

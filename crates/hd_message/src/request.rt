@@ -38,7 +38,8 @@ pub struct Wishes<'a> {
 pub struct HoldRequest<'a> {
     /// The hold mode.
     pub mode: Mode,
-    /// BI: whether the message cancels the earlier message of the opposite mode.
+    /// BI: whether the message takes back an earlier one: a deletion an addition, an addition a deletion, and
+    /// a change a change.
     pub cancels: bool,
     /// The 18 bytes of the transaction date.
     pub date: &'a [u8],

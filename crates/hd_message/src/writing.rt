@@ -19,7 +19,8 @@ const SUPPORTED: &[u8] = b"NYYNYYYNNNYNNYYN";
 /// Appends the text of a reply, without trailer and carriage return, whole or not at all (docs/protocol.md,
 /// "Replies written").
 ///
-/// An error is want of memory; where `out` has room for the text there is none.
+/// # Errors
+/// Out of memory: where `out` has room for the text there is none.
 pub fn write<A: Allocator>(reply: &Reply<'_>, out: &mut Vec<u8, A>) -> Result<(), AllocError>
     ensures ok { OnOk result (out.new.items ≡ out.old.items ++ reply_text reply.now) }
     ensures err { OnErr result (out.new.items ≡ out.old.items) }

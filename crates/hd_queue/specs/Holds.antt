@@ -1,6 +1,6 @@
 -- Lists of the holds of one title.
-use Rattle.std.specs.Prelude.{◌≡◌, ◌≢◌, ℕ, ◌<◌, not, ◌==◌, nat_lt, if◌then◌else◌, List, [], ◌∷◌, Option, None}
-use Rattle.std.specs.Prelude.{find, filter, count_by}
+use Rattle.std.specs.Prelude.{◌≡◌, ◌≢◌, ℕ, ◌<◌, Bool, false, not, ◌||◌, ◌==◌, nat_lt, if◌then◌else◌, List, []}
+use Rattle.std.specs.Prelude.{◌∷◌, Option, None, find, filter, count_by}
 use Rattle.hd_rules.specs.declared.holds.Hold.{Hold}
 
 -- the hold of a patron, if any
@@ -34,6 +34,11 @@ HasPatronsOnce (h ∷ hs) = (hold_of hs h.patron ≡ None) × HasPatronsOnce hs
 abbrev pub HasNoStamp : ℕ → List Hold → Type 0
 HasNoStamp stamp [] = Unit {0}
 HasNoStamp stamp (h ∷ hs) = (h.stamp ≢ stamp) × HasNoStamp stamp hs
+
+-- whether a hold has this stamp
+abbrev pub has_stamp : List Hold → ℕ → Bool
+has_stamp [] stamp = false
+has_stamp (h ∷ hs) stamp = (h.stamp == stamp) || has_stamp hs stamp
 
 -- the list with one more hold, behind those of smaller stamps
 abbrev pub with_hold : List Hold → Hold → List Hold

@@ -9,7 +9,7 @@ use std::marker::Model;
 
 /// The holds of a list, lent, from first to last. They stand in a ring, so they come as two slices.
 #[derive(Drop)]
-pub(crate) struct HoldSlices<'a> {
+pub struct HoldSlices<'a> {
     front: &'a [Hold],
     back: &'a [Hold],
 }

@@ -11,6 +11,7 @@ mod waiting;
 mod wanted;
 
 pub use crate::laws::queues_stay_in_order;
+pub use crate::lent::HoldSlices;
 pub use crate::queue::Queue;
 pub use crate::view::{QueueView, Waiting};
 pub use hd_rules::{Hold, HoldKind, PatronNo};

@@ -1,7 +1,7 @@
 //! Holds as one list in order of stamp.
 ghost use Rattle.std.specs.Prelude.{◌≡◌, ℕ, ◌+◌, ◌<◌, ◌≤◌, ◌^◌, [], None, Some, OnErr, OnOk, length};
 ghost use Rattle.hd_rules.specs.declared.holds.Hold.{Hold};
-ghost use Rattle.hd_queue.specs.Holds.{HasNoStamp, HasPatronsOnce, IsInOrder, count_before, hold_of};
+ghost use Rattle.hd_queue.specs.Holds.{HasNoStamp, HasPatronsOnce, IsInOrder, count_before, has_stamp, hold_of};
 ghost use Rattle.hd_queue.specs.Holds.{with_hold, without};
 
 use crate::lent::HoldSlices;
@@ -83,6 +83,17 @@ impl<A: Allocator> HoldList<A> {
     {
         let at = number_before(&self.ring, stamp);
         self.ring.get(at).copied()
+    }
+
+    /// Whether a hold has this stamp.
+    pub(crate) fn has_stamp(&self, stamp: u64) -> bool
+        ensures { result ≡ has_stamp self.now.holds stamp }
+    {
+        let at = number_before(&self.ring, stamp);
+        match self.ring.get(at) {
+            Some(hold) => hold.stamp == stamp,
+            None => false,
+        }
     }
 
     /// How many holds have a smaller stamp.

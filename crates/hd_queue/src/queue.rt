@@ -1,6 +1,6 @@
 //! A queue of holds in order of stamp.
 ghost use Rattle.std.specs.Prelude.{◌≡◌, ◌+◌, ◌<◌, ◌≤◌, ◌^◌, [], None, Some, OnErr, OnOk, length, option_map};
-ghost use Rattle.hd_queue.specs.Holds.{HasNoStamp, HasPatronsOnce, IsInOrder, count_before, hold_of};
+ghost use Rattle.hd_queue.specs.Holds.{HasNoStamp, HasPatronsOnce, IsInOrder, count_before, has_stamp, hold_of};
 ghost use Rattle.hd_queue.specs.Holds.{with_hold, without};
 
 use crate::list::HoldList;
@@ -119,6 +119,13 @@ impl<A: Allocator> Queue<A> {
     {
         let stamp = self.stamps.of(patron)?;
         Some(self.list.count_before(stamp) as u64 + 1)
+    }
+
+    /// Whether a hold has this stamp. It is found by halves, without a walk.
+    pub fn has_stamp(&self, stamp: u64) -> bool
+        ensures { result ≡ has_stamp self.now.holds stamp }
+    {
+        self.list.has_stamp(stamp)
     }
 
     /// How many holds have a smaller stamp.

@@ -55,6 +55,13 @@ impl<'a> QueueView<'a> {
         }
     }
 
+    /// All holds, in order of stamp.
+    pub fn holds(&self) -> HoldSlices<'a>
+        ensures { result ≡ self.now }
+    {
+        self.holds.again()
+    }
+
     /// The hold of a patron, or `None` where there is none.
     pub fn hold_of(&self, patron: PatronNo) -> Option<&'a Hold>
         ensures { option_copied result ≡ hold_of self.now patron }

@@ -13,7 +13,7 @@ use Rattle.hd_rules.specs.declared.questions.Question.TheVariants as question
 use Rattle.hd_rules.specs.Facts.{Facts}
 use Rattle.hd_rules.specs.Record.{Record}
 use Rattle.hd_clash.specs.Shift.{is_count, shift_each, shift_of}
-use Rattle.hd_records.specs.declared.slots.Kept.{Kept}
+use Rattle.hd_records.specs.declared.slots.RecordHead.{RecordHead}
 use Rattle.hd_records.specs.declared.slots.Slot.{Slot}
 use Rattle.hd_records.specs.Laid.{AreLaid, have_count, kept_first, record_in, records_in, survivors_in}
 use Rattle.hd_records.specs.Slots.{shift_slot, records_there}
@@ -30,7 +30,7 @@ pub survivors_stored : (ss : List Slot) (fs : List Finding) (cs : List Change)
 survivors_stored [] fs cs = refl
 survivors_stored (s ∷ ss) fs cs = by_slot s.kept (survivors_stored ss (drop s.findings.count fs) (drop s.changes.count cs))
   where
-    by_slot : (o : Option Kept)
+    by_slot : (o : Option RecordHead)
         → survivors_of (records_there (records_in ss (drop s.findings.count fs) (drop s.changes.count cs))) ≡ survivors_in ss
         → survivors_of (records_there (record_in o (take s.findings.count fs) (take s.changes.count cs)
         ∷ records_in ss (drop s.findings.count fs) (drop s.changes.count cs)))
@@ -220,7 +220,7 @@ none_shifted k changes (x ∷ xs) is =
     (λ j. record { question = x.question; noted = no_count k changes x.question x.noted parts.0 j }
     ∷ none_shifted k changes xs parts.1 j)
 
-pub shifted_in : (k : Facts) (changes : List Change) (o : Option Kept) (fs : List Finding) (cs : List Change)
+pub shifted_in : (k : Facts) (changes : List Change) (o : Option RecordHead) (fs : List Finding) (cs : List Change)
     → shift_slot k changes (record_in o fs cs) ≡ record_in o (shift_each k changes fs) cs
 shifted_in k changes None fs cs = refl
 shifted_in k changes (Some x) fs cs = refl
@@ -356,7 +356,7 @@ laid_mended k changes f c (suc p) b d (s ∷ ss) fs cs below laid asked =
     )
 
 -- a record that notes no count
-pub nothing_mended : (k : Facts) (changes : List Change) (p : ℕ) (items : List (Option Record)) (o : Option Kept) (fs : List Finding)
+pub nothing_mended : (k : Facts) (changes : List Change) (p : ℕ) (items : List (Option Record)) (o : Option RecordHead) (fs : List Finding)
     (cs : List Change) → get_or items p None ≡ record_in o fs cs → have_count fs ≡ false
     → items ≡ set items p (shift_slot k changes (get_or items p None))
 nothing_mended k changes p items o fs cs at none =

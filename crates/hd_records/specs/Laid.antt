@@ -6,11 +6,11 @@ use Rattle.hd_rules.specs.declared.commands.Survivor.{Survivor}
 use Rattle.hd_rules.specs.declared.questions.Finding.{Finding}
 use Rattle.hd_rules.specs.Record.{Record}
 use Rattle.hd_clash.specs.Shift.{is_count}
-use Rattle.hd_records.specs.declared.slots.Kept.{Kept}
+use Rattle.hd_records.specs.declared.slots.RecordHead.{RecordHead}
 use Rattle.hd_records.specs.declared.slots.Slot.{Slot}
 
 -- the record of what a slot has, with these findings and changes
-abbrev pub record_of_kept : Kept → List Finding → List Change → Record
+abbrev pub record_of_kept : RecordHead → List Finding → List Change → Record
 record_of_kept kept findings changes = record {
   number = kept.survivor.number;
   terminal = kept.survivor.terminal;
@@ -21,7 +21,7 @@ record_of_kept kept findings changes = record {
 }
 
 -- the record of a slot with these findings and changes, if it has one
-abbrev pub record_in : Option Kept → List Finding → List Change → Option Record
+abbrev pub record_in : Option RecordHead → List Finding → List Change → Option Record
 record_in None findings changes = None
 record_in (Some kept) findings changes = Some (record_of_kept kept findings changes)
 
@@ -34,7 +34,7 @@ records_in (s ∷ ss) findings changes =
     ∷ records_in ss (drop s.findings.count findings) (drop s.changes.count changes)
 
 -- the survivors that the records of slots are of
-abbrev pub kept_first : Option Kept → List Survivor → List Survivor
+abbrev pub kept_first : Option RecordHead → List Survivor → List Survivor
 kept_first None rest = rest
 kept_first (Some kept) rest = kept.survivor ∷ rest
 

@@ -10,8 +10,8 @@ ghost use Rattle.hd_records.specs.Behind.{behind};
 ghost use Rattle.hd_records.specs.Slots.{shift_slot, records_there};
 ghost use Rattle.hd_records.specs.Survivors.{survivors_of};
 
-use crate::lent::Lent;
 use crate::record::StoredRecord;
+use crate::record_view::RecordView;
 use crate::slots::Slots;
 use crate::survivors::Survivors;
 use hd_catalogue::Catalogue;
@@ -85,7 +85,7 @@ impl<A: Allocator> AllSlots<A> {
 
     /// The record of a slot, the slots counted from 0.
     #[tactic(auto, using(crate::proofs::Behind::get_before, crate::proofs::Behind::get_behind))]
-    pub(crate) fn get(&self, place: usize) -> Option<Lent<'_>>
+    pub(crate) fn get(&self, place: usize) -> Option<RecordView<'_>>
         ensures { result ≡ slice_index_or self.now.items place None }
     {
         let place = place.checked_sub(self.before as usize)?;

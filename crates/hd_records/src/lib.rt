@@ -7,10 +7,10 @@
 mod all_slots;
 mod index;
 mod laws;
-mod lent;
 mod lists;
 mod mending;
 mod record;
+mod record_view;
 mod records;
 mod slots;
 mod survivors;

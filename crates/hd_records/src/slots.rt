@@ -9,10 +9,10 @@ ghost use Rattle.hd_clash.specs.Records.{EachRecordIsKnown};
 ghost use Rattle.hd_records.specs.Slots.{shift_slot, records_there};
 ghost use Rattle.hd_records.specs.Survivors.{survivors_of};
 
-use crate::lent::Lent;
 use crate::lists::{append, place_behind, ready_for_four, values_at};
 use crate::mending::{has_count, mend_at};
 use crate::record::StoredRecord;
+use crate::record_view::RecordView;
 use crate::survivors::Survivors;
 use hd_catalogue::Catalogue;
 use hd_rules::{Change, Finding, Reply, Survivor};
@@ -28,7 +28,7 @@ pub(crate) struct Span {
 
 /// What a slot itself has of a record.
 #[derive(Clone, Copy)]
-pub(crate) struct Kept {
+pub(crate) struct RecordHead {
     pub(crate) survivor: Survivor,
     pub(crate) reply: Reply,
 }
@@ -40,7 +40,7 @@ pub(crate) struct Slot {
     pub(crate) findings: Span,
     pub(crate) changes: Span,
     pub(crate) has_count: bool,
-    pub(crate) kept: Option<Kept>,
+    pub(crate) kept: Option<RecordHead>,
 }
 
 /// A slot for each number, from 1 on, with the record of that number or none.
@@ -112,7 +112,7 @@ impl<A: Allocator> Slots<A> {
             findings: place_behind(&self.findings, findings),
             changes: place_behind(&self.changes, changes),
             has_count: has_count(findings),
-            kept: Some(Kept {
+            kept: Some(RecordHead {
                 survivor: *new.survivor(),
                 reply: new.reply(),
             }),
@@ -130,7 +130,7 @@ impl<A: Allocator> Slots<A> {
     }
 
     /// The record of a slot, the slots counted from 0.
-    pub(crate) fn get(&self, place: usize) -> Option<Lent<'_>>
+    pub(crate) fn get(&self, place: usize) -> Option<RecordView<'_>>
         ensures { result ≡ slice_index_or self.now.items place None }
     {
         if place >= self.slots.len() {
@@ -140,7 +140,7 @@ impl<A: Allocator> Slots<A> {
         let kept = slot.kept.as_ref()?;
         let findings = values_at(self.findings.as_slice(), slot.findings);
         let changes = values_at(self.changes.as_slice(), slot.changes);
-        Some(Lent::new(kept, findings, changes))
+        Some(RecordView::new(kept, findings, changes))
     }
 
     /// The survivors that the records are of, by number.

@@ -15,11 +15,10 @@ pub(crate) fn title_of<A: Allocator + Copy>(catalogue: &Catalogue<A>, what: &Can
     ensures { result ≡ title_of_cancel (facts_of catalogue.now) what.now }
 {
     match what {
-        Cancel::Loan(copy) | Cancel::Return(copy) | Cancel::Renewal(copy) => {
+        Cancel::Checkout(copy) | Cancel::Checkin(copy) | Cancel::Renewal(copy) => {
             catalogue.title_of(*copy)
         }
-        Cancel::Adding(_, title) | Cancel::Deletion(_, title) | Cancel::Changing(_, title) =>
-            *title,
+        Cancel::Add(_, title) | Cancel::Delete(_, title) | Cancel::Change(_, title) => *title,
     }
 }
 
@@ -35,20 +34,20 @@ fn is_of_kind(what: &Cancel, action: &Action) -> bool
     ensures { result ≡ fits_kind what.now action.now }
 {
     match what {
-        Cancel::Loan(copy) => match action {
+        Cancel::Checkout(copy) => match action {
             Action::Checkout { copy: lent, .. } => copy == lent,
             Action::OffLine { copy: lent, .. } => copy == lent,
             _ => false,
         },
-        Cancel::Return(copy) => match action {
+        Cancel::Checkin(copy) => match action {
             Action::Checkin { copy: returned, .. } => copy == returned,
             _ => false,
         },
         Cancel::Renewal(copy) => match action {
-            Action::Renew { copy: renewed, .. } => copy == renewed,
+            Action::Renewal { copy: renewed, .. } => copy == renewed,
             _ => false,
         },
-        Cancel::Adding(patron, title) => match action {
+        Cancel::Add(patron, title) => match action {
             Action::Add {
                 patron: p,
                 title: t,
@@ -56,15 +55,15 @@ fn is_of_kind(what: &Cancel, action: &Action) -> bool
             } => patron == p && title == t,
             _ => false,
         },
-        Cancel::Deletion(patron, title) => match action {
+        Cancel::Delete(patron, title) => match action {
             Action::Delete {
                 patron: p,
                 title: t,
             } => patron == p && title == t,
             _ => false,
         },
-        Cancel::Changing(patron, title) => match action {
-            Action::ChangeHold {
+        Cancel::Change(patron, title) => match action {
+            Action::Change {
                 patron: p,
                 title: t,
                 ..

@@ -13,7 +13,7 @@ ghost use Rattle.hd_records.specs.Slots.{records_at, shift_at, slot_of};
 ghost use Rattle.hd_records.specs.Survivors.{survivors_of, target_of};
 
 use crate::all_slots::AllSlots;
-use crate::lent::Lent;
+use crate::record_view::RecordView;
 use crate::targets::is_target;
 use hd_catalogue::Catalogue;
 use hd_clash::has_clash;
@@ -23,7 +23,7 @@ use hd_rules::{Cancel, Change, TerminalNo, the_target_is_the_newest};
 use std::alloc::Allocator;
 
 /// The record of a number, or `None` where there is none. It stands in the number's slot.
-pub(crate) fn find<A: Allocator>(slots: &AllSlots<A>, number: u64) -> Option<Lent<'_>>
+pub(crate) fn find<A: Allocator>(slots: &AllSlots<A>, number: u64) -> Option<RecordView<'_>>
     ensures { result ≡ slot_of number slots.now.items }
 {
     let place = number.checked_sub(1)?;

@@ -7,14 +7,14 @@ use Rattle.hd_session.specs.Sessions.{Hearing, new_session}
 use Rattle.hd_session.specs.declared.ended.Ended.TheVariants as ended
 use Rattle.hd_replay.specs.Replays.{AreEmpty, AreOfOffice}
 
--- new sessions stand nowhere
+-- new sessions
 new_at : (n i : ℕ) → session_at (replicate n new_session) i ≡ new_session
 new_at zero i = refl
 new_at (suc n) zero = refl
 new_at (suc n) (suc i) = new_at n i
 
 pub new_known : (k : Contents) (n : ℕ) → AreKnownTo k (replicate n new_session)
-new_known k n i at some = absurd (none-some at (sym (ap (λ (s : Hearing). s.standing.place) (new_at n i)) ∙ some))
+new_known k n i at some = absurd (none-some at (sym (ap (λ (s : Hearing). s.state.place) (new_at n i)) ∙ some))
 
 -- and haven't ended
 pub new_of_office : (n : ℕ) → AreOfOffice (replicate n new_session)

@@ -4,12 +4,12 @@ use Rattle.std.proofs.Common.{◌++◌, Result, Ok, Err, OnOk, IfErr, drop, take
 use Rattle.std.proofs.Common.{flat_map, arith, refl, sym, ap, subst, append-nil}
 use Rattle.std.proofs.lemmas.Bool.{cases_lt, eq-eqb, eqb-false, ne_eqb}
 use Rattle.std.proofs.lemmas.List.{get_or_past, get_or-set_same, get_or-set_other}
-use Rattle.hd_rules.specs.Journal.{Turn}
 use Rattle.hd_catalogue.specs.Contents.{Contents}
 use Rattle.hd_journal.specs.declared.fault.TurnFault.TheVariants as turn_fault
 use Rattle.std.proofs.Math.Seq.{take-append_seam}
 use Rattle.hd_session.specs.Endings.{EndsWell}
-use Rattle.hd_session.specs.Scripts.{AreFed, Event, IsFaultOf, Plays, Step, session_at, replies_written}
+use Rattle.hd_journal.specs.declared.office.Office.{Ghosts}
+use Rattle.hd_session.specs.Scripts.{AreFed, Event, IsFaultOf, Plays, Step, played, session_at, replies_written, turns_of}
 use Rattle.hd_session.specs.Sessions.{Hearing, new_session}
 use Rattle.hd_session.specs.declared.ended.Ended.{Ended}
 use Rattle.hd_session.specs.declared.ended.Ended.TheVariants as ended
@@ -68,11 +68,13 @@ written_here event i is = let own : (event.session == i) ≡ true = eq-eqb _ _ i
 written_elsewhere : (event : Event) (i : ℕ) → (event.session ≡ i → ⊥) → replies_written i (event ∷ []) ≡ []
 written_elsewhere event i other = let own : (event.session == i) ≡ false = ne_eqb event.session i other in rw own refl
 
--- a piece for one of the sessions is no stranger's
-pub no_stranger : (P : Type 0) (r : Result (Unit {0}) ScriptFault) (sessions at : ℕ) → at < sessions →
-    IfErr r (IsFaultOf sessions (at ∷ [])) → OnOk r P → P
-no_stranger P (Ok done) sessions at within fault plays = plays
-no_stranger P (Err (Stranger place)) sessions at within fault plays = absurd (none fault.before fault.split)
+-- a piece for one of the sessions is no stranger's, so it is played
+pub plays_it : {A O : Type 0} {office : Ghosts O A} {old new : O} {steps : List Step} {ss ss' : List Hearing}
+    {outs outs' : List (List ℕ)} (r : Result (Unit {0}) ScriptFault) (sessions at : ℕ) → at < sessions →
+    IfErr r (IsFaultOf sessions (at ∷ [])) → Plays office old new (played r steps) ss ss' outs outs' →
+    Plays office old new steps ss ss' outs outs'
+plays_it (Ok tt) sessions at within fault plays = plays
+plays_it (Err (Stranger place)) sessions at within fault plays = absurd (none fault.before fault.split)
   where
     none : (before : List ℕ) → at ∷ [] ≡ before ++ fault.stranger ∷ fault.later → ⊥
     none [] split = let same : at ≡ fault.stranger = ap (λ (l : List ℕ). get_or l 0 at) split in let past =
@@ -84,8 +86,10 @@ no_stranger P (Err (Stranger place)) sessions at within fault plays = absurd (no
 
 module _ (number : ℕ) (text bytes rest : List ℕ) (parts : List (List ℕ)) (before after : Progress) (outs outs' : List (List ℕ))
     (one : 1 ≤ number) (few : number ≤ 64) (is : bytes ≡ text ++ 13 ∷ []) (empty : AreEmpty outs) (sessions : length before.sessions ≡ 64)
-    (plays : Plays before.contents 0 faults (record { session = number - 1; piece = record { now = before.now; bytes = bytes } } ∷ [])
-    before.sessions after.sessions before.turns after.turns outs outs')
+    (events : List Event)
+    (played : AreFed before.contents 0 faults (record { session = number - 1; piece = record { now = before.now; bytes = bytes } } ∷ [])
+    before.sessions events after.sessions) (made : after.turns ≡ before.turns ++ turns_of events)
+    (written : (i : ℕ) → i < length before.sessions → get_or outs' i [] ≡ get_or outs i [] ++ replies_written i events)
     (lines : AreLines 13 (get_or outs' (number - 1) []) parts rest) where
   abbrev pub message : InputMessage
   message = record { session = number; text = text }
@@ -93,8 +97,8 @@ module _ (number : ℕ) (text bytes rest : List ℕ) (parts : List (List ℕ)) (
   abbrev pub step : Step
   step = record { session = number - 1; piece = record { now = before.now; bytes = bytes } }
 
-  abbrev pub fed : OneFed step before.sessions plays.events after.sessions
-  fed = one_fed before.contents step before.sessions after.sessions plays.events plays.fed
+  abbrev pub fed : OneFed step before.sessions events after.sessions
+  fed = one_fed before.contents step before.sessions after.sessions events played
 
   -- how the session of the line then has ended, if it has
   abbrev pub ended_so : Option Ended
@@ -108,8 +112,8 @@ module _ (number : ℕ) (text bytes rest : List ℕ) (parts : List (List ℕ)) (
 
   text_is : get_or outs' (number - 1) [] ≡ fed.event.text
   text_is =
-      plays.outs_are (number - 1) (omega (arith, one, few, sessions))
-      ∙ (ap (λ (t : List ℕ). t ++ replies_written (number - 1) plays.events) (empty (number - 1))
+      written (number - 1) (omega (arith, one, few, sessions))
+      ∙ (ap (λ (t : List ℕ). t ++ replies_written (number - 1) events) (empty (number - 1))
       ∙ (ap (replies_written (number - 1)) fed.events_are ∙ written_here fed.event (number - 1) fed.session_is))
 
   -- the line is replayed, and its replies and its end are the text
@@ -120,15 +124,15 @@ module _ (number : ℕ) (text bytes rest : List ℕ) (parts : List (List ℕ)) (
     messages = message ∷ [];
     lines_are = refl;
     have_session = All-cons HasSession message [] (one, few) (All-nil HasSession);
-    events = plays.events;
+    events = events;
     holds = subst Holds (sym fed.events_are) (holds fed.event ended_is);
     fed = subst (λ (b : List ℕ). AreFed before.contents 0 faults
-        (record { session = number - 1; piece = record { now = before.now; bytes = b } } ∷ []) before.sessions plays.events after.sessions)
-        is plays.fed;
+        (record { session = number - 1; piece = record { now = before.now; bytes = b } } ∷ []) before.sessions events after.sessions)
+        is played;
     printed = subst (λ (es : List Event). ArePrinted es (flat_map (printed_line number) parts ++ end_text number ended_so)) (sym fed.events_are)
         (flat_map (printed_line number) parts ++ end_text number ended_so, [], prints, refl, sym (append-nil _));
     same = same;
-    turns_are = plays.turns_are;
+    turns_are = made;
     counted = counted;
   }
     where
@@ -178,19 +182,19 @@ none_there (out ∷ outs) zero = refl
 none_there (out ∷ outs) (suc i) = none_there outs i
 
 -- once a session's out is cleared, all are empty
-pub emptied : (at : ℕ) (outs outs' : List (List ℕ)) (step : Step) (k : Contents) (ss ss' : List Hearing) (turns turns' : List Turn) →
-    AreEmpty outs → step.session ≡ at → length ss ≡ 64 → length outs' ≡ 64
-    → Plays k 0 faults (step ∷ []) ss ss' turns turns' outs outs' → AreEmpty (set outs' at [])
-emptied at outs outs' step k ss ss' turns turns' empty here sessions size plays i =
-    let fed = one_fed k step ss ss' plays.events plays.fed in
+pub emptied : (at : ℕ) (outs outs' : List (List ℕ)) (step : Step) (k : Contents) (ss ss' : List Hearing) (events : List Event) →
+    AreEmpty outs → step.session ≡ at → length ss ≡ 64 → length outs' ≡ 64 → AreFed k 0 faults (step ∷ []) ss events ss'
+    → ((i : ℕ) → i < length ss → get_or outs' i [] ≡ get_or outs i [] ++ replies_written i events) → AreEmpty (set outs' at [])
+emptied at outs outs' step k ss ss' events empty here sessions size played written i =
+    let fed = one_fed k step ss ss' events played in
     elim (i == at) as (λ t. (i == at) ≡ t → get_or (set outs' at []) i [] ≡ []) [
       | true ↦ λ is. let same : i ≡ at = eqb-true _ _ is in subst (λ (n : ℕ). get_or (set outs' n []) i [] ≡ []) same (none_there outs' i)
       | false ↦ λ is.
           let other : i ≡ at → ⊥ = eqb-false _ _ is in
           get_or-set_other outs' at i [] [] other
           ∙ ⊎_elim
-          (λ within. plays.outs_are i (omega (arith, within, sessions))
-          ∙ (ap (λ (t : List ℕ). t ++ replies_written i plays.events) (empty i)
+          (λ within. written i (omega (arith, within, sessions))
+          ∙ (ap (λ (t : List ℕ). t ++ replies_written i events) (empty i)
           ∙ (ap (replies_written i) fed.events_are ∙ written_elsewhere fed.event i (λ same. other (sym same ∙ (fed.session_is ∙ here))))))
           (λ past. get_or_past outs' i [] (omega (arith, past, size)))
           (cases_lt i 64)

@@ -58,6 +58,10 @@ pub record Replay (k : Contents) (now : Stamp) (bytes : Streams) (end : Result (
   pub reads : ReadsAndWrites (before_any_line k now) after bytes end
   pub legal : IsLegalReplay after
 
+-- what replaying over a library at a present results in: out of memory before anything is read, or a replay
+abbrev pub ReplaysOver : Contents → Stamp → Streams → Result (Unit {0}) ReplayFault → Type 0
+ReplaysOver k now bytes end = (IsUntouched bytes × (end ≡ Err Memory)) ⊎ Replay k now bytes end
+
 -- The same over the library of a catalogue file, at a present that can be read.
 pub record Runs (file present : List ℕ) (bytes : Streams) (end : Result (Unit {0}) ReplayFault)
     : Type 0 where
@@ -74,8 +78,8 @@ pub record HasBadNow (file present : List ℕ) : Type 0 where
   pub fault : DateFault
   pub first : IsFirstFault present k.settings.offset fault
 
--- what replaying an input comes to: a catalogue file that is refused, or then a present that can't be read,
--- or a want of memory before anything is read; or a replay
+-- what replaying an input results in: a catalogue file that is refused, or then a present that can't be read,
+-- or out of memory before anything is read; or a replay
 abbrev pub IsReplayOf : List ℕ → List ℕ → Streams → Result (Unit {0}) ReplayFault → Type 0
 IsReplayOf file present bytes (Err (Catalogue fault)) = IsFirstBad (lines_of file) fault × IsUntouched bytes
 IsReplayOf file present bytes (Err BadNow) = HasBadNow file present × IsUntouched bytes

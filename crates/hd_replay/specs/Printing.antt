@@ -36,7 +36,7 @@ ArePrinted (event ∷ events) text =
 abbrev pub BeginsWith : List ℕ → List ℕ → Type 0
 BeginsWith text part = (rest : List ℕ) × (text ≡ part ++ rest)
 
--- a text is printed behind what there is: whole, or for want of memory up to some point
+-- a text is printed behind what there is: whole, or up to some point where it is out of memory
 abbrev pub PrintsBehind : {E : Type 0} → List ℕ → List ℕ → List ℕ → Result (Unit {0}) E → Type 0
 PrintsBehind out out' text (Ok _) = out' ≡ out ++ text
 PrintsBehind out out' text (Err _) = (part : List ℕ) × BeginsWith text part × (out' ≡ out ++ part)

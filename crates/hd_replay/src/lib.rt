@@ -10,4 +10,4 @@ mod sessions;
 
 pub use crate::fault::ReplayFault;
 pub use crate::laws::replays_are_determined;
-pub use crate::replaying::{replay, replay_in};
+pub use crate::replaying::{replay, replay_in, replay_over};

@@ -1,10 +1,11 @@
 //! `replay`: the lines of an input, answered in order.
-ghost use Rattle.std.specs.Prelude.{◌≡◌, ◌⊎◌, ◌<◌, ◌≤◌, ◌+◌, ◌^◌, [], ℕ, Contains, List, Err, IfErr, IfOk};
+ghost use Rattle.std.specs.Prelude.{◌≡◌, ◌<◌, ◌≤◌, ◌+◌, ◌^◌, [], ℕ, Contains, List, Err, IfErr, IfOk};
 ghost use Rattle.std.specs.Prelude.{OnOk};
 ghost use Rattle.std.specs.Prelude.{drop, vec_len};
 ghost use Rattle.std.specs.Io.KnownBytes.{Appends};
-ghost use Rattle.hd_replay.specs.Ends.{IsReplayOf, IsUntouched, ReadsAndWrites, Replay};
-ghost use Rattle.hd_replay.specs.declared.fault.ReplayFault.TheVariants.{Memory};
+ghost use Rattle.hd_connection.specs.Streams.{streams};
+ghost use Rattle.hd_journal.specs.Books.{IsLegalBook};
+ghost use Rattle.hd_replay.specs.Ends.{IsReplayOf, ReadsAndWrites, ReplaysOver};
 ghost use Rattle.hd_replay.specs.Inputs.{AreLines, with_rest};
 ghost use Rattle.hd_replay.specs.Reasons.{HasReason};
 ghost use Rattle.hd_replay.specs.Replays.{IsLegalReplay, IsStop, Replayed};
@@ -15,6 +16,7 @@ use hd_catalogue::Catalogue;
 use hd_connection::{Input, Output, write_all};
 use hd_date::Stamp18;
 use hd_desk::Meter;
+use hd_journal::Journal;
 use std::alloc::{AllocError, Allocator};
 
 /// The most bytes that an input may have.
@@ -45,12 +47,9 @@ pub fn replay<R: Input, W: Output>(
     from: &mut R,
     to: &mut W,
 ) -> Result<(), ReplayFault>
-    ensures replay { IsReplayOf catalogue.now now.now (record {
-      from = R.remaining from.old;
-      from' = R.remaining from.new;
-      to = W.contents to.old;
-      to' = W.contents to.new;
-    }) result }
+    ensures replay { IsReplayOf catalogue.now now.now
+        (streams (R.remaining from.old) (R.remaining from.new) (W.contents to.old) (W.contents to.new))
+        result }
     ensures why { IfErr result (HasReason (R.fails from.new) (W.fails to.new)) }
 {
     replay_in(rt, rt.alloc(), catalogue, now, from, to)
@@ -68,12 +67,9 @@ pub fn replay_in<A: Allocator + Copy, R: Input, W: Output>(
     from: &mut R,
     to: &mut W,
 ) -> Result<(), ReplayFault>
-    ensures replay { IsReplayOf catalogue.now now.now (record {
-      from = R.remaining from.old;
-      from' = R.remaining from.new;
-      to = W.contents to.old;
-      to' = W.contents to.new;
-    }) result }
+    ensures replay { IsReplayOf catalogue.now now.now
+        (streams (R.remaining from.old) (R.remaining from.new) (W.contents to.old) (W.contents to.new))
+        result }
     ensures why { IfErr result (HasReason (R.fails from.new) (W.fails to.new)) }
 {
     match Catalogue::read(alloc, catalogue) {
@@ -85,8 +81,12 @@ pub fn replay_in<A: Allocator + Copy, R: Input, W: Output>(
     }
 }
 
-/// The same over a catalogue, at a present.
-fn replay_over<A: Allocator + Copy, R: Input, W: Output>(
+/// The same over a catalogue, at a present. The journal begins with the catalogue's rows.
+///
+/// # Errors
+/// Those of `replay`, but `Catalogue` and `BadNow`. `Memory` stands also for rows with which no journal begins:
+/// `hd_journal::open` says which.
+pub fn replay_over<A: Allocator + Copy, R: Input, W: Output>(
     rt: &HostRuntime,
     alloc: A,
     catalogue: Catalogue<A>,
@@ -94,21 +94,32 @@ fn replay_over<A: Allocator + Copy, R: Input, W: Output>(
     from: &mut R,
     to: &mut W,
 ) -> Result<(), ReplayFault>
-    ensures replay { (IsUntouched (record {
-      from = R.remaining from.old;
-      from' = R.remaining from.new;
-      to = W.contents to.old;
-      to' = W.contents to.new;
-    }) × (result ≡ Err Memory))
-        ⊎ Replay catalogue now (record {
-          from = R.remaining from.old;
-          from' = R.remaining from.new;
-          to = W.contents to.old;
-          to' = W.contents to.new;
-        }) result }
+    ensures replay { ReplaysOver catalogue now
+        (streams (R.remaining from.old) (R.remaining from.new) (W.contents to.old) (W.contents to.new))
+        result }
     ensures why { IfErr result (HasReason (R.fails from.new) (W.fails to.new)) }
 {
-    let journal = hd_journal::open(alloc, rt.alloc(), Meter::new(rt), catalogue)?;
+    match hd_journal::open(alloc, rt.alloc(), Meter::new(rt), catalogue) {
+        Ok(journal) => replay_at(alloc, journal, now, from, to),
+        Err(_) => Err(ReplayFault::Memory),
+    }
+}
+
+/// The same at a journal without turns.
+fn replay_at<A: Allocator + Copy, R: Input, W: Output>(
+    alloc: A,
+    journal: Journal<A>,
+    now: Stamp18,
+    from: &mut R,
+    to: &mut W,
+) -> Result<(), ReplayFault>
+    requires new { journal.turns ≡ [] }
+    requires legal { IsLegalBook journal.contents journal.turns }
+    ensures replay { ReplaysOver journal.contents now
+        (streams (R.remaining from.old) (R.remaining from.new) (W.contents to.old) (W.contents to.new))
+        result }
+    ensures why { IfErr result (HasReason (R.fails from.new) (W.fails to.new)) }
+{
     let mut sessions = Sessions::new(alloc, journal, now)?;
     answer_input(alloc, &mut sessions, from, to)
 }
@@ -121,12 +132,9 @@ fn answer_input<A: Allocator + Copy, R: Input, W: Output>(
     to: &mut W,
 ) -> Result<(), ReplayFault>
     requires { sessions.old.lines ≡ 0 }
-    ensures reads { ReadsAndWrites sessions.old sessions.new (record {
-      from = R.remaining from.old;
-      from' = R.remaining from.new;
-      to = W.contents to.old;
-      to' = W.contents to.new;
-    }) result }
+    ensures reads { ReadsAndWrites sessions.old sessions.new
+        (streams (R.remaining from.old) (R.remaining from.new) (W.contents to.old) (W.contents to.new))
+        result }
     ensures why { IfErr result (HasReason (R.fails from.new) (W.fails to.new)) }
     ensures legal { IsLegalReplay sessions.old → IsLegalReplay sessions.new }
 {

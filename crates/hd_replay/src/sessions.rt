@@ -2,7 +2,7 @@
 ghost use Rattle.std.specs.Prelude.{◌≡◌, ◌<◌, ◌≤◌, ◌+◌, ◌^◌, ◌++◌, ◌∷◌, [], ℕ, Contains, List, IfErr, IfNone};
 ghost use Rattle.std.specs.Prelude.{IfOk, IfSome, OnOk, drop, length, map, vec_len};
 ghost use Rattle.hd_replay.specs.Inputs.{AreLines, EndsFirst, line_of};
-ghost use Rattle.hd_replay.specs.Replays.{AreOfOffice, IsLegalReplay, IsOfLine, ReplayedOnto, faults};
+ghost use Rattle.hd_replay.specs.Replays.{AreOfOffice, IsLegalReplay, IsOfLine, ReplayedOnto};
 ghost use Rattle.hd_replay.specs.Replays.{before_any_line};
 ghost use Rattle.hd_replay.specs.declared.fault.ReplayFault.TheVariants.{Memory};
 ghost use Rattle.hd_journal.specs.Books.{IsLegalBook};
@@ -13,7 +13,7 @@ use crate::fault::ReplayFault;
 use crate::prefix::{SESSIONS, session_of};
 use crate::printing::print_answer;
 use hd_date::Stamp18;
-use hd_journal::Journal;
+use hd_journal::{Journal, Office};
 use hd_session::{Session, no_session_ends_by_another_fault, script};
 use memchr::memchr;
 use std::alloc::{AllocError, Allocator};
@@ -167,16 +167,12 @@ fn play<A: Allocator + Copy>(
     requires at { at < 64 }
     requires known { AreKnownTo journal.old.contents sessions.old.items }
     requires office { AreOfOffice sessions.old.items }
-    ensures plays { Plays journal.old.contents 0 faults
+    ensures plays { Plays ⟦<Journal<A> as Office<A>>⟧ journal.old journal.new
         (record { session = at; piece = record { now = now.now; bytes = piece.now } } ∷ [])
-        sessions.old.items sessions.new.items journal.old.turns journal.new.turns
+        sessions.old.items sessions.new.items
         (map (λ out. out.items) outs.old.items) (map (λ out. out.items) outs.new.items) }
     ensures sizes { (vec_len sessions.new ≡ 64) × (vec_len outs.new ≡ 64) }
-    ensures known { AreKnownTo journal.new.contents sessions.new.items }
     ensures office { AreOfOffice sessions.new.items }
-    ensures contents { journal.new.contents ≡ journal.old.contents }
-    ensures legal { IsLegalBook journal.old.contents journal.old.turns
-        → IsLegalBook journal.new.contents journal.new.turns }
 {
     no_session_ends_by_another_fault::<A, Journal<A>>();
     let _ = script::run(

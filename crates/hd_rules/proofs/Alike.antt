@@ -131,7 +131,7 @@ action_is (action.Delete p t) (action.Delete q u) is =
     let patron : p ≡ q = number_is p q (and_left _ _ is) in
     let title : t ≡ u = number_is t u (and_right _ _ is) in
     λ i. action.Delete (patron i) (title i)
-action_is (action.ChangeHold p t kind pickup expiry) (action.ChangeHold q u sort branch day) is =
+action_is (action.Change p t kind pickup expiry) (action.Change q u sort branch day) is =
     let patron : p ≡ q = number_is p q (and_left _ _ is) in
     let one = and_right _ _ is in
     let title : t ≡ u = number_is t u (and_left _ _ one) in
@@ -140,29 +140,29 @@ action_is (action.ChangeHold p t kind pickup expiry) (action.ChangeHold q u sort
     let three = and_right _ _ two in
     let at : pickup ≡ branch = option_is same_number number_is pickup branch (and_left _ _ three) in
     let until : expiry ≡ day = option_is same_number number_is expiry day (and_right _ _ three) in
-    λ i. action.ChangeHold (patron i) (title i) (of_kind i) (at i) (until i)
-action_is (action.Renew p c) (action.Renew q x) is =
+    λ i. action.Change (patron i) (title i) (of_kind i) (at i) (until i)
+action_is (action.Renewal p c) (action.Renewal q x) is =
     let patron : p ≡ q = number_is p q (and_left _ _ is) in
     let copy : c ≡ x = number_is c x (and_right _ _ is) in
-    λ i. action.Renew (patron i) (copy i)
+    λ i. action.Renewal (patron i) (copy i)
 action_is _ _ is = cc
 
 cancel_is : (v w : Cancel) → same_cancel v w ≡ true → v ≡ w
-cancel_is (cancel.Loan c) (cancel.Loan x) is = ap cancel.Loan (number_is c x is)
-cancel_is (cancel.Return c) (cancel.Return x) is = ap cancel.Return (number_is c x is)
+cancel_is (cancel.Checkout c) (cancel.Checkout x) is = ap cancel.Checkout (number_is c x is)
+cancel_is (cancel.Checkin c) (cancel.Checkin x) is = ap cancel.Checkin (number_is c x is)
 cancel_is (cancel.Renewal c) (cancel.Renewal x) is = ap cancel.Renewal (number_is c x is)
-cancel_is (cancel.Adding p t) (cancel.Adding q u) is =
+cancel_is (cancel.Add p t) (cancel.Add q u) is =
     let patron : p ≡ q = number_is p q (and_left _ _ is) in
     let title : t ≡ u = number_is t u (and_right _ _ is) in
-    λ i. cancel.Adding (patron i) (title i)
-cancel_is (cancel.Deletion p t) (cancel.Deletion q u) is =
+    λ i. cancel.Add (patron i) (title i)
+cancel_is (cancel.Delete p t) (cancel.Delete q u) is =
     let patron : p ≡ q = number_is p q (and_left _ _ is) in
     let title : t ≡ u = number_is t u (and_right _ _ is) in
-    λ i. cancel.Deletion (patron i) (title i)
-cancel_is (cancel.Changing p t) (cancel.Changing q u) is =
+    λ i. cancel.Delete (patron i) (title i)
+cancel_is (cancel.Change p t) (cancel.Change q u) is =
     let patron : p ≡ q = number_is p q (and_left _ _ is) in
     let title : t ≡ u = number_is t u (and_right _ _ is) in
-    λ i. cancel.Changing (patron i) (title i)
+    λ i. cancel.Change (patron i) (title i)
 cancel_is _ _ is = cc
 
 pub asked_is : (a b : Asked) → same_asked a b ≡ true → a ≡ b

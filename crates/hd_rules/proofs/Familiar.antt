@@ -133,7 +133,7 @@ tied_known k (OnLoan l) q known is = cc
 tied_known k (OnHoldShelf s) q known is = let e : s.patron ≡ q = cc in subst (λ (x : ℕ). x < k.patrons) e known.1
 tied_known k (InTransit t) q known is = subst (IsKnownPatron k) is known.2
 
-hold_with : (k : Facts) (c : Option ℕ) (h : Hold) → IsKnownHold k h → IsKnownCopy k c → IsKnownHold k (with_copy c h)
+pub hold_with : (k : Facts) (c : Option ℕ) (h : Hold) → IsKnownHold k h → IsKnownCopy k c → IsKnownHold k (with_copy c h)
 hold_with k c h known in_c = record { patron = known.patron; kind = known.kind; pickup = known.pickup; copy = in_c }
 
 ended_familiar : (k : Facts) (c p : ℕ) (held : Option Hold) (gs : List Change) → k.title_of c < k.titles → p < k.patrons → EachFamiliar k gs
@@ -291,9 +291,9 @@ plan_familiar k d n day (action.Add p t kind pickup expiry) g known = asked (λ 
     add_familiar k d n _ t day old g known.1 (record { patron = known.0; kind = known.2; pickup = known.3; copy = tt }))
 plan_familiar k d n day (action.Delete p t) g known =
     asked (λ old told. delete_familiar k d n t p day old g known.1 known.0 (hold_known k d t p old g known.1 known.0 told))
-plan_familiar k d n day (action.ChangeHold p t kind pickup expiry) g known = asked (λ old told.
+plan_familiar k d n day (action.Change p t kind pickup expiry) g known = asked (λ old told.
     change_familiar k d n t p kind pickup expiry day old known.1 known.0 known.2 (hold_known k d t p old g known.1 known.0 told))
-plan_familiar k d n day (action.Renew p c) g known = asked (λ old told. renew_familiar k d n p c day old g known.0 known.1)
+plan_familiar k d n day (action.Renewal p c) g known = asked (λ old told. renew_familiar k d n p c day old g known.0 known.1)
 
 each_familiar : (k : Facts) (cs : List Change) → EachFamiliar k cs → (change : Change) → IsAmong change cs
     → IsKnownCell k change.cell × IsKnownValue k change.new

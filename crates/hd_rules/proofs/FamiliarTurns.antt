@@ -22,7 +22,7 @@ use Rattle.hd_rules.proofs.Machine.{machine_turns}
 use Rattle.hd_rules.proofs.Journals.{turn_step, legal_is_run}
 use Rattle.hd_rules.proofs.Familiar.{known_done}
 
-put_known : (k : Facts) (d : Desk) (x : Cell) (v : Value) → IsKnownDesk k d → IsKnownValue k v → IsKnownDesk k (put d x v)
+pub put_known : (k : Facts) (d : Desk) (x : Cell) (v : Value) → IsKnownDesk k d → IsKnownValue k v → IsKnownDesk k (put d x v)
 put_known k d (CopyCell c) (CopyHas s) known fine = record {
   copies = λ y in_y. copy_cases (IsKnownState k) c y s (d.copy y) (λ e. fine) (λ other. known.copies y in_y);
   holds = known.holds;

@@ -270,9 +270,9 @@ plan_of_grounded k n day (action.OffLine p c due) =
 plan_of_grounded k n day (action.Checkin c b) = checkin_grounded _ k n c b day
 plan_of_grounded k n day (action.Add p t kind pickup expiry) = asked (λ old. add_grounded _ k n _ t day old (inr (refl, refl)))
 plan_of_grounded k n day (action.Delete p t) = asked (λ old. delete_grounded _ k n t p day old (inr (refl, refl)))
-plan_of_grounded k n day (action.ChangeHold p t kind pickup expiry) =
+plan_of_grounded k n day (action.Change p t kind pickup expiry) =
     asked (λ old. change_grounded _ k n t p kind pickup expiry day old (inr (refl, refl)))
-plan_of_grounded k n day (action.Renew p c) = asked (λ old. renew_grounded _ k n p c day old (inr (refl, refl)))
+plan_of_grounded k n day (action.Renewal p c) = asked (λ old. renew_grounded _ k n p c day old (inr (refl, refl)))
 
 -- every change is of a cell that was asked, and has its value as the old one
 pub plan_grounded : (k : Facts) (n : ℕ) (c : Command) → Grounded nothing_known (plan k n c)

@@ -38,3 +38,4 @@ pub mod Telling
 pub mod ReplyingTurns
 pub mod Carried
 pub mod Told
+pub mod KnownRows

@@ -26,9 +26,9 @@ plan_leads k n d day (action.OffLine p c due) sound = asked (λ old told. asked 
 plan_leads k n d day (action.Checkin c b) sound = checkin_leads k n d c b day sound
 plan_leads k n d day (action.Add p t kind pickup expiry) sound = asked (λ old told. add_leads k n d _ t day old sound told refl refl)
 plan_leads k n d day (action.Delete p t) sound = asked (λ old told. delete_leads k n d t p day old sound told)
-plan_leads k n d day (action.ChangeHold p t kind pickup expiry) sound =
+plan_leads k n d day (action.Change p t kind pickup expiry) sound =
     asked (λ old told. change_leads k n d t p kind pickup expiry day old sound told)
-plan_leads k n d day (action.Renew p c) sound = asked (λ old told. renew_leads k n d p c day old sound told)
+plan_leads k n d day (action.Renewal p c) sound = asked (λ old told. renew_leads k n d p c day old sound told)
 
 -- an accepted command at a sound desk makes right changes, and leads to a sound desk
 pub good : (k : Facts) (d : Desk) (s : Survivor) → Sound k s.number d → (done : Done) → outcome_of k d s ≡ Ok done

@@ -61,18 +61,18 @@ action_self (action.Checkin c b) = both_true _ _ (number_self c) (number_self b)
 action_self (action.Add p t kind pickup expiry) = both_true _ _ (number_self p) (both_true _ _ (number_self t)
     (both_true _ _ (kind_self kind) (both_true _ _ (number_self pickup) (option_self same_number number_self expiry))))
 action_self (action.Delete p t) = both_true _ _ (number_self p) (number_self t)
-action_self (action.ChangeHold p t kind pickup expiry) = both_true _ _ (number_self p) (both_true _ _ (number_self t)
+action_self (action.Change p t kind pickup expiry) = both_true _ _ (number_self p) (both_true _ _ (number_self t)
     (both_true _ _ (option_self same_kind kind_self kind)
     (both_true _ _ (option_self same_number number_self pickup) (option_self same_number number_self expiry))))
-action_self (action.Renew p c) = both_true _ _ (number_self p) (number_self c)
+action_self (action.Renewal p c) = both_true _ _ (number_self p) (number_self c)
 
 cancel_self : (w : Cancel) → same_cancel w w ≡ true
-cancel_self (cancel.Loan c) = number_self c
-cancel_self (cancel.Return c) = number_self c
+cancel_self (cancel.Checkout c) = number_self c
+cancel_self (cancel.Checkin c) = number_self c
 cancel_self (cancel.Renewal c) = number_self c
-cancel_self (cancel.Adding p t) = both_true _ _ (number_self p) (number_self t)
-cancel_self (cancel.Deletion p t) = both_true _ _ (number_self p) (number_self t)
-cancel_self (cancel.Changing p t) = both_true _ _ (number_self p) (number_self t)
+cancel_self (cancel.Add p t) = both_true _ _ (number_self p) (number_self t)
+cancel_self (cancel.Delete p t) = both_true _ _ (number_self p) (number_self t)
+cancel_self (cancel.Change p t) = both_true _ _ (number_self p) (number_self t)
 
 pub asked_self : (a : Asked) → same_asked a a ≡ true
 asked_self (ask.Command c) = both_true _ _ (number_self c.day) (action_self c.action)

@@ -61,12 +61,12 @@ module _ (p c : ℕ) (may_renew : Bool) where
   out_tells k n may day (OnHoldShelf s) = either out (s.patron == p) _ _ (held_tells k n day (OnHoldShelf s)) refused
   out_tells k n may day (InTransit t) = refused
 
-renewed_tells : (p c : ℕ) (k : Facts) (n day : ℕ) (l : Loan) → Tells (action.Renew p c) (renew_loan k n p c day l)
-renewed_tells p c k n day l = asked (λ chosen. either (action.Renew p c) (cannot_renew k p c l chosen) _ _ refused
-    (either (action.Renew p c) (nat_lt last_day (due_day k c day)) _ _ refused (accepted (action.Renew p c) k n _ _ tt)))
+renewed_tells : (p c : ℕ) (k : Facts) (n day : ℕ) (l : Loan) → Tells (action.Renewal p c) (renew_loan k n p c day l)
+renewed_tells p c k n day l = asked (λ chosen. either (action.Renewal p c) (cannot_renew k p c l chosen) _ _ refused
+    (either (action.Renewal p c) (nat_lt last_day (due_day k c day)) _ _ refused (accepted (action.Renewal p c) k n _ _ tt)))
 
-renew_tells : (p c : ℕ) (k : Facts) (n day : ℕ) (old : CopyState) → Tells (action.Renew p c) (renew_at k n p c day old)
-renew_tells p c k n day (OnLoan l) = either (action.Renew p c) (l.patron == p) _ _ (renewed_tells p c k n day l) refused
+renew_tells : (p c : ℕ) (k : Facts) (n day : ℕ) (old : CopyState) → Tells (action.Renewal p c) (renew_at k n p c day old)
+renew_tells p c k n day (OnLoan l) = either (action.Renewal p c) (l.patron == p) _ _ (renewed_tells p c k n day l) refused
 renew_tells p c k n day (Shelf b) = refused
 renew_tells p c k n day (OnHoldShelf s) = refused
 renew_tells p c k n day (InTransit t) = refused
@@ -122,14 +122,14 @@ delete_tells p t k n day (Some h) = by_copy h.copy
     by_copy (Some c) = asked (λ old. release_tells (action.Delete p t) k c day old _ (λ gets. accepted (action.Delete p t) k n _ _ tt))
 
 change_tells : (p t : ℕ) (kind : Option HoldKind) (pickup expiry : Option ℕ) (k : Facts) (n day : ℕ) (old : Option Hold)
-    → Tells (action.ChangeHold p t kind pickup expiry) (change k n t p kind pickup expiry day old)
+    → Tells (action.Change p t kind pickup expiry) (change k n t p kind pickup expiry day old)
 change_tells p t kind pickup expiry k n day None = refused
 change_tells p t kind pickup expiry k n day (Some h) = by_copy h.copy _
   where
-    by_copy : (o : Option ℕ) (new : Hold) → Tells (action.ChangeHold p t kind pickup expiry) (change_to k n t p expiry day h new o)
+    by_copy : (o : Option ℕ) (new : Hold) → Tells (action.Change p t kind pickup expiry) (change_to k n t p expiry day h new o)
     by_copy (Some c) new = refused
-    by_copy None new = either (action.ChangeHold p t kind pickup expiry) (has_expired expiry day) _ _ refused
-        (asked (λ spot. asked (λ available. accepted (action.ChangeHold p t kind pickup expiry) k n _ _ tt)))
+    by_copy None new = either (action.Change p t kind pickup expiry) (has_expired expiry day) _ _ refused
+        (asked (λ spot. asked (λ available. accepted (action.Change p t kind pickup expiry) k n _ _ tt)))
 
 plan_tells : (k : Facts) (n day : ℕ) (a : Action) → Tells a (plan_of k n day a)
 plan_tells k n day (action.Checkout p c may_renew) = asked (λ old. out_tells p c may_renew k n may_renew day old)
@@ -137,8 +137,8 @@ plan_tells k n day (action.OffLine p c due) = asked (λ old. asked (λ held. off
 plan_tells k n day (action.Checkin c b) = checkin_tells c b k n day
 plan_tells k n day (action.Add p t kind pickup expiry) = asked (λ old. add_tells p t kind pickup expiry k n _ day old)
 plan_tells k n day (action.Delete p t) = asked (λ old. delete_tells p t k n day old)
-plan_tells k n day (action.ChangeHold p t kind pickup expiry) = asked (λ old. change_tells p t kind pickup expiry k n day old)
-plan_tells k n day (action.Renew p c) = asked (λ old. renew_tells p c k n day old)
+plan_tells k n day (action.Change p t kind pickup expiry) = asked (λ old. change_tells p t kind pickup expiry k n day old)
+plan_tells k n day (action.Renewal p c) = asked (λ old. renew_tells p c k n day old)
 
 ends_telling : (a : Action) (k : Facts) (d : Desk) (p : Plan) → AllTell a p → (done : Done) → outcome k d p ≡ Ok done → TellsOf a done.reply
 ends_telling a k d (Ask q rest) h done is = ends_telling a k d (rest (answer k d q)) (h (answer k d q)) done is

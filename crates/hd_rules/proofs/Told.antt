@@ -7,7 +7,9 @@ use Rattle.hd_rules.specs.Facts.{Facts}
 use Rattle.hd_rules.specs.Desk.{Desk, put}
 use Rattle.hd_rules.specs.Settle.{with_copy}
 use Rattle.hd_rules.specs.Sound.{Tied, HoldsFit, Sound}
-use Rattle.hd_rules.specs.Rows.{Row, Lent, Elsewhere, Waiting, Kept, Sent, Away, kept_at, sent_from, given}
+use Rattle.hd_rules.specs.Words.{OpeningRow}
+use Rattle.hd_rules.specs.declared.rows.OpeningRow.TheVariants as row
+use Rattle.hd_rules.specs.Rows.{kept_at, sent_from, given}
 use Rattle.hd_rules.specs.Rows.{with_row, with_rows, IsHome, Waits}
 use Rattle.hd_rules.specs.Rows.{MayWait, MayKeep, MayStand, EachMayStand}
 use Rattle.hd_rules.proofs.Puts.{copy_cases, hold_cases}
@@ -42,9 +44,9 @@ is_given k n d c v p h sound home was none to placed = record {
 
 given_sound : (k : Facts) (n : ℕ) (d : Desk) (c : ℕ) (p : ℕ) (place : Hold → CopyState) → Sound k n d → IsHome k d c
     → (waits : Waits k d c p) → Tied (place waits.hold) p waits.hold.pickup → Placed k d c (place waits.hold)
-    → Sound k n (given k d c p place (d.hold (k.title_of c) p))
+    → Sound k n (given k.title_of d c p place (d.hold (k.title_of c) p))
 given_sound k n d c p place sound home waits to placed =
-    subst (λ (o : Option Hold). Sound k n (given k d c p place o)) (sym waits.is)
+    subst (λ (o : Option Hold). Sound k n (given k.title_of d c p place o)) (sym waits.is)
     (is_given k n d c (place waits.hold) p waits.hold sound home waits.is waits.none to placed)
 
 -- a hold that waits, with a stamp that no hold of its title has
@@ -91,20 +93,20 @@ kept_placed k d c p place may s e =
       alone = λ x r in_c in_x other is branch spot. may.free x r in_x is (sym branch) (sym spot);
     })
 
-pub row_keeps_sound : (k : Facts) (n : ℕ) (d : Desk) (row : Row) → Sound k n d → MayStand k d n row → Sound k n (with_row k d row)
-row_keeps_sound k n d (Lent c l) sound home = goes k n d c (OnLoan l) sound home (λ p b h. h) (λ s e. cc)
-row_keeps_sound k n d (Elsewhere c b) sound home = goes k n d c (Shelf b) sound home (λ p x h. h) (λ s e. cc)
-row_keeps_sound k n d (Waiting t h) sound may = waiting_sound k n d t h sound may
-row_keeps_sound k n d (Kept c p place) sound may =
+pub row_keeps_sound : (k : Facts) (n : ℕ) (d : Desk) (r : OpeningRow) → Sound k n d → MayStand k d n r → Sound k n (with_row k.title_of d r)
+row_keeps_sound k n d (row.Loan c l) sound home = goes k n d c (OnLoan l) sound home (λ p b h. h) (λ s e. cc)
+row_keeps_sound k n d (row.OpenShelf c b) sound home = goes k n d c (Shelf b) sound home (λ p x h. h) (λ s e. cc)
+row_keeps_sound k n d (row.Hold t h) sound may = waiting_sound k n d t h sound may
+row_keeps_sound k n d (row.HoldShelf c p place) sound may =
     given_sound k n d c p (kept_at p place) sound may.home may.waits (refl, refl) (kept_placed k d c p place may)
-row_keeps_sound k n d (Sent c p from) sound may =
+row_keeps_sound k n d (row.HoldTransit c p from) sound may =
     given_sound k n d c p (sent_from p from) sound may.0 may.1 (refl, refl) (λ s e. cc)
-row_keeps_sound k n d (Away c from to) sound home =
+row_keeps_sound k n d (row.Transit c from to) sound home =
     goes k n d c (InTransit (record { from = from; to = to; patron = None })) sound home
     (λ p b h. let e : None ≡ Some p = h.0 in cc) (λ s e. cc)
 
-pub rows_keep_sound : (k : Facts) (n : ℕ) (d : Desk) (rows : List Row) → Sound k n d → EachMayStand k n d rows
-    → Sound k n (with_rows k d rows)
+pub rows_keep_sound : (k : Facts) (n : ℕ) (d : Desk) (rows : List OpeningRow) → Sound k n d → EachMayStand k n d rows
+    → Sound k n (with_rows k.title_of d rows)
 rows_keep_sound k n d [] sound may = sound
-rows_keep_sound k n d (row ∷ rows) sound may =
-    rows_keep_sound k n (with_row k d row) rows (row_keeps_sound k n d row sound may.0) may.1
+rows_keep_sound k n d (r ∷ rows) sound may =
+    rows_keep_sound k n (with_row k.title_of d r) rows (row_keeps_sound k n d r sound may.0) may.1

@@ -3,11 +3,12 @@ use Rattle.std.specs.Prelude.{◌<◌, Option, Some, None, List}
 use Rattle.hd_rules.specs.Words.{Hold, HoldKind, One, CopyState, Shelf, OnLoan, OnHoldShelf}
 use Rattle.hd_rules.specs.Words.{InTransit, Cell, CopyCell, HoldCell, Value, CopyHas, HoldHas, Change}
 use Rattle.hd_rules.specs.Words.{Question, ValueOf, Choice, Place, Room, Position, OnShelf, Action, Cancel}
-use Rattle.hd_rules.specs.Words.{Asked, Reply, LentOrRenewed, Returned, Held, Deleted, TurnReply}
+use Rattle.hd_rules.specs.Words.{Asked, Reply, LentOrRenewed, Returned, Held, Deleted, TurnReply, OpeningRow}
 use Rattle.hd_rules.specs.declared.replies.TurnReply.TheVariants.{Done as Accepted, Item}
 use Rattle.hd_rules.specs.declared.commands.Action.TheVariants as action
 use Rattle.hd_rules.specs.declared.commands.Cancel.TheVariants as cancel
 use Rattle.hd_rules.specs.declared.turns.Asked.TheVariants as ask
+use Rattle.hd_rules.specs.declared.rows.OpeningRow.TheVariants as row
 use Rattle.hd_rules.specs.Numbers.{BranchNo, TitleNo, CopyNo, PatronNo}
 use Rattle.hd_rules.specs.Facts.{Facts}
 use Rattle.hd_rules.specs.Desk.{Desk}
@@ -51,18 +52,18 @@ module _ (k : Facts) where
   IsKnownAction (action.Add p t kind pickup expiry) =
       (p < k.patrons) × (t < k.titles) × IsKnownKind kind × (pickup < k.branches)
   IsKnownAction (action.Delete p t) = (p < k.patrons) × (t < k.titles)
-  IsKnownAction (action.ChangeHold p t kind pickup expiry) =
+  IsKnownAction (action.Change p t kind pickup expiry) =
       (p < k.patrons) × (t < k.titles) × IsKnownChoice kind pickup
-  IsKnownAction (action.Renew p c) = (p < k.patrons) × (c < k.copies)
+  IsKnownAction (action.Renewal p c) = (p < k.patrons) × (c < k.copies)
 
   -- and all that a cancellation names
   abbrev pub IsKnownCancel : Cancel → Type 0
-  IsKnownCancel (cancel.Loan c) = c < k.copies
-  IsKnownCancel (cancel.Return c) = c < k.copies
+  IsKnownCancel (cancel.Checkout c) = c < k.copies
+  IsKnownCancel (cancel.Checkin c) = c < k.copies
   IsKnownCancel (cancel.Renewal c) = c < k.copies
-  IsKnownCancel (cancel.Adding p t) = (p < k.patrons) × (t < k.titles)
-  IsKnownCancel (cancel.Deletion p t) = (p < k.patrons) × (t < k.titles)
-  IsKnownCancel (cancel.Changing p t) = (p < k.patrons) × (t < k.titles)
+  IsKnownCancel (cancel.Add p t) = (p < k.patrons) × (t < k.titles)
+  IsKnownCancel (cancel.Delete p t) = (p < k.patrons) × (t < k.titles)
+  IsKnownCancel (cancel.Change p t) = (p < k.patrons) × (t < k.titles)
 
   -- all that a terminal asks names things of the catalogue
   abbrev pub IsKnown : Asked → Type 0
@@ -94,7 +95,16 @@ module _ (k : Facts) where
     pub pickup : h.pickup < k.branches
     pub copy : IsKnownCopy h.copy
 
-  -- the same, or none
+  -- all that a row of an opening names is in the catalogue
+  abbrev pub IsKnownRow : OpeningRow → Type 0
+  IsKnownRow (row.Loan c l) = (c < k.copies) × (l.patron < k.patrons)
+  IsKnownRow (row.OpenShelf c b) = (c < k.copies) × (b < k.branches)
+  IsKnownRow (row.Hold t h) = (t < k.titles) × IsKnownHold h
+  IsKnownRow (row.HoldShelf c p place) = (c < k.copies) × (p < k.patrons)
+  IsKnownRow (row.HoldTransit c p from) = (c < k.copies) × (p < k.patrons) × (from < k.branches)
+  IsKnownRow (row.Transit c from to) = (c < k.copies) × (from < k.branches) × (to < k.branches)
+
+  -- a hold of the catalogue, or none
   abbrev pub IsKnownHeld : Option Hold → Type 0
   IsKnownHeld None = Unit {0}
   IsKnownHeld (Some h) = IsKnownHold h

@@ -1,8 +1,8 @@
 -- The laws, each proved. The crates above rest on them, and docs/proofs.md has them in plain words.
 use Rattle.std.specs.Prelude.{Bool, ◌≡◌, ◌↔◌, IsTrue, MatchOption, Option, ◌+◌, ◌≤◌, length, Ok}
-use Rattle.std.specs.Prelude.{Some, None, List, [], ◌∷◌, ◌++◌}
-use Rattle.hd_rules.specs.Words.{Hold, Question, ValueOf, Change, Command, Cancel, Survivor, TurnReply}
-use Rattle.hd_rules.specs.Numbers.{BranchNo, CopyNo, Day, PlaceNo, TerminalNo, CommandNo}
+use Rattle.std.specs.Prelude.{Some, None, List, [], ◌∷◌, ◌++◌, All}
+use Rattle.hd_rules.specs.Words.{Hold, OpeningRow, Question, ValueOf, Change, Command, Cancel, Survivor, TurnReply}
+use Rattle.hd_rules.specs.Numbers.{BranchNo, CopyNo, Day, PlaceNo, TerminalNo, CommandNo, HoldStamp}
 use Rattle.hd_rules.specs.Facts.{Facts, AreInRange, IsFresh, first_number}
 use Rattle.hd_rules.specs.Desk.{Desk, at_home, value, after, take_back}
 use Rattle.hd_rules.specs.Choose.{FirstCandidate, LeastFree}
@@ -19,11 +19,11 @@ use Rattle.hd_rules.specs.Turns.{Message, State, start, IsTurn}
 use Rattle.hd_rules.specs.Machine.{turn_of}
 use Rattle.hd_rules.specs.Journal.{Turn, state_after, IsLegal, replied_from, IsRunOfSurvivors}
 use Rattle.hd_rules.specs.Headline.{Headline}
-use Rattle.hd_rules.specs.Rows.{Row, with_rows, EachMayStand}
+use Rattle.hd_rules.specs.Rows.{with_row, with_rows, MayStand, EachMayStand}
 use Rattle.hd_rules.specs.Carry.{Renumbering, IsByNames, IsCarriedOver}
 use Rattle.hd_rules.specs.Record.{Record, IsRecord, IsKeptOf, mended_record}
 use Rattle.hd_rules.specs.Replies.{IsReplyTo}
-use Rattle.hd_rules.specs.Known.{IsKnownAction, IsKnownDesk, IsKnownDone, IsKnown, IsKnownJournal}
+use Rattle.hd_rules.specs.Known.{IsKnownAction, IsKnownDesk, IsKnownDone, IsKnown, IsKnownJournal, IsKnownRow}
 use Rattle.hd_rules.specs.Sound.{IsFit, Sound, MayOpen, EachBackIsFit, EachOnIsFit}
 
 -- After every legal list of turns, so after every list of the terminals' messages, the headline holds.
@@ -177,11 +177,22 @@ ACarriedDeskIsSound =
 abbrev pub AFreshDeskMayOpen : Type 0
 AFreshDeskMayOpen = (k : Facts) → IsFresh k → MayOpen k
 
--- Rows that say nothing twice, from the desk with each copy at home on, tell a desk that a journal may open with.
-abbrev pub RowsTellASoundDesk : Type 0
-RowsTellASoundDesk =
-    (k : Facts) (rows : List Row) → EachMayStand k (first_number k) (at_home k.home) rows →
-    k.opening.desk ≡ with_rows k (at_home k.home) rows → MayOpen k
+-- Rows that say nothing twice tell a sound desk.
+pub record RowsTellASoundDesk : Type 0 where
+  -- one that may stand leads from a sound desk to a sound desk
+  pub each : (k : Facts) (n : HoldStamp) (d : Desk) (row : OpeningRow) → Sound k n d → MayStand k d n row →
+      Sound k n (with_row k.title_of d row)
+  -- from the desk with each copy at home on they tell one that a journal may open with
+  pub all : (k : Facts) (rows : List OpeningRow) → EachMayStand k (first_number k) (at_home k.home) rows →
+      k.opening.desk ≡ with_rows k.title_of (at_home k.home) rows → MayOpen k
+
+-- Rows that name things of the catalogue lead from a desk that does to a desk that does.
+pub record KnownRowsTellAKnownDesk : Type 0 where
+  pub lead : (k : Facts) (d : Desk) (rows : List OpeningRow) → AreInRange k → IsKnownDesk k d →
+      All (IsKnownRow k) rows → IsKnownDesk k (with_rows k.title_of d rows)
+  -- so from the desk with each copy at home on
+  pub told : (k : Facts) (rows : List OpeningRow) → AreInRange k → All (IsKnownRow k) rows →
+      IsKnownDesk k (with_rows k.title_of (at_home k.home) rows)
 
 -- a test is true exactly where two values are equal
 abbrev pub IsExact : {A : Type 0} → (A → A → Bool) → Type 0

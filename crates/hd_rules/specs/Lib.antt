@@ -29,6 +29,7 @@ pub mod Differ  -- desks that differ by some changes
 pub mod Sound  -- what holds of every desk that commands lead to
 pub mod Record  -- what a journal keeps of a command
 pub mod Known  -- numbers that a catalogue has given
+pub mod Messages  -- what a seat's terminal asks in one turn
 pub mod Rows  -- the desk that a journal opens with, as a file tells it
 pub mod Carry  -- what goes over to a journal of another catalogue
 pub mod Replies  -- which replies a message may get

@@ -17,6 +17,10 @@ CopyNo = ℕ
 abbrev pub PatronNo : Type 0
 PatronNo = ℕ
 
+-- a seat: those of a hall from 1, and 0 of a journal that is used alone
+abbrev pub SeatNo : Type 0
+SeatNo = ℕ
+
 -- a day of the calendar
 abbrev pub Day : Type 0
 Day = ℕ

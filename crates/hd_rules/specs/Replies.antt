@@ -9,10 +9,10 @@ use Rattle.hd_rules.specs.declared.replies.TurnReply.TheVariants.{Done as Accept
 abbrev pub TellsOf : Action → Reply → Type 0
 TellsOf (action.Checkout p c may_renew) (LentOrRenewed t due renewal) = Unit {0}
 TellsOf (action.OffLine p c due) (LentOrRenewed t day renewal) = Unit {0}
-TellsOf (action.Renew p c) (LentOrRenewed t due renewal) = Unit {0}
+TellsOf (action.Renewal p c) (LentOrRenewed t due renewal) = Unit {0}
 TellsOf (action.Checkin c b) (Returned t home now) = Unit {0}
 TellsOf (action.Add p t kind pickup expiry) (Held u available position hold) = Unit {0}
-TellsOf (action.ChangeHold p t kind pickup expiry) (Held u available position hold) = Unit {0}
+TellsOf (action.Change p t kind pickup expiry) (Held u available position hold) = Unit {0}
 TellsOf (action.Delete p t) (Deleted u) = Unit {0}
 TellsOf _ _ = ⊥
 

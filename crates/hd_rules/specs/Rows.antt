@@ -1,20 +1,12 @@
 -- The desk that a journal opens with, as a file tells it: row by row, from the desk with each copy at home.
 use Rattle.std.specs.Prelude.{◌≡◌, ◌<◌, ◌≤◌, Option, Some, None, List, [], ◌∷◌}
-use Rattle.hd_rules.specs.Words.{Hold, HoldPlace, Loan, CopyState, Shelf, OnLoan, OnHoldShelf, InTransit}
+use Rattle.hd_rules.specs.Words.{OpeningRow, Hold, HoldPlace, CopyState, Shelf, OnLoan, OnHoldShelf, InTransit}
 use Rattle.hd_rules.specs.Words.{CopyCell, HoldCell, CopyHas, HoldHas}
+use Rattle.hd_rules.specs.declared.rows.OpeningRow.TheVariants as row
 use Rattle.hd_rules.specs.Numbers.{BranchNo, TitleNo, CopyNo, PatronNo, PlaceNo, HoldStamp}
 use Rattle.hd_rules.specs.Facts.{Facts}
 use Rattle.hd_rules.specs.Desk.{Desk, put}
 use Rattle.hd_rules.specs.Settle.{with_copy}
-
--- What a row says. Of a hold that has a copy the copy's row tells it, and where that is, the hold's pickup.
-pub data Row : Type 0 where
-  Lent : CopyNo → Loan → Row
-  Elsewhere : CopyNo → BranchNo → Row
-  Waiting : TitleNo → Hold → Row
-  Kept : CopyNo → PatronNo → PlaceNo → Row
-  Sent : CopyNo → PatronNo → BranchNo → Row
-  Away : CopyNo → BranchNo → BranchNo → Row
 
 -- kept for the patron's hold at its pickup, or on the way there
 abbrev pub kept_at : PatronNo → PlaceNo → Hold → CopyState
@@ -23,24 +15,25 @@ kept_at p place h = OnHoldShelf (record { branch = h.pickup; place = place; patr
 abbrev pub sent_from : PatronNo → BranchNo → Hold → CopyState
 sent_from p from h = InTransit (record { from = from; to = h.pickup; patron = Some p })
 
-module _ (k : Facts) (d : Desk) where
+module _ (title_of : CopyNo → TitleNo) (d : Desk) where
   -- the copy goes where it is kept for the patron's hold of its title, which gets it
   abbrev pub given : CopyNo → PatronNo → (Hold → CopyState) → Option Hold → Desk
   given c p goes None = d
   given c p goes (Some h) =
-      put (put d (CopyCell c) (CopyHas (goes h))) (HoldCell (k.title_of c) p)
+      put (put d (CopyCell c) (CopyHas (goes h))) (HoldCell (title_of c) p)
       (HoldHas (Some (with_copy (Some c) h)))
 
   -- the desk with what a row says
-  abbrev pub with_row : Row → Desk
-  with_row (Lent c l) = put d (CopyCell c) (CopyHas (OnLoan l))
-  with_row (Elsewhere c b) = put d (CopyCell c) (CopyHas (Shelf b))
-  with_row (Waiting t h) = put d (HoldCell t h.patron) (HoldHas (Some h))
-  with_row (Kept c p place) = given c p (kept_at p place) (d.hold (k.title_of c) p)
-  with_row (Sent c p from) = given c p (sent_from p from) (d.hold (k.title_of c) p)
-  with_row (Away c from to) =
+  abbrev pub with_row : OpeningRow → Desk
+  with_row (row.Loan c l) = put d (CopyCell c) (CopyHas (OnLoan l))
+  with_row (row.OpenShelf c b) = put d (CopyCell c) (CopyHas (Shelf b))
+  with_row (row.Hold t h) = put d (HoldCell t h.patron) (HoldHas (Some h))
+  with_row (row.HoldShelf c p place) = given c p (kept_at p place) (d.hold (title_of c) p)
+  with_row (row.HoldTransit c p from) = given c p (sent_from p from) (d.hold (title_of c) p)
+  with_row (row.Transit c from to) =
       put d (CopyCell c) (CopyHas (InTransit (record { from = from; to = to; patron = None })))
 
+module _ (k : Facts) (d : Desk) where
   -- no row has placed the copy so far
   abbrev pub IsHome : CopyNo → Type 0
   IsHome c = d.copy c ≡ Shelf (k.home c)
@@ -67,20 +60,26 @@ module _ (k : Facts) (d : Desk) where
         s.branch ≡ waits.hold.pickup → s.place ≡ place → ⊥
 
   -- the row says nothing twice, and nothing of a hold that isn't there
-  abbrev pub MayStand : HoldStamp → Row → Type 0
-  MayStand n (Lent c l) = IsHome c
-  MayStand n (Elsewhere c b) = IsHome c
-  MayStand n (Waiting t h) = MayWait n t h
-  MayStand n (Kept c p place) = MayKeep c p place
-  MayStand n (Sent c p from) = IsHome c × Waits c p
-  MayStand n (Away c from to) = IsHome c
+  abbrev pub MayStand : HoldStamp → OpeningRow → Type 0
+  MayStand n (row.Loan c l) = IsHome c
+  MayStand n (row.OpenShelf c b) = IsHome c
+  MayStand n (row.Hold t h) = MayWait n t h
+  MayStand n (row.HoldShelf c p place) = MayKeep c p place
+  MayStand n (row.HoldTransit c p from) = IsHome c × Waits c p
+  MayStand n (row.Transit c from to) = IsHome c
 
--- the desk with what the rows say, one after another
-abbrev pub with_rows : Facts → Desk → List Row → Desk
-with_rows k d [] = d
-with_rows k d (row ∷ rows) = with_rows k (with_row k d row) rows
+-- The stamp of a hold is below n, and its copy is told by the copy's own row; a place is from 1.
+abbrev pub IsInBounds : HoldStamp → OpeningRow → Type 0
+IsInBounds n (row.Hold t h) = (h.stamp < n) × (h.copy ≡ None)
+IsInBounds n (row.HoldShelf c p place) = 1 ≤ place
+IsInBounds n _ = Unit {0}
+
+-- the desk with what the rows say, one after another, where the copies are of these titles
+abbrev pub with_rows : (CopyNo → TitleNo) → Desk → List OpeningRow → Desk
+with_rows title_of d [] = d
+with_rows title_of d (r ∷ rows) = with_rows title_of (with_row title_of d r) rows
 
 -- each may stand behind those before it
-abbrev pub EachMayStand : Facts → HoldStamp → Desk → List Row → Type 0
+abbrev pub EachMayStand : Facts → HoldStamp → Desk → List OpeningRow → Type 0
 EachMayStand k n d [] = Unit {0}
-EachMayStand k n d (row ∷ rows) = MayStand k d n row × EachMayStand k n (with_row k d row) rows
+EachMayStand k n d (r ∷ rows) = MayStand k d n r × EachMayStand k n (with_row k.title_of d r) rows

@@ -75,20 +75,20 @@ same_action (action.Add p t kind pickup expiry) (action.Add q u sort branch day)
     (p == q)
     && ((t == u) && (same_kind kind sort && ((pickup == branch) && same_option same_number expiry day)))
 same_action (action.Delete p t) (action.Delete q u) = (p == q) && (t == u)
-same_action (action.ChangeHold p t kind pickup expiry) (action.ChangeHold q u sort branch day) =
+same_action (action.Change p t kind pickup expiry) (action.Change q u sort branch day) =
     (p == q) && ((t == u) && (same_option same_kind kind sort
     && (same_option same_number pickup branch && same_option same_number expiry day)))
-same_action (action.Renew p c) (action.Renew q x) = (p == q) && (c == x)
+same_action (action.Renewal p c) (action.Renewal q x) = (p == q) && (c == x)
 same_action _ _ = false
 
 -- cancellations
 abbrev pub same_cancel : Cancel → Cancel → Bool
-same_cancel (cancel.Loan c) (cancel.Loan x) = c == x
-same_cancel (cancel.Return c) (cancel.Return x) = c == x
+same_cancel (cancel.Checkout c) (cancel.Checkout x) = c == x
+same_cancel (cancel.Checkin c) (cancel.Checkin x) = c == x
 same_cancel (cancel.Renewal c) (cancel.Renewal x) = c == x
-same_cancel (cancel.Adding p t) (cancel.Adding q u) = (p == q) && (t == u)
-same_cancel (cancel.Deletion p t) (cancel.Deletion q u) = (p == q) && (t == u)
-same_cancel (cancel.Changing p t) (cancel.Changing q u) = (p == q) && (t == u)
+same_cancel (cancel.Add p t) (cancel.Add q u) = (p == q) && (t == u)
+same_cancel (cancel.Delete p t) (cancel.Delete q u) = (p == q) && (t == u)
+same_cancel (cancel.Change p t) (cancel.Change q u) = (p == q) && (t == u)
 same_cancel _ _ = false
 
 -- what is asked

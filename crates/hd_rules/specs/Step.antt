@@ -194,9 +194,9 @@ module _ (k : Facts) (n : CommandNo) where
       add (record { patron = p; stamp = n; kind = kind; pickup = pickup; expiry = expiry; copy = None }) t
       day old)
   plan_of day (action.Delete p t) = Ask (ValueOf (HoldCell t p)) (λ old. delete t p day old)
-  plan_of day (action.ChangeHold p t kind pickup expiry) =
+  plan_of day (action.Change p t kind pickup expiry) =
       Ask (ValueOf (HoldCell t p)) (λ old. change t p kind pickup expiry day old)
-  plan_of day (action.Renew p c) = Ask (ValueOf (CopyCell c)) (λ old. renew_at k n p c day old)
+  plan_of day (action.Renewal p c) = Ask (ValueOf (CopyCell c)) (λ old. renew_at k n p c day old)
 
   -- the command with this number
   abbrev pub plan : Command → Plan

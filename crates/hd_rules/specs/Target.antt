@@ -1,10 +1,8 @@
 -- Which command a cancellation takes back (docs/protocol.md, "Cancellations").
 use Rattle.std.specs.Prelude.{◌≡◌, Bool, true, false, ◌&&◌, ◌==◌, List, [], ◌∷◌, ◌++◌}
 use Rattle.hd_rules.specs.Words.{Action, Cancel, Survivor}
-use Rattle.hd_rules.specs.declared.commands.Action.TheVariants.{Checkout, OffLine, Checkin, Add, Delete}
-use Rattle.hd_rules.specs.declared.commands.Action.TheVariants.{ChangeHold, Renew}
-use Rattle.hd_rules.specs.declared.commands.Cancel.TheVariants.{Loan, Return, Renewal, Adding, Deletion}
-use Rattle.hd_rules.specs.declared.commands.Cancel.TheVariants.{Changing}
+use Rattle.hd_rules.specs.declared.commands.Action.TheVariants as action
+use Rattle.hd_rules.specs.declared.commands.Cancel.TheVariants as cancel
 use Rattle.hd_rules.specs.Numbers.{PatronNo, TitleNo, TerminalNo}
 
 -- the same patron and title
@@ -14,13 +12,13 @@ same_pair p t q u = (p == q) && (t == u)
 -- The action is what such a cancellation takes back. The patron
 -- of a loan or a renewal isn't compared, nor a return's branch.
 abbrev pub is_of_kind : Cancel → Action → Bool
-is_of_kind (Loan c) (Checkout p x may_renew) = c == x
-is_of_kind (Loan c) (OffLine p x due) = c == x
-is_of_kind (Return c) (Checkin x b) = c == x
-is_of_kind (Renewal c) (Renew p x) = c == x
-is_of_kind (Adding p t) (Add q u kind pickup expiry) = same_pair p t q u
-is_of_kind (Deletion p t) (Delete q u) = same_pair p t q u
-is_of_kind (Changing p t) (ChangeHold q u kind pickup expiry) = same_pair p t q u
+is_of_kind (cancel.Checkout c) (action.Checkout p x may_renew) = c == x
+is_of_kind (cancel.Checkout c) (action.OffLine p x due) = c == x
+is_of_kind (cancel.Checkin c) (action.Checkin x b) = c == x
+is_of_kind (cancel.Renewal c) (action.Renewal p x) = c == x
+is_of_kind (cancel.Add p t) (action.Add q u kind pickup expiry) = same_pair p t q u
+is_of_kind (cancel.Delete p t) (action.Delete q u) = same_pair p t q u
+is_of_kind (cancel.Change p t) (action.Change q u kind pickup expiry) = same_pair p t q u
 is_of_kind _ _ = false
 
 -- survivors, split at one of them

@@ -28,4 +28,5 @@ pub use Rattle.hd_rules.specs.declared.replies.Reply.{Reply}
 pub use Rattle.hd_rules.specs.declared.replies.Reply.TheVariants.{LentOrRenewed, Returned, Held, Deleted}
 pub use Rattle.hd_rules.specs.declared.replies.ItemView.{ItemView}
 pub use Rattle.hd_rules.specs.declared.replies.TurnReply.{TurnReply}
+pub use Rattle.hd_rules.specs.declared.rows.OpeningRow.{OpeningRow}
 pub use Rattle.hd_rules.specs.declared.turns.Asked.{Asked}

@@ -39,7 +39,7 @@ pub enum Action {
         title: TitleNo,
     },
     /// Changes the hold; what is `None` stays as it is.
-    ChangeHold {
+    Change {
         patron: PatronNo,
         title: TitleNo,
         kind: Option<HoldKind>,
@@ -47,7 +47,7 @@ pub enum Action {
         expiry: Option<Day>,
     },
     /// Renews the patron's loan of the copy.
-    Renew {
+    Renewal {
         patron: PatronNo,
         copy: CopyNo,
     },
@@ -67,17 +67,17 @@ pub struct Command {
 #[derive(Clone, Copy, PartialEq, Eq, Debug)]
 pub enum Cancel {
     /// A checkout of the copy, also one that renewed a loan or was reported off line.
-    Loan(CopyNo),
+    Checkout(CopyNo),
     /// A return of the copy.
-    Return(CopyNo),
+    Checkin(CopyNo),
     /// A renewal of the copy by a renew message.
     Renewal(CopyNo),
     /// The adding of the patron's hold of the title.
-    Adding(PatronNo, TitleNo),
+    Add(PatronNo, TitleNo),
     /// The deletion of that hold.
-    Deletion(PatronNo, TitleNo),
+    Delete(PatronNo, TitleNo),
     /// A change of that hold.
-    Changing(PatronNo, TitleNo),
+    Change(PatronNo, TitleNo),
 }
 
 /// A command that was accepted and not cancelled.

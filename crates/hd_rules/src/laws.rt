@@ -3,7 +3,8 @@
 ghost use Rattle.hd_rules.specs.Laws.{ACarriedDeskIsSound, AFreshDeskMayOpen, RowsTellASoundDesk};
 ghost use Rattle.hd_rules.specs.Laws.{ALegalJournalIsTheRunOfItsSurvivors, ChoiceIsTheFirstCandidate};
 ghost use Rattle.hd_rules.specs.Laws.{CommandsKeepDesksSound, CommandsRestOnTheirAnswers};
-ghost use Rattle.hd_rules.specs.Laws.{EachTurnIsDetermined, LegalJournalsGoOn, PlaceIsTheLeastFree};
+ghost use Rattle.hd_rules.specs.Laws.{EachTurnIsDetermined, KnownRowsTellAKnownDesk, LegalJournalsGoOn};
+ghost use Rattle.hd_rules.specs.Laws.{PlaceIsTheLeastFree};
 ghost use Rattle.hd_rules.specs.Laws.{TestsAreExact, TheFirstDependentIsTheLeast, TheHeadline};
 ghost use Rattle.hd_rules.specs.Laws.{TheTargetIsTheNewest, UndoingIsTheRunWithout};
 
@@ -95,4 +96,9 @@ pub fn a_fresh_desk_may_open()
 /// Rows that say nothing twice tell a desk that a journal may open with.
 pub fn rows_tell_a_sound_desk()
     ensures { RowsTellASoundDesk }
+{}
+
+/// Rows that name things of the catalogue tell a desk that names such.
+pub fn known_rows_tell_a_known_desk()
+    ensures { KnownRowsTellAKnownDesk }
 {}

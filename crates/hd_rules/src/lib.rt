@@ -4,6 +4,7 @@
 //! `laws` is the contract of a function without a body.
 #![tactic(auto)]
 
+mod ask;
 mod cells;
 mod commands;
 mod copies;
@@ -15,8 +16,10 @@ mod numbers;
 mod questions;
 mod refusals;
 mod replies;
+mod rows;
 mod turns;
 
+pub use crate::ask::Ask;
 pub use crate::cells::{Cell, Change, Value};
 pub use crate::commands::{Action, Cancel, Command, Survivor};
 pub use crate::copies::{CopyState, HoldPlace, Loan, Transit};
@@ -25,16 +28,17 @@ pub use crate::holds::{Hold, HoldKind};
 pub use crate::laws::{
     a_carried_desk_is_sound, a_fresh_desk_may_open, a_legal_journal_is_the_run_of_its_survivors,
     choice_is_the_first_candidate, commands_keep_desks_sound, commands_rest_on_their_answers,
-    each_turn_is_determined, headline, legal_journals_go_on, place_is_the_least_free,
-    rows_tell_a_sound_desk, tests_are_exact, the_first_dependent_is_the_least,
-    the_target_is_the_newest, undoing_is_the_run_without,
+    each_turn_is_determined, headline, known_rows_tell_a_known_desk, legal_journals_go_on,
+    place_is_the_least_free, rows_tell_a_sound_desk, tests_are_exact,
+    the_first_dependent_is_the_least, the_target_is_the_newest, undoing_is_the_run_without,
 };
 pub use crate::limits::{
-    MOST_BRANCHES, MOST_COMMANDS, MOST_COPIES, MOST_LOAN_DAYS, MOST_LOANS, MOST_PATRONS,
-    MOST_RENEWALS, MOST_TERMINALS, MOST_TITLES,
+    MOST_BRANCHES, MOST_COMMANDS, MOST_COPIES, MOST_GIVEN, MOST_LOAN_DAYS, MOST_LOANS,
+    MOST_PATRONS, MOST_RENEWALS, MOST_TERMINALS, MOST_TITLES,
 };
-pub use crate::numbers::{BranchNo, CopyNo, PatronNo, TerminalNo, TitleNo};
+pub use crate::numbers::{BranchNo, CopyNo, PatronNo, SeatNo, TerminalNo, TitleNo};
 pub use crate::questions::{Answer, Finding, Noted, Question};
 pub use crate::replies::{ItemView, Refusal, Reply, TurnReply};
+pub use crate::rows::OpeningRow;
 pub use crate::turns::Asked;
 pub use hd_day::Day;

@@ -26,3 +26,6 @@ pub const MOST_LOANS: u32 = 999;
 
 /// The highest limit of commands, which is the last number that one may be given.
 pub const MOST_COMMANDS: u64 = 1_000_000;
+
+/// The highest last number that may have been given to a command before a journal begins.
+pub const MOST_GIVEN: u32 = 999_999_999;

@@ -1,8 +1,8 @@
-//! Numbers of branches, terminals, titles, copies and patrons.
+//! Numbers of branches, terminals, titles, copies and patrons, and of seats.
 //!
-//! A catalogue numbers each kind from 0, in the order in which the names first appear in its file.
+//! A catalogue numbers each of its kinds from 0, in the order in which the names first appear in its file.
 
-ghost use Rattle.std.specs.Prelude.{◌≡◌, ◌<◌, ℕ};
+ghost use Rattle.std.specs.Prelude.{◌≡◌, ◌<◌, ◌^◌, ℕ};
 ghost use Rattle.std.specs.Option.{SomeIff};
 ghost use Rattle.hd_rules.specs.declared.limits.TheConstants.{MOST_BRANCHES, MOST_COPIES, MOST_PATRONS};
 ghost use Rattle.hd_rules.specs.declared.limits.TheConstants.{MOST_TERMINALS, MOST_TITLES};
@@ -197,5 +197,37 @@ impl PatronNo {
     {
         let PatronNo { number } = self;
         number
+    }
+}
+
+/// The number of a seat: from 1 for the seats of a hall, and 0 for a journal that is used alone.
+#[derive(Clone, Copy, PartialEq, Eq, PartialOrd, Ord, Hash, Debug)]
+pub struct SeatNo {
+    number: u32,
+}
+
+impl Model for SeatNo {
+    ghost Value = { ℕ };
+
+    ghost view = { λ seat. seat.number };
+
+    ghost invariant = { λ seat. seat.number < 2 ^ 32 };
+
+    ghost inverse = { λ number. record { number = number } };
+}
+
+impl SeatNo {
+    /// The seat of this number.
+    pub fn new(number: u32) -> SeatNo
+        ensures { result ≡ number }
+    {
+        SeatNo { number }
+    }
+
+    /// The seat's number.
+    pub fn number(self) -> u32
+        ensures { result ≡ self }
+    {
+        self.number
     }
 }

@@ -4,7 +4,7 @@ use Rattle.hd_journal.specs.declared.fault.WriteFault.{WriteFault}
 use Rattle.hd_serve.specs.declared.fault.ServeFault.{ServeFault}
 use Rattle.hd_serve.specs.declared.fault.ServeFault.TheVariants.{CannotListen, Unwritten}
 
--- What the port gave is served, unless the server is to stop: then that is told first, with its reason. A
+-- What the port gave is served, unless the server is to stop: then that is reported first, with its reason. A
 -- connection that can't be accepted ends the accepting.
 abbrev pub admitted : {X E : Type 0} → Option WriteFault → Result X E → Result X ServeFault
 admitted (Some why) came = Err (Unwritten why)

@@ -13,7 +13,7 @@ abbrev pub stop_of : Result (Unit {0}) AttendFault → Option WriteFault
 stop_of (Err (connection.Ended (session.Turn (turn.Unwritten why)))) = Some why
 stop_of ended = None
 
--- of two reasons to stop the first is told
+-- of two reasons to stop the first is reported
 abbrev pub first_reason : Option WriteFault → WriteFault → WriteFault
 first_reason None why = why
 first_reason (Some before) why = before

@@ -11,7 +11,7 @@ use std::sync::Wait;
 
 /// A connection that was accepted.
 #[derive(Drop)]
-pub(crate) struct Arrived {
+pub(crate) struct Connection {
     pub(crate) stream: TcpStream,
     /// Its session's number, from 1.
     pub(crate) session: usize,
@@ -26,14 +26,14 @@ pub(crate) fn accept<R: Wait>(
     rt: &R,
     listener: &TcpListener,
     stop: &Stop,
-    to: Sender<Arrived>,
+    to: Sender<Connection>,
     connections: u32,
 ) -> Result<(), ServeFault> {
     let mut session = 0usize;
     for came in listener.incoming() {
         let stream = admit(stop.why(rt), came)?;
         session = session.saturating_add(1);
-        if to.send(rt, Arrived { stream, session }).is_err() {
+        if to.send(rt, Connection { stream, session }).is_err() {
             return Err(ServeFault::Memory);
         }
         if is_last(session, connections) {

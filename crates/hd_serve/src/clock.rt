@@ -7,8 +7,8 @@ use hd_date::{OffsetMinutes, Stamp18};
 use std::io;
 use std::time::Duration;
 
-/// The present in local time, as a clock tells it that is asked now, and `00000101    000000` where it can't be
-/// read.
+/// The present in local time, as a clock tells it that is asked now, and `00000101    000000` where it can't
+/// be read.
 pub(crate) fn present<C: Fn() -> io::Result<Duration>>(clock: &C, offset: OffsetMinutes) -> Stamp18
     requires { C.IsAlwaysCallable clock.now }
     // the clock was asked, and may have told this

@@ -4,12 +4,15 @@
 mod accepting;
 mod clock;
 mod fault;
+mod gate;
 mod options;
 mod places;
 mod serving;
 mod stop;
+mod surroundings;
 mod worker;
 
 pub use crate::fault::ServeFault;
+pub use crate::gate::Gate;
 pub use crate::options::Options;
 pub use crate::serving::serve;

@@ -7,19 +7,19 @@ ghost use Rattle.hd_serve.specs.Places.{all_in};
 use hd_hall::{House, Seat};
 use std::alloc::{AllocError, Global};
 
-/// A seat with its part of the ledger.
+/// A seat with its share of the ledger.
 #[derive(Drop)]
-pub(crate) struct Held<H: House> {
+pub(crate) struct SeatWithShare<H: House> {
     seat: Seat<H>,
     ghost part: { seat.parts ≡ 1 },
 }
 
-impl<H: House> Held<H> {
-    /// A seat that has its part.
-    pub(crate) fn new(seat: Seat<H>) -> Held<H>
+impl<H: House> SeatWithShare<H> {
+    /// A seat that has its share.
+    pub(crate) fn new(seat: Seat<H>) -> SeatWithShare<H>
         requires { seat.parts ≡ 1 }
     {
-        Held { seat }
+        SeatWithShare { seat }
     }
 }
 
@@ -27,7 +27,7 @@ impl<H: House> Held<H> {
 /// them.
 #[derive(Drop)]
 pub(crate) struct Places<H: House> {
-    places: Vec<Option<Held<H>>>,
+    places: Vec<Option<SeatWithShare<H>>>,
     seats: Vec<Seat<H>>,
     ghost empty: { seats.items ≡ [] },
 }
@@ -56,7 +56,7 @@ impl<H: House> Places<H> {
     }
 
     /// Keeps a seat in its place. There is one, since room is made before each seat is opened.
-    pub(crate) fn keep(&mut self, held: Held<H>)
+    pub(crate) fn keep(&mut self, held: SeatWithShare<H>)
         // the seat of number n stands at place n, from 1, and all others where they stood
         ensures kept { held.seat.number - 1 < length self.old.places.items → self.new.places.items
             ≡ slice_set self.old.places.items (held.seat.number - 1) (Some held) }
@@ -92,12 +92,12 @@ impl<H: House> Places<H> {
 ///
 /// # Errors
 /// Out of memory.
-fn add_seat<H: House>(seats: &mut Vec<Seat<H>>, held: Held<H>) -> Result<(), AllocError>
+fn add_seat<H: House>(seats: &mut Vec<Seat<H>>, held: SeatWithShare<H>) -> Result<(), AllocError>
     requires { EachSeat seats.old.items (λ s. s.parts ≡ 1) }
     ensures parts { EachSeat seats.new.items (λ s. s.parts ≡ 1) }
     ensures items { OnOk result (seats.new.items ≡ seats.old.items ++ held.seat ∷ []) }
 {
-    let Held { seat } = held;
+    let SeatWithShare { seat } = held;
     seats.push(seat)?;
     Ok(())
 }

@@ -3,14 +3,14 @@ ghost use Rattle.std.specs.Prelude.{◌≡◌, ◌≤◌, [], IfOk};
 ghost use Rattle.hd_journal.specs.Openings.{IsLegalSince};
 ghost use Rattle.hd_serve.specs.Ends.{answered};
 
-use crate::accepting::{Arrived, accept};
+use crate::accepting::{Connection, accept};
 use crate::fault::ServeFault;
+use crate::gate::Gate;
 use crate::options::Options;
 use crate::places::Places;
 use crate::stop::Stop;
 use crate::worker::Service;
 use crossbeam_channel::{Sender, bounded};
-use hd_attend::Gate;
 use hd_hall::{Hall, House, Keeper};
 use hd_journal::WriteFault;
 use std::alloc::Global;
@@ -95,16 +95,14 @@ fn serve_in<
     let places = Mutex::new(Places::new(alloc));
     let (to, from) = bounded(alloc, options.workers as usize)?;
     let service = Service {
-        rt,
         alloc,
         hall: &hall,
         places: &places,
         from: &from,
-        gate,
         stop: &stop,
         idle: options.idle,
     };
-    let served = serve_by(&service, listener, to, options);
+    let served = serve_by(rt, &service, listener, to, options, gate);
     let seats = places.into_inner().into_seats()?;
     let Ok(keeper) = hall.close(seats) else {
         return Err(ServeFault::NotClosed);
@@ -138,15 +136,17 @@ fn serve_by<
     Q: Drop + Send,
     K: Keeper<Global, Q> + Drop + Send,
 >(
-    service: &Service<'_, H, R, G, Q, K>,
+    rt: &R,
+    service: &Service<'_, H, Q, K>,
     listener: &TcpListener,
-    to: Sender<Arrived>,
+    to: Sender<Connection>,
     options: &Options,
+    gate: &G,
 ) -> Result<(), ServeFault> {
-    thread::scope(thread::scope_env(), service.rt, |scope| {
+    thread::scope(thread::scope_env(), rt, |scope| {
         let mut has_worker = false;
         for _ in 0..options.workers {
-            if scope.spawn(|| service.work()).is_err() {
+            if scope.spawn(|| service.work(rt, gate)).is_err() {
                 break;
             }
             has_worker = true;
@@ -154,6 +154,6 @@ fn serve_by<
         if !has_worker {
             return Err(ServeFault::Memory);
         }
-        accept(service.rt, listener, service.stop, to, options.connections)
+        accept(rt, listener, service.stop, to, options.connections)
     })
 }

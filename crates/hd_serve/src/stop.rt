@@ -47,7 +47,7 @@ impl Stop {
     }
 }
 
-/// Of a reason that was noted before, if one was, and another the one that is told.
+/// Of a reason that was noted before, if one was, and another the one that is reported.
 fn first_reason(before: Option<WriteFault>, why: WriteFault) -> WriteFault
     ensures { result ≡ first_reason before why }
 {

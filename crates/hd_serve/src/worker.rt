@@ -3,14 +3,15 @@ ghost use Rattle.std.specs.Prelude.{◌≡◌};
 ghost use Rattle.hd_serve.specs.Ends.{stop_of};
 ghost use Rattle.hd_session.specs.Sessions.{new_session};
 
-use crate::accepting::Arrived;
-use crate::clock::present;
-use crate::places::{Held, Places};
+use crate::accepting::Connection;
+use crate::gate::Gate;
+use crate::places::{Places, SeatWithShare};
 use crate::stop::Stop;
+use crate::surroundings::ClockAndGate;
 use crossbeam_channel::Receiver;
-use hd_attend::{AttendFault, Gate, attend};
+use hd_attend::{AttendFault, attend};
 use hd_connection::Fallible;
-use hd_hall::{Hall, House, Keeper, Seat};
+use hd_hall::{Counter, Hall, House, Keeper, Seat};
 use hd_journal::{TurnFault, WriteFault};
 use hd_session::{Ended, Session};
 use std::alloc::Global;
@@ -21,31 +22,22 @@ use std::time::{Clock, Duration};
 
 /// What the workers of a server share.
 #[derive(Drop)]
-pub(crate) struct Service<'a, H: House, R, G: Gate, Q: Drop, K: Keeper<Global, Q>> {
-    pub(crate) rt: &'a R,
+pub(crate) struct Service<'a, H: House, Q: Drop, K: Keeper<Global, Q>> {
     pub(crate) alloc: Global,
     pub(crate) hall: &'a Hall<H, Global, Q, K>,
     pub(crate) places: &'a Mutex<Places<H>>,
-    pub(crate) from: &'a Receiver<Arrived>,
-    pub(crate) gate: &'a G,
+    pub(crate) from: &'a Receiver<Connection>,
     pub(crate) stop: &'a Stop,
     /// For how many seconds a connection may be idle; with 0 for ever.
     pub(crate) idle: u32,
 }
 
-impl<'a, H: House, R: Wait + Clock, G: Gate, Q: Drop, K: Keeper<Global, Q> + Drop> Service<
-    'a,
-    H,
-    R,
-    G,
-    Q,
-    K,
-> {
+impl<'a, H: House, Q: Drop, K: Keeper<Global, Q> + Drop> Service<'a, H, Q, K> {
     /// Serves connections, until no more can come.
-    pub(crate) fn work(&self) {
-        for _ in self.rt.forever() {
-            match self.from.recv(self.rt) {
-                Ok(arrived) => self.welcome(&arrived),
+    pub(crate) fn work<R: Wait + Clock, G: Gate>(&self, rt: &R, gate: &G) {
+        for _ in rt.forever() {
+            match self.from.recv(rt) {
+                Ok(connection) => self.welcome(rt, gate, &connection),
                 Err(_) => return,
             }
         }
@@ -53,49 +45,54 @@ impl<'a, H: House, R: Wait + Clock, G: Gate, Q: Drop, K: Keeper<Global, Q> + Dro
 
     /// Serves a connection to its end, and keeps its seat. Where its options can't be set, or there is no
     /// room to keep a seat, no session or no seat, nothing is read and nothing written.
-    fn welcome(&self, arrived: &Arrived) {
-        if prepare(&arrived.stream, self.idle).is_err()
-            || self.places.lock(self.rt).add().is_err()
-        {
+    fn welcome<R: Wait + Clock, G: Gate>(&self, rt: &R, gate: &G, connection: &Connection) {
+        if prepare(&connection.stream, self.idle).is_err() || self.places.lock(rt).add().is_err() {
             return;
         }
         let Ok(state) = Session::new(self.alloc) else {
             return;
         };
-        let Some(seat) = self.hall.seat(self.rt) else {
+        let Some(seat) = self.hall.seat(rt) else {
             return;
         };
-        let held = self.attend_one(arrived, state, seat);
-        self.places.lock(self.rt).keep(held);
+        let seat = self.attend_one(rt, gate, connection, state, seat);
+        self.places.lock(rt).keep(seat);
     }
 
     /// The seat, when the connection has ended. Why it ended makes no difference to the others, but where the
     /// journal can't be written: then no more are served.
-    fn attend_one(&self, arrived: &Arrived, mut state: Session, mut seat: Seat<H>) -> Held<H>
+    fn attend_one<R: Wait + Clock, G: Gate>(
+        &self,
+        rt: &R,
+        gate: &G,
+        connection: &Connection,
+        mut state: Session,
+        mut seat: Seat<H>,
+    ) -> SeatWithShare<H>
         requires seat { seat.parts ≡ 1 }
         requires state { state ≡ new_session }
     {
-        let offset = self.hall.catalogue().offset();
-        let clock = || self.rt.since_1970();
-        let now = || present(&clock, offset);
-        let mut reader = Fallible(&arrived.stream);
-        let mut writer = Fallible(&arrived.stream);
+        let mut reader = Fallible(&connection.stream);
+        let mut writer = Fallible(&connection.stream);
+        let surroundings = ClockAndGate {
+            clock: rt,
+            offset: self.hall.catalogue().offset(),
+            gate,
+        };
+        let mut counter = Counter::new(rt, self.hall, &mut seat);
         let ended = attend(
-            self.rt,
-            self.alloc,
+            rt,
             &mut reader,
             &mut writer,
-            self.hall,
-            &mut seat,
+            &mut counter,
             &mut state,
-            arrived.session,
-            &now,
-            self.gate,
+            connection.session,
+            &surroundings,
         );
         if let Some(why) = stop_of(ended) {
-            self.stop.want(self.rt, why);
+            self.stop.want(rt, why);
         }
-        Held::new(seat)
+        SeatWithShare::new(seat)
     }
 }
 

@@ -7,7 +7,7 @@ use Rattle.hd_serve.specs.declared.fault.ServeFault.{ServeFault}
 use Rattle.hd_server.specs.declared.fault.ServerFault.{ServerFault}
 use Rattle.hd_server.specs.declared.fault.ServerFault.TheVariants.{Replay, Serve}
 
--- what replaying an input comes to, whose fault is told as a replay's; it never ends as a server does
+-- what replaying an input results in, whose fault is reported as a replay's; it never ends as a server does
 abbrev pub IsReplay : List ℕ → List ℕ → Streams → Result (Unit {0}) ServerFault → Type 0
 IsReplay file present bytes (Ok _) = IsReplayOf file present bytes (Ok tt)
 IsReplay file present bytes (Err (Replay fault)) = IsReplayOf file present bytes (Err fault)

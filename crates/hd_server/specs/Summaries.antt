@@ -1,4 +1,4 @@
--- What is told of a journal when its hall is closed.
+-- The summary of a journal when its hall is closed.
 use Rattle.std.specs.Prelude.{◌≡◌, List, length}
 use Rattle.hd_rules.specs.Journal.{Turn, state_after}
 use Rattle.hd_catalogue.specs.Contents.{Contents, facts_of}

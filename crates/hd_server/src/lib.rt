@@ -10,6 +10,6 @@ pub use crate::fault::ServerFault;
 pub use crate::replaying::replay;
 pub use crate::serving::serve;
 pub use crate::summary::{Summary, summary_of};
-pub use hd_attend::{AttendFault, Gate, attend};
+pub use hd_attend::{AttendFault, Surroundings, attend};
 pub use hd_replay::ReplayFault;
-pub use hd_serve::{Options, ServeFault};
+pub use hd_serve::{Gate, Options, ServeFault};

@@ -1,5 +1,6 @@
 //! `replay`: the messages of a file, answered as the server would.
 ghost use Rattle.std.specs.Prelude.{IfErr};
+ghost use Rattle.hd_connection.specs.Streams.{streams};
 ghost use Rattle.hd_server.specs.Ends.{HasReason, IsReplay};
 
 use crate::fault::ServerFault;
@@ -21,12 +22,9 @@ pub fn replay<R: Input, W: Output>(
     from: &mut R,
     to: &mut W,
 ) -> Result<(), ServerFault>
-    ensures replay { IsReplay catalogue.now now.now (record {
-      from = R.remaining from.old;
-      from' = R.remaining from.new;
-      to = W.contents to.old;
-      to' = W.contents to.new;
-    }) result }
+    ensures replay { IsReplay catalogue.now now.now
+        (streams (R.remaining from.old) (R.remaining from.new) (W.contents to.old) (W.contents to.new))
+        result }
     ensures why { IfErr result (HasReason (R.fails from.new) (W.fails to.new)) }
 {
     hd_replay::replay(rt, catalogue, now, from, to)?;

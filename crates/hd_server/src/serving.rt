@@ -5,17 +5,16 @@ ghost use Rattle.hd_server.specs.Summaries.{IsSummaryOfLegal};
 
 use crate::fault::ServerFault;
 use crate::summary::{Summary, summary_of};
-use hd_attend::Gate;
 use hd_journal::Journal;
-use hd_serve::Options;
+use hd_serve::{Gate, Options};
 use std::alloc::Global;
 use std::net::TcpListener;
 use std::sync::Wait;
 use std::thread::Threads;
 use std::time::Clock;
 
-/// Serves terminals over TCP, as `hd_serve::serve` does, from a journal without turns, which is kept in memory
-/// alone: the summary of the journal that the closed hall gave back.
+/// Serves terminals over TCP, as `hd_serve::serve` does, from a journal without turns, which is kept in
+/// memory alone: the summary of the journal that the closed hall gave back.
 ///
 /// # Errors
 /// `Serve`, with each of the faults of `hd_serve::serve`.

@@ -1,4 +1,4 @@
-//! What is told of a hall that is closed.
+//! The summary of a hall that is closed.
 ghost use Rattle.hd_server.specs.Summaries.{IsSummary};
 
 use hd_journal::Journal;

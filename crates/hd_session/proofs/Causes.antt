@@ -8,7 +8,7 @@ use Rattle.hd_journal.specs.declared.fault.TurnFault.{TurnFault}
 use Rattle.hd_journal.specs.declared.fault.TurnFault.TheVariants.{Memory}
 use Rattle.hd_session.specs.declared.ended.Ended.{Ended}
 use Rattle.hd_session.specs.declared.ended.Ended.TheVariants as end
-use Rattle.hd_session.specs.Standing.{Stands}
+use Rattle.hd_session.specs.States.{State}
 use Rattle.hd_session.specs.Sessions.{Hearing, IsCause, IsFed, IsFedAt, Room}
 use Rattle.hd_session.proofs.Feeding.{end_of}
 
@@ -19,12 +19,12 @@ no_length false f is = none-some (end.Turn f) is
 
 -- A fault that isn't for want of memory, and that the office can't give.
 module _ (k : Contents) (seat : ℕ) (faults : TurnFault → Type 0) (f : TurnFault) (other : ¬ (f ≡ Memory)) (never : ¬ faults f) where
-  no_cause : (room : Room) (s : Stands) (earlier : ℕ) (line : List ℕ) → IsCause k faults room s earlier line f → ⊥
+  no_cause : (room : Room) (s : State) (earlier : ℕ) (line : List ℕ) → IsCause k faults room s earlier line f → ⊥
   no_cause room s earlier line (inl turn) = never turn.0
   no_cause room s earlier line (inr reply) = other reply.0
 
   -- the cause of an end
-  abbrev CauseOf : Room → Stands → ℕ → List ℕ → Option Ended → Type 0
+  abbrev CauseOf : Room → State → ℕ → List ℕ → Option Ended → Type 0
   CauseOf room s earlier line (Some (end.Turn why)) = IsCause k faults room s earlier line why
   CauseOf room s earlier line other = ⊥
 
@@ -34,8 +34,8 @@ module _ (k : Contents) (seat : ℕ) (faults : TurnFault → Type 0) (f : TurnFa
   other_at now (Some why) room piece made h h' text is a not same = not (sym (ap (λ (x : Hearing). x.ended) a.1) ∙ same)
   other_at now None room piece made h h' text is (inl a) not same = no_length h'.begun.too_long f (sym a.ended ∙ same)
   other_at now None room piece made h h' text is (inr a) not same =
-      no_cause room h'.standing (length a.before) a.line
-      (subst (CauseOf room h'.standing (length a.before) a.line) (sym a.ended ∙ same) a.cause)
+      no_cause room h'.state (length a.before) a.line
+      (subst (CauseOf room h'.state (length a.before) a.line) (sym a.ended ∙ same) a.cause)
 
   -- no session ends by it
   pub fed_other : (now : Stamp) (room : Room) (piece : List ℕ) (made : List Turn) (h h' : Hearing) (text : List ℕ)

@@ -11,16 +11,16 @@ use Rattle.hd_rules.specs.Turns.{Message, State, start}
 use Rattle.hd_rules.specs.Machine.{turn_of}
 use Rattle.hd_rules.specs.declared.replies.TurnReply.{TurnReply}
 use Rattle.hd_catalogue.specs.Contents.{Contents, facts_of}
-use Rattle.hd_journal.specs.Asks.{SeatMessage}
+use Rattle.hd_rules.specs.Messages.{SeatMessage}
 use Rattle.hd_exchange.specs.Answers.{IsAnswer}
 use Rattle.hd_exchange.specs.Turns.{messages_of}
 use Rattle.hd_journal.specs.declared.fault.TurnFault.{TurnFault}
 use Rattle.hd_exchange.specs.declared.login.Login.{Login}
-use Rattle.hd_exchange.specs.declared.said.Said.{Said}
+use Rattle.hd_exchange.specs.declared.reply_kind.ReplyKind.{ReplyKind}
 use Rattle.hd_session.specs.Endings.{EndsWell}
 use Rattle.hd_session.specs.Scripts.{AreFed, Event, Step, session_at, turns_of}
 use Rattle.hd_session.specs.Sessions.{AreHeard, Hearing, IsFedAt, any_room}
-use Rattle.hd_session.specs.Standing.{IsAnswered, IsHeard, IsReadAndAnswered, Stands, line_with}
+use Rattle.hd_session.specs.States.{IsAnswered, IsHeard, IsReadAndAnswered, State as SessionState, line_with}
 use Rattle.hd_session.specs.Trailers.{last_after, text_said}
 use Rattle.hd_session.specs.declared.ended.Ended.{Ended}
 use Rattle.hd_session.specs.declared.ended.Ended.TheVariants as end
@@ -69,19 +69,19 @@ one_legal k s (x ∷ xs) (y ∷ ys) p q same =
     (one_legal k (turn_of k s x.message).state xs ys p.1 legal later)
 
 -- where a session stands, by its values
-same_stands : (a b : Stands) → a.place ≡ b.place → a.last ≡ b.last → a.digit ≡ b.digit → a.gaps ≡ b.gaps → a ≡ b
-same_stands a b place last digit gaps =
-    ap (λ (p : Option Login). let s : Stands = record { place = p; last = a.last; digit = a.digit; gaps = a.gaps } in s) place
-    ∙ (ap (λ (l : List ℕ). let s : Stands = record { place = b.place; last = l; digit = a.digit; gaps = a.gaps } in s) last
-    ∙ (ap (λ (d : Option ℕ). let s : Stands = record { place = b.place; last = b.last; digit = d; gaps = a.gaps } in s) digit
-    ∙ ap (λ (g : ℕ). let s : Stands = record { place = b.place; last = b.last; digit = b.digit; gaps = g } in s) gaps))
+same_state : (a b : SessionState) → a.place ≡ b.place → a.last ≡ b.last → a.digit ≡ b.digit → a.gaps ≡ b.gaps → a ≡ b
+same_state a b place last digit gaps =
+    ap (λ (p : Option Login). let s : SessionState = record { place = p; last = a.last; digit = a.digit; gaps = a.gaps } in s) place
+    ∙ (ap (λ (l : List ℕ). let s : SessionState = record { place = b.place; last = l; digit = a.digit; gaps = a.gaps } in s) last
+    ∙ (ap (λ (d : Option ℕ). let s : SessionState = record { place = b.place; last = b.last; digit = d; gaps = a.gaps } in s) digit
+    ∙ ap (λ (g : ℕ). let s : SessionState = record { place = b.place; last = b.last; digit = b.digit; gaps = g } in s) gaps))
 
 -- a session, by its values
-same_hearing : (a b : Hearing) → a.begun ≡ b.begun → a.standing ≡ b.standing → a.ended ≡ b.ended → a ≡ b
-same_hearing a b begun standing ended =
-    ap (λ (x : Begun). let h : Hearing = record { begun = x; standing = a.standing; ended = a.ended } in h) begun
-    ∙ (ap (λ (x : Stands). let h : Hearing = record { begun = b.begun; standing = x; ended = a.ended } in h) standing
-    ∙ ap (λ (x : Option Ended). let h : Hearing = record { begun = b.begun; standing = b.standing; ended = x } in h) ended)
+same_hearing : (a b : Hearing) → a.begun ≡ b.begun → a.state ≡ b.state → a.ended ≡ b.ended → a ≡ b
+same_hearing a b begun state ended =
+    ap (λ (x : Begun). let h : Hearing = record { begun = x; state = a.state; ended = a.ended } in h) begun
+    ∙ (ap (λ (x : SessionState). let h : Hearing = record { begun = b.begun; state = x; ended = a.ended } in h) state
+    ∙ ap (λ (x : Option Ended). let h : Hearing = record { begun = b.begun; state = b.state; ended = x } in h) ended)
 
 -- an event, by its values
 same_event : (a b : Event) → a.session ≡ b.session → a.made ≡ b.made → a.text ≡ b.text → a.ended ≡ b.ended → a ≡ b
@@ -97,21 +97,21 @@ no_turn why (inl none) = none-some (end.Turn why) (sym none)
 no_turn why (inr long) = let other : Some (end.Turn why) ≡ Some end.TooLong = long in cc
 
 module _ (asks : (k : Contents) (seat : ℕ) (now : Stamp) (login : Option Login) (line : Option (List ℕ)) (body : List ℕ)
-    (says says' : Said) (text text' : List ℕ) (made made' : List Turn) (next next' : Option Login)
+    (says says' : ReplyKind) (text text' : List ℕ) (made made' : List Turn) (next next' : Option Login)
     → IsAnswer k seat now login line body says text made next → IsAnswer k seat now login line body says' text' made' next'
     → messages_of made ≡ messages_of made')
     (answer : (k : Contents) (seat : ℕ) (now : Stamp) (login : Option Login) (line : Option (List ℕ)) (body : List ℕ)
-    (says says' : Said) (text text' : List ℕ) (made : List Turn) (next next' : Option Login)
+    (says says' : ReplyKind) (text text' : List ℕ) (made : List Turn) (next next' : Option Login)
     → IsAnswer k seat now login line body says text made next → IsAnswer k seat now login line body says' text' made next'
     → (says ≡ says') × (text ≡ text') × (next ≡ next'))
     (k : Contents) (seat : ℕ) where
   module _ (now : Stamp) where
     -- of two answers, both ask the same, and are the same where they make the same turns
-    abbrev AreOne : List Turn → List Turn → Stands → Stands → List ℕ → List ℕ → Type 0
+    abbrev AreOne : List Turn → List Turn → SessionState → SessionState → List ℕ → List ℕ → Type 0
     AreOne made made' next next' text text' =
         (messages_of made ≡ messages_of made') × (made ≡ made' → (next ≡ next') × (text ≡ text'))
 
-    one_answered : (s : Stands) (line body : List ℕ) (checked : Bool) (digit : Option ℕ) (made made' : List Turn) (next next' : Stands)
+    one_answered : (s : SessionState) (line body : List ℕ) (checked : Bool) (digit : Option ℕ) (made made' : List Turn) (next next' : SessionState)
         (text text' : List ℕ) → IsAnswered k seat now s line body checked digit made next text
         → IsAnswered k seat now s line body checked digit made' next' text' → AreOne made made' next next' text text'
     one_answered s line body checked digit made made' next next' text text' p q = (
@@ -122,20 +122,20 @@ module _ (asks : (k : Contents) (seat : ℕ) (now : Stamp) (login : Option Login
           (subst (λ (m : List Turn). IsAnswer k seat now s.place (line_with digit line) body q.says q.reply m next'.place) (sym same)
           q.answer)
           in (
-            same_stands next next' one.2
-                (p.last ∙ (ap₂ (λ (says : Said) (reply : List ℕ). last_after s.last checked digit says reply) one.0 one.1 ∙ sym q.last))
+            same_state next next' one.2
+                (p.last ∙ (ap₂ (λ (says : ReplyKind) (reply : List ℕ). last_after s.last checked digit says reply) one.0 one.1 ∙ sym q.last))
                 (p.digit_is ∙ sym q.digit_is) (p.gaps_are ∙ sym q.gaps_are),
-            p.spelled ∙ (ap₂ (λ (says : Said) (reply : List ℕ). text_said s.last checked digit says reply) one.0 one.1 ∙ sym q.spelled),
+            p.spelled ∙ (ap₂ (λ (says : ReplyKind) (reply : List ℕ). text_said s.last checked digit says reply) one.0 one.1 ∙ sym q.spelled),
           ),
     )
 
     -- what makes no turn and is answered so
-    one_unasked : (s : Stands) (all : List ℕ) (made made' : List Turn) (next next' : Stands) (text text' : List ℕ)
+    one_unasked : (s : SessionState) (all : List ℕ) (made made' : List Turn) (next next' : SessionState) (text text' : List ℕ)
         → (made ≡ []) × (next ≡ s) × (text ≡ all) → (made' ≡ []) × (next' ≡ s) × (text' ≡ all) → AreOne made made' next next' text text'
     one_unasked s all made made' next next' text text' p q =
         (ap (λ (t : List Turn). messages_of t) (p.0 ∙ sym q.0), λ same. (p.1 ∙ sym q.1, p.2 ∙ sym q.2))
 
-    one_read : (s : Stands) (line : List ℕ) (reading : Reading) (made made' : List Turn) (next next' : Stands) (text text' : List ℕ)
+    one_read : (s : SessionState) (line : List ℕ) (reading : Reading) (made made' : List Turn) (next next' : SessionState) (text text' : List ℕ)
         → IsReadAndAnswered k seat now s line reading made next text → IsReadAndAnswered k seat now s line reading made' next' text'
         → AreOne made made' next next' text text'
     one_read s line (PlainLine body) made made' next next' text text' p q =
@@ -144,14 +144,14 @@ module _ (asks : (k : Contents) (seat : ℕ) (now : Stamp) (login : Option Login
         one_answered s line body true digit made made' next next' text text' p q
     one_read s line WrongLine made made' next next' text text' p q = one_unasked s _ made made' next next' text text' p q
 
-    one_line : (s : Stands) (line : List ℕ) (made made' : List Turn) (next next' : Stands) (text text' : List ℕ)
+    one_line : (s : SessionState) (line : List ℕ) (made made' : List Turn) (next next' : SessionState) (text text' : List ℕ)
         → IsHeard k seat now s line made next text → IsHeard k seat now s line made' next' text' → AreOne made made' next next' text text'
     one_line s [] made made' next next' text text' p q = one_unasked s [] made made' next next' text text' p q
     one_line s (byte ∷ bytes) made made' next next' text text' p q =
         one_read s (byte ∷ bytes) (read_line (byte ∷ bytes)) made made' next next' text text' p q
 
     -- lines that are answered at a legal journal, with more behind them
-    one_hearing : (at : State) (lines : List (List ℕ)) (s : Stands) (made made' : List Turn) (next next' : Stands) (text text' : List ℕ)
+    one_hearing : (at : State) (lines : List (List ℕ)) (s : SessionState) (made made' : List Turn) (next next' : SessionState) (text text' : List ℕ)
         (more more' : List Turn) → IsLegalFrom (facts_of k) at (made ++ more) → IsLegalFrom (facts_of k) at (made' ++ more')
         → AreHeard k seat now lines s made next text → AreHeard k seat now lines s made' next' text'
         → (made ≡ made') × (next ≡ next') × (text ≡ text')
@@ -176,7 +176,7 @@ module _ (asks : (k : Contents) (seat : ℕ) (now : Stamp) (login : Option Login
         let rest =
         one_hearing (state_from (facts_of k) at p.first_made) lines p.between p.then_made q.then_made next next' p.then_text q.then_text
         more more' behind behind' p.rest
-        (subst (λ (b : Stands). AreHeard k seat now lines b q.then_made next' q.then_text) (sym here.0) q.rest) in (
+        (subst (λ (b : SessionState). AreHeard k seat now lines b q.then_made next' q.then_text) (sym here.0) q.rest) in (
           p.all_made ∙ (ap₂ (λ (a b : List Turn). a ++ b) first rest.0 ∙ sym q.all_made),
           rest.1,
           p.all_text ∙ (ap₂ (λ (a b : List ℕ). a ++ b) here.1 rest.2 ∙ sym q.all_text),
@@ -193,7 +193,7 @@ module _ (asks : (k : Contents) (seat : ℕ) (now : Stamp) (login : Option Login
         (p.0 ∙ sym q.0, p.1 ∙ sym q.1, p.2 ∙ sym q.2)
     one_piece now at None h piece made made' next next' text text' more more' legal legal' well well' (inl p) (inl q) =
         let one =
-        one_hearing now at (lines_in h.begun piece) h.standing made made' next.standing next'.standing text text' more more' legal legal'
+        one_hearing now at (lines_in h.begun piece) h.state made made' next.state next'.state text text' more more' legal legal'
         p.heard q.heard in
         let begun : next.begun ≡ next'.begun = p.begun ∙ sym q.begun in (
           one.0,

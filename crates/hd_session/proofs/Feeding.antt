@@ -1,17 +1,18 @@
 -- Pieces that are fed one after the other.
 use Rattle.std.proofs.Common.{◌≡◌, ◌⊎◌, inl, inr, ℕ, ◌+◌, ◌*◌, ◌≤◌, Bool, true, false, Option, None, Some, List, [], ◌∷◌, ◌++◌, length}
-use Rattle.std.proofs.Common.{if◌then◌else◌, arith, refl, sym, ap, ap₂, ◌∙◌, subst, append_assoc, append-nil, length-append}
+use Rattle.std.proofs.Common.{Vec, if◌then◌else◌, arith, refl, sym, ap, ap₂, ◌∙◌, subst, append_assoc, append-nil, length-append}
 use Rattle.std.proofs.lemmas.Option.{none-some}
 use Rattle.hd_date.specs.Stamps.{Stamp}
 use Rattle.hd_rules.specs.Journal.{Turn}
 use Rattle.hd_catalogue.specs.Contents.{Contents}
 use Rattle.hd_field.specs.Streams.{Begun, begun_after, after_return, lines_in}
 use Rattle.hd_journal.specs.declared.fault.TurnFault.{TurnFault}
+use Rattle.hd_journal.specs.declared.office.Office.{Ghosts}
 use Rattle.hd_session.specs.declared.ended.Ended.{Ended}
 use Rattle.hd_session.specs.declared.ended.Ended.TheVariants as end
-use Rattle.hd_session.specs.Standing.{Stands}
-use Rattle.hd_session.specs.Sessions.{Answers, AreHeard, EndsAtLine, Feeds, Hearing, HearsAll, IsCause, IsFed, IsFedAt, Room}
-use Rattle.hd_session.proofs.Hearing.{heard_append}
+use Rattle.hd_session.specs.States.{State}
+use Rattle.hd_session.specs.Sessions.{Answers, AreHeard, EndsAtLine, Feeds, Hearing, HearsAll, IsCause, IsFed, IsFedAt, Room, room_of}
+use Rattle.hd_session.proofs.Hearing.{answers_append, heard_append}
 
 -- a session ends where its line has grown too long
 abbrev pub end_of : Bool → Option Ended
@@ -40,7 +41,7 @@ nothing_heard b [] long = (refl, refl)
 nothing_heard b (byte ∷ bytes) long = rw long (refl, refl)
 
 -- a cause at a line that more lines come before, with more room by what the replies to these take
-pub cause_later : (k : Contents) (faults : TurnFault → Type 0) (room left : Room) (s : Stands) (more earlier all : ℕ) (line : List ℕ)
+pub cause_later : (k : Contents) (faults : TurnFault → Type 0) (room left : Room) (s : State) (more earlier all : ℕ) (line : List ℕ)
     (why : TurnFault) → all ≡ more + earlier → room.before ≤ left.before + 2048 * more → room.after ≤ left.after
     → IsCause k faults left s earlier line why → IsCause k faults room s all line why
 cause_later k faults room left s more earlier all line why is fits leaves (inl turn) = inl turn
@@ -56,8 +57,8 @@ module _ (cuts : Cuts) (k : Contents) (seat : ℕ) (faults : TurnFault → Type 
       let lines : lines_in h.begun (first ++ second) ≡ lines_in h.begun first ++ lines_in between.begun second =
       cuts.lines h.begun first second ∙ ap (λ (x : Begun). lines_in h.begun first ++ lines_in x second) (sym a.begun) in
       record {
-        heard = subst (λ (ls : List (List ℕ)). AreHeard k seat now ls h.standing (made ++ made') h'.standing (text ++ text')) (sym lines)
-            (heard_append k seat now (lines_in h.begun first) (lines_in between.begun second) h.standing between.standing h'.standing
+        heard = subst (λ (ls : List (List ℕ)). AreHeard k seat now ls h.state (made ++ made') h'.state (text ++ text')) (sym lines)
+            (heard_append k seat now (lines_in h.begun first) (lines_in between.begun second) h.state between.state h'.state
             made made' text text' a.heard b.heard);
         begun = b.begun ∙ (ap (λ (x : Begun). begun_after x second) a.begun ∙ sym (cuts.rest h.begun first second));
         ended = b.ended;
@@ -77,10 +78,10 @@ module _ (cuts : Cuts) (k : Contents) (seat : ℕ) (faults : TurnFault → Type 
         later = b.later;
         split = lines ∙ (ap (λ (ls : List (List ℕ)). lines_in h.begun first ++ ls) b.split
             ∙ sym (append_assoc (lines_in h.begun first) b.before (b.line ∷ b.later)));
-        heard = heard_append k seat now (lines_in h.begun first) b.before h.standing between.standing h'.standing made made' text text'
+        heard = heard_append k seat now (lines_in h.begun first) b.before h.state between.state h'.state made made' text text'
             a.heard b.heard;
         why = b.why;
-        cause = cause_later k faults room left h'.standing (length (lines_in h.begun first)) (length b.before)
+        cause = cause_later k faults room left h'.state (length (lines_in h.begun first)) (length b.before)
             (length (lines_in h.begun first ++ b.before)) b.line b.why (length-append (lines_in h.begun first) b.before) fits leaves b.cause;
         begun = b.begun;
         ended = b.ended;
@@ -96,7 +97,7 @@ module _ (cuts : Cuts) (k : Contents) (seat : ℕ) (faults : TurnFault → Type 
       cuts.lines h.begun first second ∙ (ap (λ (x : Begun). lines_in h.begun first ++ lines_in x second) (sym a.begun)
       ∙ (ap (λ (ls : List (List ℕ)). lines_in h.begun first ++ ls) dead.0 ∙ append-nil (lines_in h.begun first))) in
       record {
-        heard = subst (λ (ls : List (List ℕ)). AreHeard k seat now ls h.standing made between.standing text) (sym lines) a.heard;
+        heard = subst (λ (ls : List (List ℕ)). AreHeard k seat now ls h.state made between.state text) (sym lines) a.heard;
         begun = dead.1 ∙ (ap (λ (x : Begun). begun_after x second) a.begun ∙ sym (cuts.rest h.begun first second));
         ended = a.ended;
       }
@@ -161,7 +162,7 @@ module _ (k : Contents) (seat : ℕ) (faults : TurnFault → Type 0) (now : Stam
     split = a.split;
     heard = a.heard;
     why = a.why;
-    cause = cause_later k faults less room h'.standing 0 (length a.before) (length a.before) a.line a.why (omega arith)
+    cause = cause_later k faults less room h'.state 0 (length a.before) (length a.before) a.line a.why (omega arith)
         (omega (arith, fits)) leaves a.cause;
     begun = a.begun;
     ended = a.ended;
@@ -178,60 +179,12 @@ module _ (k : Contents) (seat : ℕ) (faults : TurnFault → Type 0) (now : Stam
   fed_ended room piece h why is =
       subst (λ (e : Option Ended). IsFedAt k seat faults e now room h piece [] h []) (sym is) (refl, refl, refl)
 
-  pub feeds_ended : (room : Room) (piece : List ℕ) (h : Hearing) (why : Ended) (turns : List Turn) (out : List ℕ) → h.ended ≡ Some why
-      → Feeds k seat faults now room h piece h turns turns out out
-  feeds_ended room piece h why turns out is = record {
-    made = [];
-    text = [];
-    fed = fed_ended room piece h why is;
-    turns_are = sym (append-nil turns);
-    out_is = sym (append-nil out);
-  }
-
   -- and one that hasn't, some of it
   pub fed_open : (room : Room) (piece : List ℕ) (made : List Turn) (h h' : Hearing) (text : List ℕ) → h.ended ≡ None
       → HearsAll k seat now h piece made h' text ⊎ EndsAtLine k seat faults now room h piece made h' text
       → IsFed k seat faults now room h piece made h' text
   fed_open room piece made h h' text is hears =
       subst (λ (e : Option Ended). IsFedAt k seat faults e now room h piece made h' text) (sym is) hears
-
-  -- all lines of it are answered
-  pub feeds_all : (room : Room) (piece : List ℕ) (h h' : Hearing) (turns turns' : List Turn) (out out' : List ℕ) → h.ended ≡ None
-      → h'.begun ≡ begun_after h.begun piece → h'.ended ≡ end_of h'.begun.too_long
-      → Answers k seat now (lines_in h.begun piece) h.standing h'.standing turns turns' out out'
-      → Feeds k seat faults now room h piece h' turns turns' out out'
-  feeds_all room piece h h' turns turns' out out' is begun ended answers = record {
-    made = answers.made;
-    text = answers.text;
-    fed = fed_open room piece answers.made h h' answers.text is (inl (record { heard = answers.heard; begun = begun; ended = ended }));
-    turns_are = answers.turns_are;
-    out_is = answers.out_is;
-  }
-
-  -- or those before one that can't be
-  pub feeds_until : (room left : Room) (piece : List ℕ) (h h' : Hearing) (turns turns' : List Turn) (out out' : List ℕ)
-      (before later : List (List ℕ)) (line : List ℕ) (why : TurnFault) → h.ended ≡ None → lines_in h.begun piece ≡ before ++ line ∷ later
-      → room.before ≤ left.before + 2048 * length before → room.after ≤ left.after → IsCause k faults left h'.standing 0 line why
-      → h'.begun ≡ after_return → h'.ended ≡ Some (end.Turn why)
-      → Answers k seat now before h.standing h'.standing turns turns' out out'
-      → Feeds k seat faults now room h piece h' turns turns' out out'
-  feeds_until room left piece h h' turns turns' out out' before later line why is split fits leaves cause begun ended answers = record {
-    made = answers.made;
-    text = answers.text;
-    fed = fed_open room piece answers.made h h' answers.text is (inr (record {
-      before = before;
-      line = line;
-      later = later;
-      split = split;
-      heard = answers.heard;
-      why = why;
-      cause = cause_later k faults room left h'.standing (length before) 0 (length before) line why (omega arith) fits leaves cause;
-      begun = begun;
-      ended = ended;
-    }));
-    turns_are = answers.turns_are;
-    out_is = answers.out_is;
-  }
 
   -- nothing is fed
   pub nothing_fed_at : (e : Option Ended) (room : Room) (h : Hearing) → h.ended ≡ e → IsSettled h
@@ -250,3 +203,51 @@ module _ (k : Contents) (seat : ℕ) (faults : TurnFault → Type 0) (now : Stam
       absurd (none-some why (sym none ∙ (ap (λ (x : Hearing). x.ended) a.1 ∙ is)))
   settled_at None room piece made h h' text is (inl a) none = short_where_open h'.begun.too_long (sym a.ended ∙ none)
   settled_at None room piece made h h' text is (inr a) none = absurd (none-some (end.Turn a.why) (sym none ∙ a.ended))
+
+-- At an office.
+module _ {A O : Type 0} (office : Ghosts O A) (now : Stamp) where
+  -- a session that has ended hears nothing
+  pub feeds_ended : (old : O) (o : Vec ℕ A) (piece : List ℕ) (h : Hearing) (why : Ended) → h.ended ≡ Some why
+      → Feeds office old old o o now h piece h
+  feeds_ended old o piece h why is = record {
+    made = [];
+    text = [];
+    fed = fed_ended (office.keeps old).contents (office.keeps old).seat office.faults now (room_of o o) piece h why is;
+    works = record { turns = sym (append-nil (office.turns old)); same = refl; holds = λ held. held };
+    extends = record { items = sym (append-nil o.items); len = omega arith; capacity = omega arith };
+    short = omega arith;
+    known = λ known. known;
+  }
+
+  -- the lines of a piece are answered up to one that can't be
+  pub feeds_until : (old between new : O) (o p q : Vec ℕ A) (piece : List ℕ) (h h' : Hearing) (s : State) (before later : List (List ℕ))
+      (line : List ℕ) (why : TurnFault) → h.ended ≡ None → lines_in h.begun piece ≡ before ++ line ∷ later
+      → h'.begun ≡ after_return → h'.ended ≡ Some (end.Turn why)
+      → Answers office old between o p now before h.state s → Answers office between new p q now [] s h'.state
+      → IsCause (office.keeps between).contents office.faults (room_of p q) s 0 line why
+      → Feeds office old new o q now h piece h'
+  feeds_until old between new o p q piece h h' s before later line why is split begun ended earlier none cause =
+      let all : Answers office old new o q now before h.state h'.state =
+      rw append-nil at (answers_append office now old between new o p q before [] h.state s h'.state earlier none) in
+      let here : IsCause (office.keeps old).contents office.faults (room_of p q) h'.state 0 line why =
+      rw none.heard.1 (rw earlier.works.same at cause) in
+      record {
+        made = all.made;
+        text = all.text;
+        fed = fed_open _ _ office.faults now (room_of o q) piece all.made h h' all.text is (inr (record {
+          before = before;
+          line = line;
+          later = later;
+          split = split;
+          heard = all.heard;
+          why = why;
+          cause = cause_later _ office.faults (room_of o q) (room_of p q) h'.state (length before) 0 (length before) line why (omega arith)
+              (omega (arith, earlier.short, earlier.extends.len, earlier.extends.capacity)) (omega arith) here;
+          begun = begun;
+          ended = ended;
+        }));
+        works = all.works;
+        extends = all.extends;
+        short = omega (arith, all.short, ap (λ (ls : List (List ℕ)). length ls) split, length-append before (line ∷ later));
+        known = all.known;
+      }

@@ -3,7 +3,7 @@ use Rattle.std.proofs.Common.{◌≡◌, ◌<◌, ℕ, zero, suc, subst, refl, a
 use Rattle.hd_catalogue.specs.Contents.{Contents}
 use Rattle.hd_session.specs.Sessions.{Hearing, new_session}
 use Rattle.hd_session.specs.Scripts.{AreKnownTo, session_at}
-use Rattle.hd_session.specs.Standing.{IsKnownTo}
+use Rattle.hd_session.specs.States.{IsKnownTo}
 
 -- what stands at a place that there is
 pub at_place : (sessions : List Hearing) (at : ℕ) (a b : Hearing) → at < length sessions → get_or sessions at a ≡ get_or sessions at b
@@ -22,11 +22,11 @@ each_goes_on P (s ∷ ss) (suc at) session all holds (suc i) = each_goes_on P ss
 
 -- one of them
 pub one_of_known : (k : Contents) (sessions : List Hearing) (at : ℕ) (session : Hearing) → AreKnownTo k sessions → at < length sessions
-    → IsKnownTo k (get_or sessions at session).standing
+    → IsKnownTo k (get_or sessions at session).state
 one_of_known k sessions at session all within =
-    subst (λ (s : Hearing). IsKnownTo k s.standing) (at_place sessions at new_session session within) (all at)
+    subst (λ (s : Hearing). IsKnownTo k s.state) (at_place sessions at new_session session within) (all at)
 
 -- after one of them has gone on
 pub one_goes_on : (k : Contents) (sessions : List Hearing) (at : ℕ) (session : Hearing) → AreKnownTo k sessions
-    → IsKnownTo k session.standing → AreKnownTo k (set sessions at session)
-one_goes_on k sessions at session all known = each_goes_on (λ (s : Hearing). IsKnownTo k s.standing) sessions at session all known
+    → IsKnownTo k session.state → AreKnownTo k (set sessions at session)
+one_goes_on k sessions at session all known = each_goes_on (λ (s : Hearing). IsKnownTo k s.state) sessions at session all known

@@ -1,6 +1,6 @@
 -- Pieces of several streams.
 use Rattle.std.proofs.Common.{◌≡◌, ◌==◌, ◌<◌, ℕ, zero, true, false, cond, List, [], ◌∷◌, ◌++◌, Some, length}
-use Rattle.std.proofs.Common.{get_or, set, map, filter, refl, sym, ap, ◌∙◌, subst, arith, append_assoc, append-nil, eqb-true, length-set}
+use Rattle.std.proofs.Common.{Vec, get_or, set, map, filter, refl, sym, ap, ◌∙◌, subst, arith, append_assoc, append-nil, eqb-true, length-set}
 use Rattle.std.proofs.lemmas.Bool.{eqb-false}
 use Rattle.std.proofs.lemmas.List.{get_or-set_other, get_or-set_same}
 use Rattle.std.proofs.lemmas.List.Concat.{flat_map-append}
@@ -12,11 +12,13 @@ use Rattle.hd_catalogue.specs.Contents.{Contents}
 use Rattle.hd_journal.specs.declared.fault.TurnFault.{TurnFault}
 use Rattle.hd_journal.specs.declared.fault.TurnFault.TheVariants.{Memory}
 use Rattle.hd_session.specs.declared.ended.Ended.TheVariants as end
+use Rattle.hd_journal.specs.declared.office.Office.{Ghosts}
 use Rattle.hd_session.specs.Sessions.{AreFedTo, Feeds, Hearing, IsFed, Piece, Room, any_room, new_session, stream}
 use Rattle.hd_session.specs.Scripts.{AreFed, Event, Plays, Step, events_of, pieces_of, session_at, text_of, turns_of, replies_written}
 use Rattle.hd_session.proofs.Causes.{fed_other}
 use Rattle.hd_session.proofs.Feeding.{Cuts, IsSettled, fed_after_fed, less_room, nothing_fed_at, settled_at}
-use Rattle.hd_session.proofs.Knowing.{each_goes_on}
+use Rattle.hd_session.proofs.Hearing.{works_append}
+use Rattle.hd_session.proofs.Knowing.{each_goes_on, one_goes_on}
 use Rattle.hd_session.proofs.Strangers.{all_behind}
 
 -- all are at one present
@@ -153,72 +155,59 @@ written_append i events then =
 pub turns_append : (events then : List Event) → turns_of (events ++ then) ≡ turns_of events ++ turns_of then
 turns_append events then = flat_map-append (λ (event : Event). event.made) events then
 
-module _ (k : Contents) (seat : ℕ) (faults : TurnFault → Type 0) where
-  -- as many sessions are left
-  pub fed_length : (steps : List Step) (ss ss' : List Hearing) (events : List Event) → AreFed k seat faults steps ss events ss'
-      → length ss' ≡ length ss
-  fed_length [] ss ss' events (none, same) = ap (λ (s : List Hearing). length s) same
-  fed_length (step ∷ steps) ss ss' [] none = absurd none
-  fed_length (step ∷ steps) ss ss' (event ∷ events) first =
-      fed_length steps (set ss step.session first.next) ss' events first.rest ∙ length-set ss step.session first.next
-
-  -- nothing is played
-  pub plays_none : (ss : List Hearing) (turns : List Turn) (outs : List (List ℕ)) → Plays k seat faults [] ss ss turns turns outs outs
-  plays_none ss turns outs = record {
-    events = [];
-    fed = (refl, refl);
-    turns_are = sym (append-nil turns);
-    outs_are = λ i within. sym (append-nil _);
-  }
-
+module _ {A O : Type 0} (office : Ghosts O A) where
   -- some steps are played, and then some more
-  pub plays_append : (steps more : List Step) (ss between ss' : List Hearing) (a b c : List Turn) (o p q : List (List ℕ))
-      → Plays k seat faults steps ss between a b o p → Plays k seat faults more between ss' b c p q
-      → Plays k seat faults (steps ++ more) ss ss' a c o q
-  plays_append steps more ss between ss' a b c o p q first rest = record {
-    events = first.events ++ rest.events;
-    fed = fed_append k seat faults steps more ss between ss' first.events rest.events first.fed rest.fed;
-    turns_are = rest.turns_are ∙ (ap (λ (t : List Turn). t ++ turns_of rest.events) first.turns_are
-        ∙ (append_assoc a (turns_of first.events) (turns_of rest.events)
-        ∙ ap (λ (t : List Turn). a ++ t) (sym (turns_append first.events rest.events))));
-    outs_are = λ i within.
-        rest.outs_are i (rw (fed_length steps ss between first.events first.fed) within)
-        ∙ (ap (λ (t : List ℕ). t ++ replies_written i rest.events) (first.outs_are i within)
-        ∙ (append_assoc (get_or o i []) (replies_written i first.events) (replies_written i rest.events)
-        ∙ ap (λ (t : List ℕ). get_or o i [] ++ t) (sym (written_append i first.events rest.events))));
-  }
+  pub plays_append : (old between new : O) (steps more : List Step) (ss then ss' : List Hearing) (o p q : List (List ℕ))
+      → Plays office old between steps ss then o p → Plays office between new more then ss' p q
+      → Plays office old new (steps ++ more) ss ss' o q
+  plays_append old between new steps more ss then ss' o p q first rest =
+      let same = first.works.same in
+      record {
+        events = first.events ++ rest.events;
+        fed = fed_append _ _ _ steps more ss then ss' first.events rest.events first.fed (rw same at rest.fed);
+        works = rw turns_append (works_append office old between new (turns_of first.events) (turns_of rest.events) first.works rest.works);
+        outs_are = λ i within.
+            rest.outs_are i (rw first.sizes.0 within)
+            ∙ (ap (λ (t : List ℕ). t ++ replies_written i rest.events) (first.outs_are i within)
+            ∙ (append_assoc (get_or o i []) (replies_written i first.events) (replies_written i rest.events)
+            ∙ ap (λ (t : List ℕ). get_or o i [] ++ t) (sym (written_append i first.events rest.events))));
+        sizes = (rest.sizes.0 ∙ first.sizes.0, rest.sizes.1 ∙ first.sizes.1);
+        known = λ known. (rw same at rest.known) (first.known known);
+      }
 
   -- one step is played
-  pub plays_one : (step : Step) (ss : List Hearing) (room : Room) (next : Hearing) (turns turns' : List Turn) (outs : List (List ℕ))
-      (out : List ℕ) → step.session < length ss → length outs ≡ length ss
-      → Feeds k seat faults step.piece.now room (session_at ss step.session) step.piece.bytes next turns turns'
-      (get_or outs step.session []) out
-      → Plays k seat faults (step ∷ []) ss (set ss step.session next) turns turns' outs (set outs step.session out)
-  plays_one step ss room next turns turns' outs out within as_many feeds =
+  pub plays_one : (old new : O) (o p : Vec ℕ A) (step : Step) (ss : List Hearing) (next : Hearing) (outs : List (List ℕ))
+      → step.session < length ss → length outs ≡ length ss → o.items ≡ get_or outs step.session []
+      → Feeds office old new o p step.piece.now (session_at ss step.session) step.piece.bytes next
+      → Plays office old new (step ∷ []) ss (set ss step.session next) outs (set outs step.session p.items)
+  plays_one old new o p step ss next outs within as_many here feeds =
       let event : Event = record { session = step.session; made = feeds.made; text = feeds.text; ended = next.ended } in
       record {
         events = event ∷ [];
         fed = record {
           next = next;
           same = refl;
-          fed = less_room k seat faults step.piece.now room any_room step.piece.bytes feeds.made (session_at ss step.session) next feeds.text
+          fed = less_room _ _ _ step.piece.now _ any_room step.piece.bytes feeds.made (session_at ss step.session) next feeds.text
               (omega arith) (omega arith) feeds.fed;
           ended = refl;
           rest = (refl, refl);
         };
-        turns_are = feeds.turns_are ∙ ap (λ (t : List Turn). turns ++ t) (sym (append-nil feeds.made));
+        works = rw append-nil feeds.works;
         outs_are = λ i inside.
             elim (step.session == i) as (λ t. (step.session == i) ≡ t
-            → get_or (set outs step.session out) i [] ≡ get_or outs i [] ++ text_of (cond t (event ∷ []) [])) [
+            → get_or (set outs step.session p.items) i [] ≡ get_or outs i [] ++ text_of (cond t (event ∷ []) [])) [
               | true ↦ λ is.
-                  let here : step.session ≡ i = eqb-true _ _ is in
-                  let there : get_or (set outs step.session out) i [] ≡ out =
-                  subst (λ (n : ℕ). get_or (set outs step.session out) n [] ≡ out) here
-                  (get_or-set_same outs step.session out [] (rw as_many within)) in
-                  there ∙ (feeds.out_is ∙ (ap (λ (n : ℕ). get_or outs n [] ++ feeds.text) here
-                  ∙ ap (λ (t : List ℕ). get_or outs i [] ++ t) (sym (append-nil feeds.text))))
+                  let at : step.session ≡ i = eqb-true _ _ is in
+                  let there : get_or (set outs step.session p.items) i [] ≡ p.items =
+                  subst (λ (n : ℕ). get_or (set outs step.session p.items) n [] ≡ p.items) at
+                  (get_or-set_same outs step.session p.items [] (rw as_many within)) in
+                  there ∙ (feeds.extends.items ∙ (ap (λ (t : List ℕ). t ++ feeds.text) here
+                  ∙ (ap (λ (n : ℕ). get_or outs n [] ++ feeds.text) at
+                  ∙ ap (λ (t : List ℕ). get_or outs i [] ++ t) (sym (append-nil feeds.text)))))
               | false ↦ λ is.
-                  get_or-set_other outs step.session i out [] (λ same. eqb-false step.session i is (sym same))
+                  get_or-set_other outs step.session i p.items [] (λ same. eqb-false step.session i is (sym same))
                   ∙ sym (append-nil (get_or outs i []))
             ] refl;
+        sizes = (length-set ss step.session next, length-set outs step.session p.items);
+        known = λ known. one_goes_on _ ss step.session next known (feeds.known (known step.session));
       }

@@ -1,5 +1,5 @@
 pub mod Trailers
-pub mod Standing
+pub mod States
 pub mod Sessions
 pub mod Scripts
 pub mod Endings

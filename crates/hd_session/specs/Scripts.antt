@@ -1,15 +1,17 @@
 -- Several sessions, and the pieces of their streams in the order in which they come.
 use Rattle.std.specs.Prelude.{◌≡◌, ◌==◌, ℕ, ◌<◌, ◌≤◌, List, [], ◌∷◌, ◌++◌, All, Option, length, map}
-use Rattle.std.specs.Prelude.{flat_map, filter, slice_index_or, slice_set}
+use Rattle.std.specs.Prelude.{Result, Ok, Err, flat_map, filter, slice_index_or, slice_set}
 use Rattle.std.specs.Borrow.{Bor}
 use Rattle.hd_date.specs.Stamps.{Stamp}
 use Rattle.hd_rules.specs.Journal.{Turn}
 use Rattle.hd_catalogue.specs.Contents.{Contents}
 use Rattle.hd_journal.specs.declared.fault.TurnFault.{TurnFault}
+use Rattle.hd_journal.specs.declared.office.Office.{Ghosts}
+use Rattle.hd_exchange.specs.Works.{Works}
 use Rattle.hd_session.specs.declared.ended.Ended.{Ended}
 use Rattle.hd_session.specs.declared.script.ScriptFault.{ScriptFault}
 use Rattle.hd_session.specs.declared.script.ScriptFault.TheVariants.{Stranger}
-use Rattle.hd_session.specs.Standing.{IsKnownTo}
+use Rattle.hd_session.specs.States.{IsKnownTo}
 use Rattle.hd_session.specs.Sessions.{Hearing, IsFed, Piece, any_room, new_session}
 
 -- One step of a script: a piece of a session's stream. Sessions are counted from 0.
@@ -51,7 +53,7 @@ replies_written i events = text_of (events_of i events)
 
 -- each stands as a terminal of the catalogue, or as none
 abbrev pub AreKnownTo : Contents → List Hearing → Type 0
-AreKnownTo k sessions = (i : ℕ) → IsKnownTo k (session_at sessions i).standing
+AreKnownTo k sessions = (i : ℕ) → IsKnownTo k (session_at sessions i).state
 
 -- Scripts at a seat of a library, whose office can give these faults.
 module _ (k : Contents) (seat : ℕ) (faults : TurnFault → Type 0) where
@@ -71,15 +73,22 @@ module _ (k : Contents) (seat : ℕ) (faults : TurnFault → Type 0) where
   AreFed (step ∷ steps) ss [] ss' = ⊥
   AreFed (step ∷ steps) ss (event ∷ events) ss' = FeedsOne (AreFed steps) step ss event events ss'
 
-  -- A script is played at an office: the turns of its events are added there, and to each session is appended
-  -- what is written to it.
-  pub record Plays (steps : List Step) (ss ss' : List Hearing) (turns turns' : List Turn)
-      (outs outs' : List (List ℕ)) : Type 0 where
-    pub events : List Event
-    pub fed : AreFed steps ss events ss'
-    pub turns_are : turns' ≡ turns ++ turns_of events
-    pub outs_are : (i : ℕ) → i < length ss
-        → slice_index_or outs' i [] ≡ slice_index_or outs i [] ++ replies_written i events
+-- A script is played at an office, which makes the turns of its events: to each session is appended what is
+-- written to it, and no session comes or goes.
+pub record Plays {A O : Type 0} (office : Ghosts O A) (old new : O) (steps : List Step)
+    (ss ss' : List Hearing) (outs outs' : List (List ℕ)) : Type 0 where
+  pub events : List Event
+  pub fed : AreFed (office.keeps old).contents (office.keeps old).seat office.faults steps ss events ss'
+  pub works : Works office old new (turns_of events)
+  pub outs_are : (i : ℕ) → i < length ss
+      → slice_index_or outs' i [] ≡ slice_index_or outs i [] ++ replies_written i events
+  pub sizes : (length ss' ≡ length ss) × (length outs' ≡ length outs)
+  pub known : AreKnownTo (office.keeps old).contents ss → AreKnownTo (office.keeps old).contents ss'
+
+-- the steps that are played: all of a script, or none where a piece of it names no session
+abbrev pub played : Result (Unit {0}) ScriptFault → List Step → List Step
+played (Ok _) steps = steps
+played (Err _) steps = []
 
 -- pieces as they are handed in, all at one present
 abbrev pub steps_of : Stamp → List (ℕ × Bor (List ℕ)) → List Step

@@ -1,5 +1,5 @@
 -- Sessions: the lines of a stream, each answered in turn.
-use Rattle.std.specs.Prelude.{◌≡◌, ◌⊎◌, ℕ, ◌+◌, ◌-◌, ◌*◌, ◌<◌, List, [], ◌∷◌, ◌++◌, length, flat_map}
+use Rattle.std.specs.Prelude.{◌≡◌, ◌⊎◌, ℕ, ◌+◌, ◌-◌, ◌*◌, ◌<◌, ◌≤◌, List, [], ◌∷◌, ◌++◌, length, flat_map}
 use Rattle.std.specs.Prelude.{Option, None, Some, Vec, if◌then◌else◌, vec_capacity, vec_len}
 use Rattle.hd_date.specs.Stamps.{Stamp}
 use Rattle.hd_rules.specs.Journal.{Turn}
@@ -7,20 +7,22 @@ use Rattle.hd_catalogue.specs.Contents.{Contents}
 use Rattle.hd_field.specs.Streams.{Begun, stream_start, lines_in, begun_after, after_return}
 use Rattle.hd_journal.specs.declared.fault.TurnFault.{TurnFault}
 use Rattle.hd_journal.specs.declared.fault.TurnFault.TheVariants.{Memory}
+use Rattle.hd_journal.specs.declared.office.Office.{Ghosts}
+use Rattle.hd_exchange.specs.Works.{Extends, Works}
 use Rattle.hd_session.specs.declared.ended.Ended.{Ended}
 use Rattle.hd_session.specs.declared.ended.Ended.TheVariants as end
-use Rattle.hd_session.specs.Standing.{Stands, IsHeard, LineAsks, nowhere}
+use Rattle.hd_session.specs.States.{State, IsHeard, IsKnownTo, LineAsks, new_state}
 
 -- A session, as contracts see it: what has come of its line, where it stands, and whether it has ended and
 -- why.
 pub record Hearing : Type 0 where
   pub begun : Begun
-  pub standing : Stands
+  pub state : State
   pub ended : Option Ended
 
 -- a new session
 abbrev pub new_session : Hearing
-new_session = record { begun = stream_start; standing = nowhere; ended = None }
+new_session = record { begun = stream_start; state = new_state; ended = None }
 
 -- A piece of a stream, and the present at which it comes.
 pub record Piece : Type 0 where
@@ -34,11 +36,11 @@ stream pieces = flat_map (λ piece. piece.bytes) pieces
 -- Lines that are answered one after the other, at a seat of a library, at a present.
 module _ (k : Contents) (seat : ℕ) (now : Stamp) where
   -- One line more is answered.
-  pub record OneMore (AreAnswered : Stands → List Turn → Stands → List ℕ → Type 0) (s : Stands)
-      (line : List ℕ) (made : List Turn) (next : Stands) (text : List ℕ) : Type 0 where
+  pub record OneMore (AreAnswered : State → List Turn → State → List ℕ → Type 0) (s : State)
+      (line : List ℕ) (made : List Turn) (next : State) (text : List ℕ) : Type 0 where
     pub first_made : List Turn
     pub then_made : List Turn
-    pub between : Stands
+    pub between : State
     pub first_text : List ℕ
     pub then_text : List ℕ
     pub first : IsHeard k seat now s line first_made between first_text
@@ -47,7 +49,7 @@ module _ (k : Contents) (seat : ℕ) (now : Stamp) where
     pub all_text : text ≡ first_text ++ then_text
 
   -- some lines are answered one after the other, by these turns and with this text
-  abbrev pub AreHeard : List (List ℕ) → Stands → List Turn → Stands → List ℕ → Type 0
+  abbrev pub AreHeard : List (List ℕ) → State → List Turn → State → List ℕ → Type 0
   AreHeard [] s made next text = (made ≡ []) × (next ≡ s) × (text ≡ [])
   AreHeard (line ∷ lines) s made next text = OneMore (AreHeard lines) s line made next text
 
@@ -55,7 +57,7 @@ module _ (k : Contents) (seat : ℕ) (now : Stamp) where
   -- come to its 1,025th byte, and nowhere else.
   pub record HearsAll (h : Hearing) (piece : List ℕ) (made : List Turn) (h' : Hearing) (text : List ℕ)
       : Type 0 where
-    pub heard : AreHeard (lines_in h.begun piece) h.standing made h'.standing text
+    pub heard : AreHeard (lines_in h.begun piece) h.state made h'.state text
     pub begun : h'.begun ≡ begun_after h.begun piece
     pub ended : h'.ended ≡ (if h'.begun.too_long then Some end.TooLong else None)
 
@@ -77,7 +79,7 @@ abbrev pub any_room : Room
 any_room = record { before = 0; after = 0 }
 
 -- an office that can give these faults refuses the line's turn by this one: so the line asks something of it
-abbrev pub IsTurnRefused : Contents → (TurnFault → Type 0) → Stands → List ℕ → TurnFault → Type 0
+abbrev pub IsTurnRefused : Contents → (TurnFault → Type 0) → State → List ℕ → TurnFault → Type 0
 IsTurnRefused k faults s line why = faults why × LineAsks k s line
 
 -- the room of a line's reply is refused, out of memory, after so many lines of a piece: there was too little
@@ -88,7 +90,7 @@ IsRoomRefused room earlier line why =
 
 -- why a session ends that stands so, at a line that comes after so many others of a piece: the turn of this
 -- line is refused, or the room of its reply
-abbrev pub IsCause : Contents → (TurnFault → Type 0) → Room → Stands → ℕ → List ℕ → TurnFault → Type 0
+abbrev pub IsCause : Contents → (TurnFault → Type 0) → Room → State → ℕ → List ℕ → TurnFault → Type 0
 IsCause k faults room s earlier line why =
     IsTurnRefused k faults s line why ⊎ IsRoomRefused room earlier line why
 
@@ -102,9 +104,9 @@ module _ (k : Contents) (seat : ℕ) (faults : TurnFault → Type 0) where
     pub line : List ℕ
     pub later : List (List ℕ)
     pub split : lines_in h.begun piece ≡ before ++ line ∷ later
-    pub heard : AreHeard k seat now before h.standing made h'.standing text
+    pub heard : AreHeard k seat now before h.state made h'.state text
     pub why : TurnFault
-    pub cause : IsCause k faults room h'.standing (length before) line why
+    pub cause : IsCause k faults room h'.state (length before) line why
     pub begun : h'.begun ≡ after_return
     pub ended : h'.ended ≡ Some (end.Turn why)
 
@@ -138,20 +140,31 @@ module _ (k : Contents) (seat : ℕ) (faults : TurnFault → Type 0) where
   AreFedTo room [] h made h' text = (made ≡ []) × (h' ≡ h) × (text ≡ [])
   AreFedTo room (piece ∷ pieces) h made h' text = FedMore (AreFedTo room pieces) room h piece made h' text
 
-  -- A session is fed a piece at an office: the turns are added there, and the text is appended.
-  pub record Feeds (now : Stamp) (room : Room) (h : Hearing) (piece : List ℕ) (h' : Hearing)
-      (turns turns' : List Turn) (out out' : List ℕ) : Type 0 where
+-- a session stays logged in as a terminal of the catalogue, or as none
+abbrev pub StaysKnown : Contents → State → State → Type 0
+StaysKnown k s next = IsKnownTo k s → IsKnownTo k next
+
+-- What an office and an out are before some lines are answered, and then.
+module _ {A O : Type 0} (office : Ghosts O A) (old new : O) (out out' : Vec ℕ A) (now : Stamp) where
+  -- These lines are answered, one after the other: the office makes their turns, and what they are answered
+  -- is appended, at most 2,048 bytes for each.
+  pub record Answers (lines : List (List ℕ)) (s next : State) : Type 0 where
     pub made : List Turn
     pub text : List ℕ
-    pub fed : IsFed now room h piece made h' text
-    pub turns_are : turns' ≡ turns ++ made
-    pub out_is : out' ≡ out ++ text
+    pub heard : AreHeard (office.keeps old).contents (office.keeps old).seat now lines s made next text
+    pub works : Works office old new made
+    pub extends : Extends out out' text
+    pub short : length text ≤ 2048 * length lines
+    pub known : StaysKnown (office.keeps old).contents s next
 
--- Some lines are answered at an office: the turns are added there, and the text is appended.
-pub record Answers (k : Contents) (seat : ℕ) (now : Stamp) (lines : List (List ℕ)) (s next : Stands)
-    (turns turns' : List Turn) (out out' : List ℕ) : Type 0 where
-  pub made : List Turn
-  pub text : List ℕ
-  pub heard : AreHeard k seat now lines s made next text
-  pub turns_are : turns' ≡ turns ++ made
-  pub out_is : out' ≡ out ++ text
+  -- A session is fed a piece of its stream: the office makes the turns of the lines that end in it, and what
+  -- they are answered is appended, at most 2,048 bytes for each.
+  pub record Feeds (h : Hearing) (piece : List ℕ) (h' : Hearing) : Type 0 where
+    pub made : List Turn
+    pub text : List ℕ
+    pub fed : IsFed (office.keeps old).contents (office.keeps old).seat office.faults now (room_of out out')
+        h piece made h' text
+    pub works : Works office old new made
+    pub extends : Extends out out' text
+    pub short : length text ≤ 2048 * length (lines_in h.begun piece)
+    pub known : StaysKnown (office.keeps old).contents h.state h'.state

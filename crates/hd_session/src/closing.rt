@@ -1,6 +1,7 @@
 //! Closing a reply: its trailer, and its carriage return.
 ghost use Rattle.std.specs.Prelude.{◌≡◌, ◌<◌, ◌≤◌, ◌+◌, ◌∷◌, [], ◌++◌, drop, take, true};
 ghost use Rattle.std.specs.Prelude.{vec_capacity, vec_len};
+ghost use Rattle.hd_exchange.specs.Works.{Extends};
 ghost use Rattle.hd_session.specs.Trailers.{text_and_trailer, send_again};
 
 use hd_guard::{Seq, seal};
@@ -45,9 +46,7 @@ fn close_checked<A: Allocator>(out: &mut Vec<u8, A>, from: usize, digit: Option<
 /// Appends a carriage return, for which there is room.
 fn put_return<A: Allocator>(out: &mut Vec<u8, A>)
     requires { vec_len out.old < vec_capacity out.old }
-    ensures text { out.new.items ≡ out.old.items ++ 13 ∷ [] }
-    ensures len { vec_len out.new ≡ vec_len out.old + 1 }
-    ensures capacity { vec_capacity out.old ≤ vec_capacity out.new }
+    ensures { Extends out.old out.new (13 ∷ []) }
 {
     out.push(b'\r').unwrap();
 }
@@ -55,9 +54,8 @@ fn put_return<A: Allocator>(out: &mut Vec<u8, A>)
 /// Appends a 96, for which there is room.
 pub(crate) fn put_send_again<A: Allocator>(out: &mut Vec<u8, A>, checked: bool)
     requires { vec_len out.old + 12 ≤ vec_capacity out.old }
-    ensures text { out.new.items ≡ out.old.items ++ send_again checked }
+    ensures text { Extends out.old out.new (send_again checked) }
     ensures short { vec_len out.new ≤ vec_len out.old + 12 }
-    ensures capacity { vec_capacity out.old ≤ vec_capacity out.new }
 {
     let from = out.len();
     write(&Reply::RequestScResend, out).unwrap();

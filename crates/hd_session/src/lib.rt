@@ -6,7 +6,7 @@ mod ended;
 mod laws;
 pub mod script;
 mod session;
-mod standing;
+mod state;
 
 pub use crate::ended::Ended;
 pub use crate::laws::{

@@ -1,6 +1,6 @@
 //! Several sessions: pieces of their streams, in the order in which they come.
 ghost use Rattle.std.specs.Prelude.{◌≡◌, ◌<◌, ◌∷◌, [], All, IfErr, IfNone, IfSome, OnErr, OnOk, length, map};
-ghost use Rattle.hd_session.specs.Scripts.{AreKnownTo, IsFaultOf, IsStrangerAt, Plays, named_in, steps_of};
+ghost use Rattle.hd_session.specs.Scripts.{AreKnownTo, IsFaultOf, IsStrangerAt, Plays, named_in, played, steps_of};
 
 use crate::session::Session;
 use hd_date::Stamp18;
@@ -31,20 +31,12 @@ pub fn run<A: Allocator + Copy, O: Office<A>>(
 ) -> Result<(), ScriptFault>
     requires outs { length outs.old ≡ length sessions.old }
     requires known { AreKnownTo (O.keeps office.old).contents sessions.old }
-    ensures plays { OnOk result (Plays (O.keeps office.old).contents (O.keeps office.old).seat O.faults
-        (steps_of now.now pieces.now) sessions.old sessions.new (O.turns office.old) (O.turns office.new)
-        (map (λ out. out.items) outs.old) (map (λ out. out.items) outs.new)) }
+    ensures plays { Plays O.Office office.old office.new (played result (steps_of now.now pieces.now))
+        sessions.old sessions.new (map (λ out. out.items) outs.old) (map (λ out. out.items) outs.new) }
     // Each piece names one of the sessions.
     ensures named { OnOk result (All (λ session. session < length sessions.old) (named_in pieces.now)) }
     ensures stranger { IfErr result (IsFaultOf (length sessions.old) (named_in pieces.now)) }
-    ensures nothing { OnErr result (
-        (sessions.new ≡ sessions.old)
-        × (outs.new ≡ outs.old)
-        × (O.turns office.new ≡ O.turns office.old)) }
-    ensures sizes { (length sessions.new ≡ length sessions.old) × (length outs.new ≡ length outs.old) }
-    ensures known { AreKnownTo (O.keeps office.old).contents sessions.new }
-    ensures same { O.keeps office.new ≡ O.keeps office.old }
-    ensures holds { O.holds office.old → O.holds office.new }
+    ensures nothing { OnErr result ((sessions.new ≡ sessions.old) × (outs.new ≡ outs.old)) }
 {
     match stranger(pieces, sessions.len()) {
         Some(at) => Err(ScriptFault::Stranger { at }),
@@ -82,14 +74,9 @@ fn play<A: Allocator + Copy, O: Office<A>>(
     requires outs { length outs.old ≡ length sessions.old }
     requires known { AreKnownTo (O.keeps office.old).contents sessions.old }
     requires session { session < length sessions.old }
-    ensures plays { Plays (O.keeps office.old).contents (O.keeps office.old).seat O.faults
+    ensures { Plays O.Office office.old office.new
         (record { session = session; piece = record { now = now.now; bytes = bytes.now } } ∷ [])
-        sessions.old sessions.new (O.turns office.old) (O.turns office.new)
-        (map (λ out. out.items) outs.old) (map (λ out. out.items) outs.new) }
-    ensures sizes { (length sessions.new ≡ length sessions.old) × (length outs.new ≡ length outs.old) }
-    ensures known { AreKnownTo (O.keeps office.old).contents sessions.new }
-    ensures same { O.keeps office.new ≡ O.keeps office.old }
-    ensures holds { O.holds office.old → O.holds office.new }
+        sessions.old sessions.new (map (λ out. out.items) outs.old) (map (λ out. out.items) outs.new) }
 {
     let _ = sessions[session].feed(bytes, now, office, &mut outs[session]);
 }

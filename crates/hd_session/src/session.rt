@@ -1,12 +1,10 @@
 //! Sessions.
-ghost use Rattle.std.specs.Prelude.{◌≡◌, ◌≤◌, ◌+◌, ◌*◌, ◌∷◌, [], Some, None, IfErr, IfOk, OnOk, OnErr};
-ghost use Rattle.std.specs.Prelude.{length, vec_capacity, vec_len};
-ghost use Rattle.hd_field.specs.Streams.{lines_in};
+ghost use Rattle.std.specs.Prelude.{◌≡◌, ◌≤◌, ◌∷◌, [], Some, None, IfErr, IfOk, OnOk, OnErr, length};
 ghost use Rattle.hd_session.specs.Sessions.{Answers, Feeds, IsCause, new_session, room_of};
-ghost use Rattle.hd_session.specs.Standing.{IsKnownTo};
+ghost use Rattle.hd_session.specs.States.{IsKnownTo};
 
 use crate::ended::Ended;
-use crate::standing::{LONGEST_REPLY, Standing};
+use crate::state::{LONGEST_REPLY, SessionState};
 use hd_date::Stamp18;
 use hd_exchange::{Office, TurnFault};
 use hd_field::Stream;
@@ -16,7 +14,7 @@ use std::marker::Model;
 /// A terminal's session: its line that hasn't ended, and where it stands (docs/protocol.md, "Sessions").
 pub struct Session<A: Allocator = Global> {
     stream: Stream<A>,
-    standing: Standing<A>,
+    state: SessionState<A>,
     ended: Option<Ended>,
 }
 
@@ -25,7 +23,7 @@ impl<A: Allocator> Drop for Session<A> {
     fn drop(self) {
         let Session {
             stream: _stream,
-            standing: _standing,
+            state: _state,
             ended: _ended,
         } = self;
     }
@@ -36,7 +34,7 @@ impl<A: Allocator> Model for Session<A> {
 
     ghost Value = { Hearing };
 
-    ghost view = { λ s. record { begun = s.stream; standing = s.standing; ended = s.ended } };
+    ghost view = { λ s. record { begun = s.stream; state = s.state; ended = s.ended } };
 }
 
 impl<A: Allocator + Copy> Session<A> {
@@ -49,10 +47,10 @@ impl<A: Allocator + Copy> Session<A> {
         ensures { IfOk result (λ session. session ≡ new_session) }
     {
         let stream = Stream::new(alloc)?;
-        let standing = Standing::new(alloc)?;
+        let state = SessionState::new(alloc)?;
         Ok(Session {
             stream,
-            standing,
+            state,
             ended: None,
         })
     }
@@ -66,10 +64,9 @@ impl<A: Allocator + Copy> Session<A> {
     /// # Errors
     /// Why the session ended, at this piece or before. One that has ended does nothing more.
     ///
-    /// `TooLong` where a line comes to 1,025 bytes; the lines before it are answered. `Turn` at a line that asks
-    /// something of an office that gives this fault, and as `Memory` also where `out` hasn't the room for the
-    /// line's reply and can't grow. The lines before it are answered; it makes no turn, and the session stands
-    /// as before it.
+    /// `TooLong` where a line has 1,025 bytes. `Turn` at a line that asks something of an office that gives this
+    /// fault, and as `Memory` also where `out` hasn't the room for the line's reply and can't grow: this line
+    /// makes no turn, and the state is as before it. The lines before are answered.
     pub fn feed<O: Office<A>>(
         &mut self,
         piece: &[u8],
@@ -77,18 +74,11 @@ impl<A: Allocator + Copy> Session<A> {
         office: &mut O,
         out: &mut Vec<u8, A>,
     ) -> Result<(), Ended>
-        requires place { IsKnownTo (O.keeps office.old).contents self.old.standing }
-        ensures fed { Feeds (O.keeps office.old).contents (O.keeps office.old).seat O.faults now.now
-            (room_of out.old out.new) self.old piece.now self.new
-            (O.turns office.old) (O.turns office.new) out.old.items out.new.items }
+        requires place { IsKnownTo (O.keeps office.old).contents self.old.state }
+        ensures fed { Feeds O.Office office.old office.new out.old out.new now.now
+            self.old piece.now self.new }
         ensures open { OnOk result (self.new.ended ≡ None) }
         ensures ended { IfErr result (λ why. self.new.ended ≡ Some why) }
-        ensures short { vec_len out.new
-            ≤ vec_len out.old + 2048 * length (lines_in self.old.begun piece.now) }
-        ensures capacity { vec_capacity out.old ≤ vec_capacity out.new }
-        ensures place { IsKnownTo (O.keeps office.old).contents self.new.standing }
-        ensures same { O.keeps office.new ≡ O.keeps office.old }
-        ensures holds { O.holds office.old → O.holds office.new }
     {
         if let Some(why) = self.ended {
             return Err(why);
@@ -103,9 +93,14 @@ impl<A: Allocator + Copy> Session<A> {
     /// How many lines with a right check number carried another sequence digit than the one after the last.
     /// The first digit is never counted; a line sent again is.
     pub fn gaps(&self) -> u64
-        ensures { result ≡ self.now.standing.gaps }
+        ensures { result ≡ self.now.state.gaps }
     {
-        self.standing.gaps()
+        self.state.gaps()
+    }
+
+    /// What its memory comes from: the replies to it may come from there too.
+    pub fn alloc(&self) -> A {
+        self.state.alloc()
     }
 
     /// Why the session ended, if it has.
@@ -124,23 +119,16 @@ impl<A: Allocator + Copy> Session<A> {
         office: &mut O,
         out: &mut Vec<u8, A>,
     )
-        requires place { IsKnownTo (O.keeps office.old).contents self.old.standing }
+        requires place { IsKnownTo (O.keeps office.old).contents self.old.state }
         requires open { self.old.ended ≡ None }
-        ensures fed { Feeds (O.keeps office.old).contents (O.keeps office.old).seat O.faults now.now
-            (room_of out.old out.new) self.old piece.now self.new
-            (O.turns office.old) (O.turns office.new) out.old.items out.new.items }
-        ensures short { vec_len out.new
-            ≤ vec_len out.old + 2048 * length (lines_in self.old.begun piece.now) }
-        ensures capacity { vec_capacity out.old ≤ vec_capacity out.new }
-        ensures place { IsKnownTo (O.keeps office.old).contents self.new.standing }
-        ensures same { O.keeps office.new ≡ O.keeps office.old }
-        ensures holds { O.holds office.old → O.holds office.new }
+        ensures { Feeds O.Office office.old office.new out.old out.new now.now
+            self.old piece.now self.new }
     {
         let mut rest = piece;
         while let Some(used) = self.stream.take(rest) {
             let (_, behind) = rest.split_at(used);
             let line = self.stream.line();
-            let answered = answer_line(&mut self.standing, now, line, office, out);
+            let answered = answer_line(&mut self.state, now, line, office, out);
             self.stream.begin();
             match answered {
                 Ok(()) => rest = behind,
@@ -161,34 +149,27 @@ impl<A: Allocator + Copy> Session<A> {
 ///
 /// # Errors
 /// The fault of the office, or `Memory` where the reply's room can't be made. There is no turn and no reply
-/// then, and the session stands where it stood.
+/// then, and the state is as before.
 fn answer_line<A: Allocator + Copy, O: Office<A>>(
-    standing: &mut Standing<A>,
+    state: &mut SessionState<A>,
     now: &Stamp18,
     line: &[u8],
     office: &mut O,
     out: &mut Vec<u8, A>,
 ) -> Result<(), TurnFault>
-    requires place { IsKnownTo (O.keeps office.old).contents standing.old }
+    requires place { IsKnownTo (O.keeps office.old).contents state.old }
     requires line { length line.now ≤ 1024 }
-    ensures heard { OnOk result (Answers (O.keeps office.old).contents (O.keeps office.old).seat now.now
-        (line.now ∷ []) standing.old standing.new
-        (O.turns office.old) (O.turns office.new) out.old.items out.new.items) }
-    ensures err { OnErr result (
-        (standing.new ≡ standing.old)
-        × (O.turns office.new ≡ O.turns office.old)
-        × (out.new.items ≡ out.old.items)) }
+    ensures heard { OnOk result (Answers O.Office office.old office.new out.old out.new now.now
+        (line.now ∷ []) state.old state.new) }
+    // At a fault no line is answered.
+    ensures err { OnErr result (Answers O.Office office.old office.new out.old out.new now.now
+        [] state.old state.new) }
     ensures cause { IfErr result (IsCause (O.keeps office.old).contents O.faults
-        (room_of out.old out.new) standing.old 0 line.now) }
-    ensures short { vec_len out.new ≤ vec_len out.old + 2048 }
-    ensures capacity { vec_capacity out.old ≤ vec_capacity out.new }
-    ensures place { IsKnownTo (O.keeps office.old).contents standing.new }
-    ensures same { O.keeps office.new ≡ O.keeps office.old }
-    ensures holds { O.holds office.old → O.holds office.new }
+        (room_of out.old out.new) state.old 0 line.now) }
 {
     if line.is_empty() {
         return Ok(());
     }
     out.reserve(LONGEST_REPLY)?;
-    standing.hear(now, line, office, out)
+    state.hear(now, line, office, out)
 }

@@ -29,13 +29,13 @@ act_back acts.Checkin = refl
 act_back acts.Add = refl
 act_back acts.Delete = refl
 act_back acts.Change = refl
-act_back acts.Renew = refl
-act_back acts.CancelLoan = refl
-act_back acts.CancelReturn = refl
+act_back acts.Renewal = refl
+act_back acts.CancelCheckout = refl
+act_back acts.CancelCheckin = refl
 act_back acts.CancelRenewal = refl
-act_back acts.CancelAdding = refl
-act_back acts.CancelDeletion = refl
-act_back acts.CancelChanging = refl
+act_back acts.CancelAdd = refl
+act_back acts.CancelDelete = refl
+act_back acts.CancelChange = refl
 
 -- a word that is an act's is the word of that act
 pub act_said : (word : List ℕ) (a : Act) → act_named word ≡ Some a → word ≡ act_word a

@@ -87,16 +87,16 @@ action_back acts.Delete p =
     ask.Command (record { day = value p.day; action = action.Delete (value p.patron) (value p.title) })
 action_back acts.Change p = ask.Command (record {
   day = value p.day;
-  action = action.ChangeHold (value p.patron) (value p.title) (change_back p.admits p.copy) p.branch p.until;
+  action = action.Change (value p.patron) (value p.title) (change_back p.admits p.copy) p.branch p.until;
 })
-action_back acts.Renew p =
-    ask.Command (record { day = value p.day; action = action.Renew (value p.patron) (value p.copy) })
-action_back acts.CancelLoan p = ask.Cancel (cancel.Loan (value p.copy))
-action_back acts.CancelReturn p = ask.Cancel (cancel.Return (value p.copy))
+action_back acts.Renewal p =
+    ask.Command (record { day = value p.day; action = action.Renewal (value p.patron) (value p.copy) })
+action_back acts.CancelCheckout p = ask.Cancel (cancel.Checkout (value p.copy))
+action_back acts.CancelCheckin p = ask.Cancel (cancel.Checkin (value p.copy))
 action_back acts.CancelRenewal p = ask.Cancel (cancel.Renewal (value p.copy))
-action_back acts.CancelAdding p = ask.Cancel (cancel.Adding (value p.patron) (value p.title))
-action_back acts.CancelDeletion p = ask.Cancel (cancel.Deletion (value p.patron) (value p.title))
-action_back acts.CancelChanging p = ask.Cancel (cancel.Changing (value p.patron) (value p.title))
+action_back acts.CancelAdd p = ask.Cancel (cancel.Add (value p.patron) (value p.title))
+action_back acts.CancelDelete p = ask.Cancel (cancel.Delete (value p.patron) (value p.title))
+action_back acts.CancelChange p = ask.Cancel (cancel.Change (value p.patron) (value p.title))
 
 back : Parts → Asked
 back p = action_back p.act p
@@ -111,20 +111,20 @@ command_back day (action.Add patron title kind.Any pickup expiry) = refl
 command_back day (action.Add patron title (kind.One copy) pickup expiry) = refl
 command_back day (action.Add patron title kind.AtBranch pickup expiry) = refl
 command_back day (action.Delete patron title) = refl
-command_back day (action.ChangeHold patron title None pickup expiry) = refl
-command_back day (action.ChangeHold patron title (Some kind.Any) pickup expiry) = refl
-command_back day (action.ChangeHold patron title (Some (kind.One copy)) pickup expiry) = refl
-command_back day (action.ChangeHold patron title (Some kind.AtBranch) pickup expiry) = refl
-command_back day (action.Renew patron copy) = refl
+command_back day (action.Change patron title None pickup expiry) = refl
+command_back day (action.Change patron title (Some kind.Any) pickup expiry) = refl
+command_back day (action.Change patron title (Some (kind.One copy)) pickup expiry) = refl
+command_back day (action.Change patron title (Some kind.AtBranch) pickup expiry) = refl
+command_back day (action.Renewal patron copy) = refl
 
 cancel_back : (what : Cancel) → back (cancel_parts what) ≡ ask.Cancel what
 unfolding back action_back value
-cancel_back (cancel.Loan copy) = refl
-cancel_back (cancel.Return copy) = refl
+cancel_back (cancel.Checkout copy) = refl
+cancel_back (cancel.Checkin copy) = refl
 cancel_back (cancel.Renewal copy) = refl
-cancel_back (cancel.Adding patron title) = refl
-cancel_back (cancel.Deletion patron title) = refl
-cancel_back (cancel.Changing patron title) = refl
+cancel_back (cancel.Add patron title) = refl
+cancel_back (cancel.Delete patron title) = refl
+cancel_back (cancel.Change patron title) = refl
 
 asked_back : (asked : Asked) (parts : Parts) → asked_parts asked ≡ Some parts → back parts ≡ asked
 asked_back (ask.Command command) parts e =
@@ -150,31 +150,31 @@ module _ (k : Facts) where
   command_known day (action.Add patron title kind.AtBranch pickup expiry) h =
       record { patron = h.0; copy = tt; title = h.1; branch = h.3 }
   command_known day (action.Delete patron title) h = record { patron = h.0; copy = tt; title = h.1; branch = tt }
-  command_known day (action.ChangeHold patron title None None expiry) h =
+  command_known day (action.Change patron title None None expiry) h =
       record { patron = h.0; copy = tt; title = h.1; branch = tt }
-  command_known day (action.ChangeHold patron title None (Some pickup) expiry) h =
+  command_known day (action.Change patron title None (Some pickup) expiry) h =
       record { patron = h.0; copy = tt; title = h.1; branch = h.2 }
-  command_known day (action.ChangeHold patron title (Some kind.Any) None expiry) h =
+  command_known day (action.Change patron title (Some kind.Any) None expiry) h =
       record { patron = h.0; copy = tt; title = h.1; branch = tt }
-  command_known day (action.ChangeHold patron title (Some kind.Any) (Some pickup) expiry) h =
+  command_known day (action.Change patron title (Some kind.Any) (Some pickup) expiry) h =
       record { patron = h.0; copy = tt; title = h.1; branch = h.2.1 }
-  command_known day (action.ChangeHold patron title (Some (kind.One copy)) None expiry) h =
+  command_known day (action.Change patron title (Some (kind.One copy)) None expiry) h =
       record { patron = h.0; copy = h.2; title = h.1; branch = tt }
-  command_known day (action.ChangeHold patron title (Some (kind.One copy)) (Some pickup) expiry) h =
+  command_known day (action.Change patron title (Some (kind.One copy)) (Some pickup) expiry) h =
       record { patron = h.0; copy = h.2.0; title = h.1; branch = h.2.1 }
-  command_known day (action.ChangeHold patron title (Some kind.AtBranch) None expiry) h =
+  command_known day (action.Change patron title (Some kind.AtBranch) None expiry) h =
       record { patron = h.0; copy = tt; title = h.1; branch = tt }
-  command_known day (action.ChangeHold patron title (Some kind.AtBranch) (Some pickup) expiry) h =
+  command_known day (action.Change patron title (Some kind.AtBranch) (Some pickup) expiry) h =
       record { patron = h.0; copy = tt; title = h.1; branch = h.2.1 }
-  command_known day (action.Renew patron copy) h = record { patron = h.0; copy = h.1; title = tt; branch = tt }
+  command_known day (action.Renewal patron copy) h = record { patron = h.0; copy = h.1; title = tt; branch = tt }
 
   cancel_known : (what : Cancel) → IsKnownCancel k what → AreKnownParts k (cancel_parts what)
-  cancel_known (cancel.Loan copy) h = record { patron = tt; copy = h; title = tt; branch = tt }
-  cancel_known (cancel.Return copy) h = record { patron = tt; copy = h; title = tt; branch = tt }
+  cancel_known (cancel.Checkout copy) h = record { patron = tt; copy = h; title = tt; branch = tt }
+  cancel_known (cancel.Checkin copy) h = record { patron = tt; copy = h; title = tt; branch = tt }
   cancel_known (cancel.Renewal copy) h = record { patron = tt; copy = h; title = tt; branch = tt }
-  cancel_known (cancel.Adding patron title) h = record { patron = h.0; copy = tt; title = h.1; branch = tt }
-  cancel_known (cancel.Deletion patron title) h = record { patron = h.0; copy = tt; title = h.1; branch = tt }
-  cancel_known (cancel.Changing patron title) h = record { patron = h.0; copy = tt; title = h.1; branch = tt }
+  cancel_known (cancel.Add patron title) h = record { patron = h.0; copy = tt; title = h.1; branch = tt }
+  cancel_known (cancel.Delete patron title) h = record { patron = h.0; copy = tt; title = h.1; branch = tt }
+  cancel_known (cancel.Change patron title) h = record { patron = h.0; copy = tt; title = h.1; branch = tt }
 
   -- the parts of what names known things are known
   pub parts_known : (asked : Asked) (parts : Parts) → asked_parts asked ≡ Some parts → IsKnown k asked → AreKnownParts k parts
@@ -191,26 +191,26 @@ module _ (k : Facts) where
   known_command day (action.Add patron title (kind.One copy) pickup expiry) h = (h.patron, h.title, h.copy, h.branch)
   known_command day (action.Add patron title kind.AtBranch pickup expiry) h = (h.patron, h.title, tt, h.branch)
   known_command day (action.Delete patron title) h = (h.patron, h.title)
-  known_command day (action.ChangeHold patron title None None expiry) h = (h.patron, h.title, tt)
-  known_command day (action.ChangeHold patron title None (Some pickup) expiry) h = (h.patron, h.title, h.branch)
-  known_command day (action.ChangeHold patron title (Some kind.Any) None expiry) h = (h.patron, h.title, tt)
-  known_command day (action.ChangeHold patron title (Some kind.Any) (Some pickup) expiry) h =
+  known_command day (action.Change patron title None None expiry) h = (h.patron, h.title, tt)
+  known_command day (action.Change patron title None (Some pickup) expiry) h = (h.patron, h.title, h.branch)
+  known_command day (action.Change patron title (Some kind.Any) None expiry) h = (h.patron, h.title, tt)
+  known_command day (action.Change patron title (Some kind.Any) (Some pickup) expiry) h =
       (h.patron, h.title, (tt, h.branch))
-  known_command day (action.ChangeHold patron title (Some (kind.One copy)) None expiry) h = (h.patron, h.title, h.copy)
-  known_command day (action.ChangeHold patron title (Some (kind.One copy)) (Some pickup) expiry) h =
+  known_command day (action.Change patron title (Some (kind.One copy)) None expiry) h = (h.patron, h.title, h.copy)
+  known_command day (action.Change patron title (Some (kind.One copy)) (Some pickup) expiry) h =
       (h.patron, h.title, (h.copy, h.branch))
-  known_command day (action.ChangeHold patron title (Some kind.AtBranch) None expiry) h = (h.patron, h.title, tt)
-  known_command day (action.ChangeHold patron title (Some kind.AtBranch) (Some pickup) expiry) h =
+  known_command day (action.Change patron title (Some kind.AtBranch) None expiry) h = (h.patron, h.title, tt)
+  known_command day (action.Change patron title (Some kind.AtBranch) (Some pickup) expiry) h =
       (h.patron, h.title, (tt, h.branch))
-  known_command day (action.Renew patron copy) h = (h.patron, h.copy)
+  known_command day (action.Renewal patron copy) h = (h.patron, h.copy)
 
   known_cancel : (what : Cancel) → AreKnownParts k (cancel_parts what) → IsKnownCancel k what
-  known_cancel (cancel.Loan copy) h = h.copy
-  known_cancel (cancel.Return copy) h = h.copy
+  known_cancel (cancel.Checkout copy) h = h.copy
+  known_cancel (cancel.Checkin copy) h = h.copy
   known_cancel (cancel.Renewal copy) h = h.copy
-  known_cancel (cancel.Adding patron title) h = (h.patron, h.title)
-  known_cancel (cancel.Deletion patron title) h = (h.patron, h.title)
-  known_cancel (cancel.Changing patron title) h = (h.patron, h.title)
+  known_cancel (cancel.Add patron title) h = (h.patron, h.title)
+  known_cancel (cancel.Delete patron title) h = (h.patron, h.title)
+  known_cancel (cancel.Change patron title) h = (h.patron, h.title)
 
   -- and what has known parts names known things
   pub asked_known : (asked : Asked) (parts : Parts) → asked_parts asked ≡ Some parts → AreKnownParts k parts → IsKnown k asked
@@ -237,29 +237,29 @@ command_fits day (action.Add patron title kind.AtBranch pickup expiry) =
     record { day = refl; patron = refl; copy = refl; title = refl; branch = refl; admits = refl; until = tt }
 command_fits day (action.Delete patron title) =
     record { day = refl; patron = refl; copy = refl; title = refl; branch = refl; admits = refl; until = refl }
-command_fits day (action.ChangeHold patron title None pickup expiry) =
+command_fits day (action.Change patron title None pickup expiry) =
     record { day = refl; patron = refl; copy = refl; title = refl; branch = tt; admits = tt; until = tt }
-command_fits day (action.ChangeHold patron title (Some kind.Any) pickup expiry) =
+command_fits day (action.Change patron title (Some kind.Any) pickup expiry) =
     record { day = refl; patron = refl; copy = refl; title = refl; branch = tt; admits = tt; until = tt }
-command_fits day (action.ChangeHold patron title (Some (kind.One copy)) pickup expiry) =
+command_fits day (action.Change patron title (Some (kind.One copy)) pickup expiry) =
     record { day = refl; patron = refl; copy = refl; title = refl; branch = tt; admits = tt; until = tt }
-command_fits day (action.ChangeHold patron title (Some kind.AtBranch) pickup expiry) =
+command_fits day (action.Change patron title (Some kind.AtBranch) pickup expiry) =
     record { day = refl; patron = refl; copy = refl; title = refl; branch = tt; admits = tt; until = tt }
-command_fits day (action.Renew patron copy) =
+command_fits day (action.Renewal patron copy) =
     record { day = refl; patron = refl; copy = refl; title = refl; branch = refl; admits = refl; until = refl }
 
 cancel_fits : (what : Cancel) → AreFit (cancel_parts what)
-cancel_fits (cancel.Loan copy) =
+cancel_fits (cancel.Checkout copy) =
     record { day = refl; patron = refl; copy = refl; title = refl; branch = refl; admits = refl; until = refl }
-cancel_fits (cancel.Return copy) =
+cancel_fits (cancel.Checkin copy) =
     record { day = refl; patron = refl; copy = refl; title = refl; branch = refl; admits = refl; until = refl }
 cancel_fits (cancel.Renewal copy) =
     record { day = refl; patron = refl; copy = refl; title = refl; branch = refl; admits = refl; until = refl }
-cancel_fits (cancel.Adding patron title) =
+cancel_fits (cancel.Add patron title) =
     record { day = refl; patron = refl; copy = refl; title = refl; branch = refl; admits = refl; until = refl }
-cancel_fits (cancel.Deletion patron title) =
+cancel_fits (cancel.Delete patron title) =
     record { day = refl; patron = refl; copy = refl; title = refl; branch = refl; admits = refl; until = refl }
-cancel_fits (cancel.Changing patron title) =
+cancel_fits (cancel.Change patron title) =
     record { day = refl; patron = refl; copy = refl; title = refl; branch = refl; admits = refl; until = refl }
 
 -- what is asked has the columns of its act

@@ -1,14 +1,17 @@
 -- Rows and what they ask.
-use Rattle.std.proofs.Common.{◌≡◌, ℕ, Option, Some, List, sym, ap, subst, ◌∙◌, inl, inr}
-use Rattle.std.proofs.lemmas.Option.{same_Some}
+use Rattle.std.proofs.Common.{◌≡◌, ℕ, Option, Some, List, refl, sym, ap, subst, ◌∙◌, inl, inr}
+use Rattle.std.proofs.lemmas.Option.{none-some as none_there, same_Some}
 use Rattle.hd_rules.specs.declared.turns.Asked.{Asked}
 use Rattle.hd_catalogue.specs.Contents.{Contents, facts_of}
+use Rattle.hd_rules.specs.declared.turns.Asked.TheVariants as ask
+use Rattle.hd_rules.specs.Messages.{IsKnownMessage, kept_line}
 use Rattle.hd_rules.specs.Turns.{Message}
 use Rattle.hd_turn_row.specs.Days.{IsDayText}
 use Rattle.hd_turn_row.specs.Faults.{IsFirstFault}
 use Rattle.hd_turn_row.specs.Forms.{AreFit, form_of}
 use Rattle.hd_turn_row.specs.Grown.{OnlyGrew}
-use Rattle.hd_turn_row.specs.Rows.{IsKnownMessage, IsRowOf, RowTexts}
+use Rattle.hd_turn_row.specs.Parts.{asked_parts}
+use Rattle.hd_turn_row.specs.Rows.{IsRowOf, RowTexts}
 use Rattle.hd_turn_row.specs.declared.fault.RowFault.{RowFault}
 use Rattle.hd_turn_row.specs.declared.parts.Parts.{Parts}
 use Rattle.hd_turn_row.proofs.ColumnLemmas.{fit_unfit, parts_once, shown_grown, shown_known, shown_unread}
@@ -23,6 +26,13 @@ same_messages : (a b : Message) → a.terminal ≡ b.terminal → a.asked ≡ b.
 unfolding made
 same_messages a b terminal asked line =
     ap (λ x. made x a.asked a.line) terminal ∙ ap (λ x. made b.terminal x a.line) asked ∙ ap (λ x. made b.terminal b.asked x) line
+
+-- what has columns is no query, and keeps its line
+pub line_kept : (asked : Asked) (parts : Parts) (line : Option (List ℕ)) → asked_parts asked ≡ Some parts
+    → kept_line asked line ≡ line
+line_kept (ask.Command command) parts line is = refl
+line_kept (ask.Cancel what) parts line is = refl
+line_kept (ask.Item copy) parts line is = absurd (none_there parts is)
 
 -- what is asked by a row is known
 pub row_known : (k : Contents) (seat : ℕ) (message : Message) (row : RowTexts) → IsRowOf k seat message row

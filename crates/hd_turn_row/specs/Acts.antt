@@ -15,21 +15,21 @@ act_word acts.Checkin = codes "checkin"
 act_word acts.Add = codes "hold"
 act_word acts.Delete = codes "delete hold"
 act_word acts.Change = codes "change hold"
-act_word acts.Renew = codes "renewal"
-act_word acts.CancelLoan = codes "cancel checkout"
-act_word acts.CancelReturn = codes "cancel checkin"
+act_word acts.Renewal = codes "renewal"
+act_word acts.CancelCheckout = codes "cancel checkout"
+act_word acts.CancelCheckin = codes "cancel checkin"
 act_word acts.CancelRenewal = codes "cancel renewal"
-act_word acts.CancelAdding = codes "cancel hold"
-act_word acts.CancelDeletion = codes "cancel delete hold"
-act_word acts.CancelChanging = codes "cancel change hold"
+act_word acts.CancelAdd = codes "cancel hold"
+act_word acts.CancelDelete = codes "cancel delete hold"
+act_word acts.CancelChange = codes "cancel change hold"
 
 -- each act once
 abbrev pub all_acts : List Act
 all_acts =
     acts.Checkout ∷ acts.CheckoutOrRenewal ∷ acts.OffLine ∷ acts.Checkin
     ∷ acts.Add ∷ acts.Delete ∷ acts.Change
-    ∷ acts.Renew ∷ acts.CancelLoan ∷ acts.CancelReturn ∷ acts.CancelRenewal ∷ acts.CancelAdding
-    ∷ acts.CancelDeletion ∷ acts.CancelChanging ∷ []
+    ∷ acts.Renewal ∷ acts.CancelCheckout ∷ acts.CancelCheckin ∷ acts.CancelRenewal ∷ acts.CancelAdd
+    ∷ acts.CancelDelete ∷ acts.CancelChange ∷ []
 
 -- the act of a word, where it is one's
 unfoldable pub act_named : List ℕ → Option Act

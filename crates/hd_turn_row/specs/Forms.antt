@@ -63,13 +63,13 @@ form_of acts.Change admits = record {
   admits = Free;
   until = Free;
 }
-form_of acts.Renew admits = loan_form
-form_of acts.CancelLoan admits = copy_form
-form_of acts.CancelReturn admits = copy_form
+form_of acts.Renewal admits = loan_form
+form_of acts.CancelCheckout admits = copy_form
+form_of acts.CancelCheckin admits = copy_form
 form_of acts.CancelRenewal admits = copy_form
-form_of acts.CancelAdding admits = hold_form
-form_of acts.CancelDeletion admits = hold_form
-form_of acts.CancelChanging admits = hold_form
+form_of acts.CancelAdd admits = hold_form
+form_of acts.CancelDelete admits = hold_form
+form_of acts.CancelChange admits = hold_form
 
 -- a column has something where that is wanted, and nothing where it is barred
 abbrev pub IsAsWanted : {V : Type 0} → Need → Option V → Type 0

@@ -64,7 +64,7 @@ command_parts day (action.Add patron title sort pickup expiry) = record {
 }
 command_parts day (action.Delete patron title) =
     record (bare acts.Delete) { day = Some day; patron = Some patron; title = Some title }
-command_parts day (action.ChangeHold patron title sort pickup expiry) = record {
+command_parts day (action.Change patron title sort pickup expiry) = record {
   act = acts.Change;
   day = Some day;
   patron = Some patron;
@@ -74,20 +74,20 @@ command_parts day (action.ChangeHold patron title sort pickup expiry) = record {
   admits = option_map admits_of sort;
   until = expiry;
 }
-command_parts day (action.Renew patron copy) =
-    record (bare acts.Renew) { day = Some day; patron = Some patron; copy = Some copy }
+command_parts day (action.Renewal patron copy) =
+    record (bare acts.Renewal) { day = Some day; patron = Some patron; copy = Some copy }
 
 -- a cancellation: it has no day
 abbrev pub cancel_parts : Cancel → Parts
-cancel_parts (cancel.Loan copy) = record (bare acts.CancelLoan) { copy = Some copy }
-cancel_parts (cancel.Return copy) = record (bare acts.CancelReturn) { copy = Some copy }
+cancel_parts (cancel.Checkout copy) = record (bare acts.CancelCheckout) { copy = Some copy }
+cancel_parts (cancel.Checkin copy) = record (bare acts.CancelCheckin) { copy = Some copy }
 cancel_parts (cancel.Renewal copy) = record (bare acts.CancelRenewal) { copy = Some copy }
-cancel_parts (cancel.Adding patron title) =
-    record (bare acts.CancelAdding) { patron = Some patron; title = Some title }
-cancel_parts (cancel.Deletion patron title) =
-    record (bare acts.CancelDeletion) { patron = Some patron; title = Some title }
-cancel_parts (cancel.Changing patron title) =
-    record (bare acts.CancelChanging) { patron = Some patron; title = Some title }
+cancel_parts (cancel.Add patron title) =
+    record (bare acts.CancelAdd) { patron = Some patron; title = Some title }
+cancel_parts (cancel.Delete patron title) =
+    record (bare acts.CancelDelete) { patron = Some patron; title = Some title }
+cancel_parts (cancel.Change patron title) =
+    record (bare acts.CancelChange) { patron = Some patron; title = Some title }
 
 -- what is asked; a query changes nothing, and has no row
 abbrev pub asked_parts : Asked → Option Parts

@@ -1,9 +1,7 @@
 -- The row of a turn.
-use Rattle.std.specs.Prelude.{◌≡◌, ℕ, ◌<◌, List, Option, Some}
+use Rattle.std.specs.Prelude.{◌≡◌, ℕ, List, Option, Some}
 use Rattle.std.specs.Option.{option_copied}
 use Rattle.hd_catalogue.specs.Contents.{Contents}
-use Rattle.hd_rules.specs.Facts.{Facts}
-use Rattle.hd_rules.specs.Known.{IsKnown}
 use Rattle.hd_rules.specs.Turns.{Message}
 use Rattle.hd_rules.specs.declared.turns.Asked.{Asked}
 use Rattle.hd_turn_row.specs.Columns.{AreShown, AskedTexts, IsShown, SaysTerminal, asked_texts}
@@ -11,7 +9,6 @@ use Rattle.hd_turn_row.specs.Days.{IsDayText}
 use Rattle.hd_turn_row.specs.Parts.{asked_parts}
 use Rattle.hd_turn_row.specs.declared.parts.Parts.{Parts}
 use Rattle.hd_turn_row.specs.declared.row.Row.{Row}
-use Rattle.hd_turn_row.specs.declared.row.RowAsk.{RowAsk}
 use Rattle.hd_turn_row.specs.declared.days.RowDays.{RowDays}
 
 -- the texts of a row's columns
@@ -29,14 +26,6 @@ row_texts row = record {
   asked = asked_texts row.asked;
   line = option_copied row.line;
 }
-
--- the message that is asked, with the bytes that its line lends
-abbrev pub message_of : RowAsk → Message
-message_of ask = record { terminal = ask.terminal; asked = ask.asked; line = option_copied ask.line }
-
--- a terminal of the catalogue asks something that names things of it
-abbrev pub IsKnownMessage : Facts → Message → Type 0
-IsKnownMessage k message = (message.terminal < k.terminals) × IsKnown k message.asked
 
 -- The row is that of a seat's message: the seat, the terminal's name, what the columns say, and the line.
 pub record IsRowOf (k : Contents) (seat : ℕ) (message : Message) (row : RowTexts) : Type 0 where

@@ -21,19 +21,19 @@ pub(crate) enum Act {
     /// The change of a hold.
     Change,
     /// A renewal.
-    Renew,
+    Renewal,
     /// The cancellation of a checkout.
-    CancelLoan,
+    CancelCheckout,
     /// The cancellation of a return.
-    CancelReturn,
+    CancelCheckin,
     /// The cancellation of a renewal.
     CancelRenewal,
     /// The cancellation of an adding.
-    CancelAdding,
+    CancelAdd,
     /// The cancellation of a deletion.
-    CancelDeletion,
+    CancelDelete,
     /// The cancellation of a change.
-    CancelChanging,
+    CancelChange,
 }
 
 /// Every act once.
@@ -45,13 +45,13 @@ const ACTS: [Act; 14] = [
     Act::Add,
     Act::Delete,
     Act::Change,
-    Act::Renew,
-    Act::CancelLoan,
-    Act::CancelReturn,
+    Act::Renewal,
+    Act::CancelCheckout,
+    Act::CancelCheckin,
     Act::CancelRenewal,
-    Act::CancelAdding,
-    Act::CancelDeletion,
-    Act::CancelChanging,
+    Act::CancelAdd,
+    Act::CancelDelete,
+    Act::CancelChange,
 ];
 
 impl Act {
@@ -67,13 +67,13 @@ impl Act {
             Act::Add => b"hold",
             Act::Delete => b"delete hold",
             Act::Change => b"change hold",
-            Act::Renew => b"renewal",
-            Act::CancelLoan => b"cancel checkout",
-            Act::CancelReturn => b"cancel checkin",
+            Act::Renewal => b"renewal",
+            Act::CancelCheckout => b"cancel checkout",
+            Act::CancelCheckin => b"cancel checkin",
             Act::CancelRenewal => b"cancel renewal",
-            Act::CancelAdding => b"cancel hold",
-            Act::CancelDeletion => b"cancel delete hold",
-            Act::CancelChanging => b"cancel change hold",
+            Act::CancelAdd => b"cancel hold",
+            Act::CancelDelete => b"cancel delete hold",
+            Act::CancelChange => b"cancel change hold",
         }
     }
 

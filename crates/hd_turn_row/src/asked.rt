@@ -36,21 +36,21 @@ fn asked_by(parts: &Parts) -> Asked
         Act::Add => Asked::Command(addition(parts)),
         Act::Delete => Asked::Command(deletion(parts)),
         Act::Change => Asked::Command(change(parts)),
-        Act::Renew => Asked::Command(renewal(parts)),
-        Act::CancelLoan => Asked::Cancel(Cancel::Loan(copy_alone(parts))),
-        Act::CancelReturn => Asked::Cancel(Cancel::Return(copy_alone(parts))),
+        Act::Renewal => Asked::Command(renewal(parts)),
+        Act::CancelCheckout => Asked::Cancel(Cancel::Checkout(copy_alone(parts))),
+        Act::CancelCheckin => Asked::Cancel(Cancel::Checkin(copy_alone(parts))),
         Act::CancelRenewal => Asked::Cancel(Cancel::Renewal(copy_alone(parts))),
-        Act::CancelAdding => {
+        Act::CancelAdd => {
             let (patron, title) = hold_alone(parts);
-            Asked::Cancel(Cancel::Adding(patron, title))
+            Asked::Cancel(Cancel::Add(patron, title))
         }
-        Act::CancelDeletion => {
+        Act::CancelDelete => {
             let (patron, title) = hold_alone(parts);
-            Asked::Cancel(Cancel::Deletion(patron, title))
+            Asked::Cancel(Cancel::Delete(patron, title))
         }
-        Act::CancelChanging => {
+        Act::CancelChange => {
             let (patron, title) = hold_alone(parts);
-            Asked::Cancel(Cancel::Changing(patron, title))
+            Asked::Cancel(Cancel::Change(patron, title))
         }
     }
 }
@@ -75,12 +75,12 @@ fn checkout(parts: &Parts, may_renew: bool) -> Command
 /// A renewal.
 fn renewal(parts: &Parts) -> Command
     requires { FitsForm loan_form parts.now }
-    ensures { command_parts result.day result.action ≡ record parts.now { act = Act.Renew } }
+    ensures { command_parts result.day result.action ≡ record parts.now { act = Act.Renewal } }
 {
     let (day, patron, copy) = loan(parts);
     Command {
         day,
-        action: Action::Renew { patron, copy },
+        action: Action::Renewal { patron, copy },
     }
 }
 
@@ -166,7 +166,7 @@ fn change(parts: &Parts) -> Command
 {
     Command {
         day: parts.day.unwrap(),
-        action: Action::ChangeHold {
+        action: Action::Change {
             patron: parts.patron.unwrap(),
             title: parts.title.unwrap(),
             kind: kind_if_any(parts.admits, &parts.copy),

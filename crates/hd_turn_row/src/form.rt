@@ -35,7 +35,7 @@ pub(crate) fn form_of(act: Act, admits: Option<Admits>) -> Form
     ensures { result ≡ form_of act admits }
 {
     match act {
-        Act::Checkout | Act::CheckoutOrRenewal | Act::Renew => loan_form(),
+        Act::Checkout | Act::CheckoutOrRenewal | Act::Renewal => loan_form(),
         Act::OffLine => Form {
             until: Need::Wanted,
             ..loan_form()
@@ -70,11 +70,11 @@ pub(crate) fn form_of(act: Act, admits: Option<Admits>) -> Form
             admits: Need::Free,
             until: Need::Free,
         },
-        Act::CancelLoan | Act::CancelReturn | Act::CancelRenewal => Form {
+        Act::CancelCheckout | Act::CancelCheckin | Act::CancelRenewal => Form {
             copy: Need::Wanted,
             ..no_form()
         },
-        Act::CancelAdding | Act::CancelDeletion | Act::CancelChanging => Form {
+        Act::CancelAdd | Act::CancelDelete | Act::CancelChange => Form {
             patron: Need::Wanted,
             title: Need::Wanted,
             ..no_form()

@@ -1,13 +1,14 @@
 //! Laws of rows.
 ghost use Rattle.std.specs.Prelude.{◌≡◌, ℕ, List};
 ghost use Rattle.hd_catalogue.specs.Contents.{Contents, facts_of};
+ghost use Rattle.hd_rules.specs.Messages.{IsKnownMessage};
 ghost use Rattle.hd_rules.specs.Turns.{Message};
 ghost use Rattle.hd_rules.specs.declared.replies.TurnReply.{TurnReply};
 ghost use Rattle.hd_turn_row.specs.Days.{IsDayText};
 ghost use Rattle.hd_turn_row.specs.Faults.{IsFirstFault};
 ghost use Rattle.hd_turn_row.specs.Grown.{OnlyGrew};
 ghost use Rattle.hd_turn_row.specs.Replies.{IsReplyText};
-ghost use Rattle.hd_turn_row.specs.Rows.{IsKnownMessage, IsRowOf, RowTexts};
+ghost use Rattle.hd_turn_row.specs.Rows.{IsRowOf, RowTexts};
 
 use crate::fault::RowFault;
 use hd_date::{days_are_dates, prints_show_their_stamp, texts_show_one_stamp};

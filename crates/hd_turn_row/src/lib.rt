@@ -34,4 +34,4 @@ pub use crate::laws::{
 };
 pub use crate::outcome::{number_of, outcome_of};
 pub use crate::reply::reply_text;
-pub use crate::row::{Row, RowAsk, ask_of, row_of};
+pub use crate::row::{Row, ask_of, row_of};

@@ -100,7 +100,7 @@ fn command_parts(command: &Command) -> Parts
             title: Some(*title),
             ..bare(Act::Delete)
         },
-        Action::ChangeHold {
+        Action::Change {
             patron,
             title,
             kind,
@@ -116,11 +116,11 @@ fn command_parts(command: &Command) -> Parts
             admits: kind.as_ref().map(admits_of),
             until: *expiry,
         },
-        Action::Renew { patron, copy } => Parts {
+        Action::Renewal { patron, copy } => Parts {
             day,
             patron: Some(*patron),
             copy: Some(*copy),
-            ..bare(Act::Renew)
+            ..bare(Act::Renewal)
         },
     }
 }
@@ -130,12 +130,12 @@ fn cancel_parts(what: &Cancel) -> Parts
     ensures { result ≡ cancel_parts what.now }
 {
     match what {
-        Cancel::Loan(copy) => of_copy(Act::CancelLoan, *copy),
-        Cancel::Return(copy) => of_copy(Act::CancelReturn, *copy),
+        Cancel::Checkout(copy) => of_copy(Act::CancelCheckout, *copy),
+        Cancel::Checkin(copy) => of_copy(Act::CancelCheckin, *copy),
         Cancel::Renewal(copy) => of_copy(Act::CancelRenewal, *copy),
-        Cancel::Adding(patron, title) => of_hold(Act::CancelAdding, *patron, *title),
-        Cancel::Deletion(patron, title) => of_hold(Act::CancelDeletion, *patron, *title),
-        Cancel::Changing(patron, title) => of_hold(Act::CancelChanging, *patron, *title),
+        Cancel::Add(patron, title) => of_hold(Act::CancelAdd, *patron, *title),
+        Cancel::Delete(patron, title) => of_hold(Act::CancelDelete, *patron, *title),
+        Cancel::Change(patron, title) => of_hold(Act::CancelChange, *patron, *title),
     }
 }
 

@@ -1,11 +1,12 @@
 //! The row of a turn.
 ghost use Rattle.std.specs.Prelude.{◌≡◌, ℕ, IfErr, IfNone, IfOk, IfSome, None, OnErr};
 ghost use Rattle.hd_catalogue.specs.Contents.{facts_of};
+ghost use Rattle.hd_rules.specs.Messages.{IsKnownMessage, message_of};
 ghost use Rattle.hd_rules.specs.Turns.{Message};
 ghost use Rattle.hd_turn_row.specs.Columns.{asked_texts};
 ghost use Rattle.hd_turn_row.specs.Faults.{IsFirstFault};
 ghost use Rattle.hd_turn_row.specs.Parts.{asked_parts};
-ghost use Rattle.hd_turn_row.specs.Rows.{AreDaysOfAsked, IsKnownMessage, IsRowOf, message_of, row_texts};
+ghost use Rattle.hd_turn_row.specs.Rows.{AreDaysOfAsked, IsRowOf, row_texts};
 
 use crate::asked::asked_of;
 use crate::columns::AskedColumns;
@@ -17,22 +18,8 @@ use crate::reading::parts_said;
 use crate::terminals::terminal_named;
 use crate::writing::columns_of;
 use hd_catalogue::Catalogue;
-use hd_rules::{Asked, TerminalNo};
+use hd_rules::{Ask, SeatNo};
 use std::alloc::Allocator;
-
-/// What a seat's terminal asked in one turn: a command or a cancellation, with the message's line where that
-/// carried a sequence number.
-#[derive(Clone, Copy)]
-pub struct RowAsk<'a> {
-    /// The number of the seat.
-    pub seat: u32,
-    /// The terminal that asked.
-    pub terminal: TerminalNo,
-    /// What it asked.
-    pub asked: Asked,
-    /// The message's line.
-    pub line: Option<&'a [u8]>,
-}
 
 /// A changing turn as a row of names and texts. It lends them all.
 #[derive(Clone, Copy)]
@@ -51,21 +38,21 @@ pub struct Row<'a> {
 /// `days` are the texts that neither the catalogue nor the message has.
 pub fn row_of<'a, A: Allocator + Copy>(
     catalogue: &'a Catalogue<A>,
-    ask: &RowAsk<'a>,
+    ask: &Ask<'a>,
     days: &'a RowDays,
 ) -> Option<Row<'a>>
-    requires known { IsKnownMessage (facts_of catalogue.now) (message_of ask.now) }
+    requires known { IsKnownMessage (facts_of catalogue.now) (message_of ask.now).message }
     requires days { AreDaysOfAsked ask.now.asked days.now }
     ensures row { IfSome result
-        (λ row. IsRowOf catalogue.now ask.now.seat (message_of ask.now) (row_texts row)) }
+        (λ row. IsRowOf catalogue.now (message_of ask.now).seat (message_of ask.now).message (row_texts row)) }
     ensures query { IfNone result (asked_parts ask.now.asked ≡ None) }
 {
-    let parts = parts_of(&ask.asked)?;
+    let parts = parts_of(ask.what_is_asked())?;
     Some(Row {
-        seat: ask.seat,
-        terminal: catalogue.terminal_name(ask.terminal),
+        seat: ask.seat().number(),
+        terminal: catalogue.terminal_name(ask.terminal()),
         asked: columns_of(catalogue, &parts, days),
-        line: ask.line,
+        line: ask.line(),
     })
 }
 
@@ -76,13 +63,13 @@ pub fn row_of<'a, A: Allocator + Copy>(
 pub fn ask_of<'a, A: Allocator + Copy>(
     catalogue: &Catalogue<A>,
     row: &Row<'a>,
-) -> Result<RowAsk<'a>, RowFault>
-    ensures row { IfOk result
-        (λ ask. IsRowOf catalogue.now ask.seat (message_of ask) (row_texts row.now)) }
+) -> Result<Ask<'a>, RowFault>
+    ensures row { IfOk result (λ ask.
+        IsRowOf catalogue.now (message_of ask).seat (message_of ask).message (row_texts row.now)) }
     ensures only { IfOk result (λ ask. (seat : ℕ) (message : Message)
         → IsRowOf catalogue.now seat message (row_texts row.now)
-        → (seat ≡ ask.seat) × (message ≡ message_of ask)) }
-    ensures known { IfOk result (λ ask. IsKnownMessage (facts_of catalogue.now) (message_of ask)) }
+        → (seat ≡ (message_of ask).seat) × (message ≡ (message_of ask).message)) }
+    ensures known { IfOk result (λ ask. IsKnownMessage (facts_of catalogue.now) (message_of ask).message) }
     ensures fault { IfErr result
         (IsFirstFault catalogue.now row.now.terminal.now (asked_texts row.now.asked)) }
     ensures none { OnErr result ((seat : ℕ) (message : Message)
@@ -94,10 +81,6 @@ pub fn ask_of<'a, A: Allocator + Copy>(
     };
     let parts = parts_said(catalogue, &row.asked)?;
     let asked = asked_of(&parts)?;
-    Ok(RowAsk {
-        seat: row.seat,
-        terminal,
-        asked,
-        line: row.line,
-    })
+    let seat = SeatNo::new(row.seat);
+    Ok(Ask::new(seat, terminal, asked, row.line))
 }

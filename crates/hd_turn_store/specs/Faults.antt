@@ -61,7 +61,8 @@ RefusesTurn old new kept error = Executes insert_turn_text (cells kept) old new 
 -- SQLite refused to put another digest into the head, which this fault tells.
 abbrev pub RefusesDigest : State → State → List ℕ → Fault → Type 0
 RefusesDigest old new digest fault =
-    (error : Error) × Executes update_head_text (Blob digest ∷ []) old new (Err error) × (fault ≡ writing_fault error)
+    (error : Error) × Executes update_head_text (Blob digest ∷ []) old new (Err error)
+    × (fault ≡ writing_fault error)
 
 -- Why a journal of a format is refused: another format than the known one is told, or its head can't be read.
 abbrev pub RefusesFormat : ℕ → Fault → Type 0

@@ -35,9 +35,9 @@ pub fn leave<D: Disk + Drop>(conn: Connection<FileStore<D>>) -> FileStore<D>
 
 /// Ends a journal well: its turns are then in the database file alone, also after a crash.
 pub fn end<D: Disk + Drop>(conn: Connection<FileStore<D>>) -> Result<Files<D>, Fault>
-    ensures copied { IfOk result (λ files. AreClean D.Disk files.log files.db → (head : Head) (ks : List KeptTurn)
-        → Holds (file_state conn) head ks → (left : Image) → outcomes D.Disk files.log files.db left
-        → HoldsTurnsAlone left head ks) }
+    ensures copied { IfOk result (λ files. AreClean D.Disk files.log files.db
+        → (head : Head) (ks : List KeptTurn) → Holds (file_state conn) head ks
+        → (left : Image) → outcomes D.Disk files.log files.db left → HoldsTurnsAlone left head ks) }
     ensures fault { IfErr result IsWritingFault }
 {
     match conn.close_files() {
@@ -70,8 +70,8 @@ fn connect<S: Start>(
     }
 }
 
-/// Begins a journal in a database without a table, and sees of another whether it is one that can be read. Says
-/// whether it was begun. What a journal's files hold stays, whatever this answers.
+/// Begins a journal in a database without a table, and sees of another whether it is one that can be read.
+/// Says whether it was begun. What a journal's files hold stays, whatever this answers.
 fn begin_or_check<S: Alter>(conn: &mut Connection<S>, digest: &[u8; 32]) -> Result<bool, Fault>
     ensures clean { HasCleanDisk (state S.Store conn.new) → HasCleanDisk (state S.Store conn.old) }
     ensures begun { HasCleanDisk (state S.Store conn.new) → IfOk result (λ is_new. IsTrue is_new

@@ -90,8 +90,8 @@ pub fn accept<S: Alter>(conn: &mut Connection<S>, digest: &[u8; 32]) -> Result<(
     }
 }
 
-/// Whether a journal can be read: its tables are those of a journal, and its format is the known one. What the
-/// files hold stays.
+/// Whether a journal can be read: its tables are those of a journal, and its format is the known one. What
+/// the files hold stays.
 pub(crate) fn check<S: Alter>(conn: &mut Connection<S>) -> Result<(), Fault>
     ensures clean { HasCleanDisk (state S.Store conn.new) → HasCleanDisk (state S.Store conn.old) }
     ensures schema { OnOk result ((state S.Store conn.old).now.schema ≡ journal_schema) }

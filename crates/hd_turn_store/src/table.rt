@@ -1,8 +1,8 @@
 //! Whether a database has a journal's tables and nothing else, or no table yet.
 
 ghost use Rattle.std.specs.Prelude.{◌≡◌, IsTrue};
-ghost use Rattle.hd_turn_store.specs.Tables.{strict, table_by_number, journal_columns, who_columns, what_columns};
-ghost use Rattle.hd_turn_store.specs.Tables.{bound_columns, answer_columns, turn_columns, journal_table};
+ghost use Rattle.hd_turn_store.specs.Tables.{strict, table_by_number, journal_columns, who_columns};
+ghost use Rattle.hd_turn_store.specs.Tables.{what_columns, bound_columns, answer_columns, turn_columns, journal_table};
 ghost use Rattle.hd_turn_store.specs.Tables.{turn_table, journal_schema, no_schema};
 
 use sqlite_schema::schema::{Column, Kind, Schema, Table};

@@ -1,8 +1,12 @@
 //! What `check` tells of a library.
 
+use crate::away::Away;
 use crate::fault::Fault;
-use crate::library::read_file;
+use crate::folder::Paths;
+use crate::library::{Library, read_file};
 use hd_catalogue::{Catalogue, TitleNo};
+use hd_command_line::Check;
+use hd_desk::{Desk, Meter};
 use std::alloc::{AllocError, Global};
 use std::io::{IsTerminal, Write};
 
@@ -10,16 +14,55 @@ use std::io::{IsTerminal, Write};
 const LONG_FILE: usize = 10_000_000;
 
 /// Tells what a catalogue file says, or why it is refused. A terminal is told before a long file is read.
-pub(crate) fn check(rt: &HostRuntime, path: &str) -> Result<(), Fault> {
-    let file = read_file(rt, path)?;
+pub(crate) fn check(rt: &HostRuntime, order: &Check<'_>) -> Result<(), Fault> {
+    let paths = Paths::of(rt, &order.library)?;
+    let file = read_file(rt, paths.files().catalogue)?;
     if file.len() > LONG_FILE && rt.stderr().is_terminal() {
         eprintln!(rt; "checking {} MB", file.len() / 1_000_000)?;
     }
+    let version = version_of(file.as_slice());
+    let library = Library::of_catalogue(rt, file.as_slice())?;
+    drop(file);
+    let report = report_of(rt.alloc(), version, &library.catalogue)?;
+    match paths.files().opening {
+        None => {
+            rt.stdout().write_all(report.as_slice())?;
+            Ok(())
+        }
+        Some(path) => check_opening(rt, library.opened(rt, path)?, report.as_slice()),
+    }
+}
+
+/// Tells what a catalogue file says, and then what the opening file does: the last number, and how many
+/// loans, copies kept or on their way and holds the desk has that the journal begins with.
+fn check_opening(rt: &HostRuntime, library: Library, report: &[u8]) -> Result<(), Fault> {
     let alloc = rt.alloc();
-    let catalogue = Catalogue::read(alloc, file.as_slice())?;
-    let report = report_of(alloc, version_of(file.as_slice()), &catalogue)?;
-    rt.stdout().write_all(report.as_slice())?;
+    let last = library.catalogue.last_before();
+    let journal = hd_journal::open(alloc, alloc, Meter::new(rt), library.catalogue)?;
+    let away = Away::of(journal.desk());
+    rt.stdout().write_all(report)?;
+    println!(rt;
+        "last number: {last}\ncopies on loan: {}\ncopies on hold shelves: {}\ncopies in transit: {}\n\
+        holds: {}",
+        away.on_loan,
+        away.on_hold_shelves,
+        away.in_transit,
+        holds_of(journal.desk())
+    )?;
     Ok(())
+}
+
+/// How many holds a desk has.
+fn holds_of(desk: &Desk) -> usize {
+    let catalogue: &Catalogue = desk.catalogue();
+    let mut count = 0usize;
+    for number in 0..catalogue.titles() {
+        let title = TitleNo::new(number as u32).unwrap();
+        for _ in desk.queue(title).holds() {
+            count = count.saturating_add(1);
+        }
+    }
+    count
 }
 
 /// What a catalogue file says, a line for each value, in the order of docs/operating.md.

@@ -1,7 +1,10 @@
 //! Why the program stops.
 
-use hd_catalogue::CatFault;
+use hd_catalogue::{CatFault, OpeningFault as UnfitOpening};
+use hd_desk::{OpenFault as DeskFault, RowFault};
 use hd_journal_file::OpenFault;
+use hd_opening::OpeningFault;
+use hd_replay::ReplayFault;
 use hd_serve::ServeFault;
 use hd_server::ServerFault;
 use std::alloc::{AllocError, AllocFailed};
@@ -9,7 +12,7 @@ use std::io;
 use thiserror::Error;
 
 /// Why the program stops before its end, printed as one line on standard error.
-#[derive(Clone, Copy, Debug, PartialEq, Eq, Error)]
+#[derive(Debug, Drop, Error)]
 pub(crate) enum Fault {
     /// The catalogue file can't be read.
     #[error("cannot read the catalogue")]
@@ -26,6 +29,75 @@ pub(crate) enum Fault {
     /// Out of memory before the first connection, or for what `check` tells.
     #[error("no memory")]
     Memory,
+    /// There is no journal at this path.
+    #[error("there is no journal at {0}")]
+    NoJournal(String),
+    /// There is one at this path, where one was to be begun.
+    #[error("there is a journal at {0}")]
+    JournalIsThere(String),
+    /// There is no complete library in this folder.
+    #[error("there is no library in {0}")]
+    NoLibrary(String),
+    /// There is one in this folder, where one was to be begun.
+    #[error("there is a library in {0}")]
+    LibraryIsThere(String),
+    /// A file is at this path, where one was to be written.
+    #[error("there is a file at {0}")]
+    FileIsThere(String),
+    /// The opening file can't be read.
+    #[error("cannot read the opening")]
+    CannotReadOpening,
+    /// The opening file is refused.
+    #[error("{0}")]
+    Opening(OpeningFault),
+    /// A row of the opening file says what was said already.
+    #[error("opening line {line}: DOUBLE")]
+    DoubleRow {
+        /// Its line, from 1.
+        line: usize,
+    },
+    /// A row of the opening file tells of a hold that isn't there.
+    #[error("opening line {line}: UNKNOWN")]
+    RowWithoutHold {
+        /// Its line, from 1.
+        line: usize,
+    },
+    /// A row of the opening file has a number out of its bounds.
+    #[error("opening line {line}: NUMBER")]
+    UnfitRow {
+        /// Its line, from 1.
+        line: usize,
+    },
+    /// No title of the library has this name.
+    #[error("there is no title {0}")]
+    NoTitle(String),
+    /// No branch of the library has this name.
+    #[error("there is no branch {0}")]
+    NoBranch(String),
+    /// This is no day of the form 2026-03-01.
+    #[error("{0} is no day")]
+    NoDay(String),
+    /// This file can't be read.
+    #[error("cannot read {0}")]
+    CannotReadFile(String),
+    /// What is in the way of a library that is to be carried over, a line for each thing.
+    #[error("{0}")]
+    InTheWay(String),
+    /// So many numbers have been given that no more can be carried over.
+    #[error("the numbers are used up")]
+    NumbersUsedUp,
+    /// An opening that was written and read back isn't the desk.
+    #[error("not carried over")]
+    NotCarriedOver,
+    /// A file can't be written at this path.
+    #[error("cannot write {0}")]
+    CannotWriteFile(String),
+    /// A journal's log is missing, which may have had the last turns.
+    #[error("the journal's log is missing")]
+    NoLog,
+    /// A journal's log is at this path, and the journal is missing.
+    #[error("there is the log {0}, and not its journal")]
+    LogAlone(String),
     /// A journal's file can't be opened or ended.
     #[error("{0}")]
     Journal(OpenFault),
@@ -37,6 +109,43 @@ pub(crate) enum Fault {
 impl From<CatFault> for Fault {
     fn from(fault: CatFault) -> Fault {
         Fault::Catalogue(fault)
+    }
+}
+
+impl From<DeskFault> for Fault {
+    fn from(fault: DeskFault) -> Fault {
+        match fault {
+            DeskFault::Memory => Fault::Memory,
+            DeskFault::Row { at, cause } => {
+                let line = line_of(at);
+                match cause {
+                    RowFault::Twice => Fault::DoubleRow { line },
+                    RowFault::NoHold => Fault::RowWithoutHold { line },
+                }
+            }
+        }
+    }
+}
+
+impl From<UnfitOpening> for Fault {
+    fn from(fault: UnfitOpening) -> Fault {
+        match fault {
+            UnfitOpening::Last => Fault::UnfitRow { line: 1 },
+            UnfitOpening::Row { index } => Fault::UnfitRow {
+                line: line_of(index),
+            },
+        }
+    }
+}
+
+/// The line of an opening file on which the row stands that has so many before it.
+fn line_of(rows: usize) -> usize {
+    rows.saturating_add(2)
+}
+
+impl From<OpeningFault> for Fault {
+    fn from(fault: OpeningFault) -> Fault {
+        Fault::Opening(fault)
     }
 }
 
@@ -55,6 +164,12 @@ impl From<hd_turn_store::Fault> for Fault {
 impl From<ServerFault> for Fault {
     fn from(fault: ServerFault) -> Fault {
         Fault::Server(fault)
+    }
+}
+
+impl From<ReplayFault> for Fault {
+    fn from(fault: ReplayFault) -> Fault {
+        Fault::Server(ServerFault::Replay(fault))
     }
 }
 

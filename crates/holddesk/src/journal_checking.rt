@@ -1,34 +1,27 @@
 //! What `journal check` tells of a journal's file.
 
+use crate::away::Away;
 use crate::fault::Fault;
-use crate::keeping::{end_kept, open_kept};
-use hd_catalogue::Catalogue;
-use hd_command_line::Keeping;
-use hd_desk::Desk;
+use crate::folder::Paths;
+use crate::keeping::{Keeping, end_kept, open_kept};
+use hd_command_line::JournalCheck;
 use hd_durable::DurableJournal;
 use hd_journal::Journal;
-use hd_journal_file::{JournalFile, OpenFault};
-use hd_rules::{CopyNo, CopyState};
+use hd_journal_file::JournalFile;
 use hd_server::summary_of;
 use hd_turn_store::{Alter, Connection, FileStore, Start, Unknown};
 use sqlite_disk::Disk;
-use std::{fs, io};
-
-/// How many copies a library has in each of the places where a patron misses them.
-#[derive(Clone, Copy)]
-struct Away {
-    on_loan: usize,
-    on_hold_shelves: usize,
-    in_transit: usize,
-}
+use std::io;
 
 /// Tells what the desk is after the turns of a journal's file, each taken again and compared, or why the file
 /// is refused. There has to be one.
-pub(crate) fn check_journal(rt: &HostRuntime, keeping: &Keeping<'_>) -> Result<(), Fault> {
-    if fs::open(rt, keeping.journal).is_err() {
-        return Err(Fault::Journal(OpenFault::File(hd_turn_store::Fault::CannotOpen)));
-    }
-    tell_on_disks(rt, open_kept(rt, Unknown, keeping)?)
+pub(crate) fn check_journal(rt: &HostRuntime, order: &JournalCheck<'_>) -> Result<(), Fault> {
+    let paths = Paths::of(rt, &order.library)?;
+    let keeping = Keeping {
+        library: paths.files(),
+        is_other_accepted: order.is_other_accepted,
+    };
+    tell_on_disks(rt, open_kept(rt, Unknown, &keeping)?)
 }
 
 /// Writes what a journal on these disks comes to, and ends its file well.
@@ -55,31 +48,10 @@ fn tell_in_file<R: Print, S: Alter + Drop, F: Start>(
 
 /// Writes what a journal comes to, a line for each number.
 fn tell<R: Print>(rt: &R, journal: &Journal) -> io::Result<()> {
-    let away = away_of(journal.desk());
+    let away = Away::of(journal.desk());
     let summary = summary_of(journal);
     println!(rt;
         "turns: {}\nsurvivors: {}\ncopies on loan: {}\ncopies on hold shelves: {}\ncopies in transit: {}",
         summary.turns, summary.survivors, away.on_loan, away.on_hold_shelves, away.in_transit
     )
-}
-
-/// How many copies of a desk aren't on an open shelf.
-fn away_of(desk: &Desk) -> Away {
-    let mut away = Away {
-        on_loan: 0,
-        on_hold_shelves: 0,
-        in_transit: 0,
-    };
-    let catalogue: &Catalogue = desk.catalogue();
-    for number in 0..catalogue.copies() {
-        let copy = CopyNo::new(number as u32).unwrap();
-        let count = match desk.copy(copy) {
-            CopyState::Shelf(_) => continue,
-            CopyState::OnLoan(_) => &mut away.on_loan,
-            CopyState::OnHoldShelf(_) => &mut away.on_hold_shelves,
-            CopyState::InTransit(_) => &mut away.in_transit,
-        };
-        *count = count.saturating_add(1);
-    }
-    away
 }

@@ -1,26 +1,42 @@
 //! holddesk: a hold desk for the self-service terminals of a library, over SIP2 2.00.
 #![tactic(auto)]
 
+mod away;
+mod beginning;
+mod carried;
+mod carrying;
 mod checking;
+mod comparing;
 mod counted;
+mod days;
 mod fault;
+mod folder;
 mod journal_checking;
 mod keeping;
 mod library;
+mod listing;
+mod names;
+mod presence;
+mod replaying;
 mod serving;
 mod serving_kept;
+mod showing;
+mod table;
+mod views;
+mod writing;
+mod written_off;
 
+use crate::beginning::begin_journal;
+use crate::carrying::carry_over;
 use crate::checking::check;
 use crate::fault::Fault;
 use crate::journal_checking::check_journal;
-use crate::library::read_file;
-use crate::serving::{run, start};
-use crate::serving_kept::run_kept;
-use hd_command_line::{Order, Replay, VIEWS, parse};
-use hd_connection::Fallible;
-use hd_server::replay;
-use hd_turn_store::{Unknown, Wary};
-use std::io::{self, Write};
+use crate::replaying::answer;
+use crate::serving_kept::serve;
+use crate::showing::show_journal;
+use crate::views::print_views;
+use hd_command_line::{Order, parse};
+use std::io;
 use std::process::ExitCode;
 
 /// The exit status of a fault, which is printed as one line on standard error.
@@ -40,18 +56,14 @@ fn main(rt: HostRuntime) -> io::Result<ExitCode> {
         }
     };
     let ended = match order {
-        Order::Check(order) => check(&rt, order.catalogue),
+        Order::Check(order) => check(&rt, &order),
         Order::Replay(order) => answer(&rt, &order),
-        Order::Serve(order) => match order.keeping() {
-            None => match start(&rt, &order) {
-                Ok(started) => run(&rt, alloc, started, &order),
-                Err(fault) => Err(fault),
-            },
-            Some(keeping) if order.is_wary => run_kept(&rt, &rt, Wary, &keeping, &order),
-            Some(keeping) => run_kept(&rt, &rt, Unknown, &keeping, &order),
-        },
-        Order::JournalCheck(keeping) => check_journal(&rt, &keeping),
-        Order::JournalViews => print_views(&rt),
+        Order::Serve(order) => serve(&rt, &rt, &order),
+        Order::Carry(order) => carry_over(&rt, &order),
+        Order::JournalBegin(order) => begin_journal(&rt, &order),
+        Order::JournalCheck(order) => check_journal(&rt, &order),
+        Order::JournalShow(order) => show_journal(&rt, &order),
+        Order::JournalViews(order) => print_views(&rt, &order),
     };
     match ended {
         Ok(()) => Ok(ExitCode::SUCCESS),
@@ -60,20 +72,4 @@ fn main(rt: HostRuntime) -> io::Result<ExitCode> {
             Ok(ExitCode::from(FAULT))
         }
     }
-}
-
-/// Answers the messages of the standard input.
-fn answer(rt: &HostRuntime, order: &Replay<'_>) -> Result<(), Fault> {
-    let file = read_file(rt, order.catalogue)?;
-    let now = order.now.as_bytes();
-    let mut from = Fallible(rt.stdin());
-    let mut to = Fallible(rt.stdout());
-    replay(rt, file.as_slice(), now, &mut from, &mut to)?;
-    Ok(())
-}
-
-/// Prints the views of a journal's file.
-fn print_views(rt: &HostRuntime) -> Result<(), Fault> {
-    rt.stdout().write_all(VIEWS.as_bytes())?;
-    Ok(())
 }

@@ -3,14 +3,13 @@ ghost use Rattle.std.specs.Prelude.{◌≡◌, ◌≤◌, [], IfOk};
 
 use crate::counted::Counted;
 use crate::fault::Fault;
-use crate::library::read_file;
-use hd_attend::Gate;
+use crate::library::Library;
 use hd_catalogue::Catalogue;
-use hd_command_line::Serve;
+use hd_command_line::{LibraryFiles, Serve};
 use hd_desk::Meter;
 use hd_hall::Keeper;
 use hd_journal::Journal;
-use hd_serve::ServeFault;
+use hd_serve::{Gate, ServeFault};
 use hd_server::{Options, Summary};
 use std::alloc::Global;
 use std::io;
@@ -28,22 +27,24 @@ impl Gate for OpenGate {
 
 /// A server that has its port, and a journal without turns.
 #[derive(Drop)]
-pub(crate) struct Started {
+pub(crate) struct OpenServer {
     listener: TcpListener,
     journal: Journal,
 }
 
 /// Reads the catalogue, takes the port, and says on standard error where the server listens.
-pub(crate) fn start(rt: &HostRuntime, order: &Serve<'_>) -> Result<Started, Fault>
-    ensures { IfOk result (λ started. started.journal.turns ≡ []) }
+pub(crate) fn start(
+    rt: &HostRuntime,
+    files: &LibraryFiles<'_>,
+    order: &Serve<'_>,
+) -> Result<OpenServer, Fault>
+    ensures { IfOk result (λ server. server.journal.turns ≡ []) }
 {
-    let file = read_file(rt, order.catalogue)?;
-    let catalogue = Catalogue::read(rt.alloc(), file.as_slice())?;
-    drop(file);
+    let Library { catalogue, .. } = Library::read(rt, files)?;
     let listener = listen(rt, order, &catalogue)?;
     let alloc = rt.alloc();
     let journal = hd_journal::open(alloc, alloc, Meter::new(rt), catalogue)?;
-    Ok(Started { listener, journal })
+    Ok(OpenServer { listener, journal })
 }
 
 /// Says on standard error how many turns the journal has, and takes the port.
@@ -98,12 +99,12 @@ fn tell_start<R: Eprint>(
 pub(crate) fn run<R: Threads + Wait + Clock + Sync + Print>(
     rt: &R,
     alloc: Global,
-    started: Started,
+    server: OpenServer,
     order: &Serve<'_>,
 ) -> Result<(), Fault>
-    requires { started.journal.turns ≡ [] }
+    requires { server.journal.turns ≡ [] }
 {
-    let Started { listener, journal } = started;
+    let OpenServer { listener, journal } = server;
     let options = options_of(order);
     let summary = hd_server::serve(rt, alloc, listener, journal, &options, &OpenGate)?;
     tell_end(rt, &summary)?;

@@ -1,21 +1,45 @@
 //! Serving terminals with a journal that is kept in a file.
 
 use crate::fault::Fault;
-use crate::keeping::{end_kept, open_kept};
-use crate::serving::{serve_at, tell_end};
-use hd_command_line::{Keeping, Serve};
+use crate::folder::Paths;
+use crate::keeping::{Keeping, end_kept, open_kept};
+use crate::serving::{run, serve_at, start, tell_end};
+use hd_command_line::Serve;
 use hd_durable::{DurableJournal, DurableKeeper, TurnTable};
 use hd_journal_file::JournalFile;
 use hd_server::{Summary, summary_of};
-use hd_turn_store::{Alter, Connection, FileStore, Start};
+use hd_turn_store::{Alter, Connection, FileStore, Start, Unknown, Wary};
 use sqlite_disk::Disk;
 use std::sync::Wait;
 use std::thread::Threads;
 use std::time::Clock;
 
+/// Serves terminals over a library as the words of the command line say, with its journal in memory or in a
+/// file.
+pub(crate) fn serve<R: Threads + Wait + Clock + Sync + Print>(
+    rt: &R,
+    host: &HostRuntime,
+    order: &Serve<'_>,
+) -> Result<(), Fault> {
+    let paths = Paths::of(host, &order.library)?;
+    let library = paths.files();
+    if library.journal.is_none() {
+        return run(rt, host.alloc(), start(host, &library, order)?, order);
+    }
+    let keeping = Keeping {
+        library,
+        is_other_accepted: order.is_other_accepted,
+    };
+    if order.is_wary {
+        run_kept(rt, host, Wary, &keeping, order)
+    } else {
+        run_kept(rt, host, Unknown, &keeping, order)
+    }
+}
+
 /// Opens a journal's file, serves terminals as the words of the command line say, and tells how it ended. The
 /// turns in the file are told first.
-pub(crate) fn run_kept<R: Threads + Wait + Clock + Sync + Print, S: Start + Send>(
+fn run_kept<R: Threads + Wait + Clock + Sync + Print, S: Start + Send>(
     rt: &R,
     host: &HostRuntime,
     start: S,

@@ -51,7 +51,7 @@ impl Act {
     {
         let copy = catalogue.copy(b"a1")?;
         match self {
-            Act::NoCheckout => Some(Asked::Cancel(Cancel::Loan(copy))),
+            Act::NoCheckout => Some(Asked::Cancel(Cancel::Checkout(copy))),
             Act::Item => Some(Asked::Item(copy)),
             _ => Some(Asked::Command(Command {
                 day: day(b"20260301    100000")?,

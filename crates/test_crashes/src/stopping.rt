@@ -12,7 +12,7 @@ use crate::row::Row;
 use crate::step::Step;
 use crate::whole::Whole;
 use hd_durable::{DurableJournal, TurnTable};
-use hd_journal::{Ask, Journal, SeatNo};
+use hd_journal::{Ask, Journal, OwnedAsk, SeatNo};
 use hd_journal_file::{Wanted, open_over, restore_turns};
 use hd_turn_store::{Alter, Connection, Unknown, begin, is_blank, leave};
 use std::alloc::Global;
@@ -155,7 +155,7 @@ fn answered_over<S: Alter + Drop>(
 fn take<T: TurnTable>(alloc: Global, kept: &mut DurableJournal<T>, step: &Step) -> Option<()> {
     let wish = step.wish(kept.catalogue())?;
     let ask = Ask::new(SeatNo::new(0), wish.terminal, wish.asked, step.line);
-    let own = ask.to_owned(alloc).ok()?;
+    let own = OwnedAsk::of(alloc, &ask).ok()?;
     match kept.take(own) {
         Ok(_) => Some(()),
         Err(_) => None,

@@ -2,7 +2,7 @@
 
 use crate::library::new_journal;
 use crate::step::Step;
-use hd_journal::{Ask, Journal, SeatNo, TurnRef};
+use hd_journal::{Ask, Journal, OwnedAsk, SeatNo, TurnRef};
 use hd_rules::{same_asked, same_turn_reply};
 use std::alloc::Global;
 
@@ -61,7 +61,7 @@ impl Whole {
 fn take(alloc: Global, journal: &mut Journal, step: &Step) -> Option<bool> {
     let wish = step.wish(journal.desk().catalogue())?;
     let ask = Ask::new(SeatNo::new(0), wish.terminal, wish.asked, step.line);
-    let own = ask.to_owned(alloc).ok()?;
+    let own = OwnedAsk::of(alloc, &ask).ok()?;
     let is_changing = journal.is_changing(&own);
     match journal.take(own) {
         Ok(_) => Some(is_changing),

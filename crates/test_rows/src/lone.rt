@@ -1,5 +1,5 @@
 //! A terminal alone at a journal.
-ghost use Rattle.hd_session.specs.Standing.{IsKnownTo};
+ghost use Rattle.hd_session.specs.States.{IsKnownTo};
 
 use crate::library::library_of;
 use hd_date::Stamp18;
@@ -16,7 +16,7 @@ pub(crate) struct Lone<A: Allocator> {
     session: Session<A>,
     /// What it was answered to the last line.
     out: Vec<u8, A>,
-    ghost known: { IsKnownTo journal.contents session.standing },
+    ghost known: { IsKnownTo journal.contents session.state },
 }
 
 impl<A: Allocator + Copy> Lone<A> {
@@ -32,7 +32,9 @@ impl<A: Allocator + Copy> Lone<A> {
         let Some((catalogue, now)) = library_of(alloc, catalogue, now) else {
             return Ok(None);
         };
-        let journal = hd_journal::open(alloc, rt.alloc(), Meter::new(rt), catalogue)?;
+        let Ok(journal) = hd_journal::open(alloc, rt.alloc(), Meter::new(rt), catalogue) else {
+            return Err(AllocError);
+        };
         Ok(Some(Lone {
             journal,
             now,

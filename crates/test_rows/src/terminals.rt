@@ -38,7 +38,9 @@ impl Terminals {
         let Some((catalogue, now)) = library_of(alloc, row.catalogue(), row.now()) else {
             return Ok(None);
         };
-        let journal = hd_journal::open(alloc, alloc, Meter::new(rt), catalogue)?;
+        let Ok(journal) = hd_journal::open(alloc, alloc, Meter::new(rt), catalogue) else {
+            return Err(AllocError);
+        };
         Ok(Some(Terminals {
             journal,
             now,

@@ -4,7 +4,7 @@ use crate::lines::{HELD_1_FIRST, HOLD_1, LOGGED_IN, LOGIN_1};
 use crate::serving::{Row, Scale, one, open, play};
 use crate::terminal::Terminal;
 use crate::waiting::{TURNS, nap};
-use hd_attend::Gate;
+use hd_serve::Gate;
 use hd_server::{ServeFault, ServerFault};
 use std::net::{Shutdown, SocketAddr, TcpStream};
 use std::os::fd::OwnedFd;

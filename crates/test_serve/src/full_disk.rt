@@ -39,7 +39,7 @@ impl Keeper<Global, OwnedAsk<Global>> for FullDisk {
     ghost causes = { λ old ask new. IsMemoryOrUnwritten };
 
     fn own(alloc: Global, ask: &Ask<'_>) -> Result<OwnedAsk<Global>, AllocError> {
-        ask.to_owned(alloc)
+        OwnedAsk::of(alloc, ask)
     }
 
     fn catalogue(&self) -> &Arc<Catalogue> {

@@ -3,7 +3,7 @@
 use crate::lines::{HELD_1_FIRST, HOLD_1, ITEM, LOGGED_IN, LOGIN_1, ON_SHELF};
 use crate::serving::{Row, Scale, is_well, one, open, play};
 use crate::terminal::Terminal;
-use hd_attend::Gate;
+use hd_serve::Gate;
 use std::alloc::{AllocError, Global};
 use std::sync::Wait;
 use std::sync::atomic::{AtomicBool, AtomicUsize, Ordering};

@@ -4,7 +4,7 @@ use crate::lines::{HELD_2_FIRST, HOLD_2, ITEM, LOGGED_IN, LOGIN_1, LOGIN_2, ON_S
 use crate::serving::{Row, Scale, is_well, open, play, two};
 use crate::terminal::Terminal;
 use crate::waiting::{TURNS, is_up_within};
-use hd_attend::Gate;
+use hd_serve::Gate;
 use std::sync::Wait;
 use std::sync::atomic::{AtomicBool, Ordering};
 use std::thread::Threads;

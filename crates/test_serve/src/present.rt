@@ -3,8 +3,8 @@
 use crate::serving::{Row, Scale, is_well, one, open, play};
 use crate::terminal::Terminal;
 use crate::waiting::{TURNS, nap};
-use hd_attend::Gate;
 use hd_date::{OffsetMinutes, Stamp18};
+use hd_serve::Gate;
 use std::sync::Wait;
 use std::thread::Threads;
 use std::time::Clock;

@@ -8,7 +8,7 @@ use crate::lines::{
 use crate::serving::{Row, Scale, is_well, open, play};
 use crate::terminal::Terminal;
 use crate::waiting::has_unread_in_time;
-use hd_attend::Gate;
+use hd_serve::Gate;
 use std::alloc::{AllocError, Global};
 use std::sync::Wait;
 use std::thread;

@@ -4,9 +4,8 @@ ghost use Rattle.std.specs.Prelude.{◌≡◌, ◌≤◌, []};
 
 use crate::library::new_journal;
 use crate::terminal::Terminal;
-use hd_attend::Gate;
 use hd_hall::Keeper;
-use hd_serve::ServeFault;
+use hd_serve::{Gate, ServeFault};
 use hd_server::{Options, ServerFault, Summary};
 use std::alloc::Global;
 use std::net::{SocketAddr, TcpListener};

@@ -7,7 +7,7 @@ use crate::lines::{
 use crate::serving::{Row, Scale, is_well, open, play, two};
 use crate::terminal::Terminal;
 use crate::waiting::{TURNS, is_up_within, nap};
-use hd_attend::Gate;
+use hd_serve::Gate;
 use std::alloc::Global;
 use std::sync::Wait;
 use std::sync::atomic::{AtomicBool, AtomicUsize, Ordering};

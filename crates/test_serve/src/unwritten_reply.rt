@@ -4,7 +4,7 @@ use crate::lines::{LOGGED_IN, LOGIN_1};
 use crate::serving::{Row, Scale, is_well, open, play, two};
 use crate::terminal::Terminal;
 use crate::waiting::{TURNS, has_unread_in_time, is_up_within};
-use hd_attend::Gate;
+use hd_serve::Gate;
 use std::sync::Wait;
 use std::sync::atomic::{AtomicBool, Ordering};
 use std::thread::Threads;

@@ -6,9 +6,10 @@ ghost use Rattle.hd_journal.specs.Openings.{fresh};
 use crate::attending::outcome::Outcome;
 use crate::attending::wire::{Incoming, TAKEN, Wire};
 use crate::library::new_journal;
-use hd_attend::{AttendFault, Gate, attend};
+use hd_attend::{AttendFault, Surroundings, attend};
 use hd_connection::{Fallible, Input, Output};
-use hd_hall::{Hall, House, Seat};
+use hd_date::Stamp18;
+use hd_hall::{Counter, Hall, House, Seat};
 use hd_journal::Journal;
 use hd_session::Session;
 use std::alloc::Global;
@@ -75,10 +76,10 @@ fn end_of<H: House, R: Wait, I: Input, W: Output>(
     requires { seat.old.parts ≡ 1 }
     ensures { seat.new.parts ≡ 1 }
 {
-    let now = present()?;
+    let surroundings = FixedPresent(present()?);
     let mut state = Session::new(alloc).ok()?;
-    let tell = || now;
-    Some(attend(rt, alloc, from, to, hall, seat, &mut state, 1, &tell, &Open))
+    let mut counter = Counter::new(rt, hall, seat);
+    Some(attend(rt, from, to, &mut counter, &mut state, 1, &surroundings))
 }
 
 /// Closes a hall of one seat. None where it is out of memory, or where it doesn't close.
@@ -91,10 +92,18 @@ fn close<H: House>(alloc: Global, hall: Hall<H>, seat: Seat<H>) -> Option<Box<Jo
     Box::new(alloc, hall.close(seats).ok()?).ok()
 }
 
-/// A gate that lets each turn pass.
-#[derive(Clone, Copy)]
-struct Open;
+/// Surroundings at one present, whom no turn concerns.
+#[derive(Drop)]
+struct FixedPresent(Stamp18);
 
-impl Gate for Open {
-    fn before(&self, _session: usize, _turn: usize) {}
+impl Surroundings for FixedPresent {
+    ghost use Rattle.std.specs.Prelude.{◌≡◌};
+
+    ghost tells = { λ fixed stamp. stamp ≡ fixed.0 };
+
+    fn now(&self) -> Stamp18 {
+        self.0
+    }
+
+    fn before_turn(&self, _session: usize, _number: usize) {}
 }

@@ -131,7 +131,7 @@ pub(crate) fn no_hold<A: Allocator + Copy>(
     let title = catalogue.title(b"ta")?;
     Some(Wish {
         terminal,
-        asked: Asked::Cancel(Cancel::Adding(patron, title)),
+        asked: Asked::Cancel(Cancel::Add(patron, title)),
     })
 }
 

@@ -1,8 +1,7 @@
 //! A catalogue that is read, and a desk that is opened.
 
 use hd_catalogue::{CatFault, Catalogue, Cause};
-use hd_desk::Desk;
-use std::alloc::AllocError;
+use hd_desk::{Desk, OpenFault};
 use std::sync::Arc;
 use test_kit::{CATALOGUE, Refusing};
 
@@ -58,7 +57,10 @@ pub(crate) fn open_desk(rt: &HostRuntime, passed: u64) -> Option<u64> {
     let requests = memory.requests();
     let is_well = match opened {
         Ok(_) => requests <= passed,
-        Err(AllocError) => requests > passed && Desk::open(&memory, rt.alloc(), again).is_ok(),
+        Err(OpenFault::Memory) => {
+            requests > passed && Desk::open(&memory, rt.alloc(), again).is_ok()
+        }
+        Err(OpenFault::Row { .. }) => false,
     };
     is_well.then_some(requests)
 }

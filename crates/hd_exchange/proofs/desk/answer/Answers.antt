@@ -1,4 +1,4 @@
-use Rattle.std.proofs.Common.{◌∙◌, ap, sym, [], append-nil}
+use Rattle.std.proofs.Common.{◌∙◌, ap, sym, [], append-nil, arith, refl}
 use Rattle.hd_journal.specs.Offices.{Keeps}
 use Rattle.hd_exchange.proofs.Answering.{answered, refused}
 use Rattle.hd_exchange.proofs.desk.answer.Goals as goal
@@ -10,18 +10,22 @@ returns-in_ok-turn-in-Ok-clause-answer g c =
     let ask = rw c.in-Ok.is at c.requires.message.ask in (
       _,
       _,
-      turn.ensures.turn,
-      c.write_reply.ensures.text,
       answered _ _ c.args.message.now c.reply_to-reply.result here c.in-Ok.ask c.what_is_asked.result.now turn.turn.reply
           c.what_is_asked.ensures c.in-Ok.is ask.of_kind c.reply_to-reply.ensures.reply,
+      record { turns = turn.ensures.turn; same = turn.ensures.same; holds = λ _. turn.ensures.holds },
+      c.write_reply.ensures.text,
+      omega arith,
+      c.write_reply.ensures.short,
     )
 
 pub returns-in-Err-clause-answer : goal.returns-in-Err-clause-answer
 returns-in-Err-clause-answer g c = (
   [],
   _,
-  sym (append-nil _),
-  c.write_reply-in-Err.ensures.text,
   refused _ _ c.args.message.now c.refusal_reply-reply.result c.catalogue-in-Err.ensures c.in-Err.refusal
       c.in-Err.is c.refusal_reply-reply.ensures.reply,
+  record { turns = sym (append-nil _); same = refl; holds = λ held. held },
+  c.write_reply-in-Err.ensures.text,
+  omega arith,
+  c.write_reply-in-Err.ensures.short,
 )

@@ -1,14 +1,15 @@
 use Rattle.std.proofs.Common.{refl}
 use Rattle.hd_exchange.proofs.status.write_status.Goals as goal
 
-pub returns-clause-text : goal.returns-clause-text
-returns-clause-text g c = (
+pub returns : goal.returns
+returns g c = (
   _,
-  c.write_reply.ensures.text,
   record {
     status = record { date = c.as_slice.result; institution = c.institution.result };
     date = rw c.as_slice.ensures c.print-date.ensures.text;
     institution = c.institution.ensures.name;
     spelled = refl;
   },
+  c.write_reply.ensures.text,
+  c.write_reply.ensures.short,
 )

@@ -1,7 +1,7 @@
 use Rattle.std.proofs.Common.{refl, sym, subst, ◌∙◌}
 use Rattle.std.proofs.lemmas.Result.{on_ok_weaker, IfErr-weaker}
 use Rattle.hd_catalogue.specs.Contents.{Contents, facts_of}
-use Rattle.hd_journal.specs.Asks.{IsKnownMessage}
+use Rattle.hd_rules.specs.Messages.{IsKnownMessage}
 use Rattle.hd_turn_store.specs.Rows.{read_turn}
 use Rattle.hd_journal_file.specs.Restored.{RefusesRow}
 use Rattle.hd_journal_file.specs.declared.fault.RestoreFault.{RestoreFault}

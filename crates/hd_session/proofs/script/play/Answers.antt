@@ -1,8 +1,8 @@
-use Rattle.std.proofs.Common.{◌≡◌, ◌<◌, ◌∙◌, map, get_or, length, ℕ, [], Vec}
-use Rattle.std.proofs.lemmas.List.{get_or-map, length-map, length-set, map-set}
+use Rattle.std.proofs.Common.{◌≡◌, ◌<◌, ◌∙◌, map, get_or, length, ℕ, [], Vec, sym}
+use Rattle.std.proofs.lemmas.List.{get_or-map, length-map, map-set}
 use Rattle.hd_session.specs.Scripts.{Step}
 use Rattle.hd_session.specs.Sessions.{new_session}
-use Rattle.hd_session.proofs.Knowing.{at_place, one_goes_on, one_of_known}
+use Rattle.hd_session.proofs.Knowing.{at_place, one_of_known}
 use Rattle.hd_session.proofs.Playing.{plays_one}
 use Rattle.hd_session.proofs.script.play.Goals as goal
 
@@ -12,13 +12,8 @@ feed-requires g c =
     let session = c.index-sessions-session.result in
     record { place = one_of_known k c.args.sessions.now c.args.session session c.requires.known c.requires.session }
 
-pub returns-clause-known : goal.returns-clause-known
-returns-clause-known g c =
-    let k = (g.O.Office.keeps c.args.office.now).contents in
-    one_goes_on k c.args.sessions.now c.args.session c.feed.new.self c.requires.known c.feed.ensures.place
-
-pub returns-clause-plays : goal.returns-clause-plays
-returns-clause-plays g c =
+pub returns : goal.returns
+returns g c =
     let within = c.requires.session in
     let inside : c.args.session < length c.args.outs.now = rw c.requires.outs within in
     let items = λ (out : Vec ℕ g.row.A.Denot). out.items in
@@ -28,9 +23,5 @@ returns-clause-plays g c =
     let step : Step = record { session = c.args.session; piece = record { now = c.args.now.now; bytes = c.args.bytes.now } } in
     let same = at_place c.args.sessions.now c.args.session c.index-sessions-session.result new_session within in
     rw (map-set items c.args.outs.now c.args.session c.feed.new.out)
-    (plays_one _ _ _ step c.args.sessions.now _ c.feed.new.self _ _ (map items c.args.outs.now) c.feed.new.out.items within
-    (length-map c.args.outs.now items ∙ c.requires.outs) (rw (← here, same) at c.feed.ensures.fed))
-
-pub returns-clause-sizes : goal.returns-clause-sizes
-returns-clause-sizes g c =
-    (length-set c.args.sessions.now c.args.session c.feed.new.self, length-set c.args.outs.now c.args.session c.feed.new.out)
+    (plays_one _ _ _ _ c.feed.new.out step c.args.sessions.now c.feed.new.self (map items c.args.outs.now) within
+    (length-map c.args.outs.now items ∙ c.requires.outs) (sym here) (rw same at c.feed.ensures.fed))

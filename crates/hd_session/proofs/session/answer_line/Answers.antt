@@ -7,4 +7,4 @@ hear-requires-clause-some g c = some_line c.args.line.now (sym c.is_empty.ensure
 
 pub returns-then-is_empty-clause-heard : goal.returns-then-is_empty-clause-heard
 returns-then-is_empty-clause-heard g c =
-    answers_empty _ _ _ _ c.args.line.now _ _ (sym c.is_empty.ensures ∙ c.if-is_empty.true)
+    answers_empty _ _ _ _ c.args.line.now _ (sym c.is_empty.ensures ∙ c.if-is_empty.true)

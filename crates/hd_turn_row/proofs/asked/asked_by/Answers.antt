@@ -25,43 +25,43 @@ pub change-requires : goal.change-requires
 change-requires c = fits_at c.args.parts.now acts.Change c.in-Change.is c.requires
 
 pub renewal-requires : goal.renewal-requires
-renewal-requires c = fits_at c.args.parts.now acts.Renew c.in-Renew.is c.requires
+renewal-requires c = fits_at c.args.parts.now acts.Renewal c.in-Renewal.is c.requires
 
 pub copy_alone-requires : goal.copy_alone-requires
-copy_alone-requires c = fits_at c.args.parts.now acts.CancelLoan c.in-CancelLoan.is c.requires
+copy_alone-requires c = fits_at c.args.parts.now acts.CancelCheckout c.in-CancelCheckout.is c.requires
 
-pub copy_alone-requires-in-CancelReturn : goal.copy_alone-requires-in-CancelReturn
-copy_alone-requires-in-CancelReturn c = fits_at c.args.parts.now acts.CancelReturn c.in-CancelReturn.is c.requires
+pub copy_alone-requires-in-CancelCheckin : goal.copy_alone-requires-in-CancelCheckin
+copy_alone-requires-in-CancelCheckin c = fits_at c.args.parts.now acts.CancelCheckin c.in-CancelCheckin.is c.requires
 
 pub copy_alone-requires-in-CancelRenewal : goal.copy_alone-requires-in-CancelRenewal
 copy_alone-requires-in-CancelRenewal c = fits_at c.args.parts.now acts.CancelRenewal c.in-CancelRenewal.is c.requires
 
 pub hold_alone-patron-requires : goal.hold_alone-patron-requires
-hold_alone-patron-requires c = fits_at c.args.parts.now acts.CancelAdding c.in-CancelAdding.is c.requires
+hold_alone-patron-requires c = fits_at c.args.parts.now acts.CancelAdd c.in-CancelAdd.is c.requires
 
-pub hold_alone-patron-requires-in-CancelDeletion : goal.hold_alone-patron-requires-in-CancelDeletion
-hold_alone-patron-requires-in-CancelDeletion c = fits_at c.args.parts.now acts.CancelDeletion c.in-CancelDeletion.is c.requires
+pub hold_alone-patron-requires-in-CancelDelete : goal.hold_alone-patron-requires-in-CancelDelete
+hold_alone-patron-requires-in-CancelDelete c = fits_at c.args.parts.now acts.CancelDelete c.in-CancelDelete.is c.requires
 
-pub hold_alone-patron-requires-in-CancelChanging : goal.hold_alone-patron-requires-in-CancelChanging
-hold_alone-patron-requires-in-CancelChanging c = fits_at c.args.parts.now acts.CancelChanging c.in-CancelChanging.is c.requires
+pub hold_alone-patron-requires-in-CancelChange : goal.hold_alone-patron-requires-in-CancelChange
+hold_alone-patron-requires-in-CancelChange c = fits_at c.args.parts.now acts.CancelChange c.in-CancelChange.is c.requires
 
-pub returns-in-CancelLoan : goal.returns-in-CancelLoan
-returns-in-CancelLoan c = ap (λ x. Some x) (c.copy_alone.ensures acts.CancelLoan ∙ own_act c.args.parts.now acts.CancelLoan c.in-CancelLoan.is)
+pub returns-in-CancelCheckout : goal.returns-in-CancelCheckout
+returns-in-CancelCheckout c = ap (λ x. Some x) (c.copy_alone.ensures acts.CancelCheckout ∙ own_act c.args.parts.now acts.CancelCheckout c.in-CancelCheckout.is)
 
-pub returns-in-CancelReturn : goal.returns-in-CancelReturn
-returns-in-CancelReturn c = ap (λ x. Some x) (c.copy_alone-in-CancelReturn.ensures acts.CancelReturn ∙ own_act c.args.parts.now acts.CancelReturn c.in-CancelReturn.is)
+pub returns-in-CancelCheckin : goal.returns-in-CancelCheckin
+returns-in-CancelCheckin c = ap (λ x. Some x) (c.copy_alone-in-CancelCheckin.ensures acts.CancelCheckin ∙ own_act c.args.parts.now acts.CancelCheckin c.in-CancelCheckin.is)
 
 pub returns-in-CancelRenewal : goal.returns-in-CancelRenewal
 returns-in-CancelRenewal c = ap (λ x. Some x) (c.copy_alone-in-CancelRenewal.ensures acts.CancelRenewal ∙ own_act c.args.parts.now acts.CancelRenewal c.in-CancelRenewal.is)
 
-pub returns-in-CancelAdding : goal.returns-in-CancelAdding
-returns-in-CancelAdding c =
-    ap (λ x. Some x) (c.hold_alone-patron.ensures acts.CancelAdding ∙ own_act c.args.parts.now acts.CancelAdding c.in-CancelAdding.is)
+pub returns-in-CancelAdd : goal.returns-in-CancelAdd
+returns-in-CancelAdd c =
+    ap (λ x. Some x) (c.hold_alone-patron.ensures acts.CancelAdd ∙ own_act c.args.parts.now acts.CancelAdd c.in-CancelAdd.is)
 
-pub returns-in-CancelDeletion : goal.returns-in-CancelDeletion
-returns-in-CancelDeletion c =
-    ap (λ x. Some x) (c.hold_alone-patron-in-CancelDeletion.ensures acts.CancelDeletion ∙ own_act c.args.parts.now acts.CancelDeletion c.in-CancelDeletion.is)
+pub returns-in-CancelDelete : goal.returns-in-CancelDelete
+returns-in-CancelDelete c =
+    ap (λ x. Some x) (c.hold_alone-patron-in-CancelDelete.ensures acts.CancelDelete ∙ own_act c.args.parts.now acts.CancelDelete c.in-CancelDelete.is)
 
-pub returns-in-CancelChanging : goal.returns-in-CancelChanging
-returns-in-CancelChanging c =
-    ap (λ x. Some x) (c.hold_alone-patron-in-CancelChanging.ensures acts.CancelChanging ∙ own_act c.args.parts.now acts.CancelChanging c.in-CancelChanging.is)
+pub returns-in-CancelChange : goal.returns-in-CancelChange
+returns-in-CancelChange c =
+    ap (λ x. Some x) (c.hold_alone-patron-in-CancelChange.ensures acts.CancelChange ∙ own_act c.args.parts.now acts.CancelChange c.in-CancelChange.is)

@@ -1,6 +1,10 @@
-use Rattle.std.proofs.Common.{inl, inr, refl, sym}
+use Rattle.std.proofs.Common.{inl, inr, sym, subst}
 use Rattle.std.proofs.lemmas.Result.{err_from_is_err_and}
-use Rattle.hd_turn_row.specs.Rows.{row_texts}
+use Rattle.hd_rules.specs.Messages.{SeatMessage, message_of}
+use Rattle.hd_turn_row.specs.Rows.{IsRowOf, row_texts}
+use Rattle.hd_turn_row.proofs.RowLemmas.{line_kept}
+use Rattle.hd_turn_row.proofs.row.ask_of.Given.{Over}
+use Rattle.hd_turn_row.proofs.row.ask_of.Goals.{After-new}
 use Rattle.hd_turn_row.proofs.row.ask_of.Goals as goal
 
 pub returns-in_err-parts-clause-fault : goal.returns-in_err-parts-clause-fault
@@ -29,25 +33,29 @@ returns-in_err-asked-clause-none g c =
       }),
     )))
 
-pub returns-clause-only : goal.returns-clause-only
-returns-clause-only g c = λ seat message other.
-    c.a_row_is_of_one_message.ensures.one c.args.catalogue.now seat c.args.row.now.seat message _ (row_texts c.args.row.now) other
+-- the row is that of what is made of it
+read : (g : Over) (c : After-new g)
+    → IsRowOf c.args.catalogue.now (message_of c.new.result).seat (message_of c.new.result).message (row_texts c.args.row.now)
+read g c =
+    subst (λ (m : SeatMessage). IsRowOf c.args.catalogue.now m.seat m.message (row_texts c.args.row.now)) (sym c.new.ensures)
     (record {
-      seat_is = refl;
+      seat_is = sym c.new-seat.ensures;
       terminal = sym c.in-Some.ensures;
       parts = c.in_ok-parts.parts;
       asked = c.in_ok-asked.ensures.asked;
       shown = c.in_ok-parts.ensures.shown;
-      line = refl;
+      line = sym (line_kept c.in_ok-asked.asked c.in_ok-parts.parts (row_texts c.args.row.now).line c.in_ok-asked.ensures.asked);
     })
+
+pub returns-clause-row : goal.returns-clause-row
+returns-clause-row g c = read g (goal.at.returns-clause-row g c).After-new
+
+pub returns-clause-only : goal.returns-clause-only
+returns-clause-only g c = λ seat message other.
+    c.a_row_is_of_one_message.ensures.one c.args.catalogue.now seat _ message _ (row_texts c.args.row.now) other
+    (read g (goal.at.returns-clause-only g c).After-new)
 
 pub returns-clause-known : goal.returns-clause-known
 returns-clause-known g c =
-    c.a_row_is_of_one_message.ensures.known c.args.catalogue.now c.args.row.now.seat _ (row_texts c.args.row.now) (record {
-      seat_is = refl;
-      terminal = sym c.in-Some.ensures;
-      parts = c.in_ok-parts.parts;
-      asked = c.in_ok-asked.ensures.asked;
-      shown = c.in_ok-parts.ensures.shown;
-      line = refl;
-    })
+    c.a_row_is_of_one_message.ensures.known c.args.catalogue.now _ _ (row_texts c.args.row.now)
+    (read g (goal.at.returns-clause-known g c).After-new)

@@ -5,7 +5,7 @@ use Rattle.std.proofs.lemmas.List.{nil_from_length}
 use Rattle.hd_catalogue.specs.Contents.{Contents}
 use Rattle.hd_catalogue.specs.Files.{lines_of}
 use Rattle.hd_catalogue.specs.declared.cause.CatFault.{CatFault}
-use Rattle.hd_catalogue.proofs.FileLemmas.{Follows, begun_reading, first_refused}
+use Rattle.hd_catalogue.proofs.FileLemmas.{Follows, accepted_fresh, begun_reading, first_refused}
 use Rattle.hd_catalogue.proofs.catalogue.Catalogue.read.Goals as goal
 
 pub returns-in-Err-clause-refused : goal.returns-in-Err-clause-refused
@@ -56,3 +56,6 @@ returns-clause-accepted g c =
     let answer : Result Contents CatFault = Ok c.loop-rest.catalogue in
     c.loop-rest.invariant.follows answer
     (subst (λ ls. Follows (c.loop-rest.number + 1) ls c.loop-rest.catalogue answer) (sym whole) refl)
+
+pub returns-clause-rows : goal.returns-clause-rows
+returns-clause-rows g c = accepted_fresh (lines_of c.args.bytes.now) c.loop-rest.catalogue (returns-clause-accepted g c)

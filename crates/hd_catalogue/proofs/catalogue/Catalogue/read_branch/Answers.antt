@@ -1,17 +1,17 @@
 use Rattle.std.proofs.Common.{sym, ◌∙◌}
-use Rattle.hd_catalogue.proofs.ShortLemmas.{name-short, short-push}
+use Rattle.hd_catalogue.proofs.ShortLemmas.{names-push}
 use Rattle.hd_catalogue.proofs.SoundLemmas.{sound-branch, when_ok}
 use Rattle.hd_catalogue.proofs.catalogue.Catalogue.read_branch.Goals as goal
 
 pub invariant_of-self-2 : goal.invariant_of-self-2
 invariant_of-self-2 g c =
     let names = c.self.invariant.1 in
-    let new = name-short _ (sym c.is_name.ensures ∙ c.if-not-is_name.false) in
+    let new = sym c.is_name.ensures ∙ c.if-not-is_name.false in
     rw (when_ok c.define.result _ c.define.ensures.ok (sym c.is_err.ensures.value ∙ c.if-is_err.false)) (
       sound-branch _ _ c.self.invariant.0 c.in_ok-check_name.ensures.room,
       record {
         institution = names.institution;
-        branches = short-push _ _ names.branches new;
+        branches = names-push _ _ names.branches new;
         terminals = names.terminals;
         patrons = names.patrons;
         titles = names.titles;

@@ -1,12 +1,12 @@
 use Rattle.std.proofs.Common.{◌<◌, length, sym, ap, subst, ◌∙◌}
-use Rattle.hd_catalogue.proofs.ShortLemmas.{first-short, short-push}
+use Rattle.hd_catalogue.proofs.ShortLemmas.{first-name, names-push}
 use Rattle.hd_catalogue.proofs.SoundLemmas.{sound-copy, when_ok, when_some}
 use Rattle.hd_catalogue.proofs.catalogue.Catalogue.read_copy.Goals as goal
 
 pub invariant_of-self-2 : goal.invariant_of-self-2
 invariant_of-self-2 g c =
     let names = c.self.invariant.1 in
-    let new = first-short _ _ _ (sym c.are_names.ensures ∙ c.if-not-are_names.false) in
+    let new = first-name _ _ _ (sym c.are_names.ensures ∙ c.if-not-are_names.false) in
     let title : c.unwrap.result.title < length c.self.inside.titles =
     subst (λ n. c.unwrap.result.title < n) (ap (λ k. length k.titles) (sym c.self.view_is))
     (when_some c.copy_facts-facts.result c.unwrap.result _ c.copy_facts-facts.ensures.title c.unwrap.ensures) in
@@ -21,6 +21,6 @@ invariant_of-self-2 g c =
         terminals = names.terminals;
         patrons = names.patrons;
         titles = names.titles;
-        copies = short-push _ _ names.copies new;
+        copies = names-push _ _ names.copies new;
       },
     )

@@ -1,11 +1,11 @@
 use Rattle.std.proofs.Common.{sym, ap, ◌∙◌}
 use Rattle.std.proofs.lemmas.Result.{IfErr-weaker, IfOk-weaker}
-use Rattle.hd_journal.specs.Asks.{message_of}
+use Rattle.hd_rules.specs.Messages.{message_of}
 use Rattle.hd_hall.specs.Receipts.{number_of_last, receipt_of}
 use Rattle.hd_hall.specs.Seats.{SeatView}
 use Rattle.hd_hall.specs.Submitting.{IsStrangeTo}
 use Rattle.hd_hall.proofs.Seating.{number_of_last-snoc}
-use Rattle.hd_hall.proofs.Submitting.{next_fits, next_known, of_any_seat}
+use Rattle.hd_hall.proofs.Submitting.{next_fits, next_known, of_any_ask, of_any_seat}
 use Rattle.hd_hall.proofs.counter.CounterOffice.turn.Goals as goal
 
 pub returns-clause-number : goal.returns-clause-number
@@ -24,5 +24,11 @@ returns-clause-names g c = IfOk-weaker c.submit.result _ _ (λ made next. next_k
 pub returns-clause-why : goal.returns-clause-why
 returns-clause-why g c =
     IfErr-weaker c.submit.result _ _
-    (λ why is. of_any_seat g.K.Keeper.faults (IsStrangeTo g.H.House.opening c.args.self.now.seat.now.receipts) why is)
+    (λ why is. of_any_seat _ g.K.Keeper.faults (IsStrangeTo g.H.House.opening c.args.self.now.seat.now.receipts) why is)
+    c.submit.ensures.why
+
+pub returns-clause-cause : goal.returns-clause-cause
+returns-clause-cause g c =
+    IfErr-weaker c.submit.result _ _
+    (λ why is. of_any_ask _ g.K.Keeper.faults (IsStrangeTo g.H.House.opening c.args.self.now.seat.now.receipts) why is)
     c.submit.ensures.why

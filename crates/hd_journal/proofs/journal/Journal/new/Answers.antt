@@ -2,7 +2,7 @@ use Rattle.std.proofs.Common.{◌∙◌, subst}
 use Rattle.hd_rules.specs.Facts.{AreInRange}
 use Rattle.hd_catalogue.specs.Contents.{Contents, facts_of}
 use Rattle.hd_journal.specs.Books.{IsKept}
-use Rattle.hd_journal.specs.Telling.{kept_in}
+use Rattle.hd_journal.specs.TurnLog.{kept_in}
 use Rattle.hd_journal.proofs.Keeping.{kept_at_start, legal_book}
 use Rattle.hd_journal.proofs.journal.Journal.new.Goals as goal
 

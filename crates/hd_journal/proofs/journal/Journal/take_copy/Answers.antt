@@ -1,5 +1,5 @@
 use Rattle.std.proofs.Common.{sym, subst, IfOk}
-use Rattle.hd_journal.specs.Asks.{SeatMessage, IsKnownMessage}
+use Rattle.hd_rules.specs.Messages.{SeatMessage, IsKnownMessage}
 use Rattle.hd_journal.specs.Books.{AddsTurn, facts}
 use Rattle.hd_journal.proofs.Keeping.{still_book}
 use Rattle.hd_journal.proofs.journal.Journal.take_copy.Goals as goal

@@ -3,7 +3,7 @@ use Rattle.std.proofs.lemmas.List.{get_or_past, length-take}
 use Rattle.hd_rules.specs.declared.cells.Change.{Change}
 use Rattle.hd_rules.specs.declared.questions.Finding.{Finding}
 use Rattle.hd_rules.specs.Record.{Record}
-use Rattle.hd_records.specs.declared.slots.Kept.{Kept}
+use Rattle.hd_records.specs.declared.slots.RecordHead.{RecordHead}
 use Rattle.hd_records.specs.Laid.{record_in, records_in}
 use Rattle.hd_records.specs.SlotsValue.{SlotsValue}
 use Rattle.hd_records.proofs.Laid.{Stands, length_stored, stands_here}
@@ -40,7 +40,7 @@ returns-in_err-kept g c =
     let s = c.index-slot.result.now in
     c.from_residual.ensures
     ∙ ap
-    (λ (o : Option Kept). record_in o (take s.findings.count (drop is.before c.self.inside.findings.items))
+    (λ (o : Option RecordHead). record_in o (take s.findings.count (drop is.before c.self.inside.findings.items))
     (take s.changes.count (drop is.ahead c.self.inside.changes.items)))
     c.in_err-kept.ensures.value
     ∙ sym is.is

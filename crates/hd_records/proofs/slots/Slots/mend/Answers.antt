@@ -8,7 +8,7 @@ use Rattle.hd_rules.specs.declared.cells.Change.{Change}
 use Rattle.hd_rules.specs.declared.questions.Finding.{Finding}
 use Rattle.hd_rules.specs.Facts.{Facts}
 use Rattle.hd_rules.specs.Record.{Record}
-use Rattle.hd_records.specs.declared.slots.Kept.{Kept}
+use Rattle.hd_records.specs.declared.slots.RecordHead.{RecordHead}
 use Rattle.hd_records.specs.declared.slots.Slot.{Slot}
 use Rattle.hd_records.specs.Laid.{AreLaid, record_in, records_in}
 use Rattle.hd_records.specs.Slots.{shift_slot, records_there}
@@ -18,12 +18,12 @@ use Rattle.hd_records.proofs.slots.Slots.mend.Given.{Over}
 use Rattle.hd_records.proofs.slots.Slots.mend.Goals.{After-index-slot, else-slot-via-then-slot+else-is_some, else-slot-via-else-slot}
 use Rattle.hd_records.proofs.slots.Slots.mend.Goals as goal
 
-small_in : (k : Facts) (o : Option Kept) (fs : List Finding) (cs : List Change) → is_some o ≡ true
+small_in : (k : Facts) (o : Option RecordHead) (fs : List Finding) (cs : List Change) → is_some o ≡ true
     → EachRecordIsKnown k (records_there (record_in o fs cs ∷ [])) → EachIsSmall fs
 small_in k None fs cs some known = absurd (false≢true some)
 small_in k (Some x) fs cs some known = known.0.counts
 
-none_in : (o : Option Kept) (fs : List Finding) (cs : List Change) → is_some o ≡ false → record_in o fs cs ≡ None
+none_in : (o : Option RecordHead) (fs : List Finding) (cs : List Change) → is_some o ≡ false → record_in o fs cs ≡ None
 none_in None fs cs none = refl
 none_in (Some x) fs cs none = absurd (false≢true (sym none))
 

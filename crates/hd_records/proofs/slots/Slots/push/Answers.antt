@@ -2,7 +2,7 @@ use Rattle.std.proofs.Common.{arith, ◌≡◌, ◌≤◌, ◌++◌, ◌∷◌, 
 use Rattle.hd_rules.specs.declared.cells.Change.{Change}
 use Rattle.hd_rules.specs.declared.questions.Finding.{Finding}
 use Rattle.hd_rules.specs.Record.{Record}
-use Rattle.hd_records.specs.declared.slots.Kept.{Kept}
+use Rattle.hd_records.specs.declared.slots.RecordHead.{RecordHead}
 use Rattle.hd_records.specs.declared.slots.Slot.{Slot}
 use Rattle.hd_records.specs.Laid.{AreLaid, record_in, record_of_kept, records_in}
 use Rattle.hd_records.specs.SlotsValue.{SlotsValue}
@@ -12,7 +12,7 @@ use Rattle.hd_records.proofs.slots.Slots.push.Goals.{After-push_reserved}
 use Rattle.hd_records.proofs.slots.Slots.push.Goals as goal
 
 -- what the slot keeps of the record
-abbrev kept : (g : Over) → After-push_reserved g → Kept
+abbrev kept : (g : Over) → After-push_reserved g → RecordHead
 kept g c = record { survivor = c.survivor.result.now; reply = c.reply.result }
 
 -- the slot that stands last

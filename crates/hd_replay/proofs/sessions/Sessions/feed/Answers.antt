@@ -1,6 +1,8 @@
 use Rattle.std.proofs.Common.{◌≡◌, ◌∙◌, ◌-◌, ◌+◌, ◌∷◌, [], List, ℕ, arith, ap, length, map, refl, subst, sym}
 use Rattle.std.proofs.lemmas.List.{length-map, map-set}
-use Rattle.hd_session.specs.Scripts.{session_at}
+use Rattle.hd_catalogue.specs.Contents.{Contents}
+use Rattle.hd_journal.specs.Offices.{Keeps}
+use Rattle.hd_session.specs.Scripts.{AreKnownTo, session_at}
 use Rattle.hd_session.specs.Sessions.{Hearing}
 use Rattle.hd_replay.specs.Inputs.{AreLines, line_of}
 use Rattle.hd_replay.specs.Replays.{IsLegalReplay, IsOfOffice, Progress, ReplayedOnto}
@@ -11,12 +13,14 @@ pub invariant_of-self : goal.invariant_of-self
 invariant_of-self g c =
     let sessions : length c.self.inside.sessions.items ≡ 64 = sym c.self.inside.sessions.ok.0 ∙ c.self.invariant.0 in
     let outs : length (map (λ out. out.items) c.play.new.outs.items) ≡ 64 =
-    length-map c.play.new.outs.items (λ out. out.items) ∙ (sym c.play.new.outs.ok.0 ∙ c.play.ensures.sizes.1) in (
+    length-map c.play.new.outs.items (λ out. out.items) ∙ (sym c.play.new.outs.ok.0 ∙ c.play.ensures.sizes.1) in
+    let played = c.play.ensures.plays in (
       c.play.ensures.sizes.0,
       c.play.ensures.sizes.1,
-      rw (map-set, c.clear.ensures.items) (emptied (c.args.number - 1) _ _ _ _ _ _ _ _ c.self.invariant.2 refl sessions outs
-          c.play.ensures.plays),
-      c.play.ensures.known,
+      rw (map-set, c.clear.ensures.items) (emptied (c.args.number - 1) _ _ _ _ _ _ _ c.self.invariant.2 refl sessions outs
+          played.fed played.outs_are),
+      subst (λ (k : Contents). AreKnownTo k c.play.new.sessions.items) (sym (ap (λ (keeps : Keeps). keeps.contents) played.works.same))
+          (played.known c.self.invariant.3),
       c.play.ensures.office,
     )
 
@@ -33,6 +37,7 @@ print_answer-printed-requires g c =
 pub returns-clause-replayed : goal.returns-clause-replayed
 returns-clause-replayed g c text is =
     let prints = c.print_answer-printed.ensures.printed in
+    let played = c.play.ensures.plays in
     let one = c.requires.from_one in
     let few = c.requires.number in
     let sessions : length c.self.inside.sessions.items ≡ 64 = sym c.self.inside.sessions.ok.0 ∙ c.self.invariant.0 in
@@ -64,11 +69,11 @@ returns-clause-replayed g c text is =
     c.print_answer-printed.result c.args.out.now.items
     c.print_answer-printed.new.out.items) c.self.view_is
     (line_put c.args.number text c.args.piece.now prints.1 prints.0 before after (map (λ out. out.items) c.self.inside.outs.items)
-    (map (λ out. out.items) c.play.new.outs.items) one few is c.self.invariant.2 sessions c.play.ensures.plays
-    (subst (λ (t : List ℕ). AreLines 13 t prints.0 prints.1) said prints.2) c.print_answer-printed.result c.args.out.now.items
-    c.print_answer-printed.new.out.items (c.play.ensures.contents, refl) refl
+    (map (λ out. out.items) c.play.new.outs.items) one few is c.self.invariant.2 sessions played.events played.fed
+    played.works.turns played.outs_are (subst (λ (t : List ℕ). AreLines 13 t prints.0 prints.1) said prints.2) c.print_answer-printed.result c.args.out.now.items
+    c.print_answer-printed.new.out.items (ap (λ (keeps : Keeps). keeps.contents) played.works.same, refl) refl
     (c.play.ensures.office (c.args.number - 1)) c.print_answer-printed.ensures.memory (rw end at c.print_answer-printed.ensures.well)
     (rw end at prints.3))
 
 pub returns-clause-legal : goal.returns-clause-legal
-returns-clause-legal g c legal = c.play.ensures.legal (subst IsLegalReplay (sym c.self.view_is) legal)
+returns-clause-legal g c legal = c.play.ensures.plays.works.holds (subst IsLegalReplay (sym c.self.view_is) legal)

@@ -1,6 +1,22 @@
-use Rattle.std.proofs.Common.{◌∙◌, ◌++◌, ◌∷◌, [], arith, length-append}
-use Rattle.hd_session.proofs.Hearing.{answers_append, line_taken}
+use Rattle.std.proofs.Common.{◌∙◌, ◌++◌, ◌∷◌, [], List, ℕ, ap, refl}
+use Rattle.hd_session.proofs.Feeding.{feeds_until}
+use Rattle.hd_session.proofs.Hearing.{answers_append, answers_none, line_taken}
 use Rattle.hd_session.proofs.session.Session.hear.Goals as goal
+
+pub answer_line-answered-requires-clause-place : goal.answer_line-answered-requires-clause-place
+answer_line-answered-requires-clause-place g c =
+    let before = c.loop-used.invariant.heard.2 in
+    rw before.works.same (before.known c.requires.place)
+
+pub loop-used-init : goal.loop-used-init
+loop-used-init g c = rw (← c.self.view_is) (record { heard = ([], refl, answers_none _ _ _ _ _); begun = refl; ended = refl })
+
+pub returns-in-Err : goal.returns-in-Err
+returns-in-Err g c =
+    let before = c.loop-used.invariant.heard in
+    feeds_until _ _ _ _ _ _ _ _ _ c.args.self.now _ _ before.0 _ c.line-line.result.now c.in-Err.why c.requires.open
+    (before.1 ∙ ap (λ (ls : List (List ℕ)). before.0 ++ ls) (rw (← c.line-line.ensures) at c.in-Some.ensures.line)) c.begin.ensures refl
+    before.2 c.in-Err.ensures.err c.in-Err.ensures.cause
 
 pub loop-used-preserved : goal.loop-used-preserved
 loop-used-preserved g c =
@@ -10,13 +26,8 @@ loop-used-preserved g c =
       heard = (
         before.0 ++ c.line-line.result.now ∷ [],
         line_taken _ before.0 _ _ _ before.1 (rw (c.line-line.ensures, c.begin.ensures, c.split_at.ensures.back) c.in-Some.ensures.line),
-        answers_append _ _ _ before.0 (c.line-line.result.now ∷ []) _ _ _ _ _ _ _ _ _ before.2 (rw kept.keeps at c.in-Ok.ensures.heard),
-        omega (arith, length-append before.0 (c.line-line.result.now ∷ []), before.3, c.in-Ok.ensures.short),
+        answers_append _ _ _ _ _ _ _ _ before.0 (c.line-line.result.now ∷ []) _ _ _ before.2 c.in-Ok.ensures.heard,
       );
       begun = rw (c.begin.ensures, c.split_at.ensures.back) (kept.begun ∙ c.in-Some.ensures.rest);
-      capacity = omega (arith, kept.capacity, c.in-Ok.ensures.capacity);
-      place = rw kept.keeps at c.in-Ok.ensures.place;
-      keeps = c.in-Ok.ensures.same ∙ kept.keeps;
-      holds = λ held. c.in-Ok.ensures.holds (kept.holds held);
       ended = kept.ended;
     }

@@ -1,0 +1,71 @@
+//! An office whose turns are announced.
+ghost use Rattle.std.specs.Prelude.{◌≡◌};
+
+use crate::surroundings::Surroundings;
+use hd_catalogue::Catalogue;
+use hd_exchange::{Ask, Office, SeatNo, Turn, TurnFault};
+use std::alloc::Allocator;
+
+/// An office that a session asks, each of whose turns is announced to the session's surroundings beforehand.
+#[derive(Drop)]
+pub(crate) struct AnnouncedOffice<'a, O, S: Surroundings> {
+    office: &'a mut O,
+    surroundings: &'a S,
+    session: usize,
+    /// The number of the last turn, or 0. At the greatest value it stays.
+    turn: usize,
+}
+
+impl<'a, O, S: Surroundings> AnnouncedOffice<'a, O, S> {
+    /// The office, before the first turn of the session of this number.
+    pub(crate) fn new(
+        office: &'a mut O,
+        surroundings: &'a S,
+        session: usize,
+    ) -> AnnouncedOffice<'a, O, S>
+        ensures same_reference { result.office.ghost_name ≡ office.entry.ghost_name }
+        ensures office { result.office.now ≡ office.old }
+        ensures turn { result.turn ≡ 0 }
+    {
+        AnnouncedOffice {
+            office,
+            surroundings,
+            session,
+            turn: 0,
+        }
+    }
+}
+
+impl<'a, A: Allocator, O: Office<A>, S: Surroundings> Office<A> for AnnouncedOffice<'a, O, S> {
+    ghost use Rattle.std.specs.Prelude.{◌∷◌};
+
+    ghost keeps = { λ announced. record {
+      contents = (O.keeps announced.office.now).contents;
+      seat = (O.keeps announced.office.now).seat;
+      borrows = announced.office.ghost_name ∷ (O.keeps announced.office.now).borrows;
+    } };
+
+    ghost turns = { λ announced. O.turns announced.office.now };
+
+    ghost last_number = { λ announced. O.last_number announced.office.now };
+
+    ghost faults = { O.faults };
+
+    ghost causes = { λ old new. O.causes old.office.now new.office.now };
+
+    ghost holds = { λ announced. O.holds announced.office.now };
+
+    fn catalogue(&self) -> &Catalogue<A> {
+        self.office.catalogue()
+    }
+
+    fn seat(&self) -> SeatNo {
+        self.office.seat()
+    }
+
+    fn turn(&mut self, ask: &Ask<'_>) -> Result<Turn, TurnFault> {
+        self.turn = self.turn.saturating_add(1);
+        self.surroundings.before_turn(self.session, self.turn);
+        self.office.turn(ask)
+    }
+}

@@ -1,0 +1,9 @@
+pub mod ByNames
+pub mod CarriedRows
+pub mod Obstacles
+pub mod Numbers
+pub mod WriteOffs
+pub mod Telling
+pub mod Laws
+pub mod Faults
+pub mod InTheWay

@@ -1,0 +1,37 @@
+//! What the help of `carry` says.
+
+/// What `carry` does, in a line.
+pub(crate) const CARRY_ABOUT: &str = "Ends a journal, and writes how the next one begins";
+
+/// What `carry` does.
+pub(crate) const CARRY: &str = "Ends a journal, and writes how the next one begins
+
+The turns of the journal are taken again, as `journal check` does. Then its last desk is carried over, by
+names, to the catalogue of --to, which may be the old one: each loan, hold, place on a hold shelf and transit
+stays, and the order of each queue; numbers go on; what is new stands at home. The opening file says all that.
+It is written beside its path, read back, compared with the desk, and renamed: a stop at any moment leaves the
+old library or the new one. The old files are never written again. A command of the old journal can't be
+cancelled in the new one.
+
+Where something can't go over, as a copy on loan that the new catalogue lacks, nothing is written, and each
+such thing is told in a line on standard error. Loans of copies in the file of --write-off are dropped, and
+told.
+
+With --library the catalogue is copied into the folder under the next number, and its journal is begun, so
+that `serve --library` serves it from its next start on. Otherwise `journal begin --opening` begins it.";
+
+/// An example of `carry`, and its exit statuses.
+pub(crate) const CARRY_EXAMPLE: &str =
+    "Example: each night, with the terminals idle and the server stopped
+
+  $ holddesk carry --library /var/lib/holddesk --to /srv/export/library.catalogue
+  turns: 3
+  last number: 2
+  old: 5f36b2ea290645ee34d943220a14b54ee5ea5be5ecb5ff3ae3d1e5ea1ac2cd11
+  new: 9b74c9897bac770ffc029102a200c5de1d5d4d0ad4bd0a8a6a5aa31ba4e5a15f
+
+old and new are the SHA-256 of the files that the two journals begin with: of the opening, or of the first
+catalogue.
+
+Exit status: 0 well; 1 something is in the way, or a fault, printed as one line (docs/operating.md has them
+all); 2 the command line was refused.";

@@ -1,0 +1,46 @@
+//! What the help of `journal show` says, and its options.
+
+use clap::{Arg, ArgAction};
+use std::alloc::Global;
+
+/// What `journal show` does, in a line.
+pub(crate) const JOURNAL_SHOW_ABOUT: &str =
+    "Lists copies, queues, hold shelves, transits, and what is overdue";
+
+/// What `journal show` does.
+pub(crate) const JOURNAL_SHOW: &str =
+    "Lists copies, queues, hold shelves, transits, and what is overdue
+
+The turns of the journal are taken again, as `journal check` does, and one list is printed of the desk that
+they come to: a table with a line of headings, or with --json an array with an object for each line. Names are
+those of the catalogue, days have the form 2026-03-01. No server may have the file open; read a copy of it and
+its log, or the last period of a library's folder after a stop.";
+
+/// An example of `journal show`, and its exit statuses.
+pub(crate) const JOURNAL_SHOW_EXAMPLE: &str = "Example:
+
+  $ holddesk journal show --catalogue demonstration.catalogue --journal day.journal --queue ta
+  patron  stamp  admits  pickup  until       copy
+  p1      1      any     north               a1
+  p2      2      any     south   2026-04-01
+
+Exit status: 0 well; 1 a fault, printed as one line (`there is no title NAME`, `there is no branch NAME`, `DAY
+is no day`, and those of a journal's file, which docs/operating.md has with what to do); 2 the command line
+was refused.";
+
+/// An option that has no value.
+pub(crate) fn flag<'a>(alloc: Global, name: &'a str, help: &'a str) -> Arg<'a> {
+    Arg::new(alloc, name)
+        .long(name)
+        .help(help)
+        .action(ArgAction::SetTrue)
+}
+
+/// An option with a value.
+pub(crate) fn named<'a>(alloc: Global, name: &'a str, value: &'a str, help: &'a str) -> Arg<'a> {
+    Arg::new(alloc, name)
+        .long(name)
+        .value_name(value)
+        .help(help)
+        .action(ArgAction::Set)
+}

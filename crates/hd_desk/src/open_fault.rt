@@ -1,0 +1,38 @@
+//! Why a desk can't be opened.
+
+ghost use Rattle.std.specs.Prelude.{◌≡◌};
+ghost use Rattle.hd_desk.specs.declared.open_fault.OpenFault.TheVariants.{Memory};
+
+use std::alloc::AllocError;
+
+/// Why a row of an opening may not stand behind those before it (docs/desk-rules.md, "State").
+#[derive(Clone, Copy, PartialEq, Eq, Debug)]
+pub enum RowFault {
+    /// It says what was said already: it places a copy twice, adds a second hold of a title and patron, gives
+    /// a stamp of a title or a place of a branch twice, or gives a hold a second copy.
+    Twice,
+    /// It tells of a copy that is for a patron who has no hold of its title.
+    NoHold,
+}
+
+/// Why the desk that a catalogue tells can't be opened.
+#[derive(Clone, Copy, PartialEq, Eq, Debug)]
+pub enum OpenFault {
+    /// Out of memory.
+    Memory,
+    /// One of the catalogue's opening rows may not stand.
+    Row {
+        /// The first that may not, counted from 0.
+        at: usize,
+        /// Why.
+        cause: RowFault,
+    },
+}
+
+impl From<AllocError> for OpenFault {
+    ghost from_gives = { λ _ fault. fault ≡ Memory };
+
+    fn from(_: AllocError) -> OpenFault {
+        OpenFault::Memory
+    }
+}

@@ -1,4 +1,0 @@
-use Rattle.hd_hall.proofs.locked.Locked.submit.Goals as goal
-
-pub returns-clause-holds : goal.returns-clause-holds
-returns-clause-holds g c = c.holds_last.ensures.yes c.if-not-holds_last.false

@@ -1,0 +1,206 @@
+//! What lies under the lock.
+
+ghost use Rattle.std.specs.Prelude.{◌≡◌, ◌+◌, ◌<◌, ◌↔◌, [], IsTrue, IsNone, IfOk, IfErr, IfSome};
+ghost use Rattle.std.specs.Prelude.{IfNone, OnOk, OnErr, OnSome, false, length, option_copied};
+ghost use Rattle.std.specs.Arc.{arc_value};
+ghost use Rattle.hd_catalogue.specs.Contents.{facts_of};
+ghost use Rattle.hd_rules.specs.Messages.{IsKnownMessage};
+ghost use Rattle.hd_journal.specs.Keepers.{IsAdded};
+ghost use Rattle.hd_journal.specs.Openings.{IsLegalSince};
+ghost use Rattle.hd_hall.specs.Closings.{AreTurnsOf};
+ghost use Rattle.hd_hall.specs.Faults.{IsLockFault};
+ghost use Rattle.hd_hall.specs.Receipts.{HoldsLast, LacksLast, StandsAt, last_receipt};
+ghost use Rattle.hd_hall.specs.Seats.{EachSeat, IsWhole};
+
+use crate::closing::differing;
+use crate::hall::{Hall, NotClosed};
+use crate::house::House;
+use crate::seat::Seat;
+use crate::stored_receipt::StoredReceipt;
+use crate::tickets::{SEATS, Ticket, Tickets};
+use hd_catalogue::Catalogue;
+use hd_journal::{Keeper, Turn, TurnFault};
+use std::alloc::Allocator;
+use std::marker::PhantomData;
+use std::sync::ledger::{Blank, Book, Share};
+use std::sync::{Arc, Mutex};
+
+/// The journal's keeper, the book of the ledger, and the tickets of the seats that aren't opened.
+///
+/// The keeper comes out by `close` alone.
+#[derive(Drop)]
+pub(crate) struct HallState<H: House, A: Allocator, Q: Drop, K: Keeper<A, Q>> {
+    keeper: K,
+    book: Book<H>,
+    tickets: Tickets<H>,
+    of: PhantomData<A>,
+    asks: PhantomData<Q>,
+    ghost ours: { K.opening keeper ≡ H.opening },
+    ghost counted: { book.total ≡ length (K.turns keeper) },
+}
+
+impl<H: House, A: Allocator + Copy, Q: Drop, K: Keeper<A, Q>> HallState<H, A, Q, K> {
+    /// A journal without turns, and all parts of the ledger.
+    pub(crate) fn new(keeper: K, blank: Blank) -> HallState<H, A, Q, K>
+        requires turns { K.turns keeper ≡ [] }
+        requires opening { K.opening keeper ≡ H.opening }
+        requires name { blank.name ≡ H.name }
+        requires parts { (blank.parts ≡ H.parts) × (H.parts ≡ 4294967296) }
+        ensures { result.keeper ≡ keeper }
+    {
+        let (book, rest) = blank.open::<H>();
+        HallState {
+            keeper,
+            book,
+            tickets: Tickets::new(rest),
+            of: PhantomData,
+            asks: PhantomData,
+        }
+    }
+
+    /// The ticket of a new seat, of the next number, and its part of the ledger, or `None` where all have
+    /// been opened.
+    pub(crate) fn seat(&mut self) -> Option<(Ticket<H>, Share<H>)>
+        ensures none { IsNone result ↔ (self.old.tickets.given ≡ SEATS) }
+        ensures number { IfSome result (λ new. new.0 ≡ self.old.tickets.given + 1) }
+        ensures opened { OnSome result (self.new.tickets.given ≡ self.old.tickets.given + 1) }
+        ensures part { IfSome result (λ new. (new.1.parts ≡ 1) × (new.1.amount ≡ 0)) }
+        ensures same { (self.new.keeper ≡ self.old.keeper) × (self.new.book ≡ self.old.book) }
+        ensures unchanged { IfNone result (self.new.tickets ≡ self.old.tickets) }
+    {
+        self.tickets.next()
+    }
+
+    /// Makes the turn of what is asked, counted in the share, where the journal holds the last of these
+    /// receipts.
+    ///
+    /// # Errors
+    /// `Estranged` where it lacks that receipt's turn, and else what its keeper gives, for the keeper's
+    /// cause. The turns and the share are unchanged.
+    pub(crate) fn submit(
+        &mut self,
+        receipts: &[StoredReceipt<A>],
+        share: &mut Share<H>,
+        own: Q,
+    ) -> Result<Turn, TurnFault>
+        requires part { 0 < share.old.parts }
+        requires known { IsKnownMessage (facts_of H.opening.contents) (K.asks own).message }
+        ensures legal { IsLegalSince H.opening (K.turns self.new.keeper) }
+        ensures turn { IfOk result (λ made.
+            IsAdded (K.turns self.old.keeper) (K.turns self.new.keeper) (K.asks own) made) }
+        ensures holds { OnOk result (HoldsLast (K.turns self.old.keeper) receipts.now) }
+        ensures share { OnOk result (share.new.amount ≡ share.old.amount + 1) }
+        ensures parts { share.new.parts ≡ share.old.parts }
+        ensures why { IfErr result (IsLockFault K.faults (λ front.
+            (front ≡ length (K.turns self.old.keeper))
+            × LacksLast (K.turns self.old.keeper) receipts.now)) }
+        // where the journal holds the seat's last turn, the keeper's fault is handed on as it is
+        ensures cause { HoldsLast (K.turns self.old.keeper) receipts.now
+            → IfErr result (K.causes self.old.keeper (K.asks own) self.new.keeper) }
+        ensures err { OnErr result
+            ((K.turns self.new.keeper ≡ K.turns self.old.keeper) × (share.new ≡ share.old)) }
+    {
+        let HallState { keeper, book, .. } = self;
+        if !holds_last(keeper, receipts) {
+            return Err(TurnFault::Estranged {
+                front: keeper.front(),
+            });
+        }
+        let turn = keeper.take(own)?;
+        book.add(share, 1);
+        Ok(turn)
+    }
+}
+
+impl<H: House, A: Allocator + Copy, Q: Drop, K: Keeper<A, Q> + Drop> HallState<H, A, Q, K> {
+    ghost use Rattle.hd_hall.specs.NotClosing.{CountsOpened, Misses};
+
+    /// The journal, whose turns are the receipts of these seats, each once. The seats are as many as were
+    /// opened, each with its part of the ledger: so they are all that were opened. It takes no memory.
+    ///
+    /// # Errors
+    /// `SeatMissing` exactly where fewer are handed in than were opened, and `ReceiptDiffers` where some turn
+    /// has no receipt. The seats come back as they were.
+    pub(crate) fn close(
+        self,
+        alloc: A,
+        catalogue: Arc<Catalogue<A>, A>,
+        mut seats: Vec<Seat<H, A>, A>,
+    ) -> Result<K, NotClosed<H, A, Q, K>>
+        requires catalogue { arc_value catalogue ≡ H.opening.contents }
+        requires parts { H.parts ≡ 4294967296 }
+        requires seats { EachSeat seats.items (λ s. s.parts ≡ 1) }
+        // the seats that were opened are all there
+        ensures all { OnOk result (length seats.items ≡ self.tickets.given) }
+        ensures turns { IfOk result (λ keeper. AreTurnsOf H.opening (K.turns keeper) seats.items) }
+        ensures opening { IfOk result (λ keeper. K.opening keeper ≡ H.opening) }
+        ensures in_order { OnOk result (EachSeat seats.items IsWhole) }
+        ensures missing { IfErr result (λ why. Misses H.opening why seats.items) }
+        // it is told that one is missing where one is, and how many were opened
+        ensures opened { IfErr result (λ why. CountsOpened self.tickets.given why seats.items) }
+    {
+        let opened = self.tickets.given;
+        if seats.len() < opened as usize {
+            return Err(NotClosed::SeatMissing {
+                hall: Hall {
+                    alloc,
+                    catalogue,
+                    shared: Mutex::new(self),
+                },
+                seats,
+                opened,
+            });
+        }
+        let HallState {
+            keeper,
+            mut book,
+            tickets,
+            of: _of,
+            asks: _asks,
+        } = self;
+        let mut rest = tickets.into_rest();
+        match differing(&keeper, &mut book, &mut rest, seats.as_mut_slice()) {
+            None => Ok(keeper),
+            Some(number) => Err(NotClosed::ReceiptDiffers {
+                keeper,
+                seats,
+                number,
+            }),
+        }
+    }
+}
+
+/// Whether the turn of the last receipt, if there is one, stands in the journal.
+fn holds_last<A: Allocator + Copy, Q: Drop, K: Keeper<A, Q>>(
+    keeper: &K,
+    receipts: &[StoredReceipt<A>],
+) -> bool
+    ensures yes { IsTrue result → HoldsLast (K.turns keeper.now) receipts.now }
+    ensures no { result ≡ false → LacksLast (K.turns keeper.now) receipts.now }
+{
+    match last_of(receipts) {
+        Some(last) => stands(keeper, last),
+        None => true,
+    }
+}
+
+/// The last of these receipts.
+#[tactic(auto, using(crate::proofs::Seating::last_is))]
+fn last_of<A: Allocator>(receipts: &[StoredReceipt<A>]) -> Option<&StoredReceipt<A>>
+    ensures { option_copied result ≡ last_receipt receipts.now }
+{
+    receipts.last()
+}
+
+/// Whether the receipt's turn stands in the journal, at its number.
+pub(crate) fn stands<A: Allocator + Copy, Q: Drop, K: Keeper<A, Q>>(
+    keeper: &K,
+    receipt: &StoredReceipt<A>,
+) -> bool
+    ensures { IsTrue result ↔ StandsAt (K.turns keeper.now) receipt.now }
+{
+    match keeper.turn_at(receipt.number()) {
+        Some(turn) => receipt.is_of(receipt.number(), &turn),
+        None => false,
+    }
+}

@@ -1,0 +1,222 @@
+//! The commands that survive, and the desk of their run.
+
+ghost use Rattle.std.specs.Prelude.{◌≡◌, ◌+◌, ◌<◌, ◌≤◌, [], ℕ, None, Option, IfOk, OnErr, option_map};
+ghost use Rattle.hd_catalogue.specs.Contents.{facts_of};
+ghost use Rattle.hd_rules.specs.Known.{IsKnown, IsKnownAction, IsKnownCancel};
+ghost use Rattle.hd_rules.specs.Run.{outcome_of, run};
+ghost use Rattle.hd_rules.specs.Searches.{target};
+ghost use Rattle.hd_rules.specs.Turns.{Kept, item_view, next_survivor};
+ghost use Rattle.hd_desk.specs.Desks.{Opens, contents, desk_of, facts};
+ghost use Rattle.hd_journal.specs.SurvivorRun.{IsCarriedOut, Submitted, Withdrawn, state_alone};
+ghost use Rattle.hd_records.specs.Shown.{record_shown};
+ghost use Rattle.hd_journal.specs.Stored.{IsRecordOf};
+ghost use Rattle.hd_journal.specs.Working.{IsCancellationWork, IsWork, OnlyRise, command_work};
+
+use crate::ask::OwnedAsk;
+use crate::deciding::decide;
+use crate::laws::laws;
+use hd_desk::{Desk, Done, Meter, Refused};
+use hd_inverse::undo;
+use hd_records::{RecordRef, Records, StoredRecord, Survivors};
+use hd_rules::{Asked, Cancel, Command, CopyNo, Survivor, TerminalNo, TurnReply};
+use std::alloc::{AllocError, Allocator};
+use std::marker::Model;
+
+/// The records of the survivors with the last number given, and the desk of their run.
+#[derive(Drop)]
+pub(crate) struct SurvivorRun<A: Allocator> {
+    desk: Desk<A>,
+    records: Records<A>,
+}
+
+impl<A: Allocator> Model for SurvivorRun<A> {
+    ghost use Rattle.hd_catalogue.specs.Contents.{facts_of};
+    ghost use Rattle.hd_desk.specs.Desks.{contents, desk_of};
+    ghost use Rattle.hd_records.specs.RecordsValue.{AreListed};
+    ghost use Rattle.hd_records.specs.Survivors.{survivors_of};
+    ghost use Rattle.hd_journal.specs.SurvivorRun.{SurvivorRun, LeadsTo};
+    ghost use Rattle.hd_journal.specs.Stored.{AreStored};
+
+    ghost Value = { SurvivorRun };
+
+    ghost view = { λ r. record {
+      contents = contents r.desk;
+      survivors = survivors_of r.records.records;
+      last = r.records.last;
+    } };
+
+    ghost invariant = { λ r. LeadsTo
+        (record {
+          contents = contents r.desk;
+          survivors = survivors_of r.records.records;
+          last = r.records.last;
+        })
+        (desk_of r.desk)
+        × AreStored (facts_of (contents r.desk)) r.records.records
+        × AreListed (facts_of (contents r.desk)) r.records };
+}
+
+impl<A: Allocator + Copy> SurvivorRun<A> {
+    /// No survivors, at the desk that the catalogue's journal opens with.
+    pub(crate) fn new(alloc: A, desk: Desk<A>) -> SurvivorRun<A>
+        requires desk { desk_of desk ≡ (facts desk).opening.desk }
+        requires opens { Opens (facts desk) }
+        ensures { result
+            ≡ record { contents = contents desk; survivors = []; last = (facts desk).opening.last } }
+    {
+        let before = desk.catalogue().last_before();
+        SurvivorRun {
+            desk,
+            records: Records::new(alloc, before),
+        }
+    }
+
+    /// The desk.
+    pub(crate) fn desk(&self) -> &Desk<A>
+        ensures contents { contents result.now ≡ self.now.contents }
+        ensures run { desk_of result.now ≡ run (facts_of self.now.contents) self.now.survivors }
+    {
+        &self.desk
+    }
+
+    /// The survivors, by number.
+    pub(crate) fn survivors(&self) -> Survivors<'_>
+        ensures { result ≡ self.now.survivors }
+    {
+        self.records.survivors()
+    }
+
+    /// The record of the survivor of a number, or `None` where there is none.
+    pub(crate) fn record(&self, number: u64) -> Option<RecordRef<'_>>
+        ensures { IsRecordOf (facts_of self.now.contents) self.now.survivors number
+            (option_map record_shown result) }
+    {
+        laws();
+        self.records.get(number)
+    }
+
+    /// The last number given.
+    pub(crate) fn last(&self) -> u64
+        ensures { result ≡ self.now.last }
+    {
+        self.records.last()
+    }
+
+    /// Carries out what a terminal asks that is no repeat, and counts the work: its reply.
+    pub(crate) fn answer(
+        &mut self,
+        ask: &OwnedAsk<A>,
+        meter: &mut Meter,
+    ) -> Result<TurnReply, AllocError>
+        requires known { IsKnown (facts_of self.old.contents) ask.now.message.asked }
+        ensures answered { IfOk result (λ reply. IsCarriedOut self.old
+            ask.now.message.terminal ask.now.message.asked reply self.new) }
+        ensures work { IfOk result (λ _. IsWork (facts_of self.old.contents) (state_alone self.old)
+            ask.now.message.terminal ask.now.message.asked None meter.old meter.new) }
+        ensures contents { self.new.contents ≡ self.old.contents }
+        ensures last { self.new.last ≤ self.old.last + 1 }
+        ensures err { OnErr result (self.new ≡ self.old) }
+        ensures rise { OnErr result (OnlyRise meter.old meter.new) }
+    {
+        match &ask.asked {
+            Asked::Command(command) => self.submit(ask.terminal(), command, meter),
+            Asked::Cancel(what) => self.cancel(ask.terminal(), what, meter),
+            Asked::Item(copy) => Ok(self.item(*copy)),
+        }
+    }
+
+    /// What the desk shows of a copy.
+    fn item(&self, item: CopyNo) -> TurnReply
+        requires { item < (facts_of self.now.contents).copies }
+        ensures { result
+            ≡ TurnReply.Item
+            (item_view (facts_of self.now.contents)
+            (run (facts_of self.now.contents) self.now.survivors) item) }
+    {
+        TurnReply::Item(self.desk.item(item))
+    }
+
+    /// Does the terminal's command with the next number, or tells why it is refused.
+    fn submit(
+        &mut self,
+        terminal: TerminalNo,
+        command: &Command,
+        meter: &mut Meter,
+    ) -> Result<TurnReply, AllocError>
+        requires known { IsKnownAction (facts_of self.old.contents) command.now.action }
+        ensures submitted { IfOk result (λ reply. Submitted self.old terminal command.now reply self.new) }
+        ensures work { IfOk result (λ _. meter.new ≡ command_work
+            (outcome_of (facts_of self.old.contents) (state_alone self.old).desk
+            (next_survivor (state_alone self.old) terminal command.now))
+            meter.old) }
+        ensures rise { OnErr result (OnlyRise meter.old meter.new) }
+        ensures contents { self.new.contents ≡ self.old.contents }
+        ensures last { self.new.last ≤ self.old.last + 1 }
+        ensures err { OnErr result (self.new ≡ self.old) }
+    {
+        laws();
+        self.records.ready(self.desk.catalogue(), command)?;
+        let number = self.records.last() + 1;
+        match self.desk.apply(number, command, meter) {
+            Ok(done) => {
+                let survivor = Survivor {
+                    number,
+                    terminal,
+                    command: *command,
+                };
+                let reply = done.reply();
+                let record = record_of(survivor, done);
+                self.records.push(self.desk.catalogue(), record);
+                Ok(TurnReply::Done { number, reply })
+            }
+            Err(Refused::Rule(refusal)) => Ok(TurnReply::Refused(refusal)),
+            Err(Refused::Memory) => Err(AllocError),
+        }
+    }
+
+    /// Takes back what the terminal's cancellation takes back, or tells why it can't: from the records alone.
+    /// Only putting old values back can want memory, and that comes before any change.
+    fn cancel(
+        &mut self,
+        terminal: TerminalNo,
+        what: &Cancel,
+        meter: &mut Meter,
+    ) -> Result<TurnReply, AllocError>
+        requires { IsKnownCancel (facts_of self.old.contents) what.now }
+        ensures cancelled { IfOk result (λ reply. Withdrawn self.old terminal what.now reply self.new) }
+        ensures work { IfOk result (λ _. IsCancellationWork (facts_of self.old.contents) self.old.survivors
+            (target terminal what.now self.old.survivors) meter.old meter.new) }
+        ensures rise { OnErr result (OnlyRise meter.old meter.new) }
+        ensures contents { self.new.contents ≡ self.old.contents }
+        ensures last { self.new.last ≡ self.old.last }
+        ensures err { OnErr result (self.new ≡ self.old) }
+    {
+        laws();
+        let target = match decide(self.desk.catalogue(), &self.records, terminal, what, meter) {
+            Ok(target) => target,
+            Err(refusal) => return Ok(TurnReply::Refused(refusal)),
+        };
+        let Some(kept) = self.records.get(target) else {
+            unreachable!()
+        };
+        undo(&mut self.desk, kept.changes, meter)?;
+        self.records.take_out(self.desk.catalogue(), target, meter);
+        Ok(TurnReply::Cancelled { number: target })
+    }
+}
+
+/// The record of an accepted command. Its findings and changes aren't copied.
+fn record_of(survivor: Survivor, done: Done) -> StoredRecord
+    ensures { result
+        ≡ record {
+          number = survivor.number;
+          terminal = survivor.terminal;
+          command = survivor.command;
+          reply = done.reply;
+          findings = done.findings;
+          changes = done.changes;
+        } }
+{
+    let (reply, changes, findings) = done.into_parts();
+    StoredRecord::new(survivor, reply, findings, changes)
+}

@@ -1,0 +1,39 @@
+//! How many copies of a desk aren't on an open shelf.
+
+use hd_catalogue::Catalogue;
+use hd_desk::Desk;
+use hd_rules::{CopyNo, CopyState};
+
+/// How many copies a library has in each of the places where a patron misses them.
+#[derive(Clone, Copy)]
+pub(crate) struct Away {
+    /// On loan.
+    pub(crate) on_loan: usize,
+    /// Kept for a hold.
+    pub(crate) on_hold_shelves: usize,
+    /// On their way between branches.
+    pub(crate) in_transit: usize,
+}
+
+impl Away {
+    /// How many copies of a desk are in each of these places.
+    pub(crate) fn of(desk: &Desk) -> Away {
+        let mut away = Away {
+            on_loan: 0,
+            on_hold_shelves: 0,
+            in_transit: 0,
+        };
+        let catalogue: &Catalogue = desk.catalogue();
+        for number in 0..catalogue.copies() {
+            let copy = CopyNo::new(number as u32).unwrap();
+            let count = match desk.copy(copy) {
+                CopyState::Shelf(_) => continue,
+                CopyState::OnLoan(_) => &mut away.on_loan,
+                CopyState::OnHoldShelf(_) => &mut away.on_hold_shelves,
+                CopyState::InTransit(_) => &mut away.in_transit,
+            };
+            *count = count.saturating_add(1);
+        }
+        away
+    }
+}

@@ -1,0 +1,50 @@
+//! What `journal begin` does.
+
+use crate::fault::Fault;
+use crate::folder::{Paths, last_period};
+use crate::keeping::end_kept;
+use crate::library::{Library, read_file};
+use crate::presence::see_nothing;
+use crate::writing::write_whole;
+use hd_command_line::{JournalBegin, LibraryFiles};
+use hd_desk::Meter;
+use hd_turn_store::{Unknown, open};
+
+/// Begins a journal's file where there is none, or the first period of a folder that has none.
+pub(crate) fn begin_journal(rt: &HostRuntime, order: &JournalBegin<'_>) -> Result<(), Fault> {
+    match order.folder {
+        Some(folder) => begin_folder(rt, &order.library, folder),
+        None => begin_file(rt, &order.library),
+    }
+}
+
+/// Begins the first period of a folder: a copy of the catalogue, and a journal.
+fn begin_folder(rt: &HostRuntime, library: &LibraryFiles<'_>, folder: &str) -> Result<(), Fault> {
+    let alloc = rt.alloc();
+    if last_period(rt, folder)? > 0 {
+        return Err(Fault::LibraryIsThere(String::from_str(alloc, folder)?));
+    }
+    let first = Paths::of_period(alloc, folder, 1)?;
+    let files = first.files();
+    let catalogue = read_file(rt, library.catalogue)?;
+    drop(Library::of_catalogue(rt, catalogue.as_slice())?.with_text()?);
+    write_whole(rt, files.catalogue, catalogue.as_slice())?;
+    begin_file(rt, &files)
+}
+
+/// Begins a library's journal where there is none. All of it is then in the database file.
+fn begin_file(rt: &HostRuntime, files: &LibraryFiles<'_>) -> Result<(), Fault> {
+    let path = files.journal.unwrap_or("");
+    let Library {
+        catalogue,
+        digest,
+        ..
+    } = Library::read_text(rt, files)?;
+    see_nothing(rt, path)?;
+    let alloc = rt.alloc();
+    drop(hd_journal::open(alloc, alloc, Meter::new(rt), catalogue)?);
+    let (conn, _) = open(rt, path, Unknown, &digest)?;
+    end_kept(conn)?;
+    println!(rt; "begun: {path}")?;
+    Ok(())
+}

@@ -1,0 +1,129 @@
+//! What `carry` does: it ends a journal, and writes how the next one begins.
+
+use crate::carried::{Carried, Way, carry_desk};
+use crate::fault::Fault;
+use crate::folder::{Paths, last_period};
+use crate::keeping::{Keeping, end_kept, open_kept};
+use crate::library::{digest_of, read_file};
+use crate::presence::{remove_journal, see_no_file};
+use crate::writing::{name_part, part_path, write_whole};
+use hd_command_line::{Carry, LibraryFiles, Place};
+use hd_durable::DurableJournal;
+use hd_journal_file::JournalFile;
+use hd_turn_store::{Alter, Connection, FileStore, Start, Unknown, open};
+use sqlite_disk::Disk;
+
+/// Carries a library over to another catalogue: into an opening file, or to the next period of its folder.
+pub(crate) fn carry_over(rt: &HostRuntime, order: &Carry<'_>) -> Result<(), Fault> {
+    match &order.library {
+        Place::Files(files) => {
+            let catalogue = read_file(rt, order.to)?;
+            let way = way_of(order, catalogue.as_slice(), order.into.unwrap_or(""));
+            let carried = carry_files(rt, files, &way)?;
+            name_opening(rt, files, &way, &carried)
+        }
+        Place::Folder(folder) => carry_folder(rt, folder, order),
+    }
+}
+
+/// Carries the last period of a folder over to the next one: a copy of the catalogue, a journal, and at last
+/// the opening, whose name makes it complete.
+fn carry_folder(rt: &HostRuntime, folder: &str, order: &Carry<'_>) -> Result<(), Fault> {
+    let alloc = rt.alloc();
+    let period = last_period(rt, folder)?;
+    if period == 0 {
+        return Err(Fault::NoLibrary(String::from_str(alloc, folder)?));
+    }
+    let old = Paths::of_period(alloc, folder, period)?;
+    let new = Paths::of_period(alloc, folder, period.saturating_add(1))?;
+    carry_period(rt, &old.files(), &new.files(), order)
+}
+
+/// Carries a period over to the next one, whose files these are.
+fn carry_period(
+    rt: &HostRuntime,
+    old: &LibraryFiles<'_>,
+    new: &LibraryFiles<'_>,
+    order: &Carry<'_>,
+) -> Result<(), Fault> {
+    let catalogue = read_file(rt, order.to)?;
+    let way = way_of(order, catalogue.as_slice(), new.opening.unwrap_or(""));
+    let carried = carry_files(rt, old, &way)?;
+    write_whole(rt, new.catalogue, catalogue.as_slice())?;
+    begin_anew(rt, new.journal.unwrap_or(""), &carried.digest)?;
+    name_opening(rt, old, &way, &carried)
+}
+
+/// Which way a desk is to be carried over to this catalogue file's bytes, into this opening file.
+fn way_of<'to, 'off, 'into>(
+    order: &Carry<'off>,
+    to: &'to [u8],
+    into: &'into str,
+) -> Way<'to, 'off, 'into> {
+    Way {
+        to,
+        write_off: order.write_off,
+        into,
+    }
+}
+
+/// Begins the journal of a period that isn't complete yet. What a carry that was broken off left of it goes.
+fn begin_anew(rt: &HostRuntime, path: &str, digest: &[u8; 32]) -> Result<(), Fault> {
+    remove_journal(rt, path)?;
+    let (conn, _) = open(rt, path, Unknown, digest)?;
+    end_kept(conn)
+}
+
+/// Carries the desk of a library's journal over, and ends the journal: the opening is then beside its path.
+fn carry_files(
+    rt: &HostRuntime,
+    files: &LibraryFiles<'_>,
+    way: &Way<'_, '_, '_>,
+) -> Result<Carried, Fault> {
+    see_no_file(rt, way.into)?;
+    let keeping = Keeping {
+        library: *files,
+        is_other_accepted: false,
+    };
+    carry_on_disks(rt, open_kept(rt, Unknown, &keeping)?, way)
+}
+
+/// Carries the desk of a journal on these disks over, and ends its file.
+fn carry_on_disks<D: Disk + Drop, F: Start>(
+    rt: &HostRuntime,
+    journal: DurableJournal<JournalFile<FileStore<D>, F>>,
+    way: &Way<'_, '_, '_>,
+) -> Result<Carried, Fault> {
+    let (carried, conn) = carry_in_file(rt, journal, way);
+    end_kept(conn)?;
+    carried
+}
+
+/// Carries the desk of a journal in a file over: what it is then, and the file's connection.
+fn carry_in_file<S: Alter + Drop, F: Start>(
+    rt: &HostRuntime,
+    journal: DurableJournal<JournalFile<S, F>>,
+    way: &Way<'_, '_, '_>,
+) -> (Result<Carried, Fault>, Connection<S>) {
+    let carried = carry_desk(rt, journal.journal(), way);
+    (carried, journal.into_table().into_connection())
+}
+
+/// Gives the opening that lies beside its path its name, and tells what was carried over.
+fn name_opening(
+    rt: &HostRuntime,
+    old: &LibraryFiles<'_>,
+    way: &Way<'_, '_, '_>,
+    carried: &Carried,
+) -> Result<(), Fault> {
+    let alloc = rt.alloc();
+    let before = hex::encode(alloc, digest_of(rt, old)?)?;
+    let now = hex::encode(alloc, carried.digest)?;
+    let part = part_path(rt.alloc(), way.into)?;
+    name_part(rt, part.as_str(), way.into)?;
+    println!(rt;
+        "turns: {}\nlast number: {}\nold: {before}\nnew: {now}",
+        carried.turns, carried.last
+    )?;
+    Ok(())
+}

@@ -1,0 +1,246 @@
+//! The lists of a desk.
+
+use crate::days::{day_of, day_text};
+use crate::fault::Fault;
+use crate::names::{branch_name, copy_name, patron_name, title_name_of};
+use crate::table::Table;
+use hd_catalogue::Catalogue;
+use hd_date::Day;
+use hd_desk::Desk;
+use hd_rules::{BranchNo, CopyNo, CopyState, Hold, HoldKind, HoldPlace, TitleNo};
+use std::alloc::Global;
+
+/// All copies: where each is, and who has it or is to have it.
+pub(crate) fn copies(alloc: Global, desk: &Desk) -> Result<Table, Fault> {
+    let heads = &[
+        "copy", "title", "home", "state", "branch", "to", "place", "patron", "due", "renewals",
+    ];
+    let mut table = Table::new(alloc, heads);
+    let catalogue: &Catalogue = desk.catalogue();
+    for number in 0..catalogue.copies() {
+        let copy = CopyNo::new(number as u32).unwrap();
+        push_copy(alloc, catalogue, &mut table, copy)?;
+        table.push(alloc, branch_name(catalogue, catalogue.home(copy)))?;
+        push_state(alloc, catalogue, &mut table, &desk.copy(copy))?;
+    }
+    Ok(table)
+}
+
+/// Adds a copy and its title.
+fn push_copy(
+    alloc: Global,
+    catalogue: &Catalogue,
+    table: &mut Table,
+    copy: CopyNo,
+) -> Result<(), Fault> {
+    table.push(alloc, copy_name(catalogue, copy))?;
+    table.push(alloc, title_name_of(catalogue, copy))
+}
+
+/// Adds these cells.
+fn push_cells(alloc: Global, table: &mut Table, cells: &[&[u8]]) -> Result<(), Fault> {
+    for cell in cells {
+        table.push(alloc, cell)?;
+    }
+    Ok(())
+}
+
+/// Adds a copy's state: what it is, its branch, where it goes, its place, its patron, its day and renewals.
+fn push_state(
+    alloc: Global,
+    catalogue: &Catalogue,
+    table: &mut Table,
+    state: &CopyState,
+) -> Result<(), Fault> {
+    match state {
+        CopyState::Shelf(branch) => {
+            let branch = branch_name(catalogue, *branch);
+            push_cells(
+                alloc,
+                table,
+                &[b"open shelf", branch, b"", b"", b"", b"", b""],
+            )
+        }
+        CopyState::OnLoan(loan) => {
+            let patron = patron_name(catalogue, loan.patron);
+            let due = day_text(alloc, loan.due)?;
+            let renewals = format!(in alloc; "{}", loan.renewals)?;
+            let (due, renewals) = (due.as_bytes(), renewals.as_bytes());
+            push_cells(
+                alloc,
+                table,
+                &[b"on loan", b"", b"", b"", patron, due, renewals],
+            )
+        }
+        CopyState::OnHoldShelf(there) => {
+            let place = format!(in alloc; "{}", there.place)?;
+            let branch = branch_name(catalogue, there.branch);
+            let patron = patron_name(catalogue, there.patron);
+            let place = place.as_bytes();
+            push_cells(
+                alloc,
+                table,
+                &[b"hold shelf", branch, b"", place, patron, b"", b""],
+            )
+        }
+        CopyState::InTransit(transit) => {
+            let from = branch_name(catalogue, transit.from);
+            let to = branch_name(catalogue, transit.to);
+            let patron = match transit.patron {
+                Some(patron) => patron_name(catalogue, patron),
+                None => b"",
+            };
+            push_cells(
+                alloc,
+                table,
+                &[b"in transit", from, to, b"", patron, b"", b""],
+            )
+        }
+    }
+}
+
+/// The holds of a title, in order.
+pub(crate) fn queue(alloc: Global, desk: &Desk, name: &str) -> Result<Table, Fault> {
+    let heads = &["patron", "stamp", "admits", "pickup", "until", "copy"];
+    let mut table = Table::new(alloc, heads);
+    let catalogue: &Catalogue = desk.catalogue();
+    let Some(title) = catalogue.title(name.as_bytes()) else {
+        return Err(Fault::NoTitle(String::from_str(alloc, name)?));
+    };
+    for hold in desk.queue(title).holds() {
+        push_hold(alloc, catalogue, &mut table, hold)?;
+    }
+    Ok(table)
+}
+
+/// Adds a hold.
+fn push_hold(
+    alloc: Global,
+    catalogue: &Catalogue,
+    table: &mut Table,
+    hold: &Hold,
+) -> Result<(), Fault> {
+    let stamp = format!(in alloc; "{}", hold.stamp)?;
+    table.push(alloc, patron_name(catalogue, hold.patron))?;
+    table.push(alloc, stamp.as_bytes())?;
+    table.push(alloc, admitted(catalogue, &hold.kind))?;
+    table.push(alloc, branch_name(catalogue, hold.pickup))?;
+    push_day(alloc, table, hold.expiry)?;
+    match hold.copy {
+        Some(copy) => table.push(alloc, copy_name(catalogue, copy)),
+        None => table.push(alloc, b""),
+    }
+}
+
+/// Which copies a hold admits: a copy's name is that of the one copy.
+fn admitted<'a>(catalogue: &'a Catalogue, kind: &HoldKind) -> &'a [u8] {
+    match kind {
+        HoldKind::Any => b"any",
+        HoldKind::AtBranch => b"branch",
+        HoldKind::One(copy) => copy_name(catalogue, *copy),
+    }
+}
+
+/// Adds a day, where there is one.
+fn push_day(alloc: Global, table: &mut Table, day: Option<Day>) -> Result<(), Fault> {
+    match day {
+        Some(day) => {
+            let text = day_text(alloc, day)?;
+            table.push(alloc, text.as_bytes())
+        }
+        None => table.push(alloc, b""),
+    }
+}
+
+/// The hold shelf of a branch, by copy.
+pub(crate) fn shelf(alloc: Global, desk: &Desk, name: &str) -> Result<Table, Fault> {
+    let mut table = Table::new(alloc, &["place", "copy", "title", "patron"]);
+    let catalogue: &Catalogue = desk.catalogue();
+    let Some(branch) = catalogue.branch(name.as_bytes()) else {
+        return Err(Fault::NoBranch(String::from_str(alloc, name)?));
+    };
+    for number in 0..catalogue.copies() {
+        let copy = CopyNo::new(number as u32).unwrap();
+        if let CopyState::OnHoldShelf(there) = desk.copy(copy) {
+            push_place(alloc, catalogue, &mut table, branch, copy, &there)?;
+        }
+    }
+    Ok(table)
+}
+
+/// Adds a copy on a hold shelf, where that is this branch's.
+fn push_place(
+    alloc: Global,
+    catalogue: &Catalogue,
+    table: &mut Table,
+    branch: BranchNo,
+    copy: CopyNo,
+    there: &HoldPlace,
+) -> Result<(), Fault> {
+    if there.branch != branch {
+        return Ok(());
+    }
+    let place = format!(in alloc; "{}", there.place)?;
+    table.push(alloc, place.as_bytes())?;
+    push_copy(alloc, catalogue, table, copy)?;
+    table.push(alloc, patron_name(catalogue, there.patron))
+}
+
+/// The copies on their way between branches.
+pub(crate) fn transits(alloc: Global, desk: &Desk) -> Result<Table, Fault> {
+    let mut table = Table::new(alloc, &["copy", "title", "from", "to", "patron"]);
+    let catalogue: &Catalogue = desk.catalogue();
+    for number in 0..catalogue.copies() {
+        let copy = CopyNo::new(number as u32).unwrap();
+        if let CopyState::InTransit(transit) = desk.copy(copy) {
+            push_copy(alloc, catalogue, &mut table, copy)?;
+            table.push(alloc, branch_name(catalogue, transit.from))?;
+            table.push(alloc, branch_name(catalogue, transit.to))?;
+            match transit.patron {
+                Some(patron) => table.push(alloc, patron_name(catalogue, patron))?,
+                None => table.push(alloc, b"")?,
+            }
+        }
+    }
+    Ok(table)
+}
+
+/// The loans that were due before a day.
+pub(crate) fn overdue(alloc: Global, desk: &Desk, day: &str) -> Result<Table, Fault> {
+    let day = day_of(alloc, day)?;
+    let mut table = Table::new(alloc, &["copy", "title", "patron", "due", "renewals"]);
+    let catalogue: &Catalogue = desk.catalogue();
+    for number in 0..catalogue.copies() {
+        let copy = CopyNo::new(number as u32).unwrap();
+        if let CopyState::OnLoan(loan) = desk.copy(copy)
+            && loan.due < day
+        {
+            let renewals = format!(in alloc; "{}", loan.renewals)?;
+            push_copy(alloc, catalogue, &mut table, copy)?;
+            table.push(alloc, patron_name(catalogue, loan.patron))?;
+            push_day(alloc, &mut table, Some(loan.due))?;
+            table.push(alloc, renewals.as_bytes())?;
+        }
+    }
+    Ok(table)
+}
+
+/// The holds whose last day was before a day, by title and order in its queue.
+pub(crate) fn expired(alloc: Global, desk: &Desk, day: &str) -> Result<Table, Fault> {
+    let day = day_of(alloc, day)?;
+    let heads = &[
+        "title", "patron", "stamp", "admits", "pickup", "until", "copy",
+    ];
+    let mut table = Table::new(alloc, heads);
+    let catalogue: &Catalogue = desk.catalogue();
+    for number in 0..catalogue.titles() {
+        let title = TitleNo::new(number as u32).unwrap();
+        for hold in desk.queue(title).holds() {
+            if hold.expiry.is_some_and(|until| until < day) {
+                table.push(alloc, catalogue.title_name(title))?;
+                push_hold(alloc, catalogue, &mut table, hold)?;
+            }
+        }
+    }
+    Ok(table)
+}

@@ -1,0 +1,117 @@
+//! What lies at the path of a journal's file, before that is opened.
+
+use crate::fault::Fault;
+use hd_journal_file::OpenFault;
+use hd_turn_store::Fault as StoreFault;
+use std::alloc::Global;
+use std::fs;
+use std::io::ErrorKind;
+
+/// How many bytes a log without a commit has at most: its heading.
+const LOG_HEADING: u64 = 32;
+
+/// What lies at the path of a journal's file.
+#[derive(Clone, Copy, PartialEq, Eq)]
+enum Presence {
+    /// Nothing, or what a beginning that was broken off left: two files in which nothing was committed.
+    Nothing,
+    /// A journal with its log.
+    Journal,
+    /// A journal without its log, which may have had the last turns.
+    JournalAlone,
+    /// A log without its journal.
+    LogAlone,
+}
+
+/// Sees that a journal with its log lies at a path.
+///
+/// # Errors
+/// There is none, or one of its two files is missing.
+pub(crate) fn see_journal(rt: &HostRuntime, path: &str) -> Result<(), Fault> {
+    let log = log_path(rt.alloc(), path)?;
+    match look(rt, path, log.as_str())? {
+        Presence::Journal => Ok(()),
+        Presence::Nothing => Err(Fault::NoJournal(String::from_str(rt.alloc(), path)?)),
+        Presence::JournalAlone => Err(Fault::NoLog),
+        Presence::LogAlone => Err(Fault::LogAlone(log)),
+    }
+}
+
+/// Sees that nothing lies at a path, so that a journal may be begun there.
+///
+/// # Errors
+/// A journal lies there, or one of its two files.
+pub(crate) fn see_nothing(rt: &HostRuntime, path: &str) -> Result<(), Fault> {
+    let log = log_path(rt.alloc(), path)?;
+    match look(rt, path, log.as_str())? {
+        Presence::Nothing => Ok(()),
+        Presence::Journal | Presence::JournalAlone => {
+            Err(Fault::JournalIsThere(String::from_str(rt.alloc(), path)?))
+        }
+        Presence::LogAlone => Err(Fault::LogAlone(log)),
+    }
+}
+
+/// Sees that there is no file at a path.
+///
+/// # Errors
+/// There is one.
+pub(crate) fn see_no_file(rt: &HostRuntime, path: &str) -> Result<(), Fault> {
+    match length(rt, path)? {
+        None => Ok(()),
+        Some(_) => Err(Fault::FileIsThere(String::from_str(rt.alloc(), path)?)),
+    }
+}
+
+/// Takes a journal's file and its log away, where they are there.
+///
+/// # Errors
+/// The system refuses it.
+pub(crate) fn remove_journal(rt: &HostRuntime, path: &str) -> Result<(), Fault> {
+    let log = log_path(rt.alloc(), path)?;
+    remove(rt, path)?;
+    remove(rt, log.as_str())
+}
+
+/// Takes a file away, where it is there.
+fn remove(rt: &HostRuntime, path: &str) -> Result<(), Fault> {
+    match fs::remove_file(rt, path) {
+        Ok(()) => Ok(()),
+        Err(error) if error.kind() == ErrorKind::NotFound => Ok(()),
+        Err(_) => Err(Fault::CannotWriteFile(String::from_str(rt.alloc(), path)?)),
+    }
+}
+
+/// The path of a journal's log.
+fn log_path(alloc: Global, path: &str) -> Result<String, Fault> {
+    Ok(format!(in alloc; "{path}-wal")?)
+}
+
+/// What lies at the path of a journal's file, and at that of its log.
+fn look(rt: &HostRuntime, path: &str, log: &str) -> Result<Presence, Fault> {
+    Ok(presence_of(length(rt, path)?, length(rt, log)?))
+}
+
+/// What two files are that have these lengths, where they are there.
+fn presence_of(journal: Option<u64>, log: Option<u64>) -> Presence {
+    let has_commits = log.unwrap_or(0) > LOG_HEADING;
+    match (journal, log) {
+        (None, _) if has_commits => Presence::LogAlone,
+        (None, _) => Presence::Nothing,
+        (Some(0), _) if !has_commits => Presence::Nothing,
+        (Some(_), None) => Presence::JournalAlone,
+        (Some(_), Some(_)) => Presence::Journal,
+    }
+}
+
+/// How long a file is, where there is one.
+///
+/// # Errors
+/// The system doesn't tell.
+fn length(rt: &HostRuntime, path: &str) -> Result<Option<u64>, Fault> {
+    match fs::metadata(rt, path) {
+        Ok(file) => Ok(Some(file.len())),
+        Err(error) if error.kind() == ErrorKind::NotFound => Ok(None),
+        Err(_) => Err(Fault::Journal(OpenFault::File(StoreFault::CannotOpen))),
+    }
+}

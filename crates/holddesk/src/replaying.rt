@@ -1,0 +1,47 @@
+//! Answering the messages of the standard input.
+
+use crate::fault::Fault;
+use crate::library::{Library, read_file};
+use hd_command_line::{LibraryFiles, Replay};
+use hd_connection::Fallible;
+use hd_desk::Meter;
+use hd_replay::{ReplayFault, replay_over};
+use hd_server::replay;
+
+/// Answers the messages of the standard input.
+pub(crate) fn answer(rt: &HostRuntime, order: &Replay<'_>) -> Result<(), Fault> {
+    if order.library.opening.is_some() {
+        see_opening(rt, &order.library)?;
+        return answer_over(rt, Library::read(rt, &order.library)?, order.now);
+    }
+    let file = read_file(rt, order.library.catalogue)?;
+    let now = order.now.as_bytes();
+    let mut from = Fallible(rt.stdin());
+    let mut to = Fallible(rt.stdout());
+    replay(rt, file.as_slice(), now, &mut from, &mut to)?;
+    Ok(())
+}
+
+/// Sees that a library's opening tells a desk.
+///
+/// # Errors
+/// A file can't be read, or is refused; a row of the opening may not stand.
+fn see_opening(rt: &HostRuntime, files: &LibraryFiles<'_>) -> Result<(), Fault> {
+    let library = Library::read(rt, files)?;
+    let alloc = rt.alloc();
+    let journal = hd_journal::open(alloc, alloc, Meter::new(rt), library.catalogue)?;
+    drop(journal);
+    Ok(())
+}
+
+/// Answers the messages of the standard input over a library, from its opening on.
+fn answer_over(rt: &HostRuntime, library: Library, now: &str) -> Result<(), Fault> {
+    let catalogue = library.catalogue;
+    let Ok(now) = hd_date::read(now.as_bytes(), catalogue.offset()) else {
+        return Err(Fault::from(ReplayFault::BadNow));
+    };
+    let mut from = Fallible(rt.stdin());
+    let mut to = Fallible(rt.stdout());
+    replay_over(rt, rt.alloc(), catalogue, now, &mut from, &mut to)?;
+    Ok(())
+}

@@ -1,0 +1,77 @@
+//! What `journal views` prints.
+
+use crate::fault::Fault;
+use hd_command_line::{JournalViews, VIEWS};
+use std::alloc::{AllocError, Global};
+use std::fs;
+use std::io::Write;
+
+/// The table of the loans that a journal began with.
+const OPENED: &[u8] = b"-- The loans that the journal began with.
+CREATE TEMP TABLE opened (copy TEXT NOT NULL, patron TEXT NOT NULL, until TEXT NOT NULL);
+";
+
+/// Prints the views of a journal's file, and the loans of its opening file, if it has one.
+pub(crate) fn print_views(rt: &HostRuntime, order: &JournalViews<'_>) -> Result<(), Fault> {
+    rt.stdout().write_all(OPENED)?;
+    if let Some(path) = order.opening {
+        let Ok(file) = fs::read(rt, path) else {
+            return Err(Fault::CannotReadOpening);
+        };
+        let loans = loans_of(rt.alloc(), file.as_slice())?;
+        rt.stdout().write_all(loans.as_slice())?;
+    }
+    rt.stdout().write_all(b"\n")?;
+    rt.stdout().write_all(VIEWS.as_bytes())?;
+    Ok(())
+}
+
+/// The statements that insert the loans of an opening file.
+fn loans_of(alloc: Global, file: &[u8]) -> Result<Vec<u8>, AllocError> {
+    let mut text = Vec::new(alloc);
+    for line in file.split(|byte| *byte == b'\n') {
+        if let Some(loan) = line.strip_prefix(b"L|") {
+            push_loan(&mut text, loan)?;
+        }
+    }
+    Ok(text)
+}
+
+/// Adds the statement of a loan: copy, patron, day and renewals, each behind a bar.
+fn push_loan(text: &mut Vec<u8>, loan: &[u8]) -> Result<(), AllocError> {
+    let mut values = loan.split(|byte| *byte == b'|');
+    let (copy, patron, due) = (values.next(), values.next(), values.next());
+    let (Some(copy), Some(patron), Some(due)) = (copy, patron, due) else {
+        return Ok(());
+    };
+    text.extend_from_slice(b"INSERT INTO opened VALUES ('")?;
+    push_quoted(text, copy)?;
+    text.extend_from_slice(b"', '")?;
+    push_quoted(text, patron)?;
+    text.extend_from_slice(b"', '")?;
+    push_day(text, due)?;
+    text.extend_from_slice(b"');\n")?;
+    Ok(())
+}
+
+/// Adds a text in which each quote is doubled.
+fn push_quoted(text: &mut Vec<u8>, value: &[u8]) -> Result<(), AllocError> {
+    for byte in value {
+        if *byte == b'\'' {
+            text.push(b'\'')?;
+        }
+        text.push(*byte)?;
+    }
+    Ok(())
+}
+
+/// Adds a day, as 2026-03-01 where it is 20260301.
+fn push_day(text: &mut Vec<u8>, day: &[u8]) -> Result<(), AllocError> {
+    for (at, byte) in day.iter().enumerate() {
+        if at == 4 || at == 6 {
+            text.push(b'-')?;
+        }
+        text.push(*byte)?;
+    }
+    Ok(())
+}

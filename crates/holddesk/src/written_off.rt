@@ -1,0 +1,57 @@
+//! Loans that are written off when a library is carried over.
+
+use crate::fault::Fault;
+use crate::names::{copy_name, patron_name};
+use hd_catalogue::Catalogue;
+use hd_desk::Desk;
+use hd_rules::{CopyNo, CopyState};
+use std::fs;
+use std::io::Write;
+
+/// The copies whose names stand in a file, one a line. What is no copy's name is passed over.
+///
+/// # Errors
+/// The file can't be read; out of memory.
+pub(crate) fn listed_copies(
+    rt: &HostRuntime,
+    catalogue: &Catalogue,
+    path: Option<&str>,
+) -> Result<Vec<CopyNo>, Fault> {
+    let mut copies = Vec::new(rt.alloc());
+    let Some(path) = path else {
+        return Ok(copies);
+    };
+    let Ok(file) = fs::read(rt, path) else {
+        return Err(Fault::CannotReadFile(String::from_str(rt.alloc(), path)?));
+    };
+    for line in file.as_slice().split(|byte| *byte == b'\n') {
+        let name = line.strip_suffix(b"\r").unwrap_or(line);
+        if let Some(copy) = catalogue.copy(name) {
+            copies.push(copy)?;
+        }
+    }
+    Ok(copies)
+}
+
+/// Tells which loans are dropped, a line for each.
+pub(crate) fn tell_written_off(
+    rt: &HostRuntime,
+    desk: &Desk,
+    copies: &[CopyNo],
+) -> Result<(), Fault> {
+    let catalogue: &Catalogue = desk.catalogue();
+    for copy in copies {
+        if (copy.number() as usize) < catalogue.copies()
+            && let CopyState::OnLoan(loan) = desk.copy(*copy)
+        {
+            let mut line = Vec::new(rt.alloc());
+            line.extend_from_slice(b"written off: copy ")?;
+            line.extend_from_slice(copy_name(catalogue, *copy))?;
+            line.extend_from_slice(b", on loan to ")?;
+            line.extend_from_slice(patron_name(catalogue, loan.patron))?;
+            line.push(b'\n')?;
+            rt.stdout().write_all(line.as_slice())?;
+        }
+    }
+    Ok(())
+}

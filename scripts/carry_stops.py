@@ -1,0 +1,109 @@
+#!/usr/bin/env python3
+"""Stops holddesk carry by kill -9 before each of its calls that change a file, and looks what is left.
+
+    python3 scripts/carry_stops.py [--every N] [PROGRAM]
+
+PROGRAM is crates/holddesk/out/holddesk where it isn't given. A day is played in a folder; then holddesk carry --library
+is run on a copy of it for each of its calls that write, sync, rename or take away a file, and is killed before that
+call (--every N: before each Nth). What is left has to be the old library or the new one: journal check takes it, and
+where it is the old one a second carry succeeds; the opening then has the same bytes as that of an undisturbed carry.
+Needs Linux, strace and Python 3; where there is no strace it is told as skipped. Status 0: nothing is lost.
+"""
+
+import os
+import shutil
+import subprocess
+import tempfile
+
+from server import CATALOGUE, SECONDS, Server, Trouble, ask, begun_folder, connect, parser_of, reported
+
+CALLS = "write,writev,pwrite64,fsync,fdatasync,ftruncate,rename,renameat,renameat2,unlink,unlinkat"
+MESSAGES = """9300CNt1|COpw|
+11NN20260301    10000020260301    100000AOlib|AAp1|ABa2|AC|
+15+20260301    100000BSnorth|BY2|AOlib|AAp1|AJta|
+15+20260301    100000BSsouth|BY2|AOlib|AAp2|AJta|
+09N20260301    10000020260301    100000APnorth|AOlib|ABa1|AC|
+15+20260301    100000BSsouth|BY2|AOlib|AAp3|AJtb|
+09N20260301    10000020260301    100000APnorth|AOlib|ABb1|AC|"""
+
+
+def play_day(program, folder):
+    """Plays a day in a folder."""
+    with Server(program, None, 1, "--connections", "1", "--library", folder) as server:
+        connection = connect(server.port)
+        for message in MESSAGES.splitlines():
+            ask(connection, message.encode())
+        connection.close()
+        status, _, said = server.end()
+    if status:
+        raise Trouble(f"the server ends with {status} and says {said!r}")
+
+
+def ended_well(words):
+    """Looks that a command ends well."""
+    done = subprocess.run(words, capture_output=True, text=True, timeout=SECONDS, check=False)
+    if (done.returncode, done.stderr) != (0, ""):
+        raise Trouble(f"{' '.join(words)} ends with {done.returncode} and says {done.stderr!r}")
+    return done.stdout
+
+
+def opening(folder):
+    """The bytes of the second number's opening, or none."""
+    try:
+        with open(os.path.join(folder, "0002.opening"), "rb") as file:
+            return file.read()
+    except FileNotFoundError:
+        return None
+
+
+def stop(program, folder, number, wanted):
+    """Carries a folder over and kills that before its call of this number. Whether there was one."""
+    words = [program, "carry", "--library", folder, "--to", CATALOGUE]
+    done = subprocess.run(["strace", "-f", "-qq", "-o", os.devnull, "-e", f"trace={CALLS}", "-e",
+                           f"inject={CALLS}:signal=KILL:when={number}", *words],
+                          stdout=subprocess.DEVNULL, stderr=subprocess.DEVNULL, timeout=SECONDS, check=False)
+    if done.returncode == 0:
+        return False
+    checked = ended_well([program, "journal", "check", "--library", folder])
+    if opening(folder) is None:
+        if not checked.startswith("turns: 6\n"):
+            raise Trouble(f"before call {number} the old journal has {checked!r}")
+        ended_well(words)
+    elif not checked.startswith("turns: 0\n"):
+        raise Trouble(f"before call {number} the new journal has {checked!r}")
+    if opening(folder) != wanted:
+        raise Trouble(f"before call {number} the opening is another one")
+    return True
+
+
+def stops(program, every):
+    """Stops a carry before each of its calls. How many there were."""
+    if shutil.which("strace") is None:
+        return None
+    with tempfile.TemporaryDirectory() as room:
+        old, whole = os.path.join(room, "old"), os.path.join(room, "whole")
+        begun_folder(program, CATALOGUE, old)
+        play_day(program, old)
+        shutil.copytree(old, whole)
+        ended_well([program, "carry", "--library", whole, "--to", CATALOGUE])
+        number = 1
+        while True:
+            folder = os.path.join(room, str(number))
+            shutil.copytree(old, folder)
+            if not stop(program, folder, number, opening(whole)):
+                return number
+            shutil.rmtree(folder)
+            number += every
+
+
+def main():
+    parser = parser_of(__doc__)
+    parser.add_argument("--every", type=int, default=1, metavar="N", help="stop before each Nth call alone (1)")
+    asked = parser.parse_args()
+    count = reported("carry_stops", stops, asked.program, asked.every)
+    print("carry_stops: skipped, since there is no strace" if count is None else
+          f"carry_stops: stopped before its calls up to the {count}th, the old library or the new one each time")
+
+
+if __name__ == "__main__":
+    main()
