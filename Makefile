@@ -15,7 +15,7 @@ help:
 	@echo 'make install    after make run: the program and its manual page, below PREFIX ($(PREFIX)) and DESTDIR'
 	@echo 'make uninstall  take them away again'
 	@echo 'make wrong      put wrong bodies in, many in a check, and see that the prover refuses each'
-	@echo 'make test       the gate: serving over TCP, all proofs, wrong bodies, tests, stored runs (over an hour at first)'
+	@echo 'make test       the gate: serving over TCP, all proofs, wrong bodies, tests, stored runs (one to two hours at first)'
 
 STORED = replay --catalogue data/demonstration.catalogue --now '20260301    120000' < stdin
 
@@ -88,14 +88,15 @@ wrong:
 	@python3 scripts/wrong_bodies.py --self-test
 	@python3 scripts/wrong_bodies.py
 
-# The gate: the picture of the crates; stored messages, hostile clients and stops by kill -9, played against a program
-# that is built without proofs for them; a seat of one hall at another, which the types refuse; the wrong bodies that a
-# script tries, many in a check, over libraries that rt ci proves and keeps; then all proofs, the wrong bodies that stand
-# for a promise, the tests and the stored runs. What was proved before and hasn't changed isn't proved again, and what
-# was refused isn't tried again.
+# The gate: the picture of the crates; commands of the README, stored messages, hostile clients and stops by kill -9,
+# played against a program that is built without proofs for them; a seat of one hall at another, which the types refuse;
+# the wrong bodies that a script tries, many in a check, over libraries that rt ci proves and keeps; then all proofs, the
+# wrong bodies that stand for a promise, the tests and the stored runs. What was proved before and hasn't changed isn't
+# proved again, and what was refused isn't tried again.
 test:
 	@python3 scripts/draw_house.py --check
 	@folder=$$(mktemp -d) && trap 'rm -rf "$$folder"' EXIT && program=$$(python3 scripts/unproved.py "$$folder") && \
+	  python3 scripts/readme_commands.py "$$program" && \
 	  python3 scripts/serve_smoke.py "$$program" && python3 scripts/serve_hostile.py "$$program" && \
 	  python3 scripts/serve_crash.py --rounds 5 "$$program" && python3 scripts/carry_rows.py "$$program" && \
 	  python3 scripts/two_years.py --days 8 "$$program"

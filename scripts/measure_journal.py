@@ -5,8 +5,9 @@
 
 PROGRAM is crates/holddesk/out/holddesk where it isn't given; N is 100,000, S is 5. Turns are made by bench/out/hd_load
 drive (make bench/out/hd_load; rustc), over the demonstration library, by 1 and by 16 connections: with the journal in
-memory, in a file, and in a file that is synced twice a turn. Then a file is filled with at least N turns, and holddesk
-journal check takes them again. The file lies in the folder that TMPDIR names. Needs Python 3. Prints a table.
+memory, in a file, and in a file that is synced twice a turn. Then a file is filled with at least N turns, holddesk
+journal check takes them again, and the views of holddesk journal views are read from it. The file lies in the folder
+that TMPDIR names. Needs Python 3. Prints a table.
 """
 
 import contextlib
@@ -73,7 +74,19 @@ def print_restart(program, catalogue, folder, turns):
         raise Trouble(f"journal check ends with {status}")
     print(f"| {rows} turns taken again | {taken:.2f} s |")
     print(f"| the memory of that | {used.ru_maxrss // 1024} MB |")
-    print(f"| the file, a turn | {os.path.getsize(path) // rows} bytes |")
+    print(f"| the file, a turn | {os.path.getsize(path) // rows} bytes |", flush=True)
+    print_views(program, path)
+
+
+def print_views(program, path):
+    """Prints how long it takes to read each view of a journal's file, by the SQLite that Python has."""
+    views = subprocess.run([program, "journal", "views"], capture_output=True, text=True, check=True).stdout
+    with contextlib.closing(sqlite3.connect(path)) as connection:
+        connection.executescript(views)
+        for view in ("surviving", "moved", "lent"):
+            begun = time.process_time()
+            count = sum(1 for _ in connection.execute(f"SELECT * FROM {view}"))
+            print(f"| the view {view}, {count} rows | {time.process_time() - begun:.1f} s |", flush=True)
 
 
 def print_table(asked):

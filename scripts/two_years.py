@@ -12,6 +12,7 @@ to be just those of the model, which knows the desk's rules for what is played h
 Status 0: nothing differs.
 """
 
+import collections
 import datetime
 import glob
 import hashlib
@@ -204,7 +205,7 @@ class Branch:
 
 
 def play_day(program, folder, desk, draw, date, branches):
-    """A day of messages; on some days the server is killed in the middle of one, which is sent again."""
+    """A day of messages; on some days the server is killed in the middle of one, which is sent again. Whether it was."""
     kills = draw.random() < 0.2
     for part in range(2 if kills else 1):
         with Server(program, None, len(branches), "--connections", str(len(branches)), "--library", folder) as server:
@@ -226,6 +227,7 @@ def play_day(program, folder, desk, draw, date, branches):
                 status, _, said = server.end()
                 if status:
                     raise Trouble(f"the server ends with {status} and says {said!r}")
+    return kills
 
 
 def newest(folder):
@@ -233,25 +235,36 @@ def newest(folder):
     return max(glob.glob(os.path.join(folder, "????.opening")), default=None)
 
 
-def carry(program, folder, catalogue, draw, kills):
-    """Carries the library over; where it is to be killed first it is, at a random moment, and then done again where the
-    old library was left."""
-    words = [program, "carry", "--library", folder, "--to", catalogue]
-    before = newest(folder)
-    if kills:
-        process = subprocess.Popen(words, stdout=subprocess.DEVNULL, stderr=subprocess.DEVNULL)
-        time.sleep(draw.random() / 25)
+class Nights:
+    """Carries a folder over, night by night."""
+
+    def __init__(self, program, folder):
+        self.program, self.folder, self.seconds = program, folder, 0.04  # how long the last carry took
+
+    def words(self, catalogue):
+        """The words that carry it over to a catalogue."""
+        return [self.program, "carry", "--library", self.folder, "--to", catalogue]
+
+    def is_killed_in_time(self, catalogue, draw):
+        """Begins to carry it over and kills that at a random moment. Whether the old library was left."""
+        before = newest(self.folder)
+        process = subprocess.Popen(self.words(catalogue), stdout=subprocess.DEVNULL, stderr=subprocess.DEVNULL)
+        time.sleep(draw.random() * self.seconds)
         process.kill()
         process.wait(SECONDS)
-        if newest(folder) != before:
-            return
-    done = subprocess.run(words, capture_output=True, text=True, timeout=SECONDS, check=False)
-    if (done.returncode, done.stderr) != (0, ""):
-        raise Trouble(f"carry ends with {done.returncode} and says {done.stderr!r}")
+        return newest(self.folder) == before
+
+    def carry(self, catalogue):
+        """Carries it over."""
+        begun = time.monotonic()
+        done = subprocess.run(self.words(catalogue), capture_output=True, text=True, timeout=SECONDS, check=False)
+        if (done.returncode, done.stderr) != (0, ""):
+            raise Trouble(f"carry ends with {done.returncode} and says {done.stderr!r}")
+        self.seconds = time.monotonic() - begun
 
 
 def compare_opening(folder, desk, catalogue):
-    """Compares the last opening with the model."""
+    """Compares the last opening with the model. How many lines they have."""
     with open(catalogue, "rb") as file:
         digest = hashlib.sha256(file.read()).hexdigest()
     with open(newest(folder), encoding="ascii") as file:
@@ -262,6 +275,7 @@ def compare_opening(folder, desk, catalogue):
     if told != wanted:
         only, missing = sorted(set(told) - set(wanted)), sorted(set(wanted) - set(told))
         raise Trouble(f"the opening has {only} that the model hasn't, and lacks {missing}")
+    return len(lines)
 
 
 def grow(library):
@@ -276,10 +290,10 @@ def grow(library):
 
 
 def refuse(program, folder, desk, catalogue):
-    """Takes something out that somebody has, which isn't carried over."""
+    """Takes something out that somebody has, which isn't carried over. Whether there was anything."""
     lent = [(copy, it[1]) for copy, it in desk.away.items() if it[0] == "L"]
     if not lent:
-        return
+        return False
     copy, patron = desk.library.draw.choice(lent)
     facts = desk.library.copies.pop(copy)
     desk.library.write(catalogue)
@@ -290,6 +304,7 @@ def refuse(program, folder, desk, catalogue):
     why = f"copy {copy} is on loan to {patron}, and the new catalogue lacks it\n"
     if (done.returncode, done.stderr, sorted(os.listdir(folder))) != (1, why, before):
         raise Trouble(f"carry without {copy} ends with {done.returncode} and says {done.stderr!r}")
+    return True
 
 
 def shrink(desk):
@@ -308,29 +323,43 @@ def shrink(desk):
         del library.titles[library.draw.choice(titles)]
 
 
+def play_night(nights, catalogue, draw, played):
+    """Carries a folder over; on some nights that is killed first, and done again where the old library was left."""
+    if draw.random() < 0.2:
+        played["carries killed"] += 1
+        if not nights.is_killed_in_time(catalogue, draw):
+            played["of them too late"] += 1
+            return
+    nights.carry(catalogue)
+
+
 def play(program, days, seed):
-    """Plays so many days. How many numbers were given."""
+    """Plays so many days. How much was played and compared."""
     draw = random.Random(seed)
+    played = collections.Counter({"days and nights": days, "servers killed": 0, "carries killed": 0, "of them too late": 0,
+                                  "carries refused": 0})
     with tempfile.TemporaryDirectory() as room:
         library = Library(draw)
         desk, branches = Desk(library), [Branch(name) for name in BRANCHES]
         catalogue = library.write(os.path.join(room, "catalogue"))
         folder = begun_folder(program, catalogue, os.path.join(room, "library"))
+        nights = Nights(program, folder)
         for day in range(1, days + 1):
             date = f"{datetime.date(2026, 3, 1) + datetime.timedelta(day):%Y%m%d}"
-            play_day(program, folder, desk, draw, date, branches)
+            played["servers killed"] += play_day(program, folder, desk, draw, date, branches)
             if day % 7 == 0:
                 grow(library)
             if day % 30 == 0:
-                refuse(program, folder, desk, catalogue)
+                played["carries refused"] += refuse(program, folder, desk, catalogue)
                 shrink(desk)
             library.write(catalogue)
             try:
-                carry(program, folder, catalogue, draw, draw.random() < 0.2)
-                compare_opening(folder, desk, catalogue)
+                play_night(nights, catalogue, draw, played)
+                played["lines of openings compared"] += compare_opening(folder, desk, catalogue)
             except Trouble as trouble:
                 raise Trouble(f"night {day}: {trouble}") from trouble
-    return desk.last
+    played["commands"] = desk.last
+    return played
 
 
 def main():
@@ -338,8 +367,9 @@ def main():
     parser.add_argument("--days", type=int, default=DAYS, metavar="N", help=f"how many days ({DAYS})")
     parser.add_argument("--seed", type=int, default=SEED, metavar="N", help=f"the seed of what is drawn ({SEED})")
     asked = parser.parse_args()
-    last = reported("two_years", play, asked.program, asked.days, asked.seed)
-    print(f"two_years: {asked.days} days and nights, {last} commands, each copy and queue as in the model")
+    played = reported("two_years", play, asked.program, asked.days, asked.seed)
+    told = ", ".join(f"{count} {what}" for what, count in played.items())
+    print(f"two_years: {told}: each copy and queue as in the model")
 
 
 if __name__ == "__main__":

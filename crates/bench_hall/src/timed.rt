@@ -1,11 +1,11 @@
 //! A keeper with a clock.
 
-ghost use Rattle.std.specs.Prelude.{◌≡◌};
+ghost use Rattle.std.specs.Prelude.{◌≡◌, None};
 
 use crate::spans::Spans;
 use hd_catalogue::Catalogue;
 use hd_hall::{Ask, Keeper, TurnRef};
-use hd_journal::{Journal, OwnedAsk, Turn, TurnFault};
+use hd_journal::{Journal, OwnedAsk, Turn, TurnFault, WriteFault};
 use std::alloc::{AllocError, Global};
 use std::sync::Arc;
 use std::time::{Clock, Instant};
@@ -54,6 +54,8 @@ impl<'r, R: Clock> Keeper<Global, OwnedAsk<Global>> for Timed<'r, R> {
 
     ghost causes = { λ old ask new. IsMemory };
 
+    ghost shut = { λ timed. None };
+
     fn own(alloc: Global, ask: &Ask<'_>) -> Result<OwnedAsk<Global>, AllocError> {
         OwnedAsk::of(alloc, ask)
     }
@@ -68,6 +70,10 @@ impl<'r, R: Clock> Keeper<Global, OwnedAsk<Global>> for Timed<'r, R> {
 
     fn turn_at(&self, at: usize) -> Option<TurnRef<'_>> {
         self.journal.turn_at(at)
+    }
+
+    fn journal(&self) -> Result<&Journal, WriteFault> {
+        Keeper::journal(&self.journal)
     }
 
     fn take(&mut self, own: OwnedAsk<Global>) -> Result<Turn, TurnFault> {

@@ -1,6 +1,7 @@
 -- A session that is fed what is read, and whose replies are written.
 use Rattle.std.proofs.Common.{◌≡◌, ℕ, ◌+◌, ◌≤◌, ◌<◌, List, [], ◌∷◌, ◌++◌, Option, None, Some, Ok, Err, OnOk}
-use Rattle.std.proofs.Common.{IsErr, IsErrAnd, length, length-append, arith, refl, sym, ap, ap₂, ◌∙◌, subst, append-nil}
+use Rattle.std.proofs.Common.{IsErr, IsErrAnd, length, length-append, arith, refl, sym, ap, ap₂, ◌∙◌, subst}
+use Rattle.std.proofs.Common.{append-nil}
 use Rattle.std.proofs.KnownBytes.{Appends-nil, Appends-trans, Consumes-nil, Consumes-trans}
 use Rattle.std.proofs.Math.Seq.{drop-append_seam, take-add, take-append_seam}
 use Rattle.std.proofs.lemmas.Bool.{false≢true}
@@ -25,27 +26,33 @@ nothing_left (Ok done) = refl
 nothing_left (Err fault) = tt
 
 -- what one clock may tell, another may
-told : (Now Tells : Stamp → Type 0) → ((now : Stamp) → Now now → Tells now) → (piece : Piece) → IsReadPiece Now piece → IsReadPiece Tells piece
-told Now Tells tells piece read = record { some = read.some; short = read.short; present = tells piece.now read.present }
+told : (Now Tells : Stamp → Type 0) → ((now : Stamp) → Now now → Tells now) → (piece : Piece)
+    → IsReadPiece Now piece → IsReadPiece Tells piece
+told Now Tells tells piece read =
+    record { some = read.some; short = read.short; present = tells piece.now read.present }
 
 -- a beginning of what stands behind a text
 cut_behind : (text more part : List ℕ) → IsCutShort more part → IsCutShort (text ++ more) (text ++ part)
 cut_behind text more part cut = (
   length text + cut.0,
   (let less = cut.1 in let whole = length-append text more in omega (arith, less, whole)),
-  ap (λ (p : List ℕ). text ++ p) cut.2 ∙ sym (take-add (length text) cut.0 (text ++ more) ∙ rw (take-append_seam, drop-append_seam) refl),
+  ap (λ (p : List ℕ). text ++ p) cut.2
+      ∙ sym (take-add (length text) cut.0 (text ++ more) ∙ rw (take-append_seam, drop-append_seam) refl),
 )
 
 -- what is written behind replies that are written
-written_behind : (end : AttendFault) (replies more put part : List ℕ) → put ≡ replies → IsWritten (Err end) more part
+written_behind : (end : AttendFault) (replies more put part : List ℕ) → put ≡ replies
+    → IsWritten (Err end) more part
     → IsWritten (Err end) (replies ++ more) (put ++ part)
 written_behind fault.Read replies more put part all is = ap₂ (λ (a b : List ℕ). a ++ b) all is
 written_behind fault.Write replies more put part all is =
-    subst (λ (p : List ℕ). IsCutShort (replies ++ more) (p ++ part)) (sym all) (cut_behind replies more part is)
+    subst (λ (p : List ℕ). IsCutShort (replies ++ more) (p ++ part)) (sym all)
+    (cut_behind replies more part is)
 written_behind (fault.Ended why) replies more put part all is = ap₂ (λ (a b : List ℕ). a ++ b) all is
 
 -- how a session is left that went on until then
-leaves_behind : (end : AttendFault) (first between last : Option Ended) → between ≡ first → Leaves (Err end) between last
+leaves_behind : (end : AttendFault) (first between last : Option Ended) → between ≡ first
+    → Leaves (Err end) between last
     → Leaves (Err end) first last
 leaves_behind fault.Read first between last same is = is ∙ same
 leaves_behind fault.Write first between last same is = tt
@@ -59,15 +66,21 @@ module _ (k : Contents) (seat : ℕ) (faults : TurnFault → Type 0) where
     on_after on = went_on k seat faults now room h.ended h bytes made h' text refl fed on
 
     -- one piece is fed, and of its replies that is written which the end says
-    pub attends_piece : (to to' : Option (List ℕ)) (end : End) (out out' sent put : List ℕ) → 0 < length bytes → length bytes ≤ 512
-        → StaysKnown k h.state h'.state → out ≡ [] → out' ≡ out ++ text → sent ≡ out' → IsWritten end sent put → Appends to to' put
-        → Leaves end h.ended h'.ended → Attends k seat faults (λ present. present ≡ now) (streams (Some bytes) (Some []) to to') made h h' end
+    pub attends_piece : (to to' : Option (List ℕ)) (end : End) (out out' sent put : List ℕ) → 0 < length bytes
+        → length bytes ≤ 512
+        → StaysKnown k h.state h'.state → out ≡ [] → out' ≡ out ++ text → sent ≡ out' → IsWritten end sent put
+        → Appends to to' put
+        → Leaves end h.ended h'.ended
+        → Attends k seat faults (λ present. present ≡ now)
+        (streams (Some bytes) (Some []) to to') made h h' end
     attends_piece to to' end out out' sent put some short known empty is same written wrote leaves =
         let all : text ≡ sent = sym (same ∙ (is ∙ ap (λ (o : List ℕ). o ++ text) empty)) in
-        let is_read : IsReadPiece (λ present. present ≡ now) (piece_at now bytes) = record { some = some; short = short; present = refl } in
+        let is_read : IsReadPiece (λ present. present ≡ now) (piece_at now bytes) =
+        record { some = some; short = short; present = refl } in
         record {
           pieces = piece_at now bytes ∷ [];
-          are_read = All-cons (IsReadPiece (λ present. present ≡ now)) (piece_at now bytes) [] is_read (All-nil _);
+          are_read = All-cons (IsReadPiece (λ present. present ≡ now)) (piece_at now bytes) [] is_read
+              (All-nil _);
           read = sym (append-nil (bytes ++ []) ∙ append-nil bytes);
           all = nothing_left end;
           replies = text;
@@ -81,7 +94,8 @@ module _ (k : Contents) (seat : ℕ) (faults : TurnFault → Type 0) where
 
   module _ (Tells : Stamp → Type 0) where
     -- nothing is read yet
-    pub attends_none : (from to : Option (List ℕ)) (h : Hearing) → Attends k seat faults Tells (streams from from to to) [] h h (Err fault.Read)
+    pub attends_none : (from to : Option (List ℕ)) (h : Hearing)
+        → Attends k seat faults Tells (streams from from to to) [] h h (Err fault.Read)
     attends_none from to h = record {
       pieces = [];
       are_read = All-nil _;
@@ -99,7 +113,8 @@ module _ (k : Contents) (seat : ℕ) (faults : TurnFault → Type 0) where
     module _ (from from' from'' to to' : Option (List ℕ)) (made : List Turn) (h h' : Hearing)
         (far : Attends k seat faults Tells (streams from from' to to') made h h' (Err fault.Read)) where
       -- a piece more is read and fed
-      pub attends_more : (bytes : List ℕ) (Now : Stamp → Type 0) (to'' : Option (List ℕ)) (more : List Turn) (last : Hearing) (end : AttendFault)
+      pub attends_more : (bytes : List ℕ) (Now : Stamp → Type 0) (to'' : Option (List ℕ)) (more : List Turn)
+          (last : Hearing) (end : AttendFault)
           → Consumes from' from'' bytes → ((now : Stamp) → Now now → Tells now)
           → Attends k seat faults Now (streams (Some bytes) (Some []) to' to'') more h' last (Err end)
           → Attends k seat faults Tells (streams from from'' to to'') (made ++ more) h last (Err end)
@@ -110,13 +125,15 @@ module _ (k : Contents) (seat : ℕ) (faults : TurnFault → Type 0) where
           record {
             pieces = far.pieces ++ next.pieces;
             are_read = All-append (IsReadPiece Tells) far.pieces next.pieces far.are_read
-                (All-weaker (IsReadPiece Now) (IsReadPiece Tells) (told Now Tells tells) next.pieces next.are_read);
+                (All-weaker (IsReadPiece Now) (IsReadPiece Tells)
+                (told Now Tells tells) next.pieces next.are_read);
             read = subst (λ (all : List ℕ). Consumes from from'' all)
                 (ap (λ (b : List ℕ). stream far.pieces ++ b) whole ∙ sym two)
                 (Consumes-trans from from' from'' (stream far.pieces) bytes far.read read);
             all = tt;
             replies = far.replies ++ next.replies;
-            fed = fed_then k seat faults far.pieces next.pieces h h' last made more far.replies next.replies far.fed next.fed;
+            fed = fed_then k seat faults far.pieces next.pieces h h' last made more far.replies next.replies
+                far.fed next.fed;
             known = λ known. next.known (far.known known);
             put = far.put ++ next.put;
             written = written_behind end far.replies next.replies far.put next.put far.written next.written;
@@ -125,7 +142,8 @@ module _ (k : Contents) (seat : ℕ) (faults : TurnFault → Type 0) where
           }
 
   -- a fault is passed on
-  pub attends_passed : (Tells : Stamp → Type 0) (bytes : Streams) (made : List Turn) (h h' : Hearing) (end : End)
+  pub attends_passed : (Tells : Stamp → Type 0) (bytes : Streams) (made : List Turn) (h h' : Hearing)
+      (end : End)
       (fault : AttendFault) → IsErr end → IsErrAnd end (λ what. what ≡ fault)
       → Attends k seat faults Tells bytes made h h' (Err fault)
       → Attends k seat faults Tells bytes made h h' end
@@ -135,7 +153,8 @@ module _ (k : Contents) (seat : ℕ) (faults : TurnFault → Type 0) where
 
   -- a piece is answered, and the session goes on: as where a read fails then
   pub goes_on : (Tells : Stamp → Type 0) (bytes : Streams) (made : List Turn) (h h' : Hearing)
-      → Attends k seat faults Tells bytes made h h' (Ok tt) → Attends k seat faults Tells bytes made h h' (Err fault.Read)
+      → Attends k seat faults Tells bytes made h h' (Ok tt)
+      → Attends k seat faults Tells bytes made h h' (Err fault.Read)
   goes_on Tells bytes made h h' done = record {
     pieces = done.pieces;
     are_read = done.are_read;

@@ -15,15 +15,18 @@ piece_at now bytes = record { now = now; bytes = bytes }
 
 module _ (k : Contents) (seat : ℕ) (faults : TurnFault → Type 0) where
   -- a cause with some room is one with any
-  cause_without : (room : Room) (s : State) (earlier : ℕ) (line : List ℕ) (why : TurnFault) → IsCause k faults room s earlier line why
+  cause_without : (room : Room) (s : State) (earlier : ℕ) (line : List ℕ) (why : TurnFault)
+      → IsCause k faults room s earlier line why
       → IsCause k faults any_room s earlier line why
   cause_without room s earlier line why (inl turn) = inl turn
   cause_without room s earlier line why (inr (memory, some, before, after)) =
       inr (memory, some, omega (arith, before), omega (arith, after))
 
   -- and so is a piece that is fed
-  fed_without : (now : Stamp) (room : Room) (ended : Option Ended) (h : Hearing) (piece : List ℕ) (made : List Turn) (h' : Hearing)
-      (text : List ℕ) → IsFedAt k seat faults ended now room h piece made h' text → IsFedAt k seat faults ended now any_room h piece made h' text
+  fed_without : (now : Stamp) (room : Room) (ended : Option Ended) (h : Hearing) (piece : List ℕ)
+      (made : List Turn) (h' : Hearing)
+      (text : List ℕ) → IsFedAt k seat faults ended now room h piece made h' text
+      → IsFedAt k seat faults ended now any_room h piece made h' text
   fed_without now room (Some why) h piece made h' text fed = fed
   fed_without now room None h piece made h' text (inl all) = inl all
   fed_without now room None h piece made h' text (inr ends) = inr (record {
@@ -39,14 +42,18 @@ module _ (k : Contents) (seat : ℕ) (faults : TurnFault → Type 0) where
   })
 
   -- a session that goes on after a piece went on before it
-  pub went_on : (now : Stamp) (room : Room) (ended : Option Ended) (h : Hearing) (piece : List ℕ) (made : List Turn) (h' : Hearing)
-      (text : List ℕ) → h.ended ≡ ended → IsFedAt k seat faults ended now room h piece made h' text → h'.ended ≡ None → h'.ended ≡ h.ended
+  pub went_on : (now : Stamp) (room : Room) (ended : Option Ended) (h : Hearing) (piece : List ℕ)
+      (made : List Turn) (h' : Hearing)
+      (text : List ℕ) → h.ended ≡ ended → IsFedAt k seat faults ended now room h piece made h' text
+      → h'.ended ≡ None → h'.ended ≡ h.ended
   went_on now room (Some why) h piece made h' text is fed on = ap (λ (s : Hearing). s.ended) fed.1
   went_on now room None h piece made h' text is fed on = on ∙ sym is
 
   -- one piece is fed
-  pub fed_once : (now : Stamp) (room : Room) (h : Hearing) (bytes : List ℕ) (made : List Turn) (h' : Hearing) (text : List ℕ)
-      → IsFed k seat faults now room h bytes made h' text → AreFedTo k seat faults any_room (piece_at now bytes ∷ []) h made h' text
+  pub fed_once : (now : Stamp) (room : Room) (h : Hearing) (bytes : List ℕ) (made : List Turn) (h' : Hearing)
+      (text : List ℕ)
+      → IsFed k seat faults now room h bytes made h' text
+      → AreFedTo k seat faults any_room (piece_at now bytes ∷ []) h made h' text
   fed_once now room h bytes made h' text fed = record {
     first_made = made;
     then_made = [];
@@ -60,14 +67,18 @@ module _ (k : Contents) (seat : ℕ) (faults : TurnFault → Type 0) where
   }
 
   -- pieces are fed after others
-  pub fed_then : (pieces more : List Piece) (h between h' : Hearing) (made made' : List Turn) (text text' : List ℕ)
-      → AreFedTo k seat faults any_room pieces h made between text → AreFedTo k seat faults any_room more between made' h' text'
+  pub fed_then : (pieces more : List Piece) (h between h' : Hearing) (made made' : List Turn)
+      (text text' : List ℕ)
+      → AreFedTo k seat faults any_room pieces h made between text
+      → AreFedTo k seat faults any_room more between made' h' text'
       → AreFedTo k seat faults any_room (pieces ++ more) h (made ++ made') h' (text ++ text')
   fed_then [] more h between h' made made' text text' first then' =
       let from : AreFedTo k seat faults any_room more h made' h' text' =
       subst (λ (s : Hearing). AreFedTo k seat faults any_room more s made' h' text') first.1 then' in
-      subst (λ (t : List ℕ). AreFedTo k seat faults any_room more h (made ++ made') h' (t ++ text')) (sym first.2)
-      (subst (λ (ts : List Turn). AreFedTo k seat faults any_room more h (ts ++ made') h' text') (sym first.0) from)
+      subst (λ (t : List ℕ). AreFedTo k seat faults any_room more h (made ++ made') h' (t ++ text'))
+      (sym first.2)
+      (subst (λ (ts : List Turn). AreFedTo k seat faults any_room more h (ts ++ made') h' text')
+      (sym first.0) from)
   fed_then (piece ∷ pieces) more h between h' made made' text text' first then' = record {
     first_made = first.first_made;
     then_made = first.then_made ++ made';
@@ -75,7 +86,10 @@ module _ (k : Contents) (seat : ℕ) (faults : TurnFault → Type 0) where
     first_text = first.first_text;
     then_text = first.then_text ++ text';
     first = first.first;
-    rest = fed_then pieces more first.between between h' first.then_made made' first.then_text text' first.rest then';
-    all_made = ap (λ (ts : List Turn). ts ++ made') first.all_made ∙ append_assoc first.first_made first.then_made made';
-    all_text = ap (λ (t : List ℕ). t ++ text') first.all_text ∙ append_assoc first.first_text first.then_text text';
+    rest = fed_then pieces more first.between between h' first.then_made made' first.then_text text'
+        first.rest then';
+    all_made = ap (λ (ts : List Turn). ts ++ made') first.all_made
+        ∙ append_assoc first.first_made first.then_made made';
+    all_text = ap (λ (t : List ℕ). t ++ text') first.all_text
+        ∙ append_assoc first.first_text first.then_text text';
   }

@@ -12,16 +12,26 @@ abbrev pub behind : GName → Keeps → Keeps
 behind name keeps = record { contents = keeps.contents; seat = keeps.seat; borrows = name ∷ keeps.borrows }
 
 -- what the one in front keeps, the one behind keeps
-pub keeps_behind : (old new : Keeps) (name name' : GName) → behind name' new ≡ behind name old → (name' ≡ name) × (new ≡ old)
+pub keeps_behind : (old new : Keeps) (name name' : GName) → behind name' new ≡ behind name old
+    → (name' ≡ name) × (new ≡ old)
 keeps_behind old new name name' same =
     let contents : new.contents ≡ old.contents = ap (λ (k : Keeps). k.contents) same in
     let seat : new.seat ≡ old.seat = ap (λ (k : Keeps). k.seat) same in
     let all : name' ∷ new.borrows ≡ name ∷ old.borrows = ap (λ (k : Keeps). k.borrows) same in
     let borrows : new.borrows ≡ old.borrows = cc in (
       cc,
-      ap (λ (x : Contents). let k : Keeps = record { contents = x; seat = new.seat; borrows = new.borrows } in k) contents
-          ∙ (ap (λ (x : ℕ). let k : Keeps = record { contents = old.contents; seat = x; borrows = new.borrows } in k) seat
-          ∙ ap (λ (x : List GName). let k : Keeps = record { contents = old.contents; seat = old.seat; borrows = x } in k) borrows),
+      ap (λ (x : Contents). let k : Keeps = record { contents = x; seat = new.seat; borrows = new.borrows } in
+          k) contents
+          ∙ (ap (λ (x : ℕ). let k : Keeps = record {
+            contents = old.contents;
+            seat = x;
+            borrows = new.borrows;
+          } in k) seat
+          ∙ ap (λ (x : List GName). let k : Keeps = record {
+            contents = old.contents;
+            seat = old.seat;
+            borrows = x;
+          } in k) borrows),
     )
 
 module _ {A O : Type 0} (office : Ghosts O A) where
@@ -34,7 +44,8 @@ module _ {A O : Type 0} (office : Ghosts O A) where
       → office.turns new ≡ office.turns between ++ more → office.keeps new ≡ office.keeps between
       → (office.holds between → office.holds new) → Works office old new (made ++ more)
   works_more old between new made more first turns same holds = record {
-    turns = turns ∙ (ap (λ (t : List Turn). t ++ more) first.turns ∙ append_assoc (office.turns old) made more);
+    turns = turns ∙ (ap (λ (t : List Turn). t ++ more) first.turns
+        ∙ append_assoc (office.turns old) made more);
     same = same ∙ first.same;
     holds = λ held. holds (first.holds held);
   }

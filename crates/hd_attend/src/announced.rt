@@ -4,6 +4,7 @@ ghost use Rattle.std.specs.Prelude.{◌≡◌};
 use crate::surroundings::Surroundings;
 use hd_catalogue::Catalogue;
 use hd_exchange::{Ask, Office, SeatNo, Turn, TurnFault};
+use hd_journal::Look;
 use std::alloc::Allocator;
 
 /// An office that a session asks, each of whose turns is announced to the session's surroundings beforehand.
@@ -55,12 +56,18 @@ impl<'a, A: Allocator, O: Office<A>, S: Surroundings> Office<A> for AnnouncedOff
 
     ghost holds = { λ announced. O.holds announced.office.now };
 
+    ghost shows = { O.shows };
+
     fn catalogue(&self) -> &Catalogue<A> {
         self.office.catalogue()
     }
 
     fn seat(&self) -> SeatNo {
         self.office.seat()
+    }
+
+    fn look<L: Look<A>>(&self, reader: &mut L) -> Result<(), TurnFault> {
+        self.office.look(reader)
     }
 
     fn turn(&mut self, ask: &Ask<'_>) -> Result<Turn, TurnFault> {

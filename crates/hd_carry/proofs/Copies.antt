@@ -15,14 +15,14 @@ use Rattle.hd_rules.specs.Sound.{Tied, Sound}
 use Rattle.hd_rules.specs.Carry.{Renumbering, IsByNames, IsSamePatron, IsSamePlace}
 use Rattle.hd_rules.specs.Rows.{EachMayStand, MayKeep, kept_at, sent_from}
 use Rattle.hd_carry.specs.declared.obstacle.Obstacle.{Obstacle}
-use Rattle.hd_carry.specs.declared.obstacle.Obstacle.TheVariants.{CopyLacks, BorrowerLacks, BranchOfCopy, BranchOnWay}
+use Rattle.hd_carry.specs.declared.obstacle.Obstacle.TheVariants.{MissingCopy, MissingBorrower, MissingBranch, MissingWayEnd}
 use Rattle.hd_carry.specs.CarriedRows.{row_or_none, way_row, place_row, copy_row, copy_rows}
-use Rattle.hd_carry.specs.Obstacles.{where_lacking, shelf_obstacles, copy_obstacles}
+use Rattle.hd_carry.specs.Obstacles.{where_lacking, arrival_obstacles, shelf_obstacles, copy_obstacles}
 use Rattle.hd_carry.proofs.Numbers.{not_less}
 use Rattle.hd_carry.proofs.Rows.{rows_from, rows_append, each_append, AreKnown, known_append}
 use Rattle.hd_carry.proofs.Places.{Stood, Free, Placed, Moved, Untied, shelf_untied, missing, at_its_home, stays, goes}
 use Rattle.hd_carry.proofs.Given.{Kept, kept, waits, placed_given}
-use Rattle.hd_carry.proofs.Lacking.{left_empty, right_empty, has_number}
+use Rattle.hd_carry.proofs.Lacking.{left_empty, right_empty, has_number, has_arrival}
 
 module _ (k j : Facts) (r : Renumbering) (d : Desk) (stamp : ℕ) (names : IsByNames k j r) (sound : Sound k stamp d) where
   module _ (n : ℕ) (e : Desk) (state : Placed r j d n e) where
@@ -69,7 +69,7 @@ module _ (k j : Facts) (r : Renumbering) (d : Desk) (stamp : ℕ) (names : IsByN
           placed = missing k j r d names sound.tie n e state same (subst (λ (s : CopyState). is_on_shelf s ≡ true) (sym is) refl);
         }
         by_copy (Some x) same none =
-            let branch : (a : ℕ) × (r.branch b ≡ Some a) = has_number (r.branch b) (BranchOfCopy b n) none in
+            let branch : (a : ℕ) × (r.branch b ≡ Some a) = has_number (r.branch b) (MissingBranch b n) none in
             subst (λ (o : Option ℕ). Moves (option_and_then (λ a. cond (a == j.home x) None (Some (row.OpenShelf x a))) o))
             (sym branch.1) (by_home x same branch.0 branch.1 (branch.0 == j.home x) refl)
 
@@ -81,11 +81,11 @@ module _ (k j : Facts) (r : Renumbering) (d : Desk) (stamp : ℕ) (names : IsByN
     loan_moved : (l : Loan) → d.copy n ≡ OnLoan l → copy_obstacles r n (OnLoan l) ≡ [] → Moves (copy_row r j n (OnLoan l))
     loan_moved l is none =
         let copy : (x : ℕ) × (r.copy n ≡ Some x) =
-        has_number (r.copy n) (CopyLacks n (OnLoan l))
-        (left_empty (where_lacking (r.copy n) (CopyLacks n (OnLoan l))) (where_lacking (r.patron l.patron) (BorrowerLacks n l.patron)) none) in
+        has_number (r.copy n) (MissingCopy n (OnLoan l))
+        (left_empty (where_lacking (r.copy n) (MissingCopy n (OnLoan l))) (where_lacking (r.patron l.patron) (MissingBorrower n l.patron)) none) in
         let patron : (q : ℕ) × (r.patron l.patron ≡ Some q) =
-        has_number (r.patron l.patron) (BorrowerLacks n l.patron)
-        (right_empty (where_lacking (r.copy n) (CopyLacks n (OnLoan l))) (where_lacking (r.patron l.patron) (BorrowerLacks n l.patron)) none) in
+        has_number (r.patron l.patron) (MissingBorrower n l.patron)
+        (right_empty (where_lacking (r.copy n) (MissingCopy n (OnLoan l))) (where_lacking (r.patron l.patron) (MissingBorrower n l.patron)) none) in
         let new : Loan = record l { patron = patron.0 } in
         let moved : Moves (Some (row.Loan copy.0 new)) = record {
           each = (at_its_home k j r d names sound.tie n e state copy.0 copy.1, tt);
@@ -122,8 +122,8 @@ module _ (k j : Facts) (r : Renumbering) (d : Desk) (stamp : ℕ) (names : IsByN
         → Moves (copy_row r j n (OnHoldShelf s))
     kept_moved s is none =
         let copy : (x : ℕ) × (r.copy n ≡ Some x) =
-        has_number (r.copy n) (CopyLacks n (OnHoldShelf s))
-        (left_empty (where_lacking (r.copy n) (CopyLacks n (OnHoldShelf s))) (where_lacking (r.branch s.branch) (BranchOfCopy s.branch n)) none) in
+        has_number (r.copy n) (MissingCopy n (OnHoldShelf s))
+        (left_empty (where_lacking (r.copy n) (MissingCopy n (OnHoldShelf s))) (where_lacking (r.branch s.branch) (MissingBranch s.branch n)) none) in
         let tied : Tied (d.copy n) s.patron s.branch =
         subst (λ (w : CopyState). Tied w s.patron s.branch) (sym is) (refl, refl) in
         let to : Kept k j r d n e copy.0 s.patron s.branch =
@@ -177,15 +177,15 @@ module _ (k j : Facts) (r : Renumbering) (d : Desk) (stamp : ℕ) (names : IsByN
     transit_moved : (t : Transit) → d.copy n ≡ InTransit t → copy_obstacles r n (InTransit t) ≡ []
         → Moves (copy_row r j n (InTransit t))
     transit_moved t is none =
-        let gone : List Obstacle = where_lacking (r.copy n) (CopyLacks n (InTransit t)) in
-        let sender : List Obstacle = where_lacking (r.branch t.from) (BranchOnWay t.from n) in
-        let aim : List Obstacle = where_lacking (r.branch t.to) (BranchOnWay t.to n) in
+        let gone : List Obstacle = where_lacking (r.copy n) (MissingCopy n (InTransit t)) in
+        let sender : List Obstacle = where_lacking (r.branch t.from) (MissingWayEnd t.from n) in
+        let aim : List Obstacle = arrival_obstacles r n t.from t.to in
         let two : gone ++ sender ≡ [] = left_empty (gone ++ sender) aim none in
-        let copy : (x : ℕ) × (r.copy n ≡ Some x) = has_number (r.copy n) (CopyLacks n (InTransit t)) (left_empty gone sender two) in
+        let copy : (x : ℕ) × (r.copy n ≡ Some x) = has_number (r.copy n) (MissingCopy n (InTransit t)) (left_empty gone sender two) in
         let from : (b : ℕ) × (r.branch t.from ≡ Some b) =
-        has_number (r.branch t.from) (BranchOnWay t.from n) (right_empty gone sender two) in
+        has_number (r.branch t.from) (MissingWayEnd t.from n) (right_empty gone sender two) in
         let to : (b : ℕ) × (r.branch t.to ≡ Some b) =
-        has_number (r.branch t.to) (BranchOnWay t.to n) (right_empty (gone ++ sender) aim none) in
+        has_arrival r n t.from t.to from.0 from.1 (right_empty (gone ++ sender) aim none) in
         of_copy (InTransit t) copy.0 copy.1
         (subst (λ (o : Option ℕ). Moves (option_and_then (λ b. way_row r copy.0 b t.patron t.to) o)) (sym from.1)
         (way_moved t is copy.0 copy.1 from.0 from.1 to.0 to.1 t.patron refl))

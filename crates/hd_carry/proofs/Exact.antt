@@ -1,11 +1,12 @@
 -- The obstacles that are told are those that are in the way.
 use Rattle.std.proofs.Common.{◌≡◌, refl, sym, ◌∙◌, subst, ℕ, zero, suc, ◌<◌, ◌≤◌, ◌==◌, ◌⊎◌, ◌↔◌, inl, inr, Bool, true, false, Option}
-use Rattle.std.proofs.Common.{◌+◌, nat_lt, ltb-true, lt-ltb, Some, None, List, [], ◌∷◌, ◌++◌, cond, find, flat_map, arith}
+use Rattle.std.proofs.Common.{◌+◌, nat_lt, eqb-true, ltb-true, lt-ltb, Some, None, List, [], ◌∷◌, ◌++◌, cond, find, flat_map, arith}
 use Rattle.hd_rules.specs.declared.holds.Hold.{Hold}
 use Rattle.hd_rules.specs.declared.holds.HoldKind.{HoldKind}
 use Rattle.hd_rules.specs.declared.holds.HoldKind.TheVariants.{Any, One, AtBranch}
 use Rattle.hd_rules.specs.declared.copies.CopyState.{CopyState}
 use Rattle.hd_rules.specs.declared.copies.CopyState.TheVariants.{Shelf, OnLoan, OnHoldShelf, InTransit}
+use Rattle.hd_rules.specs.declared.copies.Transit.{Transit}
 use Rattle.hd_rules.specs.declared.limits.TheConstants.{MOST_GIVEN}
 use Rattle.hd_rules.specs.Desk.{Desk}
 use Rattle.hd_rules.specs.Facts.{Facts}
@@ -16,17 +17,17 @@ use Rattle.hd_rules.specs.Carry.{Renumbering}
 use Rattle.hd_queue.specs.Holds.{HasPatronsOnce}
 use Rattle.hd_desk.specs.Asking.{IsQueueOf, AreQueuesOf}
 use Rattle.hd_carry.specs.declared.obstacle.Obstacle.{Obstacle}
-use Rattle.hd_carry.specs.declared.obstacle.Obstacle.TheVariants.{CopyLacks, BorrowerLacks, HolderLacks, TitleLacks}
-use Rattle.hd_carry.specs.declared.obstacle.Obstacle.TheVariants.{BranchOfCopy, BranchOnWay, PickupLacks}
-use Rattle.hd_carry.specs.declared.obstacle.Obstacle.TheVariants.{OnlyCopyLacks, NumbersUsedUp}
-use Rattle.hd_carry.specs.Obstacles.{number_obstacles, where_lacking, shelf_obstacles, copy_obstacles, kind_obstacles, hold_obstacles}
-use Rattle.hd_carry.specs.Obstacles.{copies_obstacles, titles_obstacles, obstacles}
+use Rattle.hd_carry.specs.declared.obstacle.Obstacle.TheVariants.{MissingCopy, MissingBorrower, MissingHolder, MissingTitle}
+use Rattle.hd_carry.specs.declared.obstacle.Obstacle.TheVariants.{MissingBranch, MissingWayEnd, MissingPickup}
+use Rattle.hd_carry.specs.declared.obstacle.Obstacle.TheVariants.{MissingOnlyCopy, NumbersUsedUp}
+use Rattle.hd_carry.specs.Obstacles.{number_obstacles, where_lacking, shelf_obstacles, arrival_obstacles, copy_obstacles, kind_obstacles}
+use Rattle.hd_carry.specs.Obstacles.{hold_obstacles, copies_obstacles, titles_obstacles, obstacles}
 use Rattle.hd_carry.specs.InTheWay.{IsLentTo, IsBranchOf, IsOnWay, IsInTheWay}
 use Rattle.hd_carry.proofs.Numbers.{none_hold, below_or_not, below_or_this}
 use Rattle.hd_carry.proofs.Queues.{find_first, of_rest_at}
 
 -- of two lists, the first or the second
-among_two : (x : Obstacle) (a b : List Obstacle) → IsAmong x (a ++ b) → IsAmong x a ⊎ IsAmong x b
+pub among_two : (x : Obstacle) (a b : List Obstacle) → IsAmong x (a ++ b) → IsAmong x a ⊎ IsAmong x b
 among_two x [] b is = inr is
 among_two x (y ∷ a) b (inl this) = inl (inl this)
 among_two x (y ∷ a) b (inr later) = by_case (among_two x a b later)
@@ -45,7 +46,7 @@ among_second x [] b is = is
 among_second x (y ∷ a) b is = inr (among_second x a b is)
 
 -- the one that is told where a number is lacking
-lacked : (x z : Obstacle) (o : Option ℕ) → IsAmong x (where_lacking o z) → (x ≡ z) × (o ≡ None)
+pub lacked : (x z : Obstacle) (o : Option ℕ) → IsAmong x (where_lacking o z) → (x ≡ z) × (o ≡ None)
 lacked x z None (inl this) = (this, refl)
 lacked x z None (inr later) = absurd later
 lacked x z (Some m) is = absurd is
@@ -63,10 +64,10 @@ module _ (k j : Facts) (r : Renumbering) (d : Desk) (last : ℕ) where
   -- those of a copy
   module _ (c : ℕ) (in_c : c < k.copies) where
     gone_way : (x : Obstacle) (s : CopyState) → d.copy c ≡ s → is_on_shelf s ≡ false
-        → IsAmong x (where_lacking (r.copy c) (CopyLacks c s)) → Way x
+        → IsAmong x (where_lacking (r.copy c) (MissingCopy c s)) → Way x
     gone_way x s is away told =
-        let this : (x ≡ CopyLacks c s) × (r.copy c ≡ None) = lacked x (CopyLacks c s) (r.copy c) told in
-        is_way x (CopyLacks c s) this.0 (in_c, is, away, this.1)
+        let this : (x ≡ MissingCopy c s) × (r.copy c ≡ None) = lacked x (MissingCopy c s) (r.copy c) told in
+        is_way x (MissingCopy c s) this.0 (in_c, is, away, this.1)
 
     copy_way : (x : Obstacle) (s : CopyState) → d.copy c ≡ s → IsAmong x (copy_obstacles r c s) → Way x
     copy_way x (Shelf b) is told = by_copy (r.copy c) refl told
@@ -74,36 +75,36 @@ module _ (k j : Facts) (r : Renumbering) (d : Desk) (last : ℕ) where
         by_copy : (o : Option ℕ) → r.copy c ≡ o → IsAmong x (shelf_obstacles r c o b) → Way x
         by_copy None same told = absurd told
         by_copy (Some y) same told =
-            let this : (x ≡ BranchOfCopy b c) × (r.branch b ≡ None) = lacked x (BranchOfCopy b c) (r.branch b) told in
-            is_way x (BranchOfCopy b c) this.0 (
+            let this : (x ≡ MissingBranch b c) × (r.branch b ≡ None) = lacked x (MissingBranch b c) (r.branch b) told in
+            is_way x (MissingBranch b c) this.0 (
               in_c,
               subst (λ (s : CopyState). IsBranchOf b (r.copy c) s) (sym is) (subst (λ (o : Option ℕ). IsBranchOf b o (Shelf b)) (sym same) refl),
               this.1,
             )
     copy_way x (OnLoan l) is told =
         by_case
-        (among_two x (where_lacking (r.copy c) (CopyLacks c (OnLoan l))) (where_lacking (r.patron l.patron) (BorrowerLacks c l.patron)) told)
+        (among_two x (where_lacking (r.copy c) (MissingCopy c (OnLoan l))) (where_lacking (r.patron l.patron) (MissingBorrower c l.patron)) told)
       where
-        by_case : IsAmong x (where_lacking (r.copy c) (CopyLacks c (OnLoan l)))
-            ⊎ IsAmong x (where_lacking (r.patron l.patron) (BorrowerLacks c l.patron)) → Way x
+        by_case : IsAmong x (where_lacking (r.copy c) (MissingCopy c (OnLoan l)))
+            ⊎ IsAmong x (where_lacking (r.patron l.patron) (MissingBorrower c l.patron)) → Way x
         by_case (inl told) = gone_way x (OnLoan l) is refl told
         by_case (inr told) =
-            let this : (x ≡ BorrowerLacks c l.patron) × (r.patron l.patron ≡ None) =
-            lacked x (BorrowerLacks c l.patron) (r.patron l.patron) told in
-            is_way x (BorrowerLacks c l.patron) this.0
+            let this : (x ≡ MissingBorrower c l.patron) × (r.patron l.patron ≡ None) =
+            lacked x (MissingBorrower c l.patron) (r.patron l.patron) told in
+            is_way x (MissingBorrower c l.patron) this.0
             (in_c, subst (λ (s : CopyState). IsLentTo l.patron s) (sym is) refl, this.1)
     copy_way x (OnHoldShelf s) is told =
         by_case
-        (among_two x (where_lacking (r.copy c) (CopyLacks c (OnHoldShelf s))) (where_lacking (r.branch s.branch) (BranchOfCopy s.branch c))
+        (among_two x (where_lacking (r.copy c) (MissingCopy c (OnHoldShelf s))) (where_lacking (r.branch s.branch) (MissingBranch s.branch c))
         told)
       where
-        by_case : IsAmong x (where_lacking (r.copy c) (CopyLacks c (OnHoldShelf s)))
-            ⊎ IsAmong x (where_lacking (r.branch s.branch) (BranchOfCopy s.branch c)) → Way x
+        by_case : IsAmong x (where_lacking (r.copy c) (MissingCopy c (OnHoldShelf s)))
+            ⊎ IsAmong x (where_lacking (r.branch s.branch) (MissingBranch s.branch c)) → Way x
         by_case (inl told) = gone_way x (OnHoldShelf s) is refl told
         by_case (inr told) =
-            let this : (x ≡ BranchOfCopy s.branch c) × (r.branch s.branch ≡ None) =
-            lacked x (BranchOfCopy s.branch c) (r.branch s.branch) told in
-            is_way x (BranchOfCopy s.branch c) this.0
+            let this : (x ≡ MissingBranch s.branch c) × (r.branch s.branch ≡ None) =
+            lacked x (MissingBranch s.branch c) (r.branch s.branch) told in
+            is_way x (MissingBranch s.branch c) this.0
             (in_c, subst (λ (w : CopyState). IsBranchOf s.branch (r.copy c) w) (sym is) (here (r.copy c)), this.1)
           where
             here : (o : Option ℕ) → IsBranchOf s.branch o (OnHoldShelf s)
@@ -111,25 +112,30 @@ module _ (k j : Facts) (r : Renumbering) (d : Desk) (last : ℕ) where
             here (Some y) = refl
     copy_way x (InTransit t) is told =
         by_last
-        (among_two x (where_lacking (r.copy c) (CopyLacks c (InTransit t)) ++ where_lacking (r.branch t.from) (BranchOnWay t.from c))
-        (where_lacking (r.branch t.to) (BranchOnWay t.to c)) told)
+        (among_two x (where_lacking (r.copy c) (MissingCopy c (InTransit t)) ++ where_lacking (r.branch t.from) (MissingWayEnd t.from c))
+        (arrival_obstacles r c t.from t.to) told)
       where
-        on_way : (b : ℕ) → (t.from ≡ b) ⊎ (t.to ≡ b) → IsAmong x (where_lacking (r.branch b) (BranchOnWay b c)) → Way x
+        on_way : (b : ℕ) → (t.from ≡ b) ⊎ (t.to ≡ b) → IsAmong x (where_lacking (r.branch b) (MissingWayEnd b c)) → Way x
         on_way b which told =
-            let this : (x ≡ BranchOnWay b c) × (r.branch b ≡ None) = lacked x (BranchOnWay b c) (r.branch b) told in
-            is_way x (BranchOnWay b c) this.0 (in_c, subst (λ (w : CopyState). IsOnWay b w) (sym is) which, this.1)
+            let this : (x ≡ MissingWayEnd b c) × (r.branch b ≡ None) = lacked x (MissingWayEnd b c) (r.branch b) told in
+            is_way x (MissingWayEnd b c) this.0 (in_c, subst (λ (w : CopyState). IsOnWay b w) (sym is) which, this.1)
 
-        by_first : IsAmong x (where_lacking (r.copy c) (CopyLacks c (InTransit t)))
-            ⊎ IsAmong x (where_lacking (r.branch t.from) (BranchOnWay t.from c)) → Way x
+        arrived : (same : Bool) → IsAmong x (cond same [] (where_lacking (r.branch t.to) (MissingWayEnd t.to c)))
+            → IsAmong x (where_lacking (r.branch t.to) (MissingWayEnd t.to c))
+        arrived true told = absurd told
+        arrived false told = told
+
+        by_first : IsAmong x (where_lacking (r.copy c) (MissingCopy c (InTransit t)))
+            ⊎ IsAmong x (where_lacking (r.branch t.from) (MissingWayEnd t.from c)) → Way x
         by_first (inl told) = gone_way x (InTransit t) is refl told
         by_first (inr told) = on_way t.from (inl refl) told
 
-        by_last : IsAmong x (where_lacking (r.copy c) (CopyLacks c (InTransit t)) ++ where_lacking (r.branch t.from) (BranchOnWay t.from c))
-            ⊎ IsAmong x (where_lacking (r.branch t.to) (BranchOnWay t.to c)) → Way x
+        by_last : IsAmong x (where_lacking (r.copy c) (MissingCopy c (InTransit t)) ++ where_lacking (r.branch t.from) (MissingWayEnd t.from c))
+            ⊎ IsAmong x (arrival_obstacles r c t.from t.to) → Way x
         by_last (inl told) =
             by_first
-            (among_two x (where_lacking (r.copy c) (CopyLacks c (InTransit t))) (where_lacking (r.branch t.from) (BranchOnWay t.from c)) told)
-        by_last (inr told) = on_way t.to (inr refl) told
+            (among_two x (where_lacking (r.copy c) (MissingCopy c (InTransit t))) (where_lacking (r.branch t.from) (MissingWayEnd t.from c)) told)
+        by_last (inr told) = on_way t.to (inr refl) (arrived (t.to == t.from) told)
 
   copies_way : (x : Obstacle) (n : ℕ) → n ≤ k.copies → IsAmong x (copies_obstacles r d n) → Way x
   copies_way x zero le told = absurd told
@@ -143,13 +149,13 @@ module _ (k j : Facts) (r : Renumbering) (d : Desk) (last : ℕ) where
 
   -- those of a hold, by what it names
   abbrev title : ℕ → Hold → List Obstacle
-  title t g = where_lacking (r.title t) (TitleLacks t g.patron)
+  title t g = where_lacking (r.title t) (MissingTitle t g.patron)
 
   abbrev patron : ℕ → Hold → List Obstacle
-  patron t g = where_lacking (r.patron g.patron) (HolderLacks t g.patron)
+  patron t g = where_lacking (r.patron g.patron) (MissingHolder t g.patron)
 
   abbrev pickup : ℕ → Hold → List Obstacle
-  pickup t g = where_lacking (r.branch g.pickup) (PickupLacks g.pickup t g.patron)
+  pickup t g = where_lacking (r.branch g.pickup) (MissingPickup g.pickup t g.patron)
 
   abbrev kind : ℕ → Hold → List Obstacle
   kind t g = kind_obstacles r t g.patron g.kind
@@ -159,27 +165,27 @@ module _ (k j : Facts) (r : Renumbering) (d : Desk) (last : ℕ) where
     where
       by_patron : IsAmong x (title t g) ⊎ IsAmong x (patron t g) → Way x
       by_patron (inl told) =
-          let this : (x ≡ TitleLacks t g.patron) × (r.title t ≡ None) = lacked x (TitleLacks t g.patron) (r.title t) told in
-          is_way x (TitleLacks t g.patron) this.0 ((g, is), this.1)
+          let this : (x ≡ MissingTitle t g.patron) × (r.title t ≡ None) = lacked x (MissingTitle t g.patron) (r.title t) told in
+          is_way x (MissingTitle t g.patron) this.0 ((g, is), this.1)
       by_patron (inr told) =
-          let this : (x ≡ HolderLacks t g.patron) × (r.patron g.patron ≡ None) =
-          lacked x (HolderLacks t g.patron) (r.patron g.patron) told in
-          is_way x (HolderLacks t g.patron) this.0 ((g, is), this.1)
+          let this : (x ≡ MissingHolder t g.patron) × (r.patron g.patron ≡ None) =
+          lacked x (MissingHolder t g.patron) (r.patron g.patron) told in
+          is_way x (MissingHolder t g.patron) this.0 ((g, is), this.1)
 
       by_pickup : IsAmong x (title t g ++ patron t g) ⊎ IsAmong x (pickup t g) → Way x
       by_pickup (inl told) = by_patron (among_two x (title t g) (patron t g) told)
       by_pickup (inr told) =
-          let this : (x ≡ PickupLacks g.pickup t g.patron) × (r.branch g.pickup ≡ None) =
-          lacked x (PickupLacks g.pickup t g.patron) (r.branch g.pickup) told in
-          is_way x (PickupLacks g.pickup t g.patron) this.0 (g, is, refl, this.1)
+          let this : (x ≡ MissingPickup g.pickup t g.patron) × (r.branch g.pickup ≡ None) =
+          lacked x (MissingPickup g.pickup t g.patron) (r.branch g.pickup) told in
+          is_way x (MissingPickup g.pickup t g.patron) this.0 (g, is, refl, this.1)
 
       only_copy : (kind : HoldKind) → g.kind ≡ kind → IsAmong x (kind_obstacles r t g.patron kind) → Way x
       only_copy Any same told = absurd told
       only_copy AtBranch same told = absurd told
       only_copy (One c) same told =
-          let this : (x ≡ OnlyCopyLacks t g.patron c) × (r.copy c ≡ None) =
-          lacked x (OnlyCopyLacks t g.patron c) (r.copy c) told in
-          is_way x (OnlyCopyLacks t g.patron c) this.0 (g, is, same, this.1)
+          let this : (x ≡ MissingOnlyCopy t g.patron c) × (r.copy c ≡ None) =
+          lacked x (MissingOnlyCopy t g.patron c) (r.copy c) told in
+          is_way x (MissingOnlyCopy t g.patron c) this.0 (g, is, same, this.1)
 
       by_kind : IsAmong x (title t g ++ patron t g ++ pickup t g) ⊎ IsAmong x (kind t g) → Way x
       by_kind (inl told) = by_pickup (among_two x (title t g ++ patron t g) (pickup t g) told)
@@ -285,134 +291,145 @@ module _ (k j : Facts) (r : Renumbering) (d : Desk) (last : ℕ) where
 
     -- what is in the way is told
     way_told : (x : Obstacle) → (x ≡ NumbersUsedUp → ⊥) → Way x → IsAmong x every
-    way_told (CopyLacks c s) other way = by_state s way.1 way.2
+    way_told (MissingCopy c s) other way = by_state s way.1 way.2
       where
-        by_state : (s : CopyState) → d.copy c ≡ s → is_on_shelf s ≡ false → IsAmong (CopyLacks c s) every
+        by_state : (s : CopyState) → d.copy c ≡ s → is_on_shelf s ≡ false → IsAmong (MissingCopy c s) every
         by_state (Shelf b) is away = absurd (let never : true ≡ false = away in cc)
         by_state (OnLoan l) is away =
-            by_copy_told (CopyLacks c (OnLoan l)) c way.0 (OnLoan l) is
-            (among_first (CopyLacks c (OnLoan l)) (where_lacking (r.copy c) (CopyLacks c (OnLoan l)))
-            (where_lacking (r.patron l.patron) (BorrowerLacks c l.patron)) (lacking (CopyLacks c (OnLoan l)) (r.copy c) way.3))
+            by_copy_told (MissingCopy c (OnLoan l)) c way.0 (OnLoan l) is
+            (among_first (MissingCopy c (OnLoan l)) (where_lacking (r.copy c) (MissingCopy c (OnLoan l)))
+            (where_lacking (r.patron l.patron) (MissingBorrower c l.patron)) (lacking (MissingCopy c (OnLoan l)) (r.copy c) way.3))
         by_state (OnHoldShelf w) is away =
-            by_copy_told (CopyLacks c (OnHoldShelf w)) c way.0 (OnHoldShelf w) is
-            (among_first (CopyLacks c (OnHoldShelf w)) (where_lacking (r.copy c) (CopyLacks c (OnHoldShelf w)))
-            (where_lacking (r.branch w.branch) (BranchOfCopy w.branch c)) (lacking (CopyLacks c (OnHoldShelf w)) (r.copy c) way.3))
+            by_copy_told (MissingCopy c (OnHoldShelf w)) c way.0 (OnHoldShelf w) is
+            (among_first (MissingCopy c (OnHoldShelf w)) (where_lacking (r.copy c) (MissingCopy c (OnHoldShelf w)))
+            (where_lacking (r.branch w.branch) (MissingBranch w.branch c)) (lacking (MissingCopy c (OnHoldShelf w)) (r.copy c) way.3))
         by_state (InTransit t) is away =
-            by_copy_told (CopyLacks c (InTransit t)) c way.0 (InTransit t) is
-            (among_first (CopyLacks c (InTransit t))
-            (where_lacking (r.copy c) (CopyLacks c (InTransit t)) ++ where_lacking (r.branch t.from) (BranchOnWay t.from c))
-            (where_lacking (r.branch t.to) (BranchOnWay t.to c))
-            (among_first (CopyLacks c (InTransit t)) (where_lacking (r.copy c) (CopyLacks c (InTransit t)))
-            (where_lacking (r.branch t.from) (BranchOnWay t.from c)) (lacking (CopyLacks c (InTransit t)) (r.copy c) way.3)))
-    way_told (BorrowerLacks c p) other way = by_state (d.copy c) refl way.1
+            by_copy_told (MissingCopy c (InTransit t)) c way.0 (InTransit t) is
+            (among_first (MissingCopy c (InTransit t))
+            (where_lacking (r.copy c) (MissingCopy c (InTransit t)) ++ where_lacking (r.branch t.from) (MissingWayEnd t.from c))
+            (arrival_obstacles r c t.from t.to)
+            (among_first (MissingCopy c (InTransit t)) (where_lacking (r.copy c) (MissingCopy c (InTransit t)))
+            (where_lacking (r.branch t.from) (MissingWayEnd t.from c)) (lacking (MissingCopy c (InTransit t)) (r.copy c) way.3)))
+    way_told (MissingBorrower c p) other way = by_state (d.copy c) refl way.1
       where
-        by_state : (s : CopyState) → d.copy c ≡ s → IsLentTo p s → IsAmong (BorrowerLacks c p) every
+        by_state : (s : CopyState) → d.copy c ≡ s → IsLentTo p s → IsAmong (MissingBorrower c p) every
         by_state (Shelf b) is lent = absurd lent
         by_state (OnHoldShelf w) is lent = absurd lent
         by_state (InTransit t) is lent = absurd lent
         by_state (OnLoan l) is lent =
-            by_copy_told (BorrowerLacks c p) c way.0 (OnLoan l) is
-            (among_second (BorrowerLacks c p) (where_lacking (r.copy c) (CopyLacks c (OnLoan l)))
-            (where_lacking (r.patron l.patron) (BorrowerLacks c l.patron))
-            (subst (λ (q : ℕ). IsAmong (BorrowerLacks c p) (where_lacking (r.patron q) (BorrowerLacks c q))) (sym lent)
-            (lacking (BorrowerLacks c p) (r.patron p) way.2)))
-    way_told (BranchOfCopy b c) other way = by_state (d.copy c) refl way.1
+            by_copy_told (MissingBorrower c p) c way.0 (OnLoan l) is
+            (among_second (MissingBorrower c p) (where_lacking (r.copy c) (MissingCopy c (OnLoan l)))
+            (where_lacking (r.patron l.patron) (MissingBorrower c l.patron))
+            (subst (λ (q : ℕ). IsAmong (MissingBorrower c p) (where_lacking (r.patron q) (MissingBorrower c q))) (sym lent)
+            (lacking (MissingBorrower c p) (r.patron p) way.2)))
+    way_told (MissingBranch b c) other way = by_state (d.copy c) refl way.1
       where
-        on_shelf : (a : ℕ) (o : Option ℕ) → IsBranchOf b o (Shelf a) → IsAmong (BranchOfCopy b c) (shelf_obstacles r c o a)
+        on_shelf : (a : ℕ) (o : Option ℕ) → IsBranchOf b o (Shelf a) → IsAmong (MissingBranch b c) (shelf_obstacles r c o a)
         on_shelf a None at = absurd at
         on_shelf a (Some x) at =
-            subst (λ (m : ℕ). IsAmong (BranchOfCopy b c) (where_lacking (r.branch m) (BranchOfCopy m c))) (sym at)
-            (lacking (BranchOfCopy b c) (r.branch b) way.2)
+            subst (λ (m : ℕ). IsAmong (MissingBranch b c) (where_lacking (r.branch m) (MissingBranch m c))) (sym at)
+            (lacking (MissingBranch b c) (r.branch b) way.2)
 
-        by_state : (s : CopyState) → d.copy c ≡ s → IsBranchOf b (r.copy c) s → IsAmong (BranchOfCopy b c) every
-        by_state (Shelf a) is at = by_copy_told (BranchOfCopy b c) c way.0 (Shelf a) is (on_shelf a (r.copy c) at)
+        by_state : (s : CopyState) → d.copy c ≡ s → IsBranchOf b (r.copy c) s → IsAmong (MissingBranch b c) every
+        by_state (Shelf a) is at = by_copy_told (MissingBranch b c) c way.0 (Shelf a) is (on_shelf a (r.copy c) at)
         by_state (OnHoldShelf w) is at =
-            by_copy_told (BranchOfCopy b c) c way.0 (OnHoldShelf w) is
-            (among_second (BranchOfCopy b c) (where_lacking (r.copy c) (CopyLacks c (OnHoldShelf w)))
-            (where_lacking (r.branch w.branch) (BranchOfCopy w.branch c))
-            (subst (λ (m : ℕ). IsAmong (BranchOfCopy b c) (where_lacking (r.branch m) (BranchOfCopy m c))) (sym at)
-            (lacking (BranchOfCopy b c) (r.branch b) way.2)))
+            by_copy_told (MissingBranch b c) c way.0 (OnHoldShelf w) is
+            (among_second (MissingBranch b c) (where_lacking (r.copy c) (MissingCopy c (OnHoldShelf w)))
+            (where_lacking (r.branch w.branch) (MissingBranch w.branch c))
+            (subst (λ (m : ℕ). IsAmong (MissingBranch b c) (where_lacking (r.branch m) (MissingBranch m c))) (sym at)
+            (lacking (MissingBranch b c) (r.branch b) way.2)))
         by_state (OnLoan l) is at = absurd at
         by_state (InTransit t) is at = absurd at
-    way_told (BranchOnWay b c) other way = by_state (d.copy c) refl way.1
+    way_told (MissingWayEnd b c) other way = by_state (d.copy c) refl way.1
       where
-        at_branch : (m : ℕ) → m ≡ b → IsAmong (BranchOnWay b c) (where_lacking (r.branch m) (BranchOnWay m c))
+        at_branch : (m : ℕ) → m ≡ b → IsAmong (MissingWayEnd b c) (where_lacking (r.branch m) (MissingWayEnd m c))
         at_branch m same =
-            subst (λ (n : ℕ). IsAmong (BranchOnWay b c) (where_lacking (r.branch n) (BranchOnWay n c))) (sym same)
-            (lacking (BranchOnWay b c) (r.branch b) way.2)
+            subst (λ (n : ℕ). IsAmong (MissingWayEnd b c) (where_lacking (r.branch n) (MissingWayEnd n c))) (sym same)
+            (lacking (MissingWayEnd b c) (r.branch b) way.2)
 
-        by_state : (s : CopyState) → d.copy c ≡ s → IsOnWay b s → IsAmong (BranchOnWay b c) every
+        sent : (t : Transit) → d.copy c ≡ InTransit t → t.from ≡ b → IsAmong (MissingWayEnd b c) every
+        sent t is from =
+            by_copy_told (MissingWayEnd b c) c way.0 (InTransit t) is
+            (among_first (MissingWayEnd b c)
+            (where_lacking (r.copy c) (MissingCopy c (InTransit t)) ++ where_lacking (r.branch t.from) (MissingWayEnd t.from c))
+            (arrival_obstacles r c t.from t.to)
+            (among_second (MissingWayEnd b c) (where_lacking (r.copy c) (MissingCopy c (InTransit t)))
+            (where_lacking (r.branch t.from) (MissingWayEnd t.from c)) (at_branch t.from from)))
+
+        -- told as the one that gets the copy, unless it sent it too
+        got : (t : Transit) → d.copy c ≡ InTransit t → t.to ≡ b → (same : Bool) → (t.to == t.from) ≡ same
+            → IsAmong (MissingWayEnd b c) every
+        got t is to true same = sent t is (sym (eqb-true t.to t.from same) ∙ to)
+        got t is to false apart =
+            by_copy_told (MissingWayEnd b c) c way.0 (InTransit t) is
+            (among_second (MissingWayEnd b c)
+            (where_lacking (r.copy c) (MissingCopy c (InTransit t)) ++ where_lacking (r.branch t.from) (MissingWayEnd t.from c))
+            (arrival_obstacles r c t.from t.to)
+            (subst (λ (same : Bool). IsAmong (MissingWayEnd b c) (cond same [] (where_lacking (r.branch t.to) (MissingWayEnd t.to c))))
+            (sym apart) (at_branch t.to to)))
+
+        by_state : (s : CopyState) → d.copy c ≡ s → IsOnWay b s → IsAmong (MissingWayEnd b c) every
         by_state (Shelf a) is at = absurd at
         by_state (OnLoan l) is at = absurd at
         by_state (OnHoldShelf w) is at = absurd at
-        by_state (InTransit t) is (inl from) =
-            by_copy_told (BranchOnWay b c) c way.0 (InTransit t) is
-            (among_first (BranchOnWay b c)
-            (where_lacking (r.copy c) (CopyLacks c (InTransit t)) ++ where_lacking (r.branch t.from) (BranchOnWay t.from c))
-            (where_lacking (r.branch t.to) (BranchOnWay t.to c))
-            (among_second (BranchOnWay b c) (where_lacking (r.copy c) (CopyLacks c (InTransit t)))
-            (where_lacking (r.branch t.from) (BranchOnWay t.from c)) (at_branch t.from from)))
-        by_state (InTransit t) is (inr to) =
-            by_copy_told (BranchOnWay b c) c way.0 (InTransit t) is
-            (among_second (BranchOnWay b c)
-            (where_lacking (r.copy c) (CopyLacks c (InTransit t)) ++ where_lacking (r.branch t.from) (BranchOnWay t.from c))
-            (where_lacking (r.branch t.to) (BranchOnWay t.to c)) (at_branch t.to to))
-    way_told (TitleLacks t p) other way = by_hold way.0.0 way.0.1
+        by_state (InTransit t) is (inl from) = sent t is from
+        by_state (InTransit t) is (inr to) = got t is to (t.to == t.from) refl
+    way_told (MissingTitle t p) other way = by_hold way.0.0 way.0.1
       where
-        by_hold : (g : Hold) → d.hold t p ≡ Some g → IsAmong (TitleLacks t p) every
+        by_hold : (g : Hold) → d.hold t p ≡ Some g → IsAmong (MissingTitle t p) every
         by_hold g is =
-            held (TitleLacks t p) t p g is (λ own.
-            subst (λ (q : ℕ). IsAmong (TitleLacks t q) (hold_obstacles r t g)) own
-            (among_first (TitleLacks t g.patron)
+            held (MissingTitle t p) t p g is (λ own.
+            subst (λ (q : ℕ). IsAmong (MissingTitle t q) (hold_obstacles r t g)) own
+            (among_first (MissingTitle t g.patron)
             (title t g ++ patron t g ++ pickup t g)
             (kind t g)
-            (among_first (TitleLacks t g.patron)
+            (among_first (MissingTitle t g.patron)
             (title t g ++ patron t g)
             (pickup t g)
-            (among_first (TitleLacks t g.patron) (title t g)
-            (patron t g) (lacking (TitleLacks t g.patron) (r.title t) way.1)))))
-    way_told (HolderLacks t p) other way = by_hold way.0.0 way.0.1
+            (among_first (MissingTitle t g.patron) (title t g)
+            (patron t g) (lacking (MissingTitle t g.patron) (r.title t) way.1)))))
+    way_told (MissingHolder t p) other way = by_hold way.0.0 way.0.1
       where
-        by_hold : (g : Hold) → d.hold t p ≡ Some g → IsAmong (HolderLacks t p) every
+        by_hold : (g : Hold) → d.hold t p ≡ Some g → IsAmong (MissingHolder t p) every
         by_hold g is =
-            held (HolderLacks t p) t p g is (λ own.
-            subst (λ (q : ℕ). IsAmong (HolderLacks t q) (hold_obstacles r t g)) own
-            (among_first (HolderLacks t g.patron)
+            held (MissingHolder t p) t p g is (λ own.
+            subst (λ (q : ℕ). IsAmong (MissingHolder t q) (hold_obstacles r t g)) own
+            (among_first (MissingHolder t g.patron)
             (title t g ++ patron t g ++ pickup t g)
             (kind t g)
-            (among_first (HolderLacks t g.patron)
+            (among_first (MissingHolder t g.patron)
             (title t g ++ patron t g)
             (pickup t g)
-            (among_second (HolderLacks t g.patron) (title t g)
+            (among_second (MissingHolder t g.patron) (title t g)
             (patron t g)
-            (lacking (HolderLacks t g.patron) (r.patron g.patron)
+            (lacking (MissingHolder t g.patron) (r.patron g.patron)
             (subst (λ (q : ℕ). r.patron q ≡ None) (sym own) way.1))))))
-    way_told (PickupLacks b t p) other way = by_hold way.0 way.1 way.2
+    way_told (MissingPickup b t p) other way = by_hold way.0 way.1 way.2
       where
-        by_hold : (g : Hold) → d.hold t p ≡ Some g → g.pickup ≡ b → IsAmong (PickupLacks b t p) every
+        by_hold : (g : Hold) → d.hold t p ≡ Some g → g.pickup ≡ b → IsAmong (MissingPickup b t p) every
         by_hold g is at =
-            held (PickupLacks b t p) t p g is (λ own.
-            subst (λ (q : ℕ). IsAmong (PickupLacks b t q) (hold_obstacles r t g)) own
-            (subst (λ (m : ℕ). IsAmong (PickupLacks m t g.patron) (hold_obstacles r t g)) at
-            (among_first (PickupLacks g.pickup t g.patron)
+            held (MissingPickup b t p) t p g is (λ own.
+            subst (λ (q : ℕ). IsAmong (MissingPickup b t q) (hold_obstacles r t g)) own
+            (subst (λ (m : ℕ). IsAmong (MissingPickup m t g.patron) (hold_obstacles r t g)) at
+            (among_first (MissingPickup g.pickup t g.patron)
             (title t g ++ patron t g ++ pickup t g)
             (kind t g)
-            (among_second (PickupLacks g.pickup t g.patron)
+            (among_second (MissingPickup g.pickup t g.patron)
             (title t g ++ patron t g)
             (pickup t g)
-            (lacking (PickupLacks g.pickup t g.patron) (r.branch g.pickup)
+            (lacking (MissingPickup g.pickup t g.patron) (r.branch g.pickup)
             (subst (λ (m : ℕ). r.branch m ≡ None) (sym at) way.3))))))
-    way_told (OnlyCopyLacks t p c) other way = by_hold way.0 way.1 way.2
+    way_told (MissingOnlyCopy t p c) other way = by_hold way.0 way.1 way.2
       where
-        by_hold : (g : Hold) → d.hold t p ≡ Some g → g.kind ≡ One c → IsAmong (OnlyCopyLacks t p c) every
+        by_hold : (g : Hold) → d.hold t p ≡ Some g → g.kind ≡ One c → IsAmong (MissingOnlyCopy t p c) every
         by_hold g is same =
-            held (OnlyCopyLacks t p c) t p g is (λ own.
-            subst (λ (q : ℕ). IsAmong (OnlyCopyLacks t q c) (hold_obstacles r t g)) own
-            (among_second (OnlyCopyLacks t g.patron c)
+            held (MissingOnlyCopy t p c) t p g is (λ own.
+            subst (λ (q : ℕ). IsAmong (MissingOnlyCopy t q c) (hold_obstacles r t g)) own
+            (among_second (MissingOnlyCopy t g.patron c)
             (title t g ++ patron t g ++ pickup t g)
             (kind t g)
-            (subst (λ (kind : HoldKind). IsAmong (OnlyCopyLacks t g.patron c) (kind_obstacles r t g.patron kind)) (sym same)
-            (lacking (OnlyCopyLacks t g.patron c) (r.copy c) way.3))))
+            (subst (λ (kind : HoldKind). IsAmong (MissingOnlyCopy t g.patron c) (kind_obstacles r t g.patron kind)) (sym same)
+            (lacking (MissingOnlyCopy t g.patron c) (r.copy c) way.3))))
     way_told NumbersUsedUp other way = absurd (other refl)
 
     -- that the numbers are used up
@@ -437,22 +454,22 @@ module _ (k j : Facts) (r : Renumbering) (d : Desk) (last : ℕ) where
 
     way_of_all : (x : Obstacle) → Way x → IsAmong x (every ++ number_obstacles last j)
     way_of_all NumbersUsedUp way = among_second NumbersUsedUp every (number_obstacles last j) (numbers_told way)
-    way_of_all (CopyLacks c s) way =
-        among_first (CopyLacks c s) every (number_obstacles last j) (way_told (CopyLacks c s) (λ e. cc) way)
-    way_of_all (BorrowerLacks c p) way =
-        among_first (BorrowerLacks c p) every (number_obstacles last j) (way_told (BorrowerLacks c p) (λ e. cc) way)
-    way_of_all (HolderLacks t p) way =
-        among_first (HolderLacks t p) every (number_obstacles last j) (way_told (HolderLacks t p) (λ e. cc) way)
-    way_of_all (TitleLacks t p) way =
-        among_first (TitleLacks t p) every (number_obstacles last j) (way_told (TitleLacks t p) (λ e. cc) way)
-    way_of_all (BranchOfCopy b c) way =
-        among_first (BranchOfCopy b c) every (number_obstacles last j) (way_told (BranchOfCopy b c) (λ e. cc) way)
-    way_of_all (BranchOnWay b c) way =
-        among_first (BranchOnWay b c) every (number_obstacles last j) (way_told (BranchOnWay b c) (λ e. cc) way)
-    way_of_all (PickupLacks b t p) way =
-        among_first (PickupLacks b t p) every (number_obstacles last j) (way_told (PickupLacks b t p) (λ e. cc) way)
-    way_of_all (OnlyCopyLacks t p c) way =
-        among_first (OnlyCopyLacks t p c) every (number_obstacles last j) (way_told (OnlyCopyLacks t p c) (λ e. cc) way)
+    way_of_all (MissingCopy c s) way =
+        among_first (MissingCopy c s) every (number_obstacles last j) (way_told (MissingCopy c s) (λ e. cc) way)
+    way_of_all (MissingBorrower c p) way =
+        among_first (MissingBorrower c p) every (number_obstacles last j) (way_told (MissingBorrower c p) (λ e. cc) way)
+    way_of_all (MissingHolder t p) way =
+        among_first (MissingHolder t p) every (number_obstacles last j) (way_told (MissingHolder t p) (λ e. cc) way)
+    way_of_all (MissingTitle t p) way =
+        among_first (MissingTitle t p) every (number_obstacles last j) (way_told (MissingTitle t p) (λ e. cc) way)
+    way_of_all (MissingBranch b c) way =
+        among_first (MissingBranch b c) every (number_obstacles last j) (way_told (MissingBranch b c) (λ e. cc) way)
+    way_of_all (MissingWayEnd b c) way =
+        among_first (MissingWayEnd b c) every (number_obstacles last j) (way_told (MissingWayEnd b c) (λ e. cc) way)
+    way_of_all (MissingPickup b t p) way =
+        among_first (MissingPickup b t p) every (number_obstacles last j) (way_told (MissingPickup b t p) (λ e. cc) way)
+    way_of_all (MissingOnlyCopy t p c) way =
+        among_first (MissingOnlyCopy t p c) every (number_obstacles last j) (way_told (MissingOnlyCopy t p c) (λ e. cc) way)
 
     pub told_exactly : (x : Obstacle) → IsAmong x (every ++ number_obstacles last j) ↔ Way x
     told_exactly x = (all_told x, way_of_all x)

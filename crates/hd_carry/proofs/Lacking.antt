@@ -1,5 +1,6 @@
 -- Where nothing is in the way, all that the old desk names has a new number.
-use Rattle.std.proofs.Common.{◌≡◌, refl, sym, ap, subst, ℕ, zero, suc, ◌<◌, ◌⊎◌, inl, inr, Option, Some, None, List, [], ◌∷◌, ◌++◌}
+use Rattle.std.proofs.Common.{◌≡◌, refl, sym, ap, subst, ℕ, zero, suc, ◌<◌, ◌==◌, ◌⊎◌, inl, inr, Bool, true, false, cond, eqb-true}
+use Rattle.std.proofs.Common.{Option, Some, None, List, [], ◌∷◌, ◌++◌}
 use Rattle.std.proofs.Common.{map, filter_map, flat_map, option_map, arith}
 use Rattle.hd_rules.specs.declared.holds.Hold.{Hold}
 use Rattle.hd_rules.specs.declared.holds.HoldKind.{HoldKind}
@@ -9,9 +10,10 @@ use Rattle.hd_rules.specs.Desk.{Desk}
 use Rattle.hd_rules.specs.Settle.{with_copy}
 use Rattle.hd_rules.specs.Carry.{Renumbering, IsSameKind, IsSameHold}
 use Rattle.hd_carry.specs.declared.obstacle.Obstacle.{Obstacle}
-use Rattle.hd_carry.specs.declared.obstacle.Obstacle.TheVariants.{HolderLacks, TitleLacks, PickupLacks, OnlyCopyLacks}
+use Rattle.hd_carry.specs.declared.obstacle.Obstacle.TheVariants.{MissingHolder, MissingTitle, MissingWayEnd, MissingPickup, MissingOnlyCopy}
 use Rattle.hd_carry.specs.CarriedRows.{hold_row, new_kind}
-use Rattle.hd_carry.specs.Obstacles.{where_lacking, copy_obstacles, kind_obstacles, hold_obstacles, copies_obstacles, titles_obstacles}
+use Rattle.hd_carry.specs.Obstacles.{where_lacking, arrival_obstacles, copy_obstacles, kind_obstacles, hold_obstacles}
+use Rattle.hd_carry.specs.Obstacles.{copies_obstacles, titles_obstacles}
 use Rattle.hd_carry.proofs.Numbers.{below_or_this}
 use Rattle.hd_carry.proofs.Queues.{Numbered, to_row, AreNumbered}
 
@@ -29,12 +31,21 @@ has_number None z e = cc
 has_number (Some m) z e = (m, refl)
 
 module _ (r : Renumbering) where
+  -- the branch that gets a copy has one, where the one that sent it has
+  pub has_arrival : (c from to b : ℕ) → r.branch from ≡ Some b → arrival_obstacles r c from to ≡ [] → (m : ℕ) × (r.branch to ≡ Some m)
+  has_arrival c from to b at none = by_ends (to == from) refl none
+    where
+      by_ends : (same : Bool) → (to == from) ≡ same → cond same [] (where_lacking (r.branch to) (MissingWayEnd to c)) ≡ []
+          → (m : ℕ) × (r.branch to ≡ Some m)
+      by_ends true is none = (b, subst (λ (m : ℕ). r.branch m ≡ Some b) (sym (eqb-true to from is)) at)
+      by_ends false is none = has_number (r.branch to) (MissingWayEnd to c) none
+
   has_kind : (t p : ℕ) (kind : HoldKind) → kind_obstacles r t p kind ≡ [] → (new : HoldKind) × (new_kind r kind ≡ Some new)
       × IsSameKind r kind new
   has_kind t p Any e = (Any, refl, tt)
   has_kind t p AtBranch e = (AtBranch, refl, tt)
   has_kind t p (One c) e =
-      let copy : (m : ℕ) × (r.copy c ≡ Some m) = has_number (r.copy c) (OnlyCopyLacks t p c) e in
+      let copy : (m : ℕ) × (r.copy c ≡ Some m) = has_number (r.copy c) (MissingOnlyCopy t p c) e in
       (One copy.0, ap (λ o. option_map (λ x. One x) o) copy.1, copy.1)
 
   -- a hold by its new numbers
@@ -62,13 +73,13 @@ module _ (r : Renumbering) where
 
   -- in the way of its title, its patron and its pickup
   abbrev of_title : ℕ → Hold → List Obstacle
-  of_title t g = where_lacking (r.title t) (TitleLacks t g.patron)
+  of_title t g = where_lacking (r.title t) (MissingTitle t g.patron)
 
   abbrev of_patron : ℕ → Hold → List Obstacle
-  of_patron t g = where_lacking (r.patron g.patron) (HolderLacks t g.patron)
+  of_patron t g = where_lacking (r.patron g.patron) (MissingHolder t g.patron)
 
   abbrev of_pickup : ℕ → Hold → List Obstacle
-  of_pickup t g = where_lacking (r.branch g.pickup) (PickupLacks g.pickup t g.patron)
+  of_pickup t g = where_lacking (r.branch g.pickup) (MissingPickup g.pickup t g.patron)
 
   has_numbers : (t : ℕ) (g : Hold) → hold_obstacles r t g ≡ [] → HasNumbers t g
   has_numbers t g e =
@@ -76,11 +87,11 @@ module _ (r : Renumbering) where
       left_empty (of_title t g ++ of_patron t g ++ of_pickup t g) (kind_obstacles r t g.patron g.kind) e in
       let two : of_title t g ++ of_patron t g ≡ [] = left_empty (of_title t g ++ of_patron t g) (of_pickup t g) three in
       let title : (m : ℕ) × (r.title t ≡ Some m) =
-      has_number (r.title t) (TitleLacks t g.patron) (left_empty (of_title t g) (of_patron t g) two) in
+      has_number (r.title t) (MissingTitle t g.patron) (left_empty (of_title t g) (of_patron t g) two) in
       let patron : (m : ℕ) × (r.patron g.patron ≡ Some m) =
-      has_number (r.patron g.patron) (HolderLacks t g.patron) (right_empty (of_title t g) (of_patron t g) two) in
+      has_number (r.patron g.patron) (MissingHolder t g.patron) (right_empty (of_title t g) (of_patron t g) two) in
       let pickup : (m : ℕ) × (r.branch g.pickup ≡ Some m) =
-      has_number (r.branch g.pickup) (PickupLacks g.pickup t g.patron)
+      has_number (r.branch g.pickup) (MissingPickup g.pickup t g.patron)
       (right_empty (of_title t g ++ of_patron t g) (of_pickup t g) three) in
       let kind : (new : HoldKind) × (new_kind r g.kind ≡ Some new) × IsSameKind r g.kind new =
       has_kind t g.patron g.kind

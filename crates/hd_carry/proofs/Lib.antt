@@ -15,4 +15,5 @@ pub mod Found
 pub mod Renamed
 pub mod Real
 pub mod Exact
+pub mod Once
 pub mod Next

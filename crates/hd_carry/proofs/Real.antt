@@ -1,5 +1,6 @@
 -- Where a desk is carried over, nothing was in the way.
-use Rattle.std.proofs.Common.{◌≡◌, refl, sym, ◌∙◌, subst, ℕ, zero, suc, ◌<◌, ◌≤◌, ◌==◌, ◌⊎◌, inl, inr, true, false, Option, Some, None}
+use Rattle.std.proofs.Common.{◌≡◌, refl, sym, ◌∙◌, subst, ℕ, zero, suc, ◌<◌, ◌≤◌, ◌==◌, ◌⊎◌, inl, inr, Bool, true, false, cond, Option}
+use Rattle.std.proofs.Common.{Some, None}
 use Rattle.std.proofs.Common.{List, [], ◌∷◌, ◌++◌, find, flat_map, arith}
 use Rattle.hd_rules.specs.declared.holds.Hold.{Hold}
 use Rattle.hd_rules.specs.declared.holds.HoldKind.{HoldKind}
@@ -14,9 +15,9 @@ use Rattle.hd_rules.specs.Carry.{IsCarriedOver}
 use Rattle.hd_queue.specs.Holds.{HasPatronsOnce}
 use Rattle.hd_desk.specs.Asking.{IsQueueOf, AreQueuesOf}
 use Rattle.hd_carry.specs.declared.obstacle.Obstacle.{Obstacle}
-use Rattle.hd_carry.specs.declared.obstacle.Obstacle.TheVariants.{CopyLacks, BorrowerLacks, HolderLacks, TitleLacks}
-use Rattle.hd_carry.specs.declared.obstacle.Obstacle.TheVariants.{BranchOfCopy, BranchOnWay, PickupLacks, OnlyCopyLacks}
-use Rattle.hd_carry.specs.Obstacles.{where_lacking, shelf_obstacles, copy_obstacles, kind_obstacles, hold_obstacles}
+use Rattle.hd_carry.specs.declared.obstacle.Obstacle.TheVariants.{MissingCopy, MissingBorrower, MissingHolder, MissingTitle}
+use Rattle.hd_carry.specs.declared.obstacle.Obstacle.TheVariants.{MissingBranch, MissingWayEnd, MissingPickup, MissingOnlyCopy}
+use Rattle.hd_carry.specs.Obstacles.{where_lacking, shelf_obstacles, arrival_obstacles, copy_obstacles, kind_obstacles, hold_obstacles}
 use Rattle.hd_carry.specs.Obstacles.{copies_obstacles, titles_obstacles, obstacles}
 use Rattle.hd_carry.proofs.Queues.{find_first, of_rest_at}
 
@@ -45,12 +46,19 @@ module _ (k j : Facts) (r : Renumbering) (d e : Desk) (names : IsByNames k j r) 
       by_copy None same = absurd (let never : true ≡ false = sym (over.gone c in_c same) ∙ away in cc)
       by_copy (Some x) same = (x, same)
 
+  no_arrival : (c from to m : ℕ) → r.branch to ≡ Some m → arrival_obstacles r c from to ≡ []
+  no_arrival c from to m is = by_ends (to == from)
+    where
+      by_ends : (same : Bool) → cond same [] (where_lacking (r.branch to) (MissingWayEnd to c)) ≡ []
+      by_ends true = refl
+      by_ends false = no_obstacle (r.branch to) (MissingWayEnd to c) m is
+
   -- what a place names has new numbers
   free_place : (c : ℕ) → c < k.copies → (s : CopyState) → d.copy c ≡ s → copy_obstacles r c s ≡ []
   free_place c in_c (Shelf b) is = by_copy (r.copy c) refl
     where
-      at_new : (x : ℕ) (t : CopyState) → IsSamePlace r (Shelf b) t → where_lacking (r.branch b) (BranchOfCopy b c) ≡ []
-      at_new x (Shelf a) same = no_obstacle (r.branch b) (BranchOfCopy b c) a same
+      at_new : (x : ℕ) (t : CopyState) → IsSamePlace r (Shelf b) t → where_lacking (r.branch b) (MissingBranch b c) ≡ []
+      at_new x (Shelf a) same = no_obstacle (r.branch b) (MissingBranch b c) a same
       at_new x (OnLoan l) same = absurd same
       at_new x (OnHoldShelf s) same = absurd same
       at_new x (InTransit t) same = absurd same
@@ -61,42 +69,42 @@ module _ (k j : Facts) (r : Renumbering) (d e : Desk) (names : IsByNames k j r) 
   free_place c in_c (OnLoan l) is =
       let new : (x : ℕ) × (r.copy c ≡ Some x) =
       there c in_c (subst (λ (s : CopyState). is_on_shelf s ≡ false) (sym is) refl) in
-      two_empty (where_lacking (r.copy c) (CopyLacks c (OnLoan l))) (where_lacking (r.patron l.patron) (BorrowerLacks c l.patron))
-      (no_obstacle (r.copy c) (CopyLacks c (OnLoan l)) new.0 new.1)
+      two_empty (where_lacking (r.copy c) (MissingCopy c (OnLoan l))) (where_lacking (r.patron l.patron) (MissingBorrower c l.patron))
+      (no_obstacle (r.copy c) (MissingCopy c (OnLoan l)) new.0 new.1)
       (at_new (e.copy new.0) (subst (λ (s : CopyState). IsSamePlace r s (e.copy new.0)) is (place c new.0 new.1)))
     where
-      at_new : (t : CopyState) → IsSamePlace r (OnLoan l) t → where_lacking (r.patron l.patron) (BorrowerLacks c l.patron) ≡ []
-      at_new (OnLoan m) same = no_obstacle (r.patron l.patron) (BorrowerLacks c l.patron) m.patron same.0
+      at_new : (t : CopyState) → IsSamePlace r (OnLoan l) t → where_lacking (r.patron l.patron) (MissingBorrower c l.patron) ≡ []
+      at_new (OnLoan m) same = no_obstacle (r.patron l.patron) (MissingBorrower c l.patron) m.patron same.0
       at_new (Shelf a) same = absurd same
       at_new (OnHoldShelf s) same = absurd same
       at_new (InTransit t) same = absurd same
   free_place c in_c (OnHoldShelf s) is =
       let new : (x : ℕ) × (r.copy c ≡ Some x) =
       there c in_c (subst (λ (s : CopyState). is_on_shelf s ≡ false) (sym is) refl) in
-      two_empty (where_lacking (r.copy c) (CopyLacks c (OnHoldShelf s))) (where_lacking (r.branch s.branch) (BranchOfCopy s.branch c))
-      (no_obstacle (r.copy c) (CopyLacks c (OnHoldShelf s)) new.0 new.1)
+      two_empty (where_lacking (r.copy c) (MissingCopy c (OnHoldShelf s))) (where_lacking (r.branch s.branch) (MissingBranch s.branch c))
+      (no_obstacle (r.copy c) (MissingCopy c (OnHoldShelf s)) new.0 new.1)
       (at_new (e.copy new.0) (subst (λ (s : CopyState). IsSamePlace r s (e.copy new.0)) is (place c new.0 new.1)))
     where
-      at_new : (t : CopyState) → IsSamePlace r (OnHoldShelf s) t → where_lacking (r.branch s.branch) (BranchOfCopy s.branch c) ≡ []
-      at_new (OnHoldShelf z) same = no_obstacle (r.branch s.branch) (BranchOfCopy s.branch c) z.branch same.0
+      at_new : (t : CopyState) → IsSamePlace r (OnHoldShelf s) t → where_lacking (r.branch s.branch) (MissingBranch s.branch c) ≡ []
+      at_new (OnHoldShelf z) same = no_obstacle (r.branch s.branch) (MissingBranch s.branch c) z.branch same.0
       at_new (Shelf a) same = absurd same
       at_new (OnLoan m) same = absurd same
       at_new (InTransit t) same = absurd same
   free_place c in_c (InTransit t) is =
       let new : (x : ℕ) × (r.copy c ≡ Some x) =
       there c in_c (subst (λ (s : CopyState). is_on_shelf s ≡ false) (sym is) refl) in
-      at_new (no_obstacle (r.copy c) (CopyLacks c (InTransit t)) new.0 new.1) (e.copy new.0)
+      at_new (no_obstacle (r.copy c) (MissingCopy c (InTransit t)) new.0 new.1) (e.copy new.0)
       (subst (λ (s : CopyState). IsSamePlace r s (e.copy new.0)) is (place c new.0 new.1))
     where
-      at_new : where_lacking (r.copy c) (CopyLacks c (InTransit t)) ≡ [] → (u : CopyState) → IsSamePlace r (InTransit t) u
+      at_new : where_lacking (r.copy c) (MissingCopy c (InTransit t)) ≡ [] → (u : CopyState) → IsSamePlace r (InTransit t) u
           → copy_obstacles r c (InTransit t) ≡ []
       at_new free (InTransit u) same =
           two_empty
-          (where_lacking (r.copy c) (CopyLacks c (InTransit t)) ++ where_lacking (r.branch t.from) (BranchOnWay t.from c))
-          (where_lacking (r.branch t.to) (BranchOnWay t.to c))
-          (two_empty (where_lacking (r.copy c) (CopyLacks c (InTransit t))) (where_lacking (r.branch t.from) (BranchOnWay t.from c)) free
-          (no_obstacle (r.branch t.from) (BranchOnWay t.from c) u.from same.0))
-          (no_obstacle (r.branch t.to) (BranchOnWay t.to c) u.to same.1)
+          (where_lacking (r.copy c) (MissingCopy c (InTransit t)) ++ where_lacking (r.branch t.from) (MissingWayEnd t.from c))
+          (arrival_obstacles r c t.from t.to)
+          (two_empty (where_lacking (r.copy c) (MissingCopy c (InTransit t))) (where_lacking (r.branch t.from) (MissingWayEnd t.from c)) free
+          (no_obstacle (r.branch t.from) (MissingWayEnd t.from c) u.from same.0))
+          (no_arrival c t.from t.to u.to same.1)
       at_new free (Shelf a) same = absurd same
       at_new free (OnLoan m) same = absurd same
       at_new free (OnHoldShelf s) same = absurd same
@@ -110,7 +118,7 @@ module _ (k j : Facts) (r : Renumbering) (d e : Desk) (names : IsByNames k j r) 
   free_kind : (t p : ℕ) (a b : HoldKind) → IsSameKind r a b → kind_obstacles r t p a ≡ []
   free_kind t p Any b same = refl
   free_kind t p AtBranch b same = refl
-  free_kind t p (One c) (One x) same = no_obstacle (r.copy c) (OnlyCopyLacks t p c) x same
+  free_kind t p (One c) (One x) same = no_obstacle (r.copy c) (MissingOnlyCopy t p c) x same
   free_kind t p (One c) Any same = absurd same
   free_kind t p (One c) AtBranch same = absurd same
 
@@ -125,14 +133,14 @@ module _ (k j : Facts) (r : Renumbering) (d e : Desk) (names : IsByNames k j r) 
       by_new : Later r t g.patron → (o : Option Hold) → IsSameHeld r (Some g) o → hold_obstacles r t g ≡ []
       by_new later None same = absurd same
       by_new later (Some h) same =
-          let title : List Obstacle = where_lacking (r.title t) (TitleLacks t g.patron) in
-          let patron : List Obstacle = where_lacking (r.patron g.patron) (HolderLacks t g.patron) in
-          let pickup : List Obstacle = where_lacking (r.branch g.pickup) (PickupLacks g.pickup t g.patron) in
+          let title : List Obstacle = where_lacking (r.title t) (MissingTitle t g.patron) in
+          let patron : List Obstacle = where_lacking (r.patron g.patron) (MissingHolder t g.patron) in
+          let pickup : List Obstacle = where_lacking (r.branch g.pickup) (MissingPickup g.pickup t g.patron) in
           two_empty (title ++ patron ++ pickup) (kind_obstacles r t g.patron g.kind)
           (two_empty (title ++ patron) pickup
-          (two_empty title patron (no_obstacle (r.title t) (TitleLacks t g.patron) later.title later.same_title)
-          (no_obstacle (r.patron g.patron) (HolderLacks t g.patron) later.patron later.same_patron))
-          (no_obstacle (r.branch g.pickup) (PickupLacks g.pickup t g.patron) h.pickup same.pickup))
+          (two_empty title patron (no_obstacle (r.title t) (MissingTitle t g.patron) later.title later.same_title)
+          (no_obstacle (r.patron g.patron) (MissingHolder t g.patron) later.patron later.same_patron))
+          (no_obstacle (r.branch g.pickup) (MissingPickup g.pickup t g.patron) h.pickup same.pickup))
           (free_kind t g.patron g.kind h.kind same.kind)
 
   free_queue : (t : ℕ) (queue : List Hold) → HasPatronsOnce queue

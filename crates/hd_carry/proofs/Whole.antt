@@ -75,12 +75,14 @@ few_numbers false last j is none = ltb-false MOST_GIVEN (last + j.command_limit)
 
 -- what was told, by the noted copies, is all that is in the way, by the listed ones
 pub told_all : (old new : Contents) (last : ℕ) (d : Desk) (listed : List ℕ) (notes : List Bool) (queues : ℕ → List Hold)
-    (r : Renumbering) (told : List Obstacle) → r ≡ by_names old new → AreNoted (facts_of old).copies listed notes →
+    (r : Renumbering) (told : List Obstacle) (many : ℕ) → many ≡ (facts_of old).copies → r ≡ by_names old new →
+    AreNoted many listed notes →
     told ≡ obstacles r (facts_of old) (without_loans (facts_of old) (is_noted notes) d) queues ++ number_obstacles last (facts_of new) →
     told ≡ all_obstacles old new last (written_off (facts_of old) listed d) queues
-told_all old new last d listed notes queues r told names noted is =
+told_all old new last d listed notes queues r told many count names noted is =
     is
-    ∙ ap (λ l. l ++ number_obstacles last (facts_of new)) (listed_obstacles r (facts_of old) d listed notes queues noted)
+    ∙ ap (λ l. l ++ number_obstacles last (facts_of new)) (listed_obstacles r (facts_of old) d listed notes queues
+    (subst (λ n. AreNoted n listed notes) count noted))
     ∙ ap (λ s. obstacles s (facts_of old) (written_off (facts_of old) listed d) queues ++ number_obstacles last (facts_of new)) names
 
 -- with none of them there are numbers left
@@ -92,17 +94,18 @@ numbers_left old new last d queues none =
 
 -- and the rows carry the desk over
 pub carried_over : (old new : Contents) (last : ℕ) (d : Desk) (listed : List ℕ) (notes : List Bool) (queues : ℕ → List Hold)
-    (r : Renumbering) (rows : List OpeningRow) → RowsCarryADeskOver → HasDistinctNames old → AreInRange (facts_of old) →
-    IsKnownDesk (facts_of old) d → AreQueuesOf (facts_of old) d queues → r ≡ by_names old new →
-    AreNoted (facts_of old).copies listed notes →
+    (r : Renumbering) (rows : List OpeningRow) (many : ℕ) → RowsCarryADeskOver → HasDistinctNames old →
+    AreInRange (facts_of old) →
+    IsKnownDesk (facts_of old) d → AreQueuesOf (facts_of old) d queues → many ≡ (facts_of old).copies →
+    r ≡ by_names old new → AreNoted many listed notes →
     rows ≡ carried_rows r (facts_of old) (facts_of new) (without_loans (facts_of old) (is_noted notes) d) queues →
     all_obstacles old new last (written_off (facts_of old) listed d) queues ≡ [] →
     (n : ℕ) → Sound (facts_of old) n d →
     CarryOver (facts_of old) (facts_of new) (by_names old new) n (written_off (facts_of old) listed d) rows
-carried_over old new last d listed notes queues r rows law distinct range known kept names noted is none n sound =
+carried_over old new last d listed notes queues r rows many law distinct range known kept count names noted is none n sound =
     subst (CarryOver (facts_of old) (facts_of new) (by_names old new) n (written_off (facts_of old) listed d))
     (sym (is
-    ∙ listed_rows r (facts_of old) (facts_of new) d listed notes queues noted
+    ∙ listed_rows r (facts_of old) (facts_of new) d listed notes queues (subst (λ n. AreNoted n listed notes) count noted)
     ∙ ap (λ s. carried_rows s (facts_of old) (facts_of new) (written_off (facts_of old) listed d) queues) names))
     (law old new n (is_listed listed) d queues distinct range sound known kept
     (front_none (obstacles (by_names old new) (facts_of old) (written_off (facts_of old) listed d) queues)

@@ -1,5 +1,5 @@
 -- Why a desk isn't carried over.
-use Rattle.std.specs.Prelude.{◌≡◌, ◌≢◌, ◌↔◌, ◌++◌, List, []}
+use Rattle.std.specs.Prelude.{◌≡◌, ◌≢◌, ◌↔◌, ◌∷◌, ◌++◌, List, []}
 use Rattle.hd_rules.specs.declared.holds.Hold.{Hold}
 use Rattle.hd_rules.specs.Numbers.{TitleNo, CommandNo}
 use Rattle.hd_rules.specs.Desk.{Desk}
@@ -25,3 +25,13 @@ IsOf all (InTheWay told) = (told.items ≡ all) × (all ≢ [])
 abbrev pub Tells : {A : Type 0} → (Obstacle → Type 0) → CarryFault A → Type 0
 Tells IsSo Memory = Unit {0}
 Tells IsSo (InTheWay told) = (obstacle : Obstacle) → IsAmong obstacle told.items ↔ IsSo obstacle
+
+-- none of these stands twice
+abbrev pub IsEachOnce : List Obstacle → Type 0
+IsEachOnce [] = Unit {0}
+IsEachOnce (obstacle ∷ others) = (IsAmong obstacle others → ⊥) × IsEachOnce others
+
+-- it is out of memory, or nothing is told twice
+abbrev pub TellsOnce : {A : Type 0} → CarryFault A → Type 0
+TellsOnce Memory = Unit {0}
+TellsOnce (InTheWay told) = IsEachOnce told.items

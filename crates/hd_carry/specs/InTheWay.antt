@@ -11,10 +11,10 @@ use Rattle.hd_rules.specs.Desk.{Desk}
 use Rattle.hd_rules.specs.Choose.{is_on_shelf}
 use Rattle.hd_rules.specs.Carry.{Renumbering}
 use Rattle.hd_carry.specs.declared.obstacle.Obstacle.{Obstacle}
-use Rattle.hd_carry.specs.declared.obstacle.Obstacle.TheVariants.{CopyLacks, BorrowerLacks, HolderLacks}
-use Rattle.hd_carry.specs.declared.obstacle.Obstacle.TheVariants.{TitleLacks}
-use Rattle.hd_carry.specs.declared.obstacle.Obstacle.TheVariants.{BranchOfCopy, BranchOnWay, PickupLacks}
-use Rattle.hd_carry.specs.declared.obstacle.Obstacle.TheVariants.{OnlyCopyLacks, NumbersUsedUp}
+use Rattle.hd_carry.specs.declared.obstacle.Obstacle.TheVariants.{MissingCopy, MissingBorrower, MissingHolder}
+use Rattle.hd_carry.specs.declared.obstacle.Obstacle.TheVariants.{MissingTitle}
+use Rattle.hd_carry.specs.declared.obstacle.Obstacle.TheVariants.{MissingBranch, MissingWayEnd, MissingPickup}
+use Rattle.hd_carry.specs.declared.obstacle.Obstacle.TheVariants.{MissingOnlyCopy, NumbersUsedUp}
 
 -- on loan to the patron
 abbrev pub IsLentTo : PatronNo → CopyState → Type 0
@@ -45,12 +45,13 @@ module _ (k j : Facts) (r : Renumbering) (d : Desk) (last : CommandNo) where
 
   -- It is so, and the new catalogue lacks what it names; or too few numbers are left for its commands.
   abbrev pub IsInTheWay : Obstacle → Type 0
-  IsInTheWay (CopyLacks c s) = (c < k.copies) × (d.copy c ≡ s) × (is_on_shelf s ≡ false) × (r.copy c ≡ None)
-  IsInTheWay (BorrowerLacks c p) = (c < k.copies) × IsLentTo p (d.copy c) × (r.patron p ≡ None)
-  IsInTheWay (HolderLacks t p) = Holds t p × (r.patron p ≡ None)
-  IsInTheWay (TitleLacks t p) = Holds t p × (r.title t ≡ None)
-  IsInTheWay (BranchOfCopy b c) = (c < k.copies) × IsBranchOf b (r.copy c) (d.copy c) × (r.branch b ≡ None)
-  IsInTheWay (BranchOnWay b c) = (c < k.copies) × IsOnWay b (d.copy c) × (r.branch b ≡ None)
-  IsInTheWay (PickupLacks b t p) = (h : Hold) × (d.hold t p ≡ Some h) × (h.pickup ≡ b) × (r.branch b ≡ None)
-  IsInTheWay (OnlyCopyLacks t p c) = (h : Hold) × (d.hold t p ≡ Some h) × (h.kind ≡ One c) × (r.copy c ≡ None)
+  IsInTheWay (MissingCopy c s) = (c < k.copies) × (d.copy c ≡ s) × (is_on_shelf s ≡ false) × (r.copy c ≡ None)
+  IsInTheWay (MissingBorrower c p) = (c < k.copies) × IsLentTo p (d.copy c) × (r.patron p ≡ None)
+  IsInTheWay (MissingHolder t p) = Holds t p × (r.patron p ≡ None)
+  IsInTheWay (MissingTitle t p) = Holds t p × (r.title t ≡ None)
+  IsInTheWay (MissingBranch b c) = (c < k.copies) × IsBranchOf b (r.copy c) (d.copy c) × (r.branch b ≡ None)
+  IsInTheWay (MissingWayEnd b c) = (c < k.copies) × IsOnWay b (d.copy c) × (r.branch b ≡ None)
+  IsInTheWay (MissingPickup b t p) = (h : Hold) × (d.hold t p ≡ Some h) × (h.pickup ≡ b) × (r.branch b ≡ None)
+  IsInTheWay (MissingOnlyCopy t p c) =
+      (h : Hold) × (d.hold t p ≡ Some h) × (h.kind ≡ One c) × (r.copy c ≡ None)
   IsInTheWay NumbersUsedUp = MOST_GIVEN < last + j.command_limit

@@ -7,10 +7,10 @@ use Rattle.hd_rules.specs.Numbers.{BranchNo, TitleNo, CopyNo, PatronNo}
 use Rattle.hd_catalogue.specs.Contents.{Contents, branch_name, title_name, copy_name, patron_name}
 use Rattle.hd_catalogue.specs.Contents.{copy_number}
 use Rattle.hd_carry.specs.declared.obstacle.Obstacle.{Obstacle}
-use Rattle.hd_carry.specs.declared.obstacle.Obstacle.TheVariants.{CopyLacks, BorrowerLacks, HolderLacks}
-use Rattle.hd_carry.specs.declared.obstacle.Obstacle.TheVariants.{TitleLacks}
-use Rattle.hd_carry.specs.declared.obstacle.Obstacle.TheVariants.{BranchOfCopy, BranchOnWay, PickupLacks}
-use Rattle.hd_carry.specs.declared.obstacle.Obstacle.TheVariants.{OnlyCopyLacks, NumbersUsedUp}
+use Rattle.hd_carry.specs.declared.obstacle.Obstacle.TheVariants.{MissingCopy, MissingBorrower, MissingHolder}
+use Rattle.hd_carry.specs.declared.obstacle.Obstacle.TheVariants.{MissingTitle}
+use Rattle.hd_carry.specs.declared.obstacle.Obstacle.TheVariants.{MissingBranch, MissingWayEnd, MissingPickup}
+use Rattle.hd_carry.specs.declared.obstacle.Obstacle.TheVariants.{MissingOnlyCopy, NumbersUsedUp}
 use Rattle.hd_carry.specs.declared.part.Part.{Part}
 use Rattle.hd_carry.specs.declared.part.Part.TheVariants.{Words, Branch, Title, Copy, Patron, Why}
 
@@ -50,26 +50,26 @@ module _ (old new : Contents) where
       codes "copy " ∷ copy_text old c ∷ codes " is on its way to " ∷ branch_text old t.to ∷ why_text c ∷ []
 
   abbrev pub obstacle_parts : Obstacle → List (List ℕ)
-  obstacle_parts (CopyLacks c state) = copy_parts c state
-  obstacle_parts (BorrowerLacks c p) =
+  obstacle_parts (MissingCopy c state) = copy_parts c state
+  obstacle_parts (MissingBorrower c p) =
       codes "patron " ∷ patron_text old p ∷ codes " has copy " ∷ copy_text old c
       ∷ codes " on loan" ∷ codes ", and the new catalogue lacks them" ∷ []
-  obstacle_parts (HolderLacks t p) =
+  obstacle_parts (MissingHolder t p) =
       codes "patron " ∷ patron_text old p ∷ codes " holds title " ∷ title_text old t
       ∷ codes ", and the new catalogue lacks them" ∷ []
-  obstacle_parts (TitleLacks t p) =
+  obstacle_parts (MissingTitle t p) =
       codes "title " ∷ title_text old t ∷ codes " is held by " ∷ patron_text old p
       ∷ codes ", and the new catalogue lacks it" ∷ []
-  obstacle_parts (BranchOfCopy b c) =
+  obstacle_parts (MissingBranch b c) =
       codes "branch " ∷ branch_text old b ∷ codes " has copy " ∷ copy_text old c
       ∷ codes ", and the new catalogue lacks it" ∷ []
-  obstacle_parts (BranchOnWay b c) =
+  obstacle_parts (MissingWayEnd b c) =
       codes "branch " ∷ branch_text old b ∷ codes " is on the way of copy " ∷ copy_text old c
       ∷ codes ", and the new catalogue lacks it" ∷ []
-  obstacle_parts (PickupLacks b t p) =
+  obstacle_parts (MissingPickup b t p) =
       codes "branch " ∷ branch_text old b ∷ codes " is the pickup of " ∷ patron_text old p
       ∷ codes "'s hold of " ∷ title_text old t ∷ codes ", and the new catalogue lacks it" ∷ []
-  obstacle_parts (OnlyCopyLacks t p c) =
+  obstacle_parts (MissingOnlyCopy t p c) =
       codes "the hold of " ∷ title_text old t ∷ codes " by " ∷ patron_text old p
       ∷ codes " admits copy " ∷ copy_text old c ∷ codes " alone" ∷ why_text c ∷ []
   obstacle_parts NumbersUsedUp = codes "the numbers are used up" ∷ []

@@ -12,7 +12,7 @@ ghost use Rattle.hd_desk.specs.Desks.{contents, desk_of, facts};
 ghost use Rattle.hd_carry.specs.declared.obstacle.Obstacle.TheVariants.{NumbersUsedUp};
 ghost use Rattle.hd_carry.specs.ByNames.{HasDistinctNames, by_names};
 ghost use Rattle.hd_carry.specs.CarriedRows.{carried_rows};
-ghost use Rattle.hd_carry.specs.Faults.{IsOf, Tells, all_obstacles};
+ghost use Rattle.hd_carry.specs.Faults.{IsOf, Tells, TellsOnce, all_obstacles};
 ghost use Rattle.hd_carry.specs.InTheWay.{IsInTheWay};
 ghost use Rattle.hd_carry.specs.Laws.{CarryOver};
 ghost use Rattle.hd_carry.specs.Numbers.{AreCopiesOf, renumbering};
@@ -40,7 +40,8 @@ use std::alloc::{AllocError, Allocator};
 ///
 /// # Errors
 ///
-/// `InTheWay` with all that can't go over, which is at least one thing; `Memory` where it is out of memory.
+/// `InTheWay` with all that can't go over, each thing once, and at least one; `Memory` where it is out of
+/// memory.
 pub fn carry<A: Allocator + Copy>(
     alloc: A,
     old: &Desk<A>,
@@ -56,6 +57,7 @@ pub fn carry<A: Allocator + Copy>(
         (carried_desk old.now write_off.now) (queues_of old.now))) }
     ensures exact { IfErr result (Tells (IsInTheWay (facts old.now) (facts_of new.now)
         (by_names (contents old.now) new.now) (carried_desk old.now write_off.now) last)) }
+    ensures once { IfErr result TellsOnce }
 {
     obstacles_are_exact();
     rows_carry_a_desk_over();

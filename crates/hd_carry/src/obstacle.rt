@@ -8,43 +8,43 @@ use hd_rules::{BranchNo, CopyNo, CopyState, PatronNo, TitleNo};
 #[derive(Clone, Copy, PartialEq, Eq, Debug)]
 pub enum Obstacle {
     /// A copy that isn't on an open shelf but here, and that the new catalogue lacks.
-    CopyLacks {
+    MissingCopy {
         copy: CopyNo,
         state: CopyState,
     },
     /// A patron who has a copy on loan, and whom the new catalogue lacks.
-    BorrowerLacks {
+    MissingBorrower {
         copy: CopyNo,
         patron: PatronNo,
     },
     /// A patron who holds a title, and whom the new catalogue lacks.
-    HolderLacks {
+    MissingHolder {
         title: TitleNo,
         patron: PatronNo,
     },
     /// A title that a patron holds, and that the new catalogue lacks.
-    TitleLacks {
+    MissingTitle {
         title: TitleNo,
         patron: PatronNo,
     },
     /// A branch that has a copy on its open shelf or its hold shelf, and that the new catalogue lacks.
-    BranchOfCopy {
+    MissingBranch {
         branch: BranchNo,
         copy: CopyNo,
     },
-    /// A branch that sent a copy or gets it, and that the new catalogue lacks.
-    BranchOnWay {
+    /// A branch at an end of a copy's way, which sent the copy or gets it, and that the new catalogue lacks.
+    MissingWayEnd {
         branch: BranchNo,
         copy: CopyNo,
     },
     /// A hold's pickup that the new catalogue lacks.
-    PickupLacks {
+    MissingPickup {
         branch: BranchNo,
         title: TitleNo,
         patron: PatronNo,
     },
     /// A hold that admits one copy alone, which the new catalogue lacks.
-    OnlyCopyLacks {
+    MissingOnlyCopy {
         title: TitleNo,
         patron: PatronNo,
         copy: CopyNo,

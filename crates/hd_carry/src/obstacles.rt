@@ -1,9 +1,10 @@
 //! All that stands in the way of a desk.
 ghost use Rattle.std.specs.Prelude.{◌≡◌, ◌++◌, OnOk, flat_map};
-ghost use Rattle.hd_carry.specs.declared.obstacle.Obstacle.TheVariants.{BranchOnWay};
+ghost use Rattle.hd_carry.specs.declared.obstacle.Obstacle.TheVariants.{MissingWayEnd};
 ghost use Rattle.hd_carry.specs.Numbers.{renumbering};
-ghost use Rattle.hd_carry.specs.Obstacles.{copies_obstacles, copy_obstacles, hold_obstacles, kind_obstacles};
-ghost use Rattle.hd_carry.specs.Obstacles.{shelf_obstacles, titles_obstacles, where_lacking};
+ghost use Rattle.hd_carry.specs.Obstacles.{arrival_obstacles, copies_obstacles, copy_obstacles};
+ghost use Rattle.hd_carry.specs.Obstacles.{hold_obstacles, kind_obstacles, shelf_obstacles, titles_obstacles};
+ghost use Rattle.hd_carry.specs.Obstacles.{where_lacking};
 ghost use Rattle.hd_carry.specs.WriteOffs.{is_noted, without_loans};
 ghost use Rattle.hd_desk.specs.Asking.{queues_of};
 ghost use Rattle.hd_desk.specs.Desks.{desk_of, facts};
@@ -15,7 +16,7 @@ use crate::obstacle::Obstacle;
 use crate::writing_off::WriteOff;
 use hd_desk::Desk;
 use hd_queue::HoldSlices;
-use hd_rules::{BranchNo, CopyNo, CopyState, Hold, HoldKind, PatronNo, TitleNo};
+use hd_rules::{BranchNo, CopyNo, CopyState, Hold, HoldKind, PatronNo, TitleNo, Transit};
 use std::alloc::{AllocError, Allocator};
 
 /// Adds what stands in the way at the copies, by number.
@@ -47,7 +48,7 @@ fn add_at_copy<A: Allocator + Copy>(
     ensures { OnOk result (obstacles.new.items
         ≡ obstacles.old.items ++ copy_obstacles (renumbering numbers.now) copy state.now) }
 {
-    let lacks = Obstacle::CopyLacks {
+    let missing = Obstacle::MissingCopy {
         copy,
         state: *state,
     };
@@ -55,28 +56,28 @@ fn add_at_copy<A: Allocator + Copy>(
         CopyState::Shelf(branch) => add_at_shelf(numbers, copy, *branch, obstacles),
         CopyState::OnLoan(loan) => {
             let patron = loan.patron;
-            add_without_copy(numbers, copy, lacks, obstacles)?;
+            add_without_copy(numbers, copy, missing, obstacles)?;
             add_without_patron(
                 numbers,
                 patron,
-                Obstacle::BorrowerLacks { copy, patron },
+                Obstacle::MissingBorrower { copy, patron },
                 obstacles,
             )
         }
         CopyState::OnHoldShelf(place) => {
             let branch = place.branch;
-            add_without_copy(numbers, copy, lacks, obstacles)?;
+            add_without_copy(numbers, copy, missing, obstacles)?;
             add_without_branch(
                 numbers,
                 branch,
-                Obstacle::BranchOfCopy { branch, copy },
+                Obstacle::MissingBranch { branch, copy },
                 obstacles,
             )
         }
         CopyState::InTransit(transit) => {
-            add_without_copy(numbers, copy, lacks, obstacles)?;
-            add_way(numbers, copy, transit.from, obstacles)?;
-            add_way(numbers, copy, transit.to, obstacles)
+            add_without_copy(numbers, copy, missing, obstacles)?;
+            add_way_end(numbers, copy, transit.from, obstacles)?;
+            add_arrival(numbers, copy, transit, obstacles)
         }
     }
 }
@@ -96,7 +97,7 @@ fn add_at_shelf<A: Allocator + Copy>(
             add_without_branch(
                 numbers,
                 branch,
-                Obstacle::BranchOfCopy { branch, copy },
+                Obstacle::MissingBranch { branch, copy },
                 obstacles,
             )
         }
@@ -104,20 +105,36 @@ fn add_at_shelf<A: Allocator + Copy>(
     }
 }
 
-/// Adds a branch on a copy's way, where it is lacking.
-fn add_way<A: Allocator + Copy>(
+/// Adds the branch that gets a copy, where it is lacking, and another one sent the copy.
+fn add_arrival<A: Allocator + Copy>(
+    numbers: &NewNumbers<A>,
+    copy: CopyNo,
+    transit: &Transit,
+    obstacles: &mut Vec<Obstacle, A>,
+) -> Result<(), AllocError>
+    ensures { OnOk result (obstacles.new.items ≡ obstacles.old.items
+        ++ arrival_obstacles (renumbering numbers.now) copy transit.now.from transit.now.to) }
+{
+    if transit.to == transit.from {
+        return Ok(());
+    }
+    add_way_end(numbers, copy, transit.to, obstacles)
+}
+
+/// Adds a branch at an end of a copy's way, where it is lacking.
+fn add_way_end<A: Allocator + Copy>(
     numbers: &NewNumbers<A>,
     copy: CopyNo,
     branch: BranchNo,
     obstacles: &mut Vec<Obstacle, A>,
 ) -> Result<(), AllocError>
     ensures { OnOk result (obstacles.new.items ≡ obstacles.old.items
-        ++ where_lacking ((renumbering numbers.now).branch branch) (BranchOnWay branch copy)) }
+        ++ where_lacking ((renumbering numbers.now).branch branch) (MissingWayEnd branch copy)) }
 {
     add_without_branch(
         numbers,
         branch,
-        Obstacle::BranchOnWay { branch, copy },
+        Obstacle::MissingWayEnd { branch, copy },
         obstacles,
     )
 }
@@ -166,7 +183,7 @@ fn add_at_hold<A: Allocator + Copy>(
 {
     let patron = hold.patron;
     let branch = hold.pickup;
-    let pickup = Obstacle::PickupLacks {
+    let pickup = Obstacle::MissingPickup {
         branch,
         title,
         patron,
@@ -174,13 +191,13 @@ fn add_at_hold<A: Allocator + Copy>(
     add_without_title(
         numbers,
         title,
-        Obstacle::TitleLacks { title, patron },
+        Obstacle::MissingTitle { title, patron },
         obstacles,
     )?;
     add_without_patron(
         numbers,
         patron,
-        Obstacle::HolderLacks { title, patron },
+        Obstacle::MissingHolder { title, patron },
         obstacles,
     )?;
     add_without_branch(numbers, branch, pickup, obstacles)?;
@@ -201,7 +218,7 @@ fn add_only_copy<A: Allocator + Copy>(
     match kind {
         HoldKind::One(copy) => {
             let copy = *copy;
-            let only = Obstacle::OnlyCopyLacks {
+            let only = Obstacle::MissingOnlyCopy {
                 title,
                 patron,
                 copy,

@@ -2,10 +2,10 @@
 
 ghost use Rattle.std.specs.Prelude.{◌≡◌, IfOk, map};
 ghost use Rattle.std.specs.List.{concat};
-ghost use Rattle.hd_carry.specs.declared.obstacle.Obstacle.TheVariants.{BorrowerLacks, BranchOfCopy};
-ghost use Rattle.hd_carry.specs.declared.obstacle.Obstacle.TheVariants.{BranchOnWay, HolderLacks};
-ghost use Rattle.hd_carry.specs.declared.obstacle.Obstacle.TheVariants.{OnlyCopyLacks, PickupLacks};
-ghost use Rattle.hd_carry.specs.declared.obstacle.Obstacle.TheVariants.{TitleLacks};
+ghost use Rattle.hd_carry.specs.declared.obstacle.Obstacle.TheVariants.{MissingBorrower, MissingBranch};
+ghost use Rattle.hd_carry.specs.declared.obstacle.Obstacle.TheVariants.{MissingHolder, MissingOnlyCopy};
+ghost use Rattle.hd_carry.specs.declared.obstacle.Obstacle.TheVariants.{MissingPickup, MissingTitle};
+ghost use Rattle.hd_carry.specs.declared.obstacle.Obstacle.TheVariants.{MissingWayEnd};
 ghost use Rattle.hd_carry.specs.Telling.{copy_parts, obstacle_text, part_text};
 
 use crate::obstacle::Obstacle;
@@ -25,176 +25,125 @@ pub fn obstacle_text<A: Allocator + Copy>(
 ) -> Result<Vec<u8, A>, AllocError>
     ensures { IfOk result (λ text. text.items ≡ obstacle_text old.now new.now obstacle.now) }
 {
+    let teller = Teller { alloc, old, new };
     match obstacle {
-        Obstacle::CopyLacks { copy, state } => copy_lacks(alloc, old, new, *copy, state),
-        Obstacle::BorrowerLacks { copy, patron } => {
-            borrower_lacks(alloc, old, new, *copy, *patron)
-        }
-        Obstacle::HolderLacks { title, patron } => holder_lacks(alloc, old, new, *title, *patron),
-        Obstacle::TitleLacks { title, patron } => title_lacks(alloc, old, new, *title, *patron),
-        Obstacle::BranchOfCopy { branch, copy } => {
-            branch_of_copy(alloc, old, new, *branch, *copy)
-        }
-        Obstacle::BranchOnWay { branch, copy } => branch_on_way(alloc, old, new, *branch, *copy),
-        Obstacle::PickupLacks {
+        Obstacle::MissingCopy { copy, state } => teller.missing_copy(*copy, state),
+        Obstacle::MissingBorrower { copy, patron } => teller.missing_borrower(*copy, *patron),
+        Obstacle::MissingHolder { title, patron } => teller.missing_holder(*title, *patron),
+        Obstacle::MissingTitle { title, patron } => teller.missing_title(*title, *patron),
+        Obstacle::MissingBranch { branch, copy } => teller.missing_branch(*branch, *copy),
+        Obstacle::MissingWayEnd { branch, copy } => teller.missing_way_end(*branch, *copy),
+        Obstacle::MissingPickup {
             branch,
             title,
             patron,
-        } => pickup_lacks(alloc, old, new, *branch, *title, *patron),
-        Obstacle::OnlyCopyLacks {
+        } => teller.missing_pickup(*branch, *title, *patron),
+        Obstacle::MissingOnlyCopy {
             title,
             patron,
             copy,
-        } => only_copy_lacks(alloc, old, new, *title, *patron, *copy),
-        Obstacle::NumbersUsedUp => {
-            text_of(alloc, old, new, &[Part::Words(b"the numbers are used up")])
-        }
+        } => teller.missing_only_copy(*title, *patron, *copy),
+        Obstacle::NumbersUsedUp => teller.text_of(&[Part::Words(b"the numbers are used up")]),
     }
 }
 
-/// The text of a patron with a loan who is lacking.
-fn borrower_lacks<A: Allocator + Copy>(
+/// Who tells obstacles: the catalogues whose names are told.
+#[derive(Drop)]
+struct Teller<'a, A: Allocator + Copy> {
     alloc: A,
-    old: &Catalogue<A>,
-    new: &Catalogue<A>,
-    copy: CopyNo,
-    patron: PatronNo,
-) -> Result<Vec<u8, A>, AllocError>
-    ensures { IfOk result
-        (λ text. text.items ≡ obstacle_text old.now new.now (BorrowerLacks copy patron)) }
-{
-    text_of(
-        alloc,
-        old,
-        new,
-        &[
+    old: &'a Catalogue<A>,
+    new: &'a Catalogue<A>,
+}
+
+impl<'a, A: Allocator + Copy> Teller<'a, A> {
+    /// The text of a patron with a loan who is missing.
+    fn missing_borrower(&self, copy: CopyNo, patron: PatronNo) -> Result<Vec<u8, A>, AllocError>
+        ensures { IfOk result
+            (λ text. text.items
+            ≡ obstacle_text self.now.old.now self.now.new.now (MissingBorrower copy patron)) }
+    {
+        self.text_of(&[
             Part::Words(b"patron "),
             Part::Patron(patron),
             Part::Words(b" has copy "),
             Part::Copy(copy),
             Part::Words(b" on loan"),
             Part::Words(LACKS_THEM),
-        ],
-    )
-}
+        ])
+    }
 
-/// The text of a patron with a hold who is lacking.
-fn holder_lacks<A: Allocator + Copy>(
-    alloc: A,
-    old: &Catalogue<A>,
-    new: &Catalogue<A>,
-    title: TitleNo,
-    patron: PatronNo,
-) -> Result<Vec<u8, A>, AllocError>
-    ensures { IfOk result
-        (λ text. text.items ≡ obstacle_text old.now new.now (HolderLacks title patron)) }
-{
-    text_of(
-        alloc,
-        old,
-        new,
-        &[
+    /// The text of a patron with a hold who is missing.
+    fn missing_holder(&self, title: TitleNo, patron: PatronNo) -> Result<Vec<u8, A>, AllocError>
+        ensures { IfOk result
+            (λ text. text.items
+            ≡ obstacle_text self.now.old.now self.now.new.now (MissingHolder title patron)) }
+    {
+        self.text_of(&[
             Part::Words(b"patron "),
             Part::Patron(patron),
             Part::Words(b" holds title "),
             Part::Title(title),
             Part::Words(LACKS_THEM),
-        ],
-    )
-}
+        ])
+    }
 
-/// The text of a title with a hold that is lacking.
-fn title_lacks<A: Allocator + Copy>(
-    alloc: A,
-    old: &Catalogue<A>,
-    new: &Catalogue<A>,
-    title: TitleNo,
-    patron: PatronNo,
-) -> Result<Vec<u8, A>, AllocError>
-    ensures { IfOk result
-        (λ text. text.items ≡ obstacle_text old.now new.now (TitleLacks title patron)) }
-{
-    text_of(
-        alloc,
-        old,
-        new,
-        &[
+    /// The text of a title with a hold that is missing.
+    fn missing_title(&self, title: TitleNo, patron: PatronNo) -> Result<Vec<u8, A>, AllocError>
+        ensures { IfOk result
+            (λ text. text.items
+            ≡ obstacle_text self.now.old.now self.now.new.now (MissingTitle title patron)) }
+    {
+        self.text_of(&[
             Part::Words(b"title "),
             Part::Title(title),
             Part::Words(b" is held by "),
             Part::Patron(patron),
             Part::Words(LACKS_IT),
-        ],
-    )
-}
+        ])
+    }
 
-/// The text of a branch with a copy that is lacking.
-fn branch_of_copy<A: Allocator + Copy>(
-    alloc: A,
-    old: &Catalogue<A>,
-    new: &Catalogue<A>,
-    branch: BranchNo,
-    copy: CopyNo,
-) -> Result<Vec<u8, A>, AllocError>
-    ensures { IfOk result
-        (λ text. text.items ≡ obstacle_text old.now new.now (BranchOfCopy branch copy)) }
-{
-    text_of(
-        alloc,
-        old,
-        new,
-        &[
+    /// The text of a branch with a copy that is missing.
+    fn missing_branch(&self, branch: BranchNo, copy: CopyNo) -> Result<Vec<u8, A>, AllocError>
+        ensures { IfOk result
+            (λ text. text.items
+            ≡ obstacle_text self.now.old.now self.now.new.now (MissingBranch branch copy)) }
+    {
+        self.text_of(&[
             Part::Words(b"branch "),
             Part::Branch(branch),
             Part::Words(b" has copy "),
             Part::Copy(copy),
             Part::Words(LACKS_IT),
-        ],
-    )
-}
+        ])
+    }
 
-/// The text of a branch on a copy's way that is lacking.
-fn branch_on_way<A: Allocator + Copy>(
-    alloc: A,
-    old: &Catalogue<A>,
-    new: &Catalogue<A>,
-    branch: BranchNo,
-    copy: CopyNo,
-) -> Result<Vec<u8, A>, AllocError>
-    ensures { IfOk result
-        (λ text. text.items ≡ obstacle_text old.now new.now (BranchOnWay branch copy)) }
-{
-    text_of(
-        alloc,
-        old,
-        new,
-        &[
+    /// The text of a branch at an end of a copy's way that is missing.
+    fn missing_way_end(&self, branch: BranchNo, copy: CopyNo) -> Result<Vec<u8, A>, AllocError>
+        ensures { IfOk result
+            (λ text. text.items
+            ≡ obstacle_text self.now.old.now self.now.new.now (MissingWayEnd branch copy)) }
+    {
+        self.text_of(&[
             Part::Words(b"branch "),
             Part::Branch(branch),
             Part::Words(b" is on the way of copy "),
             Part::Copy(copy),
             Part::Words(LACKS_IT),
-        ],
-    )
-}
+        ])
+    }
 
-/// The text of a pickup that is lacking.
-fn pickup_lacks<A: Allocator + Copy>(
-    alloc: A,
-    old: &Catalogue<A>,
-    new: &Catalogue<A>,
-    branch: BranchNo,
-    title: TitleNo,
-    patron: PatronNo,
-) -> Result<Vec<u8, A>, AllocError>
-    ensures { IfOk result
-        (λ text. text.items ≡ obstacle_text old.now new.now (PickupLacks branch title patron)) }
-{
-    text_of(
-        alloc,
-        old,
-        new,
-        &[
+    /// The text of a pickup that is missing.
+    fn missing_pickup(
+        &self,
+        branch: BranchNo,
+        title: TitleNo,
+        patron: PatronNo,
+    ) -> Result<Vec<u8, A>, AllocError>
+        ensures { IfOk result
+            (λ text. text.items
+            ≡ obstacle_text self.now.old.now self.now.new.now (MissingPickup branch title patron)) }
+    {
+        self.text_of(&[
             Part::Words(b"branch "),
             Part::Branch(branch),
             Part::Words(b" is the pickup of "),
@@ -202,27 +151,21 @@ fn pickup_lacks<A: Allocator + Copy>(
             Part::Words(b"'s hold of "),
             Part::Title(title),
             Part::Words(LACKS_IT),
-        ],
-    )
-}
+        ])
+    }
 
-/// The text of the one copy that a hold admits, and that is lacking.
-fn only_copy_lacks<A: Allocator + Copy>(
-    alloc: A,
-    old: &Catalogue<A>,
-    new: &Catalogue<A>,
-    title: TitleNo,
-    patron: PatronNo,
-    copy: CopyNo,
-) -> Result<Vec<u8, A>, AllocError>
-    ensures { IfOk result
-        (λ text. text.items ≡ obstacle_text old.now new.now (OnlyCopyLacks title patron copy)) }
-{
-    text_of(
-        alloc,
-        old,
-        new,
-        &[
+    /// The text of the one copy that a hold admits, and that is missing.
+    fn missing_only_copy(
+        &self,
+        title: TitleNo,
+        patron: PatronNo,
+        copy: CopyNo,
+    ) -> Result<Vec<u8, A>, AllocError>
+        ensures { IfOk result
+            (λ text. text.items
+            ≡ obstacle_text self.now.old.now self.now.new.now (MissingOnlyCopy title patron copy)) }
+    {
+        self.text_of(&[
             Part::Words(b"the hold of "),
             Part::Title(title),
             Part::Words(b" by "),
@@ -231,51 +174,30 @@ fn only_copy_lacks<A: Allocator + Copy>(
             Part::Copy(copy),
             Part::Words(b" alone"),
             Part::Why(copy),
-        ],
-    )
-}
+        ])
+    }
 
-/// The text of a copy that is lacking, with its place.
-fn copy_lacks<A: Allocator + Copy>(
-    alloc: A,
-    old: &Catalogue<A>,
-    new: &Catalogue<A>,
-    copy: CopyNo,
-    state: &CopyState,
-) -> Result<Vec<u8, A>, AllocError>
-    ensures { IfOk result
-        (λ text. text.items ≡ concat (copy_parts old.now new.now copy state.now)) }
-{
-    match state {
-        CopyState::Shelf(branch) => text_of(
-            alloc,
-            old,
-            new,
-            &[
+    /// The text of a copy that is missing, with its place.
+    fn missing_copy(&self, copy: CopyNo, state: &CopyState) -> Result<Vec<u8, A>, AllocError>
+        ensures { IfOk result
+            (λ text. text.items ≡ concat (copy_parts self.now.old.now self.now.new.now copy state.now)) }
+    {
+        match state {
+            CopyState::Shelf(branch) => self.text_of(&[
                 Part::Words(b"copy "),
                 Part::Copy(copy),
                 Part::Words(b" is at "),
                 Part::Branch(*branch),
                 Part::Why(copy),
-            ],
-        ),
-        CopyState::OnLoan(loan) => text_of(
-            alloc,
-            old,
-            new,
-            &[
+            ]),
+            CopyState::OnLoan(loan) => self.text_of(&[
                 Part::Words(b"copy "),
                 Part::Copy(copy),
                 Part::Words(b" is on loan to "),
                 Part::Patron(loan.patron),
                 Part::Why(copy),
-            ],
-        ),
-        CopyState::OnHoldShelf(place) => text_of(
-            alloc,
-            old,
-            new,
-            &[
+            ]),
+            CopyState::OnHoldShelf(place) => self.text_of(&[
                 Part::Words(b"copy "),
                 Part::Copy(copy),
                 Part::Words(b" is kept for "),
@@ -283,36 +205,26 @@ fn copy_lacks<A: Allocator + Copy>(
                 Part::Words(b" at "),
                 Part::Branch(place.branch),
                 Part::Why(copy),
-            ],
-        ),
-        CopyState::InTransit(transit) => text_of(
-            alloc,
-            old,
-            new,
-            &[
+            ]),
+            CopyState::InTransit(transit) => self.text_of(&[
                 Part::Words(b"copy "),
                 Part::Copy(copy),
                 Part::Words(b" is on its way to "),
                 Part::Branch(transit.to),
                 Part::Why(copy),
-            ],
-        ),
+            ]),
+        }
     }
-}
 
-/// The parts' texts, one behind the other.
-fn text_of<A: Allocator + Copy>(
-    alloc: A,
-    old: &Catalogue<A>,
-    new: &Catalogue<A>,
-    parts: &[Part],
-) -> Result<Vec<u8, A>, AllocError>
-    ensures { IfOk result
-        (λ text. text.items ≡ concat (map (part_text old.now new.now) parts.now)) }
-{
-    let mut text = Vec::new(alloc);
-    for part in parts {
-        add_part(old, new, part, &mut text)?;
+    /// The parts' texts, one behind the other.
+    fn text_of(&self, parts: &[Part]) -> Result<Vec<u8, A>, AllocError>
+        ensures { IfOk result (λ text. text.items
+            ≡ concat (map (part_text self.now.old.now self.now.new.now) parts.now)) }
+    {
+        let mut text = Vec::new(self.alloc);
+        for part in parts {
+            add_part(self.old, self.new, part, &mut text)?;
+        }
+        Ok(text)
     }
-    Ok(text)
 }

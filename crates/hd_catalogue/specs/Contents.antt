@@ -1,7 +1,7 @@
 -- What a catalogue says: a list for each kind of name, and how its journal begins. A name's
 -- number is its place, from 0, in the order of first appearance.
-use Rattle.std.specs.Prelude.{◌≡◌, ℕ, ◌+◌, ◌<◌, ◌≤◌, Bool, true, false, List, [], All, length, Option, None, Some}
-use Rattle.std.specs.Prelude.{if◌then◌else◌, option_and_then}
+use Rattle.std.specs.Prelude.{◌≡◌, ℕ, ◌+◌, ◌<◌, ◌≤◌, Bool, true, false, List, [], All, length, Option, None}
+use Rattle.std.specs.Prelude.{Some, if◌then◌else◌, option_and_then}
 use Rattle.std.specs.Option.{option_map_or}
 use Rattle.std.specs.Str.{bytes_eq}
 use Rattle.hd_catalogue.specs.Text.{is_name}

@@ -57,8 +57,8 @@ impl<A: Allocator + Copy> Catalogue<A> {
         self.last
     }
 
-    /// The same catalogue with a journal that begins so: the rows tell its desk, and `last` is the last number
-    /// that was given before. Whether the rows tell a sound desk isn't asked here. It takes no memory.
+    /// The same catalogue with a journal that begins so: the rows tell its desk, and `last` is the last
+    /// number that was given before. Whether the rows tell a sound desk isn't asked here. It takes no memory.
     ///
     /// # Errors
     /// `Last` where that number is too high, and else `Row` where a row doesn't fit.

@@ -1,7 +1,12 @@
-//! Commands, as they are put together.
+//! The program's commands, put together from their words.
 
-use clap::{Arg, ArgGroup, Command};
-use std::alloc::AllocError;
+use crate::commands::{COMMANDS, JOURNAL_COMMANDS};
+use crate::journal_texts::JOURNAL_ABOUT;
+use crate::texts::{ABOUT, VERSION};
+use crate::words::{CommandWords, GroupWords, Need, Number, OptionWords, Value};
+use clap::builder::ValueParser;
+use clap::{Arg, ArgAction, ArgGroup, Command};
+use std::alloc::{AllocError, Global};
 
 /// A command that is put together. Want of memory may end that after each part, and drops what there is by
 /// then.
@@ -17,15 +22,10 @@ impl<'a> Drop for Building<'a> {
 }
 
 impl<'a> Building<'a> {
-    /// Begins with a command.
-    pub(crate) fn of(command: Command<'a>) -> Building<'a> {
-        Building { command }
-    }
-
     /// Adds an option.
     ///
     /// It fails where it is out of memory.
-    pub(crate) fn arg(self, arg: Arg<'a>) -> Result<Building<'a>, AllocError> {
+    fn arg(self, arg: Arg<'a>) -> Result<Building<'a>, AllocError> {
         match self.into_command().arg(arg) {
             Ok(command) => Ok(Building { command }),
             Err(error) => Err(error),
@@ -35,7 +35,7 @@ impl<'a> Building<'a> {
     /// Adds a group of options.
     ///
     /// It fails where it is out of memory.
-    pub(crate) fn group(self, group: ArgGroup<'a>) -> Result<Building<'a>, AllocError> {
+    fn group(self, group: ArgGroup<'a>) -> Result<Building<'a>, AllocError> {
         match self.into_command().group(group) {
             Ok(command) => Ok(Building { command }),
             Err(error) => Err(error),
@@ -45,7 +45,7 @@ impl<'a> Building<'a> {
     /// Adds a command below this one.
     ///
     /// It fails where it is out of memory.
-    pub(crate) fn subcommand(self, below: Building<'a>) -> Result<Building<'a>, AllocError> {
+    fn subcommand(self, below: Building<'a>) -> Result<Building<'a>, AllocError> {
         match self.into_command().subcommand(below.into_command()) {
             Ok(command) => Ok(Building { command }),
             Err(error) => Err(error),
@@ -57,4 +57,110 @@ impl<'a> Building<'a> {
         let Building { command } = self;
         command
     }
+}
+
+/// The program with its commands.
+pub(crate) fn program<'a>(alloc: Global) -> Result<Building<'a>, AllocError> {
+    let command = Command::new(alloc, "holddesk").version(VERSION);
+    let program = with_commands(alloc, above(command, ABOUT), &COMMANDS)?;
+    let command = Command::new(alloc, "journal");
+    program.subcommand(with_commands(alloc, above(command, JOURNAL_ABOUT), &JOURNAL_COMMANDS)?)
+}
+
+/// A command of which one below it has to be named, and what these do in a line.
+fn above<'a>(command: Command<'a>, about: &'a str) -> Building<'a> {
+    let command = command
+        .about(about)
+        .subcommand_required(true)
+        .arg_required_else_help(true);
+    Building { command }
+}
+
+/// A command with these below it.
+fn with_commands<'a>(
+    alloc: Global,
+    above: Building<'a>,
+    below: &[CommandWords],
+) -> Result<Building<'a>, AllocError> {
+    let mut command = above;
+    for words in below {
+        let next = command_of(alloc, words)?;
+        command = command.subcommand(next)?;
+    }
+    Ok(command)
+}
+
+/// The command with these words.
+fn command_of<'a>(alloc: Global, words: &CommandWords) -> Result<Building<'a>, AllocError> {
+    let command = Command::new(alloc, words.name)
+        .about(words.about)
+        .long_about(words.long_about)
+        .after_help(words.example);
+    let command = with_options(alloc, Building { command }, words.options)?;
+    match words.group {
+        Some(group) => command.group(group_of(alloc, &group)?),
+        None => Ok(command),
+    }
+}
+
+/// A command with these options.
+fn with_options<'a>(
+    alloc: Global,
+    command: Building<'a>,
+    options: &[OptionWords],
+) -> Result<Building<'a>, AllocError> {
+    let mut command = command;
+    for words in options {
+        command = command.arg(option_of(alloc, words)?)?;
+    }
+    Ok(command)
+}
+
+/// The option with these words.
+fn option_of<'a>(alloc: Global, words: &OptionWords) -> Result<Arg<'a>, AllocError> {
+    let option = Arg::new(alloc, words.name)
+        .long(words.name)
+        .help(words.help);
+    needed(valued(option, words.value), words.need)?.conflicts_with_all(words.conflicts)
+}
+
+/// An option with what stands behind it.
+fn valued<'a>(option: Arg<'a>, value: Value) -> Arg<'a> {
+    match value {
+        Value::Nothing => option.action(ArgAction::SetTrue),
+        Value::Text(name) => option.value_name(name).action(ArgAction::Set),
+        Value::Number(number) => numbered(option, &number),
+    }
+}
+
+/// An option with a number behind it.
+fn numbered<'a>(option: Arg<'a>, number: &Number) -> Arg<'a> {
+    let option = bounded(option.value_name(number.name), number);
+    match number.default {
+        Some(default) => option.default_value(default),
+        None => option,
+    }
+}
+
+/// An option with a number of these bounds behind it.
+fn bounded<'a>(option: Arg<'a>, number: &Number) -> Arg<'a> {
+    let bounds = ValueParser::signed(i64::from(number.least), i64::from(number.most));
+    option.action(ArgAction::Set).value_parser(bounds)
+}
+
+/// An option that has to be there then.
+fn needed<'a>(option: Arg<'a>, need: Need) -> Result<Arg<'a>, AllocError> {
+    match need {
+        Need::Never => Ok(option),
+        Need::Always => Ok(option.required(true)),
+        Need::Without(other) => option.required_unless_present(other),
+        Need::OnlyWith(group) => option.requires_arg(group),
+    }
+}
+
+/// The group with these words.
+fn group_of<'a>(alloc: Global, words: &GroupWords) -> Result<ArgGroup<'a>, AllocError> {
+    ArgGroup::new(alloc, words.name)
+        .required(words.is_required)
+        .args(words.options)
 }

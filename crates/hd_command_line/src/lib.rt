@@ -10,6 +10,7 @@ mod orders;
 mod parsing;
 mod show_texts;
 mod texts;
+mod words;
 
 pub use crate::journal_texts::VIEWS;
 pub use crate::orders::{

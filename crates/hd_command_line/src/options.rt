@@ -1,156 +1,227 @@
 //! The options of the program's commands.
 
-use clap::{Arg, ArgAction, value_parser};
-use std::alloc::{AllocError, Global};
+use crate::words::{Need, Number, OptionWords, Value};
 
-/// The option of the address to listen at.
-pub(crate) fn listen<'a>(alloc: Global) -> Arg<'a> {
-    Arg::new(alloc, "listen")
-        .long("listen")
-        .value_name("ADDRESS")
-        .help("The IP address and port to listen at, as 127.0.0.1:6001; names are not looked up")
-        .required(true)
-        .action(ArgAction::Set)
-}
+/// An option without words, of which those below name the ones that they have.
+const PLAIN: OptionWords = OptionWords {
+    name: "",
+    value: Value::Nothing,
+    help: "",
+    need: Need::Never,
+    conflicts: &[],
+};
 
-/// The option of how many connections are served at once.
-pub(crate) fn workers<'a>(alloc: Global) -> Arg<'a> {
-    Arg::new(alloc, "workers")
-        .long("workers")
-        .value_name("N")
-        .help("How many connections are served at once, 1 to 64")
-        .required(true)
-        .action(ArgAction::Set)
-        .value_parser(value_parser!(u32).range(1..65))
-}
+/// The catalogue file.
+const CATALOGUE: OptionWords = OptionWords {
+    name: "catalogue",
+    value: Value::Text("FILE"),
+    help: "The file of the library's branches, terminals, patrons, titles and copies",
+    ..PLAIN
+};
 
-/// The option of how many connections there are to be.
-pub(crate) fn connections<'a>(alloc: Global) -> Arg<'a> {
-    Arg::new(alloc, "connections")
-        .long("connections")
-        .value_name("K")
-        .help("After how many connections to end; 0: never")
-        .action(ArgAction::Set)
-        .value_parser(value_parser!(u32))
-        .default_value("0")
-}
+/// The catalogue file, where there may be no folder in its place.
+pub(crate) const CATALOGUE_ALWAYS: OptionWords = OptionWords {
+    need: Need::Always,
+    ..CATALOGUE
+};
 
-/// The option of how long a connection may be silent.
-pub(crate) fn idle<'a>(alloc: Global) -> Arg<'a> {
-    Arg::new(alloc, "idle")
-        .long("idle")
-        .value_name("SECONDS")
-        .help("How long a connection may be silent before it is dropped, up to 86400; 0: for ever")
-        .action(ArgAction::Set)
-        .value_parser(value_parser!(u32).range(0..86_401))
-        .default_value("600")
-}
+/// The catalogue file, or else a folder.
+pub(crate) const CATALOGUE_OR_FOLDER: OptionWords = OptionWords {
+    need: Need::Without("library"),
+    ..CATALOGUE
+};
 
-/// The option that has the journal's file synced twice a turn.
-pub(crate) fn wary<'a>(alloc: Global) -> Arg<'a> {
-    Arg::new(alloc, "journal-wary")
-        .long("journal-wary")
-        .help("Sync the journal's file twice a turn, for disks that may tear a write")
-        .action(ArgAction::SetTrue)
-}
+/// The opening file.
+pub(crate) const OPENING: OptionWords = OptionWords {
+    name: "opening",
+    value: Value::Text("FILE"),
+    help: "The file of how the journal begins, which `carry` has written; without it each copy is at home",
+    ..PLAIN
+};
 
-/// The option of the present.
-pub(crate) fn now<'a>(alloc: Global) -> Arg<'a> {
-    Arg::new(alloc, "now")
-        .long("now")
-        .value_name("DATE")
-        .help("The present: 18 bytes, YYYYMMDD, four blanks (or three and Z), HHMMSS")
-        .required(true)
-        .action(ArgAction::Set)
-}
+/// A library's folder, beside a catalogue file that is copied into it.
+pub(crate) const FOLDER: OptionWords = OptionWords {
+    name: "library",
+    value: Value::Text("DIR"),
+    help: "The folder of a library's numbered files, of which the last complete ones are meant",
+    conflicts: &["opening", "journal"],
+    ..PLAIN
+};
 
-/// The option of a library's folder, in the place of its files.
-///
-/// It fails where it is out of memory.
-pub(crate) fn library<'a>(alloc: Global) -> Result<Arg<'a>, AllocError> {
-    Ok(folder(alloc)?.conflicts_with("catalogue")?)
-}
+/// A library's folder, in the place of its files.
+pub(crate) const LIBRARY: OptionWords = OptionWords {
+    conflicts: &["opening", "journal", "catalogue"],
+    ..FOLDER
+};
 
-/// The option of a library's folder.
-///
-/// It fails where it is out of memory.
-pub(crate) fn folder<'a>(alloc: Global) -> Result<Arg<'a>, AllocError> {
-    Arg::new(alloc, "library")
-        .long("library")
-        .value_name("DIR")
-        .help("The folder of a library's numbered files, of which the last complete ones are meant")
-        .action(ArgAction::Set)
-        .conflicts_with("opening")?
-        .conflicts_with("journal")
-}
+/// The journal's file.
+pub(crate) const JOURNAL: OptionWords = OptionWords {
+    name: "journal",
+    value: Value::Text("FILE"),
+    help: "The SQLite file of the journal, which outlives a stop; its log is FILE-wal",
+    ..PLAIN
+};
 
-/// The option of the opening file.
-pub(crate) fn opening<'a>(alloc: Global) -> Arg<'a> {
-    Arg::new(alloc, "opening")
-        .long("opening")
-        .value_name("FILE")
-        .help(
-            "The file of how the journal begins, which `carry` has written; without it each copy is at home",
-        )
-        .action(ArgAction::Set)
-}
+/// The journal's file, or else a folder.
+pub(crate) const JOURNAL_OR_FOLDER: OptionWords = OptionWords {
+    need: Need::Without("library"),
+    ..JOURNAL
+};
 
-/// The option of the journal's file.
-pub(crate) fn journal<'a>(alloc: Global) -> Arg<'a> {
-    Arg::new(alloc, "journal")
-        .long("journal")
-        .value_name("FILE")
-        .help("The SQLite file of the journal, which outlives a stop; its log is FILE-wal")
-        .action(ArgAction::Set)
-}
+/// The present.
+pub(crate) const NOW: OptionWords = OptionWords {
+    name: "now",
+    value: Value::Text("DATE"),
+    help: "The present: 18 bytes, YYYYMMDD, four blanks (or three and Z), HHMMSS",
+    need: Need::Always,
+    ..PLAIN
+};
 
-/// The option that accepts another catalogue.
-pub(crate) fn accept_catalogue<'a>(alloc: Global) -> Arg<'a> {
-    Arg::new(alloc, "accept-catalogue")
-        .long("accept-catalogue")
-        .help(
-            "Accept a journal of another catalogue, where each turn is answered the same with this one",
-        )
-        .action(ArgAction::SetTrue)
-}
+/// The address to listen at.
+pub(crate) const LISTEN: OptionWords = OptionWords {
+    name: "listen",
+    value: Value::Text("ADDRESS"),
+    help: "The IP address and port to listen at, as 127.0.0.1:6001; names are not looked up",
+    need: Need::Always,
+    ..PLAIN
+};
 
-/// The option of the catalogue file.
-pub(crate) fn catalogue<'a>(alloc: Global) -> Arg<'a> {
-    Arg::new(alloc, "catalogue")
-        .long("catalogue")
-        .value_name("FILE")
-        .help("The file of the library's branches, terminals, patrons, titles and copies")
-        .action(ArgAction::Set)
-}
+/// How many connections are served at once.
+pub(crate) const WORKERS: OptionWords = OptionWords {
+    name: "workers",
+    value: Value::Number(Number {
+        name: "N",
+        least: 1,
+        most: 64,
+        default: None,
+    }),
+    help: "How many connections are served at once, 1 to 64",
+    need: Need::Always,
+    ..PLAIN
+};
 
-/// The option of the new catalogue file.
-pub(crate) fn to<'a>(alloc: Global) -> Arg<'a> {
-    Arg::new(alloc, "to")
-        .long("to")
-        .value_name("FILE")
-        .help("The new catalogue file, which may be the old one")
-        .required(true)
-        .action(ArgAction::Set)
-}
+/// How many connections there are to be.
+pub(crate) const CONNECTIONS: OptionWords = OptionWords {
+    name: "connections",
+    value: Value::Number(Number {
+        name: "K",
+        least: 0,
+        most: u32::MAX,
+        default: Some("0"),
+    }),
+    help: "After how many connections to end; 0: never",
+    ..PLAIN
+};
 
-/// The option of the opening file that is to be.
-///
-/// It fails where it is out of memory.
-pub(crate) fn into<'a>(alloc: Global) -> Result<Arg<'a>, AllocError> {
-    Arg::new(alloc, "into")
-        .long("into")
-        .value_name("FILE")
-        .help("The opening file to write, which isn't there yet")
-        .action(ArgAction::Set)
-        .conflicts_with("library")?
-        .required_unless_present("library")
-}
+/// How long a connection may be silent.
+pub(crate) const IDLE: OptionWords = OptionWords {
+    name: "idle",
+    value: Value::Number(Number {
+        name: "SECONDS",
+        least: 0,
+        most: 86_400,
+        default: Some("600"),
+    }),
+    help: "How long a connection may be silent before it is dropped, up to 86400; 0: for ever",
+    ..PLAIN
+};
 
-/// The option of the copies whose loans are dropped.
-pub(crate) fn write_off<'a>(alloc: Global) -> Arg<'a> {
-    Arg::new(alloc, "write-off")
-        .long("write-off")
-        .value_name("FILE")
-        .help("A file with a copy's name in each line: the loans of these are dropped, and told")
-        .action(ArgAction::Set)
-}
+/// That the journal's file is synced twice a turn.
+pub(crate) const WARY: OptionWords = OptionWords {
+    name: "journal-wary",
+    help: "Sync the journal's file twice a turn, for disks that may tear a write",
+    need: Need::OnlyWith("kept"),
+    ..PLAIN
+};
+
+/// That another catalogue is accepted.
+pub(crate) const ACCEPT_CATALOGUE: OptionWords = OptionWords {
+    name: "accept-catalogue",
+    help: "Accept a journal of another catalogue, where each turn is answered the same with this one",
+    ..PLAIN
+};
+
+/// That another catalogue is accepted, where the journal is kept in a file.
+pub(crate) const ACCEPT_CATALOGUE_OF_KEPT: OptionWords = OptionWords {
+    need: Need::OnlyWith("kept"),
+    ..ACCEPT_CATALOGUE
+};
+
+/// The new catalogue file.
+pub(crate) const TO: OptionWords = OptionWords {
+    name: "to",
+    value: Value::Text("FILE"),
+    help: "The new catalogue file, which may be the old one",
+    need: Need::Always,
+    ..PLAIN
+};
+
+/// The opening file that is to be.
+pub(crate) const INTO: OptionWords = OptionWords {
+    name: "into",
+    value: Value::Text("FILE"),
+    help: "The opening file to write, which isn't there yet",
+    need: Need::Without("library"),
+    conflicts: &["library"],
+};
+
+/// The copies whose loans are dropped.
+pub(crate) const WRITE_OFF: OptionWords = OptionWords {
+    name: "write-off",
+    value: Value::Text("FILE"),
+    help: "A file with a copy's name in each line: the loans of these are dropped, and told",
+    ..PLAIN
+};
+
+/// All copies.
+pub(crate) const COPIES: OptionWords = OptionWords {
+    name: "copies",
+    help: "All copies: where each is, and who has it",
+    ..PLAIN
+};
+
+/// The queue of a title.
+pub(crate) const QUEUE: OptionWords = OptionWords {
+    name: "queue",
+    value: Value::Text("TITLE"),
+    help: "The holds of this title, in order",
+    ..PLAIN
+};
+
+/// The hold shelf of a branch.
+pub(crate) const SHELF: OptionWords = OptionWords {
+    name: "shelf",
+    value: Value::Text("BRANCH"),
+    help: "The hold shelf of this branch, by place",
+    ..PLAIN
+};
+
+/// The copies that are on their way.
+pub(crate) const TRANSITS: OptionWords = OptionWords {
+    name: "transits",
+    help: "The copies on their way between branches",
+    ..PLAIN
+};
+
+/// The loans that were due before a day.
+pub(crate) const OVERDUE: OptionWords = OptionWords {
+    name: "overdue",
+    value: Value::Text("DAY"),
+    help: "The loans due before this day, as 2026-03-01",
+    ..PLAIN
+};
+
+/// The holds whose last day was before a day.
+pub(crate) const EXPIRED: OptionWords = OptionWords {
+    name: "expired",
+    value: Value::Text("DAY"),
+    help: "The holds whose last day was before this day",
+    ..PLAIN
+};
+
+/// That a list is printed as JSON.
+pub(crate) const JSON: OptionWords = OptionWords {
+    name: "json",
+    help: "Print JSON, an object for each line of the list",
+    ..PLAIN
+};

@@ -1,6 +1,6 @@
 //! Reading the words of the command line.
 
-use crate::commands::program;
+use crate::building::program;
 use crate::orders::{
     Carry, Check, JournalBegin, JournalCheck, JournalShow, JournalViews, LibraryFiles, Listing,
     Order, Place, Replay, Serve,

@@ -1,7 +1,4 @@
-//! What the help of `journal show` says, and its options.
-
-use clap::{Arg, ArgAction};
-use std::alloc::Global;
+//! What the help of `journal show` says.
 
 /// What `journal show` does, in a line.
 pub(crate) const JOURNAL_SHOW_ABOUT: &str =
@@ -27,20 +24,3 @@ pub(crate) const JOURNAL_SHOW_EXAMPLE: &str = "Example:
 Exit status: 0 well; 1 a fault, printed as one line (`there is no title NAME`, `there is no branch NAME`, `DAY
 is no day`, and those of a journal's file, which docs/operating.md has with what to do); 2 the command line
 was refused.";
-
-/// An option that has no value.
-pub(crate) fn flag<'a>(alloc: Global, name: &'a str, help: &'a str) -> Arg<'a> {
-    Arg::new(alloc, name)
-        .long(name)
-        .help(help)
-        .action(ArgAction::SetTrue)
-}
-
-/// An option with a value.
-pub(crate) fn named<'a>(alloc: Global, name: &'a str, value: &'a str, help: &'a str) -> Arg<'a> {
-    Arg::new(alloc, name)
-        .long(name)
-        .value_name(value)
-        .help(help)
-        .action(ArgAction::Set)
-}

@@ -1,11 +1,11 @@
 -- The answers of the indexes are those of the rules.
-use Rattle.std.proofs.Common.{◌≡◌, ◌≢◌, ℕ, ◌<◌, ◌≤◌, ◌==◌, ◌&&◌, Bool, true, false, nat_lt, Option, None, Some, List, get_or, refl, ap, sym}
+use Rattle.std.proofs.Common.{◌≡◌, ◌≢◌, ℕ, zero, suc, ◌+◌, ◌<◌, ◌≤◌, ◌==◌, ◌&&◌, Bool, true, false, nat_lt, Option, None, Some, List, get_or, refl, ap, sym}
 use Rattle.std.proofs.Common.{◌∙◌, inl, inr, arith, eq-eqb}
 use mir.Val.{bool_byte}
 use Rattle.std.proofs.lemmas.Bool.{cases_lt, ne_eqb}
 use Rattle.std.proofs.lemmas.Bool.Decides.{nat_tests}
 use Rattle.std.specs.Prelude.{MatchOption}
-use Rattle.std.specs.List.{slice_get}
+use Rattle.std.specs.List.{slice_get, filter, range_with_len}
 use Rattle.std.specs.FinMap.{get}
 use Rattle.hd_rules.specs.declared.holds.HoldKind.{HoldKind}
 use Rattle.hd_rules.specs.declared.holds.HoldKind.TheVariants.{Any, One, AtBranch}
@@ -18,10 +18,11 @@ use Rattle.hd_rules.specs.Find.{place}
 use Rattle.hd_rules.specs.Laws.{PlaceIsTheLeastFree}
 use Rattle.hd_shelf.specs.Shelf.{LeastFree as IsLeast}
 use Rattle.hd_loans.specs.Counts.{is_loan_to, loans_of}
+use Rattle.hd_loans.specs.Lent.{lent_to as lent_by}
 use Rattle.hd_lemmas.proofs.Counts.{one, count_below-changed, count_below-none, count_below-same}
 use Rattle.hd_stock.specs.Counts.{of_home, of_title}
 use Rattle.hd_copies.specs.IndexesValue.{IndexesValue}
-use Rattle.hd_copies.specs.Standing.{AreStates, IsFree, StandsAt, stands_ready, state_in}
+use Rattle.hd_copies.specs.Standing.{AreStates, IsFree, StandsAt, lent_to, stands_ready, state_in}
 use Rattle.hd_copies.specs.Indexing.{copy_at, is_placed, is_on_open_shelf, loan_of, no_shelf, shelf_count}
 use Rattle.hd_copies.specs.Keeping.{AreKept}
 use Rattle.hd_copies.proofs.Moving.{found_in}
@@ -47,6 +48,23 @@ loans-are k states x d p count kept e is = is ∙ ap (count_below (λ c. is_loan
     ∙ count_below-same (λ n. is_lent_to p (d.copy n)) (λ c. is_loan_to p (get x.loans.loans c)) k.copies
     (λ n l. ap (is_loan_to p) (kept.indexed.loans.loan n)
     ∙ ap (λ (o : Option CopyState). is_loan_to p (loan_of o)) (at_desk k states d kept.fit e n l) ∙ lent p (d.copy n))
+
+-- tests that agree keep the same numbers of a row
+filter-alike : (t u : ℕ → Bool) (n from : ℕ) → ((q : ℕ) → q < from + n → t q ≡ u q) →
+    filter t (range_with_len from n) ≡ filter u (range_with_len from n)
+filter-alike t u zero from same = refl
+filter-alike t u (suc n) from same =
+    rw (same from (omega arith), filter-alike t u n (from + 1) (λ q l. same q (omega arith))) refl
+
+-- the list of a patron's loans
+pub lent-are : (k : Facts) (states : List CopyState) (x : IndexesValue) (p : ℕ) (copies : List ℕ) → AreKept k states x →
+    copies ≡ lent_by x.loans.loans x.loans.copies p → copies ≡ lent_to k (state_in states) p
+lent-are k states x p copies kept is = is ∙ ap (λ n. filter (λ c. is_loan_to p (get x.loans.loans c)) (range_with_len 0 n))
+    kept.indexed.loans.copies_in
+    ∙ filter-alike (λ c. is_loan_to p (get x.loans.loans c)) (λ c. is_lent_to p (state_in states c)) k.copies 0
+    (λ n l. ap (is_loan_to p) (kept.indexed.loans.loan n)
+    ∙ ap (λ (o : Option CopyState). is_loan_to p (loan_of o)) (found_in states n (omega (arith, kept.fit.copies)))
+    ∙ lent p (state_in states n))
 
 -- the copies on open shelves
 pub shelved-are : (k : Facts) (states : List CopyState) (d : Desk) (t : ℕ) (kind : HoldKind) (pickup : ℕ) → AreStates k states →

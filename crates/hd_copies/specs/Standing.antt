@@ -1,11 +1,12 @@
 -- Where copies are and may go.
-use Rattle.std.specs.Prelude.{◌≡◌, ◌≢◌, ℕ, ◌<◌, ◌≤◌, Bool, true, false, ◌==◌, ◌&&◌, nat_lt, List, length, get_or}
-use Rattle.std.specs.Prelude.{slice_index}
+use Rattle.std.specs.Prelude.{◌≡◌, ◌≢◌, ℕ, ◌<◌, ◌≤◌, Bool, true, false, ◌==◌, ◌&&◌, nat_lt, List, length}
+use Rattle.std.specs.Prelude.{get_or, slice_index}
+use Rattle.std.specs.List.{filter, range_with_len}
 use Rattle.hd_rules.specs.declared.copies.HoldPlace.{HoldPlace}
 use Rattle.hd_rules.specs.declared.copies.CopyState.{CopyState}
 use Rattle.hd_rules.specs.declared.copies.CopyState.TheVariants.{Shelf, OnLoan, OnHoldShelf, InTransit}
 use Rattle.hd_rules.specs.Facts.{Facts}
-use Rattle.hd_rules.specs.Choose.{is_on_shelf, stands_at}
+use Rattle.hd_rules.specs.Choose.{is_lent_to, is_on_shelf, stands_at}
 use Rattle.hd_rules.specs.Known.{IsKnownState}
 use Rattle.hd_rules.specs.Sound.{PlacesFit}
 use Rattle.hd_catalogue.specs.Contents.{facts_of}
@@ -68,6 +69,10 @@ pub record AreStates (k : Facts) (states : List CopyState) : Type 0 where
 pub record AreAtHome (k : Facts) (states : List CopyState) : Type 0 where
   pub copies : length states ≡ k.copies
   pub home : (c : ℕ) → c < k.copies → state_in states c ≡ Shelf (k.home c)
+
+-- the catalogue's copies that are on loan to the patron, each once, by rising number
+abbrev pub lent_to : Facts → (ℕ → CopyState) → ℕ → List ℕ
+lent_to k copies p = filter (λ c. is_lent_to p (copies c)) (range_with_len 0 k.copies)
 
 -- the copy is one of the title, and stands on an open shelf
 abbrev pub stands_ready : Facts → (ℕ → CopyState) → ℕ → ℕ → Bool

@@ -1,7 +1,7 @@
 //! The copies.
 #![tactic(auto, unfolding(crate::specs::Standing::standing))]
 
-ghost use Rattle.std.specs.Prelude.{◌≡◌, ℕ, ◌<◌, ◌==◌, IfOk, MatchOption, OnOk, OnErr, if◌then◌else◌};
+ghost use Rattle.std.specs.Prelude.{◌≡◌, ℕ, ◌<◌, ◌==◌, IfOk, MatchOption, OnOk, OnErr, if◌then◌else◌, length};
 ghost use Rattle.std.specs.Arc.{arc_value};
 ghost use Rattle.hd_rules.specs.declared.copies.CopyState.{CopyState};
 ghost use Rattle.hd_rules.specs.declared.copies.CopyState.TheVariants.{Shelf};
@@ -13,10 +13,11 @@ ghost use Rattle.hd_rules.specs.Known.{IsKnownState};
 ghost use Rattle.hd_rules.specs.Sound.{PlacesFit};
 ghost use Rattle.hd_catalogue.specs.Contents.{facts_of};
 ghost use Rattle.hd_copies.specs.Standing.{AreAtHome, HasRoom, IsFree, IsFromOne, IsWelcome, StandsAt, facts};
-ghost use Rattle.hd_copies.specs.Standing.{standing, stands_ready};
+ghost use Rattle.hd_copies.specs.Standing.{lent_to, standing, stands_ready};
 
 use crate::indexes::Indexes;
 use hd_catalogue::Catalogue;
+use hd_loans::LentCopies;
 use hd_rules::{BranchNo, CopyNo, CopyState, HoldKind, PatronNo, TitleNo, place_is_the_least_free};
 use std::alloc::{AllocError, Allocator, Global};
 use std::marker::Model;
@@ -131,6 +132,15 @@ impl<A: Allocator + Copy> Copies<A> {
         ensures { (d : Desk) → d.copy ≡ standing self.now → result ≡ loans (facts self.now) d patron }
     {
         self.indexes.loans.count(patron)
+    }
+
+    /// The copies that the patron has on loan, each once, by rising number. It takes no memory.
+    pub fn lent_to(&self, patron: PatronNo) -> LentCopies<'_, A>
+        ensures copies { result ≡ lent_to (facts self.now) (standing self.now) patron }
+        ensures count { (d : Desk) → d.copy ≡ standing self.now
+            → length result ≡ loans (facts self.now) d patron }
+    {
+        self.indexes.loans.of(patron)
     }
 
     /// The least place, from 1, of the branch's hold shelf at which no copy stands (docs/desk-rules.md,

@@ -6,4 +6,5 @@ mod indexes;
 
 pub use crate::copies::Copies;
 pub use hd_catalogue::Catalogue;
+pub use hd_loans::LentCopies;
 pub use hd_rules::{BranchNo, CopyNo, CopyState, HoldKind, PatronNo, TitleNo};

@@ -37,8 +37,8 @@ module _ (k : Facts) (d : Desk) where
   IsGivenTwice c p other =
       (h : Hold) × (d.hold (k.title_of c) p ≡ Some h) × (IsPlaced c ⊎ ((h.copy ≢ None) ⊎ other h))
 
-  -- The row places a copy twice, adds a second hold of the pair, gives a stamp of the title twice, gives a hold a
-  -- second copy, or gives a place of the branch twice.
+  -- The row places a copy twice, adds a second hold of the pair, gives a stamp of the title twice, gives a
+  -- hold a second copy, or gives a place of the branch twice.
   abbrev pub SaysTwice : OpeningRow → Type 0
   SaysTwice (row.Loan c l) = IsPlaced c
   SaysTwice (row.OpenShelf c b) = IsPlaced c
@@ -90,7 +90,8 @@ pub record AreTold (k : Facts) (d : Desk) (rows : List OpeningRow) (e : Desk) : 
   pub sound : Sound k (first_number k) e
 
 -- The first row that may not stand has this index, and may not for this cause; those before it may.
-pub record IsFirstStuck (k : Facts) (d : Desk) (rows : List OpeningRow) (at : ℕ) (why : RowFault) : Type 0 where
+pub record IsFirstStuck (k : Facts) (d : Desk) (rows : List OpeningRow) (at : ℕ)
+    (why : RowFault) : Type 0 where
   pub row : OpeningRow
   pub there : slice_get rows at ≡ Some row
   pub before : EachMayStand k (first_number k) d (take at rows)
@@ -104,7 +105,8 @@ IsOpenFault k d rows (fault.Row at why) = IsFirstStuck k d rows at why
 
 -- each of a catalogue's rows may stand, from the desk with each copy at home on
 abbrev pub RowsMayStand : Contents → Type 0
-RowsMayStand x = EachMayStand (facts_of x) (first_number (facts_of x)) (at_home (facts_of x).home) x.opening.rows
+RowsMayStand x = EachMayStand (facts_of x) (first_number (facts_of x)) (at_home (facts_of x).home)
+    x.opening.rows
 
 -- and why its desk isn't opened
 abbrev pub IsRefused : Contents → OpenFault → Type 0

@@ -2,15 +2,21 @@
 #![tactic(auto, unfolding(crate::specs::Desks::desk_of))]
 
 ghost use Rattle.std.specs.Prelude.{◌≡◌, ◌<◌};
+ghost use Rattle.std.specs.List.{AllByRecursion};
 ghost use Rattle.hd_rules.specs.Notes.{told_answer};
 ghost use Rattle.hd_desk.specs.Asking.{AreQueuesOf, IsQueueOf, queues_of};
 ghost use Rattle.hd_rules.specs.Find.{choice, place};
 ghost use Rattle.hd_rules.specs.Choose.{loans, on_shelf, position};
 ghost use Rattle.hd_rules.specs.Known.{IsKnownHeld, IsKnownQuestion};
+ghost use Rattle.hd_rules.specs.Views.{loans_of};
+ghost use Rattle.hd_holds.specs.declared.held_title.HeldTitle.{HeldTitle};
+ghost use Rattle.hd_holds.specs.HeldTitles.{AreHeldBy};
 ghost use Rattle.hd_desk.specs.Desks.{desk_of, facts};
 
 use crate::desk::Desk;
 use hd_allocate::{CopyFacts, choice};
+use hd_copies::LentCopies;
+use hd_holds::HeldTitle;
 use hd_queue::QueueView;
 use hd_rules::{
     Answer, BranchNo, Cell, CopyNo, Day, Hold, HoldKind, PatronNo, Question, TitleNo, Value,
@@ -57,6 +63,23 @@ impl<A: Allocator + Copy> Desk<A> {
         ensures value { result ≡ queues_of self.now title }
     {
         self.holds.view(title)
+    }
+
+    /// The copies that the patron has on loan, by rising number (docs/desk-rules.md, "What a patron has"). It
+    /// goes over these alone, and takes no memory.
+    pub fn lent_to(&self, patron: PatronNo) -> LentCopies<'_, A>
+        ensures { result ≡ loans_of (facts self.now) (desk_of self.now) patron }
+    {
+        self.copies.lent_to(patron)
+    }
+
+    /// The titles that the patron holds, by their holds' rising stamps, and of equal stamps by title number.
+    /// It takes no memory.
+    pub fn held_by(&self, patron: PatronNo) -> &[HeldTitle]
+        ensures titles { AreHeldBy (desk_of self.now).hold patron result.now }
+        ensures known { AllByRecursion (λ (held : HeldTitle). held.title < (facts self.now).titles) result.now }
+    {
+        self.holds.of_patron(patron)
     }
 
     /// The hold that comes first for the copy, at the branch on the day (docs/desk-rules.md, "Choice").

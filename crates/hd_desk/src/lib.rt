@@ -29,7 +29,9 @@ pub use crate::done::Done;
 pub use crate::open_fault::{OpenFault, RowFault};
 pub use crate::refused::Refused;
 pub use hd_catalogue::Catalogue;
+pub use hd_copies::LentCopies;
 pub use hd_footprint::{Count, Findings, Footprint, Meter};
+pub use hd_holds::HeldTitle;
 pub use hd_rules::{
     Action, Answer, Change, Command, Finding, Hold, ItemView, Question, Refusal, Reply,
 };

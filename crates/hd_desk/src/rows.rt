@@ -50,7 +50,8 @@ impl<A: Allocator + Copy> Desk<A> {
         requires known { IsKnownRow (facts self.old) row.now }
         requires bounds { IsInBounds (first_number (facts self.old)) row.now }
         requires sound { Sound (facts self.old) (first_number (facts self.old)) (desk_of self.old) }
-        requires stands { MayStand (facts self.old) (desk_of self.old) (first_number (facts self.old)) row.now }
+        requires stands { MayStand (facts self.old) (desk_of self.old)
+            (first_number (facts self.old)) row.now }
         ensures contents { contents self.new ≡ contents self.old }
         ensures desk { OnOk result (desk_of self.new
             ≡ with_row (facts self.old).title_of (desk_of self.old) row.now) }

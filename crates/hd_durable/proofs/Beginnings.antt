@@ -7,7 +7,8 @@ use Rattle.hd_rules.specs.Journal.{Turn, state_from}
 use Rattle.hd_journal.specs.Changing.{is_changing, changing_from}
 
 pub beginning : (k : Facts) (s : State) (turns more : List Turn)
-    → changing_from k s (turns ++ more) ≡ changing_from k s turns ++ changing_from k (state_from k s turns) more
+    → changing_from k s (turns ++ more)
+    ≡ changing_from k s turns ++ changing_from k (state_from k s turns) more
 beginning k s [] more = refl
 beginning k s (turn ∷ turns) more =
     split (is_changing s turn.message) (beginning k (turn_of k s turn.message).state turns more)

@@ -1,5 +1,6 @@
 -- The turns that were answered, counted; and those since a number of them.
-use Rattle.std.proofs.Common.{arith, ◌≡◌, refl, sym, ap, subst, ℕ, zero, suc, ◌+◌, ◌-◌, ◌<◌, ◌≤◌, List, [], ◌∷◌, ◌++◌, length, take, drop}
+use Rattle.std.proofs.Common.{arith, ◌≡◌, refl, sym, ap, subst, ℕ, zero, suc, ◌+◌, ◌-◌, ◌<◌, ◌≤◌, List, []}
+use Rattle.std.proofs.Common.{◌∷◌, ◌++◌, length, take, drop}
 use Rattle.std.proofs.Common.{Option, None, Some, slice_get, ◌∙◌, length-append, take-append-drop}
 use Rattle.hd_rules.specs.Journal.{Turn}
 use Rattle.hd_journal.specs.Books.{turn_numbered}
@@ -30,12 +31,14 @@ numbered_past n zero turns past = absurd (omega (arith, past))
 numbered_past n (suc at) turns past = sym (got_past n at turns (omega (arith, past)))
 
 -- and the same turn within them
-pub numbered_within : (n at : ℕ) (turns : List Turn) → at ≤ n → turn_numbered turns at ≡ turn_numbered (take n turns) at
+pub numbered_within : (n at : ℕ) (turns : List Turn) → at ≤ n
+    → turn_numbered turns at ≡ turn_numbered (take n turns) at
 numbered_within n zero turns within = refl
 numbered_within n (suc at) turns within = sym (got_within n at turns (omega (arith, within)))
 
 -- of those since
-pub since_more : (n : ℕ) (turns more : List Turn) → n ≤ length turns → drop n (turns ++ more) ≡ drop n turns ++ more
+pub since_more : (n : ℕ) (turns more : List Turn) → n ≤ length turns
+    → drop n (turns ++ more) ≡ drop n turns ++ more
 since_more zero turns more few = refl
 since_more (suc n) [] more few = absurd (omega (arith, few))
 since_more (suc n) (turn ∷ turns) more few = since_more n turns more (omega (arith, few))
@@ -44,7 +47,8 @@ pub before_more : (n : ℕ) (turns more : List Turn) → n ≤ length turns → 
 before_more zero [] more few = refl
 before_more zero (turn ∷ turns) more few = refl
 before_more (suc n) [] more few = absurd (omega (arith, few))
-before_more (suc n) (turn ∷ turns) more few = ap (λ (ts : List Turn). turn ∷ ts) (before_more n turns more (omega (arith, few)))
+before_more (suc n) (turn ∷ turns) more few =
+    ap (λ (ts : List Turn). turn ∷ ts) (before_more n turns more (omega (arith, few)))
 
 pub since_length : (n : ℕ) (turns : List Turn) → n ≤ length turns → length turns - n ≡ length (drop n turns)
 since_length zero turns few = omega arith
@@ -60,7 +64,8 @@ since_got (suc n) k (turn ∷ turns) =
     let e : suc n + k ≡ suc (n + k) = omega arith in
     ap (slice_get (turn ∷ turns)) e ∙ since_got n k turns
 
-pub since_numbered : (n at : ℕ) (turns : List Turn) → 0 < at → turn_numbered turns (n + at) ≡ turn_numbered (drop n turns) at
+pub since_numbered : (n at : ℕ) (turns : List Turn) → 0 < at
+    → turn_numbered turns (n + at) ≡ turn_numbered (drop n turns) at
 since_numbered n zero turns first = absurd (omega (arith, first))
 since_numbered n (suc at) turns first =
     let e : n + suc at ≡ suc (n + at) = omega arith in

@@ -1,5 +1,6 @@
 -- What is kept of a turn more.
-use Rattle.std.proofs.Common.{◌≡◌, refl, sym, ◌∙◌, ap, subst, arith, ◌⊎◌, inl, inr, ℕ, Bool, true, false, not, true≢false, if◌then◌else◌}
+use Rattle.std.proofs.Common.{◌≡◌, refl, sym, ◌∙◌, ap, subst, arith, ◌⊎◌, inl, inr, ℕ, Bool, true, false, not}
+use Rattle.std.proofs.Common.{true≢false, if◌then◌else◌}
 use Rattle.std.proofs.Common.{List, [], ◌∷◌, ◌++◌, length, length-append, Option, Some, None}
 use Rattle.std.proofs.lemmas.Option.{none-some as none_there}
 use Rattle.std.specs.Prelude.{slice_get, take}
@@ -48,7 +49,8 @@ pub last_is : (all turns : List Turn) (turn : Turn) (n : ℕ) (last : Turn) → 
 last_is all turns turn n last is number found =
     ap (of_some last)
     (found ∙ ap (turn_numbered all) number
-    ∙ subst (λ (ts : List Turn). turn_numbered ts (length ts) ≡ Some turn) (sym is) (numbered_last turns turn))
+    ∙ subst (λ (ts : List Turn). turn_numbered ts (length ts) ≡ Some turn) (sym is)
+    (numbered_last turns turn))
 
 -- there is one at the number of the last
 pub last_there : (all turns : List Turn) (turn : Turn) (n : ℕ) → all ≡ turns ++ turn ∷ []
@@ -56,7 +58,8 @@ pub last_there : (all turns : List Turn) (turn : Turn) (n : ℕ) → all ≡ tur
 last_there all turns turn n is number none =
     none_there turn
     (none ∙ ap (turn_numbered all) number
-    ∙ subst (λ (ts : List Turn). turn_numbered ts (length ts) ≡ Some turn) (sym is) (numbered_last turns turn))
+    ∙ subst (λ (ts : List Turn). turn_numbered ts (length ts) ≡ Some turn) (sym is)
+    (numbered_last turns turn))
 
 -- one that changes something
 pub changing_more : (k : Facts) (turns : List Turn) (turn : Turn)
@@ -88,7 +91,8 @@ left_none k answered left legal is = record {
 -- one more is left that nobody was answered
 pub left_one : (k : Facts) (answered : List Turn) (turn : Turn) (left : List Turn)
     → IsLegal k (answered ++ turn ∷ []) → left ≡ changing k (answered ++ turn ∷ []) → IsLeft k answered left
-left_one k answered turn left legal is = record { more = turn ∷ []; few = omega arith; legal = legal; is = is }
+left_one k answered turn left legal is =
+    record { more = turn ∷ []; few = omega arith; legal = legal; is = is }
 
 -- it isn't known whether it is left
 pub left_either : (k : Facts) (answered : List Turn) (turn : Turn) (left : List Turn)
@@ -101,7 +105,8 @@ left_either k answered turn left before after is (inr one) =
     left_one k answered turn left after (one ∙ sym (changing_more k answered turn is))
 
 -- all were answered, and the changing ones are committed
-pub durable_all : (told : Contents) (holds leaves : List Turn → Type 0) (contents : Contents) (turns : List Turn)
+pub durable_all : (told : Contents) (holds leaves : List Turn → Type 0) (contents : Contents)
+    (turns : List Turn)
     (n : ℕ) (shut : Option WriteFault) → told ≡ contents → IsLegalBook contents turns → n ≡ length turns
     → holds (changing (facts_of contents) turns)
     → ((left : List Turn) → leaves left → left ≡ changing (facts_of contents) turns)
@@ -125,7 +130,8 @@ committed holds leaves k turns n opened left found =
     let whole : take n turns ≡ turns = ap (λ (m : ℕ). take m turns) opened.all ∙ take-length turns
     in opened.settled left found ∙ ap (changing k) (sym whole)
 
-module _ (old new : Book) (seat : ℕ) (message : Message) (made : Made) (adds : AddsTurn old new seat message made)
+module _ (old new : Book) (seat : ℕ) (message : Message) (made : Made)
+    (adds : AddsTurn old new seat message made)
     (legal : IsLegalBook new.contents new.turns) where
   abbrev Commits : (List Turn → Type 0) → (List Turn → Type 0) → Type 0
   Commits holds holds' =
@@ -134,7 +140,8 @@ module _ (old new : Book) (seat : ℕ) (message : Message) (made : Made) (adds :
 
   abbrev Doubts : (List Turn → Type 0) → (List Turn → Type 0) → Type 0
   Doubts holds leaves' =
-      (turns held left : List Turn) (t : Turn) → new.turns ≡ turns ++ t ∷ [] → IsLegal (facts new) (held ++ t ∷ [])
+      (turns held left : List Turn) (t : Turn) → new.turns ≡ turns ++ t ∷ []
+      → IsLegal (facts new) (held ++ t ∷ [])
       → holds held → leaves' left → (left ≡ held) ⊎ (left ≡ held ++ t ∷ [])
 
   -- a turn more is one of the changing ones
@@ -149,11 +156,13 @@ module _ (old new : Book) (seat : ℕ) (message : Message) (made : Made) (adds :
   legal_more : is_changing (state old) message ≡ true
       → IsLegal (facts new) (changing (facts old) old.turns ++ next_turn old seat message ∷ [])
   legal_more is =
-      subst (IsLegal (facts new)) (more is) (legal_changing (facts new) (start (facts new)) new.turns legal.legal)
+      subst (IsLegal (facts new)) (more is)
+      (legal_changing (facts new) (start (facts new)) new.turns legal.legal)
 
   -- the last turn's message is known
   pub last_known : IsKnownMessage (facts old) message
-      → (turns : List Turn) × (turn : Turn) × (new.turns ≡ turns ++ turn ∷ []) × IsKnownMessage (facts new) turn.message
+      → (turns : List Turn) × (turn : Turn) × (new.turns ≡ turns ++ turn ∷ [])
+      × IsKnownMessage (facts new) turn.message
   last_known known = (
     old.turns,
     next_turn old seat message,
@@ -163,19 +172,22 @@ module _ (old new : Book) (seat : ℕ) (message : Message) (made : Made) (adds :
 
   -- after a turn that changes nothing
   pub durable_same : (told : Contents) (holds leaves : List Turn → Type 0) (n : ℕ) (shut : Option WriteFault)
-      → told ≡ old.contents → is_changing (state old) message ≡ false → IsOpen holds leaves (facts old) old.turns n
+      → told ≡ old.contents → is_changing (state old) message ≡ false
+      → IsOpen holds leaves (facts old) old.turns n
       → IsDurable told holds leaves new.contents new.turns made.at shut
   durable_same told holds leaves n shut same is opened =
       let still : changing (facts_of new.contents) new.turns ≡ changing (facts old) old.turns =
       ap (λ (c : Contents). changing (facts_of c) new.turns) adds.contents
       ∙ ap (changing (facts old)) adds.turns
       ∙ changing_same (facts old) old.turns (next_turn old seat message) is
-      in durable_all told holds leaves new.contents new.turns made.at shut (same ∙ sym adds.contents) legal adds.number
+      in durable_all told holds leaves new.contents new.turns made.at shut
+      (same ∙ sym adds.contents) legal adds.number
       (subst holds (sym still) opened.held)
       (λ left found. opened.settled left found ∙ sym still)
 
   -- after one that is committed
-  pub durable_more : (told told' : Contents) (holds leaves holds' leaves' : List Turn → Type 0) (n : ℕ) (shut : Option WriteFault)
+  pub durable_more : (told told' : Contents) (holds leaves holds' leaves' : List Turn → Type 0)
+      (n : ℕ) (shut : Option WriteFault)
       → told ≡ old.contents → told' ≡ told
       → is_changing (state old) message ≡ true → IsOpen holds leaves (facts old) old.turns n
       → Commits holds holds'
@@ -185,7 +197,8 @@ module _ (old new : Book) (seat : ℕ) (message : Message) (made : Made) (adds :
       let held : holds' (changing (facts_of new.contents) new.turns) =
       subst holds' (sym (more is))
       (ok old.turns _ (next_turn old seat message) adds.turns (legal_more is) opened.held)
-      in durable_all told' holds' leaves' new.contents new.turns made.at shut (same' ∙ same ∙ sym adds.contents) legal
+      in durable_all told' holds' leaves' new.contents new.turns made.at shut
+      (same' ∙ same ∙ sym adds.contents) legal
       adds.number held (λ left found. settled _ left held found)
 
   -- after one that may be left or not
@@ -195,12 +208,15 @@ module _ (old new : Book) (seat : ℕ) (message : Message) (made : Made) (adds :
       → Doubts holds leaves'
       → (left : List Turn) → leaves' left → IsLeft (facts_of new.contents) (take n new.turns) left
   left_in_doubt holds leaves leaves' n is before opened err left found =
-      let whole : take n old.turns ≡ old.turns = ap (λ (m : ℕ). take m old.turns) opened.all ∙ take-length old.turns
+      let whole : take n old.turns ≡ old.turns = ap (λ (m : ℕ). take m old.turns) opened.all
+      ∙ take-length old.turns
       in let same : take n new.turns ≡ old.turns =
-      ap (take n) adds.turns ∙ ap (λ (m : ℕ). take m (old.turns ++ next_turn old seat message ∷ [])) opened.all
+      ap (take n) adds.turns ∙ ap (λ (m : ℕ). take m (old.turns ++ next_turn old seat message ∷ []))
+      opened.all
       ∙ take-append_seam old.turns (next_turn old seat message ∷ [])
       in let after : IsLegal (facts old) (old.turns ++ next_turn old seat message ∷ []) =
-      subst (IsLegal (facts old)) adds.turns (subst (λ (c : Contents). IsLegal (facts_of c) new.turns) adds.contents legal.legal)
+      subst (IsLegal (facts old)) adds.turns
+      (subst (λ (c : Contents). IsLegal (facts_of c) new.turns) adds.contents legal.legal)
       in subst (λ (ts : List Turn). IsLeft (facts_of new.contents) ts left) (sym same)
       (subst (λ (c : Contents). IsLeft (facts_of c) old.turns left) (sym adds.contents)
       (left_either (facts old) old.turns (next_turn old seat message) left
@@ -208,7 +224,8 @@ module _ (old new : Book) (seat : ℕ) (message : Message) (made : Made) (adds :
       (err old.turns _ left (next_turn old seat message) adds.turns (legal_more is) opened.held found)))
 
   -- the journal is then shut
-  pub durable_shut : (told told' : Contents) (holds leaves holds' leaves' : List Turn → Type 0) (n : ℕ) (why : WriteFault)
+  pub durable_shut : (told told' : Contents) (holds leaves holds' leaves' : List Turn → Type 0)
+      (n : ℕ) (why : WriteFault)
       → told ≡ old.contents → told' ≡ told
       → is_changing (state old) message ≡ true → IsLegalBook old.contents (take n old.turns)
       → IsOpen holds leaves (facts old) old.turns n
@@ -216,10 +233,12 @@ module _ (old new : Book) (seat : ℕ) (message : Message) (made : Made) (adds :
       → IsDurable told' holds' leaves' new.contents new.turns n (Some why)
   durable_shut told told' holds leaves holds' leaves' n why still still' is before opened err =
       let same : take n new.turns ≡ take n old.turns =
-      ap (take n) adds.turns ∙ ap (λ (m : ℕ). take m (old.turns ++ next_turn old seat message ∷ [])) opened.all
+      ap (take n) adds.turns ∙ ap (λ (m : ℕ). take m (old.turns ++ next_turn old seat message ∷ []))
+      opened.all
       ∙ take-append_seam old.turns (next_turn old seat message ∷ [])
       ∙ sym (ap (λ (m : ℕ). take m old.turns) opened.all ∙ take-length old.turns)
-      in let longer = ap (λ (ts : List Turn). length ts) adds.turns ∙ length-append old.turns (next_turn old seat message ∷ []) in
+      in let longer = ap (λ (ts : List Turn). length ts) adds.turns
+      ∙ length-append old.turns (next_turn old seat message ∷ []) in
       let all = opened.all
       in record {
         within = omega (arith, longer, all);

@@ -1,5 +1,6 @@
 -- What leaving out the turns that change nothing leaves.
-use Rattle.std.proofs.Common.{◌≡◌, refl, ◌∙◌, ap, subst, Bool, true, false, ◌&&◌, not, if◌then◌else◌, true≢false}
+use Rattle.std.proofs.Common.{◌≡◌, refl, ◌∙◌, ap, subst, Bool, true, false, ◌&&◌, not, if◌then◌else◌}
+use Rattle.std.proofs.Common.{true≢false}
 use Rattle.std.proofs.Common.{Option, Some, None, is_none, List, [], ◌∷◌}
 use Rattle.hd_rules.specs.declared.turns.Asked.{Asked}
 use Rattle.hd_rules.specs.declared.replies.TurnReply.{TurnReply}
@@ -42,7 +43,8 @@ state_changing k s (turn ∷ turns) =
         → state_from k s (if b then turn ∷ later else later) ≡ state_from k next turns
     split true is rest = rest
     split false is rest =
-        subst (λ (z : State). state_from k z later ≡ state_from k next turns) (leaves k s turn.message is) rest
+        subst (λ (z : State). state_from k z later ≡ state_from k next turns)
+        (leaves k s turn.message is) rest
 
 pub legal_changing : (k : Facts) (s : State) (turns : List Turn) → IsLegalFrom k s turns
     → IsLegalFrom k s (changing_from k s turns)

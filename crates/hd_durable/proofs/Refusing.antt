@@ -23,7 +23,8 @@ pub out_of_memory : {Table : Type 0} (refuses : WriteFault → Type 0) (old new 
 out_of_memory {Table = Table} refuses old new n table shut why d view is_open memory none =
     subst (λ (f : TurnFault). IsTakeFault refuses d (shown new n table shut) f) (sym memory) (
       sym (ap (λ (x : DurableValue Table). x.shut) view) ∙ is_open,
-      (λ i. record { contents = none.contents i; turns = take n (none.turns i); table = table; shut = shut }) ∙ view,
+      (λ i. record { contents = none.contents i; turns = take n (none.turns i); table = table; shut = shut })
+          ∙ view,
     )
 
 -- the turn that was added is one of what was asked
@@ -31,8 +32,10 @@ pub refused_one : (refuses : Turn → WriteFault → Type 0) (old new : Book) (a
     (why : WriteFault) → AddsTurn old new ask.seat ask.message made
     → ((turns : List Turn) (turn : Turn) → new.turns ≡ turns ++ turn ∷ [] → refuses turn why)
     → refuses_turn_of refuses ask why
-refused_one refuses old new ask made why adds refused =
-    ((machine_answer old ask.message).reply, refused old.turns (next_turn old ask.seat ask.message) adds.turns)
+refused_one refuses old new ask made why adds refused = (
+  (machine_answer old ask.message).reply,
+  refused old.turns (next_turn old ask.seat ask.message) adds.turns,
+)
 
 -- it is memory, or that a turn couldn't be written
 pub kinds : {Table : Type 0} (refuses : WriteFault → Type 0) (old new : DurableValue Table) (why : TurnFault)

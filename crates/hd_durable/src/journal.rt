@@ -1,7 +1,7 @@
 //! The durable journal.
 
-ghost use Rattle.std.specs.Prelude.{◌≡◌, ◌⊎◌, ◌++◌, ◌∷◌, [], ℕ, None, IfErr, IfOk, List, OnErr, OnOk, length};
-ghost use Rattle.std.specs.Prelude.{option_map, take};
+ghost use Rattle.std.specs.Prelude.{◌≡◌, ◌⊎◌, ◌++◌, ◌∷◌, [], ℕ, None, Some, IfErr, IfOk, List, OnErr, OnOk};
+ghost use Rattle.std.specs.Prelude.{length, option_map, take};
 ghost use Rattle.std.specs.Arc.{arc_value};
 ghost use Rattle.hd_catalogue.specs.Contents.{facts_of};
 ghost use Rattle.hd_rules.specs.Journal.{IsLegal, Turn as TurnValue};
@@ -159,6 +159,23 @@ impl<T: TurnTable, A: Allocator + Copy> DurableJournal<T, A> {
         ensures turns { (answered : ℕ) × (take answered result.now.turns ≡ self.now.turns) }
     {
         &self.journal
+    }
+
+    /// The journal, with the turns that were answered and no others.
+    ///
+    /// # Errors
+    /// Why it is shut: the journal in memory has a turn that couldn't be committed, and nobody was answered.
+    pub fn answered_journal(&self) -> Result<&Journal<A>, WriteFault>
+        ensures contents { IfOk result (λ journal. journal.now.contents ≡ self.now.contents) }
+        ensures turns { IfOk result (λ journal. journal.now.turns ≡ self.now.turns) }
+        ensures legal { IsLegalBook self.now.contents self.now.turns }
+        ensures open { OnOk result (self.now.shut ≡ None) }
+        ensures shut { IfErr result (λ why. self.now.shut ≡ Some why) }
+    {
+        match self.shut {
+            None => Ok(&self.journal),
+            Some(why) => Err(why),
+        }
     }
 
     /// The table, where all that a stop leaves is committed. The journal is dropped.

@@ -5,7 +5,7 @@ ghost use Rattle.std.specs.Prelude.{◌≡◌, ◌≤◌, [], drop, length};
 use crate::journal::DurableJournal;
 use crate::table::TurnTable;
 use hd_catalogue::Catalogue;
-use hd_journal::{Ask, Keeper, OwnedAsk, Turn, TurnFault, TurnRef};
+use hd_journal::{Ask, Journal, Keeper, OwnedAsk, Turn, TurnFault, TurnRef, WriteFault};
 use std::alloc::{AllocError, Allocator, Global};
 use std::sync::Arc;
 
@@ -70,6 +70,8 @@ impl<T: TurnTable, A: Allocator + Copy> Keeper<A, OwnedAsk<A>> for DurableKeeper
         (λ turn. T.refuses old.journal.table turn new.journal.table) ask)
         old.journal new.journal };
 
+    ghost shut = { λ keeper. keeper.journal.shut };
+
     fn own(alloc: A, ask: &Ask<'_>) -> Result<OwnedAsk<A>, AllocError> {
         OwnedAsk::of(alloc, ask)
     }
@@ -88,6 +90,10 @@ impl<T: TurnTable, A: Allocator + Copy> Keeper<A, OwnedAsk<A>> for DurableKeeper
             return None;
         }
         self.journal.turn_at(self.begun + at)
+    }
+
+    fn journal(&self) -> Result<&Journal<A>, WriteFault> {
+        self.journal.answered_journal()
     }
 
     fn take(&mut self, own: OwnedAsk<A>) -> Result<Turn, TurnFault> {

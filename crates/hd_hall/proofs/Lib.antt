@@ -1,5 +1,6 @@
 pub mod Seating
 pub mod Submitting
+pub mod Looking
 pub mod Lending
 pub mod Covering
 pub mod Once

@@ -1,5 +1,6 @@
 -- A seat with one more receipt, and its last receipt.
-use Rattle.std.proofs.Common.{◌≡◌, ℕ, zero, suc, ◌+◌, ◌-◌, ◌<◌, ◌≤◌, List, [], ◌∷◌, ◌++◌, length, Some, slice_get, refl, arith}
+use Rattle.std.proofs.Common.{◌≡◌, ℕ, zero, suc, ◌+◌, ◌-◌, ◌<◌, ◌≤◌, List, [], ◌∷◌, ◌++◌, length, Some}
+use Rattle.std.proofs.Common.{slice_get, refl, arith}
 use Rattle.std.proofs.Common.{length-append, sym, subst, take, ◌∙◌, ◌⊎◌, inl, inr}
 use Rattle.std.proofs.Math.Seq.{take-append_seam}
 use Rattle.std.proofs.lemmas.List.{take-append-le}
@@ -10,14 +11,16 @@ use Rattle.hd_hall.specs.Receipts.{Receipted, IsLast, StandsAt, last_receipt, nu
 use Rattle.hd_hall.specs.Seats.{SeatView, IsSeat, AreOfSeat, RiseAbove}
 use Rattle.hd_hall.specs.Submitting.{AreNext, IsNextOf}
 
-pub own-snoc : (seat : ℕ) (rs : List Receipted) (r : Receipted) → AreOfSeat seat rs → r.turn.seat ≡ seat → AreOfSeat seat (rs ++ r ∷ [])
+pub own-snoc : (seat : ℕ) (rs : List Receipted) (r : Receipted) → AreOfSeat seat rs → r.turn.seat ≡ seat
+    → AreOfSeat seat (rs ++ r ∷ [])
 own-snoc seat [] r own is = (is, tt)
 own-snoc seat (x ∷ xs) r own is = (own.0, own-snoc seat xs r own.1 is)
 
 pub rise_last : (n : ℕ) (rs : List Receipted) (p : Receipted) → RiseAbove n rs → IsLast rs p → n < p.number
 rise_last n [] p up is = cc
 rise_last n (x ∷ []) p up is = let e : x ≡ p = cc in rw (← e) up.0
-rise_last n (x ∷ y ∷ ys) p up is = let h = up.0 in let k = rise_last x.number (y ∷ ys) p up.1 is in omega arith
+rise_last n (x ∷ y ∷ ys) p up is = let h = up.0 in let k = rise_last x.number (y ∷ ys) p up.1 is in
+    omega arith
 
 -- there is a last of some
 pub some_last : (x : Receipted) (rs : List Receipted) → (p : Receipted) × IsLast (x ∷ rs) p
@@ -54,16 +57,19 @@ number_of_last-snoc (x ∷ y ∷ ys) r = number_of_last-snoc (y ∷ ys) r
 
 -- a receipt whose turn stands in the list has a number within it
 pub stands_within : (turns : List Turn) (p : Receipted) → StandsAt turns p → p.number ≤ length turns
-stands_within turns p h = let first = h.0 in let k = slice_get_within turns (p.number - 1) p.turn h.1 in omega arith
+stands_within turns p h = let first = h.0 in let k = slice_get_within turns (p.number - 1) p.turn h.1 in
+    omega arith
 
 below_or_at : (n m : ℕ) → n < m + 1 → (n < m) ⊎ (n ≡ m)
 below_or_at zero zero h = inr refl
 below_or_at zero (suc m) h = inl (omega arith)
 below_or_at (suc n) zero h = absurd (omega arith)
-below_or_at (suc n) (suc m) h = elim (below_or_at n m (omega arith)) [ inl below ↦ inl (omega arith) | inr at ↦ inr (omega arith) ]
+below_or_at (suc n) (suc m) h =
+    elim (below_or_at n m (omega arith)) [ inl below ↦ inl (omega arith) | inr at ↦ inr (omega arith) ]
 
 -- what is read of a list with one more
-read_before : (rs : List Receipted) (r : Receipted) (n : ℕ) → n < length rs → slice_get (rs ++ r ∷ []) n ≡ slice_get rs n
+read_before : (rs : List Receipted) (r : Receipted) (n : ℕ) → n < length rs
+    → slice_get (rs ++ r ∷ []) n ≡ slice_get rs n
 read_before [] r n h = absurd (omega arith)
 read_before (x ∷ xs) r zero h = refl
 read_before (x ∷ xs) r (suc n) h = read_before xs r n (omega arith)
@@ -82,7 +88,8 @@ next-snoc o rs r all next n x is =
           subst (λ (b : List Receipted). IsNextOf o b x) (sym (take-append-le n rs (r ∷ []) (omega arith)))
           (all n x (sym (read_before rs r n below) ∙ is))
       | inr at ↦
-          let here : Some r ≡ Some x = sym (read_added rs r) ∙ subst (λ m. slice_get (rs ++ r ∷ []) m ≡ Some x) at is in
+          let here : Some r ≡ Some x = sym (read_added rs r)
+          ∙ subst (λ m. slice_get (rs ++ r ∷ []) m ≡ Some x) at is in
           let same : r ≡ x = cc in
           subst (λ m. IsNextOf o (take m (rs ++ r ∷ [])) x) (sym at)
           (subst (λ (b : List Receipted). IsNextOf o b x) (sym (take-append_seam rs (r ∷ [])))
@@ -90,9 +97,15 @@ next-snoc o rs r all next n x is =
     ]
 
 -- a seat that gains a receipt beyond a list in which its last one stands
-pub seat-snoc : (o : Opening) (s : SeatView) (r : Receipted) → s.parts ≡ 1 → IsSeat o s → IsNextOf o s.receipts r
+pub seat-snoc : (o : Opening) (s : SeatView) (r : Receipted) → s.parts ≡ 1 → IsSeat o s
+    → IsNextOf o s.receipts r
     → r.turn.seat ≡ s.number
-    → IsSeat o (record { number = s.number; receipts = s.receipts ++ r ∷ []; parts = s.parts; share = s.share + 1 })
+    → IsSeat o (record {
+      number = s.number;
+      receipts = s.receipts ++ r ∷ [];
+      parts = s.parts;
+      share = s.share + 1;
+    })
 seat-snoc o s r whole ok next own =
     let number = next.number in
     record {

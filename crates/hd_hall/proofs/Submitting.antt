@@ -1,5 +1,6 @@
 -- What is known of the turn of a receipt, and of a fault.
-use Rattle.std.proofs.Common.{◌≡◌, ℕ, List, [], ◌∷◌, ◌++◌, length, Result, Ok, Err, IfOk, IfErr, OnOk, OnErr, refl, inl, inr, sym, ap, subst}
+use Rattle.std.proofs.Common.{◌≡◌, ℕ, List, [], ◌∷◌, ◌++◌, length, Result, Ok, Err, IfOk, IfErr, OnOk, OnErr}
+use Rattle.std.proofs.Common.{refl, inl, inr, sym, ap, subst}
 use Rattle.std.proofs.Common.{arith, length-append}
 use Rattle.hd_rules.specs.Journal.{Turn}
 use Rattle.hd_rules.specs.Known.{IsKnownTurnReply}
@@ -33,19 +34,27 @@ pub next_known : (o : Opening) (rs : List Receipted) (r : Receipted) → IsNextO
 next_known o rs r next = next.legal.known.replies r.turn (among_last r.turn o.begun next.before)
 
 -- the turn that was added behind those that hold the seat's last one is the seat's next
-pub next_of : (o : Opening) (before after : List Turn) (rs : List Receipted) (ask : SeatMessage) (told : Result Made TurnFault)
-    → IsLegalSince o after → IfOk told (λ made. IsAdded before after ask made) → OnOk told (HoldsLast before rs)
+pub next_of : (o : Opening) (before after : List Turn) (rs : List Receipted) (ask : SeatMessage)
+    (told : Result Made TurnFault)
+    → IsLegalSince o after → IfOk told (λ made. IsAdded before after ask made)
+    → OnOk told (HoldsLast before rs)
     → IfOk told (λ made. IsNextOf o rs (receipt_of ask made))
 next_of o before after rs ask (Err why) legal added holds = tt
 next_of o before after rs ask (Ok made) legal added holds = record {
   before = before;
   legal = subst (λ (ts : List Turn). IsLegalSince o ts) added.turns legal;
-  number = omega (arith, added.number, ap length added.turns, length-append before (turn_with_reply ask made.reply ∷ []));
+  number = omega (
+    arith,
+    added.number,
+    ap length added.turns,
+    length-append before (turn_with_reply ask made.reply ∷ []),
+  );
   holds = holds;
 }
 
 -- where the journal lacks the seat's last turn, it is a legal journal that does
-pub strange_of : (o : Opening) (before after : List Turn) (rs : List Receipted) (gives : TurnFault → Type 0) (Same : Type 0)
+pub strange_of : (o : Opening) (before after : List Turn) (rs : List Receipted) (gives : TurnFault → Type 0)
+    (Same : Type 0)
     (told : Result Made TurnFault) → IsLegalSince o after → OnErr told ((after ≡ before) × Same)
     → IfErr told (IsLockFault gives (λ front. (front ≡ length before) × LacksLast before rs))
     → IfErr told (IsLockFault gives (IsStrangeTo o rs))

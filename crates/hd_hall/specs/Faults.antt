@@ -12,6 +12,12 @@ IsLockFault gives Lacks fault.Memory = gives fault.Memory
 IsLockFault gives Lacks (fault.Estranged front) = Lacks front
 IsLockFault gives Lacks (fault.Unwritten why) = gives (fault.Unwritten why)
 
+-- At a look: the same, but never memory, since it takes none.
+abbrev pub IsLookFault : (TurnFault → Type 0) → (ℕ → Type 0) → TurnFault → Type 0
+IsLookFault gives Lacks fault.Memory = ⊥
+IsLookFault gives Lacks (fault.Estranged front) = Lacks front
+IsLookFault gives Lacks (fault.Unwritten why) = gives (fault.Unwritten why)
+
 -- Of the whole turn: that, or out of memory before the lock is taken, where memory is needed there.
 abbrev pub IsSubmitFault : Type 0 → (TurnFault → Type 0) → (ℕ → Type 0) → TurnFault → Type 0
 IsSubmitFault Needs gives Lacks fault.Memory = Needs ⊎ gives fault.Memory

@@ -12,7 +12,7 @@ use crate::hall::Hall;
 use crate::house::House;
 use crate::seat::Seat;
 use hd_catalogue::Catalogue;
-use hd_journal::{Ask, Journal, Keeper, Office, OwnedAsk, SeatNo, Turn, TurnFault};
+use hd_journal::{Ask, Journal, Keeper, Look, Office, OwnedAsk, SeatNo, Turn, TurnFault};
 use std::alloc::{Allocator, Global};
 use std::sync::Wait;
 
@@ -70,8 +70,8 @@ impl<'a, H: House, R: Wait, A: Allocator + Copy, Q: Drop, K: Keeper<A, Q> + Drop
         ensures kept { IfOk result (λ made.
             self.new.seat.now ≡ with_receipt self.old.seat.now (receipt_of (message_of ask.now) made)) }
         ensures all { AreNext H.opening self.new.seat.now.receipts }
-        ensures why { IfErr result (IsSubmitFault (NeedsMemory self.old.seat.now.receipts ask.now.line) K.faults
-            (IsStrangeTo H.opening self.old.seat.now.receipts)) }
+        ensures why { IfErr result (IsSubmitFault (NeedsMemory self.old.seat.now.receipts ask.now.line)
+            K.faults (IsStrangeTo H.opening self.old.seat.now.receipts)) }
         ensures err { OnErr result (self.new.seat.now ≡ self.old.seat.now) }
         ensures same_reference { self.new.seat.ghost_name ≡ self.old.seat.ghost_name }
     {
@@ -89,6 +89,7 @@ impl<'a, H: House, R: Wait, A: Allocator + Copy, Q: Drop, K: Keeper<A, Q> + Drop
     for Counter<'a, H, R, A, Q, K> {
     ghost use Rattle.std.specs.Prelude.{map, [], ◌∷◌};
     ghost use Rattle.hd_hall.specs.Faults.{IsHallFault};
+    ghost use Rattle.hd_hall.specs.Looking.{IsShownWith};
 
     ghost keeps = { λ c. record {
       contents = H.opening.contents;
@@ -109,12 +110,19 @@ impl<'a, H: House, R: Wait, A: Allocator + Copy, Q: Drop, K: Keeper<A, Q> + Drop
     /// Each of the seat's receipts was the last turn of a legal journal, which held the receipt before it.
     ghost holds = { λ c. AreNext H.opening c.seat.now.receipts };
 
+    /// Those that hold the last of them, at the number of its receipt.
+    ghost shows = { IsShownWith H.opening };
+
     fn catalogue(&self) -> &Catalogue<A> {
         self.hall.catalogue()
     }
 
     fn seat(&self) -> SeatNo {
         self.seat.number()
+    }
+
+    fn look<L: Look<A>>(&self, reader: &mut L) -> Result<(), TurnFault> {
+        self.hall.look_from(self.rt, self.seat, reader)
     }
 
     fn turn(&mut self, ask: &Ask<'_>) -> Result<Turn, TurnFault> {

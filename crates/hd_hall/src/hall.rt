@@ -5,7 +5,9 @@ ghost use Rattle.std.specs.Arc.{arc_value};
 ghost use Rattle.hd_catalogue.specs.Contents.{facts_of};
 ghost use Rattle.hd_rules.specs.Messages.{IsKnownMessage, turn_with_reply, message_of};
 ghost use Rattle.hd_hall.specs.Closings.{AreTurnsOf};
-ghost use Rattle.hd_hall.specs.Faults.{IsLockFault, IsSubmitFault, NeedsMemory};
+ghost use Rattle.hd_journal.specs.Books.{Book};
+ghost use Rattle.hd_hall.specs.Faults.{IsLockFault, IsLookFault, IsSubmitFault, NeedsMemory};
+ghost use Rattle.hd_hall.specs.Looking.{IsShownTo};
 ghost use Rattle.hd_hall.specs.Receipts.{receipt_of, receipt_shown};
 ghost use Rattle.hd_hall.specs.Seats.{EachSeat, IsWhole, with_receipt};
 ghost use Rattle.hd_hall.specs.Submitting.{AreNext, IsNextOf, IsStrangeTo};
@@ -16,7 +18,7 @@ use crate::receipt::Receipt;
 use crate::seat::{Seat, ready};
 use crate::stored_receipt::StoredReceipt;
 use hd_catalogue::Catalogue;
-use hd_journal::{Ask, Journal, Keeper, OwnedAsk, Turn, TurnFault};
+use hd_journal::{Ask, Journal, Keeper, Look, OwnedAsk, Turn, TurnFault};
 use std::alloc::{Allocator, Global};
 use std::sync::ledger::{Blank, Share};
 use std::sync::{Arc, Mutex, Wait};
@@ -163,6 +165,43 @@ impl<H: House, A: Allocator + Copy, Q: Drop, K: Keeper<A, Q> + Drop> Hall<H, A, 
         let made = self.take(rt, receipts, share, own)?;
         receipts.push_reserved(StoredReceipt::new(copy, &made));
         Ok(Receipt::new(ask, &made))
+    }
+
+    /// Lends the journal to a reader, under the lock. No turn is made, nothing is changed, and no memory is
+    /// taken here.
+    ///
+    /// # Errors
+    /// `Unwritten` where the keeper shows its journal no more: a journal alone always does. The reader is as
+    /// it was.
+    pub fn look<R: Wait, L: Look<A>>(&self, rt: &R, reader: &mut L) -> Result<(), TurnFault>
+        requires fits { L.fits reader.old H.opening.contents }
+        ensures saw { OnOk result ((book : Book) × IsShownTo H.opening [] book
+            × L.saw reader.old book reader.new) }
+        ensures why { IfErr result (IsLookFault K.faults (λ front. ⊥)) }
+        ensures err { OnErr result (reader.new ≡ reader.old) }
+    {
+        self.shared.lock(rt).show(reader)
+    }
+
+    /// Lends the journal to a reader, under the lock, where it holds the seat's last turn: so a terminal sees
+    /// what it was answered. The seat was opened by this hall. As `look`.
+    ///
+    /// # Errors
+    /// `Estranged` where the journal lacks the seat's last turn, so never at a seat without receipts, and
+    /// else what `look` gives. The reader is as it was.
+    pub fn look_from<R: Wait, L: Look<A>>(
+        &self,
+        rt: &R,
+        seat: &Seat<H, A>,
+        reader: &mut L,
+    ) -> Result<(), TurnFault>
+        requires fits { L.fits reader.old H.opening.contents }
+        ensures saw { OnOk result ((book : Book) × IsShownTo H.opening seat.now.receipts book
+            × L.saw reader.old book reader.new) }
+        ensures why { IfErr result (IsLookFault K.faults (IsStrangeTo H.opening seat.now.receipts)) }
+        ensures err { OnErr result (reader.new ≡ reader.old) }
+    {
+        self.shared.lock(rt).look(seat.receipts(), reader)
     }
 
     /// The journal, whose turns are the receipts of these seats, each once. The seats are all that the hall

@@ -1,14 +1,17 @@
 //! What lies under the lock.
 
-ghost use Rattle.std.specs.Prelude.{◌≡◌, ◌+◌, ◌<◌, ◌↔◌, [], IsTrue, IsNone, IfOk, IfErr, IfSome};
-ghost use Rattle.std.specs.Prelude.{IfNone, OnOk, OnErr, OnSome, false, length, option_copied};
+ghost use Rattle.std.specs.Prelude.{◌≡◌, ◌+◌, ◌<◌, ◌↔◌, [], None, Some, IsTrue, IsNone, IfOk, IfErr, IfSome};
+ghost use Rattle.std.specs.Prelude.{IfNone, OnOk, OnErr, OnSome, false, length, option_copied, option_map};
 ghost use Rattle.std.specs.Arc.{arc_value};
 ghost use Rattle.hd_catalogue.specs.Contents.{facts_of};
 ghost use Rattle.hd_rules.specs.Messages.{IsKnownMessage};
+ghost use Rattle.hd_journal.specs.Books.{Book as JournalBook};
 ghost use Rattle.hd_journal.specs.Keepers.{IsAdded};
+ghost use Rattle.hd_journal.specs.Looks.{HasGoneOn};
 ghost use Rattle.hd_journal.specs.Openings.{IsLegalSince};
+ghost use Rattle.hd_journal.specs.declared.fault.TurnFault.TheVariants.{Unwritten};
 ghost use Rattle.hd_hall.specs.Closings.{AreTurnsOf};
-ghost use Rattle.hd_hall.specs.Faults.{IsLockFault};
+ghost use Rattle.hd_hall.specs.Faults.{IsLockFault, IsLookFault};
 ghost use Rattle.hd_hall.specs.Receipts.{HoldsLast, LacksLast, StandsAt, last_receipt};
 ghost use Rattle.hd_hall.specs.Seats.{EachSeat, IsWhole};
 
@@ -19,7 +22,7 @@ use crate::seat::Seat;
 use crate::stored_receipt::StoredReceipt;
 use crate::tickets::{SEATS, Ticket, Tickets};
 use hd_catalogue::Catalogue;
-use hd_journal::{Keeper, Turn, TurnFault};
+use hd_journal::{Keeper, Look, Turn, TurnFault};
 use std::alloc::Allocator;
 use std::marker::PhantomData;
 use std::sync::ledger::{Blank, Book, Share};
@@ -109,6 +112,59 @@ impl<H: House, A: Allocator + Copy, Q: Drop, K: Keeper<A, Q>> HallState<H, A, Q,
         let turn = keeper.take(own)?;
         book.add(share, 1);
         Ok(turn)
+    }
+
+    /// Lends the journal to a reader, where it holds the last of these receipts.
+    ///
+    /// # Errors
+    /// `Estranged` where it lacks that receipt's turn, and else what `show` gives. The reader is as it was.
+    pub(crate) fn look<L: Look<A>>(
+        &self,
+        receipts: &[StoredReceipt<A>],
+        reader: &mut L,
+    ) -> Result<(), TurnFault>
+        requires fits { L.fits reader.old H.opening.contents }
+        ensures saw { OnOk result ((book : JournalBook)
+            × HasGoneOn H.opening (K.turns self.now.keeper) book × L.saw reader.old book reader.new) }
+        ensures legal { IsLegalSince H.opening (K.turns self.now.keeper) }
+        ensures holds { OnOk result (HoldsLast (K.turns self.now.keeper) receipts.now) }
+        ensures why { IfErr result (IsLookFault K.faults (λ front.
+            (front ≡ length (K.turns self.now.keeper))
+            × LacksLast (K.turns self.now.keeper) receipts.now)) }
+        // where the journal holds the seat's last turn, the keeper's own reason is handed on
+        ensures shut { HoldsLast (K.turns self.now.keeper) receipts.now
+            → IfErr result (λ why. option_map Unwritten (K.shut self.now.keeper) ≡ Some why) }
+        ensures err { OnErr result (reader.new ≡ reader.old) }
+    {
+        if !holds_last(&self.keeper, receipts) {
+            return Err(TurnFault::Estranged {
+                front: self.keeper.front(),
+            });
+        }
+        self.show(reader)
+    }
+
+    /// Lends the journal to a reader.
+    ///
+    /// # Errors
+    /// `Unwritten` where the keeper shows it no more, for the keeper's reason. The reader is as it was.
+    pub(crate) fn show<L: Look<A>>(&self, reader: &mut L) -> Result<(), TurnFault>
+        requires fits { L.fits reader.old H.opening.contents }
+        ensures saw { OnOk result ((book : JournalBook)
+            × HasGoneOn H.opening (K.turns self.now.keeper) book × L.saw reader.old book reader.new) }
+        ensures legal { IsLegalSince H.opening (K.turns self.now.keeper) }
+        ensures open { OnOk result (K.shut self.now.keeper ≡ None) }
+        ensures why { IfErr result (IsLookFault K.faults (λ front. ⊥)) }
+        ensures shut { IfErr result (λ why. option_map Unwritten (K.shut self.now.keeper) ≡ Some why) }
+        ensures err { OnErr result (reader.new ≡ reader.old) }
+    {
+        match self.keeper.journal() {
+            Ok(journal) => {
+                reader.look(journal);
+                Ok(())
+            }
+            Err(why) => Err(TurnFault::Unwritten(why)),
+        }
     }
 }
 

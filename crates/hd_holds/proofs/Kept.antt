@@ -10,20 +10,20 @@ use Rattle.hd_catalogue.specs.Contents.{Contents, facts_of}
 use Rattle.hd_queue.specs.Holds.{hold_of}
 use Rattle.hd_queue.specs.QueueValue.{QueueValue}
 use Rattle.hd_holds.specs.HoldsValue.{HoldsValue}
-use Rattle.hd_holds.specs.Held.{IsQueue, facts, patron_hold, no_queue, queue_of, room_of}
-use Rattle.hd_holds.specs.Places.{HasOneMore, IsPlaced, queues_at}
+use Rattle.hd_holds.specs.Held.{IsQueue, facts, patron_hold, no_queue, queue_of, queue_room, room_of}
+use Rattle.hd_holds.specs.declared.held_title.HeldTitle.{HeldTitle}
+use Rattle.hd_holds.specs.HeldListsValue.{AreListed, HeldListsValue}
+use Rattle.hd_holds.specs.Places.{HasOneMore, IsPlaced, kept, queues_at}
 use Rattle.hd_holds.proofs.Queues.{Reads, held-ready, queue_of-set, reads-within, written}
 use Rattle.hd_holds.proofs.Placed.{few-queues, place_of, placed-added, placed-written, queue-none, queue-own, queues-added, queues-written, titles-places}
 
 -- a title's queue written
 
 module _ {v w : HoldsValue} {t : ℕ} {q : QueueValue} (reads : Reads v w t q) where
-  pub room-read : room_of w t ≡ q.room
-  unfolding room_of
+  pub room-read : queue_room w t ≡ q.room
   room-read = ap (λ (x : HoldsValue). (queue_of x.queues t).room) (sym reads.same) ∙ ap (λ (x : QueueValue). x.room) (sym reads.read)
 
-  room-set : (r : QueueValue) (u : ℕ) → room_of (written v t r) u ≡ cond (t == u) r.room (room_of w u)
-  unfolding room_of
+  room-set : (r : QueueValue) (u : ℕ) → queue_room (written v t r) u ≡ cond (t == u) r.room (queue_room w u)
   room-set r u =
       ap (λ (x : QueueValue). x.room) (queue_of-set v.queues t r u (reads-within reads)) ∙ by_title (t == u)
     where
@@ -32,15 +32,15 @@ module _ {v w : HoldsValue} {t : ℕ} {q : QueueValue} (reads : Reads v w t q) w
       by_title false = ap (λ (x : HoldsValue). (queue_of x.queues u).room) reads.same
 
   -- no title has less room than before by more than this title's queue
-  pub room-kept : (r : QueueValue) (n u : ℕ) → q.room ≤ r.room + n → room_of w u ≤ room_of (written v t r) u + n
+  pub room-kept : (r : QueueValue) (n u : ℕ) → q.room ≤ r.room + n → queue_room w u ≤ queue_room (written v t r) u + n
   room-kept r n u le = elim (cases_eq t u) [
-    | inl e ↦ (let new : room_of (written v t r) u ≡ r.room = room-set r u ∙ rw (eq-eqb t u e) refl in
-        let old : room_of w u ≡ q.room = ap (room_of w) (sym e) ∙ room-read in
+    | inl e ↦ (let new : queue_room (written v t r) u ≡ r.room = room-set r u ∙ rw (eq-eqb t u e) refl in
+        let old : queue_room w u ≡ q.room = ap (queue_room w) (sym e) ∙ room-read in
         omega (arith, new, old))
-    | inr ne ↦ (let new : room_of (written v t r) u ≡ room_of w u = room-set r u ∙ rw (ne_eqb t u ne) refl in omega (arith, new))
+    | inr ne ↦ (let new : queue_room (written v t r) u ≡ queue_room w u = room-set r u ∙ rw (ne_eqb t u ne) refl in omega (arith, new))
   ]
 
-  room-new : (r : QueueValue) → room_of (written v t r) t ≡ r.room
+  room-new : (r : QueueValue) → queue_room (written v t r) t ≡ r.room
   room-new r = room-set r t ∙ rw (eq-eqb t t refl) refl
 
   -- the title's queue as it was
@@ -52,10 +52,11 @@ module _ {v w : HoldsValue} {t : ℕ} {q : QueueValue} (reads : Reads v w t q) w
 pub record IsReady {T E : Type 0} (o : Result T E) (old new : HoldsValue) (t more : ℕ) : Type 0 where
   pub held : patron_hold new ≡ patron_hold old
   pub contents : new.contents ≡ old.contents
-  pub ok : OnOk o (more ≤ room_of new t)
+  pub lists : new.room ≡ old.room
+  pub ok : OnOk o (more ≤ queue_room new t)
   pub err : OnErr o (new ≡ old)
-  pub full : OnErr o (room_of old t < more)
-  pub room : (u : ℕ) → room_of old u ≤ room_of new u
+  pub full : OnErr o (queue_room old t < more)
+  pub room : (u : ℕ) → queue_room old u ≤ queue_room new u
 
 pub ready-written : {T E : Type 0} (o : Result T E) {v w : HoldsValue} {t : ℕ} {q : QueueValue} → Reads v w t q →
     (new : HoldsValue) (more : ℕ) (r : QueueValue) → new ≡ written v t r → r.holds ≡ q.holds → OnOk o (more ≤ r.room) → OnErr o (r ≡ q) → OnErr o (q.room < more) → q.room ≤ r.room →
@@ -63,6 +64,7 @@ pub ready-written : {T E : Type 0} (o : Result T E) {v w : HoldsValue} {t : ℕ}
 ready-written (Ok x) {v} reads new more r is holds ok err full room = record {
   held = ap patron_hold is ∙ held-ready reads r holds;
   contents = ap (λ (x : HoldsValue). x.contents) is ∙ ap (λ (x : HoldsValue). x.contents) reads.same;
+  lists = ap (λ (x : HoldsValue). x.room) is ∙ ap (λ (x : HoldsValue). x.room) reads.same;
   ok = rw (is, room-new reads r) ok;
   err = tt;
   full = tt;
@@ -71,14 +73,34 @@ ready-written (Ok x) {v} reads new more r is holds ok err full room = record {
 ready-written (Err e) {v} {w} {t} reads new more r is holds ok err full room = record {
   held = ap patron_hold is ∙ held-ready reads r holds;
   contents = ap (λ (x : HoldsValue). x.contents) is ∙ ap (λ (x : HoldsValue). x.contents) reads.same;
+  lists = ap (λ (x : HoldsValue). x.room) is ∙ ap (λ (x : HoldsValue). x.room) reads.same;
   ok = tt;
   err = is ∙ ap (written v t) err ∙ written-same reads;
   full = rw (room-read reads) full;
   room = λ u. rw is (omega (arith, room-kept reads r 0 u (omega arith)));
 }
 
+-- where there is room for a hold of a title, its queue has room and the patrons' lists do
+pub queue-some : (v : HoldsValue) (t : ℕ) → 0 < room_of v t → 0 < queue_room v t
+unfolding room_of
+queue-some v t some = omega (arith, some)
+
+pub lists-some : (v : HoldsValue) (t : ℕ) → 0 < room_of v t → 0 < v.room
+unfolding room_of
+lists-some v t some = omega (arith, some)
+
+-- room in the patrons' lists says nothing of what is held
+pub held-room : (v : HoldsValue) (n : ℕ) → patron_hold (record v { room = n }) ≡ patron_hold v
+unfolding patron_hold
+held-room v n = refl
+
+-- no title has less room than before by more than its queue or the patrons' lists
+pub room-less : (v w : HoldsValue) (n : ℕ) → ((t : ℕ) → queue_room v t ≤ queue_room w t + n) → v.room ≤ w.room + n → (t : ℕ) → room_of v t ≤ room_of w t + n
+unfolding room_of
+room-less v w n queues lists t = omega (arith, queues t, lists)
+
 -- a title without a queue has no hold, and no room for one
-pub held-none : {v w : HoldsValue} {t : ℕ} → Reads v w t no_queue → (p : ℕ) (o : Option Hold) → ((x : Hold) → o ≡ Some x → 0 < room_of w t) →
+pub held-none : {v w : HoldsValue} {t : ℕ} → Reads v w t no_queue → (p : ℕ) (o : Option Hold) → ((x : Hold) → o ≡ Some x → 0 < queue_room w t) →
     patron_hold w ≡ (λ u n. cond ((t == u) && (p == n)) o (patron_hold w u n))
 unfolding patron_hold
 held-none {v} {w} {t} reads p None room = λ j u n. each u n j
@@ -96,26 +118,22 @@ held-none {v} {w} {t} reads p None room = λ j u n. each u n j
         by_title true e false = refl
         by_title false e d = refl
 held-none {v} {w} {t} reads p (Some x) room =
-    let some : 0 < room_of w t = room x refl in
-    let none : room_of w t ≡ 0 = room-read reads in
+    let some : 0 < queue_room w t = room x refl in
+    let none : queue_room w t ≡ 0 = room-read reads in
     absurd (omega arith)
 
--- the holds, as they are kept
-abbrev pub kept : Contents → List ℕ → List QueueValue → HoldsValue
-kept contents ps qs = record { contents = contents; queues = queues_at qs ps }
-
 -- the place of a title, as the code reads it, of holds w
-pub record ReadsPlace (contents : Contents) (ps : List ℕ) (qs : List QueueValue) (w : HoldsValue) (i t p : ℕ) : Type 0 where
-  pub same : kept contents ps qs ≡ w
+pub record ReadsPlace (contents : Contents) (ps : List ℕ) (qs : List QueueValue) (n : ℕ) (w : HoldsValue) (i t p : ℕ) : Type 0 where
+  pub same : kept contents ps qs n ≡ w
   pub all : IsPlaced (facts_of contents) ps qs
   pub index : i ≡ t
   pub within : t < (facts w).titles
   pub read : p ≡ get_or ps i p
 
 -- a title has a place
-pub index-within : {contents : Contents} {ps : List ℕ} {qs : List QueueValue} {w : HoldsValue} {i t : ℕ} → kept contents ps qs ≡ w →
+pub index-within : {contents : Contents} {ps : List ℕ} {qs : List QueueValue} {n : ℕ} {w : HoldsValue} {i t : ℕ} → kept contents ps qs n ≡ w →
     IsPlaced (facts_of contents) ps qs → i ≡ t → t < (facts w).titles → i < length ps
-index-within {contents} {ps} {qs} {w} {i} {t} same all index within =
+index-within {contents} {ps} {qs} {n} {w} {i} {t} same all index within =
     let P : HoldsValue → Type 0 = λ x. t < (facts x).titles in
     omega (arith, index, subst P (sym same) within, titles-places (facts_of contents) ps qs all)
 
@@ -123,8 +141,8 @@ index-within {contents} {ps} {qs} {w} {i} {t} same all index within =
 pub queues-few : {k : Facts} {ps : List ℕ} {qs : List QueueValue} → IsPlaced k ps qs → length qs < 2 ^ 32
 queues-few {k} {ps} {qs} all = omega (arith, few-queues k ps qs all, all.titles.range.titles)
 
-module _ {contents : Contents} {ps : List ℕ} {qs : List QueueValue} {w : HoldsValue} {i t p : ℕ}
-    (at : ReadsPlace contents ps qs w i t p) where
+module _ {contents : Contents} {ps : List ℕ} {qs : List QueueValue} {n : ℕ} {w : HoldsValue} {i t p : ℕ}
+    (at : ReadsPlace contents ps qs n w i t p) where
   of_title : t < (facts_of contents).titles
   of_title = let P : HoldsValue → Type 0 = λ x. t < (facts x).titles in subst P (sym at.same) at.within
 
@@ -141,7 +159,7 @@ module _ {contents : Contents} {ps : List ℕ} {qs : List QueueValue} {w : Holds
     own-place : 0 < place_of ps t
     own-place = omega (arith, is-place)
 
-    pub reads-own : (q : QueueValue) → q ≡ get_or qs p q → Reads (kept contents ps qs) w t q
+    pub reads-own : (q : QueueValue) → q ≡ get_or qs p q → Reads (kept contents ps qs n) w t q
     reads-own q read = record {
       same = at.same;
       within = at.within;
@@ -150,9 +168,9 @@ module _ {contents : Contents} {ps : List ℕ} {qs : List QueueValue} {w : Holds
       all = at.all.titles;
     }
 
-    pub written-own : (r : QueueValue) → kept contents ps (set qs p r) ≡ written (kept contents ps qs) t r
-    written-own r = ap (λ (n : ℕ). kept contents ps (set qs n r)) is-place
-        ∙ ap (λ (ls : List QueueValue). record { contents = contents; queues = ls })
+    pub written-own : (r : QueueValue) → kept contents ps (set qs p r) n ≡ written (kept contents ps qs n) t r
+    written-own r = ap (λ (m : ℕ). kept contents ps (set qs m r) n) is-place
+        ∙ ap (λ (ls : List QueueValue). record { contents = contents; queues = ls; room = n })
         (queues-written (facts_of contents) ps qs at.all t r of_title own-place)
 
     pub placed-own : (r : QueueValue) → IsQueue (facts_of contents) r.holds → IsPlaced (facts_of contents) ps (set qs p r)
@@ -165,25 +183,25 @@ module _ {contents : Contents} {ps : List ℕ} {qs : List QueueValue} {w : Holds
     no-place : place_of ps t ≡ 0
     no-place = sym is-place ∙ none
 
-    pub reads-none : Reads (kept contents ps qs) w t no_queue
+    pub reads-none : Reads (kept contents ps qs n) w t no_queue
     reads-none = record { same = at.same; within = at.within; read = sym (queue-none qs ps t no-place); all = at.all.titles }
 
     -- after one was added for the title, or there was no memory for it
     module _ (new_ps : List ℕ) (new_qs : List QueueValue) (more : ℕ) (some : 0 < more) where
       pub ready-added : {T E : Type 0} (o : Result T E) → OnOk o (new_ps ≡ set ps i (length qs)) → OnOk o (HasOneMore more qs new_qs) →
-          OnErr o (new_ps ≡ ps) → OnErr o (new_qs ≡ qs) → IsReady o w (kept contents new_ps new_qs) t more
+          OnErr o (new_ps ≡ ps) → OnErr o (new_qs ≡ qs) → IsReady o w (kept contents new_ps new_qs n) t more
       ready-added (Ok x) places queues same_places same_queues =
-          let new : kept contents new_ps new_qs ≡ written (kept contents ps qs) t queues.0 =
-          (λ j. kept contents (places j) (queues.1 j))
-          ∙ ap (λ (n : ℕ). kept contents (set ps n (length qs)) (qs ++ queues.0 ∷ [])) at.index
-          ∙ ap (λ (ls : List QueueValue). record { contents = contents; queues = ls })
+          let new : kept contents new_ps new_qs n ≡ written (kept contents ps qs n) t queues.0 =
+          (λ j. kept contents (places j) (queues.1 j) n)
+          ∙ ap (λ (m : ℕ). kept contents (set ps m (length qs)) (qs ++ queues.0 ∷ []) n) at.index
+          ∙ ap (λ (ls : List QueueValue). record { contents = contents; queues = ls; room = n })
           (queues-added (facts_of contents) ps qs at.all t queues.0 of_title) in
-          ready-written (Ok x) reads-none (kept contents new_ps new_qs) more queues.0 new queues.2 queues.3 tt tt (omega arith)
+          ready-written (Ok x) reads-none (kept contents new_ps new_qs n) more queues.0 new queues.2 queues.3 tt tt (omega arith)
       ready-added (Err e) places queues same_places same_queues =
-          let new : kept contents new_ps new_qs ≡ written (kept contents ps qs) t no_queue =
-          (λ j. kept contents (same_places j) (same_queues j)) ∙ at.same
+          let new : kept contents new_ps new_qs n ≡ written (kept contents ps qs n) t no_queue =
+          (λ j. kept contents (same_places j) (same_queues j) n) ∙ at.same
           ∙ sym (written-same reads-none) in
-          ready-written (Err e) reads-none (kept contents new_ps new_qs) more no_queue new refl tt refl some (omega arith)
+          ready-written (Err e) reads-none (kept contents new_ps new_qs n) more no_queue new refl tt refl some (omega arith)
 
       pub placed-ready : {T E : Type 0} (o : Result T E) → OnOk o (new_ps ≡ set ps i (length qs)) → OnOk o (HasOneMore more qs new_qs) →
           OnErr o (new_ps ≡ ps) → OnErr o (new_qs ≡ qs) → IsPlaced (facts_of contents) new_ps new_qs
@@ -191,3 +209,10 @@ module _ {contents : Contents} {ps : List ℕ} {qs : List QueueValue} {w : Holds
           rw (places, queues.1, at.index)
           (placed-added (facts_of contents) ps qs at.all t queues.0 of_title no-place queues.2)
       placed-ready (Err e) places queues same_places same_queues = rw (same_places, same_queues) at.all
+
+-- what is listed, where the patrons' lists got room or gave it up
+pub listed-room : (v w : HeldListsValue) (h : HoldsValue) (n : ℕ) → w.lists ≡ v.lists → AreListed v (patron_hold h) →
+    AreListed w (patron_hold (record h { room = n }))
+listed-room v w h n same listed =
+    subst (AreListed w) (sym (held-room h n))
+    (subst (λ (ls : List (List HeldTitle)). AreListed (record { lists = ls; room = 0 }) (patron_hold h)) (sym same) listed)

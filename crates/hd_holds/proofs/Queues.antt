@@ -1,9 +1,9 @@
 -- The queues of all titles.
 use Rattle.std.proofs.Common.{◌≡◌, ℕ, ◌+◌, ◌<◌, ◌≤◌, ◌==◌, ◌&&◌, Bool, true, false, cond, List, [], Option, None, Some, is_some}
-use Rattle.std.proofs.Common.{refl, ap, sym, ◌∙◌, inl, inr, length, eq-eqb}
+use Rattle.std.proofs.Common.{refl, ap, arith, sym, ◌∙◌, inl, inr, length, eq-eqb}
 use Rattle.std.proofs.Math.ListN.{set}
-use Rattle.std.proofs.lemmas.Bool.{cases_Bool, eqb-true}
-use Rattle.std.proofs.lemmas.List.{get_or-set_same, get_or-set_other, length-set}
+use Rattle.std.proofs.lemmas.Bool.{cases_Bool, cases_lt, eqb-true}
+use Rattle.std.proofs.lemmas.List.{get_or-set_same, get_or-set_other, get_or_past, length-set}
 use Rattle.hd_rules.specs.declared.holds.Hold.{Hold}
 use Rattle.hd_rules.specs.Facts.{Facts}
 use Rattle.hd_rules.specs.Desk.{Desk}
@@ -13,7 +13,7 @@ use Rattle.hd_rules.specs.Choose.{count_below, is_before, position}
 use Rattle.hd_queue.specs.Holds.{HasNoStamp, count_before, hold_of, without}
 use Rattle.hd_queue.specs.QueueValue.{QueueValue}
 use Rattle.hd_holds.specs.HoldsValue.{HoldsValue}
-use Rattle.hd_holds.specs.Held.{AreQueues, IsQueue, IsWelcome, facts, patron_hold, queue_of, with_held}
+use Rattle.hd_holds.specs.Held.{AreQueues, IsQueue, IsWelcome, facts, no_queue, patron_hold, queue_of, with_held}
 use Rattle.hd_holds.proofs.Counts.{count-all, count-holds}
 use Rattle.hd_queue.specs.Laws.{QueuesStayInOrder}
 use Rattle.hd_holds.proofs.Lists.{hold-named, hold_of-with_held, known-held, known-patrons, no_stamp-without, queue-with_held, stamps-apart}
@@ -117,11 +117,16 @@ pub record Reads (v w : HoldsValue) (t : ℕ) (q : QueueValue) : Type 0 where
 
 -- the holds with another queue of a title
 abbrev pub written : HoldsValue → ℕ → QueueValue → HoldsValue
-written v t r = record { contents = v.contents; queues = set v.queues t r }
+written v t r = record v { queues = set v.queues t r }
 
 module _ {v w : HoldsValue} {t : ℕ} {q : QueueValue} (reads : Reads v w t q) where
   pub reads-within : t < length v.queues
   reads-within = rw (reads.all.titles, reads.same) reads.within
+
+  -- the patron's hold, as it was read
+  pub held-read : (p : ℕ) → hold_of q.holds p ≡ patron_hold w t p
+  unfolding patron_hold
+  held-read p = ap (λ (x : QueueValue). hold_of x.holds p) reads.read ∙ ap (λ (x : HoldsValue). patron_hold x t p) reads.same
 
   -- more room alone
   pub held-ready : (r : QueueValue) → r.holds ≡ q.holds → patron_hold (written v t r) ≡ patron_hold w
@@ -170,3 +175,12 @@ held-apart v all = λ t p q g h one two same. stamps-apart (queue_of v.queues t)
 pub held-known : (v : HoldsValue) → AreQueues (facts v) v.queues → (t p : ℕ) → IsKnownHeld (facts v) (patron_hold v t p)
 unfolding patron_hold
 held-known v all t p = known-held (facts v) (queue_of v.queues t).holds p (all.queue t).known
+
+pub held-within : (v : HoldsValue) → AreQueues (facts v) v.queues → (t p : ℕ) (h : Hold) → patron_hold v t p ≡ Some h → t < (facts v).titles
+unfolding patron_hold
+held-within v all t p h is = elim (cases_lt t (facts v).titles) [
+  | inl below ↦ below
+  | inr past ↦ absurd (let none : queue_of v.queues t ≡ no_queue = get_or_past v.queues t no_queue (omega (arith, past, all.titles)) in
+      let nothing : hold_of (queue_of v.queues t).holds p ≡ None = ap (λ (q : QueueValue). hold_of q.holds p) none in
+      let no : ⊥ = cc in no)
+]

@@ -1,5 +1,5 @@
 -- The holds of the titles of a library.
-use Rattle.std.specs.Prelude.{◌≡◌, ℕ, ◌<◌, List, [], ◌∷◌, Option, None, Some, get_or, length}
+use Rattle.std.specs.Prelude.{◌≡◌, ℕ, ◌<◌, List, [], ◌∷◌, Option, None, Some, get_or, length, min}
 use Rattle.hd_rules.specs.declared.holds.Hold.{Hold}
 use Rattle.hd_rules.specs.Facts.{Facts, AreInRange}
 use Rattle.hd_rules.specs.Known.{IsKnownHold}
@@ -24,9 +24,13 @@ queue_of queues title = get_or queues title no_queue
 unfoldable pub patron_hold : HoldsValue → ℕ → ℕ → Option Hold
 patron_hold v title patron = hold_of (queue_of v.queues title).holds patron
 
--- how many more holds of the title there is room for
+-- how many more holds the title's queue has room for
+abbrev pub queue_room : HoldsValue → ℕ → ℕ
+queue_room v title = (queue_of v.queues title).room
+
+-- how many more holds of the title there is room for, in its queue and in the patrons' lists
 unfoldable pub room_of : HoldsValue → ℕ → ℕ
-room_of v title = (queue_of v.queues title).room
+room_of v title = min (queue_room v title) v.room
 
 -- The hold may become the patron's of the title: it is the patron's own, and no other patron's has its stamp.
 abbrev pub IsWelcome : (ℕ → ℕ → Option Hold) → ℕ → ℕ → Option Hold → Type 0

@@ -1,3 +1,5 @@
 pub mod HoldsValue
 pub mod Held
+pub mod HeldListsValue
+pub mod HeldTitles
 pub mod Places

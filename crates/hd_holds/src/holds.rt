@@ -4,6 +4,7 @@
 ghost use Rattle.std.specs.Prelude.{[], ◌≡◌, ◌+◌, ◌<◌, ◌≤◌, ◌==◌, ◌&&◌, ℕ, if◌then◌else◌, IfOk, None, OnErr};
 ghost use Rattle.std.specs.Prelude.{◌^◌, ◌↔◌, IsTrue, OnOk, Option, is_some, length, slice_set};
 ghost use Rattle.std.specs.Arc.{arc_value};
+ghost use Rattle.std.specs.List.{AllByRecursion};
 ghost use Rattle.std.specs.Option.{ForSome};
 ghost use Rattle.hd_rules.specs.Choose.{count_below, position};
 ghost use Rattle.hd_rules.specs.Desk.{Desk};
@@ -12,9 +13,12 @@ ghost use Rattle.hd_rules.specs.Sound.{AreNamed, StampsApart};
 ghost use Rattle.hd_queue.specs.Holds.{HasNoStamp, HasPatronsOnce, IsInOrder, hold_of, without};
 ghost use Rattle.hd_holds.specs.Held.{AreKnown, AreOfPatrons, AreQueues, IsQueue, IsStampOf};
 ghost use Rattle.hd_holds.specs.Held.{IsWelcome, facts, patron_hold};
-ghost use Rattle.hd_holds.specs.Held.{queue_of, room_of, with_held};
+ghost use Rattle.hd_holds.specs.Held.{queue_of, queue_room, room_of, with_held};
+ghost use Rattle.hd_holds.specs.HeldTitles.{AreHeldBy};
 ghost use Rattle.hd_holds.specs.Places.{HasOneMore};
 
+use crate::held_lists::HeldLists;
+use crate::held_title::HeldTitle;
 use hd_catalogue::Catalogue;
 use hd_queue::{Queue, QueueView, queues_stay_in_order};
 use hd_rules::{Hold, PatronNo, TitleNo};
@@ -25,7 +29,8 @@ use std::sync::Arc;
 /// The holds of all titles of a library: at most one a title and patron, those of a title in order of stamp
 /// (docs/desk-rules.md, "State").
 ///
-/// Only `open` and `ready` take memory: a title four bytes, and a queue once room is made for a hold of it.
+/// Only `open` and `ready` take memory: a title four bytes, and a queue once room is made for a hold of it. A
+/// hold takes sixteen more in its patron's list.
 #[derive(Drop)]
 pub struct Holds<A: Allocator = Global> {
     catalogue: Arc<Catalogue<A>, A>,
@@ -33,22 +38,25 @@ pub struct Holds<A: Allocator = Global> {
     places: Vec<u32, A>,
     /// First a queue without holds, which stands for those that aren't there, and then the titles' own.
     queues: Vec<Queue<A>, A>,
+    /// The titles of which each patron has a hold.
+    held: HeldLists<A>,
 }
 
 impl<A: Allocator> Model for Holds<A> {
     ghost use Rattle.std.specs.Arc.{arc_value};
     ghost use Rattle.hd_catalogue.specs.Contents.{facts_of};
     ghost use Rattle.hd_holds.specs.HoldsValue.{HoldsValue};
-    ghost use Rattle.hd_holds.specs.Places.{IsPlaced, queues_at};
+    ghost use Rattle.hd_holds.specs.Held.{patron_hold};
+    ghost use Rattle.hd_holds.specs.HeldListsValue.{AreListed};
+    ghost use Rattle.hd_holds.specs.Places.{IsPlaced, kept};
 
     ghost Value = { HoldsValue };
 
-    ghost view = { λ h. record {
-      contents = arc_value h.catalogue;
-      queues = queues_at h.queues.items h.places.items;
-    } };
+    ghost view = { λ h. kept (arc_value h.catalogue) h.places.items h.queues.items h.held.room };
 
-    ghost invariant = { λ h. IsPlaced (facts_of (arc_value h.catalogue)) h.places.items h.queues.items };
+    ghost invariant = { λ h. IsPlaced (facts_of (arc_value h.catalogue)) h.places.items h.queues.items
+        × AreListed h.held
+        (patron_hold (kept (arc_value h.catalogue) h.places.items h.queues.items h.held.room)) };
 }
 
 impl<A: Allocator + Copy> Holds<A> {
@@ -60,10 +68,12 @@ impl<A: Allocator + Copy> Holds<A> {
         let places = vec![in alloc; 0; catalogue.titles()]?;
         let mut queues = Vec::new(alloc);
         queues.push(Queue::new(alloc))?;
+        let held = HeldLists::new(alloc, catalogue.patrons())?;
         Ok(Holds {
             catalogue,
             places,
             queues,
+            held,
         })
     }
 
@@ -91,6 +101,26 @@ impl<A: Allocator + Copy> Holds<A> {
         ensures err { OnErr result (self.new ≡ self.old) }
         ensures full { OnErr result (room_of self.old title < more) }
         ensures room { (t : ℕ) → room_of self.old t ≤ room_of self.new t }
+    {
+        let room = self.held.room();
+        self.held.ready(more)?;
+        if let Err(wanting) = self.ready_queue(title, more) {
+            self.held.give_up(room);
+            return Err(wanting);
+        }
+        Ok(())
+    }
+
+    /// Makes room for that many puts in the title's queue.
+    fn ready_queue(&mut self, title: TitleNo, more: usize) -> Result<(), AllocError>
+        requires { title < (facts self.old).titles }
+        ensures held { patron_hold self.new ≡ patron_hold self.old }
+        ensures contents { self.new.contents ≡ self.old.contents }
+        ensures lists { self.new.room ≡ self.old.room }
+        ensures ok { OnOk result (more ≤ queue_room self.new title) }
+        ensures err { OnErr result (self.new ≡ self.old) }
+        ensures full { OnErr result (queue_room self.old title < more) }
+        ensures room { (t : ℕ) → queue_room self.old t ≤ queue_room self.new t }
     {
         let at = title.number() as usize;
         let place = self.places[at];
@@ -122,8 +152,19 @@ impl<A: Allocator + Copy> Holds<A> {
         let place = self.places[title.number() as usize];
         // A title without a queue has no hold that could end, and no room for one.
         if place > 0 {
-            replace(&mut self.queues[place as usize], patron, new);
+            let old = replace(&mut self.queues[place as usize], patron, new);
+            self.held.take_of(title, &old);
+            self.held.put_of(title, new);
         }
+    }
+
+    /// The titles of which the patron has a hold, by rising stamp, those of one stamp by title number. They are
+    /// found by halving, without a walk over the titles.
+    pub fn of_patron(&self, patron: PatronNo) -> &[HeldTitle]
+        ensures titles { AreHeldBy (patron_hold self.now) patron result.now }
+        ensures known { AllByRecursion (λ held. held.title < (facts self.now).titles) result.now }
+    {
+        self.held.of(patron)
     }
 
     /// Whether a hold of the title has this stamp. It is found without a walk over the queue.
@@ -211,15 +252,18 @@ fn add_queue<A: Allocator + Copy>(
 }
 
 /// Takes a patron's hold out of a queue, and puts the new one in at the place of its stamp, if there is one.
-fn replace<A: Allocator>(queue: &mut Queue<A>, patron: PatronNo, new: &Option<Hold>)
+/// Answers the old one.
+fn replace<A: Allocator>(queue: &mut Queue<A>, patron: PatronNo, new: &Option<Hold>) -> Option<Hold>
     requires room { ForSome new.now (λ hold. 0 < queue.old.room) }
     requires patron { ForSome new.now (λ hold. hold.patron ≡ patron) }
     requires stamp { ForSome new.now (λ hold. HasNoStamp hold.stamp (without queue.old.holds patron)) }
+    ensures old { result ≡ hold_of queue.old.holds patron }
     ensures holds { queue.new.holds ≡ with_held queue.old.holds patron new.now }
     ensures room { queue.old.room ≤ queue.new.room + 1 }
 {
-    queue.take(patron);
+    let old = queue.take(patron);
     if let Some(hold) = new {
         queue.put_at_stamp(*hold);
     }
+    old
 }

@@ -1,5 +1,6 @@
 -- Counts that only rise.
-use Rattle.std.proofs.Common.{◌≡◌, refl, sym, ◌∙◌, ap, ℕ, zero, suc, List, [], ◌∷◌, ◌++◌, length, Result, Ok, Err, IfOk, OnErr}
+use Rattle.std.proofs.Common.{◌≡◌, refl, sym, ◌∙◌, ap, ℕ, zero, suc, List, [], ◌∷◌, ◌++◌, length, Result, Ok}
+use Rattle.std.proofs.Common.{Err, IfOk, OnErr}
 use Rattle.hd_footprint.specs.Meter.{Counts, with_one_more}
 use Rattle.hd_footprint.specs.declared.count.Count.{Count}
 use Rattle.hd_footprint.specs.declared.count.Count.TheVariants.{Step, Written}
@@ -16,7 +17,8 @@ rise_none old new is = ([], is)
 pub rise_step : (old new : Counts) → new ≡ with_one_more old Step → OnlyRise old new
 rise_step old new is = (Step ∷ [], is)
 
-added_joined : (xs ys : List Count) (counts : Counts) → all_added (xs ++ ys) counts ≡ all_added ys (all_added xs counts)
+added_joined : (xs ys : List Count) (counts : Counts)
+    → all_added (xs ++ ys) counts ≡ all_added ys (all_added xs counts)
 added_joined [] ys counts = refl
 added_joined (x ∷ xs) ys counts = added_joined xs ys (with_one_more counts x)
 
@@ -35,7 +37,8 @@ added_writes zero counts = refl
 added_writes (suc n) counts = added_writes n (with_one_more counts Written)
 
 -- a step, and the cells that it writes
-pub rise_written : (n : ℕ) (old new : Counts) → new ≡ after_writes n (with_one_more old Step) → OnlyRise old new
+pub rise_written : (n : ℕ) (old new : Counts) → new ≡ after_writes n (with_one_more old Step)
+    → OnlyRise old new
 rise_written n old new is = (Step ∷ writes n, is ∙ added_writes n (with_one_more old Step))
 
 -- a command that was done at a desk

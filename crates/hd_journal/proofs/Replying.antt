@@ -20,7 +20,8 @@ module _ (old new : Book) (seat : ℕ) (m : Message) (made : Made) (adds : AddsT
   pub turns_grow : new.turns ≡ old.turns ++ record { seat = seat; message = m; reply = made.reply } ∷ []
   turns_grow =
       adds.turns
-      ∙ ap (λ (reply : TurnReply). old.turns ++ record { seat = seat; message = m; reply = reply } ∷ []) (sym adds.reply)
+      ∙ ap (λ (reply : TurnReply). old.turns ++ record { seat = seat; message = m; reply = reply } ∷ [])
+      (sym adds.reply)
 
   -- it is one of them
   among_new : IsAmong (next_turn old seat m) new.turns
@@ -30,7 +31,8 @@ module _ (old new : Book) (seat : ℕ) (m : Message) (made : Made) (adds : AddsT
 
   -- its reply is one to its message
   pub reply_fits : IsLegalBook new.contents new.turns → IsReplyTo m.asked made.reply
-  reply_fits legal = subst (IsReplyTo m.asked) (sym adds.reply) (legal.replies (next_turn old seat m) among_new)
+  reply_fits legal = subst (IsReplyTo m.asked) (sym adds.reply)
+      (legal.replies (next_turn old seat m) among_new)
 
   -- and names things of the catalogue
   pub reply_known : IsLegalBook new.contents new.turns → IsKnownTurnReply (facts_of old.contents) made.reply

@@ -9,15 +9,18 @@ use Rattle.hd_rules.specs.Sound.{Sound}
 use Rattle.hd_journal.specs.SurvivorRun.{IsKnownSurvivor, AllKnownSurvivors, MayRun}
 use Rattle.hd_lemmas.proofs.Rules.{later_sound, rising_without, rising_more, run_from_more}
 
-pub run_more : (k : Facts) (xs : List Survivor) (s : Survivor) (d e : Desk) → d ≡ run k xs → e ≡ step k d s → e ≡ run k (xs ++ s ∷ [])
+pub run_more : (k : Facts) (xs : List Survivor) (s : Survivor) (d e : Desk) → d ≡ run k xs → e ≡ step k d s
+    → e ≡ run k (xs ++ s ∷ [])
 run_more k xs s d e is next =
     next ∙ ap (λ (x : Desk). step k x s) is ∙ sym (run_from_more k k.opening.desk xs s)
 
-pub sound_below : CommandsKeepDesksSound → (k : Facts) (xs : List Survivor) (n : ℕ) (d : Desk) → d ≡ run k xs → MayRun k xs
+pub sound_below : CommandsKeepDesksSound → (k : Facts) (xs : List Survivor) (n : ℕ) (d : Desk) → d ≡ run k xs
+    → MayRun k xs
     → next_number (first_number k) xs ≤ n → Sound k n d
 sound_below law k xs n d is may next =
     subst (Sound k n) (sym is)
-    (later_sound k (next_number (first_number k) xs) n (run k xs) next (law.runs k xs may.opens.sound may.rising))
+    (later_sound k (next_number (first_number k) xs) n (run k xs) next
+    (law.runs k xs may.opens.sound may.rising))
 
 -- parts of a list of which each names things of the catalogue
 all_first : (k : Facts) (xs ys : List Survivor) → AllKnownSurvivors k (xs ++ ys) → AllKnownSurvivors k xs
@@ -28,12 +31,14 @@ all_rest : (k : Facts) (xs ys : List Survivor) → AllKnownSurvivors k (xs ++ ys
 all_rest k [] ys h = h
 all_rest k (x ∷ xs) ys h = all_rest k xs ys h.1
 
-all_both : (k : Facts) (xs ys : List Survivor) → AllKnownSurvivors k xs → AllKnownSurvivors k ys → AllKnownSurvivors k (xs ++ ys)
+all_both : (k : Facts) (xs ys : List Survivor) → AllKnownSurvivors k xs → AllKnownSurvivors k ys
+    → AllKnownSurvivors k (xs ++ ys)
 all_both k [] ys left right = right
 all_both k (x ∷ xs) ys left right = (left.0, all_both k xs ys left.1 right)
 
 -- a list that may be run, without the one at a place
-pub may_run_without : (k : Facts) (xs : List Survivor) (c : Survivor) (ys : List Survivor) → MayRun k (xs ++ c ∷ ys) → MayRun k (xs ++ ys)
+pub may_run_without : (k : Facts) (xs : List Survivor) (c : Survivor) (ys : List Survivor)
+    → MayRun k (xs ++ c ∷ ys) → MayRun k (xs ++ ys)
 may_run_without k xs c ys may = record {
   opens = may.opens;
   rising = rising_without (first_number k) xs c ys may.rising;
@@ -41,7 +46,8 @@ may_run_without k xs c ys may = record {
 }
 
 -- with one more
-pub may_run_last : (k : Facts) (xs : List Survivor) (s : Survivor) → MayRun k xs → IsKnownSurvivor k s → next_number (first_number k) xs ≤ s.number
+pub may_run_last : (k : Facts) (xs : List Survivor) (s : Survivor) → MayRun k xs → IsKnownSurvivor k s
+    → next_number (first_number k) xs ≤ s.number
     → MayRun k (xs ++ s ∷ [])
 may_run_last k xs s may adds next = record {
   opens = may.opens;

@@ -28,7 +28,8 @@ none_older n m (x ∷ xs) le rising =
     grind (arith, nat_tests, up, rest)
 
 -- records cut where their survivors are
-record Cut (m n : ℕ) (rs : List Record) (ss : List Survivor) (s : Survivor) (ts : List Survivor) : Type 0 where
+record Cut (m n : ℕ) (rs : List Record) (ss : List Survivor) (s : Survivor)
+    (ts : List Survivor) : Type 0 where
   aim : Record
   is : survivor_of aim ≡ s
   at : IsAt rs n aim
@@ -47,7 +48,8 @@ abbrev rest_of : List Survivor → List Survivor
 rest_of [] = []
 rest_of (x ∷ xs) = xs
 
-here : (m n : ℕ) (x : Record) (xs : List Record) (s : Survivor) (ts : List Survivor) → Rising m (survivors_of (x ∷ xs))
+here : (m n : ℕ) (x : Record) (xs : List Record) (s : Survivor) (ts : List Survivor)
+    → Rising m (survivors_of (x ∷ xs))
     → survivor_of x ≡ s → survivors_of xs ≡ ts → s.number ≡ n → Cut m n (x ∷ xs) [] s ts
 here m n x xs s ts rising head tail number =
     let same : x.number ≡ n = ap (λ (y : Survivor). y.number) head ∙ number in
@@ -65,12 +67,15 @@ here m n x xs s ts rising head tail number =
       above = omega (arith, same, rising.0);
     }
 
-cut : (m n : ℕ) (rs : List Record) (ss : List Survivor) (s : Survivor) (ts : List Survivor) → Rising m (survivors_of rs)
+cut : (m n : ℕ) (rs : List Record) (ss : List Survivor) (s : Survivor) (ts : List Survivor)
+    → Rising m (survivors_of rs)
     → survivors_of rs ≡ ss ++ s ∷ ts → s.number ≡ n → Cut m n rs ss s ts
 cut m n [] ss s ts rising is number = absurd (no_nil ss s ts is)
-cut m n (x ∷ xs) [] s ts rising is number = here m n x xs s ts rising (ap (first_or s) is) (ap rest_of is) number
+cut m n (x ∷ xs) [] s ts rising is number =
+    here m n x xs s ts rising (ap (first_or s) is) (ap rest_of is) number
 cut m n (x ∷ xs) (y ∷ ys) s ts rising is number =
-    let rest : Cut (x.number + 1) n xs ys s ts = cut (x.number + 1) n xs ys s ts rising.1 (ap rest_of is) number in
+    let rest : Cut (x.number + 1) n xs ys s ts =
+    cut (x.number + 1) n xs ys s ts rising.1 (ap rest_of is) number in
     let low : x.number < n = omega (arith, rest.above) in
     let before : older n (x ∷ xs) ≡ x ∷ older n xs = grind (arith, nat_tests, low) in
     let after : newer n (x ∷ xs) ≡ newer n xs = grind (arith, nat_tests, low) in
@@ -80,7 +85,8 @@ cut m n (x ∷ xs) (y ∷ ys) s ts rising is number =
       is = rest.is;
       at = record {
         there = skip ∙ rest.at.there;
-        split = ap (λ (zs : List Record). x ∷ zs) rest.at.split ∙ (λ j. sym before j ++ rest.aim ∷ sym after j);
+        split = ap (λ (zs : List Record). x ∷ zs) rest.at.split
+            ∙ (λ j. sym before j ++ rest.aim ∷ sym after j);
       };
       before = ap survivors_of before ∙ (λ j. ap (first_or (survivor_of x)) is j ∷ rest.before j);
       after = ap survivors_of after ∙ rest.after;
@@ -108,23 +114,32 @@ no_number n is = subst (λ (o : Option ℕ). IsNumber o) is tt
     IsNumber None = ⊥
     IsNumber (Some x) = Unit {0}
 
-pub aimed : (laws : CancellationLaws) (terminal : ℕ) (what : Cancel) (rs : List Record) (n m : ℕ) → Rising m (survivors_of rs)
+pub aimed : (laws : CancellationLaws) (terminal : ℕ) (what : Cancel) (rs : List Record) (n m : ℕ)
+    → Rising m (survivors_of rs)
     → Some n ≡ target_of terminal what rs → Aimed terminal what rs n
 aimed laws terminal what rs n m rising is = by_target (target terminal what (survivors_of rs)) refl
   where
     by_target : (o : Option Split) → target terminal what (survivors_of rs) ≡ o → Aimed terminal what rs n
-    by_target None found = absurd (no_number n (is ∙ ap (option_map (λ (at : Split). at.survivor.number)) found))
+    by_target None found = absurd
+        (no_number n (is ∙ ap (option_map (λ (at : Split). at.survivor.number)) found))
     by_target (Some at) found =
-        let parts : IsTarget terminal what (survivors_of rs) at = (laws.target.found terminal what (survivors_of rs) at).0 found in
+        let parts : IsTarget terminal what (survivors_of rs) at =
+        (laws.target.found terminal what (survivors_of rs) at).0 found in
         let number : at.survivor.number ≡ n =
-        sym (some_number n at.survivor.number (is ∙ ap (option_map (λ (x : Split). x.survivor.number)) found)) in
-        let there : Cut m n rs at.older at.survivor at.newer = cut m n rs at.older at.survivor at.newer rising parts.split number in
+        sym (some_number n at.survivor.number (is
+        ∙ ap (option_map (λ (x : Split). x.survivor.number)) found)) in
+        let there : Cut m n rs at.older at.survivor at.newer =
+        cut m n rs at.older at.survivor at.newer rising parts.split number in
         record {
           aim = there.aim;
           number = ap (λ (s : Survivor). s.number) there.is ∙ number;
           at = there.at;
           is_target = found
-              ∙ (λ j. Some (record { older = sym there.before j; survivor = sym there.is j; newer = sym there.after j }));
+              ∙ (λ j. Some (record {
+                older = sym there.before j;
+                survivor = sym there.is j;
+                newer = sym there.after j;
+              }));
         }
 
 -- a record that was lent is the one there
@@ -135,7 +150,8 @@ lent_is lent r o is there = ap (λ (x : Option Record). record_or x) (is ∙ the
     record_or None = r
     record_or (Some x) = x
 
-pub lent_changes : (lent r : Record) (o : Option Record) → Some lent ≡ o → o ≡ Some r → lent.changes ≡ r.changes
+pub lent_changes : (lent r : Record) (o : Option Record) → Some lent ≡ o → o ≡ Some r
+    → lent.changes ≡ r.changes
 lent_changes lent r o is there = ap (λ (x : Record). x.changes) (lent_is lent r o is there)
 
 -- no number, no target

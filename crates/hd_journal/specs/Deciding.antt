@@ -70,5 +70,6 @@ pub record MayGo (k : Facts) (terminal : ℕ) (what : Cancel) (value : RecordsVa
     (old new : Counts) : Type 0 where
   pub at : IsTargetAt k terminal what value n
   pub stands : first_clash k (changes_of n value.records) (newer n value.records) ≡ None
-  pub work : IsDecision 0 (2 * length (newer n value.records) + 1) (questions_of (newer n value.records)) old new
+  pub work : IsDecision 0 (2 * length (newer n value.records) + 1) (questions_of (newer n value.records))
+      old new
   pub rise : OnlyRise old new

@@ -15,6 +15,12 @@ IsMemoryOrUnwritten fault.Memory = Unit {0}
 IsMemoryOrUnwritten (fault.Estranged front) = ⊥
 IsMemoryOrUnwritten (fault.Unwritten why) = Unit {0}
 
+-- of a look: anything but memory, since it takes none
+abbrev pub IsNotMemory : TurnFault → Type 0
+IsNotMemory fault.Memory = ⊥
+IsNotMemory (fault.Estranged front) = Unit {0}
+IsNotMemory (fault.Unwritten why) = Unit {0}
+
 -- the words that an operator reads
 abbrev pub write_fault_text : WriteFault → List ℕ
 write_fault_text write.Memory = codes "out of memory"

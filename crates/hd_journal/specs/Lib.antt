@@ -11,3 +11,4 @@ pub mod Offices
 pub mod Openings
 pub mod Keepers
 pub mod Faults
+pub mod Looks

@@ -1,8 +1,9 @@
 //! A journal that is used alone: an office, whose seat has number 0, and a keeper.
 use crate::ask::OwnedAsk;
-use crate::fault::TurnFault;
+use crate::fault::{TurnFault, WriteFault};
 use crate::journal::Journal;
 use crate::keeper::Keeper;
+use crate::look::Look;
 use crate::office::Office;
 use crate::turn::{Turn, TurnRef};
 use hd_catalogue::Catalogue;
@@ -11,7 +12,7 @@ use std::alloc::{AllocError, Allocator};
 use std::sync::Arc;
 
 impl<A: Allocator + Copy> Office<A> for Journal<A> {
-    ghost use Rattle.std.specs.Prelude.{[], length};
+    ghost use Rattle.std.specs.Prelude.{◌≡◌, [], length};
     ghost use Rattle.hd_journal.specs.Books.{IsLegalBook};
     ghost use Rattle.hd_journal.specs.Faults.{IsMemory};
 
@@ -29,6 +30,9 @@ impl<A: Allocator + Copy> Office<A> for Journal<A> {
     /// All turns that the journal has come through are legal, and the headline holds of them.
     ghost holds = { λ journal. IsLegalBook journal.contents journal.turns };
 
+    /// The one that has these turns and no others.
+    ghost shows = { λ turns book. book.turns ≡ turns };
+
     fn catalogue(&self) -> &Catalogue<A> {
         self.desk().catalogue()
     }
@@ -37,12 +41,19 @@ impl<A: Allocator + Copy> Office<A> for Journal<A> {
         SeatNo::new(0)
     }
 
+    fn look<L: Look<A>>(&self, reader: &mut L) -> Result<(), TurnFault> {
+        let _turns = self.front();
+        reader.look(self);
+        Ok(())
+    }
+
     fn turn(&mut self, ask: &Ask<'_>) -> Result<Turn, TurnFault> {
         self.take_copy(ask)
     }
 }
 
 impl<A: Allocator + Copy> Keeper<A, OwnedAsk<A>> for Journal<A> {
+    ghost use Rattle.std.specs.Prelude.{None};
     ghost use Rattle.hd_journal.specs.Faults.{IsMemory};
     ghost use Rattle.hd_journal.specs.Openings.{fresh};
 
@@ -56,6 +67,9 @@ impl<A: Allocator + Copy> Keeper<A, OwnedAsk<A>> for Journal<A> {
     ghost faults = { IsMemory };
 
     ghost causes = { λ old ask new. IsMemory };
+
+    /// It always shows it.
+    ghost shut = { λ journal. None };
 
     fn own(alloc: A, ask: &Ask<'_>) -> Result<OwnedAsk<A>, AllocError> {
         OwnedAsk::of(alloc, ask)
@@ -71,6 +85,11 @@ impl<A: Allocator + Copy> Keeper<A, OwnedAsk<A>> for Journal<A> {
 
     fn turn_at(&self, at: usize) -> Option<TurnRef<'_>> {
         Journal::turn_at(self, at)
+    }
+
+    fn journal(&self) -> Result<&Journal<A>, WriteFault> {
+        let _turns = Journal::front(self);
+        Ok(self)
     }
 
     fn take(&mut self, own: OwnedAsk<A>) -> Result<Turn, TurnFault> {

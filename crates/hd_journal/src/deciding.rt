@@ -29,8 +29,9 @@ pub(crate) fn decide<A: Allocator + Copy>(
     ensures goes { IfOk result (λ number. MayGo (facts_of catalogue.now) terminal what.now records.now number
         meter.old meter.new) }
     ensures refused { IfErr result (IsRefused catalogue.now terminal what.now records.now) }
-    ensures work { OnErr result (IsCancellationWork (facts_of catalogue.now) (survivors_of records.now.records)
-        (target terminal what.now (survivors_of records.now.records)) meter.old meter.new) }
+    ensures work { OnErr result (IsCancellationWork (facts_of catalogue.now)
+        (survivors_of records.now.records) (target terminal what.now (survivors_of records.now.records))
+        meter.old meter.new) }
 {
     laws();
     prove!(0 < catalogue.command_limit());

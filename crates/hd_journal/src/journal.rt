@@ -1,11 +1,12 @@
 //! The journal.
 
-ghost use Rattle.std.specs.Prelude.{◌≡◌, ◌<◌, [], None, IfErr, IfOk, OnErr, length, option_map};
+ghost use Rattle.std.specs.Prelude.{◌≡◌, ◌+◌, ◌<◌, [], None, IfErr, IfOk, OnErr, length, option_map};
 ghost use Rattle.hd_catalogue.specs.Contents.{facts_of};
 ghost use Rattle.hd_records.specs.Shown.{record_shown as shown_record};
 ghost use Rattle.hd_journal.specs.Stored.{IsRecordOf};
 ghost use Rattle.hd_rules.specs.Known.{IsKnownAction, IsKnownCancel};
 ghost use Rattle.hd_rules.specs.Run.{run};
+ghost use Rattle.hd_rules.specs.Sound.{Sound};
 ghost use Rattle.hd_desk.specs.Desks.{Opens, contents, desk_of};
 ghost use Rattle.hd_rules.specs.Messages.{IsKnownMessage, asking, message_of};
 ghost use Rattle.hd_journal.specs.Books.{AddsTurn, IsLegalBook, MakesNoTurn, facts, state, turn_numbered};
@@ -277,11 +278,14 @@ impl<A: Allocator + Copy> Journal<A> {
         self.run.last()
     }
 
-    /// The desk: that of the run of the survivors.
+    /// The desk: that of the run of the survivors. It is sound where the next number is given, so a later
+    /// journal may begin with it (`hd_carry::carry`).
     pub fn desk(&self) -> &Desk<A>
         ensures contents { contents result.now ≡ self.now.contents }
         ensures state { desk_of result.now ≡ (state self.now).desk }
         ensures run { desk_of result.now ≡ run (facts self.now) (state self.now).survivors }
+        ensures sound { Sound (facts_of (contents result.now)) ((state self.now).last + 1)
+            (desk_of result.now) }
         ensures legal { IsLegalBook self.now.contents self.now.turns }
     {
         journal_laws();

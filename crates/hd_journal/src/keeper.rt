@@ -1,6 +1,7 @@
 //! What keeps a hall's journal.
 
-ghost use Rattle.std.specs.Prelude.{◌≡◌, List, None, IfErr, IfOk, IsOk, OnErr, length, option_map};
+ghost use Rattle.std.specs.Prelude.{◌≡◌, List, None, Option, Some, IfErr, IfOk, IsOk, OnErr, OnOk, length};
+ghost use Rattle.std.specs.Prelude.{option_map};
 ghost use Rattle.std.specs.Arc.{arc_value};
 ghost use Rattle.hd_rules.specs.Journal.{Turn};
 ghost use Rattle.hd_catalogue.specs.Contents.{facts_of};
@@ -9,10 +10,14 @@ ghost use Rattle.hd_journal.specs.Books.{turn_numbered};
 ghost use Rattle.hd_journal.specs.Faults.{IsMemoryOrUnwritten};
 ghost use Rattle.hd_journal.specs.Shown.{turn_shown};
 ghost use Rattle.hd_journal.specs.Keepers.{IsAdded};
+ghost use Rattle.hd_journal.specs.Looks.{HasGoneOn};
 ghost use Rattle.hd_journal.specs.Openings.{Opening, IsLegalSince};
 ghost use Rattle.hd_journal.specs.declared.fault.TurnFault.{TurnFault};
+ghost use Rattle.hd_journal.specs.declared.fault.TurnFault.TheVariants.{Unwritten};
+ghost use Rattle.hd_journal.specs.declared.fault.WriteFault.{WriteFault};
 
-use crate::fault::TurnFault;
+use crate::fault::{TurnFault, WriteFault};
+use crate::journal::Journal;
 use crate::turn::{Turn, TurnRef};
 use hd_catalogue::Catalogue;
 use hd_rules::Ask;
@@ -39,6 +44,9 @@ pub trait Keeper<A: Allocator, Q: Drop> {
     /// Why it gave this fault at what was asked, by what it was before and is then.
     ghost causes: { Self → SeatMessage → Self → TurnFault → Type 0 };
 
+    /// Why it shows its journal no more, where it doesn't: a turn couldn't be written.
+    ghost shut: { Self → Option WriteFault };
+
     /// What it keeps of an ask.
     ///
     /// # Errors
@@ -59,6 +67,18 @@ pub trait Keeper<A: Allocator, Q: Drop> {
     /// The turn of a number, from 1, or `None` where there is none.
     fn turn_at(&self, at: usize) -> Option<TurnRef<'_>>
         ensures { option_map turn_shown result ≡ turn_numbered (turns self.now) at };
+
+    /// The journal, with the turns that it has come through and no others.
+    ///
+    /// # Errors
+    /// Why a turn couldn't be written, where it shows its journal no more.
+    fn journal(&self) -> Result<&Journal<A>, WriteFault>
+        ensures journal { IfOk result (λ journal.
+            HasGoneOn (opening self.now) (turns self.now) journal.now) }
+        ensures legal { IsLegalSince (opening self.now) (turns self.now) }
+        ensures open { OnOk result (shut self.now ≡ None) }
+        ensures shut { IfErr result (λ why. shut self.now ≡ Some why) }
+        ensures why { IfErr result (λ why. faults (Unwritten why)) };
 
     /// One turn: what a terminal of a seat asks. What it names, and the terminal, are of the catalogue.
     ///

@@ -1,6 +1,7 @@
 //! The journal of the hold desk: every turn, and the desk of the commands that were not cancelled.
 //!
-//! Sessions ask an `Office`; under a hall's lock stands a `Keeper`. A journal alone is both.
+//! Sessions ask an `Office`; under a hall's lock stands a `Keeper`. A journal alone is both. A `Look` reads a
+//! journal between two turns, and makes none.
 #![tactic(auto)]
 
 mod alone;
@@ -12,6 +13,7 @@ mod journal;
 mod keeper;
 mod laws;
 mod line;
+mod look;
 mod office;
 mod opening;
 mod printing;
@@ -25,6 +27,7 @@ pub use crate::entry::Entry;
 pub use crate::fault::{TurnFault, TurnFault as Fault, TurnFault as OfficeFault, WriteFault};
 pub use crate::journal::Journal;
 pub use crate::keeper::Keeper;
+pub use crate::look::Look;
 pub use crate::office::Office;
 pub use crate::opening::{open, share};
 pub use crate::turn::{NewTurn, Turn, TurnRef};

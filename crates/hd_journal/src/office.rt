@@ -1,14 +1,18 @@
 //! Offices.
-ghost use Rattle.std.specs.Prelude.{◌≡◌, ◌++◌, ◌∷◌, [], ℕ, List, IfErr, IfOk, OnErr};
+ghost use Rattle.std.specs.Prelude.{◌≡◌, ◌++◌, ◌∷◌, [], ℕ, List, IfErr, IfOk, OnErr, OnOk};
 ghost use Rattle.hd_rules.specs.Journal.{Turn};
 ghost use Rattle.hd_rules.specs.Known.{IsKnownTurnReply};
 ghost use Rattle.hd_rules.specs.Replies.{IsReplyTo};
 ghost use Rattle.hd_catalogue.specs.Contents.{facts_of};
 ghost use Rattle.hd_rules.specs.Messages.{IsKnownMessage, turn_with_reply, message_of};
 ghost use Rattle.hd_journal.specs.declared.fault.TurnFault.{TurnFault};
+ghost use Rattle.hd_journal.specs.Books.{Book};
+ghost use Rattle.hd_journal.specs.Faults.{IsNotMemory};
+ghost use Rattle.hd_journal.specs.Looks.{IsJournalOf};
 ghost use Rattle.hd_journal.specs.Offices.{Keeps};
 
 use crate::fault::TurnFault;
+use crate::look::Look;
 use crate::turn::Turn;
 use hd_catalogue::Catalogue;
 use hd_rules::{Ask, SeatNo};
@@ -35,6 +39,9 @@ pub trait Office<A: Allocator> {
     /// What holds of it after each turn, whatever the turns.
     ghost holds: { Self → Type 0 };
 
+    /// The journals that a look may be shown after these turns.
+    ghost shows: { List Turn → Book → Type 0 };
+
     /// The catalogue by whose numbers it is asked.
     fn catalogue(&self) -> &Catalogue<A>
         ensures { result.now ≡ (keeps self.now).contents };
@@ -42,6 +49,19 @@ pub trait Office<A: Allocator> {
     /// The seat that its turns carry.
     fn seat(&self) -> SeatNo
         ensures { result ≡ (keeps self.now).seat };
+
+    /// Lends the journal to a reader. No turn is made, and no memory is taken.
+    ///
+    /// # Errors
+    /// Those of `faults` but memory, each for its cause. The reader is as it was.
+    fn look<L: Look<A>>(&self, reader: &mut L) -> Result<(), TurnFault>
+        requires fits { L.fits reader.old (keeps self.now).contents }
+        ensures saw { OnOk result ((book : Book) × IsJournalOf (keeps self.now).contents book
+            × shows (turns self.now) book × L.saw reader.old book reader.new) }
+        ensures why { IfErr result faults }
+        ensures no_memory { IfErr result IsNotMemory }
+        ensures cause { IfErr result (causes self.now self.now) }
+        ensures err { OnErr result (reader.new ≡ reader.old) };
 
     /// One turn: what a terminal asks at this seat. The terminal, and all that it asks, are of the office's
     /// catalogue.

@@ -5,6 +5,7 @@ ghost use Rattle.hd_catalogue.specs.Contents.{facts_of};
 ghost use Rattle.hd_rules.specs.Known.{IsKnown, IsKnownAction, IsKnownCancel};
 ghost use Rattle.hd_rules.specs.Run.{outcome_of, run};
 ghost use Rattle.hd_rules.specs.Searches.{target};
+ghost use Rattle.hd_rules.specs.Sound.{Sound};
 ghost use Rattle.hd_rules.specs.Turns.{Kept, item_view, next_survivor};
 ghost use Rattle.hd_desk.specs.Desks.{Opens, contents, desk_of, facts};
 ghost use Rattle.hd_journal.specs.SurvivorRun.{IsCarriedOut, Submitted, Withdrawn, state_alone};
@@ -71,11 +72,13 @@ impl<A: Allocator + Copy> SurvivorRun<A> {
         }
     }
 
-    /// The desk.
+    /// The desk, which is sound where the next number is given.
     pub(crate) fn desk(&self) -> &Desk<A>
         ensures contents { contents result.now ≡ self.now.contents }
         ensures run { desk_of result.now ≡ run (facts_of self.now.contents) self.now.survivors }
+        ensures sound { Sound (facts_of self.now.contents) (self.now.last + 1) (desk_of result.now) }
     {
+        laws();
         &self.desk
     }
 

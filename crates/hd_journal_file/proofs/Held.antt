@@ -19,19 +19,24 @@ abbrev pub Settles : State → Type 0
 Settles s = (db : Trees) → IsTrue s.is_open → s.may_leave db → db ≡ s.committed.trees
 
 -- legal turns whose rows a database stores are those of any other such list
-stored_turns : (one : OneMessage) (k : Contents) (turns left : List Turn) (head head' : Head) (rows rows' : List KeptTurn)
-    (db : Trees) → IsLegal (facts_of k) turns → IsLegal (facts_of k) left → Stores head rows db → Stores head' rows' db
+stored_turns : (one : OneMessage) (k : Contents) (turns left : List Turn) (head head' : Head)
+    (rows rows' : List KeptTurn)
+    (db : Trees) → IsLegal (facts_of k) turns → IsLegal (facts_of k) left → Stores head rows db
+    → Stores head' rows' db
     → AreTurnRows k turns rows → AreTurnRows k left rows' → left ≡ turns
 stored_turns one k turns left head head' rows rows' db legal legal' stores stores' are are' =
     same_turns one k (start (facts_of k)) turns left rows legal legal' are
     (subst (AreTurnRows k left) (one_kept (db 1) rows' rows stores'.turns stores.turns) are')
 
-pub left_is_held : (one : OneMessage) (s : State) (settles : Settles s) (k : Contents) (turns left : List Turn)
+pub left_is_held : (one : OneMessage) (s : State) (settles : Settles s) (k : Contents)
+    (turns left : List Turn)
     → HasTurns k s turns → LeavesTurns k s left → left ≡ turns
 left_is_held one s settles k turns left held leaves =
     let trees : s.now.trees ≡ leaves.database =
-    sym (settles leaves.database held.keeps.is_open leaves.may ∙ ap (λ (d : Database). d.trees) held.keeps.settled)
-    in stored_turns one k turns left held.head leaves.kept.head held.rows leaves.kept.rows leaves.database held.legal
+    sym (settles leaves.database held.keeps.is_open leaves.may
+    ∙ ap (λ (d : Database). d.trees) held.keeps.settled)
+    in stored_turns one k turns left held.head leaves.kept.head held.rows leaves.kept.rows leaves.database
+    held.legal
     leaves.kept.legal (subst (Stores held.head held.rows) trees held.keeps.rows) leaves.kept.keeps held.are
     leaves.kept.are
 
@@ -57,7 +62,8 @@ held_more old new row adds k turns turn is legal held =
       are = rows_more k turns held.rows turn row held.are is;
     }
 
-pub left_either : (one : OneMessage) (old new : State) (row : KeptTurn) (settles : Settles old) → MayAdd old new row
+pub left_either : (one : OneMessage) (old new : State) (row : KeptTurn) (settles : Settles old)
+    → MayAdd old new row
     → (k : Contents) (turns left : List Turn) (turn : Turn) → IsTurnRow k turn row
     → IsLegal (facts_of k) (turns ++ turn ∷ []) → HasTurns k old turns → LeavesTurns k new left
     → (left ≡ turns) ⊎ (left ≡ turns ++ turn ∷ [])
@@ -65,7 +71,8 @@ left_either one old new row settles may_add k turns left turn is legal held leav
     elim (may_add held.head held.rows held.keeps leaves.database leaves.may) [
       | inl was ↦ inl (left_is_held one old settles k turns left held
           (record { database = leaves.database; may = was; kept = leaves.kept }))
-      | inr stores ↦ inr (stored_turns one k (turns ++ turn ∷ []) left held.head leaves.kept.head (held.rows ++ row ∷ [])
+      | inr stores ↦ inr (stored_turns one k (turns ++ turn ∷ []) left held.head leaves.kept.head
+          (held.rows ++ row ∷ [])
           leaves.kept.rows leaves.database legal leaves.kept.legal stores leaves.kept.keeps
           (rows_more k turns held.rows turn row held.are is) leaves.kept.are)
     ]

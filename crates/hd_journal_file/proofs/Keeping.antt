@@ -9,7 +9,8 @@ use Rattle.hd_journal_file.specs.Held.{AreInFile}
 use Rattle.hd_journal_file.specs.Opening.{AreHeld}
 
 pub kept_of : (s : State) (told k : Contents) (turns : List Turn) → told ≡ k → IsLegal (facts_of k) turns
-    → changing (facts_of k) turns ≡ turns → AreHeld s k turns → AreInFile told (changing (facts_of k) turns) (Holds s)
+    → changing (facts_of k) turns ≡ turns → AreHeld s k turns
+    → AreInFile told (changing (facts_of k) turns) (Holds s)
 kept_of s told k turns same legal change held =
     let all : AreInFile k turns (Holds s) = record {
       legal = legal;

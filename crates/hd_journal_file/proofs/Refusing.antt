@@ -1,5 +1,6 @@
 -- Why a journal doesn't take rows.
-use Rattle.std.proofs.Common.{◌≡◌, refl, sym, ◌∙◌, ap, subst, ◌⊎◌, inl, inr, ℕ, zero, suc, ◌+◌, ◌<◌, ◌≤◌, List, [], ◌∷◌, ◌++◌}
+use Rattle.std.proofs.Common.{◌≡◌, refl, sym, ◌∙◌, ap, subst, ◌⊎◌, inl, inr, ℕ, zero, suc, ◌+◌, ◌<◌, ◌≤◌}
+use Rattle.std.proofs.Common.{List, [], ◌∷◌, ◌++◌}
 use Rattle.std.proofs.Common.{append_assoc, length-append, map, take, drop, length, get_or, arith}
 use Rattle.std.proofs.lemmas.List.{length-take, length-drop, take-append-drop}
 use Rattle.hd_rules.specs.Turns.{Message}
@@ -17,20 +18,25 @@ use Rattle.hd_journal_file.specs.Rows.{texts}
 use Rattle.hd_journal_file.specs.Restored.{DiffersFirst, RefusesRow, RefusesRows, RowAsks, StopsAt, TakesRows}
 use Rattle.hd_journal_file.specs.declared.fault.OutcomeColumn.{OutcomeColumn}
 use Rattle.hd_journal_file.specs.declared.fault.RestoreFault.{RestoreFault}
-use Rattle.hd_journal_file.specs.declared.fault.RestoreFault.TheVariants.{Unread, Memory, NoTurn, NoChange, Differs, TooMany}
+use Rattle.hd_journal_file.specs.declared.fault.RestoreFault.TheVariants.{Unread, Memory, NoTurn, NoChange}
+use Rattle.hd_journal_file.specs.declared.fault.RestoreFault.TheVariants.{Differs, TooMany}
 use Rattle.hd_journal_file.proofs.Retaken.{takes_then}
 
 -- it asks nothing
-pub refuses_ask : (book : Book) (row : KeptTurn) (at : ℕ) (k : Contents) (fault : RestoreFault) → k ≡ book.contents
-    → (fault ≡ Memory) ⊎ ((why : RowFault) × (fault ≡ NoTurn at why) × IsFirstFault k (texts row).terminal (texts row).asked why)
+pub refuses_ask : (book : Book) (row : KeptTurn) (at : ℕ) (k : Contents) (fault : RestoreFault)
+    → k ≡ book.contents
+    → (fault ≡ Memory) ⊎ ((why : RowFault) × (fault ≡ NoTurn at why)
+    × IsFirstFault k (texts row).terminal (texts row).asked why)
     → RefusesRow book row at fault
-refuses_ask book row at k fault same (inl memory) = subst (λ (f : RestoreFault). RefusesRow book row at f) (sym memory) tt
+refuses_ask book row at k fault same (inl memory) =
+    subst (λ (f : RestoreFault). RefusesRow book row at f) (sym memory) tt
 refuses_ask book row at k fault same (inr it) =
     subst (λ (f : RestoreFault). RefusesRow book row at f) (sym it.1)
     (refl, subst (λ (c : Contents). IsFirstFault c (texts row).terminal (texts row).asked it.0) same it.2)
 
 -- what it asks
-abbrev pub asks_of : (book : Book) (row : KeptTurn) (seat : ℕ) (message : Message) (k : Contents) → k ≡ book.contents
+abbrev pub asks_of : (book : Book) (row : KeptTurn) (seat : ℕ) (message : Message) (k : Contents)
+    → k ≡ book.contents
     → IsRowOf k seat message (texts row) → RowAsks book row
 asks_of book row seat message k same is = record {
   seat = seat;
@@ -39,9 +45,11 @@ asks_of book row seat message k same is = record {
 }
 
 -- it came to something else
-pub refuses_came : (old new : Book) (seat : ℕ) (message : Message) (made : Made) (k : Contents) (row : KeptTurn) (at : ℕ) (fault : RestoreFault)
+pub refuses_came : (old new : Book) (seat : ℕ) (message : Message) (made : Made) (k : Contents)
+    (row : KeptTurn) (at : ℕ) (fault : RestoreFault)
     → AddsTurn old new seat message made → k ≡ old.contents → IsRowOf k seat message (texts row)
-    → (fault ≡ Memory) ⊎ ((column : OutcomeColumn) × (fault ≡ Differs at column) × DiffersFirst made.reply row column)
+    → (fault ≡ Memory) ⊎ ((column : OutcomeColumn) × (fault ≡ Differs at column)
+    × DiffersFirst made.reply row column)
     → RefusesRow old row at fault
 refuses_came old new seat message made k row at fault adds same is (inl memory) =
     subst (λ (f : RestoreFault). RefusesRow old row at f) (sym memory) tt
@@ -55,18 +63,21 @@ refuses_came old new seat message made k row at fault adds same is (inr it) =
     )
 
 -- rows round one of them
-rows_split : (rows : List StoredTurn) (i : ℕ) (item : StoredTurn) → i < length rows → item ≡ get_or rows i item
+rows_split : (rows : List StoredTurn) (i : ℕ) (item : StoredTurn) → i < length rows
+    → item ≡ get_or rows i item
     → map read_turn rows ≡ map read_turn (take i rows) ++ read_turn item ∷ map read_turn (drop (suc i) rows)
 rows_split [] i item low is = absurd (omega arith)
 rows_split (row ∷ rows) zero item low is = ap (λ (t : StoredTurn). read_turn t ∷ map read_turn rows) (sym is)
-rows_split (row ∷ rows) (suc i) item low is = ap (λ (l : List KeptTurn). read_turn row ∷ l) (rows_split rows i item (omega arith) is)
+rows_split (row ∷ rows) (suc i) item low is =
+    ap (λ (l : List KeptTurn). read_turn row ∷ l) (rows_split rows i item (omega arith) is)
 
 front_length : (rows : List StoredTurn) (i : ℕ) → i < length rows → length (map read_turn (take i rows)) ≡ i
 front_length [] i low = absurd (omega arith)
 front_length (row ∷ rows) zero low = refl
 front_length (row ∷ rows) (suc i) low = omega (arith, front_length rows i (omega arith))
 
-refuses_at : (old : Book) (rows : List KeptTurn) (after : ℕ) (fault : RestoreFault) → StopsAt old rows after fault → RefusesRows old rows after fault
+refuses_at : (old : Book) (rows : List KeptTurn) (after : ℕ) (fault : RestoreFault)
+    → StopsAt old rows after fault → RefusesRows old rows after fault
 refuses_at old rows after (Unread why) stops = absurd stops.refuses
 refuses_at old rows after Memory stops = stops
 refuses_at old rows after (NoTurn at why) stops = stops
@@ -75,8 +86,10 @@ refuses_at old rows after (Differs at column) stops = stops
 refuses_at old rows after TooMany stops = absurd stops.refuses
 
 -- one of them isn't taken
-pub stops : (old mid : Book) (rows : List StoredTurn) (i : ℕ) (item : StoredTurn) (after number : ℕ) (fault : RestoreFault)
-    → i < length rows → item ≡ get_or rows i item → number ≡ after + i + 1 → TakesRows old mid (map read_turn (take i rows))
+pub stops : (old mid : Book) (rows : List StoredTurn) (i : ℕ) (item : StoredTurn) (after number : ℕ)
+    (fault : RestoreFault)
+    → i < length rows → item ≡ get_or rows i item → number ≡ after + i + 1
+    → TakesRows old mid (map read_turn (take i rows))
     → RefusesRow mid (read_turn item) number fault → RefusesRows old (map read_turn rows) after fault
 stops old mid rows i item after number fault low is numbered took refuses =
     let front : length (map read_turn (take i rows)) ≡ i = front_length rows i low in
@@ -92,8 +105,10 @@ stops old mid rows i item after number fault low is numbered took refuses =
     })
 
 -- of the rows of a piece
-stops_later : (old mid : Book) (rows : List KeptTurn) (at : ℕ) (fault : RestoreFault) → length (take at rows) ≡ at
-    → TakesRows old mid (take at rows) → StopsAt mid (take piece (drop at rows)) at fault → StopsAt old rows 0 fault
+stops_later : (old mid : Book) (rows : List KeptTurn) (at : ℕ) (fault : RestoreFault)
+    → length (take at rows) ≡ at
+    → TakesRows old mid (take at rows) → StopsAt mid (take piece (drop at rows)) at fault
+    → StopsAt old rows 0 fault
 stops_later old mid rows at fault count took stops =
     let rest : List KeptTurn = drop piece (drop at rows) in
     let number : at + length stops.before + 1 ≡ 0 + length (take at rows ++ stops.before) + 1 =
@@ -112,7 +127,8 @@ stops_later old mid rows at fault count took stops =
       refuses = subst (λ (n : ℕ). RefusesRow stops.book stops.row n fault) number stops.refuses;
     }
 
-pub fits : (a b : ℕ) (xs : List KeptTurn) → length (take a xs) ≡ a → a + length (take b (drop a xs)) ≤ length xs
+pub fits : (a b : ℕ) (xs : List KeptTurn) → length (take a xs) ≡ a
+    → a + length (take b (drop a xs)) ≤ length xs
 fits a b xs count =
     omega (arith, count, length-take a xs, length-take b (drop a xs), length-drop a xs)
 
@@ -122,11 +138,17 @@ counted a b xs count =
     let low = fits a b xs count in
     omega (arith, low, length-take (a + length (take b (drop a xs))) xs)
 
-pub refuses_piece : (old mid : Book) (rows : List KeptTurn) (at : ℕ) (fault : RestoreFault) → length (take at rows) ≡ at
-    → TakesRows old mid (take at rows) → RefusesRows mid (take piece (drop at rows)) at fault → RefusesRows old rows 0 fault
+pub refuses_piece : (old mid : Book) (rows : List KeptTurn) (at : ℕ) (fault : RestoreFault)
+    → length (take at rows) ≡ at
+    → TakesRows old mid (take at rows) → RefusesRows mid (take piece (drop at rows)) at fault
+    → RefusesRows old rows 0 fault
 refuses_piece old mid rows at (Unread why) count took is = is
 refuses_piece old mid rows at Memory count took is = stops_later old mid rows at Memory count took is
-refuses_piece old mid rows at (NoTurn n why) count took is = stops_later old mid rows at (NoTurn n why) count took is
-refuses_piece old mid rows at (NoChange n) count took is = stops_later old mid rows at (NoChange n) count took is
-refuses_piece old mid rows at (Differs n column) count took is = stops_later old mid rows at (Differs n column) count took is
-refuses_piece old mid rows at TooMany count took is = let low = fits at piece rows count in omega (arith, low, is)
+refuses_piece old mid rows at (NoTurn n why) count took is =
+    stops_later old mid rows at (NoTurn n why) count took is
+refuses_piece old mid rows at (NoChange n) count took is =
+    stops_later old mid rows at (NoChange n) count took is
+refuses_piece old mid rows at (Differs n column) count took is =
+    stops_later old mid rows at (Differs n column) count took is
+refuses_piece old mid rows at TooMany count took is = let low = fits at piece rows count in
+    omega (arith, low, is)

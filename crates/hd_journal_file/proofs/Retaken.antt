@@ -1,6 +1,8 @@
 -- A journal that takes rows again.
-use Rattle.std.proofs.Common.{◌≡◌, refl, sym, ◌∙◌, ap, subst, ℕ, ◌+◌, ◌<◌, Bool, true, if◌then◌else◌, List, [], ◌∷◌, ◌++◌}
-use Rattle.std.proofs.Common.{append_assoc, append-nil, Some, None, suc, map, take, drop, length, get_or, arith}
+use Rattle.std.proofs.Common.{◌≡◌, refl, sym, ◌∙◌, ap, subst, ℕ, ◌+◌, ◌<◌, Bool, true, if◌then◌else◌, List}
+use Rattle.std.proofs.Common.{[], ◌∷◌, ◌++◌}
+use Rattle.std.proofs.Common.{append_assoc, append-nil, Some, None, suc, map, take, drop, length, get_or}
+use Rattle.std.proofs.Common.{arith}
 use Rattle.std.proofs.lemmas.List.{length-take, take_min, drop-take, take-take, take-append-drop, map_more}
 use Rattle.hd_rules.specs.Turns.{Message}
 use Rattle.hd_rules.specs.Journal.{Turn}
@@ -22,7 +24,8 @@ pub takes_row : (old new : Book) (seat : ℕ) (message : Message) (made : Made) 
     → AddsTurn old new seat message made → k ≡ old.contents → IsRowOf k seat message (texts row)
     → is_changing (state old) message ≡ true → HasOutcome made.reply row → TakesRow old new row
 takes_row old new seat message made k row adds same is changes came =
-    let said : HasOutcome (machine_answer old message).reply row = subst (λ (r : TurnReply). HasOutcome r row) adds.reply came
+    let said : HasOutcome (machine_answer old message).reply row =
+    subst (λ (r : TurnReply). HasOutcome r row) adds.reply came
     in record {
       contents = adds.contents;
       turn = next_turn old seat message;
@@ -47,10 +50,12 @@ takes_none old = record {
 }
 
 -- one more
-pub takes_more : (law : ATurnMoreIsKeptWhereItChanges) (old mid new : Book) (rows : List KeptTurn) (row : KeptTurn)
+pub takes_more : (law : ATurnMoreIsKeptWhereItChanges) (old mid new : Book) (rows : List KeptTurn)
+    (row : KeptTurn)
     → TakesRows old mid rows → TakesRow mid new row → TakesRows old new (rows ++ row ∷ [])
 takes_more law old mid new rows row some one =
-    let kept : changing (facts mid) (mid.turns ++ one.turn ∷ []) ≡ changing (facts mid) mid.turns ++ one.turn ∷ [] =
+    let kept : changing (facts mid) (mid.turns ++ one.turn ∷ []) ≡ changing
+    (facts mid) mid.turns ++ one.turn ∷ [] =
     law (facts mid) mid.turns one.turn
     ∙ ap (λ (b : Bool). changing (facts mid) mid.turns ++ (if b then one.turn ∷ [] else [])) one.changes
     in record {
@@ -61,29 +66,35 @@ takes_more law old mid new rows row some one =
       are = rows_more old.contents some.made rows one.turn row some.are
           (subst (λ (c : Contents). IsTurnRow c one.turn row) some.contents one.is);
       changes = λ all. ap (λ (c : Contents). changing (facts_of c) new.turns) one.contents
-          ∙ ap (changing (facts mid)) one.turns ∙ kept ∙ ap (λ (ts : List Turn). ts ++ one.turn ∷ []) (some.changes all)
+          ∙ ap (changing (facts mid)) one.turns ∙ kept
+          ∙ ap (λ (ts : List Turn). ts ++ one.turn ∷ []) (some.changes all)
           ∙ sym one.turns;
     }
 
-pub rows_front : (rows : List StoredTurn) (i : ℕ) (item : StoredTurn) → i < length rows → item ≡ get_or rows i item
+pub rows_front : (rows : List StoredTurn) (i : ℕ) (item : StoredTurn) → i < length rows
+    → item ≡ get_or rows i item
     → map read_turn (take i rows) ++ read_turn item ∷ [] ≡ map read_turn (take (i + 1) rows)
 rows_front rows i item low is =
-    ap (λ (x : StoredTurn). map read_turn (take i rows) ++ read_turn x ∷ []) is ∙ sym (map_more read_turn rows i item low)
+    ap (λ (x : StoredTurn). map read_turn (take i rows) ++ read_turn x ∷ []) is
+    ∙ sym (map_more read_turn rows i item low)
 
 -- some more
-rows_join : (k : Contents) (ts us : List Turn) (xs ys : List KeptTurn) → AreTurnRows k ts xs → AreTurnRows k us ys
+rows_join : (k : Contents) (ts us : List Turn) (xs ys : List KeptTurn) → AreTurnRows k ts xs
+    → AreTurnRows k us ys
     → AreTurnRows k (ts ++ us) (xs ++ ys)
 rows_join k [] us [] ys are are' = are'
 rows_join k [] us (x ∷ xs) ys are are' = absurd are
 rows_join k (t ∷ ts) us [] ys are are' = absurd are
 rows_join k (t ∷ ts) us (x ∷ xs) ys are are' = (are.0, rows_join k ts us xs ys are.1 are')
 
-pub takes_then : (old mid new : Book) (rows more : List KeptTurn) → TakesRows old mid rows → TakesRows mid new more
+pub takes_then : (old mid new : Book) (rows more : List KeptTurn) → TakesRows old mid rows
+    → TakesRows mid new more
     → TakesRows old new (rows ++ more)
 takes_then old mid new rows more some next = record {
   contents = next.contents ∙ some.contents;
   made = some.made ++ next.made;
-  turns = next.turns ∙ ap (λ (ts : List Turn). ts ++ next.made) some.turns ∙ append_assoc old.turns some.made next.made;
+  turns = next.turns ∙ ap (λ (ts : List Turn). ts ++ next.made) some.turns
+      ∙ append_assoc old.turns some.made next.made;
   are = rows_join old.contents some.made next.made rows more some.are
       (subst (λ (c : Contents). AreTurnRows c next.made more) some.contents next.are);
   changes = λ all. next.changes (some.changes all);
@@ -111,7 +122,8 @@ piece_joined a b xs =
     in let whole : take more (drop a xs) ≡ take b (drop a xs) =
     ap (λ (n : ℕ). take n (drop a xs)) (length-take b (drop a xs)) ∙ take_min b (drop a xs)
     in ap (λ (l : List KeptTurn). take a xs ++ l) (sym (drop-take a more xs ∙ whole))
-    ∙ ap (λ (l : List KeptTurn). l ++ drop a (take (a + more) xs)) (sym (take-take a (a + more) xs (omega arith)))
+    ∙ ap (λ (l : List KeptTurn). l ++ drop a (take (a + more) xs))
+    (sym (take-take a (a + more) xs (omega arith)))
     ∙ take-append-drop a (take (a + more) xs)
 
 none_of : (n : ℕ) (ys : List KeptTurn) → take (suc n) ys ≡ [] → ys ≡ []
@@ -138,5 +150,6 @@ pub last_taken : (old mid new : Book) (rows : List KeptTurn) (at : ℕ) → Take
     → TakesPiece mid new (take piece (drop at rows)) at None → TakesRows old new rows
 last_taken old mid new rows at some next =
     subst (TakesRows old new)
-    (ap (λ (l : List KeptTurn). take at rows ++ l) next.0 ∙ append-nil (take at rows) ∙ all_taken at rows next.0)
+    (ap (λ (l : List KeptTurn). take at rows ++ l) next.0 ∙ append-nil (take at rows)
+    ∙ all_taken at rows next.0)
     (takes_then old mid new (take at rows) (take piece (drop at rows)) some next.1)

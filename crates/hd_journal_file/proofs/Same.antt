@@ -20,7 +20,8 @@ turn_with seat message reply = record { seat = seat; message = message; reply = 
 
 -- after the same state
 same_turn : (one : OneMessage) (k : Contents) (s : State) (turn left : Turn) (row : KeptTurn)
-    → turn.reply ≡ (turn_of (facts_of k) s turn.message).reply → left.reply ≡ (turn_of (facts_of k) s left.message).reply
+    → turn.reply ≡ (turn_of (facts_of k) s turn.message).reply
+    → left.reply ≡ (turn_of (facts_of k) s left.message).reply
     → IsTurnRow k turn row → IsTurnRow k left row → left ≡ turn
 same_turn one k s turn left row is is' told told' =
     let both : (left.seat ≡ turn.seat) × (left.message ≡ turn.message) =
@@ -44,8 +45,8 @@ same_turns one k s (t ∷ ts) (u ∷ us) (row ∷ rows) legal legal' are are' =
     let first : u ≡ t = same_turn one k s t u row legal.0 legal'.0 are.0 are'.0
     in let rest : us ≡ ts =
     same_turns one k (turn_of (facts_of k) s t.message).state ts us rows legal.1
-    (subst (λ (x : Turn). IsLegalFrom (facts_of k) (turn_of (facts_of k) s x.message).state us) first legal'.1)
-    are.1 are'.1
+    (subst (λ (x : Turn). IsLegalFrom (facts_of k) (turn_of (facts_of k) s x.message).state us) first
+    legal'.1) are.1 are'.1
     in ap (λ (x : Turn). x ∷ us) first ∙ ap (λ (xs : List Turn). t ∷ xs) rest
 
 -- a row more

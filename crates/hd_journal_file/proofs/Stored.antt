@@ -96,5 +96,6 @@ all_back at (k ∷ ks) =
     ∙ ap (λ (xs : List KeptTurn). k ∷ xs) (all_back (at + 1) ks)
 
 -- the same rows keep the same
-pub one_kept : (rows : List Row) (ks ks' : List KeptTurn) → rows ≡ stored_from 1 ks → rows ≡ stored_from 1 ks' → ks ≡ ks'
+pub one_kept : (rows : List Row) (ks ks' : List KeptTurn) → rows ≡ stored_from 1 ks → rows ≡ stored_from 1 ks'
+    → ks ≡ ks'
 one_kept rows ks ks' is is' = sym (all_back 1 ks) ∙ ap (map unstored) (sym is ∙ is') ∙ all_back 1 ks'

@@ -23,8 +23,10 @@ some_day (Some day) None shown is = absurd shown
 some_day (Some day) (Some text) shown is = let spelled = shown.spelled in cc
 
 -- what tells a turn's row, and what that came to, is the turn's row
-pub tells_turn : (k : Contents) (turn : Turn) (seat : ℕ) (message : Message) (row : Row) (came : OutcomeColumns) (told : TurnRow)
-    → seat ≡ turn.seat → message ≡ turn.message → IsRowOf k seat message (row_texts row) → AreColumnsOf turn.reply came
+pub tells_turn : (k : Contents) (turn : Turn) (seat : ℕ) (message : Message) (row : Row)
+    (came : OutcomeColumns) (told : TurnRow)
+    → seat ≡ turn.seat → message ≡ turn.message → IsRowOf k seat message (row_texts row)
+    → AreColumnsOf turn.reply came
     → TellsTurn row came told → IsTurnRow k turn (turn_of_row told)
 tells_turn k turn seat message row came told seat_is message_is is comes tells = record {
   asked = subst (IsRowOf k turn.seat turn.message) (sym tells.asked)

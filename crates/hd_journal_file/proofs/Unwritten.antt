@@ -11,7 +11,8 @@ use Rattle.hd_journal_file.specs.Told.{HasNoRow}
 use Rattle.hd_journal_file.specs.Refused.{IsRefusedBy, RefusesTurn}
 
 -- it has no row
-pub no_row : (k : Contents) (old : State) (turn : Turn) (new : State) (fault : WriteFault) → HasNoRow k turn fault
+pub no_row : (k : Contents) (old : State) (turn : Turn) (new : State) (fault : WriteFault)
+    → HasNoRow k turn fault
     → RefusesTurn k old turn new fault
 no_row k old turn new Memory is = tt
 no_row k old turn new DiskFull is = inl is
@@ -20,7 +21,8 @@ no_row k old turn new NotText is = inl is
 
 -- SQLite refused it
 pub unwritten : (k : Contents) (old : State) (turn : Turn) (new : State) (row : KeptTurn) (fault : WriteFault)
-    → IsTurnRow k turn row → (HasCleanDisk new → IsRefusedBy old new row fault) → RefusesTurn k old turn new fault
+    → IsTurnRow k turn row → (HasCleanDisk new → IsRefusedBy old new row fault)
+    → RefusesTurn k old turn new fault
 unwritten k old turn new row Memory is refused = tt
 unwritten k old turn new row DiskFull is refused = inr (row, is, refused)
 unwritten k old turn new row Refused is refused = inr (row, is, refused)

@@ -20,6 +20,7 @@ ghost use Rattle.hd_journal_file.specs.Opening.{AreFound, AreHeld, IsRedated, Is
 
 use crate::file::JournalFile;
 use crate::open_fault::OpenFault;
+use crate::progress::Progress;
 use crate::restoring::restore_turns;
 use hd_durable::DurableJournal;
 use hd_journal::Journal;
@@ -40,16 +41,18 @@ pub struct Wanted<'a> {
 /// Opens a journal's file, or begins one where there is none: a journal with the turns that the file holds,
 /// each taken again and compared, whose changing turns are committed to the file from now on.
 ///
-/// `journal` has no turns, and its catalogue is the one that is wanted.
+/// `journal` has no turns, and its catalogue is the one that is wanted. `progress` is told how many turns are
+/// taken again.
 ///
 /// # Errors
 /// Each of `OpenFault`. The turns in the file stay as they were (`left` of `take_again`).
-pub fn open<S: Start>(
+pub fn open<S: Start, P: Progress>(
     rt: &HostRuntime,
     path: &str,
     start: S,
     wanted: &Wanted<'_>,
     journal: Journal,
+    progress: &mut P,
 ) -> Result<DurableJournal<JournalFile<FileStore<FileFrom<S>>, S>>, OpenFault>
     requires { journal.turns ≡ [] }
     ensures contents { IfOk result (λ opened. opened.contents ≡ journal.contents) }
@@ -67,7 +70,7 @@ pub fn open<S: Start>(
         (file_state opened.table.conn) opened.contents opened.turns) }
 {
     let (conn, is_new) = hd_turn_store::open(rt, path, start, wanted.digest)?;
-    open_over(rt.alloc(), conn, is_new, wanted, journal)
+    open_over(rt.alloc(), conn, is_new, wanted, journal, progress)
 }
 
 /// The same over a connection that is open: the journal was begun in it, and has no turns yet, or what the
@@ -76,12 +79,13 @@ pub fn open<S: Start>(
 /// # Errors
 /// `File`, `OtherCatalogue`, `Turns` and `Memory`. The turns in the file stay as they were (`left` of
 /// `take_again`).
-pub fn open_over<S: Alter + Drop, F: Start>(
+pub fn open_over<S: Alter + Drop, F: Start, P: Progress>(
     alloc: Global,
     mut conn: Connection<S>,
     is_new: bool,
     wanted: &Wanted<'_>,
     mut journal: Journal,
+    progress: &mut P,
 ) -> Result<DurableJournal<JournalFile<S, F>>, OpenFault>
     requires empty { journal.turns ≡ [] }
     requires begun { HasCleanDisk (state S.Store conn) → IsTrue is_new
@@ -105,7 +109,7 @@ pub fn open_over<S: Alter + Drop, F: Start>(
     if is_new {
         return Ok(durable(alloc, conn, true, journal)?);
     }
-    take_again(alloc, &mut conn, wanted, &mut journal)?;
+    take_again(alloc, &mut conn, wanted, &mut journal, progress)?;
     Ok(durable(alloc, conn, false, journal)?)
 }
 
@@ -113,11 +117,12 @@ pub fn open_over<S: Alter + Drop, F: Start>(
 ///
 /// # Errors
 /// `File`, `OtherCatalogue` and `Turns`.
-fn take_again<S: Alter>(
+fn take_again<S: Alter, P: Progress>(
     alloc: Global,
     conn: &mut Connection<S>,
     wanted: &Wanted<'_>,
     journal: &mut Journal,
+    progress: &mut P,
 ) -> Result<(), OpenFault>
     requires { journal.old.turns ≡ [] }
     ensures clean { HasCleanDisk (state S.Store conn.new) → HasCleanDisk (state S.Store conn.old) }
@@ -140,7 +145,7 @@ fn take_again<S: Alter>(
     if !is_same && !wanted.is_other_accepted {
         return Err(OpenFault::OtherCatalogue);
     }
-    let _ = restore_turns(conn, alloc, journal, alloc)?;
+    let _ = restore_turns(conn, alloc, journal, alloc, progress)?;
     if !is_same {
         accept(conn, wanted.digest)?;
     }

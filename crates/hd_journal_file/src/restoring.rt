@@ -14,6 +14,7 @@ ghost use Rattle.hd_journal_file.specs.Restored.{RefusesRow, RefusesRows, TakesP
 ghost use Rattle.hd_journal_file.specs.Rows.{AreTurnRows};
 
 use crate::fault::RestoreFault;
+use crate::progress::Progress;
 use crate::reading::{compare, own_ask};
 use hd_durable::a_turn_more_is_kept_where_it_changes;
 use hd_journal::Journal;
@@ -35,13 +36,14 @@ fn take_row<A: Allocator + Copy>(
     ensures why { IfErr result (RefusesRow journal.old (read_turn kept.now) at) }
 {
     let own = own_ask(journal.desk().catalogue(), alloc, kept, at)?;
-    if !journal.is_changing(&own) {
+    let new = match journal.take_new(own) {
+        Ok(new) => new,
+        Err(_) => return Err(RestoreFault::Memory),
+    };
+    if !new.is_changing {
         return Err(RestoreFault::NoChange { at });
     }
-    match journal.take(own) {
-        Ok(turn) => compare(memory, &turn.reply, kept, at),
-        Err(_) => Err(RestoreFault::Memory),
-    }
+    compare(memory, &new.made.reply, kept, at)
 }
 
 /// Takes the turns of some rows again, and answers the number of the last; the first has the next after
@@ -113,16 +115,17 @@ fn take_piece<S: Alter, A: Allocator + Copy>(
 
 /// Takes all turns of a file again, in a journal that has none yet, of the catalogue by which they are told,
 /// and answers how many there are. Each row is then that of a turn, which changes something and comes to what
-/// the row says.
+/// the row says. `progress` is told so after each piece of at most 1,024 rows.
 ///
 /// # Errors
 /// The first row that isn't such, and what is wrong with it. The journal is to be dropped then; the file is
 /// as it was.
-pub fn restore_turns<S: Alter, A: Allocator + Copy>(
+pub fn restore_turns<S: Alter, A: Allocator + Copy, P: Progress>(
     conn: &mut Connection<S>,
     memory: Global,
     journal: &mut Journal<A>,
     alloc: A,
+    progress: &mut P,
 ) -> Result<usize, RestoreFault>
     requires { journal.old.turns ≡ [] }
     ensures clean { HasCleanDisk (state S.Store conn.new) → HasCleanDisk (state S.Store conn.old) }
@@ -145,7 +148,10 @@ pub fn restore_turns<S: Alter, A: Allocator + Copy>(
     for _piece in 0..u32::MAX {
         let next = take_piece(conn, memory, journal, alloc, at)?;
         match next {
-            Some(last) => at = last,
+            Some(last) => {
+                at = last;
+                progress.taken(at);
+            }
             None => return Ok(journal.front()),
         }
     }

@@ -9,15 +9,15 @@ use Rattle.std.specs.Ordering.{nat_cmp}
 use Rattle.std.specs.FinMap.{FinMap, get, insert, remove, empty, get-empty}
 use Rattle.hd_lemmas.proofs.Maps.{get-insert_number, get-remove_number}
 use Rattle.hd_rules.specs.declared.copies.Loan.{Loan}
-use Rattle.hd_loans.specs.Counts.{is_loan_to, loans_of, AreLoanCounts}
+use Rattle.hd_loans.specs.Counts.{is_loan_to, loans_of, AreLoanCounts, with_renewal, renewed_loan}
 use Rattle.hd_lemmas.proofs.Counts.{one, count_below-same, count_below-changed, count_below-none, count_below-some, count_below-free}
 
 -- a loan changes the answer for its copy alone
-insert_other : (m : FinMap nat_cmp Loan) (k p : ℕ) (loan : Loan) (q : ℕ) → q ≢ k →
+pub insert_other : (m : FinMap nat_cmp Loan) (k p : ℕ) (loan : Loan) (q : ℕ) → q ≢ k →
     is_loan_to p (get (insert m k loan) q) ≡ is_loan_to p (get m q)
 insert_other m k p loan q ne = ap (is_loan_to p) (get-insert_number m k loan q ∙ grind (arith, nat_tests))
 
-insert_here : (m : FinMap nat_cmp Loan) (k p : ℕ) (loan : Loan) → is_loan_to p (get (insert m k loan) k) ≡ (loan.patron == p)
+pub insert_here : (m : FinMap nat_cmp Loan) (k p : ℕ) (loan : Loan) → is_loan_to p (get (insert m k loan) k) ≡ (loan.patron == p)
 insert_here m k p loan =
     let here : get (insert m k loan) k ≡ Some loan = get-insert_number m k loan k ∙ grind (arith, nat_tests)
     in ap (is_loan_to p) here
@@ -32,10 +32,10 @@ loans_of-insert m n k p loan l none =
     in let after : is_loan_to p (get (insert m k loan) k) ≡ (loan.patron == p) = insert_here m k p loan
     in omega (arith, changed, ap one before, ap one after)
 
-remove_other : (m : FinMap nat_cmp Loan) (k p : ℕ) (q : ℕ) → q ≢ k → is_loan_to p (get (remove m k) q) ≡ is_loan_to p (get m q)
+pub remove_other : (m : FinMap nat_cmp Loan) (k p : ℕ) (q : ℕ) → q ≢ k → is_loan_to p (get (remove m k) q) ≡ is_loan_to p (get m q)
 remove_other m k p q ne = ap (is_loan_to p) (get-remove_number m k q ∙ grind (arith, nat_tests))
 
-remove_here : (m : FinMap nat_cmp Loan) (k p : ℕ) → is_loan_to p (get (remove m k) k) ≡ false
+pub remove_here : (m : FinMap nat_cmp Loan) (k p : ℕ) → is_loan_to p (get (remove m k) k) ≡ false
 remove_here m k p =
     let here : get (remove m k) k ≡ None = get-remove_number m k k ∙ grind (arith, nat_tests)
     in ap (is_loan_to p) here
@@ -102,7 +102,7 @@ end_within m n k cs a copy other s = elim (cases_Bool (copy == k)) [
   | inr e ↦ a.within copy other (sym (get-remove_number m k copy ∙ rw e) ∙ s)
 ]
 
-replace_alike : (m : FinMap nat_cmp Loan) (k p : ℕ) (loan other : Loan) → get m k ≡ Some loan → other.patron ≡ loan.patron → (c : ℕ) →
+pub replace_alike : (m : FinMap nat_cmp Loan) (k p : ℕ) (loan other : Loan) → get m k ≡ Some loan → other.patron ≡ loan.patron → (c : ℕ) →
     is_loan_to p (get (insert m k other) c) ≡ is_loan_to p (get m c)
 replace_alike m k p loan other some same c = elim (cases_Bool (c == k)) [
   | inl e ↦
@@ -154,7 +154,7 @@ not_all m n k p cs a none kn pl =
     let fewer : loans_of m n p < n = count_below-free (λ c. is_loan_to p (get m c)) n k kn (ap (is_loan_to p) none)
     in omega (arith, fewer, a.each p pl)
 
-not_lent : (o : Option Loan) (p n : ℕ) → n ≤ p → ((loan : Loan) → o ≡ Some loan → loan.patron < n) → is_loan_to p o ≡ false
+pub not_lent : (o : Option Loan) (p n : ℕ) → n ≤ p → ((loan : Loan) → o ≡ Some loan → loan.patron < n) → is_loan_to p o ≡ false
 not_lent None p n l h = refl
 not_lent (Some loan) p n l h = grind (arith, nat_tests, h loan refl)
 
@@ -162,3 +162,13 @@ not_lent (Some loan) p n l h = grind (arith, nat_tests, h loan refl)
 pub loans_of-past : (m : FinMap nat_cmp Loan) (n : ℕ) (cs : List ℕ) (p : ℕ) → AreLoanCounts m n cs → length cs ≤ p → loans_of m n p ≡ 0
 loans_of-past m n cs p a l =
     count_below-none (λ c. is_loan_to p (get m c)) n (λ c _. not_lent (get m c) p (length cs) l (λ loan e. (a.within c loan e).1))
+
+-- a loan is renewed
+pub AreCounts-renew : (m : FinMap nat_cmp Loan) (n k due : ℕ) (cs : List ℕ) → AreLoanCounts m n cs →
+    AreLoanCounts (with_renewal m k due) n cs
+AreCounts-renew m n k due cs a = by_loan (get m k) refl
+  where
+    by_loan : (o : Option Loan) → get m k ≡ o →
+        AreLoanCounts (elim o [ None ↦ m | Some loan ↦ insert m k (renewed_loan loan due) ]) n cs
+    by_loan None e = a
+    by_loan (Some loan) e = AreCounts-replace m n k cs loan (renewed_loan loan due) a e refl

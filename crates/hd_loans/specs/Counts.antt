@@ -5,6 +5,7 @@ use Rattle.std.specs.Ordering.{nat_cmp}
 use Rattle.std.specs.FinMap as map
 use Rattle.hd_rules.specs.declared.copies.Loan.{Loan}
 use Rattle.hd_rules.specs.Choose.{count_below}
+use Rattle.hd_loans.specs.LoansValue.{LoansValue}
 
 -- a loan to this patron
 abbrev pub is_loan_to : ℕ → Option Loan → Bool
@@ -25,6 +26,11 @@ pub record AreLoanCounts (loans : map.FinMap nat_cmp Loan) (copies : ℕ) (count
   pub each : (patron : ℕ) → patron < length counts → slice_index counts patron ≡ loans_of loans copies patron
   pub within : AreBelow loans copies (length counts)
   pub few : copies < 2 ^ 32
+
+-- so it is for these loans, with a number for each patron that has room
+pub record AreCounted (linked : LoansValue) (counts : List ℕ) : Type 0 where
+  pub counted : AreLoanCounts linked.loans linked.copies counts
+  pub room : length counts ≡ linked.patrons
 
 -- a loan that can be renewed once more
 abbrev pub IsRenewable : Option Loan → Type 0

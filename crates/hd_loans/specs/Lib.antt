@@ -1,2 +1,4 @@
 pub mod LoansValue
 pub mod Counts
+pub mod Lent
+pub mod Links

@@ -5,6 +5,10 @@ use Rattle.std.specs.FinMap as map
 use Rattle.std.specs.Coded.{Coded, code_by, coded×, coded_ℕ}
 use Rattle.hd_rules.specs.declared.copies.Loan.{Loan}
 
+-- loans by copy
+abbrev pub LoansMap : Type 0
+LoansMap = map.FinMap nat_cmp Loan
+
 -- the loan of each copy that is on loan; copies and patrons below these numbers have room
 pub record LoansValue : Type 0 where
   pub loans : map.FinMap nat_cmp Loan

@@ -1,38 +1,35 @@
-//! Loans by copy, and their number by patron.
-ghost use Rattle.std.specs.Prelude.{◌≡◌, ◌<◌, None, IfOk};
+//! Loans by copy, and by patron.
+ghost use Rattle.std.specs.Prelude.{◌≡◌, ◌<◌, None, IfOk, length};
 ghost use Rattle.std.specs.FinMap as map;
 ghost use Rattle.hd_loans.specs.Counts.{loans_of, AreBelow, with_renewal, IsRenewable};
+ghost use Rattle.hd_loans.specs.Lent.{lent_to};
 
+use crate::lent::LentCopies;
+use crate::linked::LinkedLoans;
 use hd_rules::{CopyNo, Day, Loan, PatronNo};
-use hd_table::Table;
 use std::alloc::{AllocError, Allocator, Global};
 use std::marker::Model;
 
-/// The loans of a desk by copy, with the number of each patron's loans.
+/// The loans of a desk by copy, with the number and the list of each patron's.
 ///
 /// All its room is made by `new`. No other call takes memory.
 #[derive(Drop)]
 pub struct Loans<A: Allocator = Global> {
-    table: Table<Loan, A>,
+    linked: LinkedLoans<A>,
     counts: Vec<u32, A>,
 }
 
 impl<A: Allocator> Model for Loans<A> {
-    ghost use Rattle.std.specs.Prelude.{vec_len};
     ghost use Rattle.hd_loans.specs.LoansValue.{LoansValue, loans_code};
-    ghost use Rattle.hd_loans.specs.Counts.{AreLoanCounts};
+    ghost use Rattle.hd_loans.specs.Counts.{AreCounted};
 
     ghost Value = { LoansValue };
 
     ghost coded = { loans_code };
 
-    ghost view = { λ l. record {
-      loans = l.table.entries;
-      copies = l.table.size;
-      patrons = vec_len l.counts;
-    } };
+    ghost view = { λ l. l.linked };
 
-    ghost invariant = { λ l. AreLoanCounts l.table.entries l.table.size l.counts.items };
+    ghost invariant = { λ l. AreCounted l.linked l.counts.items };
 }
 
 impl<A: Allocator + Copy> Loans<A> {
@@ -44,10 +41,9 @@ impl<A: Allocator + Copy> Loans<A> {
         ensures copies { IfOk result (λ made. made.copies ≡ copies) }
         ensures patrons { IfOk result (λ made. made.patrons ≡ patrons) }
     {
-        let mut table = Table::new(alloc);
-        table.grow(copies as usize)?;
+        let linked = LinkedLoans::new(alloc, copies, patrons)?;
         let counts = vec![in alloc; 0; patrons as usize]?;
-        Ok(Loans { table, counts })
+        Ok(Loans { linked, counts })
     }
 }
 
@@ -62,7 +58,7 @@ impl<A: Allocator> Loans<A> {
         ensures patrons { self.new.patrons ≡ self.old.patrons }
     {
         let patron = loan.patron.number() as usize;
-        self.table.set(copy.number() as usize, loan);
+        self.linked.lend(copy, loan);
         self.counts[patron] += 1;
     }
 
@@ -73,7 +69,7 @@ impl<A: Allocator> Loans<A> {
         ensures copies { self.new.copies ≡ self.old.copies }
         ensures patrons { self.new.patrons ≡ self.old.patrons }
     {
-        let loan = self.table.take(copy.number() as usize)?;
+        let loan = self.linked.end(copy)?;
         self.counts[loan.patron.number() as usize] -= 1;
         Some(loan)
     }
@@ -85,15 +81,7 @@ impl<A: Allocator> Loans<A> {
         ensures copies { self.new.copies ≡ self.old.copies }
         ensures patrons { self.new.patrons ≡ self.old.patrons }
     {
-        let at = copy.number() as usize;
-        if let Some(loan) = self.table.get(at).copied() {
-            let renewed = Loan {
-                patron: loan.patron,
-                due,
-                renewals: loan.renewals + 1,
-            };
-            self.table.set(at, renewed);
-        }
+        self.linked.renew(copy, due);
     }
 
     /// How many loans a patron has.
@@ -107,5 +95,13 @@ impl<A: Allocator> Loans<A> {
         } else {
             0
         }
+    }
+
+    /// The copies that a patron has on loan, each once, by rising number.
+    pub fn of(&self, patron: PatronNo) -> LentCopies<'_, A>
+        ensures copies { result ≡ lent_to self.now.loans self.now.copies patron }
+        ensures count { length result ≡ loans_of self.now.loans self.now.copies patron }
+    {
+        LentCopies::new(&self.linked, patron)
     }
 }

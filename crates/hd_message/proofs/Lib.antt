@@ -13,3 +13,7 @@ pub mod CheckinReadBack
 pub mod HoldReadBack
 pub mod RenewReadBack
 pub mod LoginReadBack
+pub mod PatronLemmas
+pub mod PatronReadBack
+pub mod CutLemmas
+pub mod AddedLemmas

@@ -10,13 +10,19 @@ use Rattle.hd_field.specs.Fields.{Occurrence, fields_at, fields_of, has_code, va
 use Rattle.hd_field.specs.declared.occurrences.TheConstants.{BAR}
 use Rattle.hd_message.specs.Lengths.{bytes_of}
 use Rattle.hd_message.specs.Reading.{IsMessage, IsRequest, IsUnreadable}
-use Rattle.hd_message.specs.Repeated.{readable_bytes, repeated_bytes}
+use Rattle.hd_message.specs.PatronReading.{IsPatronMessage, IsUnreadablePatron}
+use Rattle.hd_message.specs.PatronTable.{patron_fields, patron_width}
+use Rattle.hd_message.specs.Repeated.{patron_bytes, readable_bytes, repeated_bytes, unreadable_patron_bytes}
 use Rattle.hd_message.specs.Table.{fields_part, fixed_width}
 use Rattle.hd_message.specs.Values.{first_value, unless_empty}
 use Rattle.hd_message.specs.declared.kind.Kind.{Kind}
 use Rattle.hd_message.specs.declared.kind.Kind.TheVariants as Kinds
 use Rattle.hd_message.specs.declared.request.Request.{Request}
 use Rattle.hd_message.specs.declared.request.Request.TheVariants.{Login, Status, Checkout, Checkin, Hold, Renew, Item, Resend, Unsupported}
+use Rattle.hd_message.specs.declared.patron_kind.PatronKind.{PatronKind}
+use Rattle.hd_message.specs.declared.patron_request.PatronRequest.{PatronRequest}
+use Rattle.hd_message.specs.declared.patron_request.PatronRequest.TheVariants as Patrons
+use Rattle.hd_message.specs.declared.patron_request.UnreadablePatron.{UnreadablePatron}
 use Rattle.hd_message.specs.declared.unreadable.Unreadable.{Unreadable}
 use Rattle.hd_message.specs.declared.unreadable.Unreadable.TheVariants as Unread
 
@@ -168,3 +174,32 @@ unreadable_bytes body (Unread.Desk message) u =
       ap bytes_of u.title ∙ filled_bytes (first_value part (codes "AJ")),
       part_values (Kinds.Desk message.kind) body,
     )
+
+-- the patron of a patron message
+patron_value : (kind : PatronKind) (body : List ℕ) → bytes_of (first_value (patron_fields kind body) (codes "AA")) ≤ length body
+patron_value kind body =
+    let part = patron_fields kind body in
+    omega (
+      arith,
+      three_values (codes "AA") (codes "AB") (codes "AJ") (fields_of part) refl refl refl,
+      own_bytes 0 0 part,
+      length-drop (patron_width kind) body,
+    )
+
+pub patron_request_bytes : (body : List ℕ) (request : PatronRequest) → IsPatronMessage body request → patron_bytes request ≤ length body
+patron_request_bytes body (Patrons.Status r) m =
+    omega (arith, given_bytes _ r.patron.now m.states.1.patron, patron_value m.kind body)
+patron_request_bytes body (Patrons.Information r) m =
+    omega (arith, given_bytes _ r.patron.now m.states.1.patron, patron_value m.kind body)
+patron_request_bytes body (Patrons.EndSession r) m =
+    omega (arith, given_bytes _ r.patron.now m.states.1.patron, patron_value m.kind body)
+patron_request_bytes body (Patrons.Block r) m =
+    omega (arith, given_bytes _ r.patron.now m.states.1.patron, patron_value m.kind body)
+patron_request_bytes body (Patrons.FeePaid r) m =
+    omega (arith, given_bytes _ r.patron.now m.states.1.patron, patron_value m.kind body)
+patron_request_bytes body (Patrons.RenewAll r) m =
+    omega (arith, given_bytes _ r.patron.now m.states.1.patron, patron_value m.kind body)
+
+pub unreadable_patron_fits : (body : List ℕ) (message : UnreadablePatron) → IsUnreadablePatron body message →
+    unreadable_patron_bytes message ≤ length body
+unreadable_patron_fits body message u = omega (arith, ap bytes_of u.patron, patron_value message.kind body)

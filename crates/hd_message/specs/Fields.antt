@@ -1,6 +1,8 @@
 -- The parts of which replies are made.
-use Rattle.std.specs.Prelude.{ℕ, Bool, List, [], ◌++◌, Option, None, Some, codes, decimal, if◌then◌else◌}
+use Rattle.std.specs.Prelude.{ℕ, Bool, List, [], ◌++◌, Option, None, Some, codes, decimal, min}
+use Rattle.std.specs.Prelude.{if◌then◌else◌}
 use Rattle.std.specs.Option.{option_map}
+use Rattle.hd_date.specs.Days.{four_digits}
 use Rattle.hd_message.specs.Due.{due_text}
 use Rattle.hd_rules.specs.RefusalTexts.{refusal_text}
 use Rattle.hd_rules.specs.declared.replies.Refusal.{Refusal}
@@ -49,3 +51,15 @@ cancelled_field number = field_text (codes "AF") (codes "CANCELLED " ++ decimal 
 -- AF with the text of a refusal
 abbrev pub refusal_field : Refusal → List ℕ
 refusal_field refusal = field_text (codes "AF") (refusal_text refusal)
+
+-- a count, in four digits; 9999 where it is more
+abbrev pub count_text : ℕ → List ℕ
+count_text count = four_digits (min count 9999)
+
+-- CB with how many loans a patron may have
+abbrev pub limit_field : ℕ → List ℕ
+limit_field limit = field_text (codes "CB") (count_text limit)
+
+-- AF with a place on the hold shelf
+abbrev pub shelf_field : ℕ → List ℕ
+shelf_field place = field_text (codes "AF") (codes "HOLD SHELF " ++ decimal place)

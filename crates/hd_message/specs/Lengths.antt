@@ -16,9 +16,21 @@ use Rattle.hd_message.specs.declared.reply.Circulation.{Circulation}
 use Rattle.hd_message.specs.declared.reply.Circulation.TheVariants as OfCopy
 use Rattle.hd_message.specs.declared.reply.ItemOutcome.{ItemOutcome}
 use Rattle.hd_message.specs.declared.reply.ItemOutcome.TheVariants as OfItem
+use Rattle.hd_message.specs.declared.patron_reply.PatronInformationOutcome.{PatronInformationOutcome}
+use Rattle.hd_message.specs.declared.patron_reply.PatronInformationOutcome.TheVariants as OfInformation
+use Rattle.hd_message.specs.declared.patron_reply.PatronReply.{PatronReply}
+use Rattle.hd_message.specs.declared.patron_reply.PatronReply.TheVariants as OfPatron
+use Rattle.hd_message.specs.declared.patron_reply.PatronStatusOutcome.{PatronStatusOutcome}
+use Rattle.hd_message.specs.declared.patron_reply.PatronStatusOutcome.TheVariants as OfStatus
+use Rattle.hd_message.specs.declared.patron_reply.RenewAllOutcome.{RenewAllOutcome}
+use Rattle.hd_message.specs.declared.patron_reply.RenewAllOutcome.TheVariants as OfRenewAll
+use Rattle.hd_message.specs.declared.sorter_reply.Destination.{Destination}
+use Rattle.hd_message.specs.declared.sorter_reply.Destination.TheVariants as OfSorting
+use Rattle.hd_message.specs.declared.sorter_reply.Recipient.{Recipient}
 use Rattle.hd_message.specs.declared.reply.Reply.{Reply}
 use Rattle.hd_message.specs.declared.reply.Reply.TheVariants.{Login, Status, Checkout, Checkin, Hold, Renew}
 use Rattle.hd_message.specs.declared.reply.Reply.TheVariants.{Item, RequestScResend}
+use Rattle.hd_message.specs.declared.reply.Reply.TheVariants.{StatusWithPatrons, Patron, Sorter, SorterItem}
 
 -- a name of the catalogue
 abbrev pub IsName : List ℕ → Type 0
@@ -89,6 +101,60 @@ IsItemShort (OfItem.Found holds title home circulation) =
     IsNumber holds × IsName title.now × IsName home.now × IsCopyShort circulation
 IsItemShort (OfItem.Refused refusal) = HasNumber refusal
 
+-- a language
+abbrev pub IsLanguage : List ℕ → Type 0
+IsLanguage language = length language ≡ 3
+
+-- the number of a refusal, where there is one
+abbrev pub HasNumbers : Option Refusal → Type 0
+HasNumbers None = ⊤
+HasNumbers (Some refusal) = HasNumber refusal
+
+-- of a question whether a patron may borrow
+abbrev pub IsStatusShort : PatronStatusOutcome → Type 0
+IsStatusShort (OfStatus.Known patron) = IsName patron.name.now
+IsStatusShort (OfStatus.NotBlocked patron) = IsName patron.name.now
+IsStatusShort (OfStatus.Refused refusal) = HasNumber refusal
+
+-- of a question what a patron has: its list isn't looked at
+abbrev pub IsInformationShort : PatronInformationOutcome → Type 0
+IsInformationShort (OfInformation.Known patron counts limit list) = IsName patron.name.now
+IsInformationShort (OfInformation.Refused refusal) = HasNumber refusal
+
+-- of a wish to renew all loans
+abbrev pub IsRenewAllShort : RenewAllOutcome → Type 0
+IsRenewAllShort (OfRenewAll.NotRenewed loans) = ⊤
+IsRenewAllShort (OfRenewAll.Refused refusal) = HasNumber refusal
+
+-- of a reply to a patron message
+abbrev pub IsPatronShort : PatronReply → Type 0
+IsPatronShort (OfPatron.Status reply) =
+    IsLanguage reply.language.now × IsPrintedDate reply.date.now × IsName reply.institution.now
+    × IsStatusShort reply.outcome × (length reply.patron.now ≤ 1024)
+IsPatronShort (OfPatron.Information reply) =
+    IsLanguage reply.language.now × IsPrintedDate reply.date.now × IsName reply.institution.now
+    × IsInformationShort reply.outcome × (length reply.patron.now ≤ 1024)
+IsPatronShort (OfPatron.SessionEnd reply) =
+    IsPrintedDate reply.date.now × IsName reply.institution.now × HasNumbers reply.refusal
+    × (length reply.patron.now ≤ 1024)
+IsPatronShort (OfPatron.FeePaid reply) =
+    IsPrintedDate reply.date.now × IsName reply.institution.now × HasNumbers reply.refusal
+    × (length reply.patron.now ≤ 1024)
+IsPatronShort (OfPatron.RenewAll reply) =
+    IsPrintedDate reply.date.now × IsName reply.institution.now × IsRenewAllShort reply.outcome
+
+-- the names of whom a copy is for
+abbrev pub IsRecipientShort : Option Recipient → Type 0
+IsRecipientShort None = ⊤
+IsRecipientShort (Some recipient) =
+    IsName recipient.patron.now × (bytes_of (option_copied recipient.name) ≤ 60)
+
+-- of where a copy is after its return, and for whom
+abbrev pub IsDestinationShort : Destination → Type 0
+IsDestinationShort OfSorting.OpenShelf = ⊤
+IsDestinationShort (OfSorting.HoldShelf place recipient) = IsNumber place × IsRecipientShort (Some recipient)
+IsDestinationShort (OfSorting.Transit branch recipient) = IsName branch.now × IsRecipientShort recipient
+
 -- a reply prints names of the catalogue, dates, numbers, and at most 1,024 bytes of the message's values
 abbrev pub IsShort : Reply → Type 0
 IsShort (Login reply) = ⊤
@@ -108,6 +174,14 @@ IsShort (Renew reply) =
 IsShort (Item reply) =
     IsPrintedDate reply.date.now × IsItemShort reply.outcome × (length reply.copy.now ≤ 1024)
 IsShort RequestScResend = ⊤
+IsShort (StatusWithPatrons reply) = IsPrintedDate reply.date.now × IsName reply.institution.now
+IsShort (Patron reply) = IsPatronShort reply
+IsShort (Sorter reply) =
+    IsPrintedDate reply.date.now × IsName reply.institution.now × IsName reply.home.now
+    × IsName reply.title.now × IsDestinationShort reply.destination × (length reply.copy.now ≤ 1024)
+IsShort (SorterItem reply) =
+    IsPrintedDate reply.item.date.now × IsItemShort reply.item.outcome × IsRecipientShort reply.recipient
+    × (length reply.item.copy.now ≤ 1024)
 
 -- such a reply has at most 2,038 bytes: with trailer and carriage return at most 2,048
 abbrev pub IsBounded : Reply → Type 0

@@ -4,12 +4,17 @@ pub mod Table
 pub mod Hold
 pub mod Requests
 pub mod Reading
+pub mod PatronTable
+pub mod PatronRequests
+pub mod PatronReading
 pub mod Due
 pub mod Fields
 pub mod LoanReplies
 pub mod CheckinReplies
 pub mod HoldReplies
 pub mod ItemReplies
+pub mod PatronReplies
+pub mod SorterReplies
 pub mod Replies
 pub mod Part
 pub mod Lengths
@@ -17,3 +22,4 @@ pub mod Repeated
 pub mod Grammar
 pub mod WrittenMessages
 pub mod WrittenHolds
+pub mod WrittenPatrons

@@ -23,3 +23,6 @@ pub record AreFirst (part : List ℕ) (values : Values) : Type 0 where
   pub wanted : option_copied values.wanted ≡ first_value part (codes "BY")
   pub name : option_copied values.name ≡ first_value part (codes "CN")
   pub password : option_copied values.password ≡ first_value part (codes "CO")
+  pub patron_password : option_copied values.patron_password ≡ first_value part (codes "AD")
+  pub first_item : option_copied values.first_item ≡ first_value part (codes "BP")
+  pub last_item : option_copied values.last_item ≡ first_value part (codes "BQ")

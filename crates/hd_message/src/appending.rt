@@ -2,7 +2,7 @@
 ghost use Rattle.std.specs.Prelude.{◌≡◌, ◌+◌, ◌<◌, ◌≤◌, ◌++◌, OnOk, OnErr, codes, decimal, length, vec_len};
 ghost use Rattle.std.specs.Prelude.{vec_capacity};
 ghost use Rattle.std.specs.List.{flat_map};
-ghost use Rattle.hd_message.specs.Fields.{field_text, refusal_field, yes_no};
+ghost use Rattle.hd_message.specs.Fields.{count_text, field_text, refusal_field, yes_no};
 ghost use Rattle.hd_message.specs.Part.{part_text};
 
 use crate::part::Part;
@@ -51,6 +51,9 @@ fn put<A: Allocator>(out: &mut Vec<u8, A>, part: Part<'_>) -> Result<(), AllocEr
         Part::Bound(branch) => put_joined(out, *b"CL", b"T", branch),
         Part::Cancelled(number) => put_number(out, *b"AF", b"CANCELLED ", number),
         Part::Refused(refusal) => put_refusal(out, refusal),
+        Part::Count(count) => out.extend_from_slice(&count_text(count)),
+        Part::Limit(limit) => put_field(out, *b"CB", &count_text(u64::from(limit))),
+        Part::OnHoldShelf(place) => put_number(out, *b"AF", b"HOLD SHELF ", u64::from(place)),
     }
 }
 
@@ -59,6 +62,27 @@ fn yes_no(holds: bool) -> &'static [u8]
     ensures { result.now ≡ yes_no holds }
 {
     if holds { b"Y" } else { b"N" }
+}
+
+/// A count in four digits, 9999 where it is more.
+fn count_text(count: u64) -> [u8; 4]
+    ensures { result ≡ count_text count }
+{
+    let shown = count.min(9999);
+    [
+        digit(shown / 1000),
+        digit(shown / 100 % 10),
+        digit(shown / 10 % 10),
+        digit(shown % 10),
+    ]
+}
+
+/// The decimal digit of a number.
+fn digit(number: u64) -> u8
+    requires { number < 10 }
+    ensures { result ≡ 48 + number }
+{
+    b'0' + number as u8
 }
 
 /// Appends AF with the text of a refusal, whole or not at all.
@@ -75,7 +99,7 @@ fn put_refusal<A: Allocator>(out: &mut Vec<u8, A>, refusal: Refusal) -> Result<(
 }
 
 /// Appends a field, whole or not at all.
-fn put_field<A: Allocator>(
+pub(crate) fn put_field<A: Allocator>(
     out: &mut Vec<u8, A>,
     code: [u8; 2],
     value: &[u8],

@@ -31,4 +31,10 @@ pub(crate) enum Part<'a> {
     Cancelled(u64),
     /// AF with the text of a refusal.
     Refused(Refusal),
+    /// A count in four digits, 9999 where it is more.
+    Count(u64),
+    /// CB with how many loans a patron may have, printed as a count.
+    Limit(u32),
+    /// AF with a place on a hold shelf.
+    OnHoldShelf(u32),
 }

@@ -2,6 +2,8 @@
 //!
 //! A date of a reply is 18 bytes, as it is printed. A copy, a title or a patron that the message names is
 //! printed as the message has it, empty where it has none.
+use crate::patron_reply::PatronReply;
+use crate::sorter_reply::{SorterItemReply, SorterReply};
 use hd_date::Day;
 use hd_rules::Refusal;
 
@@ -246,4 +248,12 @@ pub enum Reply<'a> {
     Item(ItemReply<'a>),
     /// 96, Request SC Resend: the message is none that is read, or came damaged.
     RequestScResend,
+    /// 98, ACS Status, where patron messages are read.
+    StatusWithPatrons(StatusReply<'a>),
+    /// 24, 64, 36, 38 or 66: the reply to a patron message.
+    Patron(PatronReply<'a>),
+    /// 10, Checkin Response, with sorter fields.
+    Sorter(SorterReply<'a>),
+    /// 18, Item Information Response, with sorter fields.
+    SorterItem(SorterItemReply<'a>),
 }

@@ -30,6 +30,12 @@ pub(crate) struct Values<'a> {
     pub(crate) name: Option<&'a [u8]>,
     /// CO, the login password.
     pub(crate) password: Option<&'a [u8]>,
+    /// AD, the patron password.
+    pub(crate) patron_password: Option<&'a [u8]>,
+    /// BP, the first item wanted of a list.
+    pub(crate) first_item: Option<&'a [u8]>,
+    /// BQ, the last item wanted of a list.
+    pub(crate) last_item: Option<&'a [u8]>,
 }
 
 /// The values of the fields of `part`, found in one walk.
@@ -47,6 +53,9 @@ pub(crate) fn first_values(part: &[u8]) -> Values<'_>
         wanted: None,
         name: None,
         password: None,
+        patron_password: None,
+        first_item: None,
+        last_item: None,
     };
     for field in fields(part) {
         values = Values {
@@ -60,6 +69,9 @@ pub(crate) fn first_values(part: &[u8]) -> Values<'_>
             wanted: value_after(values.wanted, *b"BY", field),
             name: value_after(values.name, *b"CN", field),
             password: value_after(values.password, *b"CO", field),
+            patron_password: value_after(values.patron_password, *b"AD", field),
+            first_item: value_after(values.first_item, *b"BP", field),
+            last_item: value_after(values.last_item, *b"BQ", field),
         };
     }
     values

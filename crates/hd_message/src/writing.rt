@@ -10,11 +10,16 @@ use crate::hold_replies::write_hold;
 use crate::item_replies::write_item;
 use crate::loan_replies::{checkout_front, renew_front, write_loan};
 use crate::part::Part;
+use crate::patron_replies::write_patron;
 use crate::reply::{LoginReply, Reply, StatusReply};
+use crate::sorter_replies::{write_sorter, write_sorter_item};
 use std::alloc::{AllocError, Allocator};
 
 /// BX of an ACS Status: which messages are supported. Nothing is claimed of its positions.
 const SUPPORTED: &[u8] = b"NYYNYYYNNNYNNYYN";
+
+/// The same where patron messages are read: of patron status, end of session and patron information too.
+const SUPPORTED_WITH_PATRONS: &[u8] = b"YYYNYYYYYNYNNYYN";
 
 /// Appends the text of a reply, without trailer and carriage return, whole or not at all (docs/protocol.md,
 /// "Replies written").
@@ -31,13 +36,17 @@ pub fn write<A: Allocator>(reply: &Reply<'_>, out: &mut Vec<u8, A>) -> Result<()
 {
     match reply {
         Reply::Login(reply) => append(out, &[Part::Text(login_text(reply))]),
-        Reply::Status(reply) => append(out, &status(reply)),
+        Reply::Status(reply) => append(out, &status(SUPPORTED, reply)),
         Reply::Checkout(reply) => write_loan(checkout_front(&reply.outcome), reply, out),
         Reply::Checkin(reply) => write_checkin(reply, out),
         Reply::Hold(reply) => write_hold(reply, out),
         Reply::Renew(reply) => write_loan(renew_front(&reply.outcome), reply, out),
         Reply::Item(reply) => write_item(reply, out),
         Reply::RequestScResend => append(out, &[Part::Text(b"96")]),
+        Reply::StatusWithPatrons(reply) => append(out, &status(SUPPORTED_WITH_PATRONS, reply)),
+        Reply::Patron(reply) => write_patron(reply, out),
+        Reply::Sorter(reply) => write_sorter(reply, out),
+        Reply::SorterItem(reply) => write_sorter_item(reply, out),
     }
 }
 
@@ -48,15 +57,15 @@ fn login_text(reply: &LoginReply) -> &'static [u8]
     if reply.taken { b"941" } else { b"940" }
 }
 
-/// The parts of the reply to a status message.
-fn status<'a>(reply: &StatusReply<'a>) -> [Part<'a>; 5]
-    ensures { flat_map part_text result ≡ concat (status_layout reply.now) }
+/// The parts of the reply to a status message, where these messages are supported.
+fn status<'a>(messages: &'a [u8], reply: &StatusReply<'a>) -> [Part<'a>; 5]
+    ensures { flat_map part_text result ≡ concat (status_layout messages.now reply.now) }
 {
     [
         Part::Text(b"98YYYYNY100003"),
         Part::Text(reply.date),
         Part::Text(b"2.00"),
         Part::Field(*b"AO", reply.institution),
-        Part::Field(*b"BX", SUPPORTED),
+        Part::Field(*b"BX", messages),
     ]
 }

@@ -35,7 +35,8 @@ IsFirstLineBad digest all fault =
     × (first_said digest first ≡ Err fault.cause)
 
 -- The lines before say rows, and this one doesn't.
-pub record IsRowBad (k : Contents) (digest : List ℕ) (all : List (List ℕ)) (fault : OpeningFault) : Type 0 where
+pub record IsRowBad (k : Contents) (digest : List ℕ) (all : List (List ℕ)) (fault : OpeningFault) :
+    Type 0 where
   pub first : List ℕ
   pub last : ℕ
   pub before : List (List ℕ)

@@ -1,8 +1,8 @@
 //! Holds as one list in order of stamp.
 ghost use Rattle.std.specs.Prelude.{◌≡◌, ℕ, ◌+◌, ◌<◌, ◌≤◌, ◌^◌, [], None, Some, OnErr, OnOk, length};
 ghost use Rattle.hd_rules.specs.declared.holds.Hold.{Hold};
-ghost use Rattle.hd_queue.specs.Holds.{HasNoStamp, HasPatronsOnce, IsInOrder, count_before, has_stamp, hold_of};
-ghost use Rattle.hd_queue.specs.Holds.{with_hold, without};
+ghost use Rattle.hd_queue.specs.Holds.{HasNoStamp, HasPatronsOnce, IsInOrder, count_before, has_stamp};
+ghost use Rattle.hd_queue.specs.Holds.{hold_of, with_hold, without};
 
 use crate::lent::HoldSlices;
 use hd_rules::Hold;

@@ -1,7 +1,7 @@
 //! A queue of holds in order of stamp.
 ghost use Rattle.std.specs.Prelude.{◌≡◌, ◌+◌, ◌<◌, ◌≤◌, ◌^◌, [], None, Some, OnErr, OnOk, length, option_map};
-ghost use Rattle.hd_queue.specs.Holds.{HasNoStamp, HasPatronsOnce, IsInOrder, count_before, has_stamp, hold_of};
-ghost use Rattle.hd_queue.specs.Holds.{with_hold, without};
+ghost use Rattle.hd_queue.specs.Holds.{HasNoStamp, HasPatronsOnce, IsInOrder, count_before, has_stamp};
+ghost use Rattle.hd_queue.specs.Holds.{hold_of, with_hold, without};
 
 use crate::list::HoldList;
 use crate::stamps::Stamps;

@@ -84,8 +84,8 @@ pub fn replay_in<A: Allocator + Copy, R: Input, W: Output>(
 /// The same over a catalogue, at a present. The journal begins with the catalogue's rows.
 ///
 /// # Errors
-/// Those of `replay`, but `Catalogue` and `BadNow`. `Memory` stands also for rows with which no journal begins:
-/// `hd_journal::open` says which.
+/// Those of `replay`, but `Catalogue` and `BadNow`. `Memory` stands also for rows with which no journal
+/// begins: `hd_journal::open` says which.
 pub fn replay_over<A: Allocator + Copy, R: Input, W: Output>(
     rt: &HostRuntime,
     alloc: A,

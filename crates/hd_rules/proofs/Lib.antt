@@ -39,3 +39,7 @@ pub mod ReplyingTurns
 pub mod Carried
 pub mod Told
 pub mod KnownRows
+pub mod Orders
+pub mod Listed
+pub mod Filters
+pub mod AtPickup

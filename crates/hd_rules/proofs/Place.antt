@@ -51,7 +51,7 @@ pub record Found (k : Facts) (d : Desk) (b : ℕ) (after : ℕ) (first : ℕ) (f
   pub free : (is_free k d b f ≡ true) ⊎ (f ≡ after)
   pub least : (g : ℕ) → first ≤ g → g < f → is_free k d b g ≡ false
 
-first_or_later : (first g : ℕ) → first ≤ g → (first ≡ g) ⊎ (first + 1 ≤ g)
+pub first_or_later : (first g : ℕ) → first ≤ g → (first ≡ g) ⊎ (first + 1 ≤ g)
 first_or_later first g le = by_test (first == g) refl
   where
     by_test : (t : Bool) → (first == g) ≡ t → (first ≡ g) ⊎ (first + 1 ≤ g)

@@ -1,11 +1,12 @@
 -- The laws, each proved. The crates above rest on them, and docs/proofs.md has them in plain words.
 use Rattle.std.specs.Prelude.{Bool, ◌≡◌, ◌↔◌, IsTrue, MatchOption, Option, ◌+◌, ◌≤◌, length, Ok}
-use Rattle.std.specs.Prelude.{Some, None, List, [], ◌∷◌, ◌++◌, All}
-use Rattle.hd_rules.specs.Words.{Hold, OpeningRow, Question, ValueOf, Change, Command, Cancel, Survivor, TurnReply}
-use Rattle.hd_rules.specs.Numbers.{BranchNo, CopyNo, Day, PlaceNo, TerminalNo, CommandNo, HoldStamp}
+use Rattle.std.specs.Prelude.{Some, None, List, [], ◌∷◌, ◌++◌, All, ◌⊎◌}
+use Rattle.hd_rules.specs.Words.{Hold, OpeningRow, Question, ValueOf, Change, Command, Cancel, Survivor}
+use Rattle.hd_rules.specs.Words.{TurnReply, TitleHold}
+use Rattle.hd_rules.specs.Numbers.{BranchNo, CopyNo, PatronNo, Day, PlaceNo, TerminalNo, CommandNo, HoldStamp}
 use Rattle.hd_rules.specs.Facts.{Facts, AreInRange, IsFresh, first_number}
 use Rattle.hd_rules.specs.Desk.{Desk, at_home, value, after, take_back}
-use Rattle.hd_rules.specs.Choose.{FirstCandidate, LeastFree}
+use Rattle.hd_rules.specs.Choose.{FirstCandidate, LeastFree, loans}
 use Rattle.hd_rules.specs.Find.{choice, place}
 use Rattle.hd_rules.specs.Ask.{Done, answer, outcome, asks}
 use Rattle.hd_rules.specs.Notes.{told_answer}
@@ -24,6 +25,7 @@ use Rattle.hd_rules.specs.Carry.{Renumbering, IsByNames, IsCarriedOver}
 use Rattle.hd_rules.specs.Record.{Record, IsRecord, IsKeptOf, mended_record}
 use Rattle.hd_rules.specs.Replies.{IsReplyTo}
 use Rattle.hd_rules.specs.Known.{IsKnownAction, IsKnownDesk, IsKnownDone, IsKnown, IsKnownJournal, IsKnownRow}
+use Rattle.hd_rules.specs.Views.{loans_of, holds_of, kept_of, waiting_of, IsLoansOf, IsHoldsOf, IsAtItsPickup}
 use Rattle.hd_rules.specs.Sound.{IsFit, Sound, MayOpen, EachBackIsFit, EachOnIsFit}
 
 -- After every legal list of turns, so after every list of the terminals' messages, the headline holds.
@@ -42,7 +44,8 @@ pub record ALegalJournalIsTheRunOfItsSurvivors : Type 0 where
       → IsReplyTo turn.message.asked turn.reply
   -- where all that the messages name was given by the catalogue, so was all that the desk has and the replies
   -- name
-  pub known : (k : Facts) (turns : List Turn) → AreInRange k → IsKnownDesk k k.opening.desk → IsLegal k turns →
+  pub known : (k : Facts) (turns : List Turn) → AreInRange k → IsKnownDesk k k.opening.desk →
+      IsLegal k turns →
       ((turn : Turn) → IsAmong turn turns → IsKnown k turn.message.asked) → IsKnownJournal k turns
 
 -- Which lists of turns are legal.
@@ -59,7 +62,8 @@ pub record LegalJournalsGoOn : Type 0 where
 -- Each message has one turn: this reply, and this state afterwards.
 abbrev pub EachTurnIsDetermined : Type 0
 EachTurnIsDetermined =
-    (k : Facts) (s : State) (m : Message) (reply : TurnReply) (next : State) → Rising (first_number k) s.survivors →
+    (k : Facts) (s : State) (m : Message) (reply : TurnReply) (next : State) →
+    Rising (first_number k) s.survivors →
     IsTurn k s m reply next ↔ (turn_of k s m ≡ record { reply = reply; state = next })
 
 -- The target of a cancellation, as it is found.
@@ -193,6 +197,35 @@ pub record KnownRowsTellAKnownDesk : Type 0 where
   -- so from the desk with each copy at home on
   pub told : (k : Facts) (rows : List OpeningRow) → AreInRange k → All (IsKnownRow k) rows →
       IsKnownDesk k (with_rows k.title_of (at_home k.home) rows)
+
+-- The lists of a patron's loans and holds have each once, in their order, and no other list does.
+pub record ListedOnce : Type 0 where
+  pub loans : (k : Facts) (d : Desk) (p : PatronNo) (cs : List CopyNo) →
+      IsLoansOf k d p cs ↔ (cs ≡ loans_of k d p)
+  pub holds : (k : Facts) (d : Desk) (p : PatronNo) (hs : List TitleHold) →
+      IsHoldsOf k d p hs ↔ (hs ≡ holds_of k d p)
+
+-- A patron's loans are as many as the desk counts.
+abbrev pub ChargedAreCounted : Type 0
+ChargedAreCounted = (k : Facts) (d : Desk) (p : PatronNo) → length (loans_of k d p) ≡ loans k d p
+
+-- A patron's holds are the kept ones and the waiting ones.
+pub record KeptAndWaitingAreTheHolds : Type 0 where
+  -- they are as many
+  pub counted : (k : Facts) (d : Desk) (p : PatronNo) →
+      length (kept_of k d p) + length (waiting_of k d p) ≡ length (holds_of k d p)
+  -- each hold is one of either
+  pub either : (k : Facts) (d : Desk) (p : PatronNo) (h : TitleHold) →
+      IsAmong h (holds_of k d p) ↔ (IsAmong h (kept_of k d p) ⊎ IsAmong h (waiting_of k d p))
+  -- and none is of both
+  pub apart : (k : Facts) (d : Desk) (p : PatronNo) (h : TitleHold) →
+      IsAmong h (kept_of k d p) → IsAmong h (waiting_of k d p) → ⊥
+
+-- In a sound desk the copy of a kept hold stands at its pickup, for the patron.
+abbrev pub AKeptHoldIsAtItsPickup : Type 0
+AKeptHoldIsAtItsPickup =
+    (k : Facts) (n : HoldStamp) (d : Desk) (p : PatronNo) (h : TitleHold) → Sound k n d →
+    IsAmong h (kept_of k d p) → IsAtItsPickup k d p h
 
 -- a test is true exactly where two values are equal
 abbrev pub IsExact : {A : Type 0} → (A → A → Bool) → Type 0

@@ -1,7 +1,7 @@
 -- The desk that a journal opens with, as a file tells it: row by row, from the desk with each copy at home.
 use Rattle.std.specs.Prelude.{◌≡◌, ◌<◌, ◌≤◌, Option, Some, None, List, [], ◌∷◌}
-use Rattle.hd_rules.specs.Words.{OpeningRow, Hold, HoldPlace, CopyState, Shelf, OnLoan, OnHoldShelf, InTransit}
-use Rattle.hd_rules.specs.Words.{CopyCell, HoldCell, CopyHas, HoldHas}
+use Rattle.hd_rules.specs.Words.{OpeningRow, Hold, HoldPlace, CopyState, Shelf, OnLoan, OnHoldShelf}
+use Rattle.hd_rules.specs.Words.{InTransit, CopyCell, HoldCell, CopyHas, HoldHas}
 use Rattle.hd_rules.specs.declared.rows.OpeningRow.TheVariants as row
 use Rattle.hd_rules.specs.Numbers.{BranchNo, TitleNo, CopyNo, PatronNo, PlaceNo, HoldStamp}
 use Rattle.hd_rules.specs.Facts.{Facts}

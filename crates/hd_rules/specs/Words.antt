@@ -30,3 +30,13 @@ pub use Rattle.hd_rules.specs.declared.replies.ItemView.{ItemView}
 pub use Rattle.hd_rules.specs.declared.replies.TurnReply.{TurnReply}
 pub use Rattle.hd_rules.specs.declared.rows.OpeningRow.{OpeningRow}
 pub use Rattle.hd_rules.specs.declared.turns.Asked.{Asked}
+pub use Rattle.hd_rules.specs.declared.views.TitleHold.{TitleHold}
+pub use Rattle.hd_rules.specs.declared.views.Borrowing.{Borrowing}
+pub use Rattle.hd_rules.specs.declared.views.Borrowing.TheVariants.{Denied, TooMany, Allowed}
+pub use Rattle.hd_rules.specs.declared.views.PatronView.{PatronView}
+pub use Rattle.hd_rules.specs.declared.views.Summary.{Summary}
+pub use Rattle.hd_rules.specs.declared.views.Summary.TheVariants.{HoldItems, OverdueItems, ChargedItems}
+pub use Rattle.hd_rules.specs.declared.views.Summary.TheVariants.{UnavailableHolds, Empty}
+pub use Rattle.hd_rules.specs.declared.views.Wanted.{Wanted}
+pub use Rattle.hd_rules.specs.declared.views.ListItem.{ListItem}
+pub use Rattle.hd_rules.specs.declared.views.ListItem.TheVariants.{Copy as CopyItem, Title as TitleItem}

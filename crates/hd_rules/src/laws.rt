@@ -1,6 +1,8 @@
 //! Laws. Each is the contract of a function without a body; its statement stands in `specs/Laws.antt`.
 
-ghost use Rattle.hd_rules.specs.Laws.{ACarriedDeskIsSound, AFreshDeskMayOpen, RowsTellASoundDesk};
+ghost use Rattle.hd_rules.specs.Laws.{ACarriedDeskIsSound, AFreshDeskMayOpen, AKeptHoldIsAtItsPickup};
+ghost use Rattle.hd_rules.specs.Laws.{ChargedAreCounted, KeptAndWaitingAreTheHolds, ListedOnce};
+ghost use Rattle.hd_rules.specs.Laws.{RowsTellASoundDesk};
 ghost use Rattle.hd_rules.specs.Laws.{ALegalJournalIsTheRunOfItsSurvivors, ChoiceIsTheFirstCandidate};
 ghost use Rattle.hd_rules.specs.Laws.{CommandsKeepDesksSound, CommandsRestOnTheirAnswers};
 ghost use Rattle.hd_rules.specs.Laws.{EachTurnIsDetermined, KnownRowsTellAKnownDesk, LegalJournalsGoOn};
@@ -101,4 +103,26 @@ pub fn rows_tell_a_sound_desk()
 /// Rows that name things of the catalogue tell a desk that names such.
 pub fn known_rows_tell_a_known_desk()
     ensures { KnownRowsTellAKnownDesk }
+{}
+
+/// The list of a patron's loans has each copy of the catalogue that is on loan to them once, by rising
+/// number; that of their holds each hold once, by rising stamp, and of equal stamps by title number. No other
+/// list does.
+pub fn listed_once()
+    ensures { ListedOnce }
+{}
+
+/// A patron's loans are as many as the count that says whether they have room.
+pub fn charged_are_counted()
+    ensures { ChargedAreCounted }
+{}
+
+/// A patron's kept holds and waiting ones are their holds, each once.
+pub fn kept_and_waiting_are_the_holds()
+    ensures { KeptAndWaitingAreTheHolds }
+{}
+
+/// In a sound desk the copy of a kept hold stands on the hold shelf of its pickup, for the patron.
+pub fn a_kept_hold_is_at_its_pickup()
+    ensures { AKeptHoldIsAtItsPickup }
 {}

@@ -18,6 +18,7 @@ mod refusals;
 mod replies;
 mod rows;
 mod turns;
+mod views;
 
 pub use crate::ask::Ask;
 pub use crate::cells::{Cell, Change, Value};
@@ -26,11 +27,13 @@ pub use crate::copies::{CopyState, HoldPlace, Loan, Transit};
 pub use crate::equality::{same_asked, same_turn_reply};
 pub use crate::holds::{Hold, HoldKind};
 pub use crate::laws::{
-    a_carried_desk_is_sound, a_fresh_desk_may_open, a_legal_journal_is_the_run_of_its_survivors,
+    a_carried_desk_is_sound, a_fresh_desk_may_open, a_kept_hold_is_at_its_pickup,
+    a_legal_journal_is_the_run_of_its_survivors, charged_are_counted,
     choice_is_the_first_candidate, commands_keep_desks_sound, commands_rest_on_their_answers,
-    each_turn_is_determined, headline, known_rows_tell_a_known_desk, legal_journals_go_on,
-    place_is_the_least_free, rows_tell_a_sound_desk, tests_are_exact,
-    the_first_dependent_is_the_least, the_target_is_the_newest, undoing_is_the_run_without,
+    each_turn_is_determined, headline, kept_and_waiting_are_the_holds,
+    known_rows_tell_a_known_desk, legal_journals_go_on, listed_once, place_is_the_least_free,
+    rows_tell_a_sound_desk, tests_are_exact, the_first_dependent_is_the_least,
+    the_target_is_the_newest, undoing_is_the_run_without,
 };
 pub use crate::limits::{
     MOST_BRANCHES, MOST_COMMANDS, MOST_COPIES, MOST_GIVEN, MOST_LOAN_DAYS, MOST_LOANS,
@@ -41,4 +44,5 @@ pub use crate::questions::{Answer, Finding, Noted, Question};
 pub use crate::replies::{ItemView, Refusal, Reply, TurnReply};
 pub use crate::rows::OpeningRow;
 pub use crate::turns::Asked;
+pub use crate::views::{Borrowing, ListItem, PatronView, Summary, TitleHold, Wanted};
 pub use hd_day::Day;

@@ -1,6 +1,7 @@
 //! Several sessions: pieces of their streams, in the order in which they come.
 ghost use Rattle.std.specs.Prelude.{◌≡◌, ◌<◌, ◌∷◌, [], All, IfErr, IfNone, IfSome, OnErr, OnOk, length, map};
-ghost use Rattle.hd_session.specs.Scripts.{AreKnownTo, IsFaultOf, IsStrangerAt, Plays, named_in, played, steps_of};
+ghost use Rattle.hd_session.specs.Scripts.{AreKnownTo, IsFaultOf, IsStrangerAt, Plays, named_in, played};
+ghost use Rattle.hd_session.specs.Scripts.{steps_of};
 
 use crate::session::Session;
 use hd_date::Stamp18;

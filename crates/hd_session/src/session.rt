@@ -64,9 +64,9 @@ impl<A: Allocator + Copy> Session<A> {
     /// # Errors
     /// Why the session ended, at this piece or before. One that has ended does nothing more.
     ///
-    /// `TooLong` where a line has 1,025 bytes. `Turn` at a line that asks something of an office that gives this
-    /// fault, and as `Memory` also where `out` hasn't the room for the line's reply and can't grow: this line
-    /// makes no turn, and the state is as before it. The lines before are answered.
+    /// `TooLong` where a line has 1,025 bytes. `Turn` at a line that asks something of an office that gives
+    /// this fault, and as `Memory` also where `out` hasn't the room for the line's reply and can't grow: this
+    /// line makes no turn, and the state is as before it. The lines before are answered.
     pub fn feed<O: Office<A>>(
         &mut self,
         piece: &[u8],

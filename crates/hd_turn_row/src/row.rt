@@ -43,8 +43,8 @@ pub fn row_of<'a, A: Allocator + Copy>(
 ) -> Option<Row<'a>>
     requires known { IsKnownMessage (facts_of catalogue.now) (message_of ask.now).message }
     requires days { AreDaysOfAsked ask.now.asked days.now }
-    ensures row { IfSome result
-        (λ row. IsRowOf catalogue.now (message_of ask.now).seat (message_of ask.now).message (row_texts row)) }
+    ensures row { let asking = message_of ask.now in
+        IfSome result (λ row. IsRowOf catalogue.now asking.seat asking.message (row_texts row)) }
     ensures query { IfNone result (asked_parts ask.now.asked ≡ None) }
 {
     let parts = parts_of(ask.what_is_asked())?;

@@ -7,7 +7,6 @@ use crate::library::{Library, read_file};
 use crate::presence::see_nothing;
 use crate::writing::write_whole;
 use hd_command_line::{JournalBegin, LibraryFiles};
-use hd_desk::Meter;
 use hd_turn_store::{Unknown, open};
 
 /// Begins a journal's file where there is none, or the first period of a folder that has none.
@@ -35,16 +34,30 @@ fn begin_folder(rt: &HostRuntime, library: &LibraryFiles<'_>, folder: &str) -> R
 /// Begins a library's journal where there is none. All of it is then in the database file.
 fn begin_file(rt: &HostRuntime, files: &LibraryFiles<'_>) -> Result<(), Fault> {
     let path = files.journal.unwrap_or("");
-    let Library {
-        catalogue,
-        digest,
-        ..
-    } = Library::read_text(rt, files)?;
-    see_nothing(rt, path)?;
-    let alloc = rt.alloc();
-    drop(hd_journal::open(alloc, alloc, Meter::new(rt), catalogue)?);
-    let (conn, _) = open(rt, path, Unknown, &digest)?;
-    end_kept(conn)?;
+    let digest = digest_of_fit(rt, files, path)?;
+    begin_at(rt, path, &digest)?;
     println!(rt; "begun: {path}")?;
     Ok(())
+}
+
+/// The digest of a library, which a journal may begin with at a path.
+///
+/// # Errors
+/// A file can't be read, or is refused; something lies at the path.
+fn digest_of_fit(
+    rt: &HostRuntime,
+    files: &LibraryFiles<'_>,
+    path: &str,
+) -> Result<[u8; 32], Fault> {
+    let library = Library::read_text(rt, files)?;
+    see_nothing(rt, path)?;
+    let digest = library.digest;
+    drop(library.journal(rt)?);
+    Ok(digest)
+}
+
+/// Begins the journal of a library with this digest at a path. All of it is then in the database file.
+pub(crate) fn begin_at(rt: &HostRuntime, path: &str, digest: &[u8; 32]) -> Result<(), Fault> {
+    let (conn, _) = open(rt, path, Unknown, digest)?;
+    end_kept(conn)
 }

@@ -7,7 +7,7 @@ use crate::writing::{part_path, write_part};
 use crate::written_off::{listed_copies, tell_written_off};
 use hd_carry::{CarryFault, Obstacle, carry, obstacle_text};
 use hd_catalogue::Catalogue;
-use hd_desk::{Desk, Meter};
+use hd_desk::Desk;
 use hd_journal::Journal;
 use hd_rules::{CopyNo, OpeningRow};
 use sha2::{Digest, Sha256};
@@ -49,15 +49,26 @@ pub(crate) fn carry_desk(
     let last = last_number(journal)?;
     let written_off = listed_copies(rt, desk.catalogue(), way.write_off)?;
     let text = opening_text(rt, desk, last, way.to, written_off.as_slice())?;
-    let part = part_path(rt.alloc(), way.into)?;
-    write_part(rt, part.as_str(), text.as_slice())?;
-    see_carried_over(rt, desk, way.to, part.as_str(), written_off.as_slice())?;
-    tell_written_off(rt, desk, written_off.as_slice())?;
+    write_opening(rt, desk, way, text.as_slice(), written_off.as_slice())?;
     Ok(Carried {
         turns: journal.front(),
         last,
         digest: Sha256::digest(text.as_slice()),
     })
+}
+
+/// Writes an opening beside its path, sees that it tells the desk, and tells which loans are dropped.
+fn write_opening(
+    rt: &HostRuntime,
+    desk: &Desk,
+    way: &Way<'_, '_, '_>,
+    text: &[u8],
+    written_off: &[CopyNo],
+) -> Result<(), Fault> {
+    let part = part_path(rt.alloc(), way.into)?;
+    write_part(rt, part.as_str(), text)?;
+    see_carried_over(rt, desk, way.to, part.as_str(), written_off)?;
+    tell_written_off(rt, desk, written_off)
 }
 
 /// The last number that was given in a journal, or before it.
@@ -77,12 +88,12 @@ fn opening_text(
     written_off: &[CopyNo],
 ) -> Result<Vec<u8>, Fault> {
     let library = Library::of_catalogue(rt, to)?.with_text()?;
+    let rows = rows_of(rt, desk, last, &library.catalogue, written_off)?;
     let Library {
         catalogue,
         digest,
         ..
     } = library;
-    let rows = rows_of(rt, desk, last, &catalogue, written_off)?;
     let next = catalogue.with_opening(rows, last)?;
     let text = hd_opening::write(rt.alloc(), &next, next.opening(), last, &digest)?;
     Ok(text)
@@ -142,8 +153,7 @@ fn see_carried_over(
     written_off: &[CopyNo],
 ) -> Result<(), Fault> {
     let library = Library::of_catalogue(rt, catalogue)?.opened(rt, opening)?;
-    let alloc = rt.alloc();
-    let next = hd_journal::open(alloc, alloc, Meter::new(rt), library.catalogue)?;
+    let next = library.journal(rt)?;
     if is_carried_over(desk, next.desk(), written_off) {
         Ok(())
     } else {

@@ -1,17 +1,16 @@
 //! What `carry` does: it ends a journal, and writes how the next one begins.
 
+use crate::beginning::begin_at;
 use crate::carried::{Carried, Way, carry_desk};
+use crate::ending::end_journal;
 use crate::fault::Fault;
 use crate::folder::{Paths, last_period};
-use crate::keeping::{Keeping, end_kept, open_kept};
+use crate::keeping::{Keeping, open_kept};
 use crate::library::{digest_of, read_file};
 use crate::presence::{remove_journal, see_no_file};
 use crate::writing::{name_part, part_path, write_whole};
 use hd_command_line::{Carry, LibraryFiles, Place};
-use hd_durable::DurableJournal;
-use hd_journal_file::JournalFile;
-use hd_turn_store::{Alter, Connection, FileStore, Start, Unknown, open};
-use sqlite_disk::Disk;
+use hd_turn_store::Unknown;
 
 /// Carries a library over to another catalogue: into an opening file, or to the next period of its folder.
 pub(crate) fn carry_over(rt: &HostRuntime, order: &Carry<'_>) -> Result<(), Fault> {
@@ -70,8 +69,7 @@ fn way_of<'to, 'off, 'into>(
 /// Begins the journal of a period that isn't complete yet. What a carry that was broken off left of it goes.
 fn begin_anew(rt: &HostRuntime, path: &str, digest: &[u8; 32]) -> Result<(), Fault> {
     remove_journal(rt, path)?;
-    let (conn, _) = open(rt, path, Unknown, digest)?;
-    end_kept(conn)
+    begin_at(rt, path, digest)
 }
 
 /// Carries the desk of a library's journal over, and ends the journal: the opening is then beside its path.
@@ -85,28 +83,10 @@ fn carry_files(
         library: *files,
         is_other_accepted: false,
     };
-    carry_on_disks(rt, open_kept(rt, Unknown, &keeping)?, way)
-}
-
-/// Carries the desk of a journal on these disks over, and ends its file.
-fn carry_on_disks<D: Disk + Drop, F: Start>(
-    rt: &HostRuntime,
-    journal: DurableJournal<JournalFile<FileStore<D>, F>>,
-    way: &Way<'_, '_, '_>,
-) -> Result<Carried, Fault> {
-    let (carried, conn) = carry_in_file(rt, journal, way);
-    end_kept(conn)?;
+    let kept = open_kept(rt, Unknown, &keeping)?;
+    let carried = carry_desk(rt, kept.journal(), way);
+    end_journal(kept)?;
     carried
-}
-
-/// Carries the desk of a journal in a file over: what it is then, and the file's connection.
-fn carry_in_file<S: Alter + Drop, F: Start>(
-    rt: &HostRuntime,
-    journal: DurableJournal<JournalFile<S, F>>,
-    way: &Way<'_, '_, '_>,
-) -> (Result<Carried, Fault>, Connection<S>) {
-    let carried = carry_desk(rt, journal.journal(), way);
-    (carried, journal.into_table().into_connection())
 }
 
 /// Gives the opening that lies beside its path its name, and tells what was carried over.

@@ -5,26 +5,25 @@ use crate::fault::Fault;
 use crate::folder::Paths;
 use crate::library::{Library, read_file};
 use hd_catalogue::{Catalogue, TitleNo};
-use hd_command_line::Check;
-use hd_desk::{Desk, Meter};
+use hd_command_line::{Check, LibraryFiles};
+use hd_desk::Desk;
 use std::alloc::{AllocError, Global};
 use std::io::{IsTerminal, Write};
 
 /// From how many bytes on a catalogue file takes so long that a terminal is told of it.
 const LONG_FILE: usize = 10_000_000;
 
-/// Tells what a catalogue file says, or why it is refused. A terminal is told before a long file is read.
+/// Tells what a library's files say, or why one is refused.
 pub(crate) fn check(rt: &HostRuntime, order: &Check<'_>) -> Result<(), Fault> {
     let paths = Paths::of(rt, &order.library)?;
-    let file = read_file(rt, paths.files().catalogue)?;
-    if file.len() > LONG_FILE && rt.stderr().is_terminal() {
-        eprintln!(rt; "checking {} MB", file.len() / 1_000_000)?;
-    }
-    let version = version_of(file.as_slice());
-    let library = Library::of_catalogue(rt, file.as_slice())?;
-    drop(file);
+    check_files(rt, &paths.files())
+}
+
+/// Tells what these files of a library say.
+fn check_files(rt: &HostRuntime, files: &LibraryFiles<'_>) -> Result<(), Fault> {
+    let (version, library) = library_of(rt, files.catalogue)?;
     let report = report_of(rt.alloc(), version, &library.catalogue)?;
-    match paths.files().opening {
+    match files.opening {
         None => {
             rt.stdout().write_all(report.as_slice())?;
             Ok(())
@@ -33,12 +32,21 @@ pub(crate) fn check(rt: &HostRuntime, order: &Check<'_>) -> Result<(), Fault> {
     }
 }
 
+/// The version of a catalogue file, and its library. A terminal is told before a long file is read.
+fn library_of(rt: &HostRuntime, path: &str) -> Result<(u8, Library), Fault> {
+    let file = read_file(rt, path)?;
+    if file.len() > LONG_FILE && rt.stderr().is_terminal() {
+        eprintln!(rt; "checking {} MB", file.len() / 1_000_000)?;
+    }
+    let library = Library::of_catalogue(rt, file.as_slice())?;
+    Ok((version_of(file.as_slice()), library))
+}
+
 /// Tells what a catalogue file says, and then what the opening file does: the last number, and how many
 /// loans, copies kept or on their way and holds the desk has that the journal begins with.
 fn check_opening(rt: &HostRuntime, library: Library, report: &[u8]) -> Result<(), Fault> {
-    let alloc = rt.alloc();
     let last = library.catalogue.last_before();
-    let journal = hd_journal::open(alloc, alloc, Meter::new(rt), library.catalogue)?;
+    let journal = library.journal(rt)?;
     let away = Away::of(journal.desk());
     rt.stdout().write_all(report)?;
     println!(rt;

@@ -8,11 +8,11 @@ use hd_replay::ReplayFault;
 use hd_serve::ServeFault;
 use hd_server::ServerFault;
 use std::alloc::{AllocError, AllocFailed};
-use std::io;
+use std::{fmt, io};
 use thiserror::Error;
 
 /// Why the program stops before its end, printed as one line on standard error.
-#[derive(Debug, Drop, Error)]
+#[derive(Drop, Error)]
 pub(crate) enum Fault {
     /// The catalogue file can't be read.
     #[error("cannot read the catalogue")]
@@ -104,6 +104,13 @@ pub(crate) enum Fault {
     /// A replay or a server stopped.
     #[error("{0}")]
     Server(ServerFault),
+}
+
+// Written out, since the proof of the derived one takes as long as that of thirty functions.
+impl fmt::Debug for Fault {
+    fn fmt<W: fmt::Write>(&self, f: &mut fmt::Formatter<W>) -> fmt::Result {
+        write!(f, "{self}")
+    }
 }
 
 impl From<CatFault> for Fault {

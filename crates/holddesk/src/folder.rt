@@ -7,11 +7,21 @@ use std::alloc::{AllocError, Global};
 use std::fs;
 
 /// The paths of a library's files.
-#[derive(Drop)]
 pub(crate) struct Paths {
     catalogue: String,
     opening: Option<String>,
     journal: Option<String>,
+}
+
+// Written out, so that a caller's proof sees one call and not the drop of each field.
+impl Drop for Paths {
+    fn drop(self) {
+        let Paths {
+            catalogue: _catalogue,
+            opening: _opening,
+            journal: _journal,
+        } = self;
+    }
 }
 
 impl Paths {
@@ -96,12 +106,19 @@ pub(crate) fn last_period(rt: &HostRuntime, folder: &str) -> Result<u32, Fault> 
         let Ok(entry) = entry else {
             return Err(Fault::NoLibrary(String::from_str(rt.alloc(), folder)?));
         };
-        let period = period_of(entry.file_name());
-        if period > last && is_complete(rt, folder, period)? {
-            last = period;
-        }
+        last = later_period(rt, folder, entry.file_name(), last)?;
     }
     Ok(last)
+}
+
+/// The period that a journal's file is of, by its name, where it is a later one and complete; else this one.
+fn later_period(rt: &HostRuntime, folder: &str, name: &str, than: u32) -> Result<u32, Fault> {
+    let period = period_of(name);
+    if period > than && is_complete(rt, folder, period)? {
+        Ok(period)
+    } else {
+        Ok(than)
+    }
 }
 
 /// The period that a journal's file is of, by its name; 0: the name is no journal's.

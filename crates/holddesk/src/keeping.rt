@@ -3,13 +3,13 @@
 use crate::fault::Fault;
 use crate::library::Library;
 use crate::presence::see_journal;
+use crate::retaking::Retaking;
 use hd_command_line::LibraryFiles;
 use hd_desk::Meter;
 use hd_durable::DurableJournal;
 use hd_journal_file::{JournalFile, Wanted, open};
 use hd_turn_store::{Connection, FileFrom, FileStore, Start, end};
 use sqlite_disk::Disk;
-use std::io::IsTerminal;
 
 /// A journal whose changing turns are committed to a file before they are answered.
 pub(crate) type KeptJournal<S> = DurableJournal<JournalFile<FileStore<FileFrom<S>>, S>>;
@@ -31,8 +31,8 @@ impl<'a> Keeping<'a> {
     }
 }
 
-/// Opens a journal's file, which has to be there. Each turn that it holds is taken again and compared. A
-/// terminal is told before that.
+/// Opens a journal's file, which has to be there. Each turn that it holds is taken again and compared; how
+/// many are so far is told on standard error.
 pub(crate) fn open_kept<S: Start>(
     rt: &HostRuntime,
     start: S,
@@ -40,9 +40,6 @@ pub(crate) fn open_kept<S: Start>(
 ) -> Result<KeptJournal<S>, Fault> {
     let library = Library::read_text(rt, &keeping.library)?;
     see_journal(rt, keeping.journal())?;
-    if rt.stderr().is_terminal() {
-        eprintln!(rt; "taking the journal's turns again")?;
-    }
     take_again(rt, start, keeping, library)
 }
 
@@ -64,7 +61,17 @@ fn take_again<S: Start>(
     };
     let alloc = rt.alloc();
     let journal = hd_journal::open(alloc, alloc, Meter::new(rt), catalogue)?;
-    Ok(open(rt, keeping.journal(), start, &wanted, journal)?)
+    let mut retaking = Retaking::begin(rt)?;
+    let opened = open(
+        rt,
+        keeping.journal(),
+        start,
+        &wanted,
+        journal,
+        &mut retaking,
+    );
+    retaking.end()?;
+    Ok(opened?)
 }
 
 /// Ends a journal's file well: all its turns are then in the database file alone.

@@ -1,8 +1,11 @@
 //! A library, by its files.
+ghost use Rattle.std.specs.Prelude.{◌≡◌, [], IfOk};
 
 use crate::fault::Fault;
 use hd_catalogue::Catalogue;
 use hd_command_line::LibraryFiles;
+use hd_desk::Meter;
+use hd_journal::Journal;
 use hd_opening::Opening;
 use sha2::{Digest, Sha256};
 use std::fs;
@@ -85,6 +88,18 @@ impl Library {
             digest: Sha256::digest(file.as_slice()),
             is_text,
         })
+    }
+
+    /// The library's journal before any turn.
+    ///
+    /// # Errors
+    /// A row of the opening may not stand; out of memory.
+    pub(crate) fn journal(self, rt: &HostRuntime) -> Result<Journal, Fault>
+        ensures { IfOk result (λ journal. journal.turns ≡ []) }
+    {
+        let Library { catalogue, .. } = self;
+        let alloc = rt.alloc();
+        Ok(hd_journal::open(alloc, alloc, Meter::new(rt), catalogue)?)
     }
 }
 

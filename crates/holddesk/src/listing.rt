@@ -10,20 +10,38 @@ use hd_desk::Desk;
 use hd_rules::{BranchNo, CopyNo, CopyState, Hold, HoldKind, HoldPlace, TitleNo};
 use std::alloc::Global;
 
-/// All copies: where each is, and who has it or is to have it.
-pub(crate) fn copies(alloc: Global, desk: &Desk) -> Result<Table, Fault> {
-    let heads = &[
-        "copy", "title", "home", "state", "branch", "to", "place", "patron", "due", "renewals",
-    ];
-    let mut table = Table::new(alloc, heads);
+/// The headings of `copies`.
+pub(crate) const COPIES: [&str; 10] = [
+    "copy", "title", "home", "state", "branch", "to", "place", "patron", "due", "renewals",
+];
+
+/// The headings of `queue`.
+pub(crate) const QUEUE: [&str; 6] = ["patron", "stamp", "admits", "pickup", "until", "copy"];
+
+/// The headings of `shelf`.
+pub(crate) const SHELF: [&str; 4] = ["place", "copy", "title", "patron"];
+
+/// The headings of `transits`.
+pub(crate) const TRANSITS: [&str; 5] = ["copy", "title", "from", "to", "patron"];
+
+/// The headings of `overdue`.
+pub(crate) const OVERDUE: [&str; 5] = ["copy", "title", "patron", "due", "renewals"];
+
+/// The headings of `expired`.
+pub(crate) const EXPIRED: [&str; 7] = [
+    "title", "patron", "stamp", "admits", "pickup", "until", "copy",
+];
+
+/// Lists all copies: where each is, and who has it or is to have it.
+pub(crate) fn copies(alloc: Global, desk: &Desk, table: &mut Table) -> Result<(), Fault> {
     let catalogue: &Catalogue = desk.catalogue();
     for number in 0..catalogue.copies() {
         let copy = CopyNo::new(number as u32).unwrap();
-        push_copy(alloc, catalogue, &mut table, copy)?;
+        push_copy(alloc, catalogue, table, copy)?;
         table.push(alloc, branch_name(catalogue, catalogue.home(copy)))?;
-        push_state(alloc, catalogue, &mut table, &desk.copy(copy))?;
+        push_state(alloc, catalogue, table, &desk.copy(copy))?;
     }
-    Ok(table)
+    Ok(())
 }
 
 /// Adds a copy and its title.
@@ -99,18 +117,21 @@ fn push_state(
     }
 }
 
-/// The holds of a title, in order.
-pub(crate) fn queue(alloc: Global, desk: &Desk, name: &str) -> Result<Table, Fault> {
-    let heads = &["patron", "stamp", "admits", "pickup", "until", "copy"];
-    let mut table = Table::new(alloc, heads);
+/// Lists the holds of a title, in order.
+pub(crate) fn queue(
+    alloc: Global,
+    desk: &Desk,
+    name: &str,
+    table: &mut Table,
+) -> Result<(), Fault> {
     let catalogue: &Catalogue = desk.catalogue();
     let Some(title) = catalogue.title(name.as_bytes()) else {
         return Err(Fault::NoTitle(String::from_str(alloc, name)?));
     };
     for hold in desk.queue(title).holds() {
-        push_hold(alloc, catalogue, &mut table, hold)?;
+        push_hold(alloc, catalogue, table, hold)?;
     }
-    Ok(table)
+    Ok(())
 }
 
 /// Adds a hold.
@@ -120,9 +141,8 @@ fn push_hold(
     table: &mut Table,
     hold: &Hold,
 ) -> Result<(), Fault> {
-    let stamp = format!(in alloc; "{}", hold.stamp)?;
     table.push(alloc, patron_name(catalogue, hold.patron))?;
-    table.push(alloc, stamp.as_bytes())?;
+    push_number(alloc, table, hold.stamp)?;
     table.push(alloc, admitted(catalogue, &hold.kind))?;
     table.push(alloc, branch_name(catalogue, hold.pickup))?;
     push_day(alloc, table, hold.expiry)?;
@@ -141,6 +161,12 @@ fn admitted<'a>(catalogue: &'a Catalogue, kind: &HoldKind) -> &'a [u8] {
     }
 }
 
+/// Adds a number.
+fn push_number(alloc: Global, table: &mut Table, number: u64) -> Result<(), Fault> {
+    let text = format!(in alloc; "{number}")?;
+    table.push(alloc, text.as_bytes())
+}
+
 /// Adds a day, where there is one.
 fn push_day(alloc: Global, table: &mut Table, day: Option<Day>) -> Result<(), Fault> {
     match day {
@@ -152,9 +178,13 @@ fn push_day(alloc: Global, table: &mut Table, day: Option<Day>) -> Result<(), Fa
     }
 }
 
-/// The hold shelf of a branch, by copy.
-pub(crate) fn shelf(alloc: Global, desk: &Desk, name: &str) -> Result<Table, Fault> {
-    let mut table = Table::new(alloc, &["place", "copy", "title", "patron"]);
+/// Lists the hold shelf of a branch, by copy.
+pub(crate) fn shelf(
+    alloc: Global,
+    desk: &Desk,
+    name: &str,
+    table: &mut Table,
+) -> Result<(), Fault> {
     let catalogue: &Catalogue = desk.catalogue();
     let Some(branch) = catalogue.branch(name.as_bytes()) else {
         return Err(Fault::NoBranch(String::from_str(alloc, name)?));
@@ -162,10 +192,10 @@ pub(crate) fn shelf(alloc: Global, desk: &Desk, name: &str) -> Result<Table, Fau
     for number in 0..catalogue.copies() {
         let copy = CopyNo::new(number as u32).unwrap();
         if let CopyState::OnHoldShelf(there) = desk.copy(copy) {
-            push_place(alloc, catalogue, &mut table, branch, copy, &there)?;
+            push_place(alloc, catalogue, table, branch, copy, &there)?;
         }
     }
-    Ok(table)
+    Ok(())
 }
 
 /// Adds a copy on a hold shelf, where that is this branch's.
@@ -180,20 +210,18 @@ fn push_place(
     if there.branch != branch {
         return Ok(());
     }
-    let place = format!(in alloc; "{}", there.place)?;
-    table.push(alloc, place.as_bytes())?;
+    push_number(alloc, table, u64::from(there.place))?;
     push_copy(alloc, catalogue, table, copy)?;
     table.push(alloc, patron_name(catalogue, there.patron))
 }
 
-/// The copies on their way between branches.
-pub(crate) fn transits(alloc: Global, desk: &Desk) -> Result<Table, Fault> {
-    let mut table = Table::new(alloc, &["copy", "title", "from", "to", "patron"]);
+/// Lists the copies on their way between branches.
+pub(crate) fn transits(alloc: Global, desk: &Desk, table: &mut Table) -> Result<(), Fault> {
     let catalogue: &Catalogue = desk.catalogue();
     for number in 0..catalogue.copies() {
         let copy = CopyNo::new(number as u32).unwrap();
         if let CopyState::InTransit(transit) = desk.copy(copy) {
-            push_copy(alloc, catalogue, &mut table, copy)?;
+            push_copy(alloc, catalogue, table, copy)?;
             table.push(alloc, branch_name(catalogue, transit.from))?;
             table.push(alloc, branch_name(catalogue, transit.to))?;
             match transit.patron {
@@ -202,45 +230,49 @@ pub(crate) fn transits(alloc: Global, desk: &Desk) -> Result<Table, Fault> {
             }
         }
     }
-    Ok(table)
+    Ok(())
 }
 
-/// The loans that were due before a day.
-pub(crate) fn overdue(alloc: Global, desk: &Desk, day: &str) -> Result<Table, Fault> {
+/// Lists the loans that were due before a day.
+pub(crate) fn overdue(
+    alloc: Global,
+    desk: &Desk,
+    day: &str,
+    table: &mut Table,
+) -> Result<(), Fault> {
     let day = day_of(alloc, day)?;
-    let mut table = Table::new(alloc, &["copy", "title", "patron", "due", "renewals"]);
     let catalogue: &Catalogue = desk.catalogue();
     for number in 0..catalogue.copies() {
         let copy = CopyNo::new(number as u32).unwrap();
         if let CopyState::OnLoan(loan) = desk.copy(copy)
             && loan.due < day
         {
-            let renewals = format!(in alloc; "{}", loan.renewals)?;
-            push_copy(alloc, catalogue, &mut table, copy)?;
+            push_copy(alloc, catalogue, table, copy)?;
             table.push(alloc, patron_name(catalogue, loan.patron))?;
-            push_day(alloc, &mut table, Some(loan.due))?;
-            table.push(alloc, renewals.as_bytes())?;
+            push_day(alloc, table, Some(loan.due))?;
+            push_number(alloc, table, u64::from(loan.renewals))?;
         }
     }
-    Ok(table)
+    Ok(())
 }
 
-/// The holds whose last day was before a day, by title and order in its queue.
-pub(crate) fn expired(alloc: Global, desk: &Desk, day: &str) -> Result<Table, Fault> {
+/// Lists the holds whose last day was before a day, by title and order in its queue.
+pub(crate) fn expired(
+    alloc: Global,
+    desk: &Desk,
+    day: &str,
+    table: &mut Table,
+) -> Result<(), Fault> {
     let day = day_of(alloc, day)?;
-    let heads = &[
-        "title", "patron", "stamp", "admits", "pickup", "until", "copy",
-    ];
-    let mut table = Table::new(alloc, heads);
     let catalogue: &Catalogue = desk.catalogue();
     for number in 0..catalogue.titles() {
         let title = TitleNo::new(number as u32).unwrap();
         for hold in desk.queue(title).holds() {
             if hold.expiry.is_some_and(|until| until < day) {
                 table.push(alloc, catalogue.title_name(title))?;
-                push_hold(alloc, catalogue, &mut table, hold)?;
+                push_hold(alloc, catalogue, table, hold)?;
             }
         }
     }
-    Ok(table)
+    Ok(())
 }

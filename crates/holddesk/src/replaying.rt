@@ -4,7 +4,6 @@ use crate::fault::Fault;
 use crate::library::{Library, read_file};
 use hd_command_line::{LibraryFiles, Replay};
 use hd_connection::Fallible;
-use hd_desk::Meter;
 use hd_replay::{ReplayFault, replay_over};
 use hd_server::replay;
 
@@ -27,16 +26,13 @@ pub(crate) fn answer(rt: &HostRuntime, order: &Replay<'_>) -> Result<(), Fault> 
 /// # Errors
 /// A file can't be read, or is refused; a row of the opening may not stand.
 fn see_opening(rt: &HostRuntime, files: &LibraryFiles<'_>) -> Result<(), Fault> {
-    let library = Library::read(rt, files)?;
-    let alloc = rt.alloc();
-    let journal = hd_journal::open(alloc, alloc, Meter::new(rt), library.catalogue)?;
-    drop(journal);
+    drop(Library::read(rt, files)?.journal(rt)?);
     Ok(())
 }
 
 /// Answers the messages of the standard input over a library, from its opening on.
 fn answer_over(rt: &HostRuntime, library: Library, now: &str) -> Result<(), Fault> {
-    let catalogue = library.catalogue;
+    let Library { catalogue, .. } = library;
     let Ok(now) = hd_date::read(now.as_bytes(), catalogue.offset()) else {
         return Err(Fault::from(ReplayFault::BadNow));
     };

@@ -6,7 +6,6 @@ use crate::fault::Fault;
 use crate::library::Library;
 use hd_catalogue::Catalogue;
 use hd_command_line::{LibraryFiles, Serve};
-use hd_desk::Meter;
 use hd_hall::Keeper;
 use hd_journal::Journal;
 use hd_serve::{Gate, ServeFault};
@@ -40,10 +39,9 @@ pub(crate) fn start(
 ) -> Result<OpenServer, Fault>
     ensures { IfOk result (λ server. server.journal.turns ≡ []) }
 {
-    let Library { catalogue, .. } = Library::read(rt, files)?;
-    let listener = listen(rt, order, &catalogue)?;
-    let alloc = rt.alloc();
-    let journal = hd_journal::open(alloc, alloc, Meter::new(rt), catalogue)?;
+    let library = Library::read(rt, files)?;
+    let listener = listen(rt, order, &library.catalogue)?;
+    let journal = library.journal(rt)?;
     Ok(OpenServer { listener, journal })
 }
 

@@ -1,16 +1,18 @@
 //! What `journal show` lists.
 
+use crate::ending::end_journal;
 use crate::fault::Fault;
 use crate::folder::Paths;
-use crate::keeping::{Keeping, end_kept, open_kept};
-use crate::listing::{copies, expired, overdue, queue, shelf, transits};
+use crate::keeping::{Keeping, open_kept};
+use crate::listing::{
+    COPIES, EXPIRED, OVERDUE, QUEUE, SHELF, TRANSITS, copies, expired, overdue, queue, shelf,
+    transits,
+};
 use crate::table::Table;
 use hd_command_line::{JournalShow, Listing};
 use hd_desk::Desk;
-use hd_durable::DurableJournal;
-use hd_journal_file::JournalFile;
-use hd_turn_store::{Alter, Connection, FileStore, Start, Unknown};
-use sqlite_disk::Disk;
+use hd_turn_store::Unknown;
+use std::alloc::Global;
 
 /// Lists what is at the desk of a journal's file, each turn of it taken again and compared.
 pub(crate) fn show_journal(rt: &HostRuntime, order: &JournalShow<'_>) -> Result<(), Fault> {
@@ -19,40 +21,39 @@ pub(crate) fn show_journal(rt: &HostRuntime, order: &JournalShow<'_>) -> Result<
         library: paths.files(),
         is_other_accepted: false,
     };
-    let table = list_on_disks(rt, open_kept(rt, Unknown, &keeping)?, &order.listing)?;
+    let kept = open_kept(rt, Unknown, &keeping)?;
+    let mut table = Table::new(rt.alloc(), heads_of(&order.listing));
+    let listed = list(
+        rt.alloc(),
+        kept.journal().desk(),
+        &order.listing,
+        &mut table,
+    );
+    end_journal(kept)?;
+    listed?;
     table.print(rt, order.is_json)
 }
 
-/// Lists what is at the desk of a journal on these disks, and ends its file well.
-fn list_on_disks<D: Disk + Drop, F: Start>(
-    rt: &HostRuntime,
-    journal: DurableJournal<JournalFile<FileStore<D>, F>>,
-    listing: &Listing<'_>,
-) -> Result<Table, Fault> {
-    let (table, conn) = list_in_file(rt, journal, listing);
-    end_kept(conn)?;
-    table
-}
-
-/// Lists what is at the desk of a journal in a file: the list, and the file's connection.
-fn list_in_file<S: Alter + Drop, F: Start>(
-    rt: &HostRuntime,
-    journal: DurableJournal<JournalFile<S, F>>,
-    listing: &Listing<'_>,
-) -> (Result<Table, Fault>, Connection<S>) {
-    let table = list(rt, journal.journal().desk(), listing);
-    (table, journal.into_table().into_connection())
-}
-
-/// Lists what is at a desk.
-fn list(rt: &HostRuntime, desk: &Desk, listing: &Listing<'_>) -> Result<Table, Fault> {
-    let alloc = rt.alloc();
+/// The headings of a list.
+fn heads_of(listing: &Listing<'_>) -> &'static [&'static str] {
     match listing {
-        Listing::Copies => copies(alloc, desk),
-        Listing::Queue(title) => queue(alloc, desk, title),
-        Listing::Shelf(branch) => shelf(alloc, desk, branch),
-        Listing::Transits => transits(alloc, desk),
-        Listing::Overdue(day) => overdue(alloc, desk, day),
-        Listing::Expired(day) => expired(alloc, desk, day),
+        Listing::Copies => &COPIES,
+        Listing::Queue(_) => &QUEUE,
+        Listing::Shelf(_) => &SHELF,
+        Listing::Transits => &TRANSITS,
+        Listing::Overdue(_) => &OVERDUE,
+        Listing::Expired(_) => &EXPIRED,
+    }
+}
+
+/// Adds the lines of a list of what is at a desk.
+fn list(alloc: Global, desk: &Desk, listing: &Listing<'_>, table: &mut Table) -> Result<(), Fault> {
+    match listing {
+        Listing::Copies => copies(alloc, desk, table),
+        Listing::Queue(title) => queue(alloc, desk, title, table),
+        Listing::Shelf(branch) => shelf(alloc, desk, branch, table),
+        Listing::Transits => transits(alloc, desk, table),
+        Listing::Overdue(day) => overdue(alloc, desk, day, table),
+        Listing::Expired(day) => expired(alloc, desk, day, table),
     }
 }

@@ -51,9 +51,15 @@ impl Table {
     fn text(&self, alloc: Global) -> Result<String, Fault> {
         let widths = self.widths(alloc)?;
         let mut text = String::new(alloc);
+        self.push_lines(&mut text, widths.as_slice())?;
+        Ok(text)
+    }
+
+    /// Adds the line of headings and the lines of cells, in columns that are so wide.
+    fn push_lines(&self, text: &mut String, widths: &[usize]) -> Result<(), Fault> {
         let mut blanks = 0;
-        for (head, width) in self.heads.iter().zip(widths.as_slice()) {
-            blanks = push_cell(&mut text, blanks, head, *width)?;
+        for (head, width) in self.heads.iter().zip(widths) {
+            blanks = push_cell(text, blanks, head, *width)?;
         }
         for (at, cell) in self.cells.iter().enumerate() {
             let column = self.column(at);
@@ -61,11 +67,10 @@ impl Table {
                 text.push('\n')?;
                 blanks = 0;
             }
-            let width = width_of(widths.as_slice(), column);
-            blanks = push_cell(&mut text, blanks, cell.as_str(), width)?;
+            blanks = push_cell(text, blanks, cell.as_str(), width_of(widths, column))?;
         }
         text.push('\n')?;
-        Ok(text)
+        Ok(())
     }
 
     /// The column of a cell, by the cell's number.
@@ -91,6 +96,12 @@ impl Table {
     /// The list as an array of objects, one a line.
     fn json(&self, alloc: Global) -> Result<String, Fault> {
         let mut text = String::from_str(alloc, "[")?;
+        self.push_objects(alloc, &mut text)?;
+        Ok(text)
+    }
+
+    /// Adds the objects, and what ends their array.
+    fn push_objects(&self, alloc: Global, text: &mut String) -> Result<(), Fault> {
         for (at, cell) in self.cells.iter().enumerate() {
             let column = self.column(at);
             text.push_str(match (at, column) {
@@ -98,13 +109,13 @@ impl Table {
                 (_, 0) => ",\n{",
                 _ => ", ",
             })?;
-            push_member(alloc, &mut text, self.head(column), cell.as_str())?;
+            push_member(alloc, text, self.head(column), cell.as_str())?;
             if column.saturating_add(1) == self.heads.len() {
                 text.push('}')?;
             }
         }
         text.push_str("\n]\n")?;
-        Ok(text)
+        Ok(())
     }
 
     /// The heading of a column.

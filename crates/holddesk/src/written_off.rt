@@ -4,7 +4,8 @@ use crate::fault::Fault;
 use crate::names::{copy_name, patron_name};
 use hd_catalogue::Catalogue;
 use hd_desk::Desk;
-use hd_rules::{CopyNo, CopyState};
+use hd_rules::{CopyNo, CopyState, PatronNo};
+use std::alloc::AllocError;
 use std::fs;
 use std::io::Write;
 
@@ -45,13 +46,24 @@ pub(crate) fn tell_written_off(
             && let CopyState::OnLoan(loan) = desk.copy(*copy)
         {
             let mut line = Vec::new(rt.alloc());
-            line.extend_from_slice(b"written off: copy ")?;
-            line.extend_from_slice(copy_name(catalogue, *copy))?;
-            line.extend_from_slice(b", on loan to ")?;
-            line.extend_from_slice(patron_name(catalogue, loan.patron))?;
-            line.push(b'\n')?;
+            push_written_off(&mut line, catalogue, *copy, loan.patron)?;
             rt.stdout().write_all(line.as_slice())?;
         }
     }
+    Ok(())
+}
+
+/// Adds the line of a copy whose loan to a patron is dropped.
+fn push_written_off(
+    line: &mut Vec<u8>,
+    catalogue: &Catalogue,
+    copy: CopyNo,
+    patron: PatronNo,
+) -> Result<(), AllocError> {
+    line.extend_from_slice(b"written off: copy ")?;
+    line.extend_from_slice(copy_name(catalogue, copy))?;
+    line.extend_from_slice(b", on loan to ")?;
+    line.extend_from_slice(patron_name(catalogue, patron))?;
+    line.push(b'\n')?;
     Ok(())
 }

@@ -141,7 +141,7 @@ fn answered_over<S: Alter + Drop>(
         digest: &DIGEST,
         is_other_accepted: false,
     };
-    let mut kept = open_over::<S, Unknown>(alloc, conn, true, &wanted, journal).ok()?;
+    let mut kept = open_over::<S, Unknown, ()>(alloc, conn, true, &wanted, journal, &mut ()).ok()?;
     for step in steps {
         if take(alloc, &mut kept, step).is_none() {
             break;
@@ -205,7 +205,7 @@ fn take_again<S: Alter>(
     if is_blank(conn.schema()) {
         return Some(());
     }
-    match restore_turns(conn, alloc, journal, alloc) {
+    match restore_turns(conn, alloc, journal, alloc, &mut ()) {
         Ok(_) => Some(()),
         Err(_) => None,
     }

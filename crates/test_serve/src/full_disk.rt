@@ -1,6 +1,6 @@
 //! A journal whose keeper runs out of room to write.
 
-ghost use Rattle.std.specs.Prelude.{◌≡◌, [], ℕ};
+ghost use Rattle.std.specs.Prelude.{◌≡◌, [], ℕ, None};
 
 use hd_catalogue::Catalogue;
 use hd_hall::Keeper;
@@ -38,6 +38,8 @@ impl Keeper<Global, OwnedAsk<Global>> for FullDisk {
 
     ghost causes = { λ old ask new. IsMemoryOrUnwritten };
 
+    ghost shut = { λ disk. None };
+
     fn own(alloc: Global, ask: &Ask<'_>) -> Result<OwnedAsk<Global>, AllocError> {
         OwnedAsk::of(alloc, ask)
     }
@@ -52,6 +54,10 @@ impl Keeper<Global, OwnedAsk<Global>> for FullDisk {
 
     fn turn_at(&self, at: usize) -> Option<TurnRef<'_>> {
         self.journal.turn_at(at)
+    }
+
+    fn journal(&self) -> Result<&Journal, WriteFault> {
+        Keeper::journal(&self.journal)
     }
 
     fn take(&mut self, ask: OwnedAsk<Global>) -> Result<Turn, TurnFault> {

@@ -3,7 +3,7 @@
 use crate::library::new_journal;
 use hd_catalogue::Catalogue;
 use hd_exchange::{Ask, Office, SeatNo, Turn, TurnFault};
-use hd_journal::Journal;
+use hd_journal::{Journal, Look};
 use std::alloc::Global;
 
 /// A journal that gives one turn, and is another session's from then on.
@@ -26,7 +26,7 @@ impl Moved {
 }
 
 impl Office<Global> for Moved {
-    ghost use Rattle.std.specs.Prelude.{[], length};
+    ghost use Rattle.std.specs.Prelude.{◌≡◌, [], length};
     ghost use Rattle.hd_journal.specs.Books.{IsLegalBook};
 
     ghost keeps = { λ moved. record { contents = moved.journal.contents; seat = 0; borrows = [] } };
@@ -41,12 +41,18 @@ impl Office<Global> for Moved {
 
     ghost holds = { λ moved. IsLegalBook moved.journal.contents moved.journal.turns };
 
+    ghost shows = { λ turns book. book.turns ≡ turns };
+
     fn catalogue(&self) -> &Catalogue {
         Office::catalogue(&self.journal)
     }
 
     fn seat(&self) -> SeatNo {
         Office::seat(&self.journal)
+    }
+
+    fn look<L: Look<Global>>(&self, reader: &mut L) -> Result<(), TurnFault> {
+        Office::look(&self.journal, reader)
     }
 
     fn turn(&mut self, ask: &Ask<'_>) -> Result<Turn, TurnFault> {

@@ -22,7 +22,8 @@ loop-preserved g c =
         before.0 ++ next.0,
         works_more _ _ _ _ _ _ before.1 next.1.turns below.1 next.1.holds,
         attends_more _ _ _ _ _ _ _ _ _ _ _ _ before.2 _ _ _ _ _ Read c.in_ok-count.ensures.read.0
-            (λ now is. subst (λ (s : Stamp). g.S.Surroundings.tells c.args.surroundings.now s) (sym is) c.now-now.ensures)
+            (λ now is. subst (λ (s : Stamp). g.S.Surroundings.tells c.args.surroundings.now s)
+            (sym is) c.now-now.ensures)
             (goes_on _ _ _ _ _ _ _ _ (rw before.1.same at next.2)),
       );
       same_reference = below.0 ∙ c.loop.invariant.same_reference;
@@ -37,9 +38,12 @@ returns-in_err-answer_piece-clause-attends g c =
     works_more _ _ _ _ _ _ before.1 next.1.turns below.1 next.1.holds in (
       before.0 ++ next.0,
       first_of (search (rules, works), search rules),
-      attends_passed _ _ _ _ _ _ _ _ _ c.in_err-answer_piece.field-0.0 c.from_residual-in_err-answer_piece.ensures.0
+      attends_passed _ _ _ _ _ _ _ _ _ c.in_err-answer_piece.field-0.0
+          c.from_residual-in_err-answer_piece.ensures.0
           c.from_residual-in_err-answer_piece.ensures.1
-          (attends_more _ _ _ _ _ _ _ _ _ _ _ _ before.2 _ _ _ _ _ c.in_err-answer_piece.field-0.0 c.in_ok-count.ensures.read.0
-          (λ now is. subst (λ (s : Stamp). g.S.Surroundings.tells c.args.surroundings.now s) (sym is) c.now-now.ensures)
+          (attends_more _ _ _ _ _ _ _ _ _ _ _ _ before.2 _ _ _ _ _ c.in_err-answer_piece.field-0.0
+          c.in_ok-count.ensures.read.0
+          (λ now is. subst (λ (s : Stamp). g.S.Surroundings.tells c.args.surroundings.now s)
+          (sym is) c.now-now.ensures)
           (rw before.1.same at next.2)),
     )

@@ -6,13 +6,15 @@ use Rattle.hd_attend.specs.Attending.{Attends}
 use Rattle.hd_attend.specs.declared.fault.AttendFault.TheVariants.{Read}
 use Rattle.hd_attend.proofs.attending.attend.Given as goal
 
--- what was read is answered, and the session is as open as at the beginning: so it ends where a read fails now
+-- what was read is answered, and the session is as open as at the beginning: so it ends where a read fails
+-- now
 abbrev pub invariant-loop : goal.invariant-loop
 invariant-loop g l = record {
   attends : (made : List Turn) × Works g.O.Office l.fn.office l.announced.office.now made
       × Attends (g.O.Office.keeps l.fn.office).contents (g.O.Office.keeps l.fn.office).seat g.O.Office.faults
       (g.S.Surroundings.tells l.surroundings)
-      (streams (g.I.Read.remaining l.fn.from) (g.I.Read.remaining l.from) (g.W.Write.contents l.fn.to) (g.W.Write.contents l.to))
+      (streams (g.I.Read.remaining l.fn.from) (g.I.Read.remaining l.from) (g.W.Write.contents l.fn.to)
+      (g.W.Write.contents l.to))
       made l.fn.state l.state (Err Read);
   same_reference : l.announced.office.ghost_name ≡ l.initial.announced.office.ghost_name;
 }

@@ -6,7 +6,8 @@ use Rattle.hd_durable.proofs.laws.a_stop_leaves_a_legal_journal.Goals as goal
 
 pub returns : goal.returns
 returns c k answered left found = (
-  subst (λ (ts : List Turn). IsLegal k ts) (sym found.is) (legal_changing k (start k) (answered ++ found.more) found.legal),
+  subst (λ (ts : List Turn). IsLegal k ts) (sym found.is)
+      (legal_changing k (start k) (answered ++ found.more) found.legal),
   (
     found.more,
     found.few,

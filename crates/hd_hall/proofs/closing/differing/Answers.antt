@@ -10,7 +10,8 @@ use Rattle.hd_hall.proofs.closing.differing.Goals.{After-audit}
 use Rattle.hd_hall.proofs.closing.differing.Goals as goal
 
 -- the turns are as many as the seats' shares say
-counted : (g : Over) (c : After-audit g) → length (g.K.Keeper.turns c.args.keeper.now) ≡ shares c.args.seats.now
+counted : (g : Over) (c : After-audit g)
+    → length (g.K.Keeper.turns c.args.keeper.now) ≡ shares c.args.seats.now
 counted g c =
     let total = c.audit.ensures.whole (omega (arith, c.gather.ensures.parts, c.requires.all)) in
     omega (arith, total, c.gather.ensures.amount, c.requires.empty.0, c.requires.counted)
@@ -21,10 +22,12 @@ returns-then-are_there-clause-none g c =
     let there = c.are_there.ensures.0 c.if-are_there.true in
     let here : AreThere (g.K.Keeper.turns c.args.keeper.now) 0 c.args.seats.now =
     lent_there (g.K.Keeper.turns c.args.keeper.now) 0 c.args.seats.now
-    (subst (λ (ss : List SeatView). AreThere (g.K.Keeper.turns c.args.keeper.now) 0 ss) c.gather.ensures.lent there) in
+    (subst (λ (ss : List SeatView). AreThere (g.K.Keeper.turns c.args.keeper.now) 0 ss) c.gather.ensures.lent
+    there) in
     record {
       legal = c.front-front.ensures.legal;
-      once = there_permutes (g.K.Keeper.turns c.args.keeper.now) c.args.seats.now here c.gather.ensures.whole counts;
+      once = there_permutes (g.K.Keeper.turns c.args.keeper.now) c.args.seats.now here c.gather.ensures.whole
+          counts;
       counted = counts;
     }
 

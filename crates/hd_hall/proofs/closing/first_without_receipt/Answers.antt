@@ -9,8 +9,13 @@ use Rattle.hd_hall.proofs.closing.first_without_receipt.Goals as goal
 
 pub returns-then-not-is_received-clause-some : goal.returns-then-not-is_received-clause-some
 returns-then-not-is_received-clause-some g c =
-    let lacks = c.is_received.ensures.no c.if-not-is_received.true in
-    (lacks.0, omega arith, place_of (g.K.Keeper.turns c.args.keeper.now) (c.loop-at.at + 1) lacks.0 (omega arith) lacks.1, lacks.2)
+    let lacks = c.is_received.ensures.no c.if-not-is_received.true in (
+      lacks.0,
+      omega arith,
+      place_of (g.K.Keeper.turns c.args.keeper.now) (c.loop-at.at + 1) lacks.0
+          (omega arith) lacks.1,
+      lacks.2,
+    )
 
 pub loop-at-preserved : goal.loop-at-preserved
 loop-at-preserved g c =

@@ -12,7 +12,12 @@ returns-then-is_of g c =
     let x = c.receipt-item.result in
     let within : i < length rs = omega arith in
     let found : Receipted = record { number = c.args.number; turn = turn_shown c.args.turn.now } in (
-      (λ yes. (i, within, get_or_default rs i found x within ∙ (sym c.receipt-item.is ∙ c.is_of.ensures.0 c.if-is_of.true))),
+      (λ yes. (
+        i,
+        within,
+        get_or_default rs i found x within
+            ∙ (sym c.receipt-item.is ∙ c.is_of.ensures.0 c.if-is_of.true),
+      )),
       (λ has. refl),
     )
 

@@ -24,14 +24,22 @@ has_title k what = asks_about k (key.Title (title_of_cancel k what))
 
 -- the target that was found
 target_there : (g : Over) (c : In-Some g)
-    → IsTargetAt (facts_of c.args.catalogue.now) c.args.terminal c.args.what.now c.args.records.now c.in-Some.target
-target_there g c = target_at c.laws.ensures _ _ _ _ _ c.command_limit.ensures.facts c.requires.kept c.in-Some.ensures.target
+    → IsTargetAt (facts_of c.args.catalogue.now) c.args.terminal c.args.what.now c.args.records.now
+    c.in-Some.target
+target_there g c = target_at c.laws.ensures _ _ _ _ _ c.command_limit.ensures.facts c.requires.kept
+    c.in-Some.ensures.target
 
 -- the work of finding it, and of comparing
-compares_so : (g : Over) (c : After-first_clash g) → length (changes_of c.in-Some.target c.args.records.now.records) ≤ 4
-    → Compares (facts_of c.args.catalogue.now) (has_title (facts_of c.args.catalogue.now) c.args.what.now) c.args.records.now.records
+compares_so : (g : Over) (c : After-first_clash g)
+    → length (changes_of c.in-Some.target c.args.records.now.records) ≤ 4
+    → Compares (facts_of c.args.catalogue.now)
+    (has_title (facts_of c.args.catalogue.now) c.args.what.now) c.args.records.now.records
     c.in-Some.target c.args.meter.now c.newest.new.meter c.first_clash.new.meter
-compares_so g c few = record { few = few; found = c.in-Some.ensures.work; compared = c.first_clash.ensures.work }
+compares_so g c few = record {
+  few = few;
+  found = c.in-Some.ensures.work;
+  compared = c.first_clash.ensures.work;
+}
 
 pub first_clash-requires-clause-there : goal.first_clash-requires-clause-there
 first_clash-requires-clause-there g c =
@@ -44,19 +52,24 @@ pub returns-in_default-clause-work : goal.returns-in_default-clause-work
 returns-in_default-clause-work g c =
     let k = facts_of c.args.catalogue.now in
     let rs = c.args.records.now.records in
-    let none = none_aimed (target c.args.terminal c.args.what.now (survivors_of rs)) c.in_default.ensures.target in
-    subst (λ (o : Option Split). IsCancellationWork k (survivors_of rs) o c.args.meter.now c.newest.new.meter) (sym none)
-    (no_target c.laws.ensures (has_title k c.args.what.now) rs c.args.meter.now c.newest.new.meter c.in_default.ensures.work)
+    let none = none_aimed (target c.args.terminal c.args.what.now (survivors_of rs))
+    c.in_default.ensures.target in
+    subst (λ (o : Option Split). IsCancellationWork k (survivors_of rs) o c.args.meter.now c.newest.new.meter)
+    (sym none)
+    (no_target c.laws.ensures (has_title k c.args.what.now) rs c.args.meter.now c.newest.new.meter
+    c.in_default.ensures.work)
 
 pub returns-in-Some-first_clash-clause-refused : goal.returns-in-Some-first_clash-clause-refused
 returns-in-Some-first_clash-clause-refused g c =
-    refused_depends c.laws.ensures _ _ _ _ _ _ (target_there g (goal.at.returns-in-Some-first_clash-clause-refused g c).In-Some)
+    refused_depends c.laws.ensures _ _ _ _ _ _
+    (target_there g (goal.at.returns-in-Some-first_clash-clause-refused g c).In-Some)
     (sym c.in-Some-first_clash.ensures.clash)
 
 pub returns-in-Some-first_clash-clause-work : goal.returns-in-Some-first_clash-clause-work
 returns-in-Some-first_clash-clause-work g c =
     let at = target_there g (goal.at.returns-in-Some-first_clash-clause-work g c).In-Some in
-    work_depends c.laws.ensures _ _ _ _ _ c.in-Some-first_clash.number _ _ at (sym c.in-Some-first_clash.ensures.clash)
+    work_depends c.laws.ensures _ _ _ _ _ c.in-Some-first_clash.number _ _ at
+    (sym c.in-Some-first_clash.ensures.clash)
     (compares c.laws.ensures _ _ _ _ _ _ _
     (compares_so g (goal.at.returns-in-Some-first_clash-clause-work g c).After-first_clash at.few))
 

@@ -5,8 +5,8 @@ use Rattle.hd_journal_file.proofs.adding.add.Goals as goal
 
 pub returns-in-Ok-clause-ok : goal.returns-in-Ok-clause-ok
 returns-in-Ok-clause-ok g c clean =
-    held_more (state g.S.Store c.args.conn.now) (state g.S.Store c.append.new.conn) (turn_of_row c.args.row.now)
-    (c.in-Ok.ensures.ok clean)
+    held_more (state g.S.Store c.args.conn.now) (state g.S.Store c.append.new.conn)
+    (turn_of_row c.args.row.now) (c.in-Ok.ensures.ok clean)
 
 pub returns-in-Ok-clause-settled : goal.returns-in-Ok-clause-settled
 returns-in-Ok-clause-settled g c k turns left =
@@ -21,5 +21,6 @@ returns-in-Err-clause-settled g c k turns left =
 pub returns-in-Err-clause-err : goal.returns-in-Err-clause-err
 returns-in-Err-clause-err g c clean =
     left_either c.a_row_is_of_one_message.ensures.one (state g.S.Store c.args.conn.now)
-    (state g.S.Store c.append.new.conn) (turn_of_row c.args.row.now) (λ db. g.met.S.Store.settled c.args.conn.now.store db)
+    (state g.S.Store c.append.new.conn) (turn_of_row c.args.row.now)
+    (λ db. g.met.S.Store.settled c.args.conn.now.store db)
     (c.in-Err.ensures.crash clean)

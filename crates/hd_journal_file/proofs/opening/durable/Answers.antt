@@ -14,4 +14,5 @@ new-requires-clause-settled g c =
     let told : arc_value c.in_ok-library.library ≡ c.args.journal.contents = search rules in
     rw (c.new-file.ensures.conn, c.new-file.ensures.is_new, c.new-file.ensures.catalogue)
     (λ left may. c.new-file.ensures.settled _ left
-    (λ reliable. kept_of _ _ _ _ told c.desk.ensures.legal.legal c.requires.change (c.requires.held reliable)) may)
+    (λ reliable. kept_of _ _ _ _ told c.desk.ensures.legal.legal c.requires.change (c.requires.held reliable))
+    may)

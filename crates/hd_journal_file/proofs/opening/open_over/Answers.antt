@@ -10,7 +10,8 @@ durable-requires-clause-held g c reliable =
       head = begun.0;
       rows = [];
       holds = begun.1;
-      are = subst (λ (turns : List Turn). AreTurnRows c.args.journal.contents turns []) (sym c.requires.empty) tt;
+      are = subst (λ (turns : List Turn). AreTurnRows c.args.journal.contents turns [])
+          (sym c.requires.empty) tt;
     }
 
 pub returns-then-is_new-clause-found : goal.returns-then-is_new-clause-found
@@ -29,7 +30,8 @@ pub returns-clause-taken : goal.returns-clause-taken
 returns-clause-taken g c clean old head rows holds =
     let late = rw c.in_ok-durable-2.ensures.file.0 at clean in
     let taken = c.in_ok-take_again.ensures.taken late head rows holds in
-    rw (c.in_ok-durable-2.ensures.contents, c.in_ok-durable-2.ensures.turns, c.in_ok-durable-2.ensures.file.0) taken
+    rw (c.in_ok-durable-2.ensures.contents, c.in_ok-durable-2.ensures.turns, c.in_ok-durable-2.ensures.file.0)
+    taken
 
 pub returns-clause-found : goal.returns-clause-found
 returns-clause-found g c clean old head rows found =
@@ -37,4 +39,5 @@ returns-clause-found g c clean old head rows found =
     let early = c.take_again.ensures.clean late in
     let seen = c.requires.seen early c.if-is_new.false head rows found in
     let taken = c.in_ok-take_again.ensures.taken late head rows seen in
-    rw (c.in_ok-durable-2.ensures.contents, c.in_ok-durable-2.ensures.turns, c.in_ok-durable-2.ensures.file.0) taken
+    rw (c.in_ok-durable-2.ensures.contents, c.in_ok-durable-2.ensures.turns, c.in_ok-durable-2.ensures.file.0)
+    taken

@@ -3,13 +3,15 @@ use Rattle.hd_lemmas.proofs.Results.{on_err}
 use Rattle.hd_journal_file.specs.Opening.{MayBeTaken, RefusesFile}
 use Rattle.hd_journal_file.specs.declared.open_fault.OpenFault.{OpenFault}
 use Rattle.hd_journal_file.proofs.Results.{passed}
-use Rattle.hd_journal_file.proofs.opening.take_again.Goals.{else-not-is_same-via-then-not-is_same+else-not-wanted, else-not-is_same-via-else-not-is_same}
+use Rattle.hd_journal_file.proofs.opening.take_again.Goals.{else-not-is_same-via-then-not-is_same+else-not-wanted}
+use Rattle.hd_journal_file.proofs.opening.take_again.Goals.{else-not-is_same-via-else-not-is_same}
 use Rattle.hd_journal_file.proofs.opening.take_again.Goals as goal
 
 -- where its head can't be read
 pub returns-in_err-is_same-clause-left : goal.returns-in_err-is_same-clause-left
 returns-in_err-is_same-clause-left g c clean =
-    on_err c.from_residual.result _ (λ head rows holds db may. inl (c.is_of.ensures.crash clean head rows holds db may))
+    on_err c.from_residual.result _
+    (λ head rows holds db may. inl (c.is_of.ensures.crash clean head rows holds db may))
 
 -- where a row isn't taken
 pub returns-in_err-restore_turns-clause-why : goal.returns-in_err-restore_turns-clause-why
@@ -20,7 +22,8 @@ returns-in_err-restore_turns-clause-why g c clean =
     let may_be : MayBeTaken c.args.wanted.now head =
     elim c.else-not-is_same.branch [
       | else-not-is_same-via-then-not-is_same+else-not-wanted w ↦ inr w.if-not-wanted.false
-      | else-not-is_same-via-else-not-is_same w ↦ inl ((c.in_ok-is_same.ensures.is_of early head rows holds).0 w.if-not-is_same.false)
+      | else-not-is_same-via-else-not-is_same w ↦ inl
+          ((c.in_ok-is_same.ensures.is_of early head rows holds).0 w.if-not-is_same.false)
     ] in
     subst (λ (f : OpenFault). RefusesFile c.args.wanted.now c.args.journal.now head rows f) (sym is) (
       may_be,
@@ -32,7 +35,8 @@ returns-in_err-restore_turns-clause-left g c clean =
     let early = c.restore_turns.ensures.clean clean in
     on_err c.from_residual-in_err-restore_turns.result _ (λ head rows holds db may.
     inl (c.is_of.ensures.crash early head rows holds db
-    (c.restore_turns.ensures.crash clean head rows (c.in_ok-is_same.ensures.same early head rows holds) db may)))
+    (c.restore_turns.ensures.crash clean head rows
+    (c.in_ok-is_same.ensures.same early head rows holds) db may)))
 
 -- where the digest can't be written
 pub returns-in_err-accept-clause-left : goal.returns-in_err-accept-clause-left
@@ -45,7 +49,8 @@ returns-in_err-accept-clause-left g c clean =
     let accepted : IsTrue c.args.wanted.now.is_other_accepted =
     elim c.else-not-is_same.branch [
       | else-not-is_same-via-then-not-is_same+else-not-wanted w ↦ w.if-not-wanted.false
-      | else-not-is_same-via-else-not-is_same w ↦ absurd (true≢false (sym w.if-not-is_same.false ∙ c.if-not-is_same-2.true))
+      | else-not-is_same-via-else-not-is_same w ↦ absurd
+          (true≢false (sym w.if-not-is_same.false ∙ c.if-not-is_same-2.true))
     ] in
     elim (c.accept.ensures.crash clean head rows then.0 db may) [
       | inl was ↦ inl (c.is_of.ensures.crash early head rows holds db

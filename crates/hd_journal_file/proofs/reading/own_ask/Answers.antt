@@ -8,6 +8,6 @@ returns-in-Err-clause-why g c =
     inr (
       c.in-Err.why,
       refl,
-      subst (λ (t : RowTexts). IsFirstFault c.args.catalogue.now t.terminal t.asked c.in-Err.why) c.row_in-row.ensures
-          c.in-Err.ensures.fault,
+      subst (λ (t : RowTexts). IsFirstFault c.args.catalogue.now t.terminal t.asked c.in-Err.why)
+          c.row_in-row.ensures c.in-Err.ensures.fault,
     )

@@ -1,10 +1,12 @@
-use Rattle.std.proofs.Common.{◌≡◌, sym, subst, refl, arith, [], ◌++◌, ◌+◌, ◌<◌, length, take, drop, ℕ, Option, IfSome, Some}
+use Rattle.std.proofs.Common.{◌≡◌, sym, subst, refl, arith, [], ◌++◌, ◌+◌, ◌<◌, length, take, drop, ℕ, Option}
+use Rattle.std.proofs.Common.{IfSome, Some}
 use Rattle.hd_turn_store.specs.Kept.{piece}
 use Rattle.hd_journal_file.specs.Restored.{RefusesRows, TakesPiece}
 use Rattle.hd_journal_file.specs.declared.fault.RestoreFault.{RestoreFault}
 use Rattle.hd_journal_file.proofs.Refusing.{counted, fits, refuses_piece}
 use Rattle.hd_journal_file.proofs.Results.{passed}
-use Rattle.hd_journal_file.proofs.Retaken.{takes_none, takes_then, piece_taken, last_taken, all_rows, all_change}
+use Rattle.hd_journal_file.proofs.Retaken.{takes_none, takes_then, piece_taken, last_taken, all_rows}
+use Rattle.hd_journal_file.proofs.Retaken.{all_change}
 use Rattle.hd_journal_file.proofs.restoring.restore_turns.Goals as goal
 
 pub loop-piece-init : goal.loop-piece-init
@@ -21,12 +23,14 @@ loop-piece-preserved g c =
     let some = c.loop-piece.invariant in
     let one = c.in_ok-next.ensures.took in
     let more : c.loop-piece.at < c.in-Some.last =
-    subst (λ (o : Option ℕ). IfSome o (λ last. c.loop-piece.at < last)) c.in-Some.is c.in_ok-next.ensures.more in
+    subst (λ (o : Option ℕ). IfSome o (λ last. c.loop-piece.at < last)) c.in-Some.is c.in_ok-next.ensures.more
+    in
     record {
       clean = λ clean. some.clean (c.take_piece.ensures.clean clean);
       took = (
         some.took.0 ++ one.0,
-        takes_then c.args.journal.now c.loop-piece.journal c.take_piece.new.journal some.took.0 one.0 some.took.1 one.1,
+        takes_then c.args.journal.now c.loop-piece.journal c.take_piece.new.journal some.took.0 one.0
+            some.took.1 one.1,
       );
       rows = λ clean head rows holds.
           let before = some.rows (c.take_piece.ensures.clean clean) head rows holds in
@@ -37,9 +41,10 @@ loop-piece-preserved g c =
           (take piece (drop c.loop-piece.at rows)) c.loop-piece.at o)
           c.in-Some.is (c.in_ok-next.ensures.rows clean head rows before.0) in (
             c.in_ok-next.ensures.same clean head rows before.0,
-            piece_taken c.args.journal.now c.loop-piece.journal c.take_piece.new.journal rows c.loop-piece.at c.in-Some.last
-                before.1 next,
-            subst (λ (n : ℕ). length (take n rows) ≡ n) (sym next.0) (counted c.loop-piece.at piece rows before.2),
+            piece_taken c.args.journal.now c.loop-piece.journal c.take_piece.new.journal rows c.loop-piece.at
+                c.in-Some.last before.1 next,
+            subst (λ (n : ℕ). length (take n rows) ≡ n) (sym next.0)
+                (counted c.loop-piece.at piece rows before.2),
           );
       crash = λ clean head rows holds db may.
           let early = c.take_piece.ensures.clean clean in
@@ -49,15 +54,16 @@ loop-piece-preserved g c =
     }
 
 pub returns-in_err-next-clause-clean : goal.returns-in_err-next-clause-clean
-returns-in_err-next-clause-clean g c = λ clean. c.loop-piece.invariant.clean (c.take_piece.ensures.clean clean)
+returns-in_err-next-clause-clean g c =
+    λ clean. c.loop-piece.invariant.clean (c.take_piece.ensures.clean clean)
 
 pub returns-in_err-next-clause-why : goal.returns-in_err-next-clause-why
 returns-in_err-next-clause-why g c clean =
     passed c.from_residual.result _ _ c.from_residual.ensures.1 (λ fault is head rows holds.
     let before = c.loop-piece.invariant.rows (c.take_piece.ensures.clean clean) head rows holds in
     subst (λ (f : RestoreFault). RefusesRows c.args.journal.now rows 0 f) (sym is)
-    (refuses_piece c.args.journal.now c.loop-piece.journal rows c.loop-piece.at c.in_err-next.field-0.0 before.2 before.1
-    (c.in_err-next.ensures.why clean head rows before.0)))
+    (refuses_piece c.args.journal.now c.loop-piece.journal rows c.loop-piece.at c.in_err-next.field-0.0
+    before.2 before.1 (c.in_err-next.ensures.why clean head rows before.0)))
 
 pub returns-in_err-next-clause-crash : goal.returns-in_err-next-clause-crash
 returns-in_err-next-clause-crash g c clean head rows holds db may =
@@ -73,8 +79,8 @@ returns-in-None-clause-rows g c = λ clean head rows holds.
     let before = c.loop-piece.invariant.rows (c.take_piece.ensures.clean clean) head rows holds in (
       c.in_ok-next.ensures.same clean head rows before.0,
       all_rows c.args.journal.now c.take_piece.new.journal rows c.requires
-          (last_taken c.args.journal.now c.loop-piece.journal c.take_piece.new.journal rows c.loop-piece.at before.1
-          (subst
+          (last_taken c.args.journal.now c.loop-piece.journal c.take_piece.new.journal rows c.loop-piece.at
+          before.1 (subst
           (λ (o : Option ℕ). TakesPiece c.loop-piece.journal c.take_piece.new.journal
           (take piece (drop c.loop-piece.at rows)) c.loop-piece.at o)
           c.in-None.is (c.in_ok-next.ensures.rows clean head rows before.0))),
@@ -97,7 +103,8 @@ pub returns-in-None-clause-contents : goal.returns-in-None-clause-contents
 returns-in-None-clause-contents g c =
     let some = c.loop-piece.invariant.took in
     let one = c.in_ok-next.ensures.took in
-    (takes_then c.args.journal.now c.loop-piece.journal c.take_piece.new.journal some.0 one.0 some.1 one.1).contents
+    (takes_then c.args.journal.now c.loop-piece.journal c.take_piece.new.journal some.0 one.0 some.1
+    one.1).contents
 
 pub returns-clause-clean : goal.returns-clause-clean
 returns-clause-clean g c = c.loop-piece.invariant.clean

@@ -16,7 +16,8 @@ invariant-loop-piece g l =
       clean : HasCleanDisk now → HasCleanDisk old;
       took : (rows : List KeptTurn) × TakesRows l.initial.journal l.journal rows;
       rows : HasCleanDisk now → (head : Head) (rows : List KeptTurn) → Holds old head rows
-          → Holds now head rows × TakesRows l.initial.journal l.journal (take l.at rows) × (length (take l.at rows) ≡ l.at);
+          → Holds now head rows × TakesRows l.initial.journal l.journal (take l.at rows)
+          × (length (take l.at rows) ≡ l.at);
       crash : HasCleanDisk now → (head : Head) (rows : List KeptTurn) → Holds old head rows
           → (db : Trees) → now.may_leave db → old.may_leave db;
       many : l._piece ≤ l.at;

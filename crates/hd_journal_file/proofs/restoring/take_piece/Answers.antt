@@ -1,4 +1,5 @@
-use Rattle.std.proofs.Common.{◌≡◌, refl, ◌∷◌, ◌+◌, sym, ap, subst, ◌∙◌, ℕ, List, [], map, take, drop, length, arith}
+use Rattle.std.proofs.Common.{◌≡◌, refl, ◌∷◌, ◌+◌, sym, ap, subst, ◌∙◌, ℕ, List, [], map, take, drop, length}
+use Rattle.std.proofs.Common.{arith}
 use Rattle.std.proofs.lemmas.Bool.{eqb-true}
 use Rattle.std.proofs.lemmas.List.{length-map}
 use Rattle.hd_turn_store.specs.Kept.{KeptTurn, piece}
@@ -23,7 +24,8 @@ returns-then-is_empty-clause-rows g c clean head rows holds =
     let all : map read_turn c.as_slice.result.now ≡ take piece (drop c.args.after rows) =
     ap (map read_turn) c.as_slice.ensures.value ∙ read in (
       sym all ∙ ap (map read_turn) none,
-      subst (λ (ks : List KeptTurn). TakesRows c.args.journal.now c.take_rows.new.journal ks) all c.in_ok-last.ensures.rows,
+      subst (λ (ks : List KeptTurn). TakesRows c.args.journal.now c.take_rows.new.journal ks) all
+          c.in_ok-last.ensures.rows,
     )
 
 pub returns-clause-rows : goal.returns-clause-rows
@@ -33,8 +35,10 @@ returns-clause-rows g c clean head rows holds =
     let all : map read_turn c.as_slice.result.now ≡ take piece (drop c.args.after rows) =
     ap (map read_turn) c.as_slice.ensures.value ∙ read in (
       c.in_ok-last.ensures.number
-          ∙ ap (λ (n : ℕ). c.args.after + n) (sym (length-map c.as_slice.result.now read_turn) ∙ ap length all),
-      subst (λ (ks : List KeptTurn). TakesRows c.args.journal.now c.take_rows.new.journal ks) all c.in_ok-last.ensures.rows,
+          ∙ ap (λ (n : ℕ). c.args.after + n)
+          (sym (length-map c.as_slice.result.now read_turn) ∙ ap length all),
+      subst (λ (ks : List KeptTurn). TakesRows c.args.journal.now c.take_rows.new.journal ks) all
+          c.in_ok-last.ensures.rows,
     )
 
 pub returns-in_err-last-clause-why : goal.returns-in_err-last-clause-why
@@ -44,6 +48,7 @@ returns-in_err-last-clause-why g c clean =
     c.in-Ok.ensures.ok clean head rows holds in
     let all : map read_turn c.as_slice.result.now ≡ take piece (drop c.args.after rows) =
     ap (map read_turn) c.as_slice.ensures.value ∙ read in
-    subst (λ (f : RestoreFault). RefusesRows c.args.journal.now (take piece (drop c.args.after rows)) c.args.after f) (sym is)
-    (subst (λ (ks : List KeptTurn). RefusesRows c.args.journal.now ks c.args.after c.in_err-last.field-0.0) all
-    c.in_err-last.ensures.why))
+    subst (λ (f : RestoreFault). RefusesRows c.args.journal.now
+    (take piece (drop c.args.after rows)) c.args.after f) (sym is)
+    (subst (λ (ks : List KeptTurn). RefusesRows c.args.journal.now ks c.args.after c.in_err-last.field-0.0)
+    all c.in_err-last.ensures.why))

@@ -10,41 +10,43 @@ use Rattle.hd_journal_file.proofs.Results.{passed}
 use Rattle.hd_journal_file.proofs.Retaken.{takes_row}
 use Rattle.hd_journal_file.proofs.restoring.take_row.Goals as goal
 
-pub take-requires : goal.take-requires
-take-requires g c =
+pub take_new-requires : goal.take_new-requires
+take_new-requires g c =
     subst (λ (k : Contents). IsKnownMessage (facts_of k) c.in_ok-own.own.message)
     (c.deref.ensures ∙ c.catalogue.ensures ∙ c.desk.ensures.contents) c.in_ok-own.ensures.known
-
-pub returns-in-Ok-clause-took : goal.returns-in-Ok-clause-took
-returns-in-Ok-clause-took g c =
-    on_ok_weaker c.compare.result
-    (takes_row c.args.journal.now c.take.new.self c.in_ok-own.own.seat c.in_ok-own.own.message c.in-Ok.turn
-    c.deref.result.now (read_turn c.args.kept.now) c.in-Ok.ensures.turn
-    (c.deref.ensures ∙ c.catalogue.ensures ∙ c.desk.ensures.contents) c.in_ok-own.ensures.row
-    (sym c.is_changing.ensures ∙ c.if-not-is_changing.false))
-    c.compare.ensures.same
 
 pub returns-in_err-own-clause-why : goal.returns-in_err-own-clause-why
 returns-in_err-own-clause-why g c =
     passed c.from_residual.result _ _ c.from_residual.ensures.1 (λ fault is.
     subst (λ (f : RestoreFault). RefusesRow c.args.journal.now (read_turn c.args.kept.now) c.args.at f) (sym is)
-    (refuses_ask c.args.journal.now (read_turn c.args.kept.now) c.args.at c.deref.result.now c.in_err-own.field-0.0
-    (c.deref.ensures ∙ c.catalogue.ensures ∙ c.desk.ensures.contents) c.in_err-own.ensures.why))
+    (refuses_ask c.args.journal.now (read_turn c.args.kept.now) c.args.at c.deref.result.now
+    c.in_err-own.field-0.0 (c.deref.ensures ∙ c.catalogue.ensures ∙ c.desk.ensures.contents)
+    c.in_err-own.ensures.why))
 
-pub returns-then-not-is_changing-clause-why : goal.returns-then-not-is_changing-clause-why
-returns-then-not-is_changing-clause-why g c = (
+pub returns-then-not-new-clause-why : goal.returns-then-not-new-clause-why
+returns-then-not-new-clause-why g c = (
   refl,
   (
-    asks_of c.args.journal.now (read_turn c.args.kept.now) c.in_ok-own.own.seat c.in_ok-own.own.message c.deref.result.now
-        (c.deref.ensures ∙ c.catalogue.ensures ∙ c.desk.ensures.contents) c.in_ok-own.ensures.row,
-    sym c.is_changing.ensures ∙ c.if-not-is_changing.true,
+    asks_of c.args.journal.now (read_turn c.args.kept.now) c.in_ok-own.own.seat c.in_ok-own.own.message
+        c.deref.result.now (c.deref.ensures ∙ c.catalogue.ensures ∙ c.desk.ensures.contents)
+        c.in_ok-own.ensures.row,
+    sym c.in-Ok.ensures.changing ∙ c.if-not-new.true,
   ),
 )
 
-pub returns-in-Ok-clause-why : goal.returns-in-Ok-clause-why
-returns-in-Ok-clause-why g c =
+pub returns-clause-took : goal.returns-clause-took
+returns-clause-took g c =
+    on_ok_weaker c.compare.result
+    (takes_row c.args.journal.now c.take_new.new.self c.in_ok-own.own.seat c.in_ok-own.own.message
+    c.in-Ok.new.made c.deref.result.now (read_turn c.args.kept.now) c.in-Ok.ensures.turn
+    (c.deref.ensures ∙ c.catalogue.ensures ∙ c.desk.ensures.contents) c.in_ok-own.ensures.row
+    (sym c.in-Ok.ensures.changing ∙ c.if-not-new.false))
+    c.compare.ensures.same
+
+pub returns-clause-why : goal.returns-clause-why
+returns-clause-why g c =
     IfErr-weaker c.compare.result _ _
-    (λ fault. refuses_came c.args.journal.now c.take.new.self c.in_ok-own.own.seat c.in_ok-own.own.message c.in-Ok.turn
-    c.deref.result.now (read_turn c.args.kept.now) c.args.at fault c.in-Ok.ensures.turn
+    (λ fault. refuses_came c.args.journal.now c.take_new.new.self c.in_ok-own.own.seat c.in_ok-own.own.message
+    c.in-Ok.new.made c.deref.result.now (read_turn c.args.kept.now) c.args.at fault c.in-Ok.ensures.turn
     (c.deref.ensures ∙ c.catalogue.ensures ∙ c.desk.ensures.contents) c.in_ok-own.ensures.row)
     c.compare.ensures.why

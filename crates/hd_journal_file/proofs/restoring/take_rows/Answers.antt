@@ -19,8 +19,8 @@ loop-row-preserved g c = record {
   rows = subst (λ (rows : List KeptTurn). TakesRows c.args.journal.now c.take_row.new.journal rows)
       (rows_front c.args.rows.now c.loop-row.row-index c.row-item.result c.loop-row-test.true c.row-item.is)
       (takes_more c.a_turn_more_is_kept_where_it_changes.ensures c.args.journal.now c.loop-row.journal
-      c.take_row.new.journal (map read_turn (take c.loop-row.row-index c.args.rows.now)) (read_turn c.row-item.result)
-      c.loop-row.invariant.rows c.in_ok-take_row.ensures.took);
+      c.take_row.new.journal (map read_turn (take c.loop-row.row-index c.args.rows.now))
+      (read_turn c.row-item.result) c.loop-row.invariant.rows c.in_ok-take_row.ensures.took);
 }
 
 pub returns-clause-rows : goal.returns-clause-rows
@@ -31,7 +31,9 @@ returns-clause-rows g c =
 pub returns-in_err-take_row-clause-why : goal.returns-in_err-take_row-clause-why
 returns-in_err-take_row-clause-why g c =
     passed c.from_residual.result _ _ c.from_residual.ensures.1 (λ fault is.
-    subst (λ (f : RestoreFault). RefusesRows c.args.journal.now (map read_turn c.args.rows.now) c.args.after f) (sym is)
-    (stops c.args.journal.now c.loop-row.journal c.args.rows.now c.loop-row.row-index c.row-item.result c.args.after
-    c.in-Some.next c.in_err-take_row.field-0.0 c.loop-row-test.true c.row-item.is (omega (arith, c.loop-row.invariant.number))
+    subst (λ (f : RestoreFault). RefusesRows c.args.journal.now
+    (map read_turn c.args.rows.now) c.args.after f) (sym is)
+    (stops c.args.journal.now c.loop-row.journal c.args.rows.now c.loop-row.row-index c.row-item.result
+    c.args.after c.in-Some.next c.in_err-take_row.field-0.0 c.loop-row-test.true c.row-item.is
+    (omega (arith, c.loop-row.invariant.number))
     c.loop-row.invariant.rows c.in_err-take_row.ensures.why))

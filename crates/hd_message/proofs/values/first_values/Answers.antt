@@ -16,4 +16,7 @@ loop-field-preserved c =
       wanted = still _ _ _ _ _ _ _ moved c.value_after-in-loop-field-7.ensures c.loop-field.invariant.wanted;
       name = still _ _ _ _ _ _ _ moved c.value_after-in-loop-field-8.ensures c.loop-field.invariant.name;
       password = still _ _ _ _ _ _ _ moved c.value_after-in-loop-field-9.ensures c.loop-field.invariant.password;
+      patron_password = still _ _ _ _ _ _ _ moved c.value_after-in-loop-field-10.ensures c.loop-field.invariant.patron_password;
+      first_item = still _ _ _ _ _ _ _ moved c.value_after-in-loop-field-11.ensures c.loop-field.invariant.first_item;
+      last_item = still _ _ _ _ _ _ _ moved c.value_after-in-loop-field-12.ensures c.loop-field.invariant.last_item;
     }

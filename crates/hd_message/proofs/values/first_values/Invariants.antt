@@ -17,4 +17,7 @@ invariant-loop-field l = record {
   wanted : or_among (option_copied l.values.wanted) (codes "BY") l.field-iterator ≡ first_value l.part (codes "BY");
   name : or_among (option_copied l.values.name) (codes "CN") l.field-iterator ≡ first_value l.part (codes "CN");
   password : or_among (option_copied l.values.password) (codes "CO") l.field-iterator ≡ first_value l.part (codes "CO");
+  patron_password : or_among (option_copied l.values.patron_password) (codes "AD") l.field-iterator ≡ first_value l.part (codes "AD");
+  first_item : or_among (option_copied l.values.first_item) (codes "BP") l.field-iterator ≡ first_value l.part (codes "BP");
+  last_item : or_among (option_copied l.values.last_item) (codes "BQ") l.field-iterator ≡ first_value l.part (codes "BQ");
 }

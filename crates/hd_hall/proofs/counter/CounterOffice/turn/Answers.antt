@@ -16,19 +16,23 @@ returns-clause-number g c =
     c.submit.ensures.kept
 
 pub returns-clause-reply : goal.returns-clause-reply
-returns-clause-reply g c = IfOk-weaker c.submit.result _ _ (λ made next. next_fits _ _ _ next) c.submit.ensures.next
+returns-clause-reply g c = IfOk-weaker c.submit.result _ _
+    (λ made next. next_fits _ _ _ next) c.submit.ensures.next
 
 pub returns-clause-names : goal.returns-clause-names
-returns-clause-names g c = IfOk-weaker c.submit.result _ _ (λ made next. next_known _ _ _ next) c.submit.ensures.next
+returns-clause-names g c = IfOk-weaker c.submit.result _ _
+    (λ made next. next_known _ _ _ next) c.submit.ensures.next
 
 pub returns-clause-why : goal.returns-clause-why
 returns-clause-why g c =
     IfErr-weaker c.submit.result _ _
-    (λ why is. of_any_seat _ g.K.Keeper.faults (IsStrangeTo g.H.House.opening c.args.self.now.seat.now.receipts) why is)
+    (λ why is. of_any_seat _ g.K.Keeper.faults
+    (IsStrangeTo g.H.House.opening c.args.self.now.seat.now.receipts) why is)
     c.submit.ensures.why
 
 pub returns-clause-cause : goal.returns-clause-cause
 returns-clause-cause g c =
     IfErr-weaker c.submit.result _ _
-    (λ why is. of_any_ask _ g.K.Keeper.faults (IsStrangeTo g.H.House.opening c.args.self.now.seat.now.receipts) why is)
+    (λ why is. of_any_ask _ g.K.Keeper.faults
+    (IsStrangeTo g.H.House.opening c.args.self.now.seat.now.receipts) why is)
     c.submit.ensures.why

@@ -25,7 +25,8 @@ is_seat g c =
     let made = c.in_ok-made.made in
     let given = receipt_of (g.K.Keeper.asks c.in_ok-own.own) made in
     let before = c.deref.ensures.value ∙ c.in_ok-ready.ensures.items in
-    let next = subst (λ (rs : List Receipted). IsNextOf g.H.House.opening rs given) before c.in_ok-made.ensures.next in
+    let next = subst (λ (rs : List Receipted). IsNextOf g.H.House.opening rs given) before
+    c.in_ok-made.ensures.next in
     let same = c.in_ok-own.ensures.same ∙ sym c.in_ok-copy.ensures.same in
     let number = ap (λ (s : SeatView). s.number) c.seat.view_is in
     let own = ap (λ (m : SeatMessage). m.seat) c.in_ok-copy.ensures.same ∙ (c.requires.seat ∙ sym number) in
@@ -36,8 +37,10 @@ is_seat g c =
       c.in_ok-made.ensures.parts,
       c.in_ok-made.ensures.share,
     )
-    (seat-snoc _ _ (receipt_of c.in_ok-copy.copy made) (rw (← c.seat.view_is) at c.requires.part) c.seat.invariant.0
-    (subst (λ (m : SeatMessage). IsNextOf g.H.House.opening c.seat.inside.receipts.items (receipt_of m made)) same next) own)
+    (seat-snoc _ _ (receipt_of c.in_ok-copy.copy made)
+    (rw (← c.seat.view_is) at c.requires.part) c.seat.invariant.0
+    (subst (λ (m : SeatMessage). IsNextOf g.H.House.opening c.seat.inside.receipts.items (receipt_of m made))
+    same next) own)
 
 pub invariant_of-seat-2 : goal.invariant_of-seat-2
 invariant_of-seat-2 g c =
@@ -59,7 +62,8 @@ returns-in_err-made-clause-why g c =
     rw (p.1, p.2)
     (of_lock (NeedsMemory c.args.seat.now.receipts c.args.ask.now.line) g.K.Keeper.faults
     (IsStrangeTo g.H.House.opening c.args.seat.now.receipts) c.in_err-made.field-0.0
-    (subst (λ (rs : List Receipted). IsLockFault g.K.Keeper.faults (IsStrangeTo g.H.House.opening rs) c.in_err-made.field-0.0)
+    (subst (λ (rs : List Receipted). IsLockFault g.K.Keeper.faults
+    (IsStrangeTo g.H.House.opening rs) c.in_err-made.field-0.0)
     same c.in_err-made.ensures.why))
 
 pub returns-in_err-made-clause-err : goal.returns-in_err-made-clause-err

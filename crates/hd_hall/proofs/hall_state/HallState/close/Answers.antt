@@ -18,7 +18,8 @@ returns-clause-missing g c =
           (c.in-Some.ensures.same ∙ c.as_mut_slice.ensures.value),
       locked.ours,
       subst
-          (λ (o : Opening). LacksReceipt o (g.K.Keeper.turns locked.keeper) c.args.seats.items c.in-Some.number)
+          (λ (o : Opening). LacksReceipt o
+          (g.K.Keeper.turns locked.keeper) c.args.seats.items c.in-Some.number)
           locked.ours lacks,
       rw (← c.as_mut_slice.ensures.value) c.in-Some.ensures.whole,
     )

@@ -2,7 +2,9 @@ use Rattle.std.proofs.Common.{◌≡◌, ◌∙◌, ℕ, [], ◌∷◌, ap, repl
 use Rattle.std.specs.Arc.{arc_value}
 use Rattle.hd_rules.specs.Facts.{AreInRange}
 use Rattle.hd_catalogue.specs.Contents.{Contents, facts_of}
-use Rattle.hd_holds.proofs.Kept.{kept}
+use Rattle.hd_holds.specs.Held.{patron_hold}
+use Rattle.hd_holds.specs.Places.{kept}
+use Rattle.hd_holds.proofs.Listed.{listed_none}
 use Rattle.hd_holds.proofs.Placed.{none-first, placed-first}
 use Rattle.hd_holds.proofs.Queues.{held-empty}
 use Rattle.hd_holds.proofs.holds.Holds.open.Goals as goal
@@ -16,9 +18,14 @@ invariant_of-result g c =
     c.in_ok-places.ensures.items_if_clones_equal (λ y e. e) ∙ ap (λ (n : ℕ). replicate n 0) titles in
     let queues : c.push.new.self.items ≡ c.new.result ∷ [] =
     rw c.new-queues.ensures.items at c.in_ok-push.ensures.items in
-    rw (places, queues) (placed-first (facts_of (arc_value c.args.catalogue)) c.new.result range c.new.ensures)
+    let made = kept (arc_value c.args.catalogue) c.in_ok-places.places.items c.push.new.self.items c.in_ok-held.held.room in (
+      rw (places, queues) (placed-first (facts_of (arc_value c.args.catalogue)) c.new.result range c.new.ensures),
+      listed_none c.in_ok-held.held (patron_hold made)
+          (held-empty made (λ t. rw (c.in_ok-places.ensures.items_if_clones_equal (λ y e. e)) (none-first c.push.new.self.items c.titles.result t)))
+          c.in_ok-held.ensures,
+    )
 
 pub returns-clause-none : goal.returns-clause-none
 returns-clause-none g c =
-    held-empty (kept (arc_value c.args.catalogue) c.in_ok-places.places.items c.push.new.self.items)
+    held-empty (kept (arc_value c.args.catalogue) c.in_ok-places.places.items c.push.new.self.items c.in_ok-held.held.room)
     (λ t. rw (c.in_ok-places.ensures.items_if_clones_equal (λ y e. e)) (none-first c.push.new.self.items c.titles.result t))

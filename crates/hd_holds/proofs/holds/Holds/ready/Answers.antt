@@ -1,73 +1,52 @@
-use Rattle.std.proofs.Common.{arith}
-use Rattle.std.proofs.Math.ListN.{set}
+use Rattle.std.proofs.Common.{◌≡◌, ◌∙◌, ◌≤◌, ◌+◌, ap, arith, subst, sym}
 use Rattle.std.specs.Arc.{arc_value}
-use Rattle.hd_holds.proofs.Kept.{ReadsPlace, index-within, kept, place-within, placed-own, placed-ready, queues-few, ready-added, ready-written, reads-own, written-own}
-use Rattle.hd_holds.proofs.Queues.{Reads, queue-ready}
+use Rattle.hd_holds.specs.HoldsValue.{HoldsValue}
+use Rattle.hd_holds.specs.Held.{patron_hold, queue_room, room_of}
+use Rattle.hd_holds.specs.Places.{kept}
+use Rattle.hd_holds.proofs.Kept.{held-room, listed-room, room-less}
 use Rattle.hd_holds.proofs.holds.Holds.ready.Given.{Over}
-use Rattle.hd_holds.proofs.holds.Holds.ready.Goals.{After-index-place, After-index_mut}
+use Rattle.hd_holds.proofs.holds.Holds.ready.Goals.{After-self}
 use Rattle.hd_holds.proofs.holds.Holds.ready.Goals as goal
 
--- the title's place, as it was read
-at : (g : Over) (c : After-index-place g) → ReadsPlace (arc_value c.self.inside.catalogue) c.self.inside.places.items
-    c.self.inside.queues.items c.args.self.now c.number-at.result c.args.title c.index-place.result.now
-at g c = record {
-  same = c.self.view_is;
-  all = c.self.invariant;
-  index = c.number-at.ensures.value;
-  within = c.requires;
-  read = c.index-place.ensures;
-}
-
--- and the queue that stands there
-reads : (g : Over) (c : After-index_mut g) → ReadsPlace (arc_value c.self.inside.catalogue) c.self.inside.places.items
-    c.self.inside.queues.items c.args.self.now c.number-at.result c.args.title c.index-place.result.now
-    → Reads (kept (arc_value c.self.inside.catalogue) c.self.inside.places.items c.self.inside.queues.items) c.args.self.now
-    c.args.title c.index_mut.result.now
-reads g c place = reads-own place c.if-place-gt0.true c.index_mut.result.now c.index_mut.ensures.value
-
-pub index-place-requires : goal.index-place-requires
-index-place-requires g c =
-    omega (arith, index-within c.self.view_is c.self.invariant c.number-at.ensures.value c.requires, c.self.inside.places.ok.0)
-
-pub index_mut-requires : goal.index_mut-requires
-index_mut-requires g c =
-    omega (arith, place-within (at g (goal.at.index_mut-requires g c).After-index-place), c.self.inside.queues.ok.0)
+-- the holds as they were
+abbrev before : (g : Over) (c : After-self g) → HoldsValue
+before g c = kept (arc_value c.self.inside.catalogue) c.self.inside.places.items c.self.inside.queues.items c.self.inside.held.room
 
 pub invariant_of-self : goal.invariant_of-self
-invariant_of-self g c =
-    let there = goal.at.invariant_of-self g c in
-    let place = at g there.After-index-place in
-    placed-own place c.if-place-gt0.true c.ready.new.self
-    (queue-ready (reads g there.After-index_mut place) c.ready.new.self c.ready.ensures.holds)
+invariant_of-self g c = (
+  c.self.invariant.0,
+  listed-room c.self.inside.held c.ready.new.self (before g (goal.at.invariant_of-self g c).After-self) c.ready.new.self.room
+      c.ready.ensures.lists c.self.invariant.1,
+)
 
-pub returns-then-place-gt0 : goal.returns-then-place-gt0
-returns-then-place-gt0 g c =
-    let there = goal.at.returns-then-place-gt0 g c in
-    let place = at g there.After-index-place in
-    let queues = set c.self.inside.queues.items c.index-place.result.now c.ready.new.self in
-    let is =
-    ready-written c.ready.result (reads g there.After-index_mut place)
-    (kept (arc_value c.self.inside.catalogue) c.self.inside.places.items queues) c.args.more c.ready.new.self
-    (written-own place c.if-place-gt0.true c.ready.new.self) c.ready.ensures.holds c.ready.ensures.ok c.ready.ensures.err
-    c.ready.ensures.full c.ready.ensures.room in
-    record { held = is.held; contents = is.contents; ok = is.ok; err = is.err; full = is.full; room = is.room }
+pub invariant_of-self-2 : goal.invariant_of-self-2
+invariant_of-self-2 g c = (
+  c.self.invariant.0,
+  listed-room c.self.inside.held c.ready.new.self (before g (goal.at.invariant_of-self-2 g c).After-self) c.ready.new.self.room
+      c.ready.ensures.lists c.self.invariant.1,
+)
 
-pub add_queue-requires-clause-title : goal.add_queue-requires-clause-title
-add_queue-requires-clause-title g c = index-within c.self.view_is c.self.invariant c.number-at.ensures.value c.requires
+pub invariant_of-self-in-Err : goal.invariant_of-self-in-Err
+invariant_of-self-in-Err g c = (
+  c.self-2.invariant.0,
+  listed-room c.self-2.inside.held c.give_up.new.self
+      (kept (arc_value c.self-2.inside.catalogue) c.self-2.inside.places.items c.self-2.inside.queues.items c.self-2.inside.held.room)
+      c.give_up.new.self.room c.give_up.ensures.lists c.self-2.invariant.1,
+)
 
-pub add_queue-requires-clause-few : goal.add_queue-requires-clause-few
-add_queue-requires-clause-few g c = queues-few c.self.invariant
+pub returns-clause-held : goal.returns-clause-held
+returns-clause-held g c =
+    c.ready_queue.ensures.held ∙ held-room (before g (goal.at.returns-clause-held g c).After-self) c.ready.new.self.room
+    ∙ ap patron_hold c.self.view_is
 
-pub invariant_of-self-then-more-gt0 : goal.invariant_of-self-then-more-gt0
-invariant_of-self-then-more-gt0 g c =
-    placed-ready (at g (goal.at.invariant_of-self-then-more-gt0 g c).After-index-place) (omega (arith, c.if-place-gt0.false))
-    c.add_queue.new.places.items c.add_queue.new.queues.items c.args.more c.if-more-gt0.true c.add_queue.result
-    c.add_queue.ensures.places c.add_queue.ensures.queues c.add_queue.ensures.err_places c.add_queue.ensures.err_queues
-
-pub returns-then-more-gt0 : goal.returns-then-more-gt0
-returns-then-more-gt0 g c =
-    let is =
-    ready-added (at g (goal.at.returns-then-more-gt0 g c).After-index-place) (omega (arith, c.if-place-gt0.false))
-    c.add_queue.new.places.items c.add_queue.new.queues.items c.args.more c.if-more-gt0.true c.add_queue.result
-    c.add_queue.ensures.places c.add_queue.ensures.queues c.add_queue.ensures.err_places c.add_queue.ensures.err_queues in
-    record { held = is.held; contents = is.contents; ok = is.ok; err = is.err; full = is.full; room = is.room }
+pub returns-clause-room : goal.returns-clause-room
+returns-clause-room g c =
+    let old = c.args.self.now in
+    let new = c.ready_queue.new.self in
+    let same : old.room ≡ c.self.inside.held.room = ap (λ (h : HoldsValue). h.room) (sym c.self.view_is) in
+    λ t. omega (
+      arith,
+      room-less old new 0
+          (λ u. omega (arith, subst (λ (h : HoldsValue). queue_room h u ≤ queue_room new u) c.self.view_is (c.ready_queue.ensures.room u)))
+          (omega (arith, same, c.ready_queue.ensures.lists, c.ready.ensures.room)) t,
+    )

@@ -7,7 +7,8 @@ returns-clause-turn g c =
     IfOk-weaker c.take_copy.result _ _ (λ made adds. turns_grow _ _ _ _ made adds) c.take_copy.ensures.turn
 
 pub returns-clause-number : goal.returns-clause-number
-returns-clause-number g c = IfOk-weaker c.take_copy.result _ _ (λ made adds. adds.number) c.take_copy.ensures.turn
+returns-clause-number g c = IfOk-weaker c.take_copy.result _ _
+    (λ made adds. adds.number) c.take_copy.ensures.turn
 
 pub returns-clause-reply : goal.returns-clause-reply
 returns-clause-reply g c =

@@ -10,5 +10,6 @@ take_copy-requires g c =
 
 pub returns-clause-turn : goal.returns-clause-turn
 returns-clause-turn g c =
-    subst (λ (x : SeatMessage). IfOk c.take_copy.result (AddsTurn c.args.self.now c.take_copy.new.self x.seat x.message))
+    subst (λ (x : SeatMessage). IfOk c.take_copy.result
+    (AddsTurn c.args.self.now c.take_copy.new.self x.seat x.message))
     c.new.ensures c.take_copy.ensures.turn

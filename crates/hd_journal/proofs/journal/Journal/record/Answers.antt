@@ -10,6 +10,8 @@ use Rattle.hd_journal.proofs.journal.Journal.record.Goals as goal
 pub returns : goal.returns
 returns g c =
     let r = c.self.inside.run in
-    subst (λ (x : Book). IsRecordOf (facts x) (state x).survivors c.args.number (option_map record_shown c.record.result)) c.self.view_is
-    (subst (λ (ss : List Survivor). IsRecordOf (facts_of r.contents) ss c.args.number (option_map record_shown c.record.result))
+    subst (λ (x : Book). IsRecordOf (facts x) (state x).survivors c.args.number
+    (option_map record_shown c.record.result)) c.self.view_is
+    (subst (λ (ss : List Survivor). IsRecordOf (facts_of r.contents) ss c.args.number
+    (option_map record_shown c.record.result))
     (sym (ap (λ (s : State). s.survivors) c.self.invariant.state)) c.record.ensures)

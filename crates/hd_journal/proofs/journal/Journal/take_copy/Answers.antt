@@ -10,9 +10,11 @@ returns-in_err-own-clause-err g c = on_err _ _ (still_book c.args.self.now)
 
 pub take-requires : goal.take-requires
 take-requires g c =
-    subst (λ (x : SeatMessage). IsKnownMessage (facts c.args.self.now) x.message) (sym c.in_ok-own.ensures.same) c.requires
+    subst (λ (x : SeatMessage). IsKnownMessage (facts c.args.self.now) x.message)
+    (sym c.in_ok-own.ensures.same) c.requires
 
 pub returns-clause-turn : goal.returns-clause-turn
 returns-clause-turn g c =
-    subst (λ (x : SeatMessage). IfOk c.take.result (AddsTurn c.args.self.now c.take.new.self x.seat x.message))
+    subst (λ (x : SeatMessage). IfOk c.take.result
+    (AddsTurn c.args.self.now c.take.new.self x.seat x.message))
     c.in_ok-own.ensures.same c.take.ensures.turn

@@ -19,7 +19,8 @@ invariant_of-result g c =
     let last : c.new.result.last ≡ k.opening.last =
     c.new.ensures.last ∙ c.last_before-before.ensures.last
     ∙ ap (λ (x : Contents). (facts_of x).opening.last) (c.deref.ensures ∙ c.catalogue.ensures) in (
-      subst (λ (rs : List Record). LeadsTo (run_at lent rs c.new.result.last) (desk_of c.args.desk)) (sym c.new.ensures.records)
+      subst (λ (rs : List Record). LeadsTo (run_at lent rs c.new.result.last) (desk_of c.args.desk))
+          (sym c.new.ensures.records)
           (subst (λ (n : ℕ). LeadsTo (run_at lent [] n) (desk_of c.args.desk)) (sym last) empty),
       subst (AreStored k) (sym c.new.ensures.records) (record { are = tt; undoable = tt }),
       c.new.ensures.listed k,

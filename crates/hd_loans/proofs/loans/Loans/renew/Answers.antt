@@ -1,16 +1,11 @@
-use Rattle.std.proofs.Common.{◌≡◌, refl, sym, ◌∙◌, Some}
-use Rattle.std.specs.FinMap.{get}
-use Rattle.hd_loans.proofs.LoansLemmas.{AreCounts-replace}
+use Rattle.std.proofs.Common.{◌∙◌, sym}
+use Rattle.hd_loans.proofs.LoansLemmas.{AreCounts-renew}
 use Rattle.hd_loans.proofs.loans.Loans.renew.Goals as goal
 
-pub set-requires : goal.set-requires
-set-requires g c =
-    let some : get c.self.inside.table.entries c.number-at.result ≡ Some c.in-Some.loan = sym (c.in-Some.ensures ∙ c.get.ensures)
-    in (c.self.invariant.within c.number-at.result c.in-Some.loan some).0
-
 pub invariant_of-self : goal.invariant_of-self
-invariant_of-self g c =
-    let some : get c.self.inside.table.entries c.number-at.result ≡ Some c.in-Some.loan = sym (c.in-Some.ensures ∙ c.get.ensures)
-    in rw (c.set.ensures.entries, c.set.ensures.size)
-    (AreCounts-replace c.self.inside.table.entries c.self.inside.table.size c.number-at.result c.self.inside.counts.items c.in-Some.loan
-    _ c.self.invariant some refl)
+invariant_of-self g c = record {
+  counted = rw (c.renew.ensures.loans, c.renew.ensures.copies)
+      (AreCounts-renew c.self.inside.linked.loans c.self.inside.linked.copies c.args.copy c.args.due c.self.inside.counts.items
+      c.self.invariant.counted);
+  room = c.self.invariant.room ∙ sym c.renew.ensures.patrons;
+}

@@ -1,0 +1,74 @@
+//! The words of a command, and of its options.
+
+/// The words of a command.
+#[derive(Clone, Copy)]
+pub(crate) struct CommandWords {
+    pub(crate) name: &'static str,
+    /// What it does, in a line.
+    pub(crate) about: &'static str,
+    /// What it does.
+    pub(crate) long_about: &'static str,
+    /// An example, and its exit statuses.
+    pub(crate) example: &'static str,
+    /// Its options, as its help lists them.
+    pub(crate) options: &'static [OptionWords],
+    /// A group of its options, if they have one.
+    pub(crate) group: Option<GroupWords>,
+}
+
+/// The words of an option.
+#[derive(Clone, Copy)]
+pub(crate) struct OptionWords {
+    /// Its name, which stands behind two hyphens.
+    pub(crate) name: &'static str,
+    pub(crate) value: Value,
+    /// What it is, as the help says.
+    pub(crate) help: &'static str,
+    pub(crate) need: Need,
+    /// The options beside which it is refused.
+    pub(crate) conflicts: &'static [&'static str],
+}
+
+/// What stands behind an option.
+#[derive(Clone, Copy)]
+pub(crate) enum Value {
+    /// Nothing.
+    Nothing,
+    /// A text, which the help calls so.
+    Text(&'static str),
+    /// A number.
+    Number(Number),
+}
+
+/// A number behind an option.
+#[derive(Clone, Copy)]
+pub(crate) struct Number {
+    /// As the help calls it.
+    pub(crate) name: &'static str,
+    pub(crate) least: u32,
+    pub(crate) most: u32,
+    /// What it is where the option isn't there.
+    pub(crate) default: Option<&'static str>,
+}
+
+/// When an option has to be there.
+#[derive(Clone, Copy)]
+pub(crate) enum Need {
+    /// Never.
+    Never,
+    /// Always.
+    Always,
+    /// Where this option isn't.
+    Without(&'static str),
+    /// Never; and it is refused where no option of this group is there.
+    OnlyWith(&'static str),
+}
+
+/// The words of a group of options.
+#[derive(Clone, Copy)]
+pub(crate) struct GroupWords {
+    pub(crate) name: &'static str,
+    /// Whether one of its options has to be there.
+    pub(crate) is_required: bool,
+    pub(crate) options: &'static [&'static str],
+}
