@@ -1,5 +1,5 @@
 # The commands of the README. All need the Rattle kit's command rt on the path.
-.PHONY: help try run day hostile stops years load install uninstall wrong test
+.PHONY: help try run day hostile stops years load install uninstall dist wrong test
 
 PREFIX ?= /usr/local
 
@@ -7,13 +7,14 @@ PREFIX ?= /usr/local
 help:
 	@echo 'make try        answer the stored messages by a program that is built without proofs (two to four minutes)'
 	@echo 'make run        prove what changed (half an hour or more at first), build holddesk, and answer the stored messages'
-	@echo 'make day        after make run: play stored messages through four connections of holddesk serve'
+	@echo 'make day        after make run: play stored messages, and kiosks, through connections of holddesk serve'
 	@echo 'make hostile    after make run: hostile clients beside a terminal that has to be answered'
 	@echo 'make stops      after make run: kill -9 of holddesk serve 50 times and of carry at each write, and nothing is lost'
 	@echo 'make years      after make run: 700 days of a small library, a carry each night, compared with a model'
 	@echo 'make load       after make run: turns a second beside a server that only echoes (four minutes; rustc)'
-	@echo 'make install    after make run: the program and its manual page, below PREFIX ($(PREFIX)) and DESTDIR'
+	@echo 'make install    after make run: program, manual page, docs and systemd units, below PREFIX ($(PREFIX)) and DESTDIR'
 	@echo 'make uninstall  take them away again'
+	@echo 'make dist       after make run: a tar.gz with all of it, for machines without the Rattle kit'
 	@echo 'make wrong      put wrong bodies in, many in a check, and see that the prover refuses each'
 	@echo 'make test       the gate: serving over TCP, all proofs, wrong bodies, tests, stored runs (one to two hours at first)'
 
@@ -31,21 +32,35 @@ run:
 	@python3 scripts/prove.py
 	@cd crates/holddesk && out/holddesk $(STORED)
 
-# Stored messages through four connections of holddesk serve, as make run has built it; the replies are compared.
+# Stored messages through four connections of holddesk serve, as make run has built it, and the kiosks of the documents;
+# the replies are compared.
 day:
 	@python3 scripts/serve_smoke.py
+	@python3 scripts/serve_kiosk.py
 
-# The program, its manual page, and examples of a catalogue file and of a systemd unit.
+# The program, its manual page, the documents, an example of a catalogue file, and the systemd units and the timer, in
+# which PREFIX is filled in. systemd finds those below /usr/local and /usr.
+PROGRAM = crates/holddesk/out/holddesk
+BELOW = $(DESTDIR)$(PREFIX)
+UNITS = holddesk.service holddesk-night.service holddesk-night.timer
 install:
-	@test -x crates/holddesk/out/holddesk || { echo 'make install: say make run first, which builds the program' >&2; exit 1; }
-	install -D -m 755 crates/holddesk/out/holddesk $(DESTDIR)$(PREFIX)/bin/holddesk
-	install -D -m 644 man/holddesk.1 $(DESTDIR)$(PREFIX)/share/man/man1/holddesk.1
-	install -D -m 644 -t $(DESTDIR)$(PREFIX)/share/doc/holddesk examples/holddesk.service examples/holddesk-night.service examples/holddesk-night.timer
-	install -D -m 644 crates/holddesk/data/demonstration.catalogue $(DESTDIR)$(PREFIX)/share/doc/holddesk/demonstration.catalogue
+	@test -x $(PROGRAM) || { echo 'make install: say make run first, which builds the program' >&2; exit 1; }
+	install -D -m 755 $(PROGRAM) $(BELOW)/bin/holddesk
+	install -D -m 644 man/holddesk.1 $(BELOW)/share/man/man1/holddesk.1
+	install -D -m 644 -t $(BELOW)/share/doc/holddesk README.md LICENSE crates/holddesk/data/demonstration.catalogue
+	install -D -m 644 -t $(BELOW)/share/doc/holddesk/docs docs/*.md
+	install -d $(BELOW)/lib/systemd/system
+	@for unit in $(UNITS); do sed 's|@PREFIX@|$(PREFIX)|g' examples/$$unit > $(BELOW)/lib/systemd/system/$$unit && \
+	  chmod 644 $(BELOW)/lib/systemd/system/$$unit && echo "$(BELOW)/lib/systemd/system/$$unit" || exit 1; done
 
 uninstall:
-	rm -f $(DESTDIR)$(PREFIX)/bin/holddesk $(DESTDIR)$(PREFIX)/share/man/man1/holddesk.1
-	rm -rf $(DESTDIR)$(PREFIX)/share/doc/holddesk
+	rm -f $(BELOW)/bin/holddesk $(BELOW)/share/man/man1/holddesk.1
+	rm -f $(addprefix $(BELOW)/lib/systemd/system/,$(UNITS))
+	rm -rf $(BELOW)/share/doc/holddesk
+
+# A package of the program, as make run has built it, for machines without the Rattle kit: dist/holddesk-*.tar.gz.
+dist:
+	@python3 scripts/make_dist.py $(PROGRAM)
 
 # Hostile clients against holddesk serve, as make run has built it, beside a terminal that has to be answered; the gate
 # plays them with a program built without proofs.
@@ -88,19 +103,24 @@ wrong:
 	@python3 scripts/wrong_bodies.py --self-test
 	@python3 scripts/wrong_bodies.py
 
-# The gate: the picture of the crates; commands of the README, stored messages, hostile clients and stops by kill -9,
-# played against a program that is built without proofs for them; a seat of one hall at another, which the types refuse;
-# the wrong bodies that a script tries, many in a check, over libraries that rt ci proves and keeps; then all proofs, the
-# wrong bodies that stand for a promise, the tests and the stored runs. What was proved before and hasn't changed isn't
-# proved again, and what was refused isn't tried again.
+# The gate: the picture of the crates; the documents' examples, stored messages, kiosks, hostile clients and stops by
+# kill -9, played against a program that is built without proofs for them; a seat of one hall at another, which the types
+# refuse; then all proofs, the wrong bodies that stand for a promise, the tests and the stored runs; then the wrong
+# bodies that a script tries, many in a check, over the libraries that rt ci has proved and kept. Its last word is rt
+# ci's once more: nothing is left to prove then, and the tests and the stored runs are played again. What was proved
+# before and hasn't changed isn't proved again, and what was refused isn't tried again.
 test:
 	@python3 scripts/draw_house.py --check
+	@python3 scripts/make_page.py --check
 	@folder=$$(mktemp -d) && trap 'rm -rf "$$folder"' EXIT && program=$$(python3 scripts/unproved.py "$$folder") && \
-	  python3 scripts/readme_commands.py "$$program" && \
-	  python3 scripts/serve_smoke.py "$$program" && python3 scripts/serve_hostile.py "$$program" && \
+	  python3 scripts/examples.py "$$program" && python3 scripts/import_sheets.py "$$program" && \
+	  python3 scripts/serve_smoke.py "$$program" && python3 scripts/serve_kiosk.py "$$program" && \
+	  python3 scripts/serve_hostile.py "$$program" && \
 	  python3 scripts/serve_crash.py --rounds 5 "$$program" && python3 scripts/carry_rows.py "$$program" && \
+	  python3 scripts/file_faults.py "$$program" && python3 scripts/catalogue_faults.py "$$program" && \
 	  python3 scripts/two_years.py --days 8 "$$program"
 	@python3 scripts/foreign_seat_refused.py
+	@rt ci
 	@python3 scripts/wrong_bodies.py --self-test
 	@python3 scripts/wrong_bodies.py
 	@rt ci

@@ -15,7 +15,7 @@ import os
 import subprocess
 import tempfile
 
-from server import CATALOGUE, SECONDS, Server, Trouble, ask, connect, parser_of, reported
+from server import CATALOGUE, SECONDS, Server, Trouble, ask, connect, parser_of, reported, without_progress
 
 DAYS = os.path.splitext(os.path.abspath(__file__))[0] + ".days"
 
@@ -42,6 +42,7 @@ def ran(program, *words):
 def wanted(program, words, status, said):
     """Looks that a command ends with this status and says this on standard error. What it printed."""
     code, printed, told = ran(program, *words)
+    told = without_progress(told)
     if (code, told) != (status, said):
         raise Trouble(f"{' '.join(words)} ends with {code} and says {told!r}, wanted {status} and {said!r}")
     return printed

@@ -16,6 +16,7 @@ import subprocess
 import tempfile
 
 from server import CATALOGUE, SECONDS, Server, Trouble, ask, begun_folder, connect, parser_of, reported
+from server import without_progress
 
 CALLS = "write,writev,pwrite64,fsync,fdatasync,ftruncate,rename,renameat,renameat2,unlink,unlinkat"
 MESSAGES = """9300CNt1|COpw|
@@ -42,7 +43,7 @@ def play_day(program, folder):
 def ended_well(words):
     """Looks that a command ends well."""
     done = subprocess.run(words, capture_output=True, text=True, timeout=SECONDS, check=False)
-    if (done.returncode, done.stderr) != (0, ""):
+    if (done.returncode, without_progress(done.stderr)) != (0, ""):
         raise Trouble(f"{' '.join(words)} ends with {done.returncode} and says {done.stderr!r}")
     return done.stdout
 

@@ -21,8 +21,11 @@ class Function:
         if not lines[first].rstrip().endswith(("}", ";")):
             last = next((at for at in range(first + 1, len(lines)) if lines[at].startswith(indent + "}")), first)
             body = next((at for at in range(first, last) if re.match(indent + r"(\S.*)?\{$", lines[at])), last)
+        above = first  # a check tells of the function at its first attribute
+        while above and lines[above - 1].startswith(indent + "#["):
+            above -= 1
         self.name, self.file = HEAD.match(lines[first])[1], file
-        self.lines, self.head = range(first, last + 1), range(first, body)
+        self.lines, self.head, self.told = range(first, last + 1), range(first, body), range(above, last + 1)
         self.text = "\n".join(lines[first : last + 1])
         owner = owner_of(lines, first, indent)
         self.path = "::".join(it for it in (homes.get(owner, module_of(file)), owner, self.name) if it)
@@ -86,7 +89,7 @@ class Edit:
         is_comment = text.split("\n")[at].lstrip().startswith("//")
         self.is_apart |= not is_comment and (not inside or at in inside[0].head)
         self.functions += [it for it in inside if it.path not in [other.path for other in self.functions]]
-        self.places |= {(file, at), *((file, line) for it in inside for line in it.lines)}
+        self.places |= {(file, at), *((file, line) for it in inside for line in it.told)}
 
     def __str__(self):
         return f"{self.crate}/{self.name}: {self.verdict}: {self.said}"

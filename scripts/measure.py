@@ -45,6 +45,10 @@ def item(c):
     return f"1 17{DAY}AOlib|AB{copy(c)}|\n"
 
 
+def account(p, summary):
+    return f"1 63001{DAY}{summary:10}AOlib|AA{patron(p)}|\n"
+
+
 def library(titles, copies, patrons, is_even=False, is_local=False):
     """A library whose loans are long, many and renewed as often as one likes. Titles may have local priority."""
     return InTurn(titles=titles, copies=copies, patrons=patrons, terminals=1, is_even=is_even,
@@ -125,6 +129,10 @@ def rows(size):
            of(200_000) // 100 * 100)
     million = library(of(1_000_000), of(1_000_000), of(1_000_000))
     yield ("reading a million titles, copies and patrons, and opening the desk", million, None, [], 1)
+    has = [checkout(1, c) for c in range(1, 51)] + [hold(1, t) for t in range(1_001, 1_051)]
+    has += [checkin(c) for c in range(1_001, 1_026)]
+    asked = [account(1, summary) for summary in ("", "Y", " Y", "  Y", "     Y")] * (of(100_000) // 5)
+    yield ("an account (63) with 50 loans and 50 holds, half of them kept, there", million, has, asked, len(asked))
 
 
 def spend(words, given, out):
@@ -142,6 +150,8 @@ def run(pool, program, catalogue, messages, folder):
     with open(given, "w", encoding="ascii") as file:
         file.writelines(messages)
     words = [program, "replay", "--catalogue", catalogue, "--now", DAY]
+    if messages[-1].startswith("1 63"):
+        words.append("--patron-messages")
     status, *cost = pool.apply(spend, (words, given, out))
     if status:
         raise Trouble(f"{' '.join(words)} ended with {status}")

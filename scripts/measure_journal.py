@@ -54,7 +54,7 @@ def print_speeds(program, catalogue, folder, seconds):
 
 def rows_of(path):
     """How many turns a journal's file has."""
-    with contextlib.closing(sqlite3.connect(path)) as connection:
+    with contextlib.closing(sqlite3.connect(f"file:{path}?mode=ro", uri=True)) as connection:
         return connection.execute("SELECT count(*) FROM turn").fetchone()[0]
 
 
@@ -65,11 +65,11 @@ def print_restart(program, catalogue, folder, turns):
         length = ["--turns", str(max(1, (turns - rows) // 13))]  # of 16 connections; four of five turns have a row
         figures_of(program, catalogue, 16, ["--journal", path], length)
         rows = rows_of(path)
-    begun = time.monotonic()
+    start = time.monotonic()
     check = subprocess.Popen([program, "journal", "check", "--catalogue", catalogue, "--journal", path],
                              stdout=subprocess.DEVNULL)
     _, status, used = os.wait4(check.pid, 0)
-    taken = time.monotonic() - begun
+    taken = time.monotonic() - start
     if status:
         raise Trouble(f"journal check ends with {status}")
     print(f"| {rows} turns taken again | {taken:.2f} s |")

@@ -1,9 +1,9 @@
 """The libraries of the repository as they are proved, for scripts that check something over them.
 
-They are those that make run built, where these are of the sources as they stand. Else rt ci proves them: it keeps what
-it proved beside the kit, so that the gate, which is rt ci too, doesn't prove them again. There is no command that hands
-out what it keeps, so this goes through rt's own text, which another kit may have otherwise: where that doesn't work,
-they are built as make run builds them, and the gate then proves them a second time.
+They are those that make run built, where these are of the sources as they stand, or those that rt ci proved and keeps
+beside the kit: the gate runs it first. Where it doesn't keep them, rt ci proves them by name, which it won't do under CI.
+There is no command that hands out what it keeps, so this goes through rt's own text, which another kit may have
+otherwise. Where none of this works, they are built as make run builds them, which proves them once more.
 """
 
 import importlib.machinery
@@ -24,7 +24,7 @@ def libraries_in(room, names, uses):
     copy = copy_of_sources(os.path.join(room, "sources"), uses)
     try:
         found = all_kept(copy, names)
-        if not found:
+        if not found and os.environ.get("CI") != "true":
             print("wrong bodies: rt ci proves the libraries first", file=sys.stderr)
             above = [name for name in names if not any(name in uses[other] for other in names)]
             with open(os.path.join(room, "log"), "w", encoding="utf-8") as log:

@@ -1,6 +1,7 @@
 """A holddesk serve for the scripts that ask it: how one is started, connected to, asked and ended.
 
-No script of its own: serve_smoke.py, serve_hostile.py, serve_crash.py, measure_journal.py and unproved.py import it.
+No script of its own: serve_smoke.py, serve_kiosk.py, serve_hostile.py, serve_crash.py, measure_journal.py and
+unproved.py import it.
 Needs nothing but Python 3.
 """
 
@@ -21,6 +22,12 @@ SECONDS = 120  # the longest wait for anything
 
 class Trouble(Exception):
     """What isn't as it has to be."""
+
+
+def without_progress(told):
+    """What a command says on standard error, but for how many turns it takes again: that is told where it takes ten
+    seconds."""
+    return "".join(line for line in told.splitlines(True) if not line.startswith("taking the journal's turns again: "))
 
 
 def reported(name, play, *given):
@@ -108,21 +115,21 @@ def connect(port, seconds=SECONDS):
     return connection
 
 
-def replies_from(connection, count):
-    """So many replies, each without the carriage return that ends it."""
+def replies_from(connection, count, end=b"\r"):
+    """So many replies, each without what ends it."""
     said = b""
-    while said.count(b"\r") < count:
+    while said.count(end) < count:
         piece = connection.recv(4_096)
         if not piece:
             raise ConnectionError(f"a connection ended after {said!r}, in the place of {count} replies")
         said += piece
-    *replies, rest = said.split(b"\r")
+    *replies, rest = said.split(end)
     if len(replies) > count or rest:
         raise Trouble(f"more is answered than was asked: {said!r}")
     return replies
 
 
-def ask(connection, message):
-    """The reply to a message, both without their carriage returns."""
+def ask(connection, message, end=b"\r"):
+    """The reply to a message, both without what ends them."""
     connection.sendall(message + b"\r")
-    return replies_from(connection, 1)[0]
+    return replies_from(connection, 1, end)[0]

@@ -9,7 +9,7 @@ use Rattle.std.proofs.lemmas.Grind.{flat_map-append}
 use Rattle.std.proofs.lemmas.List.Elements.{All-append, All-cons, All-nil, All-weaker}
 use Rattle.std.specs.Io.KnownBytes.{Appends, Consumes, IsAtEnd}
 use Rattle.hd_date.specs.Stamps.{Stamp}
-use Rattle.hd_rules.specs.Journal.{Turn}
+use Rattle.hd_exchange.specs.Deeds.{Deed}
 use Rattle.hd_catalogue.specs.Contents.{Contents}
 use Rattle.hd_connection.specs.Streams.{IsCutShort, Streams, streams}
 use Rattle.hd_journal.specs.declared.fault.TurnFault.{TurnFault}
@@ -59,11 +59,11 @@ leaves_behind fault.Write first between last same is = tt
 leaves_behind (fault.Ended why) first between last same is = is
 
 module _ (k : Contents) (seat : ℕ) (faults : TurnFault → Type 0) where
-  module _ (now : Stamp) (room : Room) (bytes : List ℕ) (h h' : Hearing) (made : List Turn) (text : List ℕ)
-      (fed : IsFed k seat faults now room h bytes made h' text) where
+  module _ (now : Stamp) (room : Room) (bytes : List ℕ) (h h' : Hearing) (did : List Deed) (text : List ℕ)
+      (fed : IsFed k seat faults now room h bytes did h' text) where
     -- a session that goes on after a piece went on before it
     pub on_after : h'.ended ≡ None → h'.ended ≡ h.ended
-    on_after on = went_on k seat faults now room h.ended h bytes made h' text refl fed on
+    on_after on = went_on k seat faults now room h.ended h bytes did h' text refl fed on
 
     -- one piece is fed, and of its replies that is written which the end says
     pub attends_piece : (to to' : Option (List ℕ)) (end : End) (out out' sent put : List ℕ) → 0 < length bytes
@@ -72,7 +72,7 @@ module _ (k : Contents) (seat : ℕ) (faults : TurnFault → Type 0) where
         → Appends to to' put
         → Leaves end h.ended h'.ended
         → Attends k seat faults (λ present. present ≡ now)
-        (streams (Some bytes) (Some []) to to') made h h' end
+        (streams (Some bytes) (Some []) to to') did h h' end
     attends_piece to to' end out out' sent put some short known empty is same written wrote leaves =
         let all : text ≡ sent = sym (same ∙ (is ∙ ap (λ (o : List ℕ). o ++ text) empty)) in
         let is_read : IsReadPiece (λ present. present ≡ now) (piece_at now bytes) =
@@ -84,7 +84,7 @@ module _ (k : Contents) (seat : ℕ) (faults : TurnFault → Type 0) where
           read = sym (append-nil (bytes ++ []) ∙ append-nil bytes);
           all = nothing_left end;
           replies = text;
-          fed = fed_once k seat faults now room h bytes made h' text fed;
+          fed = fed_once k seat faults now room h bytes did h' text fed;
           known = known;
           put = put;
           written = subst (λ (t : List ℕ). IsWritten end t put) (sym all) written;
@@ -110,14 +110,14 @@ module _ (k : Contents) (seat : ℕ) (faults : TurnFault → Type 0) where
       leaves = refl;
     }
 
-    module _ (from from' from'' to to' : Option (List ℕ)) (made : List Turn) (h h' : Hearing)
-        (far : Attends k seat faults Tells (streams from from' to to') made h h' (Err fault.Read)) where
+    module _ (from from' from'' to to' : Option (List ℕ)) (did : List Deed) (h h' : Hearing)
+        (far : Attends k seat faults Tells (streams from from' to to') did h h' (Err fault.Read)) where
       -- a piece more is read and fed
-      pub attends_more : (bytes : List ℕ) (Now : Stamp → Type 0) (to'' : Option (List ℕ)) (more : List Turn)
+      pub attends_more : (bytes : List ℕ) (Now : Stamp → Type 0) (to'' : Option (List ℕ)) (more : List Deed)
           (last : Hearing) (end : AttendFault)
           → Consumes from' from'' bytes → ((now : Stamp) → Now now → Tells now)
           → Attends k seat faults Now (streams (Some bytes) (Some []) to' to'') more h' last (Err end)
-          → Attends k seat faults Tells (streams from from'' to to'') (made ++ more) h last (Err end)
+          → Attends k seat faults Tells (streams from from'' to to'') (did ++ more) h last (Err end)
       attends_more bytes Now to'' more last end read tells next =
           let whole : bytes ≡ stream next.pieces = next.read ∙ append-nil (stream next.pieces) in
           let two : stream (far.pieces ++ next.pieces) ≡ stream far.pieces ++ stream next.pieces =
@@ -132,7 +132,7 @@ module _ (k : Contents) (seat : ℕ) (faults : TurnFault → Type 0) where
                 (Consumes-trans from from' from'' (stream far.pieces) bytes far.read read);
             all = tt;
             replies = far.replies ++ next.replies;
-            fed = fed_then k seat faults far.pieces next.pieces h h' last made more far.replies next.replies
+            fed = fed_then k seat faults far.pieces next.pieces h h' last did more far.replies next.replies
                 far.fed next.fed;
             known = λ known. next.known (far.known known);
             put = far.put ++ next.put;
@@ -142,20 +142,20 @@ module _ (k : Contents) (seat : ℕ) (faults : TurnFault → Type 0) where
           }
 
   -- a fault is passed on
-  pub attends_passed : (Tells : Stamp → Type 0) (bytes : Streams) (made : List Turn) (h h' : Hearing)
+  pub attends_passed : (Tells : Stamp → Type 0) (bytes : Streams) (did : List Deed) (h h' : Hearing)
       (end : End)
       (fault : AttendFault) → IsErr end → IsErrAnd end (λ what. what ≡ fault)
-      → Attends k seat faults Tells bytes made h h' (Err fault)
-      → Attends k seat faults Tells bytes made h h' end
-  attends_passed Tells bytes made h h' (Ok done) fault err is attends = absurd (false≢true err)
-  attends_passed Tells bytes made h h' (Err what) fault err is attends =
-      subst (λ (f : AttendFault). Attends k seat faults Tells bytes made h h' (Err f)) (sym is) attends
+      → Attends k seat faults Tells bytes did h h' (Err fault)
+      → Attends k seat faults Tells bytes did h h' end
+  attends_passed Tells bytes did h h' (Ok done) fault err is attends = absurd (false≢true err)
+  attends_passed Tells bytes did h h' (Err what) fault err is attends =
+      subst (λ (f : AttendFault). Attends k seat faults Tells bytes did h h' (Err f)) (sym is) attends
 
   -- a piece is answered, and the session goes on: as where a read fails then
-  pub goes_on : (Tells : Stamp → Type 0) (bytes : Streams) (made : List Turn) (h h' : Hearing)
-      → Attends k seat faults Tells bytes made h h' (Ok tt)
-      → Attends k seat faults Tells bytes made h h' (Err fault.Read)
-  goes_on Tells bytes made h h' done = record {
+  pub goes_on : (Tells : Stamp → Type 0) (bytes : Streams) (did : List Deed) (h h' : Hearing)
+      → Attends k seat faults Tells bytes did h h' (Ok tt)
+      → Attends k seat faults Tells bytes did h h' (Err fault.Read)
+  goes_on Tells bytes did h h' done = record {
     pieces = done.pieces;
     are_read = done.are_read;
     read = done.read;

@@ -2,7 +2,7 @@
 use Rattle.std.specs.Prelude.{◌≡◌, ℕ, ◌<◌, ◌≤◌, ⊤, List, All, Option, Some, Result, Err, OnOk, length}
 use Rattle.std.specs.Io.KnownBytes.{Appends, Consumes, IsAtEnd}
 use Rattle.hd_date.specs.Stamps.{Stamp}
-use Rattle.hd_rules.specs.Journal.{Turn}
+use Rattle.hd_exchange.specs.Deeds.{Deed}
 use Rattle.hd_connection.specs.Streams.{IsCutShort, Streams}
 use Rattle.hd_catalogue.specs.Contents.{Contents}
 use Rattle.hd_journal.specs.declared.fault.TurnFault.{TurnFault}
@@ -35,15 +35,15 @@ Leaves end before after = after ≡ before
 
 -- A session is attended to, at a seat of a library whose office can give these faults, by a clock that may
 -- tell these presents: what was read is fed to it in pieces, each at its own present, with no bytes left out;
--- these turns are made, and the replies are written.
+-- this is done, and the replies are written.
 pub record Attends (k : Contents) (seat : ℕ) (faults : TurnFault → Type 0) (Tells : Stamp → Type 0)
-    (bytes : Streams) (made : List Turn) (h h' : Hearing) (end : End) : Type 0 where
+    (bytes : Streams) (did : List Deed) (h h' : Hearing) (end : End) : Type 0 where
   pub pieces : List Piece
   pub are_read : All (IsReadPiece Tells) pieces
   pub read : Consumes bytes.from bytes.from' (stream pieces)
   pub all : OnOk end (IsAtEnd bytes.from')
   pub replies : List ℕ
-  pub fed : AreFedTo k seat faults any_room pieces h made h' replies
+  pub fed : AreFedTo k seat faults any_room pieces h did h' replies
   pub known : StaysKnown k h.state h'.state
   pub put : List ℕ
   pub written : IsWritten end replies put

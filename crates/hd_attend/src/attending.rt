@@ -1,6 +1,6 @@
 //! Attending to a connection.
 ghost use Rattle.std.specs.Prelude.{◌≡◌, ◌<◌, ◌≤◌, [], IfErr, List, Some, length};
-ghost use Rattle.hd_rules.specs.Journal.{Turn};
+ghost use Rattle.hd_exchange.specs.Deeds.{Deed};
 ghost use Rattle.hd_connection.specs.Streams.{streams};
 ghost use Rattle.hd_exchange.specs.Works.{Works};
 ghost use Rattle.hd_session.specs.States.{IsKnownTo};
@@ -34,17 +34,17 @@ pub fn attend<R: Wait, I: Input, W: Output, A: Allocator + Copy, O: Office<A>, S
     from: &mut I,
     to: &mut W,
     office: &mut O,
-    state: &mut Session<A>,
+    state: &mut Session<'_, A>,
     session: usize,
     surroundings: &S,
 ) -> Result<(), AttendFault>
     // The session is logged in as a terminal of the office's catalogue, or as none.
     requires place { IsKnownTo (O.keeps office.old).contents state.old.state }
-    ensures attends { (made : List Turn)
-        × Works O.Office office.old office.new made
+    ensures attends { (did : List Deed)
+        × Works O.Office office.old office.new did
         × Attends (O.keeps office.old).contents (O.keeps office.old).seat O.faults (S.tells surroundings.now)
         (streams (I.remaining from.old) (I.remaining from.new) (W.contents to.old) (W.contents to.new))
-        made state.old state.new result }
+        did state.old state.new result }
     ensures why { IfErr result (HasReason (I.fails from.new) (W.fails to.new)) }
 {
     let mut announced = AnnouncedOffice::new(office, surroundings, session);
@@ -66,18 +66,18 @@ fn answer_piece<W: Output, A: Allocator + Copy, O: Office<A>>(
     piece: &[u8],
     now: &Stamp18,
     office: &mut O,
-    state: &mut Session<A>,
+    state: &mut Session<'_, A>,
     out: &mut Vec<u8, A>,
     to: &mut W,
 ) -> Result<(), AttendFault>
     requires piece { (0 < length piece.now) × (length piece.now ≤ 512) }
     requires place { IsKnownTo (O.keeps office.old).contents state.old.state }
-    ensures attends { (made : List Turn)
-        × Works O.Office office.old office.new made
+    ensures attends { (did : List Deed)
+        × Works O.Office office.old office.new did
         × Attends (O.keeps office.old).contents (O.keeps office.old).seat O.faults
         (λ present. present ≡ now.now)
         (streams (Some piece.now) (Some []) (W.contents to.old) (W.contents to.new))
-        made state.old state.new result }
+        did state.old state.new result }
     ensures why { IfErr result (HasReason ⊥ (W.fails to.new)) }
 {
     out.clear();

@@ -3,7 +3,7 @@
 use crate::commands::{COMMANDS, JOURNAL_COMMANDS};
 use crate::journal_texts::JOURNAL_ABOUT;
 use crate::texts::{ABOUT, VERSION};
-use crate::words::{CommandWords, GroupWords, Need, Number, OptionWords, Value};
+use crate::words::{Choice, CommandWords, GroupWords, Need, Number, OptionWords, Value};
 use clap::builder::ValueParser;
 use clap::{Arg, ArgAction, ArgGroup, Command};
 use std::alloc::{AllocError, Global};
@@ -130,7 +130,17 @@ fn valued<'a>(option: Arg<'a>, value: Value) -> Arg<'a> {
         Value::Nothing => option.action(ArgAction::SetTrue),
         Value::Text(name) => option.value_name(name).action(ArgAction::Set),
         Value::Number(number) => numbered(option, &number),
+        Value::Choice(choice) => chosen(option, &choice),
     }
+}
+
+/// An option with one of some words behind it.
+fn chosen<'a>(option: Arg<'a>, choice: &Choice) -> Arg<'a> {
+    option
+        .value_name(choice.name)
+        .action(ArgAction::Set)
+        .value_parser(ValueParser::Names(choice.words))
+        .default_value(choice.default)
 }
 
 /// An option with a number behind it.
@@ -145,7 +155,10 @@ fn numbered<'a>(option: Arg<'a>, number: &Number) -> Arg<'a> {
 /// An option with a number of these bounds behind it.
 fn bounded<'a>(option: Arg<'a>, number: &Number) -> Arg<'a> {
     let bounds = ValueParser::signed(i64::from(number.least), i64::from(number.most));
-    option.action(ArgAction::Set).value_parser(bounds)
+    option
+        .action(ArgAction::Set)
+        .allow_negative_numbers(number.least < 0)
+        .value_parser(bounds)
 }
 
 /// An option that has to be there then.
@@ -154,7 +167,7 @@ fn needed<'a>(option: Arg<'a>, need: Need) -> Result<Arg<'a>, AllocError> {
         Need::Never => Ok(option),
         Need::Always => Ok(option.required(true)),
         Need::Without(other) => option.required_unless_present(other),
-        Need::OnlyWith(group) => option.requires_arg(group),
+        Need::OnlyWith(other) => option.requires_arg(other),
     }
 }
 

@@ -1,6 +1,12 @@
 //! The program's commands.
 
 use crate::carry_texts::{CARRY, CARRY_ABOUT, CARRY_EXAMPLE};
+use crate::import_options::{
+    COMMANDS_LIMIT, FROM, INSTITUTION, INTO_CATALOGUE, LOAN_DAYS, LOAN_LIMIT, OFFSET, RENEWALS,
+    SEPARATOR, SHEET_OF_BRANCHES, SHEET_OF_COPIES, SHEET_OF_PATRONS, SHEET_OF_TERMINALS,
+    SHEET_OF_TITLES,
+};
+use crate::import_texts::{IMPORT, IMPORT_ABOUT, IMPORT_EXAMPLE};
 use crate::journal_texts::{
     JOURNAL_BEGIN, JOURNAL_BEGIN_ABOUT, JOURNAL_BEGIN_EXAMPLE, JOURNAL_CHECK, JOURNAL_CHECK_ABOUT,
     JOURNAL_CHECK_EXAMPLE, JOURNAL_VIEWS, JOURNAL_VIEWS_ABOUT, JOURNAL_VIEWS_EXAMPLE,
@@ -8,7 +14,8 @@ use crate::journal_texts::{
 use crate::options::{
     ACCEPT_CATALOGUE, ACCEPT_CATALOGUE_OF_KEPT, CATALOGUE_ALWAYS, CATALOGUE_OR_FOLDER, CONNECTIONS,
     COPIES, EXPIRED, FOLDER, IDLE, INTO, JOURNAL, JOURNAL_OR_FOLDER, JSON, LIBRARY, LISTEN, NOW,
-    OPENING, OVERDUE, QUEUE, SHELF, TO, TRANSITS, WARY, WORKERS, WRITE_OFF,
+    OPENING, OVERDUE, PATRON_MESSAGES, PATRONS, PATRONS_OF_KIOSKS, QUEUE, REPLIES_END, SHELF,
+    SORTER_FIELDS, TO, TRANSITS, WARY, WORKERS, WRITE_OFF,
 };
 use crate::show_texts::{JOURNAL_SHOW, JOURNAL_SHOW_ABOUT, JOURNAL_SHOW_EXAMPLE};
 use crate::texts::{
@@ -18,13 +25,13 @@ use crate::texts::{
 use crate::words::{CommandWords, GroupWords};
 
 /// The program's commands, but for `journal`.
-pub(crate) const COMMANDS: [CommandWords; 4] = [
+pub(crate) const COMMANDS: [CommandWords; 5] = [
     CommandWords {
         name: "check",
         about: CHECK_ABOUT,
         long_about: CHECK,
         example: CHECK_EXAMPLE,
-        options: &[CATALOGUE_OR_FOLDER, OPENING, LIBRARY],
+        options: &[CATALOGUE_OR_FOLDER, OPENING, LIBRARY, PATRONS],
         group: None,
     },
     CommandWords {
@@ -32,7 +39,14 @@ pub(crate) const COMMANDS: [CommandWords; 4] = [
         about: REPLAY_ABOUT,
         long_about: REPLAY,
         example: REPLAY_EXAMPLE,
-        options: &[CATALOGUE_ALWAYS, OPENING, NOW],
+        options: &[
+            CATALOGUE_ALWAYS,
+            OPENING,
+            NOW,
+            PATRON_MESSAGES,
+            PATRONS_OF_KIOSKS,
+            SORTER_FIELDS,
+        ],
         group: None,
     },
     CommandWords {
@@ -51,6 +65,10 @@ pub(crate) const COMMANDS: [CommandWords; 4] = [
             JOURNAL,
             WARY,
             ACCEPT_CATALOGUE_OF_KEPT,
+            PATRON_MESSAGES,
+            PATRONS_OF_KIOSKS,
+            SORTER_FIELDS,
+            REPLIES_END,
         ],
         group: Some(KEPT),
     },
@@ -67,6 +85,29 @@ pub(crate) const COMMANDS: [CommandWords; 4] = [
             TO,
             INTO,
             WRITE_OFF,
+        ],
+        group: None,
+    },
+    CommandWords {
+        name: "import",
+        about: IMPORT_ABOUT,
+        long_about: IMPORT,
+        example: IMPORT_EXAMPLE,
+        options: &[
+            SHEET_OF_BRANCHES,
+            SHEET_OF_TERMINALS,
+            SHEET_OF_PATRONS,
+            SHEET_OF_TITLES,
+            SHEET_OF_COPIES,
+            INTO_CATALOGUE,
+            INSTITUTION,
+            OFFSET,
+            COMMANDS_LIMIT,
+            LOAN_LIMIT,
+            LOAN_DAYS,
+            RENEWALS,
+            FROM,
+            SEPARATOR,
         ],
         group: None,
     },

@@ -91,18 +91,19 @@ SELECT number, copy, patron, day, until, act = 'checkin'
 FROM surviving
 WHERE act IN ('checkout', 'checkout or renewal', 'checkout off line', 'renewal', 'checkin');
 
--- The copies on loan. A loan, and a stay at home, begins with a copy's first command, with a return, and with
--- one after a return or after one of another patron; the copy is on loan where the last such command is no
--- return.
+-- The copies on loan. A loan begins with a copy's first command, with the first one after a return, and with
+-- one of another patron than the one before. What came after a copy's last return is of the loan now.
 CREATE TEMP VIEW lent AS
-WITH step AS (
-  SELECT number, copy, patron, day, is_return,
-    is_return OR lag(is_return, 1, 1) OVER earlier OR patron IS NOT lag(patron) OVER earlier AS begins
-  FROM moved
-  WINDOW earlier AS (PARTITION BY copy ORDER BY number)),
-begun AS (SELECT copy, patron, day AS since, is_return, max(number) FROM step WHERE begins GROUP BY copy),
-latest AS (SELECT copy, until, max(number) FROM moved GROUP BY copy)
+WITH step AS MATERIALIZED (SELECT number, copy, patron, day, until, is_return FROM moved),
+kept AS MATERIALIZED (
+  SELECT number, copy, patron, day, until
+  FROM step LEFT JOIN (SELECT copy, max(number) AS back FROM step WHERE is_return GROUP BY copy) USING (copy)
+  WHERE back IS NULL OR number > back),
+begun AS (
+  SELECT number, copy, patron, day, patron IS NOT lag(patron) OVER earlier AS begins
+  FROM kept
+  WINDOW earlier AS (PARTITION BY copy ORDER BY number))
 SELECT copy, patron, since, until
-FROM begun JOIN latest USING (copy)
-WHERE NOT is_return;
+FROM (SELECT copy, patron, day AS since, max(number) FROM begun WHERE begins GROUP BY copy)
+JOIN (SELECT copy, until, max(number) FROM kept GROUP BY copy) USING (copy);
 ";

@@ -4,6 +4,8 @@
 mod building;
 mod carry_texts;
 mod commands;
+mod import_options;
+mod import_texts;
 mod journal_texts;
 mod options;
 mod orders;
@@ -14,7 +16,7 @@ mod words;
 
 pub use crate::journal_texts::VIEWS;
 pub use crate::orders::{
-    Carry, Check, JournalBegin, JournalCheck, JournalShow, JournalViews, LibraryFiles, Listing,
-    Order, Place, Replay, Serve,
+    Carry, Check, Extended, Import, JournalBegin, JournalCheck, JournalShow, JournalViews, Kiosks,
+    LibraryFiles, Listing, Order, Place, Replay, Serve,
 };
 pub use crate::parsing::parse;

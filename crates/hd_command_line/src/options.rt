@@ -1,9 +1,9 @@
 //! The options of the program's commands.
 
-use crate::words::{Need, Number, OptionWords, Value};
+use crate::words::{Choice, Need, Number, OptionWords, Value};
 
 /// An option without words, of which those below name the ones that they have.
-const PLAIN: OptionWords = OptionWords {
+pub(crate) const PLAIN: OptionWords = OptionWords {
     name: "",
     value: Value::Nothing,
     help: "",
@@ -145,6 +145,46 @@ pub(crate) const ACCEPT_CATALOGUE: OptionWords = OptionWords {
 pub(crate) const ACCEPT_CATALOGUE_OF_KEPT: OptionWords = OptionWords {
     need: Need::OnlyWith("kept"),
     ..ACCEPT_CATALOGUE
+};
+
+/// That the patron messages of kiosks are answered.
+pub(crate) const PATRON_MESSAGES: OptionWords = OptionWords {
+    name: "patron-messages",
+    help: "Answer kiosks: a patron's status and account (23, 63), end of session (35), and 01, 37, 65",
+    ..PLAIN
+};
+
+/// The patrons' file.
+pub(crate) const PATRONS: OptionWords = OptionWords {
+    name: "patrons",
+    value: Value::Text("FILE"),
+    help: "The file of patrons' passwords, languages and names, for kiosks and sorters",
+    ..PLAIN
+};
+
+/// The patrons' file, where patron messages are answered.
+pub(crate) const PATRONS_OF_KIOSKS: OptionWords = OptionWords {
+    need: Need::OnlyWith("patron-messages"),
+    ..PATRONS
+};
+
+/// That sorters are told where a copy goes.
+pub(crate) const SORTER_FIELDS: OptionWords = OptionWords {
+    name: "sorter-fields",
+    help: "Tell sorters, in 10 and 18, where a copy goes and for whom (CL, CV, CT, CY, DA)",
+    ..PLAIN
+};
+
+/// What ends a reply.
+pub(crate) const REPLIES_END: OptionWords = OptionWords {
+    name: "replies-end",
+    value: Value::Choice(Choice {
+        name: "END",
+        words: &["cr", "crlf"],
+        default: "cr",
+    }),
+    help: "What ends a reply: a carriage return, or that and a line feed, which some terminals wait for",
+    ..PLAIN
 };
 
 /// The new catalogue file.

@@ -11,6 +11,8 @@ pub enum Order<'a> {
     Serve(Serve<'a>),
     /// To carry a library over to another catalogue.
     Carry(Carry<'a>),
+    /// To make a catalogue file of a spreadsheet's files.
+    Import(Import<'a>),
     /// To begin a journal's file.
     JournalBegin(JournalBegin<'a>),
     /// To check a journal's file.
@@ -41,11 +43,30 @@ pub struct LibraryFiles<'a> {
     pub journal: Option<&'a str>,
 }
 
+/// What of the extensions is switched on. Each is off where nothing is said, and then no byte of a reply
+/// differs from the standard messages'.
+#[derive(Clone, Copy)]
+pub struct Extended<'a> {
+    /// The patron messages of kiosks, where they are answered.
+    pub kiosks: Option<Kiosks<'a>>,
+    /// Whether sorters are told where a copy goes and for whom.
+    pub has_sorter_fields: bool,
+}
+
+/// How the patron messages of kiosks are answered.
+#[derive(Clone, Copy)]
+pub struct Kiosks<'a> {
+    /// The path of the patrons' file, where there is one.
+    pub patrons: Option<&'a str>,
+}
+
 /// What `check` is asked to do.
 #[derive(Clone, Copy)]
 pub struct Check<'a> {
     /// Which library it is.
     pub library: Place<'a>,
+    /// The path of the patrons' file, where that is to be checked too.
+    pub patrons: Option<&'a str>,
 }
 
 /// What `replay` is asked to do.
@@ -55,6 +76,8 @@ pub struct Replay<'a> {
     pub library: LibraryFiles<'a>,
     /// The stamp that is to be the present.
     pub now: &'a str,
+    /// What of the extensions is switched on.
+    pub extended: Extended<'a>,
 }
 
 /// What `serve` is asked to do.
@@ -70,6 +93,10 @@ pub struct Serve<'a> {
     pub connections: u32,
     /// After how many idle seconds a connection is dropped; 0: never.
     pub idle: u32,
+    /// What of the extensions is switched on.
+    pub extended: Extended<'a>,
+    /// Whether a line feed stands behind the carriage return of each reply.
+    pub has_line_feeds: bool,
     /// Whether each turn is synced twice in the journal's file.
     pub is_wary: bool,
     /// Whether a journal that was written with another catalogue is accepted, where each of its turns is
@@ -88,6 +115,39 @@ pub struct Carry<'a> {
     pub into: Option<&'a str>,
     /// The path of the file of copies whose loans are dropped, if there is one.
     pub write_off: Option<&'a str>,
+}
+
+/// What `import` is asked to do.
+#[derive(Clone, Copy)]
+pub struct Import<'a> {
+    /// The paths of the sheets: of branches,
+    pub branches: &'a str,
+    /// of terminals,
+    pub terminals: &'a str,
+    /// of patrons,
+    pub patrons: &'a str,
+    /// of titles,
+    pub titles: &'a str,
+    /// and of copies.
+    pub copies: &'a str,
+    /// The path of the catalogue file that is to be.
+    pub into: &'a str,
+    /// The institution.
+    pub institution: &'a str,
+    /// By how many minutes local time is later than universal time.
+    pub offset: i16,
+    /// The limit of commands.
+    pub commands: u32,
+    /// The loan limit of a patron whose row has none.
+    pub loan_limit: Option<u32>,
+    /// The days of a loan of a title whose row has none.
+    pub loan_days: Option<u32>,
+    /// How often a loan of a title may be renewed whose row has no number.
+    pub renewals: Option<u32>,
+    /// Whether the sheets are in Latin-1, and not in UTF-8.
+    pub is_latin1: bool,
+    /// The byte between two values, where it isn't to be found.
+    pub separator: Option<u8>,
 }
 
 /// What `journal begin` is asked to do.

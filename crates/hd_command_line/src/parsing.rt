@@ -1,9 +1,11 @@
 //! Reading the words of the command line.
+ghost use Rattle.std.specs.Prelude.{◌≡◌, IsFalse, IsTrue, None, Some, codes};
+ghost use Rattle.std.specs.Str.{bytes_eq};
 
 use crate::building::program;
 use crate::orders::{
-    Carry, Check, JournalBegin, JournalCheck, JournalShow, JournalViews, LibraryFiles, Listing,
-    Order, Place, Replay, Serve,
+    Carry, Check, Extended, Import, JournalBegin, JournalCheck, JournalShow, JournalViews, Kiosks,
+    LibraryFiles, Listing, Order, Place, Replay, Serve,
 };
 use clap::{ArgMatches, Error};
 use std::alloc::Global;
@@ -22,6 +24,9 @@ fn order_of<'a>(matches: &ArgMatches<'a>) -> Order<'a> {
     if let Some(found) = matches.subcommand_matches("carry") {
         return Order::Carry(carry_of(found));
     }
+    if let Some(found) = matches.subcommand_matches("import") {
+        return Order::Import(import_of(found));
+    }
     if let Some(found) = matches.subcommand_matches("journal") {
         return journal_order_of(found);
     }
@@ -31,6 +36,7 @@ fn order_of<'a>(matches: &ArgMatches<'a>) -> Order<'a> {
     match matches.subcommand_matches("check") {
         Some(found) => Order::Check(Check {
             library: place_of(found),
+            patrons: found.get_str("patrons"),
         }),
         None => Order::Replay(replay_of(matches.subcommand_matches("replay"))),
     }
@@ -73,6 +79,7 @@ fn replay_of<'a>(found: Option<&ArgMatches<'a>>) -> Replay<'a> {
         Some(found) => Replay {
             library: files_of(found),
             now: found.get_str("now").unwrap_or(""),
+            extended: extended_of(found),
         },
         None => Replay {
             library: LibraryFiles {
@@ -81,7 +88,32 @@ fn replay_of<'a>(found: Option<&ArgMatches<'a>>) -> Replay<'a> {
                 journal: None,
             },
             now: "",
+            extended: Extended {
+                kiosks: None,
+                has_sorter_fields: false,
+            },
         },
+    }
+}
+
+/// What of the extensions is switched on by what was found.
+fn extended_of<'a>(found: &ArgMatches<'a>) -> Extended<'a> {
+    Extended {
+        kiosks: kiosks_of(found.get_flag("patron-messages"), found.get_str("patrons")),
+        has_sorter_fields: found.get_flag("sorter-fields"),
+    }
+}
+
+/// How the patron messages of kiosks are answered, where they are, with this patrons' file. A file alone
+/// switches nothing on.
+fn kiosks_of(are_answered: bool, patrons: Option<&str>) -> Option<Kiosks<'_>>
+    ensures on { IsTrue are_answered → result ≡ Some (record { patrons = patrons.entry }) }
+    ensures off { IsFalse are_answered → result ≡ None }
+{
+    if are_answered {
+        Some(Kiosks { patrons })
+    } else {
+        None
     }
 }
 
@@ -100,9 +132,18 @@ fn serve_of<'a>(found: &ArgMatches<'a>) -> Serve<'a> {
         workers: found.get_one::<u32>("workers").unwrap_or(1),
         connections: found.get_one::<u32>("connections").unwrap_or(0),
         idle: found.get_one::<u32>("idle").unwrap_or(600),
+        extended: extended_of(found),
+        has_line_feeds: has_line_feeds(found.get_str("replies-end").unwrap_or("cr")),
         is_wary: found.get_flag("journal-wary"),
         is_other_accepted: found.get_flag("accept-catalogue"),
     }
+}
+
+/// Whether a reply that ends so has a line feed behind its carriage return.
+fn has_line_feeds(end: &str) -> bool
+    ensures { result ≡ bytes_eq end.now (codes "crlf") }
+{
+    end == "crlf"
 }
 
 /// What `carry` is asked to do by what was found.
@@ -112,6 +153,36 @@ fn carry_of<'a>(found: &ArgMatches<'a>) -> Carry<'a> {
         to: found.get_str("to").unwrap_or(""),
         into: found.get_str("into"),
         write_off: found.get_str("write-off"),
+    }
+}
+
+/// What `import` is asked to do by what was found.
+fn import_of<'a>(found: &ArgMatches<'a>) -> Import<'a> {
+    Import {
+        branches: found.get_str("branches").unwrap_or(""),
+        terminals: found.get_str("terminals").unwrap_or(""),
+        patrons: found.get_str("patrons").unwrap_or(""),
+        titles: found.get_str("titles").unwrap_or(""),
+        copies: found.get_str("copies").unwrap_or(""),
+        into: found.get_str("into").unwrap_or(""),
+        institution: found.get_str("institution").unwrap_or(""),
+        offset: found.get_one::<i16>("offset").unwrap_or(0),
+        commands: found.get_one::<u32>("commands").unwrap_or(1_000_000),
+        loan_limit: found.get_one::<u32>("loan-limit"),
+        loan_days: found.get_one::<u32>("loan-days"),
+        renewals: found.get_one::<u32>("renewals"),
+        is_latin1: found.get_str("from") == Some("latin1"),
+        separator: separator_of(found.get_str("separator").unwrap_or("found")),
+    }
+}
+
+/// The separator of this name, where it isn't to be found.
+fn separator_of(name: &str) -> Option<u8> {
+    match name {
+        "comma" => Some(b','),
+        "semicolon" => Some(b';'),
+        "tab" => Some(b'\t'),
+        _ => None,
     }
 }
 

@@ -8,14 +8,23 @@ pub(crate) const ABOUT: &str =
 pub(crate) const VERSION: &str = "0.1.0";
 
 /// What `check` does, in a line.
-pub(crate) const CHECK_ABOUT: &str = "Tells what a catalogue file says, or its first fault";
+pub(crate) const CHECK_ABOUT: &str = "Tells what a catalogue file says, or its faults";
 
 /// What `check` does.
-pub(crate) const CHECK: &str = "Tells what a catalogue file says, or its first fault
+pub(crate) const CHECK: &str = "Tells what a catalogue file says, or its faults
 
 The file is read as `serve` and `replay` read it. What it says is told in ten lines: its version, the
 institution, the offset of local time, how many commands the desk may take in all, and how many branches,
-terminals, patrons, titles, titles with local priority and copies there are.";
+terminals, patrons, titles, titles with local priority and copies there are. With --opening what the journal
+begins with is told too.
+
+Where it is refused, up to 20 faults are told at once on standard error, each with its line, its cause, which
+value it is and what is wrong with it; the last line is the first of them, as `serve` tells it. Of a file that
+is accepted standard error has what is odd about it: values in quotes, with blanks around them or not UTF-8,
+no branches or terminals, and that others may read it.
+
+With --patrons the patrons' file is read over the catalogue, and it is told of how many patrons it has a
+password, a language and a name. No text of it is ever told, also where it is refused.";
 
 /// An example of `check`, and its exit statuses.
 pub(crate) const CHECK_EXAMPLE: &str = "Example:
@@ -33,7 +42,7 @@ pub(crate) const CHECK_EXAMPLE: &str = "Example:
   copies: 5
 
 Exit status: 0 well; 1 a fault, printed as one line (`catalogue line N: CAUSE`, `cannot read the catalogue`,
-`cannot write`, `no memory`); 2 the command line was refused.";
+the same of `opening` and `patrons`, `cannot write`, `no memory`); 2 the command line was refused.";
 
 /// What `replay` does, in a line.
 pub(crate) const REPLAY_ABOUT: &str = "Answers messages from standard input as the server would";
@@ -49,7 +58,14 @@ A session logs in first, by a message 93 with a terminal's name (CN) and passwor
 may log in again as another. Then it may check out (11), check in (09), renew (29), add, delete and change
 holds (15), and ask for an item (17); status (99) and resend (97) need no login. A message with BIY| cancels
 what this terminal did: 09 a checkout, 11 a checkin, 15 with - an added hold and with + a deleted one, 29 a
-renewal, and 15 with * a change.";
+renewal, and 15 with * a change.
+
+Kiosks and sorters ask for more, and get it where it is switched on; without these options not a byte of a
+reply differs. With --patron-messages a session may also ask for a patron's status (23) and account (63), end
+the patron's session (35), and send 01, 37 and 65, which block no card, take no fee and renew nothing. Without
+it these are answered 96. With --patrons the passwords (AD) that come with 23 and 63 are compared with those
+of a file, which has a first line `H|patrons|1` and then lines `P|patron|password|language|name`. With
+--sorter-fields the replies to checkins and to questions about copies say for whom a copy is.";
 
 /// An example of `replay`, and its exit statuses.
 pub(crate) const REPLAY_EXAMPLE: &str = "Example: a hold, and its cancellation
@@ -64,8 +80,8 @@ pub(crate) const REPLAY_EXAMPLE: &str = "Example: a hold, and its cancellation
   1 161N20260301    100000AOlib|AAp1|AJta|AFCANCELLED 1|
 
 Exit status: 0 well; 1 a fault, printed as one line (`catalogue line N: CAUSE`, `cannot read the catalogue`,
-`bad --now`, `input line N: no session`, `input too long`, `cannot read`, `cannot write`, `no memory`); 2
-the command line was refused.";
+`patrons line N: CAUSE`, `cannot read the patrons`, `bad --now`, `input line N: no session`, `input too long`,
+`cannot read`, `cannot write`, `no memory`); 2 the command line was refused.";
 
 /// What `serve` does, in a line.
 pub(crate) const SERVE_ABOUT: &str = "Serves terminals that connect over TCP";
@@ -81,7 +97,12 @@ asked for. The desk is kept in memory, and a stop loses it: the next start begin
 --journal each turn that changes something is written to that file before it is answered, and the next start
 goes on where the last one stopped. `holddesk journal begin` makes such a file: one that isn't there is a
 fault here. `holddesk journal --help` says what else there is for it. With --library the catalogue and the
-journal are those of a folder, which `holddesk journal begin --library` makes.";
+journal are those of a folder, which `holddesk journal begin --library` makes.
+
+Self-check kiosks and lockers read a patron's card first, and want --patron-messages; those that ask for a
+password, or greet by name, want --patrons as well. Sorters that choose a bin for holds and transits want
+--sorter-fields. Terminals that show each reply one message late wait for a line feed, and want --replies-end
+crlf. All four are off where nothing is said.";
 
 /// An example of `serve`, and its exit statuses.
 pub(crate) const SERVE_EXAMPLE: &str =
@@ -96,5 +117,5 @@ pub(crate) const SERVE_EXAMPLE: &str =
   closed: 1 turns, 0 survivors
 
 Exit status: 0 well; 1 a fault, printed as one line (`catalogue line N: CAUSE`, `cannot read the catalogue`,
-`cannot listen`, `cannot write`, `not closed`, `no memory`, and those of a journal's file, which
-docs/operating.md has with what to do); 2 the command line was refused.";
+the same of `opening` and `patrons`, `cannot listen`, `cannot write`, `not closed`, `no memory`, and those of
+a journal's file, which docs/operating.md has with what to do); 2 the command line was refused.";

@@ -38,6 +38,8 @@ pub(crate) enum Value {
     Text(&'static str),
     /// A number.
     Number(Number),
+    /// One of some words.
+    Choice(Choice),
 }
 
 /// A number behind an option.
@@ -45,10 +47,20 @@ pub(crate) enum Value {
 pub(crate) struct Number {
     /// As the help calls it.
     pub(crate) name: &'static str,
-    pub(crate) least: u32,
+    pub(crate) least: i32,
     pub(crate) most: u32,
     /// What it is where the option isn't there.
     pub(crate) default: Option<&'static str>,
+}
+
+/// One of some words behind an option.
+#[derive(Clone, Copy)]
+pub(crate) struct Choice {
+    /// As the help calls it.
+    pub(crate) name: &'static str,
+    pub(crate) words: &'static [&'static str],
+    /// Which it is where the option isn't there.
+    pub(crate) default: &'static str,
 }
 
 /// When an option has to be there.
@@ -60,7 +72,7 @@ pub(crate) enum Need {
     Always,
     /// Where this option isn't.
     Without(&'static str),
-    /// Never; and it is refused where no option of this group is there.
+    /// Never; and it is refused where this option isn't there, or no option of this group.
     OnlyWith(&'static str),
 }
 

@@ -1,4 +1,10 @@
 pub mod Answering
 pub mod OneReading
 pub mod OneReply
+pub mod OneSortedReply
+pub mod OnePatronReply
 pub mod OneAnswer
+pub mod Listing
+pub mod Looking
+pub mod Standard
+pub mod ShortTexts

@@ -1,14 +1,25 @@
 -- A body is read in one way.
 use Rattle.std.proofs.Common.{◌≡◌, ◌⊎◌, inl, inr, ℕ, Bool, true, false, List, Option, Some, None, Result, Ok, Err}
 use Rattle.std.proofs.Common.{MatchBool, codes, if◌then◌else◌, take, drop, arith, refl, sym, ap, ◌∙◌, subst}
+use Rattle.std.specs.Prelude.{⊤}
 use Rattle.std.proofs.lemmas.Option.{same_Some}
 use Rattle.std.specs.Option.{option_copied}
 use Rattle.std.specs.Str.{bytes_eq}
 use Rattle.hd_message.specs.Hold.{AreWishes, AreWishesOf, has_wishes}
+use Rattle.hd_message.specs.PatronReading.{HasNoPatronCode, IsPatronMessage, IsReading, IsUnreadablePatron, StatesPatron}
+use Rattle.hd_message.specs.PatronTable.{patron_code, patron_fields, patron_fixed}
 use Rattle.hd_message.specs.Reading.{IsMessage, IsRequest, IsUnreadable, IsUnreadableMessage, StatesRequest}
 use Rattle.hd_message.specs.Table.{code_of, fields_part, fixed_part, fixed_width}
 use Rattle.hd_message.specs.declared.kind.DeskKind.{DeskKind}
 use Rattle.hd_message.specs.declared.kind.DeskKind.TheVariants as Desks
+use Rattle.hd_message.specs.declared.patron_kind.PatronKind.{PatronKind}
+use Rattle.hd_message.specs.declared.patron_kind.PatronKind.TheVariants as Patrons
+use Rattle.hd_message.specs.declared.patron_reading.Reading.{Reading}
+use Rattle.hd_message.specs.declared.patron_reading.Reading.TheVariants as Read
+use Rattle.hd_message.specs.declared.patron_request.PatronRequest.{PatronRequest}
+use Rattle.hd_message.specs.declared.patron_request.PatronRequest.TheVariants as Of
+use Rattle.hd_message.specs.declared.patron_request.UnreadablePatron.{UnreadablePatron}
+use Rattle.hd_message.specs.declared.profile.Profile.{Profile}
 use Rattle.hd_message.specs.declared.request.Mode.{Mode}
 use Rattle.hd_message.specs.declared.request.Request.{Request}
 use Rattle.hd_message.specs.declared.request.Request.TheVariants.{Login, Status, Checkout, Checkin, Hold, Renew, Item, Resend, Unsupported}
@@ -20,6 +31,7 @@ use Rattle.hd_catalogue.specs.Contents.{Contents}
 use Rattle.hd_exchange.specs.HoldAsks.{expiry_text, pickup_name, wanted_copies}
 use Rattle.hd_exchange.specs.Messages.{IsReadAs, Stated, checkin_states, checkout_states, hold_states, item_states}
 use Rattle.hd_exchange.specs.Messages.{login_made, renew_states, unreadable_states}
+use Rattle.hd_exchange.specs.PatronMessages.{PatronStated, patron_states, request_states, unread_states}
 use Rattle.hd_exchange.specs.declared.login.Login.{Login as LoggedIn}
 
 -- codes as numbers, and the width of a code's fixed part
@@ -72,13 +84,15 @@ numbered code fixed part (Item request) h = ap number h.0
 numbered code fixed part Resend h = ap number h
 numbered code fixed part Unsupported h = absurd h
 
--- what a message comes to: whom a login takes, that it asks nothing, or what is stated to the desk
+-- what a message comes to: whom a login takes, that it asks nothing, what is stated to the desk, or what a
+-- patron message states
 pub data Gist : Type 0 where
   Taken : (made : Option LoggedIn) → Gist
   Reported : Gist
   Repeats : Gist
   Unknown : Gist
   Asks : (stated : Stated) → Gist
+  Tells : (stated : PatronStated) → Gist
 
 -- the wishes of a hold message are looked at so
 abbrev SameWishes : Option Wishes → Option Wishes → Type 0
@@ -147,7 +161,114 @@ coded body Desks.Item m p = p.code
 coded_so : (body : List ℕ) (m : UnreadableMessage) → IsUnreadableMessage body m → take 2 body ≡ desk_code m.kind
 coded_so body m p = coded body m.kind m p
 
+-- the kinds of patron messages as numbers, and those of their codes
+kind_number : PatronKind → ℕ
+kind_number Patrons.Status = 0
+kind_number Patrons.Information = 1
+kind_number Patrons.EndSession = 2
+kind_number Patrons.Block = 3
+kind_number Patrons.FeePaid = 4
+kind_number Patrons.RenewAll = 5
+
+kind_coded : List ℕ → PatronKind
+kind_coded code =
+    if bytes_eq code (codes "23") then Patrons.Status
+    else if bytes_eq code (codes "63") then Patrons.Information
+    else if bytes_eq code (codes "35") then Patrons.EndSession
+    else if bytes_eq code (codes "01") then Patrons.Block
+    else if bytes_eq code (codes "37") then Patrons.FeePaid
+    else Patrons.RenewAll
+
+kind_decoded : (kind : PatronKind) → kind_coded (patron_code kind) ≡ kind
+unfolding kind_coded
+kind_decoded Patrons.Status = refl
+kind_decoded Patrons.Information = refl
+kind_decoded Patrons.EndSession = refl
+kind_decoded Patrons.Block = refl
+kind_decoded Patrons.FeePaid = refl
+kind_decoded Patrons.RenewAll = refl
+
+one_patron_kind : (a b : PatronKind) → patron_code a ≡ patron_code b → a ≡ b
+one_patron_kind a b same = sym (kind_decoded a) ∙ ap kind_coded same ∙ kind_decoded b
+
+-- the number of a patron message's kind
+abbrev patron_number_of : PatronRequest → ℕ
+patron_number_of (Of.Status request) = 0
+patron_number_of (Of.Information request) = 1
+patron_number_of (Of.EndSession request) = 2
+patron_number_of (Of.Block request) = 3
+patron_number_of (Of.FeePaid request) = 4
+patron_number_of (Of.RenewAll request) = 5
+
+patron_numbered : (kind : PatronKind) (fixed part : List ℕ) (request : PatronRequest) → StatesPatron kind fixed part request
+    → kind_number kind ≡ patron_number_of request
+unfolding kind_number
+patron_numbered kind fixed part (Of.Status request) h = ap kind_number h.0
+patron_numbered kind fixed part (Of.Information request) h = ap kind_number h.0
+patron_numbered kind fixed part (Of.EndSession request) h = ap kind_number h.0
+patron_numbered kind fixed part (Of.Block request) h = ap kind_number h.0
+patron_numbered kind fixed part (Of.FeePaid request) h = ap kind_number h.0
+patron_numbered kind fixed part (Of.RenewAll request) h = ap kind_number h.0
+
 module _ (k : Contents) where
+  -- two patron messages that one text states
+  one_patron_stated : (kind : PatronKind) (fixed part : List ℕ) (a b : PatronRequest) → patron_number_of a ≡ patron_number_of b
+      → StatesPatron kind fixed part a → StatesPatron kind fixed part b → request_states k a ≡ request_states k b
+  one_patron_stated kind fixed part (Of.Status a) (Of.Status b) same (at, p) (there, q) =
+      let language : a.language.now ≡ b.language.now = p.language ∙ sym q.language in
+      let date : a.date.now ≡ b.date.now = p.date ∙ sym q.date in
+      let patron : a.patron.now ≡ b.patron.now = same_Some _ _ (sym p.patron ∙ q.patron) in
+      let password : option_copied a.password ≡ option_copied b.password = p.password ∙ sym q.password in
+      rw (language, date, patron, password) refl
+  one_patron_stated kind fixed part (Of.Information a) (Of.Information b) same (at, p) (there, q) =
+      let language : a.language.now ≡ b.language.now = p.language ∙ sym q.language in
+      let date : a.date.now ≡ b.date.now = p.date ∙ sym q.date in
+      let summary : a.summary ≡ b.summary = p.summary ∙ sym q.summary in
+      let patron : a.patron.now ≡ b.patron.now = same_Some _ _ (sym p.patron ∙ q.patron) in
+      let password : option_copied a.password ≡ option_copied b.password = p.password ∙ sym q.password in
+      let first : option_copied a.first ≡ option_copied b.first = p.first ∙ sym q.first in
+      let last : option_copied a.last ≡ option_copied b.last = p.last ∙ sym q.last in
+      rw (language, date, summary, patron, password, first, last) refl
+  one_patron_stated kind fixed part (Of.EndSession a) (Of.EndSession b) same (at, p) (there, q) =
+      let date : a.date.now ≡ b.date.now = p.date ∙ sym q.date in
+      let patron : a.patron.now ≡ b.patron.now = same_Some _ _ (sym p.patron ∙ q.patron) in
+      rw (date, patron) refl
+  one_patron_stated kind fixed part (Of.Block a) (Of.Block b) same (at, p) (there, q) =
+      let date : a.date.now ≡ b.date.now = p.date ∙ sym q.date in
+      let patron : a.patron.now ≡ b.patron.now = same_Some _ _ (sym p.patron ∙ q.patron) in
+      rw (date, patron) refl
+  one_patron_stated kind fixed part (Of.FeePaid a) (Of.FeePaid b) same (at, p) (there, q) =
+      let date : a.date.now ≡ b.date.now = p.date ∙ sym q.date in
+      let patron : a.patron.now ≡ b.patron.now = same_Some _ _ (sym p.patron ∙ q.patron) in
+      rw (date, patron) refl
+  one_patron_stated kind fixed part (Of.RenewAll a) (Of.RenewAll b) same (at, p) (there, q) =
+      let date : a.date.now ≡ b.date.now = p.date ∙ sym q.date in
+      let patron : a.patron.now ≡ b.patron.now = same_Some _ _ (sym p.patron ∙ q.patron) in
+      rw (date, patron) refl
+  one_patron_stated kind fixed part _ _ same p q = absurd (omega (arith, same))
+
+  one_patron : (body : List ℕ) (a b : PatronRequest) → IsPatronMessage body a → IsPatronMessage body b
+      → request_states k a ≡ request_states k b
+  one_patron body a b p q =
+      let kind : p.kind ≡ q.kind = one_patron_kind p.kind q.kind (sym p.code ∙ q.code) in
+      let states : StatesPatron p.kind (patron_fixed p.kind body) (patron_fields p.kind body) b =
+      subst (λ (d : PatronKind). StatesPatron d (patron_fixed d body) (patron_fields d body) b) (sym kind) q.states in
+      let here = patron_numbered p.kind (patron_fixed p.kind body) (patron_fields p.kind body) a p.states in
+      let there = patron_numbered p.kind (patron_fixed p.kind body) (patron_fields p.kind body) b states in
+      one_patron_stated p.kind (patron_fixed p.kind body) (patron_fields p.kind body) a b (sym here ∙ there) p.states states
+
+  -- two that can't be read
+  one_unread_patron : (body : List ℕ) (a b : UnreadablePatron) → IsUnreadablePatron body a → IsUnreadablePatron body b
+      → unread_states a ≡ unread_states b
+  one_unread_patron body a b p q =
+      let kind : a.kind ≡ b.kind = one_patron_kind a.kind b.kind (sym p.code ∙ q.code) in
+      let there : IsUnreadablePatron body (record b { kind = a.kind }) =
+      subst (λ (d : PatronKind). IsUnreadablePatron body (record b { kind = d })) (sym kind) q in
+      let language : option_copied a.language ≡ option_copied b.language = p.language ∙ sym there.language in
+      let date : option_copied a.date ≡ option_copied b.date = p.date ∙ sym there.date in
+      let patron : option_copied a.patron ≡ option_copied b.patron = p.patron ∙ sym there.patron in
+      rw (kind, language, date, patron) refl
+
   abbrev pub gist : Request → Gist
   gist (Login r) = Taken (login_made k r)
   gist Status = Reported
@@ -269,11 +390,56 @@ module _ (k : Contents) where
       let title : option_copied a.title ≡ option_copied b.title = p.title ∙ sym there.title in
       rw (kind, date, patron, copy, title) refl
 
+  -- what a reading comes to
+  abbrev pub gist_of : Reading → Gist
+  gist_of (Read.Standard read) = gist_read read
+  gist_of (Read.Patron read) = Tells (patron_states k read)
+
+  -- a standard reading reads a body
+  pub read_as : (profile : Profile) (body : List ℕ) (read : Result Request Unreadable) → IsReading profile body (Read.Standard read)
+      → IsReadAs body read
+  read_as profile body (Ok request) is = is.1
+  read_as profile body (Err unreadable) is = is.2
+
+  -- a body that is read as a patron message has a code of one
+  record HasCode (body : List ℕ) : Type 0 where
+    kind : PatronKind
+    code : take 2 body ≡ patron_code kind
+
+  coded_patron : (profile : Profile) (body : List ℕ) (read : Result PatronRequest UnreadablePatron)
+      → IsReading profile body (Read.Patron read) → HasCode body
+  coded_patron profile body (Ok request) is = record { kind = is.1.kind; code = is.1.code }
+  coded_patron profile body (Err message) is = record { kind = message.kind; code = is.2.code }
+
+  apart : (profile : Profile) (body : List ℕ) (a : Result Request Unreadable) (b : Result PatronRequest UnreadablePatron)
+      → IsReading profile body (Read.Standard a) → IsReading profile body (Read.Patron b) → ⊥
+  apart profile body a b p q =
+      let has = coded_patron profile body b q in
+      let none : HasNoPatronCode body = subst (λ (on : Bool). MatchBool on (HasNoPatronCode body) ⊤) q.0 p.0 in
+      none has.kind has.code
+
   module _ (readable : (body : List ℕ) (request : Request) (message : Unreadable) → IsRequest body request → IsUnreadable body message → ⊥)
+      (readable_patron : (body : List ℕ) (request : PatronRequest) (message : UnreadablePatron) → IsPatronMessage body request
+      → IsUnreadablePatron body message → ⊥)
     where
       -- two readings of one body come to the same
-      pub one_reading : (body : List ℕ) (a b : Result Request Unreadable) → IsReadAs body a → IsReadAs body b → gist_read a ≡ gist_read b
-      one_reading body (Ok a) (Ok b) p q = one_of_kind body a b (of_kind body a p) (of_kind body b q)
-      one_reading body (Ok a) (Err b) p q = absurd (readable body a b p q)
-      one_reading body (Err a) (Ok b) p q = absurd (readable body b a q p)
-      one_reading body (Err a) (Err b) p q = one_unread body a b p q
+      one_standard : (body : List ℕ) (a b : Result Request Unreadable) → IsReadAs body a → IsReadAs body b → gist_read a ≡ gist_read b
+      one_standard body (Ok a) (Ok b) p q = one_of_kind body a b (of_kind body a p) (of_kind body b q)
+      one_standard body (Ok a) (Err b) p q = absurd (readable body a b p q)
+      one_standard body (Err a) (Ok b) p q = absurd (readable body b a q p)
+      one_standard body (Err a) (Err b) p q = one_unread body a b p q
+
+      one_told : (profile : Profile) (body : List ℕ) (a b : Result PatronRequest UnreadablePatron)
+          → IsReading profile body (Read.Patron a) → IsReading profile body (Read.Patron b) → patron_states k a ≡ patron_states k b
+      one_told profile body (Ok a) (Ok b) p q = one_patron body a b p.1 q.1
+      one_told profile body (Ok a) (Err b) p q = absurd (readable_patron body a b p.1 q.2)
+      one_told profile body (Err a) (Ok b) p q = absurd (readable_patron body b a q.1 p.2)
+      one_told profile body (Err a) (Err b) p q = one_unread_patron body a b p.2 q.2
+
+      pub one_reading : (profile : Profile) (body : List ℕ) (a b : Reading) → IsReading profile body a → IsReading profile body b
+          → gist_of a ≡ gist_of b
+      one_reading profile body (Read.Standard a) (Read.Standard b) p q =
+          one_standard body a b (read_as profile body a p) (read_as profile body b q)
+      one_reading profile body (Read.Standard a) (Read.Patron b) p q = absurd (apart profile body a b p q)
+      one_reading profile body (Read.Patron a) (Read.Standard b) p q = absurd (apart profile body b a q p)
+      one_reading profile body (Read.Patron a) (Read.Patron b) p q = ap Tells (one_told profile body a b p q)

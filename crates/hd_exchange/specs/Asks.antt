@@ -21,7 +21,7 @@ use Rattle.hd_exchange.specs.Names.{title_asked}
 use Rattle.hd_exchange.specs.declared.dates.Dates.{Dates}
 
 -- what is needed, or the refusal where it is missing
-abbrev pub need : {A : Type 0} → Option A → Refusal → (A → Result Asked Refusal) → Result Asked Refusal
+abbrev pub need : {A B : Type 0} → Option A → Refusal → (A → Result B Refusal) → Result B Refusal
 need None refusal go_on = Err refusal
 need (Some a) refusal go_on = go_on a
 

@@ -3,8 +3,11 @@ pub mod Dates
 pub mod Names
 pub mod Asks
 pub mod HoldAsks
--- what a message comes with, and the message that a body is:
+pub mod PatronAsks
+-- what extends the standard messages, what a message comes with, and the message that a body is:
+pub mod Extensions
 pub mod Arrivals
+pub mod PatronMessages
 pub mod Messages
 -- the replies:
 pub mod LoanReplies
@@ -12,9 +15,18 @@ pub mod CheckinReplies
 pub mod HoldReplies
 pub mod ItemReplies
 pub mod Replies
+-- what an office does for a message, and the replies with what it tells beyond the standard messages:
+pub mod Deeds
+pub mod Sorting
+pub mod ToldPatrons
+pub mod PatronStatus
+pub mod PatronInformation
+pub mod Seeing
+pub mod Cards
+pub mod PatronReplies
 -- and all together, what a body is answered: `IsAnswer`, which may be read first.
 pub mod Answers
--- And what a call leaves of an office and of an out,
+-- Where nothing extends the standard messages it is what it was before there were extensions.
+pub mod StandardAnswers
+-- And what a call leaves of an office and of an out.
 pub mod Works
--- and what turns are asked, for the law that this is one answer.
-pub mod Turns

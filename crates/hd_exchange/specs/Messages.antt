@@ -1,12 +1,15 @@
 -- What a body is read as: a message asks nothing of the desk (a login, a status message, a resend, or one
--- that isn't supported), or is one ask of it.
+-- that isn't supported), or is one ask of it, or is a patron message.
 use Rattle.std.specs.Prelude.{◌≡◌, ℕ, ◌+◌, ◌≤◌, ⊤, List, Option, None, Some, Result, Ok, Err, IfOk}
 use Rattle.std.specs.Prelude.{if◌then◌else◌}
 use Rattle.std.specs.Option.{ForSome, option_copied, option_map}
 use Rattle.hd_message.specs.Lengths.{bytes_of}
+use Rattle.hd_message.specs.PatronReading.{IsReading}
 use Rattle.hd_message.specs.Reading.{IsRequest, IsUnreadable}
 use Rattle.hd_message.specs.declared.kind.DeskKind.{DeskKind}
 use Rattle.hd_message.specs.declared.kind.DeskKind.TheVariants as kind
+use Rattle.hd_message.specs.declared.patron_reading.Reading.{Reading}
+use Rattle.hd_message.specs.declared.patron_reading.Reading.TheVariants.{Standard, Patron}
 use Rattle.hd_message.specs.declared.request.LoginRequest.{LoginRequest}
 use Rattle.hd_message.specs.declared.request.CheckoutRequest.{CheckoutRequest}
 use Rattle.hd_message.specs.declared.request.CheckinRequest.{CheckinRequest}
@@ -23,13 +26,15 @@ use Rattle.hd_rules.specs.Facts.{Facts}
 use Rattle.hd_rules.specs.declared.replies.Refusal.{Refusal}
 use Rattle.hd_rules.specs.declared.replies.Refusal.TheVariants as refusal
 use Rattle.hd_rules.specs.declared.turns.Asked.{Asked}
-use Rattle.hd_catalogue.specs.Contents.{Contents, terminal_number}
+use Rattle.hd_catalogue.specs.Contents.{Contents, facts_of, terminal_number}
 use Rattle.hd_rules.specs.Messages.{IsKnownMessage as IsKnownAsk, message_of}
 use Rattle.hd_rules.specs.declared.ask.Ask.{Ask}
 use Rattle.hd_exchange.specs.Arrivals.{Arrival, IsKnownLogin, ask_of, login_of}
 use Rattle.hd_exchange.specs.Asks.{checkin_asks, checkout_asks, item_asks, kind_of, need, renew_asks}
 use Rattle.hd_exchange.specs.Dates.{AreDatesOf}
+use Rattle.hd_exchange.specs.Extensions.{Extensions}
 use Rattle.hd_exchange.specs.HoldAsks.{expiry_text, hold_asks}
+use Rattle.hd_exchange.specs.PatronMessages.{IsPatronAskable, IsPatronMessageOf, patron_states}
 use Rattle.hd_exchange.specs.declared.dates.Dates.{Dates}
 use Rattle.hd_exchange.specs.declared.login.Login.{Login as LoggedIn}
 use Rattle.hd_exchange.specs.declared.message.DeskMessage.{DeskMessage}
@@ -209,11 +214,19 @@ abbrev pub IsMessageRead : Contents → Arrival → Result Request Unreadable �
 IsMessageRead k arrival (Ok request) message = IsRequestAs k arrival request message
 IsMessageRead k arrival (Err unreadable) message = IsUnreadableAs k arrival unreadable message
 
--- The body is that of this message.
-pub record IsBodyOf (k : Contents) (arrival : Arrival) (body : List ℕ) (message : Message) : Type 0 where
-  pub read : Result Request Unreadable
-  pub reads : IsReadAs body read
-  pub is : IsMessageRead k arrival read message
+-- the message that a body is read as, which may be a patron message
+abbrev pub IsMessageOfReading : Contents → Arrival → Reading → Message → Type 0
+IsMessageOfReading k arrival (Standard read) message = IsMessageRead k arrival read message
+IsMessageOfReading k arrival (Patron read) (OfMessage.Patron message) =
+    IsPatronMessageOf k arrival (patron_states k read) message
+IsMessageOfReading _ _ _ _ = ⊥
+
+-- With these extensions the body is that of this message.
+pub record IsBodyOf (k : Contents) (e : Extensions) (arrival : Arrival) (body : List ℕ) (message : Message)
+    : Type 0 where
+  pub read : Reading
+  pub reads : IsReading e.profile body read
+  pub is : IsMessageOfReading k arrival read message
 
 -- What is asked by the message is one of its kind, of this seat, and names things of the catalogue; and its
 -- reply repeats no more of it than a body has.
@@ -227,6 +240,7 @@ IsKnownOwn k (own.Login made) = ForSome made (IsKnownLogin k)
 IsKnownOwn k _ = ⊤
 
 -- what a message names is the catalogue's
-abbrev pub NamesKnownThings : Facts → ℕ → Message → Type 0
-NamesKnownThings k seat (OfMessage.Session message) = IsKnownOwn k message
-NamesKnownThings k seat (OfMessage.Desk message) = IsAskable k seat message
+abbrev pub NamesKnownThings : Contents → ℕ → Message → Type 0
+NamesKnownThings k seat (OfMessage.Session message) = IsKnownOwn (facts_of k) message
+NamesKnownThings k seat (OfMessage.Desk message) = IsAskable (facts_of k) seat message
+NamesKnownThings k seat (OfMessage.Patron message) = IsPatronAskable k message

@@ -15,13 +15,14 @@ use crate::status::write_status;
 use crate::writing::write_reply;
 use hd_catalogue::Catalogue;
 use hd_date::Stamp18;
-use hd_message::{LoginReply, Reply};
+use hd_message::{LoginReply, Profile, Reply};
 use std::alloc::Allocator;
 
 /// Says what is said to a message that asks nothing of the desk, and appends the text of its reply where it
 /// has one. A login that is taken changes as whom the session is logged in.
 pub(crate) fn answer_alone<A: Allocator + Copy>(
     catalogue: &Catalogue<A>,
+    profile: Profile,
     now: &Stamp18,
     message: &SessionMessage,
     login: &mut Option<Login>,
@@ -32,7 +33,7 @@ pub(crate) fn answer_alone<A: Allocator + Copy>(
     requires room { vec_len out.old + 2038 ≤ vec_capacity out.old }
     ensures said { result ≡ said_alone message.now }
     ensures text { (text : List ℕ)
-        × IsTextAlone catalogue.now now.now message.now text
+        × IsTextAlone catalogue.now profile now.now message.now text
         × Extends out.old out.new text
         × (length text ≤ 2038) }
     ensures next { login.new ≡ login_alone login.old message.now }
@@ -46,7 +47,7 @@ pub(crate) fn answer_alone<A: Allocator + Copy>(
             ReplyKind::Reply
         }
         SessionMessage::Status => {
-            write_status(catalogue, now, out);
+            write_status(catalogue, profile, now, out);
             ReplyKind::Reply
         }
         SessionMessage::Resend => ReplyKind::LastReply,

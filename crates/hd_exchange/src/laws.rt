@@ -1,33 +1,66 @@
-//! The law of answers.
-ghost use Rattle.std.specs.Prelude.{◌≡◌, ℕ, List, Option};
+//! Laws of answers.
+ghost use Rattle.std.specs.Prelude.{◌≡◌, ◌↔◌, ◌≤◌, ℕ, All, List, Option, false, length, take};
+ghost use Rattle.std.specs.Borrow.{Bor};
 ghost use Rattle.hd_date.specs.Stamps.{Stamp};
-ghost use Rattle.hd_rules.specs.Journal.{Turn};
+ghost use Rattle.hd_message.specs.PatronReplies.{items_text};
 ghost use Rattle.hd_catalogue.specs.Contents.{Contents};
 ghost use Rattle.hd_exchange.specs.Answers.{IsAnswer};
-ghost use Rattle.hd_exchange.specs.Turns.{messages_of};
+ghost use Rattle.hd_exchange.specs.Deeds.{AreTurns, Deed, messages_of};
+ghost use Rattle.hd_exchange.specs.Extensions.{Extensions, no_extensions};
+ghost use Rattle.hd_exchange.specs.PatronInformation.{HasBytes};
+ghost use Rattle.hd_exchange.specs.StandardAnswers.{IsStandardAnswer};
 ghost use Rattle.hd_exchange.specs.declared.login.Login.{Login};
+ghost use Rattle.hd_exchange.specs.declared.patron_reader.TheConstants.{MOST_ITEMS};
 ghost use Rattle.hd_exchange.specs.declared.reply_kind.ReplyKind.{ReplyKind};
 
 use hd_date::{prints_show_their_stamp, texts_show_one_stamp};
-use hd_message::requests_are_readable;
+use hd_message::{patron_requests_are_readable, requests_are_readable};
 
-/// A body that comes alike asks the same, however it is read. Where its turn is the same too, so that it is
-/// told the same, it has one answer: what is said, the text, and as whom its session is then logged in.
+/// A body that comes alike asks the same of the office, however it is read: a turn by one message, or a look,
+/// or nothing. Where the turn or the journal shown is the same too, so that it is told the same, it has one
+/// answer: what is said, the text, and as whom its session is then logged in.
 pub fn each_body_has_one_answer()
-    ensures asks { (k : Contents) (seat : ℕ) (now : Stamp) (login : Option Login) (line : Option (List ℕ))
-        (body : List ℕ) (says says' : ReplyKind) (text text' : List ℕ) (made made' : List Turn)
-        (next next' : Option Login)
-        → IsAnswer k seat now login line body says text made next
-        → IsAnswer k seat now login line body says' text' made' next'
-        → messages_of made ≡ messages_of made' }
-    ensures answer { (k : Contents) (seat : ℕ) (now : Stamp) (login : Option Login) (line : Option (List ℕ))
-        (body : List ℕ) (says says' : ReplyKind) (text text' : List ℕ) (made : List Turn)
-        (next next' : Option Login)
-        → IsAnswer k seat now login line body says text made next
-        → IsAnswer k seat now login line body says' text' made next'
+    ensures asks { (k : Contents) (e : Extensions) (seat : ℕ) (now : Stamp) (login : Option Login)
+        (line : Option (List ℕ)) (body : List ℕ) (says says' : ReplyKind) (text text' : List ℕ)
+        (did did' : List Deed) (next next' : Option Login)
+        → IsAnswer k e seat now login line body says text did next
+        → IsAnswer k e seat now login line body says' text' did' next'
+        → messages_of did ≡ messages_of did' }
+    ensures answer { (k : Contents) (e : Extensions) (seat : ℕ) (now : Stamp) (login : Option Login)
+        (line : Option (List ℕ)) (body : List ℕ) (says says' : ReplyKind) (text text' : List ℕ)
+        (did : List Deed) (next next' : Option Login)
+        → IsAnswer k e seat now login line body says text did next
+        → IsAnswer k e seat now login line body says' text' did next'
         → (says ≡ says') × (text ≡ text') × (next ≡ next') }
 {
     prints_show_their_stamp();
     texts_show_one_stamp();
     requests_are_readable();
+    patron_requests_are_readable();
 }
+
+/// Where patron messages are off, an office shows no journal to a look: it makes a turn, or does nothing.
+pub fn only_patron_messages_look()
+    ensures { (k : Contents) (e : Extensions) (seat : ℕ) (now : Stamp) (login : Option Login)
+        (line : Option (List ℕ)) (body : List ℕ) (says : ReplyKind) (text : List ℕ) (did : List Deed)
+        (next : Option Login)
+        → e.profile.patron_messages ≡ false
+        → IsAnswer k e seat now login line body says text did next
+        → AreTurns did }
+{}
+
+/// Where nothing extends the standard messages each body is answered what it was before there were
+/// extensions, and nothing else.
+pub fn standard_bodies_are_answered_as_before()
+    ensures { (k : Contents) (seat : ℕ) (now : Stamp) (login : Option Login) (line : Option (List ℕ))
+        (body : List ℕ) (says : ReplyKind) (text : List ℕ) (did : List Deed) (next : Option Login)
+        → (IsAnswer k no_extensions seat now login line body says text did next
+        ↔ IsStandardAnswer k seat now login line body says text did next) }
+{}
+
+/// A look takes down more items of a list than a reply has room for: nothing that is left out would be
+/// printed.
+pub fn looks_have_room_for_a_reply()
+    ensures { (code : List ℕ) (room : ℕ) (names : List (Bor (List ℕ))) → length code ≡ 2 → room ≤ 2038 →
+        All HasBytes names → items_text code room (take MOST_ITEMS names) ≡ items_text code room names }
+{}

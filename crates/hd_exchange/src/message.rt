@@ -1,6 +1,7 @@
 //! Messages, as they ask nothing of the desk or are one ask of it.
 
 use crate::login::Login;
+use crate::patron_message::PatronMessage;
 use crate::repeated::RepeatedValues;
 use hd_journal::Ask;
 use hd_message::DeskKind;
@@ -30,11 +31,13 @@ pub(crate) enum SessionMessage {
     Unsupported,
 }
 
-/// A message: it asks nothing of the desk, or is one ask of it.
+/// A message: it asks nothing of the desk, or is one ask of it, or is a patron message.
 #[derive(Clone, Copy)]
 pub(crate) enum Message<'a> {
     /// 93, 99, 97, or one that isn't supported.
     Session(SessionMessage),
     /// 11, 09, 15, 29 or 17.
     Desk(DeskMessage<'a>),
+    /// 23, 63, 35, 01, 37 or 65, where patron messages are read.
+    Patron(PatronMessage<'a>),
 }

@@ -2,18 +2,21 @@
 ghost use Rattle.std.specs.Prelude.{◌≡◌, ◌+◌, ◌≤◌, [], ℕ, List, IfErr, IfOk, OnErr, length, option_map};
 ghost use Rattle.std.specs.Prelude.{vec_len, vec_capacity};
 ghost use Rattle.std.specs.Option.{ForSome};
-ghost use Rattle.hd_rules.specs.Journal.{Turn};
 ghost use Rattle.hd_catalogue.specs.Contents.{facts_of};
 ghost use Rattle.hd_exchange.specs.Answers.{AsksTheOffice, IsAnswer};
 ghost use Rattle.hd_exchange.specs.Arrivals.{IsKnownLogin};
+ghost use Rattle.hd_exchange.specs.Deeds.{Deed, turns_in};
+ghost use Rattle.hd_exchange.specs.Extensions.{extensions_lent};
 ghost use Rattle.hd_exchange.specs.Works.{Extends, Works};
 
 use crate::alone::answer_alone;
 use crate::context::MessageContext;
 use crate::desk::answer;
+use crate::extensions::{Extensions, profile_of};
 use crate::login::Login;
 use crate::message::Message;
 use crate::messages::message_of;
+use crate::patron_answers::answer_patron;
 use crate::reply_kind::ReplyKind;
 use hd_date::Stamp18;
 use hd_journal::{Office, TurnFault};
@@ -23,8 +26,8 @@ use std::alloc::Allocator;
 /// has one, and makes its turn, where it asks something of the desk. A login that is taken changes as whom
 /// the session is logged in.
 ///
-/// `line` is the message's whole line where that carried a sequence digit. `now` is the present: it stands in
-/// a status reply, and where a date can't be read.
+/// `extensions` are those that are on at the server, if any. `line` is the message's whole line, where it
+/// carried a sequence digit. `now`, the present, stands in a status reply, and where no date can be read.
 ///
 /// A body has at most 1,024 bytes, and `out` has room for the longest reply to it: 2,038 bytes. So every turn
 /// gets its reply.
@@ -34,6 +37,7 @@ use std::alloc::Allocator;
 /// `Estranged` or `Unwritten`. There is no turn, nothing is appended, and the session is logged in as before.
 pub fn respond<A: Allocator + Copy, O: Office<A>>(
     office: &mut O,
+    extensions: Option<&Extensions<A>>,
     now: &Stamp18,
     login: &mut Option<Login>,
     body: &[u8],
@@ -43,24 +47,26 @@ pub fn respond<A: Allocator + Copy, O: Office<A>>(
     requires login { ForSome login.old (IsKnownLogin (facts_of (O.keeps office.old).contents)) }
     requires short { length body.now ≤ 1024 }
     requires room { vec_len out.old + 2038 ≤ vec_capacity out.old }
-    // One turn is made or none, and at most 2,038 bytes are appended.
+    // The office does one deed or none, and at most 2,038 bytes are appended.
     ensures answer { IfOk result (λ said.
-        (made : List Turn)
+        (did : List Deed)
         × (text : List ℕ)
-        × IsAnswer (O.keeps office.old).contents (O.keeps office.old).seat now.now login.old
-        (option_map (λ bytes. bytes.now) line.entry) body.now said text made login.new
-        × Works O.Office office.old office.new made
+        × IsAnswer (O.keeps office.old).contents (extensions_lent extensions.entry)
+        (O.keeps office.old).seat now.now login.old
+        (option_map (λ bytes. bytes.now) line.entry) body.now said text did login.new
+        × Works O.Office office.old office.new did
         × Extends out.old out.new text
-        × (length made ≤ 1)
+        × (length did ≤ 1)
         × (length text ≤ 2038)) }
     ensures login { ForSome login.new (IsKnownLogin (facts_of (O.keeps office.old).contents)) }
-    // At a fault there is no turn and no text, and the session is logged in as before.
+    // At a fault the office does nothing, there is no text, and the session is logged in as before.
     ensures err { OnErr result (
         Works O.Office office.old office.new []
         × Extends out.old out.new []
         × (login.new ≡ login.old)) }
     ensures why { IfErr result (λ why. O.faults why × O.causes office.old office.new why) }
-    ensures asks { OnErr result (AsksTheOffice (O.keeps office.old).contents login.old body.now) }
+    ensures asks { OnErr result (AsksTheOffice (O.keeps office.old).contents
+        (extensions_lent extensions.entry) login.old body.now) }
 {
     let context = MessageContext {
         present: *now,
@@ -68,12 +74,17 @@ pub fn respond<A: Allocator + Copy, O: Office<A>>(
         login: *login,
         line,
     };
-    match message_of(office.catalogue(), &context, body) {
+    match message_of(office.catalogue(), extensions, &context, body) {
         Message::Session(message) => {
-            Ok(answer_alone(office.catalogue(), now, &message, login, out))
+            let profile = profile_of(extensions);
+            Ok(answer_alone(office.catalogue(), profile, now, &message, login, out))
         }
         Message::Desk(message) => {
-            answer(office, &message, out)?;
+            answer(office, extensions, &message, out)?;
+            Ok(ReplyKind::Reply)
+        }
+        Message::Patron(message) => {
+            answer_patron(office, extensions, &message, out)?;
             Ok(ReplyKind::Reply)
         }
     }

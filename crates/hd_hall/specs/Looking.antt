@@ -17,4 +17,6 @@ pub record IsShownTo (o : Opening) (receipts : List Receipted) (book : Book) : T
 -- the same of receipts of these turns
 abbrev pub IsShownWith : Opening → List Turn → Book → Type 0
 IsShownWith o turns book =
-    (receipts : List Receipted) × (map (λ (r : Receipted). r.turn) receipts ≡ turns) × IsShownTo o receipts book
+    (receipts : List Receipted)
+    × (map (λ (r : Receipted). r.turn) receipts ≡ turns)
+    × IsShownTo o receipts book

@@ -158,8 +158,8 @@ impl<A: Allocator + Copy> Holds<A> {
         }
     }
 
-    /// The titles of which the patron has a hold, by rising stamp, those of one stamp by title number. They are
-    /// found by halving, without a walk over the titles.
+    /// The titles of which the patron has a hold, by rising stamp, those of one stamp by title number. They
+    /// are found by halving, without a walk over the titles.
     pub fn of_patron(&self, patron: PatronNo) -> &[HeldTitle]
         ensures titles { AreHeldBy (patron_hold self.now) patron result.now }
         ensures known { AllByRecursion (λ held. held.title < (facts self.now).titles) result.now }

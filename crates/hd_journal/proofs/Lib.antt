@@ -5,6 +5,7 @@ pub mod Submitting
 pub mod Stored
 pub mod Targets
 pub mod Recorded
+pub mod Depending
 pub mod Working
 pub mod Withdrawing
 pub mod Keeping

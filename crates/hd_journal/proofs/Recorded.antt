@@ -16,14 +16,14 @@ use Rattle.hd_journal.specs.Stored.{AreStored, IsRecordOf}
 use Rattle.hd_journal.proofs.Stored.{among_middle}
 
 -- it is one of the records
-record IsOne (n : ℕ) (rs : List Record) (r : Record) : Type 0 where
-  older : List Record
-  newer : List Record
-  split : rs ≡ older ++ r ∷ newer
-  number : r.number ≡ n
+pub record IsOne (n : ℕ) (rs : List Record) (r : Record) : Type 0 where
+  pub older : List Record
+  pub newer : List Record
+  pub split : rs ≡ older ++ r ∷ newer
+  pub number : r.number ≡ n
 
 -- or no survivor has the number
-abbrev Told : ℕ → List Record → Option Record → Type 0
+abbrev pub Told : ℕ → List Record → Option Record → Type 0
 Told n rs None = (s : Survivor) → IsAmong s (survivors_of rs) → s.number ≢ n
 Told n rs (Some r) = IsOne n rs r
 
@@ -44,7 +44,7 @@ more n x xs (Some r) other rest =
       number = rest.number;
     }
 
-told : (n : ℕ) (rs : List Record) → Told n rs (record_of n rs)
+pub told : (n : ℕ) (rs : List Record) → Told n rs (record_of n rs)
 told n [] = λ s among named. absurd among
 told n (x ∷ xs) = by_test (x.number == n) refl (told n xs)
   where

@@ -28,14 +28,14 @@ none_older n m (x ∷ xs) le rising =
     grind (arith, nat_tests, up, rest)
 
 -- records cut where their survivors are
-record Cut (m n : ℕ) (rs : List Record) (ss : List Survivor) (s : Survivor)
+pub record Cut (m n : ℕ) (rs : List Record) (ss : List Survivor) (s : Survivor)
     (ts : List Survivor) : Type 0 where
-  aim : Record
-  is : survivor_of aim ≡ s
-  at : IsAt rs n aim
-  before : survivors_of (older n rs) ≡ ss
-  after : survivors_of (newer n rs) ≡ ts
-  above : m ≤ n
+  pub aim : Record
+  pub is : survivor_of aim ≡ s
+  pub at : IsAt rs n aim
+  pub before : survivors_of (older n rs) ≡ ss
+  pub after : survivors_of (newer n rs) ≡ ts
+  pub above : m ≤ n
 
 no_nil : (ss : List Survivor) (s : Survivor) (ts : List Survivor) → [] ≡ ss ++ s ∷ ts → ⊥
 no_nil ss s ts is = (let same = ap length is in omega (arith, same, length-append ss (s ∷ ts)))
@@ -67,7 +67,7 @@ here m n x xs s ts rising head tail number =
       above = omega (arith, same, rising.0);
     }
 
-cut : (m n : ℕ) (rs : List Record) (ss : List Survivor) (s : Survivor) (ts : List Survivor)
+pub cut : (m n : ℕ) (rs : List Record) (ss : List Survivor) (s : Survivor) (ts : List Survivor)
     → Rising m (survivors_of rs)
     → survivors_of rs ≡ ss ++ s ∷ ts → s.number ≡ n → Cut m n rs ss s ts
 cut m n [] ss s ts rising is number = absurd (no_nil ss s ts is)

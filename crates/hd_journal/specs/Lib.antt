@@ -1,6 +1,7 @@
 pub mod SurvivorRun
 pub mod Working
 pub mod Stored
+pub mod Dependents
 pub mod Deciding
 pub mod Laws
 pub mod TurnLog

@@ -6,6 +6,7 @@ ghost use Rattle.hd_rules.specs.Searches.{target};
 ghost use Rattle.std.specs.Prelude.{IfErr, IfOk, OnErr};
 ghost use Rattle.hd_records.specs.Survivors.{survivors_of};
 ghost use Rattle.hd_journal.specs.Deciding.{AreKept, IsRefused, MayGo};
+ghost use Rattle.hd_journal.specs.Dependents.{IsFirstDependent};
 ghost use Rattle.hd_journal.specs.Working.{IsCancellationWork};
 
 use crate::laws::laws;
@@ -41,5 +42,25 @@ pub(crate) fn decide<A: Allocator + Copy>(
     match records.first_clash(catalogue, target, meter) {
         Some(number) => Err(Refusal::Depends { number }),
         None => Ok(target),
+    }
+}
+
+/// The number of the first later survivor that depends on the survivor of a number: what a cancellation of
+/// that would be refused by. `None` where none depends on it, or no survivor has the number. The records that
+/// are looked at are counted, and the answers compared.
+pub(crate) fn first_dependent<A: Allocator + Copy>(
+    catalogue: &Catalogue<A>,
+    records: &Records<A>,
+    number: u64,
+    meter: &mut Meter,
+) -> Option<u64>
+    requires { AreKept (facts_of catalogue.now) records.now }
+    ensures { IsFirstDependent (facts_of catalogue.now) (survivors_of records.now.records) number result }
+{
+    laws();
+    prove!(0 < catalogue.command_limit());
+    match records.get(number) {
+        Some(_) => records.first_clash(catalogue, number, meter),
+        None => None,
     }
 }

@@ -3,6 +3,7 @@
 ghost use Rattle.std.specs.Prelude.{◌≡◌, ◌+◌, ◌<◌, [], None, IfErr, IfOk, OnErr, length, option_map};
 ghost use Rattle.hd_catalogue.specs.Contents.{facts_of};
 ghost use Rattle.hd_records.specs.Shown.{record_shown as shown_record};
+ghost use Rattle.hd_journal.specs.Dependents.{IsFirstDependent};
 ghost use Rattle.hd_journal.specs.Stored.{IsRecordOf};
 ghost use Rattle.hd_rules.specs.Known.{IsKnownAction, IsKnownCancel};
 ghost use Rattle.hd_rules.specs.Run.{run};
@@ -262,6 +263,18 @@ impl<A: Allocator + Copy> Journal<A> {
             (option_map shown_record result) }
     {
         self.run.record(number)
+    }
+
+    /// The number of the first later surviving command that depends on the surviving command of a number: what
+    /// a cancellation of that would be refused by now. `None` where none depends on it, so that it could be
+    /// taken back, or where no survivor has the number.
+    ///
+    /// Of the later records those that its changes touch are looked at, as far as that one. The work is counted
+    /// by the caller's own meter, and no memory is taken.
+    pub fn first_dependent(&self, number: u64, meter: &mut Meter) -> Option<u64>
+        ensures { IsFirstDependent (facts self.now) (state self.now).survivors number result }
+    {
+        self.run.first_dependent(number, meter)
     }
 
     /// The commands that were accepted and not cancelled, by number.

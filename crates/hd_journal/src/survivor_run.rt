@@ -10,11 +10,12 @@ ghost use Rattle.hd_rules.specs.Turns.{Kept, item_view, next_survivor};
 ghost use Rattle.hd_desk.specs.Desks.{Opens, contents, desk_of, facts};
 ghost use Rattle.hd_journal.specs.SurvivorRun.{IsCarriedOut, Submitted, Withdrawn, state_alone};
 ghost use Rattle.hd_records.specs.Shown.{record_shown};
+ghost use Rattle.hd_journal.specs.Dependents.{IsFirstDependent};
 ghost use Rattle.hd_journal.specs.Stored.{IsRecordOf};
 ghost use Rattle.hd_journal.specs.Working.{IsCancellationWork, IsWork, OnlyRise, command_work};
 
 use crate::ask::OwnedAsk;
-use crate::deciding::decide;
+use crate::deciding::{decide, first_dependent};
 use crate::laws::laws;
 use hd_desk::{Desk, Done, Meter, Refused};
 use hd_inverse::undo;
@@ -96,6 +97,14 @@ impl<A: Allocator + Copy> SurvivorRun<A> {
     {
         laws();
         self.records.get(number)
+    }
+
+    /// The number of the first later survivor that depends on the survivor of a number, or `None` where none
+    /// does, or no survivor has the number. The work is counted.
+    pub(crate) fn first_dependent(&self, number: u64, meter: &mut Meter) -> Option<u64>
+        ensures { IsFirstDependent (facts_of self.now.contents) self.now.survivors number result }
+    {
+        first_dependent(self.desk.catalogue(), &self.records, number, meter)
     }
 
     /// The last number given.

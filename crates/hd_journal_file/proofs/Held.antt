@@ -1,5 +1,5 @@
 -- What a crash leaves of a file.
-use Rattle.std.proofs.Common.{◌≡◌, sym, ◌∙◌, ap, subst, ◌⊎◌, inl, inr, IsTrue, List, [], ◌∷◌, ◌++◌}
+use Rattle.std.proofs.Common.{◌≡◌, sym, ◌∙◌, ap, subst, ◌⊎◌, inl, inr, IsTrue, ℕ, List, [], ◌∷◌, ◌++◌}
 use Rattle.sqlite.specs.State.{State}
 use Rattle.sqlite.specs.Effect.{Database}
 use Rattle.sqlite.specs.Tree.{Trees}
@@ -9,9 +9,9 @@ use Rattle.hd_catalogue.specs.Contents.{Contents, facts_of}
 use Rattle.hd_turn_store.specs.Kept.{KeptTurn, Head}
 use Rattle.hd_turn_store.specs.Tables.{Stores}
 use Rattle.hd_turn_store.specs.Holds.{Holds}
-use Rattle.hd_journal_file.specs.Rows.{IsTurnRow, AreTurnRows}
+use Rattle.hd_turn_row.specs.Rows.{AreTurnRows, IsTurnRow}
 use Rattle.hd_journal_file.specs.Held.{HasTurns, LeavesTurns}
-use Rattle.hd_journal_file.proofs.Stored.{one_kept}
+use Rattle.hd_journal_file.proofs.Stored.{IsReadBack, one_kept}
 use Rattle.hd_journal_file.proofs.Same.{OneMessage, same_turns, rows_more}
 
 -- what a crash leaves of an open database with nothing under way is what was committed
@@ -19,26 +19,42 @@ abbrev pub Settles : State → Type 0
 Settles s = (db : Trees) → IsTrue s.is_open → s.may_leave db → db ≡ s.committed.trees
 
 -- legal turns whose rows a database stores are those of any other such list
-stored_turns : (one : OneMessage) (k : Contents) (turns left : List Turn) (head head' : Head)
+stored_turns : (back : IsReadBack) (one : OneMessage) (k : Contents) (turns left : List Turn) (head head' : Head)
     (rows rows' : List KeptTurn)
     (db : Trees) → IsLegal (facts_of k) turns → IsLegal (facts_of k) left → Stores head rows db
     → Stores head' rows' db
-    → AreTurnRows k turns rows → AreTurnRows k left rows' → left ≡ turns
-stored_turns one k turns left head head' rows rows' db legal legal' stores stores' are are' =
-    same_turns one k (start (facts_of k)) turns left rows legal legal' are
-    (subst (AreTurnRows k left) (one_kept (db 1) rows' rows stores'.turns stores.turns) are')
+    → AreTurnRows k head.format turns rows → AreTurnRows k head'.format left rows' → left ≡ turns
+stored_turns back one k turns left head head' rows rows' db legal legal' stores stores' are are' =
+    same_turns one k head.format head'.format (start (facts_of k)) turns left rows legal legal' are
+    (subst (AreTurnRows k head'.format left) (one_kept back (db 1) rows' rows stores'.turns stores.turns) are')
 
-pub left_is_held : (one : OneMessage) (s : State) (settles : Settles s) (k : Contents)
+pub left_is_held : (back : IsReadBack) (one : OneMessage) (s : State) (settles : Settles s) (k : Contents)
     (turns left : List Turn)
     → HasTurns k s turns → LeavesTurns k s left → left ≡ turns
-left_is_held one s settles k turns left held leaves =
+left_is_held back one s settles k turns left held leaves =
     let trees : s.now.trees ≡ leaves.database =
     sym (settles leaves.database held.keeps.is_open leaves.may
     ∙ ap (λ (d : Database). d.trees) held.keeps.settled)
-    in stored_turns one k turns left held.head leaves.kept.head held.rows leaves.kept.rows leaves.database
+    in stored_turns back one k turns left held.head leaves.kept.head held.rows leaves.kept.rows leaves.database
     held.legal
     leaves.kept.legal (subst (Stores held.head held.rows) trees held.keeps.rows) leaves.kept.keeps held.are
     leaves.kept.are
+
+-- and what is held is left
+pub held_is_left : (s : State) (k : Contents) (turns : List Turn) → s.may_leave s.committed.trees
+    → HasTurns k s turns → LeavesTurns k s turns
+held_is_left s k turns may held = record {
+  database = s.committed.trees;
+  may = may;
+  kept = record {
+    legal = held.legal;
+    head = held.head;
+    rows = held.rows;
+    keeps = subst (λ (d : Database). Stores held.head held.rows d.trees) (sym held.keeps.settled)
+        held.keeps.rows;
+    are = held.are;
+  };
+}
 
 -- a row more
 abbrev pub Adds : State → State → KeptTurn → Type 0
@@ -51,7 +67,7 @@ MayAdd old new row =
     → old.may_leave db ⊎ Stores head (ks ++ row ∷ []) db
 
 pub held_more : (old new : State) (row : KeptTurn) → Adds old new row
-    → (k : Contents) (turns : List Turn) (turn : Turn) → IsTurnRow k turn row
+    → (k : Contents) (turns : List Turn) (turn : Turn) → ((format : ℕ) → IsTurnRow k format turn row)
     → IsLegal (facts_of k) (turns ++ turn ∷ []) → HasTurns k old turns → HasTurns k new (turns ++ turn ∷ [])
 held_more old new row adds k turns turn is legal held =
     record {
@@ -59,20 +75,20 @@ held_more old new row adds k turns turn is legal held =
       head = held.head;
       rows = held.rows ++ row ∷ [];
       keeps = adds held.head held.rows held.keeps;
-      are = rows_more k turns held.rows turn row held.are is;
+      are = rows_more k held.head.format turns held.rows turn row held.are (is held.head.format);
     }
 
-pub left_either : (one : OneMessage) (old new : State) (row : KeptTurn) (settles : Settles old)
+pub left_either : (back : IsReadBack) (one : OneMessage) (old new : State) (row : KeptTurn) (settles : Settles old)
     → MayAdd old new row
-    → (k : Contents) (turns left : List Turn) (turn : Turn) → IsTurnRow k turn row
+    → (k : Contents) (turns left : List Turn) (turn : Turn) → ((format : ℕ) → IsTurnRow k format turn row)
     → IsLegal (facts_of k) (turns ++ turn ∷ []) → HasTurns k old turns → LeavesTurns k new left
     → (left ≡ turns) ⊎ (left ≡ turns ++ turn ∷ [])
-left_either one old new row settles may_add k turns left turn is legal held leaves =
+left_either back one old new row settles may_add k turns left turn is legal held leaves =
     elim (may_add held.head held.rows held.keeps leaves.database leaves.may) [
-      | inl was ↦ inl (left_is_held one old settles k turns left held
+      | inl was ↦ inl (left_is_held back one old settles k turns left held
           (record { database = leaves.database; may = was; kept = leaves.kept }))
-      | inr stores ↦ inr (stored_turns one k (turns ++ turn ∷ []) left held.head leaves.kept.head
+      | inr stores ↦ inr (stored_turns back one k (turns ++ turn ∷ []) left held.head leaves.kept.head
           (held.rows ++ row ∷ [])
           leaves.kept.rows leaves.database legal leaves.kept.legal stores leaves.kept.keeps
-          (rows_more k turns held.rows turn row held.are is) leaves.kept.are)
+          (rows_more k held.head.format turns held.rows turn row held.are (is held.head.format)) leaves.kept.are)
     ]

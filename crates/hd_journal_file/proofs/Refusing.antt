@@ -12,104 +12,100 @@ use Rattle.hd_turn_row.specs.Rows.{IsRowOf}
 use Rattle.hd_turn_row.specs.Faults.{IsFirstFault}
 use Rattle.hd_turn_row.specs.declared.fault.RowFault.{RowFault}
 use Rattle.hd_turn_store.specs.Kept.{KeptTurn, piece}
-use Rattle.hd_turn_store.specs.Rows.{read_turn}
-use Rattle.hd_turn_store.specs.declared.stored.StoredTurn.{StoredTurn}
-use Rattle.hd_journal_file.specs.Rows.{texts}
+use Rattle.sqlite.specs.Order.{Row}
+use Rattle.hd_turn_store.specs.Rows.{read_cells}
 use Rattle.hd_journal_file.specs.Restored.{DiffersFirst, RefusesRow, RefusesRows, RowAsks, StopsAt, TakesRows}
 use Rattle.hd_journal_file.specs.declared.fault.OutcomeColumn.{OutcomeColumn}
 use Rattle.hd_journal_file.specs.declared.fault.RestoreFault.{RestoreFault}
-use Rattle.hd_journal_file.specs.declared.fault.RestoreFault.TheVariants.{Unread, Memory, NoTurn, NoChange}
-use Rattle.hd_journal_file.specs.declared.fault.RestoreFault.TheVariants.{Differs, TooMany}
+use Rattle.hd_journal_file.specs.declared.fault.RestoreFault.TheVariants.{Unread, Memory, NoTurn, Differs}
+use Rattle.hd_journal_file.specs.declared.fault.RestoreFault.TheVariants.{TooMany}
 use Rattle.hd_journal_file.proofs.Retaken.{takes_then}
 
 -- it asks nothing
-pub refuses_ask : (book : Book) (row : KeptTurn) (at : ℕ) (k : Contents) (fault : RestoreFault)
+pub refuses_ask : (f : ℕ) (book : Book) (row : KeptTurn) (at : ℕ) (k : Contents) (fault : RestoreFault)
     → k ≡ book.contents
     → (fault ≡ Memory) ⊎ ((why : RowFault) × (fault ≡ NoTurn at why)
-    × IsFirstFault k (texts row).terminal (texts row).asked why)
-    → RefusesRow book row at fault
-refuses_ask book row at k fault same (inl memory) =
-    subst (λ (f : RestoreFault). RefusesRow book row at f) (sym memory) tt
-refuses_ask book row at k fault same (inr it) =
-    subst (λ (f : RestoreFault). RefusesRow book row at f) (sym it.1)
-    (refl, subst (λ (c : Contents). IsFirstFault c (texts row).terminal (texts row).asked it.0) same it.2)
+    × IsFirstFault k row why)
+    → RefusesRow f book row at fault
+refuses_ask f book row at k fault same (inl memory) =
+    subst (λ (x : RestoreFault). RefusesRow f book row at x) (sym memory) tt
+refuses_ask f book row at k fault same (inr it) =
+    subst (λ (x : RestoreFault). RefusesRow f book row at x) (sym it.1)
+    (refl, subst (λ (c : Contents). IsFirstFault c row it.0) same it.2)
 
 -- what it asks
 abbrev pub asks_of : (book : Book) (row : KeptTurn) (seat : ℕ) (message : Message) (k : Contents)
     → k ≡ book.contents
-    → IsRowOf k seat message (texts row) → RowAsks book row
+    → IsRowOf k seat message row → RowAsks book row
 asks_of book row seat message k same is = record {
   seat = seat;
   message = message;
-  is = subst (λ (c : Contents). IsRowOf c seat message (texts row)) same is;
+  is = subst (λ (c : Contents). IsRowOf c seat message row) same is;
 }
 
 -- it came to something else
-pub refuses_came : (old new : Book) (seat : ℕ) (message : Message) (made : Made) (k : Contents)
+pub refuses_came : (f : ℕ) (old new : Book) (seat : ℕ) (message : Message) (made : Made) (k : Contents)
     (row : KeptTurn) (at : ℕ) (fault : RestoreFault)
-    → AddsTurn old new seat message made → k ≡ old.contents → IsRowOf k seat message (texts row)
+    → AddsTurn old new seat message made → k ≡ old.contents → IsRowOf k seat message row
     → (fault ≡ Memory) ⊎ ((column : OutcomeColumn) × (fault ≡ Differs at column)
-    × DiffersFirst made.reply row column)
-    → RefusesRow old row at fault
-refuses_came old new seat message made k row at fault adds same is (inl memory) =
-    subst (λ (f : RestoreFault). RefusesRow old row at f) (sym memory) tt
-refuses_came old new seat message made k row at fault adds same is (inr it) =
-    subst (λ (f : RestoreFault). RefusesRow old row at f) (sym it.1) (
+    × DiffersFirst f made.reply row column)
+    → RefusesRow f old row at fault
+refuses_came f old new seat message made k row at fault adds same is (inl memory) =
+    subst (λ (x : RestoreFault). RefusesRow f old row at x) (sym memory) tt
+refuses_came f old new seat message made k row at fault adds same is (inr it) =
+    subst (λ (x : RestoreFault). RefusesRow f old row at x) (sym it.1) (
       refl,
       (
         asks_of old row seat message k same is,
-        subst (λ (r : TurnReply). DiffersFirst r row it.0) adds.reply it.2,
+        subst (λ (r : TurnReply). DiffersFirst f r row it.0) adds.reply it.2,
       ),
     )
 
 -- rows round one of them
-rows_split : (rows : List StoredTurn) (i : ℕ) (item : StoredTurn) → i < length rows
+rows_split : (rows : List Row) (i : ℕ) (item : Row) → i < length rows
     → item ≡ get_or rows i item
-    → map read_turn rows ≡ map read_turn (take i rows) ++ read_turn item ∷ map read_turn (drop (suc i) rows)
+    → map read_cells rows ≡ map read_cells (take i rows) ++ read_cells item ∷ map read_cells (drop (suc i) rows)
 rows_split [] i item low is = absurd (omega arith)
-rows_split (row ∷ rows) zero item low is = ap (λ (t : StoredTurn). read_turn t ∷ map read_turn rows) (sym is)
+rows_split (row ∷ rows) zero item low is = ap (λ (t : Row). read_cells t ∷ map read_cells rows) (sym is)
 rows_split (row ∷ rows) (suc i) item low is =
-    ap (λ (l : List KeptTurn). read_turn row ∷ l) (rows_split rows i item (omega arith) is)
+    ap (λ (l : List KeptTurn). read_cells row ∷ l) (rows_split rows i item (omega arith) is)
 
-front_length : (rows : List StoredTurn) (i : ℕ) → i < length rows → length (map read_turn (take i rows)) ≡ i
+front_length : (rows : List Row) (i : ℕ) → i < length rows → length (map read_cells (take i rows)) ≡ i
 front_length [] i low = absurd (omega arith)
 front_length (row ∷ rows) zero low = refl
 front_length (row ∷ rows) (suc i) low = omega (arith, front_length rows i (omega arith))
 
-refuses_at : (old : Book) (rows : List KeptTurn) (after : ℕ) (fault : RestoreFault)
-    → StopsAt old rows after fault → RefusesRows old rows after fault
-refuses_at old rows after (Unread why) stops = absurd stops.refuses
-refuses_at old rows after Memory stops = stops
-refuses_at old rows after (NoTurn at why) stops = stops
-refuses_at old rows after (NoChange at) stops = stops
-refuses_at old rows after (Differs at column) stops = stops
-refuses_at old rows after TooMany stops = absurd stops.refuses
+refuses_at : (f : ℕ) (old : Book) (rows : List KeptTurn) (after : ℕ) (fault : RestoreFault)
+    → StopsAt f old rows after fault → RefusesRows f old rows after fault
+refuses_at f old rows after (Unread why) stops = stops.refuses
+refuses_at f old rows after TooMany stops = absurd stops.refuses
+refuses_at f old rows after fault stops = stops
 
 -- one of them isn't taken
-pub stops : (old mid : Book) (rows : List StoredTurn) (i : ℕ) (item : StoredTurn) (after number : ℕ)
+pub stops : (f : ℕ) (old mid : Book) (rows : List Row) (i : ℕ) (item : Row) (after number : ℕ)
     (fault : RestoreFault)
     → i < length rows → item ≡ get_or rows i item → number ≡ after + i + 1
-    → TakesRows old mid (map read_turn (take i rows))
-    → RefusesRow mid (read_turn item) number fault → RefusesRows old (map read_turn rows) after fault
-stops old mid rows i item after number fault low is numbered took refuses =
-    let front : length (map read_turn (take i rows)) ≡ i = front_length rows i low in
-    let same : number ≡ after + length (map read_turn (take i rows)) + 1 = omega (arith, front, numbered) in
-    refuses_at old (map read_turn rows) after fault (record {
+    → TakesRows f old mid (map read_cells (take i rows))
+    → RefusesRow f mid (read_cells item) number fault → RefusesRows f old (map read_cells rows) after fault
+stops f old mid rows i item after number fault low is numbered took refuses =
+    let front : length (map read_cells (take i rows)) ≡ i = front_length rows i low in
+    let same : number ≡ after + length (map read_cells (take i rows)) + 1 = omega (arith, front, numbered) in
+    refuses_at f old (map read_cells rows) after fault (record {
       book = mid;
-      before = map read_turn (take i rows);
-      row = read_turn item;
-      later = map read_turn (drop (suc i) rows);
+      before = map read_cells (take i rows);
+      row = read_cells item;
+      later = map read_cells (drop (suc i) rows);
       rows_are = rows_split rows i item low is;
       took = took;
-      refuses = subst (λ (n : ℕ). RefusesRow mid (read_turn item) n fault) same refuses;
+      refuses = subst (λ (n : ℕ). RefusesRow f mid (read_cells item) n fault) same refuses;
     })
 
 -- of the rows of a piece
-stops_later : (old mid : Book) (rows : List KeptTurn) (at : ℕ) (fault : RestoreFault)
+stops_later : (f : ℕ) (old mid : Book) (rows : List KeptTurn) (at : ℕ) (fault : RestoreFault)
     → length (take at rows) ≡ at
-    → TakesRows old mid (take at rows) → StopsAt mid (take piece (drop at rows)) at fault
-    → StopsAt old rows 0 fault
-stops_later old mid rows at fault count took stops =
+    → TakesRows f old mid (take at rows) → StopsAt f mid (take piece (drop at rows)) at fault
+    → StopsAt f old rows 0 fault
+stops_later f old mid rows at fault count took stops =
     let rest : List KeptTurn = drop piece (drop at rows) in
     let number : at + length stops.before + 1 ≡ 0 + length (take at rows ++ stops.before) + 1 =
     omega (arith, length-append (take at rows) stops.before, count) in
@@ -123,8 +119,8 @@ stops_later old mid rows at fault count took stops =
           (sym (take-append-drop piece (drop at rows)) ∙ ap (λ (l : List KeptTurn). l ++ rest) stops.rows_are
           ∙ append_assoc stops.before (stops.row ∷ stops.later) rest)
           ∙ sym (append_assoc (take at rows) stops.before (stops.row ∷ (stops.later ++ rest)));
-      took = takes_then old mid stops.book (take at rows) stops.before took stops.took;
-      refuses = subst (λ (n : ℕ). RefusesRow stops.book stops.row n fault) number stops.refuses;
+      took = takes_then f old mid stops.book (take at rows) stops.before took stops.took;
+      refuses = subst (λ (n : ℕ). RefusesRow f stops.book stops.row n fault) number stops.refuses;
     }
 
 pub fits : (a b : ℕ) (xs : List KeptTurn) → length (take a xs) ≡ a
@@ -138,17 +134,11 @@ counted a b xs count =
     let low = fits a b xs count in
     omega (arith, low, length-take (a + length (take b (drop a xs))) xs)
 
-pub refuses_piece : (old mid : Book) (rows : List KeptTurn) (at : ℕ) (fault : RestoreFault)
+pub refuses_piece : (f : ℕ) (old mid : Book) (rows : List KeptTurn) (at : ℕ) (fault : RestoreFault)
     → length (take at rows) ≡ at
-    → TakesRows old mid (take at rows) → RefusesRows mid (take piece (drop at rows)) at fault
-    → RefusesRows old rows 0 fault
-refuses_piece old mid rows at (Unread why) count took is = is
-refuses_piece old mid rows at Memory count took is = stops_later old mid rows at Memory count took is
-refuses_piece old mid rows at (NoTurn n why) count took is =
-    stops_later old mid rows at (NoTurn n why) count took is
-refuses_piece old mid rows at (NoChange n) count took is =
-    stops_later old mid rows at (NoChange n) count took is
-refuses_piece old mid rows at (Differs n column) count took is =
-    stops_later old mid rows at (Differs n column) count took is
-refuses_piece old mid rows at TooMany count took is = let low = fits at piece rows count in
+    → TakesRows f old mid (take at rows) → RefusesRows f mid (take piece (drop at rows)) at fault
+    → RefusesRows f old rows 0 fault
+refuses_piece f old mid rows at (Unread why) count took is = is
+refuses_piece f old mid rows at TooMany count took is = let low = fits at piece rows count in
     omega (arith, low, is)
+refuses_piece f old mid rows at fault count took is = stops_later f old mid rows at fault count took is

@@ -1,5 +1,5 @@
 -- What is said of results.
-use Rattle.std.proofs.Common.{Result, Ok, Err, OnOk, OnErr, IfErr, IfOk}
+use Rattle.std.proofs.Common.{Option, Some, None, Result, Ok, Err, OnOk, OnErr, IfErr, IfOk, IfSome}
 use Rattle.std.specs.Result.{IsErrAnd}
 
 -- whatever the result
@@ -33,3 +33,8 @@ pub oks : {A E : Type 0} (r : Result A E) (P Q R S : A → Type 0) → IfOk r P 
     → ((x : A) → P x → Q x → R x → S x) → IfOk r S
 oks (Ok x) P Q R S one two three f = f x one two three
 oks (Err e) P Q R S one two three f = tt
+
+-- what follows for a value that there is
+pub somes : {A : Type 0} (o : Option A) (P Q : A → Type 0) → IfSome o P → ((x : A) → P x → Q x) → IfSome o Q
+somes (Some x) P Q p f = f x p
+somes None P Q p f = tt

@@ -12,36 +12,33 @@ use Rattle.hd_journal.specs.declared.turn.Turn.{Turn as Made}
 use Rattle.hd_journal.specs.Books.{Book, AddsTurn, next_turn, machine_answer, facts, state}
 use Rattle.hd_journal.specs.Changing.{is_changing, changing}
 use Rattle.hd_durable.specs.Laws.{ATurnMoreIsKeptWhereItChanges}
-use Rattle.hd_turn_row.specs.Rows.{IsRowOf}
+use Rattle.hd_turn_row.specs.Rows.{AreTurnRows, HasOutcome, IsRowOf, IsTurnRow}
 use Rattle.hd_turn_store.specs.Kept.{KeptTurn, piece}
-use Rattle.hd_turn_store.specs.Rows.{read_turn}
-use Rattle.hd_turn_store.specs.declared.stored.StoredTurn.{StoredTurn}
-use Rattle.hd_journal_file.specs.Rows.{texts, IsTurnRow, AreTurnRows}
-use Rattle.hd_journal_file.specs.Restored.{HasOutcome, TakesPiece, TakesRow, TakesRows}
+use Rattle.sqlite.specs.Order.{Row}
+use Rattle.hd_turn_store.specs.Rows.{read_cells}
+use Rattle.hd_journal_file.specs.Restored.{TakesPiece, TakesRow, TakesRows}
 use Rattle.hd_journal_file.proofs.Same.{rows_more}
 
-pub takes_row : (old new : Book) (seat : ℕ) (message : Message) (made : Made) (k : Contents) (row : KeptTurn)
-    → AddsTurn old new seat message made → k ≡ old.contents → IsRowOf k seat message (texts row)
-    → is_changing (state old) message ≡ true → HasOutcome made.reply row → TakesRow old new row
-takes_row old new seat message made k row adds same is changes came =
-    let said : HasOutcome (machine_answer old message).reply row =
-    subst (λ (r : TurnReply). HasOutcome r row) adds.reply came
+pub takes_row : (f : ℕ) (old new : Book) (seat : ℕ) (message : Message) (made : Made) (k : Contents) (row : KeptTurn)
+    → AddsTurn old new seat message made → k ≡ old.contents → IsRowOf k seat message row
+    → is_changing (state old) message ≡ true → HasOutcome f made.reply row → TakesRow f old new row
+takes_row f old new seat message made k row adds same is changes came =
+    let said : HasOutcome f (machine_answer old message).reply row =
+    subst (λ (r : TurnReply). HasOutcome f r row) adds.reply came
     in record {
       contents = adds.contents;
       turn = next_turn old seat message;
       turns = adds.turns;
       is = record {
-        asked = subst (λ (c : Contents). IsRowOf c seat message (texts row)) same is;
-        outcome = said.outcome;
-        number = said.number;
-        reply = said.told;
+        asked = subst (λ (c : Contents). IsRowOf c seat message row) same is;
+        came = said;
       };
       changes = changes;
     }
 
 -- none
-pub takes_none : (old : Book) → TakesRows old old []
-takes_none old = record {
+pub takes_none : (f : ℕ) (old : Book) → TakesRows f old old []
+takes_none f old = record {
   contents = refl;
   made = [];
   turns = sym (append-nil old.turns);
@@ -50,10 +47,10 @@ takes_none old = record {
 }
 
 -- one more
-pub takes_more : (law : ATurnMoreIsKeptWhereItChanges) (old mid new : Book) (rows : List KeptTurn)
+pub takes_more : (f : ℕ) (law : ATurnMoreIsKeptWhereItChanges) (old mid new : Book) (rows : List KeptTurn)
     (row : KeptTurn)
-    → TakesRows old mid rows → TakesRow mid new row → TakesRows old new (rows ++ row ∷ [])
-takes_more law old mid new rows row some one =
+    → TakesRows f old mid rows → TakesRow f mid new row → TakesRows f old new (rows ++ row ∷ [])
+takes_more f law old mid new rows row some one =
     let kept : changing (facts mid) (mid.turns ++ one.turn ∷ []) ≡ changing
     (facts mid) mid.turns ++ one.turn ∷ [] =
     law (facts mid) mid.turns one.turn
@@ -63,55 +60,55 @@ takes_more law old mid new rows row some one =
       made = some.made ++ one.turn ∷ [];
       turns = one.turns ∙ ap (λ (ts : List Turn). ts ++ one.turn ∷ []) some.turns
           ∙ append_assoc old.turns some.made (one.turn ∷ []);
-      are = rows_more old.contents some.made rows one.turn row some.are
-          (subst (λ (c : Contents). IsTurnRow c one.turn row) some.contents one.is);
+      are = rows_more old.contents f some.made rows one.turn row some.are
+          (subst (λ (c : Contents). IsTurnRow c f one.turn row) some.contents one.is);
       changes = λ all. ap (λ (c : Contents). changing (facts_of c) new.turns) one.contents
           ∙ ap (changing (facts mid)) one.turns ∙ kept
           ∙ ap (λ (ts : List Turn). ts ++ one.turn ∷ []) (some.changes all)
           ∙ sym one.turns;
     }
 
-pub rows_front : (rows : List StoredTurn) (i : ℕ) (item : StoredTurn) → i < length rows
+pub rows_front : (rows : List Row) (i : ℕ) (item : Row) → i < length rows
     → item ≡ get_or rows i item
-    → map read_turn (take i rows) ++ read_turn item ∷ [] ≡ map read_turn (take (i + 1) rows)
+    → map read_cells (take i rows) ++ read_cells item ∷ [] ≡ map read_cells (take (i + 1) rows)
 rows_front rows i item low is =
-    ap (λ (x : StoredTurn). map read_turn (take i rows) ++ read_turn x ∷ []) is
-    ∙ sym (map_more read_turn rows i item low)
+    ap (λ (x : Row). map read_cells (take i rows) ++ read_cells x ∷ []) is
+    ∙ sym (map_more read_cells rows i item low)
 
 -- some more
-rows_join : (k : Contents) (ts us : List Turn) (xs ys : List KeptTurn) → AreTurnRows k ts xs
-    → AreTurnRows k us ys
-    → AreTurnRows k (ts ++ us) (xs ++ ys)
-rows_join k [] us [] ys are are' = are'
-rows_join k [] us (x ∷ xs) ys are are' = absurd are
-rows_join k (t ∷ ts) us [] ys are are' = absurd are
-rows_join k (t ∷ ts) us (x ∷ xs) ys are are' = (are.0, rows_join k ts us xs ys are.1 are')
+rows_join : (k : Contents) (f : ℕ) (ts us : List Turn) (xs ys : List KeptTurn) → AreTurnRows k f ts xs
+    → AreTurnRows k f us ys
+    → AreTurnRows k f (ts ++ us) (xs ++ ys)
+rows_join k f [] us [] ys are are' = are'
+rows_join k f [] us (x ∷ xs) ys are are' = absurd are
+rows_join k f (t ∷ ts) us [] ys are are' = absurd are
+rows_join k f (t ∷ ts) us (x ∷ xs) ys are are' = (are.0, rows_join k f ts us xs ys are.1 are')
 
-pub takes_then : (old mid new : Book) (rows more : List KeptTurn) → TakesRows old mid rows
-    → TakesRows mid new more
-    → TakesRows old new (rows ++ more)
-takes_then old mid new rows more some next = record {
+pub takes_then : (f : ℕ) (old mid new : Book) (rows more : List KeptTurn) → TakesRows f old mid rows
+    → TakesRows f mid new more
+    → TakesRows f old new (rows ++ more)
+takes_then f old mid new rows more some next = record {
   contents = next.contents ∙ some.contents;
   made = some.made ++ next.made;
   turns = next.turns ∙ ap (λ (ts : List Turn). ts ++ next.made) some.turns
       ∙ append_assoc old.turns some.made next.made;
-  are = rows_join old.contents some.made next.made rows more some.are
-      (subst (λ (c : Contents). AreTurnRows c next.made more) some.contents next.are);
+  are = rows_join old.contents f some.made next.made rows more some.are
+      (subst (λ (c : Contents). AreTurnRows c f next.made more) some.contents next.are);
   changes = λ all. next.changes (some.changes all);
 }
 
 -- the rows of a journal that had no turn
-pub all_rows : (old new : Book) (rows : List KeptTurn) → old.turns ≡ [] → TakesRows old new rows
-    → AreTurnRows new.contents new.turns rows
-all_rows old new rows none took =
-    subst (λ (c : Contents). AreTurnRows c new.turns rows) (sym took.contents)
-    (subst (λ (ts : List Turn). AreTurnRows old.contents ts rows)
+pub all_rows : (f : ℕ) (old new : Book) (rows : List KeptTurn) → old.turns ≡ [] → TakesRows f old new rows
+    → AreTurnRows new.contents f new.turns rows
+all_rows f old new rows none took =
+    subst (λ (c : Contents). AreTurnRows c f new.turns rows) (sym took.contents)
+    (subst (λ (ts : List Turn). AreTurnRows old.contents f ts rows)
     (sym (took.turns ∙ ap (λ (ts : List Turn). ts ++ took.made) none)) took.are)
 
 -- all of them change something
-pub all_change : (old new : Book) (rows : List KeptTurn) → old.turns ≡ [] → TakesRows old new rows
+pub all_change : (f : ℕ) (old new : Book) (rows : List KeptTurn) → old.turns ≡ [] → TakesRows f old new rows
     → changing (facts new) new.turns ≡ new.turns
-all_change old new rows none took =
+all_change f old new rows none took =
     took.changes (ap (changing (facts old)) none ∙ sym none)
 
 -- a piece is joined to what was before
@@ -140,16 +137,16 @@ all_taken a xs is =
     sym (append-nil (take a xs)) ∙ ap (λ (l : List KeptTurn). take a xs ++ l) (sym (none_left (drop a xs) is))
     ∙ take-append-drop a xs
 
-pub piece_taken : (old mid new : Book) (rows : List KeptTurn) (at last : ℕ) → TakesRows old mid (take at rows)
-    → TakesPiece mid new (take piece (drop at rows)) at (Some last) → TakesRows old new (take last rows)
-piece_taken old mid new rows at last some next =
-    subst (TakesRows old new) (piece_joined at piece rows ∙ ap (λ (n : ℕ). take n rows) (sym next.0))
-    (takes_then old mid new (take at rows) (take piece (drop at rows)) some next.1)
+pub piece_taken : (f : ℕ) (old mid new : Book) (rows : List KeptTurn) (at last : ℕ) → TakesRows f old mid (take at rows)
+    → TakesPiece f mid new (take piece (drop at rows)) at (Some last) → TakesRows f old new (take last rows)
+piece_taken f old mid new rows at last some next =
+    subst (TakesRows f old new) (piece_joined at piece rows ∙ ap (λ (n : ℕ). take n rows) (sym next.0))
+    (takes_then f old mid new (take at rows) (take piece (drop at rows)) some next.1)
 
-pub last_taken : (old mid new : Book) (rows : List KeptTurn) (at : ℕ) → TakesRows old mid (take at rows)
-    → TakesPiece mid new (take piece (drop at rows)) at None → TakesRows old new rows
-last_taken old mid new rows at some next =
-    subst (TakesRows old new)
+pub last_taken : (f : ℕ) (old mid new : Book) (rows : List KeptTurn) (at : ℕ) → TakesRows f old mid (take at rows)
+    → TakesPiece f mid new (take piece (drop at rows)) at None → TakesRows f old new rows
+last_taken f old mid new rows at some next =
+    subst (TakesRows f old new)
     (ap (λ (l : List KeptTurn). take at rows ++ l) next.0 ∙ append-nil (take at rows)
     ∙ all_taken at rows next.0)
-    (takes_then old mid new (take at rows) (take piece (drop at rows)) some next.1)
+    (takes_then f old mid new (take at rows) (take piece (drop at rows)) some next.1)

@@ -9,7 +9,7 @@ use Rattle.hd_turn_store.specs.Kept.{KeptTurn, Head}
 use Rattle.hd_turn_store.specs.Tables.{Stores}
 use Rattle.hd_turn_store.specs.Holds.{Holds}
 use Rattle.hd_turn_store.specs.Crashes.{HoldsTurns}
-use Rattle.hd_journal_file.specs.Rows.{AreTurnRows}
+use Rattle.hd_turn_row.specs.Rows.{AreTurnRows}
 
 -- The turns are legal, and just their rows are kept, under some head.
 pub record AreInFile (k : Contents) (turns : List Turn) (Keeps : Head → List KeptTurn → Type 0) : Type 0 where
@@ -17,7 +17,7 @@ pub record AreInFile (k : Contents) (turns : List Turn) (Keeps : Head → List K
   pub head : Head
   pub rows : List KeptTurn
   pub keeps : Keeps head rows
-  pub are : AreTurnRows k turns rows
+  pub are : AreTurnRows k head.format turns rows
 
 module _ (k : Contents) (s : State) where
   -- a connection sees just these turns, each committed

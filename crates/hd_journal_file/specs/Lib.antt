@@ -1,7 +1,4 @@
 -- A journal's turns in its file, to be read in this order.
-pub mod Outcome  -- what a turn came to, in its row's columns
-pub mod Rows  -- the rows of turns
-pub mod Told  -- a row as it is handed in
 pub mod Refused  -- why a turn isn't committed
 pub mod Held  -- what the file holds, and what a stop may leave of it
 pub mod Restored  -- a journal that takes the rows again

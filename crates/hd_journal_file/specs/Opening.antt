@@ -11,7 +11,7 @@ use Rattle.hd_turn_store.specs.Faults.{IsReadingFault, IsWritingFault}
 use Rattle.hd_turn_store.specs.Holds.{Holds}
 use Rattle.hd_turn_store.specs.Tables.{Stores}
 use Rattle.hd_turn_store.specs.Crashes.{HoldsTurns}
-use Rattle.hd_journal_file.specs.Rows.{AreTurnRows}
+use Rattle.hd_turn_row.specs.Rows.{AreTurnRows}
 use Rattle.hd_journal_file.specs.Restored.{RefusesRows}
 use Rattle.hd_journal_file.specs.declared.opening.Wanted.{Wanted}
 use Rattle.hd_journal_file.specs.declared.open_fault.OpenFault.{OpenFault}
@@ -23,7 +23,7 @@ pub record AreHeld (s : State) (k : Contents) (turns : List Turn) : Type 0 where
   pub head : Head
   pub rows : List KeptTurn
   pub holds : Holds s head rows
-  pub are : AreTurnRows k turns rows
+  pub are : AreTurnRows k head.format turns rows
 
 -- The file is of the wanted catalogue, or of another, which is accepted.
 abbrev pub MayBeTaken : Wanted → Head → Type 0
@@ -39,7 +39,7 @@ pub record IsTaken (wanted : Wanted) (s : State) (head : Head) (rows : List Kept
     (turns : List Turn) : Type 0 where
   pub may_be : MayBeTaken wanted head
   pub holds : Holds s (wanted_head wanted head) rows
-  pub are : AreTurnRows k turns rows
+  pub are : AreTurnRows k head.format turns rows
 
 -- Where the disk gave back what was written to it, and the files held a journal, which wasn't begun anew: its
 -- turns are taken.
@@ -48,11 +48,16 @@ AreFound image is_new wanted s k turns =
     HasCleanDisk s → is_new ≡ false → (head : Head) (rows : List KeptTurn) → HoldsTurns image head rows
     → IsTaken wanted s head rows k turns
 
+-- Files that hold what a connection sees: such are those that a crash leaves.
+abbrev pub AreLeftOf : State → Image → Type 0
+AreLeftOf s left = (head : Head) (rows : List KeptTurn) → Holds s head rows → HoldsTurns left head rows
+
 -- Why a file isn't opened: it is of another catalogue, which isn't accepted; a row isn't taken; its head
 -- can't be read, or the digest can't be written. Out of memory needs no cause.
 abbrev pub RefusesFile : Wanted → Book → Head → List KeptTurn → OpenFault → Type 0
 RefusesFile wanted book head rows OtherCatalogue = ¬ MayBeTaken wanted head
-RefusesFile wanted book head rows (Turns fault) = MayBeTaken wanted head × RefusesRows book rows 0 fault
+RefusesFile wanted book head rows (Turns fault) =
+    MayBeTaken wanted head × RefusesRows head.format book rows 0 fault
 RefusesFile wanted book head rows (File fault) =
     IsReadingFault fault ⊎ (MayBeTaken wanted head × IsWritingFault fault)
 RefusesFile wanted book head rows Memory = Unit {0}
@@ -61,5 +66,5 @@ RefusesFile wanted book head rows Memory = Unit {0}
 pub record IsRedated (wanted : Wanted) (book : Book) (head : Head) (rows : List KeptTurn) (db : Trees)
     : Type 0 where
   pub accepted : IsTrue wanted.is_other_accepted
-  pub are : AreTurnRows book.contents book.turns rows
+  pub are : AreTurnRows book.contents head.format book.turns rows
   pub stores : Stores (wanted_head wanted head) rows db

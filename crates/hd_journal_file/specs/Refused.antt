@@ -1,5 +1,5 @@
 -- Why a turn isn't committed to a file.
-use Rattle.std.specs.Prelude.{◌≡◌, ◌⊎◌}
+use Rattle.std.specs.Prelude.{◌≡◌, ◌⊎◌, ℕ, None}
 use Rattle.sqlite.specs.declared.error.ErrorCode.TheVariants as code
 use Rattle.sqlite.specs.declared.error.Error.{Error}
 use Rattle.sqlite.specs.declared.error.Error.TheVariants.{SqliteFailure}
@@ -8,10 +8,10 @@ use Rattle.hd_rules.specs.Journal.{Turn}
 use Rattle.hd_catalogue.specs.Contents.{Contents}
 use Rattle.hd_journal.specs.declared.fault.WriteFault.{WriteFault}
 use Rattle.hd_journal.specs.declared.fault.WriteFault.TheVariants.{Memory, DiskFull, Refused}
+use Rattle.hd_turn_row.specs.Parts.{asked_parts}
+use Rattle.hd_turn_row.specs.Rows.{IsTurnRow}
 use Rattle.hd_turn_store.specs.Faults as store
 use Rattle.hd_turn_store.specs.Kept.{KeptTurn}
-use Rattle.hd_journal_file.specs.Rows.{IsTurnRow}
-use Rattle.hd_journal_file.specs.Told.{HasNoRow}
 
 -- what an error of SQLite is told as
 abbrev pub write_fault : Error → WriteFault
@@ -27,9 +27,15 @@ IsRefusedBy old new row fault =
 -- It refused so to put the turn's row. Of a disk that didn't return what was written nothing is claimed.
 abbrev pub IsUnwritten : Contents → State → Turn → State → WriteFault → Type 0
 IsUnwritten k old turn new fault =
-    (row : KeptTurn) × IsTurnRow k turn row × (HasCleanDisk new → IsRefusedBy old new row fault)
+    (row : KeptTurn) × ((format : ℕ) → IsTurnRow k format turn row)
+    × (HasCleanDisk new → IsRefusedBy old new row fault)
+
+-- A query has no row.
+abbrev pub HasNoRow : Turn → WriteFault → Type 0
+HasNoRow turn Refused = asked_parts turn.message.asked ≡ None
+HasNoRow turn _ = ⊥
 
 -- Why a turn isn't committed: out of memory; the turn has no row; or SQLite refused it.
 abbrev pub RefusesTurn : Contents → State → Turn → State → WriteFault → Type 0
 RefusesTurn k old turn new Memory = Unit {0}
-RefusesTurn k old turn new fault = HasNoRow k turn fault ⊎ IsUnwritten k old turn new fault
+RefusesTurn k old turn new fault = HasNoRow turn fault ⊎ IsUnwritten k old turn new fault

@@ -6,84 +6,81 @@ use Rattle.hd_rules.specs.Turns.{Message}
 use Rattle.hd_rules.specs.declared.replies.TurnReply.{TurnReply}
 use Rattle.hd_journal.specs.Books.{Book, facts, state, machine_answer}
 use Rattle.hd_journal.specs.Changing.{is_changing, changing}
-use Rattle.hd_turn_store.specs.Kept.{KeptTurn}
+use Rattle.hd_turn_store.specs.Kept.{KeptTurn, new_format}
 use Rattle.hd_turn_store.specs.Faults.{IsReadingFault}
 use Rattle.hd_turn_row.specs.Faults.{IsFirstFault}
-use Rattle.hd_turn_row.specs.Replies.{outcome_word, number_column, IsReplyText}
-use Rattle.hd_turn_row.specs.Rows.{IsRowOf}
-use Rattle.hd_journal_file.specs.Rows.{texts, IsTurnRow, AreTurnRows}
+use Rattle.hd_turn_row.specs.Replies.{outcome_word, number_column, IsReplyColumn}
+use Rattle.hd_turn_row.specs.Rows.{AreTurnRows, IsRowOf, IsTurnRow}
 use Rattle.hd_journal_file.specs.declared.fault.OutcomeColumn.{OutcomeColumn}
 use Rattle.hd_journal_file.specs.declared.fault.OutcomeColumn.TheVariants.{Outcome, Number, Reply}
 use Rattle.hd_journal_file.specs.declared.fault.RestoreFault.{RestoreFault}
 use Rattle.hd_journal_file.specs.declared.fault.RestoreFault.TheVariants.{Unread, Memory, NoTurn, NoChange}
 use Rattle.hd_journal_file.specs.declared.fault.RestoreFault.TheVariants.{Differs, TooMany}
 
--- what a turn came to is what its row says
-pub record HasOutcome (reply : TurnReply) (row : KeptTurn) : Type 0 where
-  pub outcome : row.outcome ≡ outcome_word reply
-  pub number : row.number ≡ number_column reply
-  pub told : IsReplyText reply row.reply
-
 -- It took the turn of a row, which changes something.
-pub record TakesRow (old new : Book) (row : KeptTurn) : Type 0 where
+pub record TakesRow (format : ℕ) (old new : Book) (row : KeptTurn) : Type 0 where
   pub contents : new.contents ≡ old.contents
   pub turn : Turn
   pub turns : new.turns ≡ old.turns ++ turn ∷ []
-  pub is : IsTurnRow old.contents turn row
+  pub is : IsTurnRow old.contents format turn row
   pub changes : is_changing (state old) turn.message ≡ true
 
 -- It took the turns of some rows, each of which changes something.
-pub record TakesRows (old new : Book) (rows : List KeptTurn) : Type 0 where
+pub record TakesRows (format : ℕ) (old new : Book) (rows : List KeptTurn) : Type 0 where
   pub contents : new.contents ≡ old.contents
   pub made : List Turn
   pub turns : new.turns ≡ old.turns ++ made
-  pub are : AreTurnRows old.contents made rows
+  pub are : AreTurnRows old.contents format made rows
   pub changes : changing (facts old) old.turns ≡ old.turns → changing (facts new) new.turns ≡ new.turns
 
 -- It took the rows after some, and none is left where it answers no number.
-abbrev pub TakesPiece : Book → Book → List KeptTurn → ℕ → Option ℕ → Type 0
-TakesPiece old new rows after None = (rows ≡ []) × TakesRows old new rows
-TakesPiece old new rows after (Some last) = (last ≡ after + length rows) × TakesRows old new rows
+abbrev pub TakesPiece : ℕ → Book → Book → List KeptTurn → ℕ → Option ℕ → Type 0
+TakesPiece format old new rows after None = (rows ≡ []) × TakesRows format old new rows
+TakesPiece format old new rows after (Some last) =
+    (last ≡ after + length rows) × TakesRows format old new rows
 
--- The first column of a row that says something else than what a turn came to.
-abbrev pub DiffersFirst : TurnReply → KeptTurn → OutcomeColumn → Type 0
-DiffersFirst reply row Outcome = row.outcome ≢ outcome_word reply
-DiffersFirst reply row Number = (row.outcome ≡ outcome_word reply) × (row.number ≢ number_column reply)
-DiffersFirst reply row Reply =
-    (row.outcome ≡ outcome_word reply) × (row.number ≡ number_column reply) × ¬ IsReplyText reply row.reply
+-- The first column of a row that says something else than what a turn came to. In the format before this one
+-- that of the reply isn't looked at.
+abbrev pub DiffersFirst : ℕ → TurnReply → KeptTurn → OutcomeColumn → Type 0
+DiffersFirst format reply row Outcome = row.outcome ≢ outcome_word reply
+DiffersFirst format reply row Number = (row.outcome ≡ outcome_word reply) × (row.number ≢ number_column reply)
+DiffersFirst format reply row Reply =
+    (format ≡ new_format) × (row.outcome ≡ outcome_word reply) × (row.number ≡ number_column reply)
+    × ¬ IsReplyColumn reply row.reply
 
 -- what a row asks of a journal
 pub record RowAsks (book : Book) (row : KeptTurn) : Type 0 where
   pub seat : ℕ
   pub message : Message
-  pub is : IsRowOf book.contents seat message (texts row)
+  pub is : IsRowOf book.contents seat message row
 
 -- Why it doesn't take the turn of the row with a number.
-abbrev pub RefusesRow : Book → KeptTurn → ℕ → RestoreFault → Type 0
-RefusesRow book row number (NoTurn at why) =
-    (at ≡ number) × IsFirstFault book.contents (texts row).terminal (texts row).asked why
-RefusesRow book row number (NoChange at) =
+abbrev pub RefusesRow : ℕ → Book → KeptTurn → ℕ → RestoreFault → Type 0
+RefusesRow format book row number (NoTurn at why) =
+    (at ≡ number) × IsFirstFault book.contents row why
+RefusesRow format book row number (NoChange at) =
     (at ≡ number) × ((asks : RowAsks book row) × (is_changing (state book) asks.message ≡ false))
-RefusesRow book row number (Differs at column) =
+RefusesRow format book row number (Differs at column) =
     (at ≡ number)
-    × ((asks : RowAsks book row) × DiffersFirst (machine_answer book asks.message).reply row column)
-RefusesRow book row number Memory = Unit {0}
-RefusesRow book row number (Unread fault) = ⊥
-RefusesRow book row number TooMany = ⊥
+    × ((asks : RowAsks book row) × DiffersFirst format (machine_answer book asks.message).reply row column)
+RefusesRow format book row number Memory = Unit {0}
+RefusesRow format book row number (Unread fault) = IsReadingFault fault
+RefusesRow format book row number TooMany = ⊥
 
 -- It took the turns of the first of some rows, which come after `after` others, and not that of the next.
-pub record StopsAt (old : Book) (rows : List KeptTurn) (after : ℕ) (fault : RestoreFault) : Type 0 where
+pub record StopsAt (format : ℕ) (old : Book) (rows : List KeptTurn) (after : ℕ) (fault : RestoreFault)
+    : Type 0 where
   pub book : Book
   pub before : List KeptTurn
   pub row : KeptTurn
   pub later : List KeptTurn
   pub rows_are : rows ≡ before ++ row ∷ later
-  pub took : TakesRows old book before
-  pub refuses : RefusesRow book row (after + length before + 1) fault
+  pub took : TakesRows format old book before
+  pub refuses : RefusesRow format book row (after + length before + 1) fault
 
 -- Why it doesn't take the turns of all these rows: they can't be read, or there are more than can be counted,
 -- or one is refused.
-abbrev pub RefusesRows : Book → List KeptTurn → ℕ → RestoreFault → Type 0
-RefusesRows old rows after (Unread fault) = IsReadingFault fault
-RefusesRows old rows after TooMany = 2 ^ 32 ≤ after + length rows + 1
-RefusesRows old rows after fault = StopsAt old rows after fault
+abbrev pub RefusesRows : ℕ → Book → List KeptTurn → ℕ → RestoreFault → Type 0
+RefusesRows format old rows after (Unread fault) = IsReadingFault fault
+RefusesRows format old rows after TooMany = 2 ^ 32 ≤ after + length rows + 1
+RefusesRows format old rows after fault = StopsAt format old rows after fault

@@ -5,16 +5,15 @@ ghost use Rattle.std.specs.Arc.{arc_value};
 ghost use Rattle.sqlite.specs.Held.{state};
 ghost use Rattle.sqlite.specs.WalFiles.{image_at};
 ghost use Rattle.hd_rules.specs.Journal.{Turn};
-ghost use Rattle.hd_journal_file.specs.Held.{HoldsJournal, MayLeave};
+ghost use Rattle.hd_journal_file.specs.Held.{HoldsJournal, IsReliable, MayLeave};
 ghost use Rattle.hd_journal_file.specs.Refused.{RefusesTurn};
 
 use crate::adding::{a_crash_leaves_what_is_seen, add};
-use crate::outcome::outcome_columns;
 use crate::telling::turn_row;
 use hd_catalogue::Catalogue;
 use hd_durable::TurnTable;
 use hd_journal::{TurnRef, WriteFault};
-use hd_turn_row::RowDays;
+use hd_turn_row::{AskedColumns, OutcomeColumns};
 use hd_turn_store::{Alter, Connection, Start};
 use std::alloc::{Allocator, Global};
 use std::marker::PhantomData;
@@ -62,6 +61,11 @@ impl<S: Alter, F: Start, A: Allocator + Copy> JournalFile<S, F, A> {
             let leaves = MayLeave (image_at F.Start) is_new (arc_value catalogue) in
             (turns left : List Turn) → of (state S.Store conn) turns → leaves (state S.Store conn) left
             → left ≡ turns }
+        // And a stop leaves them: what it may leave is never nothing.
+        ensures left { let of = HoldsJournal (image_at F.Start) is_new (arc_value catalogue) in
+            let leaves = MayLeave (image_at F.Start) is_new (arc_value catalogue) in
+            (turns : List Turn) → IsReliable (image_at F.Start) is_new (state S.Store conn)
+            → of (state S.Store conn) turns → leaves (state S.Store conn) turns }
     {
         a_crash_leaves_what_is_seen(&conn);
         JournalFile {
@@ -102,9 +106,13 @@ impl<S: Alter, F: Start, A: Allocator + Copy> TurnTable for JournalFile<S, F, A>
 
     fn commit(&mut self, turn: &TurnRef<'_>) -> Result<(), WriteFault> {
         a_crash_leaves_what_is_seen(&self.conn);
-        let came = outcome_columns(self.alloc, &turn.reply)?;
-        let days = RowDays::of(&turn.asked);
-        let row = turn_row(&self.catalogue, turn, &days, &came)?;
+        let Ok(came) = OutcomeColumns::of(self.alloc, &turn.reply) else {
+            return Err(WriteFault::Memory);
+        };
+        let Some(asked) = AskedColumns::of(&turn.asked) else {
+            return Err(WriteFault::Refused);
+        };
+        let row = turn_row(&self.catalogue, turn, &asked, &came);
         add(&mut self.conn, &row)
     }
 }

@@ -7,9 +7,9 @@
 mod adding;
 mod fault;
 mod file;
+mod laws;
 mod open_fault;
 mod opening;
-mod outcome;
 mod progress;
 mod reading;
 mod restoring;
@@ -17,6 +17,7 @@ mod telling;
 
 pub use crate::fault::{OutcomeColumn, RestoreFault};
 pub use crate::file::JournalFile;
+pub use crate::laws::what_was_committed_is_opened;
 pub use crate::open_fault::OpenFault;
 pub use crate::opening::{Wanted, open, open_over};
 pub use crate::progress::Progress;

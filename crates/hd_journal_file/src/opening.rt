@@ -117,6 +117,7 @@ pub fn open_over<S: Alter + Drop, F: Start, P: Progress>(
 ///
 /// # Errors
 /// `File`, `OtherCatalogue` and `Turns`.
+#[tactic(auto, using(crate::proofs::Keeping::are_in))]
 fn take_again<S: Alter, P: Progress>(
     alloc: Global,
     conn: &mut Connection<S>,
@@ -141,28 +142,39 @@ fn take_again<S: Alter, P: Progress>(
         → Holds (state S.Store conn.old) head rows → (db : Trees) → (state S.Store conn.new).may_leave db
         → (state S.Store conn.old).may_leave db ⊎ IsRedated wanted.now journal.new head rows db) }
 {
-    let is_same = is_of(conn, wanted.digest)?;
+    let found = head_of(conn, wanted.digest)?;
+    let is_same = found.is_same;
     if !is_same && !wanted.is_other_accepted {
         return Err(OpenFault::OtherCatalogue);
     }
-    let _ = restore_turns(conn, alloc, journal, alloc, progress)?;
+    let _ = restore_turns(conn, found.format, alloc, journal, alloc, progress)?;
     if !is_same {
         accept(conn, wanted.digest)?;
     }
     Ok(())
 }
 
-/// Whether a journal's file is of the catalogue file with this digest.
+/// What is found in the head of a journal's file.
+#[derive(Clone, Copy)]
+struct Found {
+    format: u32,
+    /// Whether it is of the wanted catalogue.
+    is_same: bool,
+}
+
+/// The format of a journal's file, and whether it is of the catalogue file with this digest.
 ///
 /// # Errors
 /// `File`, where its head can't be read.
-fn is_of<S: Alter>(conn: &mut Connection<S>, digest: &[u8; 32]) -> Result<bool, OpenFault>
+fn head_of<S: Alter>(conn: &mut Connection<S>, digest: &[u8; 32]) -> Result<Found, OpenFault>
     ensures clean { HasCleanDisk (state S.Store conn.new) → HasCleanDisk (state S.Store conn.old) }
     ensures same { HasCleanDisk (state S.Store conn.new) → OnOk result ((head : Head) (rows : List KeptTurn)
         → Holds (state S.Store conn.old) head rows → Holds (state S.Store conn.new) head rows) }
-    ensures is_of { HasCleanDisk (state S.Store conn.new) → IfOk result (λ is_same. (head : Head)
+    ensures is_of { HasCleanDisk (state S.Store conn.new) → IfOk result (λ is. (head : Head)
         (rows : List KeptTurn) → Holds (state S.Store conn.old) head rows
-        → IsTrue is_same ↔ (head.catalogue ≡ digest.now)) }
+        → IsTrue is.is_same ↔ (head.catalogue ≡ digest.now)) }
+    ensures format { HasCleanDisk (state S.Store conn.new) → IfOk result (λ is. (head : Head)
+        (rows : List KeptTurn) → Holds (state S.Store conn.old) head rows → head.format ≡ is.format) }
     ensures why { IfErr result (λ fault. (why : StoreFault) × (fault ≡ OpenFault.File why)
         × IsReadingFault why) }
     ensures crash { HasCleanDisk (state S.Store conn.new) → (head : Head) (rows : List KeptTurn)
@@ -170,7 +182,11 @@ fn is_of<S: Alter>(conn: &mut Connection<S>, digest: &[u8; 32]) -> Result<bool, 
         → (state S.Store conn.old).may_leave db }
 {
     let heading = catalogue(conn)?;
-    Ok(heading.catalogue.as_slice() == digest.as_slice())
+    let is_same = heading.catalogue.as_slice() == digest.as_slice();
+    Ok(Found {
+        format: heading.format,
+        is_same,
+    })
 }
 
 /// The journal whose turns the file holds, to commit to it what more changes.

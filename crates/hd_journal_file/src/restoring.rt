@@ -7,35 +7,36 @@ ghost use Rattle.sqlite.specs.Held.{state};
 ghost use Rattle.sqlite.specs.Tree.{Trees};
 ghost use Rattle.hd_journal.specs.Books.{IsLegalBook, facts};
 ghost use Rattle.hd_journal.specs.Changing.{changing};
+ghost use Rattle.hd_turn_row.specs.Rows.{AreTurnRows};
 ghost use Rattle.hd_turn_store.specs.Holds.{Holds};
 ghost use Rattle.hd_turn_store.specs.Kept.{Head, KeptTurn, piece};
-ghost use Rattle.hd_turn_store.specs.Rows.{read_turn};
+ghost use Rattle.hd_turn_store.specs.Rows.{kept, read_cells};
 ghost use Rattle.hd_journal_file.specs.Restored.{RefusesRow, RefusesRows, TakesPiece, TakesRow, TakesRows};
-ghost use Rattle.hd_journal_file.specs.Rows.{AreTurnRows};
 
 use crate::fault::RestoreFault;
 use crate::progress::Progress;
 use crate::reading::{compare, own_ask};
 use hd_durable::a_turn_more_is_kept_where_it_changes;
 use hd_journal::Journal;
-use hd_turn_store::{Alter, Connection, StoredTurn, turns};
+use hd_turn_store::{Alter, Connection, Row, TurnRow, turns};
 use std::alloc::{Allocator, Global};
 
-/// Takes the turn of a row again. `at` is the row's number.
+/// Takes the turn of a row again. `at` is the row's number, and `format` the file's.
 ///
 /// # Errors
 /// `NoTurn`, `NoChange`, `Differs` and `Memory`.
-fn take_row<A: Allocator + Copy>(
+fn take_turn<A: Allocator + Copy>(
     journal: &mut Journal<A>,
     alloc: A,
     memory: Global,
-    kept: &StoredTurn,
+    row: &TurnRow<'_>,
     at: u32,
+    format: u32,
 ) -> Result<(), RestoreFault>
-    ensures took { OnOk result (TakesRow journal.old journal.new (read_turn kept.now)) }
-    ensures why { IfErr result (RefusesRow journal.old (read_turn kept.now) at) }
+    ensures took { OnOk result (TakesRow format journal.old journal.new (kept row.now)) }
+    ensures why { IfErr result (RefusesRow format journal.old (kept row.now) at) }
 {
-    let own = own_ask(journal.desk().catalogue(), alloc, kept, at)?;
+    let own = own_ask(journal.desk().catalogue(), alloc, row, at)?;
     let new = match journal.take_new(own) {
         Ok(new) => new,
         Err(_) => return Err(RestoreFault::Memory),
@@ -43,7 +44,28 @@ fn take_row<A: Allocator + Copy>(
     if !new.is_changing {
         return Err(RestoreFault::NoChange { at });
     }
-    compare(memory, &new.made.reply, kept, at)
+    compare(memory, &new.made.reply, row, at, format)
+}
+
+/// Takes the turn of a row of values again.
+///
+/// # Errors
+/// As `take_turn`, or `Unread`.
+fn take_row<A: Allocator + Copy>(
+    journal: &mut Journal<A>,
+    alloc: A,
+    memory: Global,
+    row: &Row,
+    at: u32,
+    format: u32,
+) -> Result<(), RestoreFault>
+    ensures took { OnOk result (TakesRow format journal.old journal.new (read_cells row.now)) }
+    ensures why { IfErr result (RefusesRow format journal.old (read_cells row.now) at) }
+{
+    match TurnRow::of(row) {
+        Ok(row) => take_turn(journal, alloc, memory, &row, at, format),
+        Err(fault) => Err(RestoreFault::Unread(fault)),
+    }
 }
 
 /// Takes the turns of some rows again, and answers the number of the last; the first has the next after
@@ -55,12 +77,13 @@ fn take_rows<A: Allocator + Copy>(
     journal: &mut Journal<A>,
     alloc: A,
     memory: Global,
-    rows: &[StoredTurn],
+    rows: &[Row],
     after: u32,
+    format: u32,
 ) -> Result<u32, RestoreFault>
     ensures number { IfOk result (λ at. at ≡ after + length rows.now) }
-    ensures rows { OnOk result (TakesRows journal.old journal.new (map read_turn rows.now)) }
-    ensures why { IfErr result (RefusesRows journal.old (map read_turn rows.now) after) }
+    ensures rows { OnOk result (TakesRows format journal.old journal.new (map read_cells rows.now)) }
+    ensures why { IfErr result (RefusesRows format journal.old (map read_cells rows.now) after) }
 {
     a_turn_more_is_kept_where_it_changes();
     let mut at = after;
@@ -68,7 +91,7 @@ fn take_rows<A: Allocator + Copy>(
         let Some(next) = at.checked_add(1) else {
             return Err(RestoreFault::TooMany);
         };
-        take_row(journal, alloc, memory, row, next)?;
+        take_row(journal, alloc, memory, row, next, format)?;
         at = next;
     }
     Ok(at)
@@ -85,27 +108,28 @@ fn take_piece<S: Alter, A: Allocator + Copy>(
     journal: &mut Journal<A>,
     alloc: A,
     after: u32,
+    format: u32,
 ) -> Result<Option<u32>, RestoreFault>
     ensures clean { HasCleanDisk (state S.Store conn.new) → HasCleanDisk (state S.Store conn.old) }
-    ensures took { OnOk result ((rows : List KeptTurn) × TakesRows journal.old journal.new rows) }
+    ensures took { OnOk result ((rows : List KeptTurn) × TakesRows format journal.old journal.new rows) }
     ensures same { HasCleanDisk (state S.Store conn.new) → OnOk result ((head : Head) (rows : List KeptTurn)
         → Holds (state S.Store conn.old) head rows → Holds (state S.Store conn.new) head rows) }
     ensures rows { HasCleanDisk (state S.Store conn.new) → IfOk result (λ last. (head : Head)
         (rows : List KeptTurn) → Holds (state S.Store conn.old) head rows
-        → TakesPiece journal.old journal.new (take piece (drop after rows)) after last) }
+        → TakesPiece format journal.old journal.new (take piece (drop after rows)) after last) }
     ensures more { IfOk result (λ last. IfSome last (λ last. after < last)) }
     ensures why { HasCleanDisk (state S.Store conn.new) → IfErr result (λ fault. (head : Head)
         (rows : List KeptTurn) → Holds (state S.Store conn.old) head rows
-        → RefusesRows journal.old (take piece (drop after rows)) after fault) }
+        → RefusesRows format journal.old (take piece (drop after rows)) after fault) }
     ensures crash { HasCleanDisk (state S.Store conn.new) → (head : Head) (rows : List KeptTurn)
         → Holds (state S.Store conn.old) head rows → (db : Trees) → (state S.Store conn.new).may_leave db
         → (state S.Store conn.old).may_leave db }
 {
-    let rows = match turns(conn, memory, after) {
+    let rows = match turns(conn, after) {
         Ok(rows) => rows,
         Err(fault) => return Err(RestoreFault::Unread(fault)),
     };
-    let last = take_rows(journal, alloc, memory, rows.as_slice(), after)?;
+    let last = take_rows(journal, alloc, memory, rows.as_slice(), after, format)?;
     if rows.is_empty() {
         Ok(None)
     } else {
@@ -115,13 +139,14 @@ fn take_piece<S: Alter, A: Allocator + Copy>(
 
 /// Takes all turns of a file again, in a journal that has none yet, of the catalogue by which they are told,
 /// and answers how many there are. Each row is then that of a turn, which changes something and comes to what
-/// the row says. `progress` is told so after each piece of at most 1,024 rows.
+/// the row says; `format` is the file's. `progress` is told so after each piece of at most 1,024 rows.
 ///
 /// # Errors
 /// The first row that isn't such, and what is wrong with it. The journal is to be dropped then; the file is
 /// as it was.
 pub fn restore_turns<S: Alter, A: Allocator + Copy, P: Progress>(
     conn: &mut Connection<S>,
+    format: u32,
     memory: Global,
     journal: &mut Journal<A>,
     alloc: A,
@@ -131,14 +156,14 @@ pub fn restore_turns<S: Alter, A: Allocator + Copy, P: Progress>(
     ensures clean { HasCleanDisk (state S.Store conn.new) → HasCleanDisk (state S.Store conn.old) }
     ensures rows { HasCleanDisk (state S.Store conn.new) → OnOk result ((head : Head) (rows : List KeptTurn)
         → Holds (state S.Store conn.old) head rows → Holds (state S.Store conn.new) head rows
-        × AreTurnRows journal.new.contents journal.new.turns rows) }
+        × AreTurnRows journal.new.contents format journal.new.turns rows) }
     ensures number { IfOk result (λ number. number ≡ length journal.new.turns) }
     ensures changing { OnOk result (changing (facts journal.new) journal.new.turns ≡ journal.new.turns) }
     ensures contents { OnOk result (journal.new.contents ≡ journal.old.contents) }
     ensures legal { OnOk result (IsLegalBook journal.new.contents journal.new.turns) }
     ensures why { HasCleanDisk (state S.Store conn.new) → IfErr result (λ fault. (head : Head)
         (rows : List KeptTurn) → Holds (state S.Store conn.old) head rows
-        → RefusesRows journal.old rows 0 fault) }
+        → RefusesRows format journal.old rows 0 fault) }
     // What a stop leaves of the file is what it could leave before.
     ensures crash { HasCleanDisk (state S.Store conn.new) → (head : Head) (rows : List KeptTurn)
         → Holds (state S.Store conn.old) head rows → (db : Trees) → (state S.Store conn.new).may_leave db
@@ -146,7 +171,7 @@ pub fn restore_turns<S: Alter, A: Allocator + Copy, P: Progress>(
 {
     let mut at = 0;
     for _piece in 0..u32::MAX {
-        let next = take_piece(conn, memory, journal, alloc, at)?;
+        let next = take_piece(conn, memory, journal, alloc, at, format)?;
         match next {
             Some(last) => {
                 at = last;

@@ -57,6 +57,7 @@ pub fn read<A: Allocator + Copy>(
         }
         rest = next.after;
     }
+    rows.shrink_to_fit();
     Ok(Opening { rows, last })
 }
 

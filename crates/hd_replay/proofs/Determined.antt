@@ -9,14 +9,16 @@ use Rattle.hd_rules.specs.Journal.{IsLegal, Turn}
 use Rattle.hd_catalogue.specs.Contents.{Contents, facts_of}
 use Rattle.hd_catalogue.specs.Files.{IsAccepted, lines_of}
 use Rattle.hd_session.specs.Endings.{EndsWell}
-use Rattle.hd_session.specs.Scripts.{AreFed, Event, Step, turns_of}
+use Rattle.hd_exchange.specs.Deeds.{AreShown}
+use Rattle.hd_exchange.specs.Extensions.{Extensions, no_extensions}
+use Rattle.hd_session.specs.Scripts.{AreFed, Event, ShowsTheSame, Step, deeds_of, turns_of}
 use Rattle.hd_session.specs.Sessions.{Hearing}
-use Rattle.hd_replay.specs.Endings.{WritesWell}
+use Rattle.hd_replay.specs.Endings.{WritesWell, WritesWellOver}
 use Rattle.hd_connection.specs.Streams.{Streams}
 use Rattle.hd_replay.specs.Ends.{HasLines, Replay}
 use Rattle.hd_replay.specs.Inputs.{HasSession, InputMessage, line_of, with_rest}
 use Rattle.hd_replay.specs.Printing.{ArePrinted, IsEventText, end_text, printed_line}
-use Rattle.hd_replay.specs.Replays.{AllReplayed, Progress, faults, before_any_line, step_of}
+use Rattle.hd_replay.specs.Replays.{AllReplayed, Progress, faults, before_any_line, shows, step_of}
 use Rattle.hd_replay.proofs.Lining.{first_alone, lines_alone}
 use Rattle.hd_replay.proofs.Prefixes.{no_blank}
 
@@ -73,25 +75,31 @@ one_lines got lines others p q =
     let whole = lines_alone 10 (take 16777216 got) p.rest q.rest p.whole q.whole p.are q.are in
     p.lines_are ∙ (ap₂ (λ (w : List (List ℕ)) (r : List ℕ). with_rest w r) whole.0 whole.1 ∙ sym q.lines_are)
 
+-- a journal alone shows the same after the same turns
+same_shown : ShowsTheSame shows
+same_shown turns book book' one other = one ∙ sym other
+
 module _ (one_script : (k : Contents) (seat : ℕ) (turns : List Turn) (steps : List Step) (ss ends ends' : List Hearing)
-    (events events' : List Event) → IsLegal (facts_of k) (turns ++ turns_of events) → IsLegal (facts_of k) (turns ++ turns_of events')
-    → All (λ event. EndsWell event.ended) events → All (λ event. EndsWell event.ended) events'
-    → AreFed k seat faults steps ss events ends → AreFed k seat faults steps ss events' ends' → (events ≡ events') × (ends ≡ ends')) where
+    (events events' : List Event) → ShowsTheSame shows → IsLegal (facts_of k) (turns ++ turns_of events)
+    → IsLegal (facts_of k) (turns ++ turns_of events') → AreShown k shows turns (deeds_of events)
+    → AreShown k shows turns (deeds_of events') → All (λ event. EndsWell event.ended) events
+    → All (λ event. EndsWell event.ended) events' → AreFed k seat faults steps ss events ends
+    → AreFed k seat faults steps ss events' ends' → (events ≡ events') × (ends ≡ ends')) where
   -- lines that are replayed from the beginning have one text
-  one_text : (k : Contents) (now : Stamp) (after after' : Progress) (lines : List (List ℕ)) (text other : List ℕ)
-      → AllReplayed (before_any_line k now) after lines text → AllReplayed (before_any_line k now) after' lines other
+  one_text : (k : Contents) (e : Extensions) (now : Stamp) (after after' : Progress) (lines : List (List ℕ)) (text other : List ℕ)
+      → AllReplayed (before_any_line k e now) after lines text → AllReplayed (before_any_line k e now) after' lines other
       → IsLegal (facts_of after.contents) after.turns → IsLegal (facts_of after'.contents) after'.turns → text ≡ other
-  one_text k now after after' lines text other p q legal legal' =
+  one_text k e now after after' lines text other p q legal legal' =
       let messages : p.messages ≡ q.messages =
       one_input p.messages q.messages p.have_session q.have_session (sym p.lines_are ∙ q.lines_are) in
-      let there : AreFed k 0 faults (map (step_of now) p.messages) (before_any_line k now).sessions q.events after'.sessions =
-      subst (λ (m : List InputMessage). AreFed k 0 faults (map (step_of now) m) (before_any_line k now).sessions q.events after'.sessions)
+      let there : AreFed k 0 faults (map (step_of now) p.messages) (before_any_line k e now).sessions q.events after'.sessions =
+      subst (λ (m : List InputMessage). AreFed k 0 faults (map (step_of now) m) (before_any_line k e now).sessions q.events after'.sessions)
       (sym messages) q.fed in
       let here_legal : IsLegal (facts_of k) ([] ++ turns_of p.events) = legal_of after p.events p.same.0 p.turns_are legal in
       let there_legal : IsLegal (facts_of k) ([] ++ turns_of q.events) = legal_of after' q.events q.same.0 q.turns_are legal' in
       let one =
-      one_script k 0 [] (map (step_of now) p.messages) (before_any_line k now).sessions after.sessions after'.sessions p.events q.events here_legal
-      there_legal p.holds q.holds p.fed there in
+      one_script k 0 [] (map (step_of now) p.messages) (before_any_line k e now).sessions after.sessions after'.sessions p.events q.events
+      same_shown here_legal there_legal p.shown q.shown p.holds q.holds p.fed there in
       one_print p.events text other p.printed (subst (λ (es : List Event). ArePrinted es other) (sym one.0) q.printed)
     where
       legal_of : (end : Progress) (events : List Event) → end.contents ≡ k → end.turns ≡ [] ++ turns_of events
@@ -101,10 +109,10 @@ module _ (one_script : (k : Contents) (seat : ℕ) (turns : List Turn) (steps : 
           (subst (λ (t : List Turn). IsLegal (facts_of end.contents) t) turns legal)
 
   -- replays of one input over one library
-  one_replay : (k : Contents) (now : Stamp) (input text other held held' : List ℕ) (left left' : Option (List ℕ))
-      → Replay k now (record { from = Some input; from' = left; to = Some held; to' = Some (held ++ text) }) (Ok tt)
-      → Replay k now (record { from = Some input; from' = left'; to = Some held'; to' = Some (held' ++ other) }) (Ok tt) → text ≡ other
-  one_replay k now input text other held held' left left' p q =
+  one_replay : (k : Contents) (e : Extensions) (now : Stamp) (input text other held held' : List ℕ) (left left' : Option (List ℕ))
+      → Replay k e now (record { from = Some input; from' = left; to = Some held; to' = Some (held ++ text) }) (Ok tt)
+      → Replay k e now (record { from = Some input; from' = left'; to = Some held'; to' = Some (held' ++ other) }) (Ok tt) → text ≡ other
+  one_replay k e now input text other held held' left left' p q =
       let end : p.reads.at_end ≡ true = p.reads.time.0 in
       let end' : q.reads.at_end ≡ true = q.reads.time.0 in
       let got : p.reads.got ≡ input = all_read input p.reads.got left p.reads.read (p.reads.all end) in
@@ -117,10 +125,15 @@ module _ (one_script : (k : Contents) (seat : ℕ) (turns : List Turn) (steps : 
       (subst (λ (g : List ℕ). HasLines g q.reads.at_end q.reads.lines) got' q.reads.heard) in
       let lines : q.reads.lines ≡ p.reads.lines = one_lines input q.reads.lines p.reads.lines has' has in
       let put : p.reads.put ≡ q.reads.put =
-      one_text k now p.after q.after p.reads.lines p.reads.put q.reads.put p.reads.replayed
-      (subst (λ (l : List (List ℕ)). AllReplayed (before_any_line k now) q.after l q.reads.put) lines q.reads.replayed)
+      one_text k e now p.after q.after p.reads.lines p.reads.put q.reads.put p.reads.replayed
+      (subst (λ (l : List (List ℕ)). AllReplayed (before_any_line k e now) q.after l q.reads.put) lines q.reads.replayed)
       p.legal.legal q.legal.legal in
       append_cancel_left held text p.reads.put p.reads.wrote ∙ (put ∙ sym (append_cancel_left held' other q.reads.put q.reads.wrote))
+
+  pub one_written_over : (k : Contents) (e : Extensions) (now : Stamp) (input text other : List ℕ)
+      → WritesWellOver k e now input text → WritesWellOver k e now input other → text ≡ other
+  one_written_over k e now input text other p q =
+      one_replay k e now input text other p.held q.held p.left q.left p.replay q.replay
 
   module _ (one_catalogue : (all : List (List ℕ)) (k h : Contents) → IsAccepted all k → IsAccepted all h → k ≡ h)
       (one_stamp : (text : List ℕ) (offset : ℤ) (s t : Stamp) → IsStamp text offset s → IsStamp text offset t → s ≡ t) where
@@ -133,6 +146,6 @@ module _ (one_script : (k : Contents) (seat : ℕ) (turns : List Turn) (steps : 
         let now : p.replay.now ≡ q.replay.now =
         one_stamp present p.replay.k.settings.offset p.replay.now q.replay.now p.replay.stamp stamp in
         let bytes : Streams = record { from = Some input; from' = q.left; to = Some q.held; to' = Some (q.held ++ other) } in
-        one_replay p.replay.k p.replay.now input text other p.held q.held p.left q.left p.replay.replay
-        (subst (λ (c : Contents). Replay c p.replay.now bytes (Ok tt)) (sym k)
-        (subst (λ (n : Stamp). Replay q.replay.k n bytes (Ok tt)) (sym now) q.replay.replay))
+        one_replay p.replay.k no_extensions p.replay.now input text other p.held q.held p.left q.left p.replay.replay
+        (subst (λ (c : Contents). Replay c no_extensions p.replay.now bytes (Ok tt)) (sym k)
+        (subst (λ (n : Stamp). Replay q.replay.k no_extensions n bytes (Ok tt)) (sym now) q.replay.replay))

@@ -7,6 +7,7 @@ use Rattle.hd_catalogue.specs.Files.{IsAccepted, lines_of}
 use Rattle.hd_replay.specs.declared.fault.ReplayFault.{ReplayFault}
 use Rattle.hd_replay.specs.declared.fault.ReplayFault.TheVariants.{BadNow, Catalogue, InputTooLong, Memory, NoSession, Read, Write}
 use Rattle.hd_connection.specs.Streams.{Streams}
+use Rattle.hd_exchange.specs.Extensions.{no_extensions}
 use Rattle.hd_replay.specs.Ends.{IsReplayOf, IsUntouched, Replay}
 
 -- an end by a fault
@@ -21,7 +22,7 @@ for_memory (Err fault) err memory = ap by memory
 module _ (file present : List ℕ) (k : Contents) (now : Stamp) (bytes : Streams) (accepted : IsAccepted (lines_of file) k)
     (stamp : IsStamp present k.settings.offset now) where
   -- a replay is one of its file
-  pub replay_of : (end : Result (Unit {0}) ReplayFault) → (IsUntouched bytes × (end ≡ Err Memory)) ⊎ Replay k now bytes end →
+  pub replay_of : (end : Result (Unit {0}) ReplayFault) → (IsUntouched bytes × (end ≡ Err Memory)) ⊎ Replay k no_extensions now bytes end →
       IsReplayOf file present bytes end
   replay_of end (inl (untouched, memory)) =
       subst (λ (e : Result (Unit {0}) ReplayFault). IsReplayOf file present bytes e) (sym memory) (inl untouched)

@@ -2,6 +2,7 @@ pub mod Lining
 pub mod Printed
 pub mod Prefixes
 pub mod Opening
+pub mod Deeds
 pub mod Playing
 pub mod Replayed
 pub mod Reading

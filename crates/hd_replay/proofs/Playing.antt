@@ -9,7 +9,9 @@ use Rattle.hd_journal.specs.declared.fault.TurnFault.TheVariants as turn_fault
 use Rattle.std.proofs.Math.Seq.{take-append_seam}
 use Rattle.hd_session.specs.Endings.{EndsWell}
 use Rattle.hd_journal.specs.declared.office.Office.{Ghosts}
-use Rattle.hd_session.specs.Scripts.{AreFed, Event, IsFaultOf, Plays, Step, played, session_at, replies_written, turns_of}
+use Rattle.hd_exchange.specs.Deeds.{AreShown}
+use Rattle.hd_exchange.specs.Extensions.{no_extensions}
+use Rattle.hd_session.specs.Scripts.{AreFed, Event, IsFaultOf, Plays, Step, played, session_at, replies_written, deeds_of, turns_of}
 use Rattle.hd_session.specs.Sessions.{Hearing, new_session}
 use Rattle.hd_session.specs.declared.ended.Ended.{Ended}
 use Rattle.hd_session.specs.declared.ended.Ended.TheVariants as ended
@@ -21,7 +23,7 @@ use Rattle.hd_replay.specs.declared.fault.ReplayFault.{ReplayFault}
 use Rattle.hd_replay.specs.declared.fault.ReplayFault.TheVariants as fault
 use Rattle.hd_replay.specs.Inputs.{AreLines, HasSession, InputMessage, line_of}
 use Rattle.hd_replay.specs.Printing.{ArePrinted, IsEventText, PrintsBehind, end_text, printed_line}
-use Rattle.hd_replay.specs.Replays.{AreEmpty, AreWellToLast, IsOfOffice, IsWell, PartReplayed, Progress, ReplayedOnto, ReplayedUpTo, Replays, faults}
+use Rattle.hd_replay.specs.Replays.{AreEmpty, AreWellToLast, IsOfOffice, IsWell, PartReplayed, Progress, ReplayedOnto, ReplayedUpTo, Replays, faults, shows}
 
 -- a buffer after a change to the whole of it
 pub written_back : {A : Type 0} (n : ℕ) (new old : List A) → n ≡ length new → take n (new ++ drop (length new) old) ≡ new
@@ -89,6 +91,7 @@ module _ (number : ℕ) (text bytes rest : List ℕ) (parts : List (List ℕ)) (
     (events : List Event)
     (played : AreFed before.contents 0 faults (record { session = number - 1; piece = record { now = before.now; bytes = bytes } } ∷ [])
     before.sessions events after.sessions) (made : after.turns ≡ before.turns ++ turns_of events)
+    (shown : AreShown before.contents shows before.turns (deeds_of events))
     (written : (i : ℕ) → i < length before.sessions → get_or outs' i [] ≡ get_or outs i [] ++ replies_written i events)
     (lines : AreLines 13 (get_or outs' (number - 1) []) parts rest) where
   abbrev pub message : InputMessage
@@ -107,7 +110,7 @@ module _ (number : ℕ) (text bytes rest : List ℕ) (parts : List (List ℕ)) (
   ended_is : fed.event.ended ≡ ended_so
   ended_is =
       let within : number - 1 < length before.sessions = omega (arith, one, few, sessions) in
-      fed.ended_is ∙ ap (λ (s : Hearing). s.ended) (sym (get_or-set_same before.sessions (number - 1) fed.next new_session within)
+      fed.ended_is ∙ ap (λ (s : Hearing). s.ended) (sym (get_or-set_same before.sessions (number - 1) fed.next (new_session no_extensions) within)
       ∙ ap (λ (l : List Hearing). session_at l (number - 1)) (sym fed.ss_are))
 
   text_is : get_or outs' (number - 1) [] ≡ fed.event.text
@@ -133,6 +136,7 @@ module _ (number : ℕ) (text bytes rest : List ℕ) (parts : List (List ℕ)) (
         (flat_map (printed_line number) parts ++ end_text number ended_so, [], prints, refl, sym (append-nil _));
     same = same;
     turns_are = made;
+    shown = shown;
     counted = counted;
   }
     where

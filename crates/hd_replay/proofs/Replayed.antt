@@ -3,13 +3,13 @@ use Rattle.std.proofs.Common.{inl, ◌≡◌, ◌∙◌, ◌+◌, ℕ, zero, suc
 use Rattle.std.proofs.Common.{arith, refl, sym, ap, subst, append_assoc, append-nil, length-append, take, drop, take-append-drop}
 use Rattle.std.proofs.lemmas.Bool.{false≢true}
 use Rattle.std.proofs.lemmas.List.{map-append}
-use Rattle.std.proofs.lemmas.List.Concat.{flat_map-append}
 use Rattle.std.proofs.lemmas.List.Elements.{All-append}
 use Rattle.std.specs.List.{All}
 use Rattle.hd_date.specs.Stamps.{Stamp}
 use Rattle.hd_rules.specs.Journal.{Turn}
 use Rattle.hd_catalogue.specs.Contents.{Contents}
-use Rattle.hd_session.specs.Scripts.{AreFed, Event, Step, turns_of}
+use Rattle.hd_exchange.specs.Deeds.{AreShown}
+use Rattle.hd_session.specs.Scripts.{AreFed, Event, Step, deeds_of, turns_of}
 use Rattle.hd_session.specs.Sessions.{Hearing}
 use Rattle.hd_connection.specs.Streams.{IsCutShort}
 use Rattle.hd_replay.specs.declared.fault.ReplayFault.{ReplayFault}
@@ -17,7 +17,8 @@ use Rattle.hd_replay.specs.declared.fault.ReplayFault.TheVariants.{Catalogue, Ba
 use Rattle.hd_replay.specs.Inputs.{HasSession, IsLineOf, InputMessage, line_of}
 use Rattle.hd_replay.specs.Printing.{ArePrinted}
 use Rattle.hd_replay.specs.Replays.{AllReplayed, AreWellToLast, IsOfLine, IsWell, PartReplayed, Progress, Replayed, ReplayedUpTo, Replays}
-use Rattle.hd_replay.specs.Replays.{StoppedAt, faults, step_of}
+use Rattle.hd_replay.specs.Replays.{StoppedAt, faults, shows, step_of}
+use Rattle.hd_replay.proofs.Deeds.{shown_of_append, turns_of_append}
 use Rattle.hd_replay.proofs.Lining.{all_none}
 
 -- what is printed of some events, and of some more
@@ -72,6 +73,7 @@ replays_none Holds p holds = record {
   printed = refl;
   same = (refl, refl);
   turns_are = sym (append-nil p.turns);
+  shown = tt;
   counted = omega arith;
 }
 
@@ -103,7 +105,10 @@ module _ (before between after : Progress) (xs ys : List (List ℕ)) (text more 
     same = (rest.same.0 ∙ first.same.0, rest.same.1 ∙ first.same.1);
     turns_are = rest.turns_are ∙ (ap (λ (t : List Turn). t ++ turns_of rest.events) first.turns_are
         ∙ (append_assoc before.turns (turns_of first.events) (turns_of rest.events)
-        ∙ ap (λ (t : List Turn). before.turns ++ t) (sym (flat_map-append (λ (event : Event). event.made) first.events rest.events))));
+        ∙ ap (λ (t : List Turn). before.turns ++ t) (sym (turns_of_append first.events rest.events))));
+    shown = shown_of_append before.contents shows before.turns first.events rest.events first.shown
+        (subst (λ (t : List Turn). AreShown before.contents shows t (deeds_of rest.events)) first.turns_are
+        (subst (λ (k : Contents). AreShown k shows between.turns (deeds_of rest.events)) first.same.0 rest.shown));
     counted = let one = first.counted in let two = rest.counted in let both = length-append xs ys in omega (arith, one, two, both);
   }
 
@@ -239,6 +244,7 @@ part_of_all before after lines text n all = record {
     printed = all.printed;
     same = all.same;
     turns_are = all.turns_are;
+    shown = all.shown;
     counted = all.counted;
   };
   begins = (drop n text, sym (take-append-drop n text));

@@ -8,6 +8,7 @@ use Rattle.hd_date.specs.declared.fault.DateFault.{DateFault}
 use Rattle.hd_catalogue.specs.Contents.{Contents}
 use Rattle.hd_catalogue.specs.Files.{IsAccepted, IsFirstBad, lines_of}
 use Rattle.hd_connection.specs.Streams.{Streams}
+use Rattle.hd_exchange.specs.Extensions.{Extensions, no_extensions}
 use Rattle.hd_replay.specs.declared.fault.ReplayFault.{ReplayFault}
 use Rattle.hd_replay.specs.declared.fault.ReplayFault.TheVariants.{Catalogue, BadNow, InputTooLong, Read}
 use Rattle.hd_replay.specs.declared.fault.ReplayFault.TheVariants.{Memory}
@@ -50,26 +51,26 @@ pub record ReadsAndWrites (before after : Progress) (bytes : Streams) (end : Res
 abbrev pub IsUntouched : Streams → Type 0
 IsUntouched bytes = Keeps bytes.from bytes.from' × Keeps bytes.to bytes.to'
 
--- An input is replayed over a library: so much is read and written, the turns are the turn machine's, and the
--- headline holds of them.
-pub record Replay (k : Contents) (now : Stamp) (bytes : Streams) (end : Result (Unit {0}) ReplayFault)
-    : Type 0 where
+-- An input is replayed over a library, with some extensions: so much is read and written, the turns are the
+-- turn machine's, and the headline holds of them.
+pub record Replay (k : Contents) (e : Extensions) (now : Stamp) (bytes : Streams)
+    (end : Result (Unit {0}) ReplayFault) : Type 0 where
   pub after : Progress
-  pub reads : ReadsAndWrites (before_any_line k now) after bytes end
+  pub reads : ReadsAndWrites (before_any_line k e now) after bytes end
   pub legal : IsLegalReplay after
 
 -- what replaying over a library at a present results in: out of memory before anything is read, or a replay
-abbrev pub ReplaysOver : Contents → Stamp → Streams → Result (Unit {0}) ReplayFault → Type 0
-ReplaysOver k now bytes end = (IsUntouched bytes × (end ≡ Err Memory)) ⊎ Replay k now bytes end
+abbrev pub ReplaysOver : Contents → Extensions → Stamp → Streams → Result (Unit {0}) ReplayFault → Type 0
+ReplaysOver k e now bytes end = (IsUntouched bytes × (end ≡ Err Memory)) ⊎ Replay k e now bytes end
 
--- The same over the library of a catalogue file, at a present that can be read.
+-- The same over the library of a catalogue file, at a present that can be read, without extensions.
 pub record Runs (file present : List ℕ) (bytes : Streams) (end : Result (Unit {0}) ReplayFault)
     : Type 0 where
   pub k : Contents
   pub accepted : IsAccepted (lines_of file) k
   pub now : Stamp
   pub stamp : IsStamp present k.settings.offset now
-  pub replay : Replay k now bytes end
+  pub replay : Replay k no_extensions now bytes end
 
 -- The file is accepted, and the present isn't read.
 pub record HasBadNow (file present : List ℕ) : Type 0 where

@@ -4,11 +4,13 @@ use Rattle.std.specs.Prelude.{Err, Option, length, map, replicate, slice_index_o
 use Rattle.hd_date.specs.Stamps.{Stamp}
 use Rattle.hd_rules.specs.Journal.{Turn}
 use Rattle.hd_catalogue.specs.Contents.{Contents}
-use Rattle.hd_journal.specs.Books.{IsLegalBook}
+use Rattle.hd_journal.specs.Books.{Book, IsLegalBook}
 use Rattle.hd_journal.specs.declared.fault.TurnFault.{TurnFault}
 use Rattle.hd_journal.specs.declared.fault.TurnFault.TheVariants as fault
+use Rattle.hd_exchange.specs.Deeds.{AreShown}
+use Rattle.hd_exchange.specs.Extensions.{Extensions}
 use Rattle.hd_session.specs.Endings.{EndsWell}
-use Rattle.hd_session.specs.Scripts.{AreFed, Event, Step, session_at, turns_of}
+use Rattle.hd_session.specs.Scripts.{AreFed, Event, Step, deeds_of, session_at, turns_of}
 use Rattle.hd_session.specs.Sessions.{Hearing, new_session}
 use Rattle.hd_session.specs.declared.ended.Ended.{Ended}
 use Rattle.hd_session.specs.declared.ended.Ended.TheVariants as ended
@@ -27,10 +29,10 @@ pub record Progress : Type 0 where
   pub turns : List Turn
   pub lines : ℕ
 
--- before any line
-abbrev pub before_any_line : Contents → Stamp → Progress
-before_any_line k now =
-    record { contents = k; now = now; sessions = replicate 64 new_session; turns = []; lines = 0 }
+-- before any line: each session has these extensions
+abbrev pub before_any_line : Contents → Extensions → Stamp → Progress
+before_any_line k e now =
+    record { contents = k; now = now; sessions = replicate 64 (new_session e); turns = []; lines = 0 }
 
 -- all turns are legal, and the headline holds of them
 abbrev pub IsLegalReplay : Progress → Type 0
@@ -39,6 +41,10 @@ IsLegalReplay p = IsLegalBook p.contents p.turns
 -- what a journal alone can give: that it is out of memory, and no other fault
 abbrev pub faults : TurnFault → Type 0
 faults what = what ≡ fault.Memory
+
+-- what a journal alone shows to a look: the one that has its turns and no others
+abbrev pub shows : List Turn → Book → Type 0
+shows turns book = book.turns ≡ turns
 
 -- what a message brings to its session at a present: its text, and a carriage return (13)
 abbrev pub step_of : Stamp → InputMessage → Step
@@ -55,8 +61,8 @@ AreWellToLast [] = ⊤
 AreWellToLast (event ∷ []) = IsWell event ⊎ (event.ended ≡ Some (ended.Turn fault.Memory))
 AreWellToLast (event ∷ next ∷ events) = IsWell event × AreWellToLast (next ∷ events)
 
--- Lines are replayed: they are messages, and are played as a script, of which this text is printed. Of its
--- events this holds.
+-- Lines are replayed: they are messages, and are played as a script, of which this text is printed. Each look
+-- is shown the turns before it. Of the script's events this holds.
 pub record Replays (Holds : List Event → Type 0) (before after : Progress) (lines : List (List ℕ))
     (text : List ℕ) : Type 0 where
   pub messages : List InputMessage
@@ -69,6 +75,7 @@ pub record Replays (Holds : List Event → Type 0) (before after : Progress) (li
   pub printed : ArePrinted events text
   pub same : (after.contents ≡ before.contents) × (after.now ≡ before.now)
   pub turns_are : after.turns ≡ before.turns ++ turns_of events
+  pub shown : AreShown before.contents shows before.turns (deeds_of events)
   pub counted : after.lines ≡ before.lines + length lines
 
 -- All of the lines are replayed, and this text is put out; each end of a session is a line too long.

@@ -4,6 +4,7 @@ ghost use Rattle.std.specs.Prelude.{OnOk};
 ghost use Rattle.std.specs.Prelude.{drop, vec_len};
 ghost use Rattle.std.specs.Io.KnownBytes.{Appends};
 ghost use Rattle.hd_connection.specs.Streams.{streams};
+ghost use Rattle.hd_exchange.specs.Extensions.{extensions_lent, no_extensions};
 ghost use Rattle.hd_journal.specs.Books.{IsLegalBook};
 ghost use Rattle.hd_replay.specs.Ends.{IsReplayOf, ReadsAndWrites, ReplaysOver};
 ghost use Rattle.hd_replay.specs.Inputs.{AreLines, with_rest};
@@ -17,6 +18,7 @@ use hd_connection::{Input, Output, write_all};
 use hd_date::Stamp18;
 use hd_desk::Meter;
 use hd_journal::Journal;
+use hd_session::{Extensions, Patrons, Profile};
 use std::alloc::{AllocError, Allocator};
 
 /// The most bytes that an input may have.
@@ -74,14 +76,18 @@ pub fn replay_in<A: Allocator + Copy, R: Input, W: Output>(
 {
     match Catalogue::read(alloc, catalogue) {
         Ok(catalogue) => match hd_date::read(now, catalogue.offset()) {
-            Ok(now) => replay_over(rt, alloc, catalogue, now, from, to),
+            Ok(now) => {
+                let extensions = no_extensions();
+                replay_over(rt, alloc, catalogue, now, Some(&extensions), from, to)
+            }
             Err(_) => Err(ReplayFault::BadNow),
         },
         Err(fault) => Err(ReplayFault::Catalogue(fault)),
     }
 }
 
-/// The same over a catalogue, at a present. The journal begins with the catalogue's rows.
+/// The same over a catalogue, at a present. The journal begins with the catalogue's rows, and each session
+/// has these extensions, if any.
 ///
 /// # Errors
 /// Those of `replay`, but `Catalogue` and `BadNow`. `Memory` stands also for rows with which no journal
@@ -91,16 +97,17 @@ pub fn replay_over<A: Allocator + Copy, R: Input, W: Output>(
     alloc: A,
     catalogue: Catalogue<A>,
     now: Stamp18,
+    extensions: Option<&Extensions<A>>,
     from: &mut R,
     to: &mut W,
 ) -> Result<(), ReplayFault>
-    ensures replay { ReplaysOver catalogue now
+    ensures replay { ReplaysOver catalogue (extensions_lent extensions.entry) now
         (streams (R.remaining from.old) (R.remaining from.new) (W.contents to.old) (W.contents to.new))
         result }
     ensures why { IfErr result (HasReason (R.fails from.new) (W.fails to.new)) }
 {
     match hd_journal::open(alloc, rt.alloc(), Meter::new(rt), catalogue) {
-        Ok(journal) => replay_at(alloc, journal, now, from, to),
+        Ok(journal) => replay_at(alloc, journal, now, extensions, from, to),
         Err(_) => Err(ReplayFault::Memory),
     }
 }
@@ -110,24 +117,25 @@ fn replay_at<A: Allocator + Copy, R: Input, W: Output>(
     alloc: A,
     journal: Journal<A>,
     now: Stamp18,
+    extensions: Option<&Extensions<A>>,
     from: &mut R,
     to: &mut W,
 ) -> Result<(), ReplayFault>
     requires new { journal.turns ≡ [] }
     requires legal { IsLegalBook journal.contents journal.turns }
-    ensures replay { ReplaysOver journal.contents now
+    ensures replay { ReplaysOver journal.contents (extensions_lent extensions.entry) now
         (streams (R.remaining from.old) (R.remaining from.new) (W.contents to.old) (W.contents to.new))
         result }
     ensures why { IfErr result (HasReason (R.fails from.new) (W.fails to.new)) }
 {
-    let mut sessions = Sessions::new(alloc, journal, now)?;
+    let mut sessions = Sessions::new(alloc, journal, now, extensions)?;
     answer_input(alloc, &mut sessions, from, to)
 }
 
 /// Answers the lines of an input.
 fn answer_input<A: Allocator + Copy, R: Input, W: Output>(
     alloc: A,
-    sessions: &mut Sessions<A>,
+    sessions: &mut Sessions<'_, A>,
     from: &mut R,
     to: &mut W,
 ) -> Result<(), ReplayFault>
@@ -160,7 +168,7 @@ fn answer_input<A: Allocator + Copy, R: Input, W: Output>(
 
 /// Answers the whole lines of what was read, and writes the replies. What is left is the beginning of a line.
 fn answer_whole<A: Allocator + Copy, W: Output>(
-    sessions: &mut Sessions<A>,
+    sessions: &mut Sessions<'_, A>,
     input: &mut Vec<u8, A>,
     out: &mut Vec<u8, A>,
     to: &mut W,
@@ -195,7 +203,7 @@ fn take_front<A: Allocator>(input: &mut Vec<u8, A>, count: usize)
 
 /// Answers a last line that nothing ends, where there is one: the end of input ends it.
 fn answer_rest<A: Allocator + Copy, W: Output>(
-    sessions: &mut Sessions<A>,
+    sessions: &mut Sessions<'_, A>,
     input: &mut Vec<u8, A>,
     out: &mut Vec<u8, A>,
     to: &mut W,
@@ -222,4 +230,15 @@ fn blank<A: Allocator>(alloc: A, length: usize) -> Result<Vec<u8, A>, AllocError
     ensures { IfOk result (λ bytes. vec_len bytes ≡ length) }
 {
     vec![in alloc; 0; length]
+}
+
+/// The standard messages alone.
+fn no_extensions<A: Allocator>() -> Extensions<A>
+    ensures { result ≡ no_extensions }
+{
+    let profile = Profile {
+        patron_messages: false,
+        sorter_fields: false,
+    };
+    Extensions::new(profile, Patrons::none())
 }

@@ -5,6 +5,7 @@ ghost use Rattle.hd_replay.specs.Inputs.{AreLines, EndsFirst, line_of};
 ghost use Rattle.hd_replay.specs.Replays.{AreOfOffice, IsLegalReplay, IsOfLine, ReplayedOnto};
 ghost use Rattle.hd_replay.specs.Replays.{before_any_line};
 ghost use Rattle.hd_replay.specs.declared.fault.ReplayFault.TheVariants.{Memory};
+ghost use Rattle.hd_exchange.specs.Extensions.{extensions_lent};
 ghost use Rattle.hd_journal.specs.Books.{IsLegalBook};
 ghost use Rattle.hd_session.specs.Scripts.{AreKnownTo, Plays};
 ghost use Rattle.hd_session.specs.Sessions.{new_session};
@@ -14,25 +15,25 @@ use crate::prefix::{SESSIONS, session_of};
 use crate::printing::print_answer;
 use hd_date::Stamp18;
 use hd_journal::{Journal, Office};
-use hd_session::{Session, no_session_ends_by_another_fault, script};
+use hd_session::{Extensions, Session, no_session_ends_by_another_fault, script};
 use memchr::memchr;
 use std::alloc::{AllocError, Allocator};
 use std::marker::Model;
 
 /// The sessions of an input, over one journal.
 #[derive(Drop)]
-pub(crate) struct Sessions<A: Allocator> {
+pub(crate) struct Sessions<'e, A: Allocator> {
     journal: Journal<A>,
     now: Stamp18,
     /// The session with number 1 is at 0.
-    sessions: Vec<Session<A>, A>,
+    sessions: Vec<Session<'e, A>, A>,
     /// What each session answers to one line of input.
     outs: Vec<Vec<u8, A>, A>,
     /// How many lines of input have been fed to a session.
     lines: u64,
 }
 
-impl<A: Allocator> Model for Sessions<A> {
+impl<'e, A: Allocator> Model for Sessions<'e, A> {
     ghost use Rattle.std.specs.Prelude.{◌≡◌, map, vec_len};
     ghost use Rattle.hd_replay.specs.Replays.{AreEmpty, AreOfOffice, Progress};
     ghost use Rattle.hd_session.specs.Scripts.{AreKnownTo};
@@ -55,22 +56,24 @@ impl<A: Allocator> Model for Sessions<A> {
         × AreOfOffice s.sessions.items };
 }
 
-impl<A: Allocator + Copy> Sessions<A> {
-    /// The sessions before any input.
+impl<'e, A: Allocator + Copy> Sessions<'e, A> {
+    /// The sessions before any input, each with these extensions, if any.
     pub(crate) fn new(
         alloc: A,
         journal: Journal<A>,
         now: Stamp18,
-    ) -> Result<Sessions<A>, AllocError>
+        extensions: Option<&'e Extensions<A>>,
+    ) -> Result<Sessions<'e, A>, AllocError>
         requires new { journal.turns ≡ [] }
         requires legal { IsLegalBook journal.contents journal.turns }
-        ensures new { IfOk result (λ sessions. sessions ≡ before_any_line journal.contents now) }
+        ensures new { IfOk result (λ sessions. sessions
+            ≡ before_any_line journal.contents (extensions_lent extensions.entry) now) }
         ensures legal { IfOk result IsLegalReplay }
     {
         let mut sessions = Vec::new(alloc);
         let mut outs = Vec::new(alloc);
         for _ in 0..SESSIONS {
-            put_new(&mut sessions, &mut outs, alloc)?;
+            put_new(&mut sessions, &mut outs, alloc, extensions)?;
         }
         Ok(Sessions {
             journal,
@@ -157,7 +160,7 @@ impl<A: Allocator + Copy> Sessions<A> {
 fn play<A: Allocator + Copy>(
     journal: &mut Journal<A>,
     now: &Stamp18,
-    sessions: &mut Vec<Session<A>, A>,
+    sessions: &mut Vec<Session<'_, A>, A>,
     outs: &mut Vec<Vec<u8, A>, A>,
     at: usize,
     piece: &[u8],
@@ -205,18 +208,20 @@ fn first_line(text: &[u8]) -> Option<(&[u8], &[u8])>
 }
 
 /// Adds a new session, and what it answers: nothing yet.
-fn put_new<A: Allocator + Copy>(
-    sessions: &mut Vec<Session<A>, A>,
+fn put_new<'e, A: Allocator + Copy>(
+    sessions: &mut Vec<Session<'e, A>, A>,
     outs: &mut Vec<Vec<u8, A>, A>,
     alloc: A,
+    extensions: Option<&'e Extensions<A>>,
 ) -> Result<(), AllocError>
     ensures sizes { OnOk result ((vec_len sessions.new ≡ vec_len sessions.old + 1)
         × (vec_len outs.new ≡ vec_len outs.old + 1)) }
-    ensures session { OnOk result (sessions.new.items ≡ sessions.old.items ++ new_session ∷ []) }
+    ensures session { OnOk result (sessions.new.items
+        ≡ sessions.old.items ++ new_session (extensions_lent extensions.entry) ∷ []) }
     ensures out { OnOk result (map (λ out. out.items) outs.new.items
         ≡ map (λ out. out.items) outs.old.items ++ [] ∷ []) }
 {
-    let session = Session::new(alloc)?;
+    let session = Session::opened(alloc, extensions)?;
     sessions.push(session)?;
     outs.push(Vec::new(alloc))?;
     Ok(())

@@ -1,4 +1,4 @@
--- The laws, each proved. The crates above rest on them, and docs/proofs.md has them in plain words.
+-- The laws, each proved. The crates above rest on them, and src/laws.rt has them in plain words.
 use Rattle.std.specs.Prelude.{Bool, ◌≡◌, ◌↔◌, IsTrue, MatchOption, Option, ◌+◌, ◌≤◌, length, Ok}
 use Rattle.std.specs.Prelude.{Some, None, List, [], ◌∷◌, ◌++◌, All, ◌⊎◌}
 use Rattle.hd_rules.specs.Words.{Hold, OpeningRow, Question, ValueOf, Change, Command, Cancel, Survivor}

@@ -1,4 +1,5 @@
 pub mod Accepting
 pub mod Ends
+pub mod LineFeeds
 pub mod Places
 pub mod Told

@@ -5,6 +5,7 @@ mod accepting;
 mod clock;
 mod fault;
 mod gate;
+mod line_feeds;
 mod options;
 mod places;
 mod serving;

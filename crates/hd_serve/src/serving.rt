@@ -27,10 +27,11 @@ use std::time::Clock;
 /// back. It may have turns from before; those that were made here are legal behind them.
 ///
 /// The workers are threads, started before the first connection is accepted. Where not all can be had, those
-/// that can do the work. Each serves one connection at a time, whose replies are sent at once. The gate is
-/// called before each turn, outside the hall's lock, with the numbers of the session and of its turn, both
-/// from 1. The present is what the clock tells, in the local time of the catalogue, and
-/// `00000101    000000` where it can't be read or its year lies outside 0000 to 9999.
+/// that can do the work. Each serves one connection at a time, whose replies are sent at once. Each session
+/// has the extensions of the options, if any. The gate is called before each turn, outside the hall's lock,
+/// with the numbers of the session and of its turn, both from 1. The present is what the clock tells, in the
+/// local time of the catalogue, and `00000101    000000` where it can't be read or its year lies outside 0000
+/// to 9999.
 ///
 /// A connection makes room to keep its seat, and has a session and, last, a seat opened. Where one can't be
 /// had it is closed without a reply. A read or a write that fails ends that connection alone, as one does
@@ -51,7 +52,7 @@ pub fn serve<
     alloc: Global,
     listener: TcpListener,
     keeper: K,
-    options: &Options,
+    options: &Options<'_>,
     gate: &G,
 ) -> Result<K, ServeFault>
     requires turns { K.turns keeper ≡ [] }
@@ -76,7 +77,7 @@ fn serve_in<
     listener: &TcpListener,
     keeper: K,
     blank: Blank,
-    options: &Options,
+    options: &Options<'_>,
     gate: &G,
 ) -> Result<K, ServeFault>
     requires turns { K.turns keeper ≡ [] }
@@ -101,6 +102,8 @@ fn serve_in<
         from: &from,
         stop: &stop,
         idle: options.idle,
+        extensions: options.extensions,
+        has_line_feeds: options.has_line_feeds,
     };
     let served = serve_by(rt, &service, listener, to, options, gate);
     let seats = places.into_inner().into_seats()?;
@@ -140,7 +143,7 @@ fn serve_by<
     service: &Service<'_, H, Q, K>,
     listener: &TcpListener,
     to: Sender<Connection>,
-    options: &Options,
+    options: &Options<'_>,
     gate: &G,
 ) -> Result<(), ServeFault> {
     thread::scope(thread::scope_env(), rt, |scope| {

@@ -23,7 +23,7 @@ pub fn serve<R: Threads + Wait + Clock + Sync, G: Gate>(
     alloc: Global,
     listener: TcpListener,
     journal: Journal,
-    options: &Options,
+    options: &Options<'_>,
     gate: &G,
 ) -> Result<Summary, ServerFault>
     requires turns { journal.turns ≡ [] }

@@ -1,6 +1,7 @@
 -- Sessions that stand as terminals of the catalogue, or as none.
 use Rattle.std.proofs.Common.{◌≡◌, ◌<◌, ℕ, zero, suc, subst, refl, arith, length, List, [], ◌∷◌, get_or, set}
 use Rattle.hd_catalogue.specs.Contents.{Contents}
+use Rattle.hd_exchange.specs.Extensions.{no_extensions}
 use Rattle.hd_session.specs.Sessions.{Hearing, new_session}
 use Rattle.hd_session.specs.Scripts.{AreKnownTo, session_at}
 use Rattle.hd_session.specs.States.{IsKnownTo}
@@ -24,7 +25,7 @@ each_goes_on P (s ∷ ss) (suc at) session all holds (suc i) = each_goes_on P ss
 pub one_of_known : (k : Contents) (sessions : List Hearing) (at : ℕ) (session : Hearing) → AreKnownTo k sessions → at < length sessions
     → IsKnownTo k (get_or sessions at session).state
 one_of_known k sessions at session all within =
-    subst (λ (s : Hearing). IsKnownTo k s.state) (at_place sessions at new_session session within) (all at)
+    subst (λ (s : Hearing). IsKnownTo k s.state) (at_place sessions at (new_session no_extensions) session within) (all at)
 
 -- after one of them has gone on
 pub one_goes_on : (k : Contents) (sessions : List Hearing) (at : ℕ) (session : Hearing) → AreKnownTo k sessions

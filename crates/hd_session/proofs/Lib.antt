@@ -1,3 +1,4 @@
+pub mod Deeds
 pub mod Hearing
 pub mod Ends
 pub mod Feeding
@@ -5,4 +6,5 @@ pub mod Causes
 pub mod Playing
 pub mod Knowing
 pub mod Strangers
+pub mod Looks
 pub mod Determined

@@ -7,14 +7,15 @@ use Rattle.std.proofs.lemmas.List.Concat.{flat_map-append}
 use Rattle.std.proofs.lemmas.List.Elements.{filter-append, All-cons}
 use Rattle.std.specs.List.{All}
 use Rattle.hd_date.specs.Stamps.{Stamp}
-use Rattle.hd_rules.specs.Journal.{Turn}
 use Rattle.hd_catalogue.specs.Contents.{Contents}
+use Rattle.hd_exchange.specs.Deeds.{Deed}
+use Rattle.hd_exchange.specs.Extensions.{Extensions, no_extensions}
 use Rattle.hd_journal.specs.declared.fault.TurnFault.{TurnFault}
 use Rattle.hd_journal.specs.declared.fault.TurnFault.TheVariants.{Memory}
 use Rattle.hd_session.specs.declared.ended.Ended.TheVariants as end
 use Rattle.hd_journal.specs.declared.office.Office.{Ghosts}
 use Rattle.hd_session.specs.Sessions.{AreFedTo, Feeds, Hearing, IsFed, Piece, Room, any_room, new_session, stream}
-use Rattle.hd_session.specs.Scripts.{AreFed, Event, Plays, Step, events_of, pieces_of, session_at, text_of, turns_of, replies_written}
+use Rattle.hd_session.specs.Scripts.{AreFed, Event, Plays, Step, events_of, deeds_of, pieces_of, session_at, text_of, replies_written}
 use Rattle.hd_session.proofs.Causes.{fed_other}
 use Rattle.hd_session.proofs.Feeding.{Cuts, IsSettled, fed_after_fed, less_room, nothing_fed_at, settled_at}
 use Rattle.hd_session.proofs.Hearing.{works_append}
@@ -57,7 +58,7 @@ module _ (k : Contents) (seat : ℕ) (faults : TurnFault → Type 0) where
   -- what a session hears of a script are its own pieces
   pub hears_pieces : (steps : List Step) (ss ss' : List Hearing) (events : List Event) (i : ℕ) → i < length ss
       → AreFed k seat faults steps ss events ss'
-      → AreFedTo k seat faults any_room (pieces_of i steps) (session_at ss i) (turns_of (events_of i events)) (session_at ss' i) (replies_written i events)
+      → AreFedTo k seat faults any_room (pieces_of i steps) (session_at ss i) (deeds_of (events_of i events)) (session_at ss' i) (replies_written i events)
   hears_pieces [] ss ss' events i within (none, same) = rw (none, same) (refl, refl, refl)
   hears_pieces (step ∷ steps) ss ss' [] i within none = absurd none
   hears_pieces (step ∷ steps) ss ss' (event ∷ events) i within first =
@@ -66,67 +67,68 @@ module _ (k : Contents) (seat : ℕ) (faults : TurnFault → Type 0) where
       let longer : i < length then = rw (length-set ss step.session next) within in
       let rest = hears_pieces steps then ss' events i longer first.rest in
       elim (step.session == i) as (λ t. (step.session == i) ≡ t
-      → AreFedTo k seat faults any_room (pieces_of i (step ∷ steps)) (session_at ss i) (turns_of (events_of i (event ∷ events)))
+      → AreFedTo k seat faults any_room (pieces_of i (step ∷ steps)) (session_at ss i) (deeds_of (events_of i (event ∷ events)))
       (session_at ss' i) (replies_written i (event ∷ events))) [
         | true ↦ λ is.
             let here : step.session ≡ i = eqb-true _ _ is in
             let own : (event.session == i) ≡ true = ap (λ (n : ℕ). n == i) first.same ∙ is in
             let there : session_at then i ≡ next =
-            subst (λ (n : ℕ). session_at (set ss n next) i ≡ next) (sym here) (get_or-set_same ss i next new_session within) in
-            let heard : IsFed k seat faults step.piece.now any_room (session_at ss i) step.piece.bytes event.made next event.text =
+            subst (λ (n : ℕ). session_at (set ss n next) i ≡ next) (sym here) (get_or-set_same ss i next (new_session no_extensions) within) in
+            let heard : IsFed k seat faults step.piece.now any_room (session_at ss i) step.piece.bytes event.did next event.text =
             subst (λ (n : ℕ). IsFed k seat faults step.piece.now any_room
-            (session_at ss n) step.piece.bytes event.made next event.text) here first.fed in
+            (session_at ss n) step.piece.bytes event.did next event.text) here first.fed in
             rw (is, own) (record {
-              first_made = event.made;
-              then_made = turns_of (events_of i events);
+              first_did = event.did;
+              then_did = deeds_of (events_of i events);
               between = next;
               first_text = event.text;
               then_text = replies_written i events;
               first = heard;
               rest = rw there at rest;
-              all_made = refl;
+              all_did = refl;
               all_text = refl;
             })
         | false ↦ λ is.
             let own : (event.session == i) ≡ false = ap (λ (n : ℕ). n == i) first.same ∙ is in
             let there : session_at then i ≡ session_at ss i =
-            get_or-set_other ss step.session i next new_session (λ same. eqb-false step.session i is (sym same)) in
+            get_or-set_other ss step.session i next (new_session no_extensions) (λ same. eqb-false step.session i is (sym same)) in
             rw (is, own) (rw there at rest)
       ] refl
 
   -- pieces at one present are one
-  pub one_present : Cuts → (now : Stamp) (room : Room) (pieces : List Piece) (h : Hearing) (made : List Turn) (h' : Hearing) (text : List ℕ)
-      → AreAt now pieces → IsSettled h → AreFedTo k seat faults room pieces h made h' text
-      → IsFed k seat faults now room h (stream pieces) made h' text
-  one_present cuts now room [] h made h' text all settled (none, same, nothing) =
+  pub one_present : Cuts → (now : Stamp) (room : Room) (pieces : List Piece) (h : Hearing) (did : List Deed) (h' : Hearing) (text : List ℕ)
+      → AreAt now pieces → IsSettled h → AreFedTo k seat faults room pieces h did h' text
+      → IsFed k seat faults now room h (stream pieces) did h' text
+  one_present cuts now room [] h did h' text all settled (none, same, nothing) =
       rw (none, same, nothing) (nothing_fed_at k seat faults now h.ended room h refl settled)
-  one_present cuts now room (piece ∷ pieces) h made h' text all settled more =
+  one_present cuts now room (piece ∷ pieces) h did h' text all settled more =
       let here : piece.now ≡ now = all zero piece (omega arith) in
-      let first : IsFed k seat faults now room h piece.bytes more.first_made more.between more.first_text =
-      subst (λ (n : Stamp). IsFed k seat faults n room h piece.bytes more.first_made more.between more.first_text) here more.first in
+      let first : IsFed k seat faults now room h piece.bytes more.first_did more.between more.first_text =
+      subst (λ (n : Stamp). IsFed k seat faults n room h piece.bytes more.first_did more.between more.first_text) here more.first in
       let goes_on : IsSettled more.between =
-      settled_at k seat faults now h.ended room piece.bytes more.first_made h more.between more.first_text refl first in
-      let rest = one_present cuts now room pieces more.between more.then_made h' more.then_text
+      settled_at k seat faults now h.ended room piece.bytes more.first_did h more.between more.first_text refl first in
+      let rest = one_present cuts now room pieces more.between more.then_did h' more.then_text
       (all_behind (λ (p : Piece). p.now ≡ now) piece pieces all) goes_on more.rest in
-      rw (more.all_made, more.all_text) (fed_after_fed cuts k seat faults now room room piece.bytes
-      (stream pieces) more.first_made more.then_made
+      rw (more.all_did, more.all_text) (fed_after_fed cuts k seat faults now room room piece.bytes
+      (stream pieces) more.first_did more.then_did
       h more.between h' more.first_text more.then_text (omega arith) (omega arith) first rest)
 
   -- those of a new session
-  pub new_at_one_present : Cuts → (now : Stamp) (room : Room) (pieces : List Piece) (made : List Turn) (h' : Hearing) (text : List ℕ)
-      → AreAt now pieces → AreFedTo k seat faults room pieces new_session made h' text
-      → IsFed k seat faults now room new_session (stream pieces) made h' text
-  new_at_one_present cuts now room pieces made h' text all fed =
-      one_present cuts now room pieces new_session made h' text all (λ still. refl) fed
+  pub new_at_one_present : Cuts → (e : Extensions) (now : Stamp) (room : Room) (pieces : List Piece) (did : List Deed) (h' : Hearing)
+      (text : List ℕ) → AreAt now pieces → AreFedTo k seat faults room pieces (new_session e) did h' text
+      → IsFed k seat faults now room (new_session e) (stream pieces) did h' text
+  new_at_one_present cuts e now room pieces did h' text all fed =
+      one_present cuts now room pieces (new_session e) did h' text all (λ still. refl) fed
 
   -- a session that was new hears its stream
-  pub new_hears_stream : Cuts → (now : Stamp) (steps : List Step) (ss ss' : List Hearing) (events : List Event) (i : ℕ) → i < length ss
-      → All (λ step. step.piece.now ≡ now) steps → AreFed k seat faults steps ss events ss' → session_at ss i ≡ new_session
-      → IsFed k seat faults now any_room new_session (stream (pieces_of i steps)) (turns_of (events_of i events)) (session_at ss' i)
+  pub new_hears_stream : Cuts → (e : Extensions) (now : Stamp) (steps : List Step) (ss ss' : List Hearing) (events : List Event) (i : ℕ)
+      → i < length ss → All (λ step. step.piece.now ≡ now) steps → AreFed k seat faults steps ss events ss'
+      → session_at ss i ≡ new_session e
+      → IsFed k seat faults now any_room (new_session e) (stream (pieces_of i steps)) (deeds_of (events_of i events)) (session_at ss' i)
       (replies_written i events)
-  new_hears_stream cuts now steps ss ss' events i within all fed new =
-      new_at_one_present cuts now any_room (pieces_of i steps) _ _ _ (pieces_at now steps i all)
-      (subst (λ (h : Hearing). AreFedTo k seat faults any_room (pieces_of i steps) h (turns_of (events_of i events)) (session_at ss' i)
+  new_hears_stream cuts e now steps ss ss' events i within all fed new =
+      new_at_one_present cuts e now any_room (pieces_of i steps) _ _ _ (pieces_at now steps i all)
+      (subst (λ (h : Hearing). AreFedTo k seat faults any_room (pieces_of i steps) h (deeds_of (events_of i events)) (session_at ss' i)
       (replies_written i events))
       new (hears_pieces steps ss ss' events i within fed))
 
@@ -138,7 +140,7 @@ module _ (k : Contents) (seat : ℕ) (faults : TurnFault → Type 0) where
   none_ends_so f other never (step ∷ steps) ss ss' [] none before = absurd none
   none_ends_so f other never (step ∷ steps) ss ss' (event ∷ events) first before =
       let now_not : first.next.ended ≡ Some (end.Turn f) → ⊥ =
-      fed_other k seat faults f other never step.piece.now any_room step.piece.bytes event.made
+      fed_other k seat faults f other never step.piece.now any_room step.piece.bytes event.did
       (session_at ss step.session) first.next event.text first.fed
       (before step.session) in
       let rest = none_ends_so f other never steps (set ss step.session first.next) ss' events first.rest
@@ -151,9 +153,9 @@ written_append i events then =
     ap text_of (filter-append (λ (event : Event). event.session == i) events then)
     ∙ flat_map-append (λ (event : Event). event.text) (events_of i events) (events_of i then)
 
--- their turns
-pub turns_append : (events then : List Event) → turns_of (events ++ then) ≡ turns_of events ++ turns_of then
-turns_append events then = flat_map-append (λ (event : Event). event.made) events then
+-- what is done in them
+pub deeds_append : (events then : List Event) → deeds_of (events ++ then) ≡ deeds_of events ++ deeds_of then
+deeds_append events then = flat_map-append (λ (event : Event). event.did) events then
 
 module _ {A O : Type 0} (office : Ghosts O A) where
   -- some steps are played, and then some more
@@ -165,7 +167,7 @@ module _ {A O : Type 0} (office : Ghosts O A) where
       record {
         events = first.events ++ rest.events;
         fed = fed_append _ _ _ steps more ss then ss' first.events rest.events first.fed (rw same at rest.fed);
-        works = rw turns_append (works_append office old between new (turns_of first.events) (turns_of rest.events) first.works rest.works);
+        works = rw deeds_append (works_append office old between new (deeds_of first.events) (deeds_of rest.events) first.works rest.works);
         outs_are = λ i within.
             rest.outs_are i (rw first.sizes.0 within)
             ∙ (ap (λ (t : List ℕ). t ++ replies_written i rest.events) (first.outs_are i within)
@@ -181,13 +183,13 @@ module _ {A O : Type 0} (office : Ghosts O A) where
       → Feeds office old new o p step.piece.now (session_at ss step.session) step.piece.bytes next
       → Plays office old new (step ∷ []) ss (set ss step.session next) outs (set outs step.session p.items)
   plays_one old new o p step ss next outs within as_many here feeds =
-      let event : Event = record { session = step.session; made = feeds.made; text = feeds.text; ended = next.ended } in
+      let event : Event = record { session = step.session; did = feeds.did; text = feeds.text; ended = next.ended } in
       record {
         events = event ∷ [];
         fed = record {
           next = next;
           same = refl;
-          fed = less_room _ _ _ step.piece.now _ any_room step.piece.bytes feeds.made (session_at ss step.session) next feeds.text
+          fed = less_room _ _ _ step.piece.now _ any_room step.piece.bytes feeds.did (session_at ss step.session) next feeds.text
               (omega arith) (omega arith) feeds.fed;
           ended = refl;
           rest = (refl, refl);

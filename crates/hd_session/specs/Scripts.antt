@@ -1,12 +1,15 @@
 -- Several sessions, and the pieces of their streams in the order in which they come.
 use Rattle.std.specs.Prelude.{◌≡◌, ◌==◌, ℕ, ◌<◌, ◌≤◌, List, [], ◌∷◌, ◌++◌, All, Option, length, map}
-use Rattle.std.specs.Prelude.{Result, Ok, Err, flat_map, filter, slice_index_or, slice_set}
+use Rattle.std.specs.Prelude.{Result, Ok, Err, false, flat_map, filter, slice_index_or, slice_set}
 use Rattle.std.specs.Borrow.{Bor}
 use Rattle.hd_date.specs.Stamps.{Stamp}
 use Rattle.hd_rules.specs.Journal.{Turn}
 use Rattle.hd_catalogue.specs.Contents.{Contents}
 use Rattle.hd_journal.specs.declared.fault.TurnFault.{TurnFault}
+use Rattle.hd_journal.specs.Books.{Book}
 use Rattle.hd_journal.specs.declared.office.Office.{Ghosts}
+use Rattle.hd_exchange.specs.Deeds.{Deed, turns_in}
+use Rattle.hd_exchange.specs.Extensions.{no_extensions}
 use Rattle.hd_exchange.specs.Works.{Works}
 use Rattle.hd_session.specs.declared.ended.Ended.{Ended}
 use Rattle.hd_session.specs.declared.script.ScriptFault.{ScriptFault}
@@ -19,17 +22,17 @@ pub record Step : Type 0 where
   pub session : ℕ
   pub piece : Piece
 
--- What came of a step: the turns that its session made, what it was answered, and whether it then has ended
--- and why.
+-- What came of a step: what the office did for its session, what that was answered, and whether it then has
+-- ended and why.
 pub record Event : Type 0 where
   pub session : ℕ
-  pub made : List Turn
+  pub did : List Deed
   pub text : List ℕ
   pub ended : Option Ended
 
--- the session of a number
+-- the session of a number; behind the last, one that is new and has no extensions
 abbrev pub session_at : List Hearing → ℕ → Hearing
-session_at sessions i = slice_index_or sessions i new_session
+session_at sessions i = slice_index_or sessions i (new_session no_extensions)
 
 -- the pieces of a session, in order
 abbrev pub pieces_of : ℕ → List Step → List Piece
@@ -39,9 +42,13 @@ pieces_of i steps = map (λ step. step.piece) (filter (λ step. step.session == 
 abbrev pub events_of : ℕ → List Event → List Event
 events_of i events = filter (λ event. event.session == i) events
 
--- all turns of some events, in order
+-- all that the office does in some events, in order
+abbrev pub deeds_of : List Event → List Deed
+deeds_of events = flat_map (λ event. event.did) events
+
+-- and the turns that it makes
 abbrev pub turns_of : List Event → List Turn
-turns_of events = flat_map (λ event. event.made) events
+turns_of events = turns_in (deeds_of events)
 
 -- all that is answered in some events, in order
 abbrev pub text_of : List Event → List ℕ
@@ -63,7 +70,7 @@ module _ (k : Contents) (seat : ℕ) (faults : TurnFault → Type 0) where
     pub next : Hearing
     pub same : event.session ≡ step.session
     pub fed : IsFed k seat faults step.piece.now any_room (session_at ss step.session) step.piece.bytes
-        event.made next event.text
+        event.did next event.text
     pub ended : event.ended ≡ next.ended
     pub rest : AreFed (slice_set ss step.session next) events ss'
 
@@ -73,17 +80,27 @@ module _ (k : Contents) (seat : ℕ) (faults : TurnFault → Type 0) where
   AreFed (step ∷ steps) ss [] ss' = ⊥
   AreFed (step ∷ steps) ss (event ∷ events) ss' = FeedsOne (AreFed steps) step ss event events ss'
 
--- A script is played at an office, which makes the turns of its events: to each session is appended what is
+-- A script is played at an office, which does what its events say: to each session is appended what is
 -- written to it, and no session comes or goes.
 pub record Plays {A O : Type 0} (office : Ghosts O A) (old new : O) (steps : List Step)
     (ss ss' : List Hearing) (outs outs' : List (List ℕ)) : Type 0 where
   pub events : List Event
   pub fed : AreFed (office.keeps old).contents (office.keeps old).seat office.faults steps ss events ss'
-  pub works : Works office old new (turns_of events)
+  pub works : Works office old new (deeds_of events)
   pub outs_are : (i : ℕ) → i < length ss
       → slice_index_or outs' i [] ≡ slice_index_or outs i [] ++ replies_written i events
   pub sizes : (length ss' ≡ length ss) × (length outs' ≡ length outs)
   pub known : AreKnownTo (office.keeps old).contents ss → AreKnownTo (office.keeps old).contents ss'
+
+-- each session has patron messages off
+abbrev pub HaveNoPatronMessages : List Hearing → Type 0
+HaveNoPatronMessages sessions =
+    (i : ℕ) → (session_at sessions i).state.extensions.profile.patron_messages ≡ false
+
+-- after the same turns a look is shown the same turns: as by a journal alone, which shows those that it has
+abbrev pub ShowsTheSame : (List Turn → Book → Type 0) → Type 0
+ShowsTheSame shows =
+    (turns : List Turn) (book book' : Book) → shows turns book → shows turns book' → book.turns ≡ book'.turns
 
 -- the steps that are played: all of a script, or none where a piece of it names no session
 abbrev pub played : Result (Unit {0}) ScriptFault → List Step → List Step

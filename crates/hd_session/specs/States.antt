@@ -5,25 +5,28 @@ use Rattle.std.specs.Option.{ForSome}
 use Rattle.hd_date.specs.Stamps.{Stamp}
 use Rattle.hd_guard.specs.Reading.{Reading, PlainLine, CheckedLine, WrongLine, read_line}
 use Rattle.hd_guard.specs.Sequence.{next_digit}
-use Rattle.hd_rules.specs.Journal.{Turn}
 use Rattle.hd_catalogue.specs.Contents.{Contents, facts_of}
 use Rattle.hd_exchange.specs.declared.login.Login.{Login}
 use Rattle.hd_exchange.specs.Answers.{AsksTheOffice, IsAnswer}
 use Rattle.hd_exchange.specs.Arrivals.{IsKnownLogin}
+use Rattle.hd_exchange.specs.Deeds.{Deed}
+use Rattle.hd_exchange.specs.Extensions.{Extensions}
 use Rattle.hd_exchange.specs.declared.reply_kind.ReplyKind.{ReplyKind}
 use Rattle.hd_session.specs.Trailers.{last_after, send_again, text_said}
 
--- What a session has come to: the terminal as which it stands; its last reply that isn't a 96, empty before
--- any; the last sequence digit; and how many lines didn't carry the digit after the one before.
+-- What a session has come to: the extensions with which it was opened; the terminal as which it stands; its
+-- last reply that isn't a 96, empty before any; the last sequence digit; and how many lines didn't carry the
+-- digit after the one before.
 pub record State : Type 0 where
+  pub extensions : Extensions
   pub place : Option Login
   pub last : List ℕ
   pub digit : Option ℕ
   pub gaps : ℕ
 
 -- a new session
-abbrev pub new_state : State
-new_state = record { place = None; last = []; digit = None; gaps = 0 }
+abbrev pub new_state : Extensions → State
+new_state e = record { extensions = e; place = None; last = []; digit = None; gaps = 0 }
 
 -- a session stands as a terminal of the catalogue, or as none
 abbrev pub IsKnownTo : Contents → State → Type 0
@@ -50,35 +53,37 @@ line_with digit line = option_map (λ _. line) digit
 
 -- What a line is answered at a seat of a library, at a present.
 module _ (k : Contents) (seat : ℕ) (now : Stamp) where
-  -- A right line with this body and digit is answered with this text, by these turns; and the session then
-  -- stands so.
+  -- A right line with this body and digit is answered with this text, by what the office does for it; and the
+  -- session then stands so.
   pub record IsAnswered (s : State) (line body : List ℕ) (checked : Bool) (digit : Option ℕ)
-      (made : List Turn) (next : State) (text : List ℕ) : Type 0 where
+      (did : List Deed) (next : State) (text : List ℕ) : Type 0 where
     pub says : ReplyKind
     pub reply : List ℕ
-    pub answer : IsAnswer k seat now s.place (line_with digit line) body says reply made next.place
+    pub answer : IsAnswer k s.extensions seat now s.place (line_with digit line) body says reply did
+        next.place
+    pub extensions_stay : next.extensions ≡ s.extensions
     pub spelled : text ≡ text_said s.last checked digit says reply
     pub last : next.last ≡ last_after s.last checked digit says reply
     pub digit_is : next.digit ≡ digit_after s.digit digit
     pub gaps_are : next.gaps ≡ gaps_after s.digit s.gaps digit
 
   -- a line by its trailer: one with a wrong check number is to be sent again, and counts for nothing
-  abbrev pub IsReadAndAnswered : State → List ℕ → Reading → List Turn → State → List ℕ → Type 0
-  IsReadAndAnswered s line (PlainLine body) made next text = IsAnswered s line body false None made next text
-  IsReadAndAnswered s line (CheckedLine body digit) made next text =
-      IsAnswered s line body true digit made next text
-  IsReadAndAnswered s line WrongLine made next text = (made ≡ []) × (next ≡ s) × (text ≡ send_again true)
+  abbrev pub IsReadAndAnswered : State → List ℕ → Reading → List Deed → State → List ℕ → Type 0
+  IsReadAndAnswered s line (PlainLine body) did next text = IsAnswered s line body false None did next text
+  IsReadAndAnswered s line (CheckedLine body digit) did next text =
+      IsAnswered s line body true digit did next text
+  IsReadAndAnswered s line WrongLine did next text = (did ≡ []) × (next ≡ s) × (text ≡ send_again true)
 
   -- what a line is answered; an empty one nothing
-  abbrev pub IsHeard : State → List ℕ → List Turn → State → List ℕ → Type 0
-  IsHeard s [] made next text = (made ≡ []) × (next ≡ s) × (text ≡ [])
-  IsHeard s (byte ∷ bytes) made next text =
-      IsReadAndAnswered s (byte ∷ bytes) (read_line (byte ∷ bytes)) made next text
+  abbrev pub IsHeard : State → List ℕ → List Deed → State → List ℕ → Type 0
+  IsHeard s [] did next text = (did ≡ []) × (next ≡ s) × (text ≡ [])
+  IsHeard s (byte ∷ bytes) did next text =
+      IsReadAndAnswered s (byte ∷ bytes) (read_line (byte ∷ bytes)) did next text
 
 -- a line asks something of the office, of a session that stands so, by its trailer: its body does
 abbrev pub ReadingAsks : Contents → State → Reading → Type 0
-ReadingAsks k s (PlainLine body) = AsksTheOffice k s.place body
-ReadingAsks k s (CheckedLine body digit) = AsksTheOffice k s.place body
+ReadingAsks k s (PlainLine body) = AsksTheOffice k s.extensions s.place body
+ReadingAsks k s (CheckedLine body digit) = AsksTheOffice k s.extensions s.place body
 ReadingAsks k s WrongLine = ⊥
 
 -- the line asks something of the office. One with a wrong check number asks nothing.

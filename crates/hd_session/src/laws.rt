@@ -1,11 +1,13 @@
 //! The laws of sessions.
-ghost use Rattle.std.specs.Prelude.{◌≡◌, ◌<◌, ◌≤◌, ◌+◌, ◌*◌, ◌++◌, ℕ, All, List, Some, length};
+ghost use Rattle.std.specs.Prelude.{◌≡◌, ◌<◌, ◌≤◌, ◌+◌, ◌*◌, ◌++◌, ℕ, All, List, Some, false, length};
 ghost use Rattle.hd_date.specs.Stamps.{Stamp};
 ghost use Rattle.hd_rules.specs.Journal.{IsLegal, Turn};
 ghost use Rattle.hd_catalogue.specs.Contents.{Contents, facts_of};
+ghost use Rattle.hd_exchange.specs.Deeds.{AreShown, AreTurns, Deed};
+ghost use Rattle.hd_exchange.specs.Extensions.{Extensions};
 ghost use Rattle.hd_field.specs.Streams.{lines_in};
 ghost use Rattle.hd_session.specs.Endings.{EndsWell};
-ghost use Rattle.hd_session.specs.Scripts.{AreFed, Event, Step};
+ghost use Rattle.hd_session.specs.Scripts.{AreFed, Event, HaveNoPatronMessages, ShowsTheSame, Step, deeds_of};
 ghost use Rattle.hd_session.specs.Scripts.{events_of, pieces_of, session_at, turns_of, replies_written};
 ghost use Rattle.hd_session.specs.Sessions.{AreFedTo, Hearing, IsFed, Piece, Room, any_room, new_session};
 ghost use Rattle.hd_session.specs.Sessions.{stream};
@@ -13,37 +15,37 @@ ghost use Rattle.hd_session.specs.declared.ended.Ended.TheVariants as end;
 ghost use Rattle.hd_journal.specs.declared.fault.TurnFault.{TurnFault};
 ghost use Rattle.hd_journal.specs.declared.fault.TurnFault.TheVariants as fault;
 
-use hd_exchange::{Office, each_body_has_one_answer};
+use hd_exchange::{Office, each_body_has_one_answer, only_patron_messages_look};
 use hd_field::cuts_change_nothing;
 use std::alloc::Allocator;
 
 /// A session that is fed a piece of its stream and then another at the same present is one that is fed both
-/// at once: however a stream is cut, the same turns are made and the same text is answered. The second piece
+/// at once: however a stream is cut, the same is done and the same text is answered. The second piece
 /// may come with less room, by what the replies to the first have taken.
 pub fn pieces_are_one<A: Allocator, O: Office<A>>()
     ensures { (k : Contents) (seat : ℕ) (now : Stamp) (room left : Room)
-        (first then : List ℕ) (made made' : List Turn) (h between h' : Hearing) (text text' : List ℕ)
+        (first then : List ℕ) (did did' : List Deed) (h between h' : Hearing) (text text' : List ℕ)
         → room.before ≤ left.before + 2048 * length (lines_in h.begun first)
         → room.after ≤ left.after
-        → IsFed k seat O.faults now room h first made between text
-        → IsFed k seat O.faults now left between then made' h' text'
-        → IsFed k seat O.faults now room h (first ++ then) (made ++ made') h' (text ++ text') }
+        → IsFed k seat O.faults now room h first did between text
+        → IsFed k seat O.faults now left between then did' h' text'
+        → IsFed k seat O.faults now room h (first ++ then) (did ++ did') h' (text ++ text') }
 {
     cuts_change_nothing();
 }
 
 /// A new session that is fed pieces of its stream at one present is one that is fed its whole stream at once.
 pub fn pieces_at_one_present<A: Allocator, O: Office<A>>()
-    ensures { (k : Contents) (seat : ℕ) (now : Stamp) (room : Room) (pieces : List Piece) (made : List Turn)
-        (h' : Hearing) (text : List ℕ)
+    ensures { (k : Contents) (e : Extensions) (seat : ℕ) (now : Stamp) (room : Room) (pieces : List Piece)
+        (did : List Deed) (h' : Hearing) (text : List ℕ)
         → All (λ piece. piece.now ≡ now) pieces
-        → AreFedTo k seat O.faults room pieces new_session made h' text
-        → IsFed k seat O.faults now room new_session (stream pieces) made h' text }
+        → AreFedTo k seat O.faults room pieces (new_session e) did h' text
+        → IsFed k seat O.faults now room (new_session e) (stream pieces) did h' text }
 {
     cuts_change_nothing();
 }
 
-/// Of a script, each session has heard its own pieces in their order, as if they had come alone: by the turns
+/// Of a script, each session has heard its own pieces in their order, as if they had come alone: by the deeds
 /// that are its own, and with all that is written to it. One that was new at the start of a script at one
 /// present has heard its whole stream, as if it had come in one piece.
 pub fn sessions_hear_their_streams<A: Allocator, O: Office<A>>()
@@ -52,15 +54,15 @@ pub fn sessions_hear_their_streams<A: Allocator, O: Office<A>>()
         → i < length ss
         → AreFed k seat O.faults steps ss events ss'
         → AreFedTo k seat O.faults any_room (pieces_of i steps) (session_at ss i)
-        (turns_of (events_of i events)) (session_at ss' i) (replies_written i events) }
-    ensures whole { (k : Contents) (seat : ℕ) (now : Stamp) (steps : List Step)
+        (deeds_of (events_of i events)) (session_at ss' i) (replies_written i events) }
+    ensures whole { (k : Contents) (e : Extensions) (seat : ℕ) (now : Stamp) (steps : List Step)
         (ss ss' : List Hearing) (events : List Event) (i : ℕ)
         → i < length ss
         → All (λ step. step.piece.now ≡ now) steps
         → AreFed k seat O.faults steps ss events ss'
-        → session_at ss i ≡ new_session
-        → IsFed k seat O.faults now any_room new_session (stream (pieces_of i steps))
-        (turns_of (events_of i events)) (session_at ss' i) (replies_written i events) }
+        → session_at ss i ≡ new_session e
+        → IsFed k seat O.faults now any_room (new_session e) (stream (pieces_of i steps))
+        (deeds_of (events_of i events)) (session_at ss' i) (replies_written i events) }
 {
     cuts_change_nothing();
 }
@@ -69,9 +71,9 @@ pub fn sessions_hear_their_streams<A: Allocator, O: Office<A>>()
 /// never estranged and writes nothing, ends none by these.
 pub fn no_session_ends_by_another_fault<A: Allocator, O: Office<A>>()
     ensures fed { (k : Contents) (seat : ℕ) (now : Stamp) (room : Room) (piece : List ℕ)
-        (made : List Turn) (h h' : Hearing) (text : List ℕ) (what : TurnFault)
+        (did : List Deed) (h h' : Hearing) (text : List ℕ) (what : TurnFault)
         → ¬ what ≡ fault.Memory → ¬ O.faults what
-        → IsFed k seat O.faults now room h piece made h' text
+        → IsFed k seat O.faults now room h piece did h' text
         → ¬ h.ended ≡ Some (end.Turn what)
         → ¬ h'.ended ≡ Some (end.Turn what) }
     ensures script { (k : Contents) (seat : ℕ) (steps : List Step) (ss ss' : List Hearing)
@@ -83,12 +85,36 @@ pub fn no_session_ends_by_another_fault<A: Allocator, O: Office<A>>()
         × ((i : ℕ) → ¬ (session_at ss' i).ended ≡ Some (end.Turn what)) }
 {}
 
+/// A session keeps the extensions with which it was opened. Where patron messages are off, no look is made
+/// for it: the office makes turns, and nothing else; and so in a script of such sessions.
+pub fn only_patron_messages_look_in_sessions<A: Allocator, O: Office<A>>()
+    ensures extensions { (k : Contents) (seat : ℕ) (now : Stamp) (room : Room) (piece : List ℕ)
+        (did : List Deed) (h h' : Hearing) (text : List ℕ)
+        → IsFed k seat O.faults now room h piece did h' text
+        → h'.state.extensions ≡ h.state.extensions }
+    ensures fed { (k : Contents) (seat : ℕ) (now : Stamp) (room : Room) (piece : List ℕ)
+        (did : List Deed) (h h' : Hearing) (text : List ℕ)
+        → h.state.extensions.profile.patron_messages ≡ false
+        → IsFed k seat O.faults now room h piece did h' text
+        → AreTurns did }
+    ensures script { (k : Contents) (seat : ℕ) (steps : List Step) (ss ss' : List Hearing)
+        (events : List Event)
+        → HaveNoPatronMessages ss
+        → AreFed k seat O.faults steps ss events ss'
+        → AreTurns (deeds_of events) × HaveNoPatronMessages ss' }
+{
+    only_patron_messages_look();
+}
+
 /// A script in which each session goes on, or is ended by a line too long, is determined by its pieces. Where
 /// it is played twice from sessions that are alike, each time at a legal journal that goes on from the same
-/// turns, the same events come of it (the turns, the replies and the ends), and the sessions are alike again.
+/// turns, the same events come of it (what the office does, the replies and the ends), and the sessions are
+/// alike again. That is so of sessions without patron messages; and of any others where the office shows a
+/// look the same after the same turns.
 pub fn scripts_are_determined<A: Allocator, O: Office<A>>()
-    ensures { (k : Contents) (seat : ℕ) (turns : List Turn) (steps : List Step)
+    ensures standard { (k : Contents) (seat : ℕ) (turns : List Turn) (steps : List Step)
         (ss ends ends' : List Hearing) (events events' : List Event)
+        → HaveNoPatronMessages ss
         → IsLegal (facts_of k) (turns ++ turns_of events)
         → IsLegal (facts_of k) (turns ++ turns_of events')
         → All (λ event. EndsWell event.ended) events
@@ -96,6 +122,19 @@ pub fn scripts_are_determined<A: Allocator, O: Office<A>>()
         → AreFed k seat O.faults steps ss events ends
         → AreFed k seat O.faults steps ss events' ends'
         → (events ≡ events') × (ends ≡ ends') }
+    ensures shown { (k : Contents) (seat : ℕ) (turns : List Turn) (steps : List Step)
+        (ss ends ends' : List Hearing) (events events' : List Event)
+        → ShowsTheSame O.shows
+        → IsLegal (facts_of k) (turns ++ turns_of events)
+        → IsLegal (facts_of k) (turns ++ turns_of events')
+        → AreShown k O.shows turns (deeds_of events)
+        → AreShown k O.shows turns (deeds_of events')
+        → All (λ event. EndsWell event.ended) events
+        → All (λ event. EndsWell event.ended) events'
+        → AreFed k seat O.faults steps ss events ends
+        → AreFed k seat O.faults steps ss events' ends'
+        → (events ≡ events') × (ends ≡ ends') }
 {
     each_body_has_one_answer();
+    only_patron_messages_look();
 }

@@ -10,8 +10,10 @@ mod state;
 
 pub use crate::ended::Ended;
 pub use crate::laws::{
-    no_session_ends_by_another_fault, pieces_are_one, pieces_at_one_present,
-    scripts_are_determined, sessions_hear_their_streams,
+    no_session_ends_by_another_fault, only_patron_messages_look_in_sessions, pieces_are_one,
+    pieces_at_one_present, scripts_are_determined, sessions_hear_their_streams,
 };
 pub use crate::session::Session;
-pub use hd_exchange::{Ask, Login, Office, OfficeFault, Turn, TurnFault};
+pub use hd_exchange::{
+    Ask, Extensions, Login, Office, OfficeFault, Patrons, Profile, Turn, TurnFault,
+};

@@ -26,7 +26,7 @@ pub enum ScriptFault {
 pub fn run<A: Allocator + Copy, O: Office<A>>(
     office: &mut O,
     now: &Stamp18,
-    sessions: &mut [Session<A>],
+    sessions: &mut [Session<'_, A>],
     pieces: &[(usize, &[u8])],
     outs: &mut [Vec<u8, A>],
 ) -> Result<(), ScriptFault>
@@ -67,7 +67,7 @@ fn stranger(pieces: &[(usize, &[u8])], sessions: usize) -> Option<usize>
 fn play<A: Allocator + Copy, O: Office<A>>(
     office: &mut O,
     now: &Stamp18,
-    sessions: &mut [Session<A>],
+    sessions: &mut [Session<'_, A>],
     session: usize,
     bytes: &[u8],
     outs: &mut [Vec<u8, A>],

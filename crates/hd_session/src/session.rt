@@ -1,25 +1,28 @@
 //! Sessions.
 ghost use Rattle.std.specs.Prelude.{◌≡◌, ◌≤◌, ◌∷◌, [], Some, None, IfErr, IfOk, OnOk, OnErr, length};
+ghost use Rattle.hd_exchange.specs.Extensions.{extensions_lent, no_extensions};
 ghost use Rattle.hd_session.specs.Sessions.{Answers, Feeds, IsCause, new_session, room_of};
 ghost use Rattle.hd_session.specs.States.{IsKnownTo};
 
 use crate::ended::Ended;
 use crate::state::{LONGEST_REPLY, SessionState};
 use hd_date::Stamp18;
-use hd_exchange::{Office, TurnFault};
+use hd_exchange::{Extensions, Office, TurnFault};
 use hd_field::Stream;
 use std::alloc::{AllocError, Allocator, Global};
 use std::marker::Model;
 
 /// A terminal's session: its line that hasn't ended, and where it stands (docs/protocol.md, "Sessions").
-pub struct Session<A: Allocator = Global> {
+///
+/// It is lent what extends its messages, if anything does.
+pub struct Session<'e, A: Allocator = Global> {
     stream: Stream<A>,
-    state: SessionState<A>,
+    state: SessionState<'e, A>,
     ended: Option<Ended>,
 }
 
 // Written out, so that a caller's proof sees one call and not the drop of each field.
-impl<A: Allocator> Drop for Session<A> {
+impl<'e, A: Allocator> Drop for Session<'e, A> {
     fn drop(self) {
         let Session {
             stream: _stream,
@@ -29,7 +32,7 @@ impl<A: Allocator> Drop for Session<A> {
     }
 }
 
-impl<A: Allocator> Model for Session<A> {
+impl<'e, A: Allocator> Model for Session<'e, A> {
     ghost use Rattle.hd_session.specs.Sessions.{Hearing};
 
     ghost Value = { Hearing };
@@ -37,17 +40,40 @@ impl<A: Allocator> Model for Session<A> {
     ghost view = { λ s. record { begun = s.stream; state = s.state; ended = s.ended } };
 }
 
-impl<A: Allocator + Copy> Session<A> {
+impl<'e, A: Allocator + Copy> Session<'e, A> {
     /// A session before its first byte, with room for its longest line and its last reply. It stands as no
-    /// terminal.
+    /// terminal, and is answered the standard messages alone.
     ///
     /// # Errors
     /// Where it is out of memory.
-    pub fn new(alloc: A) -> Result<Session<A>, AllocError>
-        ensures { IfOk result (λ session. session ≡ new_session) }
+    pub fn new(alloc: A) -> Result<Session<'e, A>, AllocError>
+        ensures { IfOk result (λ session. session ≡ new_session no_extensions) }
+    {
+        Session::opened(alloc, None)
+    }
+
+    /// The same with these extensions, which it keeps.
+    ///
+    /// # Errors
+    /// Where it is out of memory.
+    pub fn extended(alloc: A, extensions: &'e Extensions<A>) -> Result<Session<'e, A>, AllocError>
+        ensures { IfOk result (λ session. session ≡ new_session extensions.now) }
+    {
+        Session::opened(alloc, Some(extensions))
+    }
+
+    /// The same with these extensions, if any.
+    ///
+    /// # Errors
+    /// Where it is out of memory.
+    pub fn opened(
+        alloc: A,
+        extensions: Option<&'e Extensions<A>>,
+    ) -> Result<Session<'e, A>, AllocError>
+        ensures { IfOk result (λ session. session ≡ new_session (extensions_lent extensions.entry)) }
     {
         let stream = Stream::new(alloc)?;
-        let state = SessionState::new(alloc)?;
+        let state = SessionState::new(alloc, extensions)?;
         Ok(Session {
             stream,
             state,
@@ -55,18 +81,18 @@ impl<A: Allocator + Copy> Session<A> {
         })
     }
 
-    /// Takes a piece of the terminal's stream: each line that ends in it is answered, its turn made at the
-    /// office and its reply, with its carriage return, appended to `out`. However a stream is cut into
-    /// pieces, its lines are answered alike (`pieces_are_one`).
+    /// Takes a piece of the terminal's stream: each line that ends in it is answered, what it asks of the
+    /// office is done, and its reply, with its carriage return, is appended to `out`. However a stream is cut
+    /// into pieces, its lines are answered alike (`pieces_are_one`).
     ///
-    /// `now` is the present. The room of a line's reply is made before its turn: 2,048 bytes.
+    /// `now` is the present. The room of a line's reply is made before the office is asked: 2,048 bytes.
     ///
     /// # Errors
     /// Why the session ended, at this piece or before. One that has ended does nothing more.
     ///
     /// `TooLong` where a line has 1,025 bytes. `Turn` at a line that asks something of an office that gives
     /// this fault, and as `Memory` also where `out` hasn't the room for the line's reply and can't grow: this
-    /// line makes no turn, and the state is as before it. The lines before are answered.
+    /// line has nothing done, and the state is as before it. The lines before are answered.
     pub fn feed<O: Office<A>>(
         &mut self,
         piece: &[u8],
@@ -148,10 +174,10 @@ impl<A: Allocator + Copy> Session<A> {
 /// nothing.
 ///
 /// # Errors
-/// The fault of the office, or `Memory` where the reply's room can't be made. There is no turn and no reply
-/// then, and the state is as before.
+/// The fault of the office, or `Memory` where the reply's room can't be made. Nothing is done then, there is
+/// no reply, and the state is as before.
 fn answer_line<A: Allocator + Copy, O: Office<A>>(
-    state: &mut SessionState<A>,
+    state: &mut SessionState<'_, A>,
     now: &Stamp18,
     line: &[u8],
     office: &mut O,

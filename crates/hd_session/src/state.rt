@@ -1,8 +1,9 @@
 //! The state of a session, and what a line is answered.
 ghost use Rattle.std.specs.Prelude.{◌≡◌, ◌≤◌, ◌+◌, ◌++◌, ◌∷◌, [], ℕ, List, IfErr, IfOk, OnOk, OnErr};
 ghost use Rattle.std.specs.Prelude.{take, drop, length, vec_capacity, vec_len, option_map};
-ghost use Rattle.hd_rules.specs.Journal.{Turn};
 ghost use Rattle.hd_exchange.specs.Answers.{AsksTheOffice};
+ghost use Rattle.hd_exchange.specs.Deeds.{Deed};
+ghost use Rattle.hd_exchange.specs.Extensions.{extensions_lent};
 ghost use Rattle.hd_exchange.specs.Works.{Extends, Works};
 ghost use Rattle.hd_session.specs.Sessions.{Answers, IsSomeLine};
 ghost use Rattle.hd_session.specs.States.{IsAnswered, IsKnownTo, LineAsks};
@@ -11,7 +12,7 @@ ghost use Rattle.hd_session.specs.Trailers.{last_after, text_said};
 
 use crate::closing::{close, put_send_again};
 use hd_date::Stamp18;
-use hd_exchange::{Login, Office, ReplyKind, TurnFault, respond};
+use hd_exchange::{Extensions, Login, Office, ReplyKind, TurnFault, respond};
 use hd_guard::{Guarded, Seq, trailer};
 use std::alloc::{AllocError, Allocator};
 use std::marker::Model;
@@ -19,9 +20,11 @@ use std::marker::Model;
 /// No reply is longer, its trailer and carriage return included. The last reply has this room from the start.
 pub(crate) const LONGEST_REPLY: usize = 2_048;
 
-/// The state of a session: as which terminal it is logged in, its last reply, and the digits of its lines.
+/// The state of a session: what extends its messages, as which terminal it is logged in, its last reply, and
+/// the digits of its lines.
 #[derive(Drop)]
-pub(crate) struct SessionState<A: Allocator> {
+pub(crate) struct SessionState<'e, A: Allocator> {
+    extensions: Option<&'e Extensions<A>>,
     place: Option<Login>,
     /// The last reply that isn't a 96; empty before any.
     last: Vec<u8, A>,
@@ -30,13 +33,20 @@ pub(crate) struct SessionState<A: Allocator> {
     gaps: u64,
 }
 
-impl<A: Allocator> Model for SessionState<A> {
+impl<'e, A: Allocator> Model for SessionState<'e, A> {
     ghost use Rattle.std.specs.Prelude.{◌≤◌, vec_capacity, vec_len};
+    ghost use Rattle.hd_exchange.specs.Extensions.{extensions_lent};
     ghost use Rattle.hd_session.specs.States.{State};
 
     ghost Value = { State };
 
-    ghost view = { λ s. record { place = s.place; last = s.last.items; digit = s.digit; gaps = s.gaps } };
+    ghost view = { λ s. record {
+      extensions = extensions_lent s.extensions;
+      place = s.place;
+      last = s.last.items;
+      digit = s.digit;
+      gaps = s.gaps;
+    } };
 
     ghost invariant = { λ s. (vec_len s.last ≤ 2048) × (2048 ≤ vec_capacity s.last) };
 }
@@ -51,13 +61,17 @@ struct CheckedLine<'a> {
     digit: Option<Seq>,
 }
 
-impl<A: Allocator + Copy> SessionState<A> {
-    /// The state of a new session, with room for its last reply.
-    pub(crate) fn new(alloc: A) -> Result<SessionState<A>, AllocError>
-        ensures { IfOk result (λ state. state ≡ new_state) }
+impl<'e, A: Allocator + Copy> SessionState<'e, A> {
+    /// The state of a new session with some extensions, if any, and with room for its last reply.
+    pub(crate) fn new(
+        alloc: A,
+        extensions: Option<&'e Extensions<A>>,
+    ) -> Result<SessionState<'e, A>, AllocError>
+        ensures { IfOk result (λ state. state ≡ new_state (extensions_lent extensions.entry)) }
     {
         let last = Vec::with_capacity(alloc, LONGEST_REPLY)?;
         Ok(SessionState {
+            extensions,
             place: None,
             last,
             digit: None,
@@ -77,11 +91,12 @@ impl<A: Allocator + Copy> SessionState<A> {
         self.gaps
     }
 
-    /// Answers a line that isn't empty: appends its reply, for which there is room, and makes its turn.
+    /// Answers a line that isn't empty: appends its reply, for which there is room, and has the office do
+    /// what it asks.
     ///
     /// # Errors
-    /// The fault of the office, where the line asks something of it: there is no turn then, no reply, and the
-    /// state is as before.
+    /// The fault of the office, where the line asks something of it: it does nothing then, there is no reply,
+    /// and the state is as before.
     pub(crate) fn hear<O: Office<A>>(
         &mut self,
         now: &Stamp18,
@@ -141,11 +156,11 @@ impl<A: Allocator + Copy> SessionState<A> {
         requires body { length line.now.body.now ≤ 1024 }
         requires room { vec_len out.old + 2048 ≤ vec_capacity out.old }
         ensures answered { OnOk result (
-            (made : List Turn)
+            (did : List Deed)
             × (text : List ℕ)
             × IsAnswered (O.keeps office.old).contents (O.keeps office.old).seat now.now self.old
-            line.now.bytes.now line.now.body.now line.now.has_trailer line.now.digit made self.new text
-            × Works O.Office office.old office.new made
+            line.now.bytes.now line.now.body.now line.now.has_trailer line.now.digit did self.new text
+            × Works O.Office office.old office.new did
             × Extends out.old out.new text
             × (length text ≤ 2048)) }
         ensures err { OnErr result (
@@ -154,13 +169,22 @@ impl<A: Allocator + Copy> SessionState<A> {
             × Extends out.old out.new []) }
         ensures why { IfErr result O.faults }
         ensures asks { OnErr result (
-            AsksTheOffice (O.keeps office.old).contents self.old.place line.now.body.now) }
+            AsksTheOffice (O.keeps office.old).contents self.old.extensions self.old.place
+            line.now.body.now) }
         ensures place { IsKnownTo (O.keeps office.old).contents self.new }
     {
         let from = out.len();
         let kept = line_with(line.digit, line.bytes);
         let mut place = self.place;
-        let said = respond(office, now, &mut place, line.body, kept, out)?;
+        let said = respond(
+            office,
+            self.extensions,
+            now,
+            &mut place,
+            line.body,
+            kept,
+            out,
+        )?;
         self.place = place;
         self.count(line.digit);
         self.finish(said, line.has_trailer, line.digit, from, out);
@@ -172,6 +196,7 @@ impl<A: Allocator + Copy> SessionState<A> {
     fn count(&mut self, digit: Option<Seq>)
         ensures digit { self.new.digit ≡ digit_after self.old.digit digit }
         ensures gaps { self.new.gaps ≡ gaps_after self.old.digit self.old.gaps digit }
+        ensures extensions { self.new.extensions ≡ self.old.extensions }
         ensures place { self.new.place ≡ self.old.place }
         ensures last { self.new.last ≡ self.old.last }
     {
@@ -202,7 +227,8 @@ impl<A: Allocator + Copy> SessionState<A> {
         ensures text { out.new.items ≡ take from out.old.items
             ++ text_said self.old.last checked digit said (drop from out.old.items) }
         ensures last { self.new.last ≡ last_after self.old.last checked digit said (drop from out.old.items) }
-        ensures rest { (self.new.place ≡ self.old.place)
+        ensures rest { (self.new.extensions ≡ self.old.extensions)
+            × (self.new.place ≡ self.old.place)
             × (self.new.digit ≡ self.old.digit)
             × (self.new.gaps ≡ self.old.gaps) }
         ensures short { vec_len out.new ≤ from + 2048 }
@@ -228,7 +254,8 @@ impl<A: Allocator + Copy> SessionState<A> {
     fn keep(&mut self, reply: &[u8])
         requires { length reply.now ≤ 2048 }
         ensures last { self.new.last ≡ reply.now }
-        ensures rest { (self.new.place ≡ self.old.place)
+        ensures rest { (self.new.extensions ≡ self.old.extensions)
+            × (self.new.place ≡ self.old.place)
             × (self.new.digit ≡ self.old.digit)
             × (self.new.gaps ≡ self.old.gaps) }
     {

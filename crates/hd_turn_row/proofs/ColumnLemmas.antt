@@ -1,140 +1,181 @@
 -- What columns say, and their first fault.
-use Rattle.std.proofs.Common.{◌≡◌, ℕ, ◌<◌, ◌⊎◌, Option, None, Some, List, refl, sym, ap, ◌∙◌, inl, inr}
-use Rattle.std.specs.Prelude.{IfSome}
+use Rattle.std.proofs.Common.{◌≡◌, ℕ, ◌⊎◌, Option, None, Some, List, [], ◌∷◌, refl, sym, ap, subst, ◌∙◌, inl, inr, rules}
+use Rattle.std.specs.Prelude.{IfSome, is_some}
+use Rattle.std.specs.List.{AllByRecursion}
 use Rattle.std.proofs.lemmas.Option.{same_Some}
 use Rattle.hd_catalogue.specs.Contents.{Contents, branch_number, copy_number, facts_of, patron_number, title_number}
-use Rattle.hd_turn_row.specs.Columns.{AreKnownParts, AreShown, AskedTexts, IsShown, SaysAct, SaysAdmits, SaysBranch}
-use Rattle.hd_turn_row.specs.Columns.{SaysCopy, SaysPatron, SaysTitle}
+use Rattle.hd_turn_row.specs.Acts.{act_named, admits_named}
+use Rattle.hd_turn_row.specs.Columns.{AreKnownParts, AreShown, IsKnownIn, IsShown, Said, Says, asked_columns, day_of}
+use Rattle.hd_turn_row.specs.Columns.{part, text}
 use Rattle.hd_turn_row.specs.Days.{IsDayText}
-use Rattle.hd_turn_row.specs.Faults.{IsFirstMisfit, IsFirstUnread, IsReadColumn}
-use Rattle.hd_turn_row.specs.Forms.{FitsForm}
+use Rattle.hd_turn_row.specs.Faults.{IsFirst, IsFirstMisfit, IsReadText, misfit}
 use Rattle.hd_turn_row.specs.Grown.{OnlyGrew}
+use Rattle.hd_turn_row.specs.Rows.{text_or_empty}
 use Rattle.hd_turn_row.specs.declared.act.Act.{Act}
 use Rattle.hd_turn_row.specs.declared.act.Admits.{Admits}
+use Rattle.hd_turn_row.specs.declared.fault.Column.{Column}
+use Rattle.hd_turn_row.specs.declared.fault.Column.TheVariants as columns
 use Rattle.hd_turn_row.specs.declared.fault.RowFault.{RowFault}
-use Rattle.hd_turn_row.specs.declared.form.Form.{Form}
 use Rattle.hd_turn_row.specs.declared.parts.Parts.{Parts}
+use Rattle.hd_turn_store.specs.Kept.{KeptTurn}
 use Rattle.hd_turn_row.proofs.ActLemmas.{act_back, admits_back}
 use Rattle.hd_turn_row.proofs.NumberLemmas.{number_kept, number_known}
-use Rattle.hd_turn_row.proofs.PartLemmas.{same_parts}
-use Rattle.hd_turn_row.specs.Acts.{act_named, admits_named}
+
+-- of each column, from what holds of it
+each : (P Q : Column → Type 0) → ((c : Column) → P c → Q c) → (cs : List Column) → AllByRecursion P cs
+    → AllByRecursion Q cs
+each P Q all [] h = tt
+each P Q all (c ∷ cs) h = (all c h.0, each P Q all cs h.1)
+
+both : (P Q R : Column → Type 0) → ((c : Column) → P c → Q c → R c) → (cs : List Column) → AllByRecursion P cs
+    → AllByRecursion Q cs → AllByRecursion R cs
+both P Q R all [] h g = tt
+both P Q R all (c ∷ cs) h g = (all c h.0 g.0, both P Q R all cs h.1 g.1)
+
+-- what holds of each has no first fault
+pub none_first : (P : Column → Type 0) (fault_of : Column → RowFault) (cs : List Column) (fault : RowFault)
+    → AllByRecursion P cs → IsFirst P fault_of cs fault → ⊥
+none_first P fault_of [] fault all first = first
+none_first P fault_of (c ∷ cs) fault all (inl here) = here.0 all.0
+none_first P fault_of (c ∷ cs) fault all (inr later) = none_first P fault_of cs fault all.1 later.1
+
+-- parts are those that they are
+pub fits_self : (p : Parts) (fault : RowFault) → IsFirstMisfit p p fault → ⊥
+fits_self p fault first =
+    let all : AllByRecursion (λ c. part p c ≡ part p c) asked_columns = search rules depth 20 in
+    none_first (λ c. part p c ≡ part p c) (λ c. misfit (is_some (part p c)) c) asked_columns fault all first
 
 -- a column that shows a part is read
-pub shown_read : {V : Type 0} (Says : V → List ℕ → Type 0) (part : Option V) (text : Option (List ℕ)) → IsShown Says part text
-    → IsReadColumn Says text
+shown_read : {V : Type 0} (Says : V → List ℕ → Type 0) (part : Option V) (text : Option (List ℕ))
+    → IsShown Says part text → IsReadText Says text
 shown_read Says None None h = tt
 shown_read Says (Some part) (Some text) h = (part, h)
 shown_read Says None (Some text) h = absurd h
 shown_read Says (Some part) None h = absurd h
 
 -- and shows one part, where a text says one thing
-shown_once : {V : Type 0} (Says : V → List ℕ → Type 0) (part other : Option V) (text : Option (List ℕ)) → IsShown Says part text
-    → IsShown Says other text → ((x y : V) (t : List ℕ) → Says x t → Says y t → x ≡ y) → part ≡ other
-shown_once Says None None None h g once = refl
-shown_once Says None (Some y) None h g once = absurd g
-shown_once Says (Some x) other None h g once = absurd h
-shown_once Says None other (Some text) h g once = absurd h
-shown_once Says (Some x) None (Some text) h g once = absurd g
-shown_once Says (Some x) (Some y) (Some text) h g once = ap (λ v. Some v) (once x y text h g)
+shown_once : {V : Type 0} (Says : V → List ℕ → Type 0) (part other : Option V) (text : Option (List ℕ))
+    → ((x y : V) (t : List ℕ) → Says x t → Says y t → x ≡ y) → IsShown Says part text → IsShown Says other text
+    → part ≡ other
+shown_once Says None None None once h g = refl
+shown_once Says None (Some y) None once h g = absurd g
+shown_once Says (Some x) other None once h g = absurd h
+shown_once Says None other (Some text) once h g = absurd h
+shown_once Says (Some x) None (Some text) once h g = absurd g
+shown_once Says (Some x) (Some y) (Some text) once h g = ap (λ v. Some v) (once x y text h g)
 
 -- what holds of each part that a text may say holds of the one that is shown
-shown_all : (Says : ℕ → List ℕ → Type 0) (P : ℕ → Type 0) (part : Option ℕ) (text : Option (List ℕ)) → IsShown Says part text
-    → ((x : ℕ) (t : List ℕ) → Says x t → P x) → IfSome part P
-shown_all Says P None text h all = tt
-shown_all Says P (Some part) None h all = absurd h
-shown_all Says P (Some part) (Some text) h all = all part text h
+shown_all : {V : Type 0} (Says : V → List ℕ → Type 0) (P : V → Type 0) (part : Option V) (text : Option (List ℕ))
+    → ((x : V) (t : List ℕ) → Says x t → P x) → IsShown Says part text → IfSome part P
+shown_all Says P None text all h = tt
+shown_all Says P (Some part) None all h = absurd h
+shown_all Says P (Some part) (Some text) all h = all part text h
 
 -- a column shows what it showed, where each text says what it said
-shown_still : {V : Type 0} (Says Still : V → List ℕ → Type 0) (part : Option V) (text : Option (List ℕ)) → IsShown Says part text
-    → ((x : V) (t : List ℕ) → Says x t → Still x t) → IsShown Still part text
-shown_still Says Still None None h all = tt
-shown_still Says Still None (Some text) h all = absurd h
-shown_still Says Still (Some part) None h all = absurd h
-shown_still Says Still (Some part) (Some text) h all = all part text h
+shown_still : {V : Type 0} (Says Still : V → List ℕ → Type 0) (part : Option V) (text : Option (List ℕ))
+    → ((x : V) (t : List ℕ) → Says x t → Still x t) → IsShown Says part text → IsShown Still part text
+shown_still Says Still None None all h = tt
+shown_still Says Still None (Some text) all h = absurd h
+shown_still Says Still (Some part) None all h = absurd h
+shown_still Says Still (Some part) (Some text) all h = all part text h
 
-one_number : (number : List ℕ → Option ℕ) (x y : ℕ) (text : List ℕ) → number text ≡ Some x → number text ≡ Some y → x ≡ y
-one_number number x y text e f = same_Some _ _ (sym e ∙ f)
+-- the text of a day isn't empty
+day_filled : (day : Option ℕ) (text : Option (List ℕ)) → IsShown IsDayText day text
+    → IsShown IsDayText day (day_of (text_or_empty text))
+day_filled None None shown = tt
+day_filled None (Some text) shown = absurd shown
+day_filled (Some day) None shown = absurd shown
+day_filled (Some day) (Some []) shown = absurd (let spelled = shown.spelled in cc)
+day_filled (Some day) (Some (byte ∷ bytes)) shown = shown
 
-one_act : (x y : Act) (text : List ℕ) → SaysAct x text → SaysAct y text → x ≡ y
-one_act x y text e f = same_Some _ _ (sym (act_back x) ∙ ap act_named (sym e ∙ f) ∙ act_back y)
+pub day_column : (day : Option ℕ) (text : Option (List ℕ)) (column : List ℕ) → column ≡ text_or_empty text
+    → IsShown IsDayText day text → IsShown IsDayText day (day_of column)
+day_column day text column is shown =
+    subst (λ (t : List ℕ). IsShown IsDayText day (day_of t)) (sym is) (day_filled day text shown)
 
-one_admits : (x y : Admits) (text : List ℕ) → SaysAdmits x text → SaysAdmits y text → x ≡ y
-one_admits x y text e f = same_Some _ _ (sym (admits_back x) ∙ ap admits_named (sym e ∙ f) ∙ admits_back y)
+-- the same text is of one day
+abbrev pub OneDay : Type 0
+OneDay = (text : List ℕ) (day other : ℕ) → IsDayText day text → IsDayText other text → day ≡ other
 
-module _ (k : Contents) (texts : AskedTexts) where
-  -- the columns show one thing at most
-  pub parts_once : ((text : List ℕ) (day other : ℕ) → IsDayText day text → IsDayText other text → day ≡ other)
-      → (p q : Parts) → AreShown k p texts → AreShown k q texts → p ≡ q
-  parts_once one_day p q h g =
-      let days = λ (x : ℕ) (y : ℕ) (text : List ℕ). one_day text x y in
-      same_parts p q (one_act p.act q.act texts.act h.act g.act)
-      (shown_once IsDayText p.day q.day texts.day h.day g.day days)
-      (shown_once (SaysPatron k) p.patron q.patron texts.patron h.patron g.patron (one_number (patron_number k)))
-      (shown_once (SaysCopy k) p.copy q.copy texts.copy h.copy g.copy (one_number (copy_number k)))
-      (shown_once (SaysTitle k) p.title q.title texts.title h.title g.title (one_number (title_number k)))
-      (shown_once (SaysBranch k) p.branch q.branch texts.branch h.branch g.branch (one_number (branch_number k)))
-      (shown_once SaysAdmits p.admits q.admits texts.admits h.admits g.admits one_admits)
-      (shown_once IsDayText p.until q.until texts.until h.until g.until days)
+-- a text says one thing
+says_once : (one : OneDay) (k : Contents) (c : Column) (x y : Said c) (t : List ℕ) → Says k c x t → Says k c y t
+    → x ≡ y
+says_once one k columns.Day x y t h g = one t x y h g
+says_once one k columns.Until x y t h g = one t x y h g
+says_once one k columns.Act x y t h g =
+    same_Some _ _ (sym (act_back x) ∙ ap act_named (sym h ∙ g) ∙ act_back y)
+says_once one k columns.Admits x y t h g =
+    same_Some _ _ (sym (admits_back x) ∙ ap admits_named (sym h ∙ g) ∙ admits_back y)
+says_once one k c x y t h g = same_Some _ _ (sym h ∙ g)
 
-  -- what they show is known
-  pub shown_known : (p : Parts) → AreShown k p texts → AreKnownParts (facts_of k) p
-  unfolding facts_of patron_number copy_number title_number branch_number
-  shown_known p h = record {
-    patron =
-        shown_all (SaysPatron k) (λ n. n < (facts_of k).patrons) p.patron texts.patron h.patron
-        (λ x t says. number_known k.patrons t x says);
-    copy =
-        shown_all (SaysCopy k) (λ n. n < (facts_of k).copies) p.copy texts.copy h.copy
-        (λ x t says. number_known k.copies t x says);
-    title =
-        shown_all (SaysTitle k) (λ n. n < (facts_of k).titles) p.title texts.title h.title
-        (λ x t says. number_known k.titles t x says);
-    branch =
-        shown_all (SaysBranch k) (λ n. n < (facts_of k).branches) p.branch texts.branch h.branch
-        (λ x t says. number_known k.branches t x says);
-  }
+-- of a number that is known
+says_known : (k : Contents) (c : Column) (x : Said c) (t : List ℕ) → Says k c x t → IsKnownIn (facts_of k) c x
+unfolding facts_of patron_number copy_number title_number branch_number
+says_known k columns.Patron x t h = number_known k.patrons t x h
+says_known k columns.Copy x t h = number_known k.copies t x h
+says_known k columns.Title x t h = number_known k.titles t x h
+says_known k columns.Branch x t h = number_known k.branches t x h
+says_known k c x t h = tt
 
-  -- columns that show something have no first one that says nothing
-  pub shown_unread : (p : Parts) (fault : RowFault) → AreShown k p texts → IsFirstUnread k texts fault → ⊥
-  shown_unread p fault h f =
-      past (shown_read IsDayText p.day texts.day h.day)
-      (past (p.act, h.act)
-      (past (shown_read (SaysPatron k) p.patron texts.patron h.patron)
-      (past (shown_read (SaysCopy k) p.copy texts.copy h.copy)
-      (past (shown_read (SaysTitle k) p.title texts.title h.title)
-      (past (shown_read (SaysBranch k) p.branch texts.branch h.branch)
-      (past (shown_read SaysAdmits p.admits texts.admits h.admits)
-      (λ last. last.0 (shown_read IsDayText p.until texts.until h.until)))))))) f
-    where
-      past : {Holds Rest : Type 0} {Here : Type 0} → Holds → (Rest → ⊥) → ((Holds → ⊥) × Here) ⊎ (Holds × Rest) → ⊥
-      past holds rest first = elim first [ inl here ↦ here.0 holds | inr later ↦ rest later.1 ]
-
--- what a catalogue's columns show those of one that grew show
-pub shown_grown : (old new : Contents) (p : Parts) (texts : AskedTexts) → OnlyGrew old new → AreShown old p texts → AreShown new p texts
+-- and the same where the catalogue grew
+says_still : (old new : Contents) → OnlyGrew old new → (c : Column) (x : Said c) (t : List ℕ) → Says old c x t
+    → Says new c x t
 unfolding patron_number copy_number title_number branch_number
-shown_grown old new p texts more h = record {
-  act = h.act;
-  day = h.day;
-  patron =
-      shown_still (SaysPatron old) (SaysPatron new) p.patron texts.patron h.patron
-      (λ x t says. number_kept old.patrons new.patrons t x more.patrons says);
-  copy =
-      shown_still (SaysCopy old) (SaysCopy new) p.copy texts.copy h.copy
-      (λ x t says. number_kept old.copies new.copies t x more.copies says);
-  title =
-      shown_still (SaysTitle old) (SaysTitle new) p.title texts.title h.title
-      (λ x t says. number_kept old.titles new.titles t x more.titles says);
-  branch =
-      shown_still (SaysBranch old) (SaysBranch new) p.branch texts.branch h.branch
-      (λ x t says. number_kept old.branches new.branches t x more.branches says);
-  admits = h.admits;
-  until = h.until;
+says_still old new more columns.Terminal x t h = number_kept old.terminals new.terminals t x more.terminals h
+says_still old new more columns.Patron x t h = number_kept old.patrons new.patrons t x more.patrons h
+says_still old new more columns.Copy x t h = number_kept old.copies new.copies t x more.copies h
+says_still old new more columns.Title x t h = number_kept old.titles new.titles t x more.titles h
+says_still old new more columns.Branch x t h = number_kept old.branches new.branches t x more.branches h
+says_still old new more c x t h = h
+
+-- parts that are the same, column by column
+made : Act → Option ℕ → Option ℕ → Option ℕ → Option ℕ → Option ℕ → Option Admits → Option ℕ → Parts
+made act day patron copy title branch admits until = record {
+  act = act;
+  day = day;
+  patron = patron;
+  copy = copy;
+  title = title;
+  branch = branch;
+  admits = admits;
+  until = until;
 }
 
--- parts that fit a form have no first one that doesn't
-pub fit_unfit : (form : Form) (p : Parts) (fault : RowFault) → FitsForm form p → IsFirstMisfit form p fault → ⊥
-fit_unfit form p fault h f =
-    past h.day (past h.patron (past h.copy (past h.title (past h.branch (past h.admits (λ last. last.0 h.until)))))) f
-  where
-    past : {Holds Rest : Type 0} {Here : Type 0} → Holds → (Rest → ⊥) → ((Holds → ⊥) × Here) ⊎ (Holds × Rest) → ⊥
-    past holds rest first = elim first [ inl here ↦ here.0 holds | inr later ↦ rest later.1 ]
+pub same_parts : (p q : Parts) → AllByRecursion (λ column. part p column ≡ part q column) asked_columns → p ≡ q
+unfolding made
+same_parts p q (day, (act, (patron, (copy, (title, (branch, (admits, (until, _)))))))) =
+    ap (λ x. made x p.day p.patron p.copy p.title p.branch p.admits p.until) (same_Some _ _ act)
+    ∙ ap (λ x. made q.act x p.patron p.copy p.title p.branch p.admits p.until) day
+    ∙ ap (λ x. made q.act q.day x p.copy p.title p.branch p.admits p.until) patron
+    ∙ ap (λ x. made q.act q.day q.patron x p.title p.branch p.admits p.until) copy
+    ∙ ap (λ x. made q.act q.day q.patron q.copy x p.branch p.admits p.until) title
+    ∙ ap (λ x. made q.act q.day q.patron q.copy q.title x p.admits p.until) branch
+    ∙ ap (λ x. made q.act q.day q.patron q.copy q.title q.branch x p.until) admits
+    ∙ ap (λ x. made q.act q.day q.patron q.copy q.title q.branch q.admits x) until
+
+-- the columns show one thing at most
+pub parts_once : (one : OneDay) (k : Contents) (row : KeptTurn) (p q : Parts) → AreShown k p row → AreShown k q row
+    → p ≡ q
+parts_once one k row p q h g =
+    same_parts p q (both _ _ _ (λ c. shown_once (Says k c) (part p c) (part q c) (text row c) (says_once one k c))
+    asked_columns h g)
+
+-- each is read, and what it shows is known
+pub shown_read_all : (k : Contents) (row : KeptTurn) (p : Parts) → AreShown k p row
+    → AllByRecursion (λ c. IsReadText (Says k c) (text row c)) asked_columns
+shown_read_all k row p h =
+    each _ _ (λ c. shown_read (Says k c) (part p c) (text row c)) asked_columns h
+
+pub shown_known : (k : Contents) (row : KeptTurn) (p : Parts) → AreShown k p row → AreKnownParts (facts_of k) p
+shown_known k row p h =
+    let all : AllByRecursion (λ c. IfSome (part p c) (IsKnownIn (facts_of k) c)) asked_columns =
+    each _ _ (λ c. shown_all (Says k c) (IsKnownIn (facts_of k) c) (part p c) (text row c) (says_known k c))
+    asked_columns h in
+    assumption
+
+-- what a catalogue's columns show those of one that grew show
+pub shown_grown : (old new : Contents) (p : Parts) (row : KeptTurn) → OnlyGrew old new → AreShown old p row
+    → AreShown new p row
+shown_grown old new p row more h =
+    each _ _ (λ c. shown_still (Says old c) (Says new c) (part p c) (text row c) (says_still old new more c))
+    asked_columns h

@@ -1,11 +1,11 @@
 -- The texts of days.
 use Rattle.std.proofs.Common.{◌≡◌, ℕ, ◌+◌, ◌/◌, ◌%◌, ◌<◌, List, [], ◌∷◌, length, slice_index, codes, ℤ, pos, refl, sym, ap, subst, ◌∙◌, arith}
 use Rattle.hd_day.specs.Days.{end_of_days}
-use Rattle.hd_date.specs.Days.{IsCalendarDay, IsPrinted}
+use Rattle.hd_date.specs.Days.{IsPrinted}
 use Rattle.hd_date.specs.Faults.{IsFirstFault}
 use Rattle.hd_date.specs.Stamps.{IsLocal, IsMoment, IsOwnPrint, IsStamp, Prints, Stamp}
 use Rattle.hd_date.specs.declared.fault.DateFault.{DateFault}
-use Rattle.hd_turn_row.specs.Days.{IsDayText, day_with_dashes, midnight_text}
+use Rattle.hd_turn_row.specs.Days.{IsDayText, midnight_text}
 
 -- the bytes of a date, with dashes
 abbrev pub with_dashes : List ℕ → List ℕ
@@ -29,18 +29,8 @@ day_printed day text h p = record {
 ten : (text : List ℕ) → length text ≡ 10 → text
     ≡ slice_index text 0 ∷ slice_index text 1 ∷ slice_index text 2 ∷ slice_index text 3 ∷ slice_index text 4 ∷ slice_index text 5
     ∷ slice_index text 6 ∷ slice_index text 7 ∷ slice_index text 8 ∷ slice_index text 9 ∷ []
-ten [] h = absurd (omega arith)
-ten (a ∷ []) h = absurd (omega arith)
-ten (a ∷ b ∷ []) h = absurd (omega arith)
-ten (a ∷ b ∷ c ∷ []) h = absurd (omega arith)
-ten (a ∷ b ∷ c ∷ d ∷ []) h = absurd (omega arith)
-ten (a ∷ b ∷ c ∷ d ∷ e ∷ []) h = absurd (omega arith)
-ten (a ∷ b ∷ c ∷ d ∷ e ∷ f ∷ []) h = absurd (omega arith)
-ten (a ∷ b ∷ c ∷ d ∷ e ∷ f ∷ g ∷ []) h = absurd (omega arith)
-ten (a ∷ b ∷ c ∷ d ∷ e ∷ f ∷ g ∷ i ∷ []) h = absurd (omega arith)
-ten (a ∷ b ∷ c ∷ d ∷ e ∷ f ∷ g ∷ i ∷ j ∷ []) h = absurd (omega arith)
 ten (a ∷ b ∷ c ∷ d ∷ e ∷ f ∷ g ∷ i ∷ j ∷ k ∷ []) h = refl
-ten (a ∷ b ∷ c ∷ d ∷ e ∷ f ∷ g ∷ i ∷ j ∷ k ∷ l ∷ more) h = absurd (omega arith)
+ten text h = absurd (omega arith)
 
 -- the first moment of a day
 abbrev pub midnight : ℕ → Stamp
@@ -112,11 +102,3 @@ module _ (shown : (stamp : Stamp) (text : List ℕ) (offset : ℤ) → IsMoment 
   no_day no_fault text moment offset fault is f day p =
       no_fault moment offset (midnight day) fault
       (subst (λ (t : List ℕ). IsStamp t offset (midnight day)) (sym is) (midnight_shown day text offset p)) f
-
--- a day has one text
-pub one_day_text : ((y m d y' m' d' n : ℕ) → IsCalendarDay y m d n → IsCalendarDay y' m' d' n → (y ≡ y') × (m ≡ m') × (d ≡ d'))
-    → (day : ℕ) (text other : List ℕ) → IsDayText day text → IsDayText day other → text ≡ other
-one_day_text one_date day text other p q =
-    let same = one_date p.year p.month p.day q.year q.month q.day day p.shows q.shows in
-    p.spelled ∙ ap (λ y. day_with_dashes y p.month p.day) same.0 ∙ ap (λ m. day_with_dashes q.year m p.day) same.1
-    ∙ ap (λ d. day_with_dashes q.year q.month d) same.2 ∙ sym q.spelled

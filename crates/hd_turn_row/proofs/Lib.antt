@@ -4,7 +4,4 @@ pub mod DayLemmas
 pub mod PartLemmas
 pub mod ColumnLemmas
 pub mod RowLemmas
-pub mod PieceTexts
-pub mod PieceLemmas
-pub mod RefusalLemmas
 pub mod ReplyLemmas

@@ -31,9 +31,13 @@ all_acts =
     ∷ acts.Renewal ∷ acts.CancelCheckout ∷ acts.CancelCheckin ∷ acts.CancelRenewal ∷ acts.CancelAdd
     ∷ acts.CancelDelete ∷ acts.CancelChange ∷ []
 
+-- the first of some whose word it is
+abbrev pub named : {W : Type 0} → (W → List ℕ) → List W → List ℕ → Option W
+named word_of all word = find (λ one. bytes_eq (word_of one) word) all
+
 -- the act of a word, where it is one's
 unfoldable pub act_named : List ℕ → Option Act
-act_named word = find (λ act. bytes_eq (act_word act) word) all_acts
+act_named = named act_word all_acts
 
 -- the word of what a hold admits
 abbrev pub admits_word : Admits → List ℕ
@@ -47,4 +51,4 @@ all_admits = admitted.Any ∷ admitted.Copy ∷ admitted.Branch ∷ []
 
 -- what a word says that a hold admits
 unfoldable pub admits_named : List ℕ → Option Admits
-admits_named word = find (λ admits. bytes_eq (admits_word admits) word) all_admits
+admits_named = named admits_word all_admits

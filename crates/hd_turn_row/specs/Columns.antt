@@ -1,6 +1,6 @@
 -- What the columns say, by the catalogue's names.
-use Rattle.std.specs.Prelude.{◌≡◌, ℕ, ◌<◌, List, Option, Some, None, IfSome}
-use Rattle.std.specs.Option.{option_copied}
+use Rattle.std.specs.Prelude.{◌≡◌, ℕ, ◌<◌, List, [], ◌∷◌, Option, Some, None, IfSome}
+use Rattle.std.specs.List.{AllByRecursion}
 use Rattle.hd_rules.specs.Facts.{Facts}
 use Rattle.hd_catalogue.specs.Contents.{Contents, branch_number, copy_number, patron_number, title_number}
 use Rattle.hd_catalogue.specs.Names.{number_of}
@@ -8,57 +8,61 @@ use Rattle.hd_turn_row.specs.Acts.{act_word, admits_word}
 use Rattle.hd_turn_row.specs.Days.{IsDayText}
 use Rattle.hd_turn_row.specs.declared.act.Act.{Act}
 use Rattle.hd_turn_row.specs.declared.act.Admits.{Admits}
-use Rattle.hd_turn_row.specs.declared.columns.AskedColumns.{AskedColumns}
+use Rattle.hd_turn_row.specs.declared.fault.Column.{Column}
+use Rattle.hd_turn_row.specs.declared.fault.Column.TheVariants as columns
 use Rattle.hd_turn_row.specs.declared.parts.Parts.{Parts}
+use Rattle.hd_turn_store.specs.Kept.{KeptTurn}
 
--- the texts of the columns of what is asked; an empty column is None
-pub record AskedTexts : Type 0 where
-  pub act : List ℕ
-  pub day : Option (List ℕ)
-  pub patron : Option (List ℕ)
-  pub copy : Option (List ℕ)
-  pub title : Option (List ℕ)
-  pub branch : Option (List ℕ)
-  pub admits : Option (List ℕ)
-  pub until : Option (List ℕ)
+-- the columns of what is asked, in the order of the table
+abbrev pub asked_columns : List Column
+asked_columns = columns.Day ∷ columns.Act ∷ columns.Patron ∷ columns.Copy ∷ columns.Title ∷ columns.Branch
+    ∷ columns.Admits ∷ columns.Until ∷ []
 
--- the bytes that the columns lend
-abbrev pub asked_texts : AskedColumns → AskedTexts
-asked_texts columns = record {
-  act = columns.act.now;
-  day = option_copied columns.day;
-  patron = option_copied columns.patron;
-  copy = option_copied columns.copy;
-  title = option_copied columns.title;
-  branch = option_copied columns.branch;
-  admits = option_copied columns.admits;
-  until = option_copied columns.until;
-}
+-- what a column says something of
+abbrev pub Said : Column → Type 0
+Said columns.Act = Act
+Said columns.Admits = Admits
+Said column = ℕ
 
--- the text is the act's word
-abbrev pub SaysAct : Act → List ℕ → Type 0
-SaysAct act text = text ≡ act_word act
+-- the part for a column; that of the terminal isn't among what is asked
+abbrev pub part : Parts → (column : Column) → Option (Said column)
+part p columns.Terminal = None
+part p columns.Day = p.day
+part p columns.Act = Some p.act
+part p columns.Patron = p.patron
+part p columns.Copy = p.copy
+part p columns.Title = p.title
+part p columns.Branch = p.branch
+part p columns.Admits = p.admits
+part p columns.Until = p.until
 
--- or the word of what a hold admits
-abbrev pub SaysAdmits : Admits → List ℕ → Type 0
-SaysAdmits admits text = text ≡ admits_word admits
+-- the text of a column; the day's is empty where there is no day
+abbrev pub day_of : List ℕ → Option (List ℕ)
+day_of [] = None
+day_of (byte ∷ bytes) = Some (byte ∷ bytes)
 
-module _ (k : Contents) where
-  -- the text is the name that has this number
-  abbrev pub SaysTerminal : ℕ → List ℕ → Type 0
-  SaysTerminal terminal text = number_of k.terminals text ≡ Some terminal
+abbrev pub text : KeptTurn → Column → Option (List ℕ)
+text row columns.Terminal = Some row.terminal
+text row columns.Day = day_of row.day
+text row columns.Act = Some row.act
+text row columns.Patron = row.patron
+text row columns.Copy = row.copy
+text row columns.Title = row.title
+text row columns.Branch = row.branch
+text row columns.Admits = row.admits
+text row columns.Until = row.until
 
-  abbrev pub SaysPatron : ℕ → List ℕ → Type 0
-  SaysPatron patron text = patron_number k text ≡ Some patron
-
-  abbrev pub SaysCopy : ℕ → List ℕ → Type 0
-  SaysCopy copy text = copy_number k text ≡ Some copy
-
-  abbrev pub SaysTitle : ℕ → List ℕ → Type 0
-  SaysTitle title text = title_number k text ≡ Some title
-
-  abbrev pub SaysBranch : ℕ → List ℕ → Type 0
-  SaysBranch branch text = branch_number k text ≡ Some branch
+-- The text says it in the column: it is the name of that number, the word, or the text of the day.
+abbrev pub Says : Contents → (column : Column) → Said column → List ℕ → Type 0
+Says k columns.Terminal terminal text = number_of k.terminals text ≡ Some terminal
+Says k columns.Day day text = IsDayText day text
+Says k columns.Act act text = text ≡ act_word act
+Says k columns.Patron patron text = patron_number k text ≡ Some patron
+Says k columns.Copy copy text = copy_number k text ≡ Some copy
+Says k columns.Title title text = title_number k text ≡ Some title
+Says k columns.Branch branch text = branch_number k text ≡ Some branch
+Says k columns.Admits admits text = text ≡ admits_word admits
+Says k columns.Until day text = IsDayText day text
 
 -- what a column has of a part: nothing of none, and a text that says it
 abbrev pub IsShown : {V : Type 0} → (V → List ℕ → Type 0) → Option V → Option (List ℕ) → Type 0
@@ -67,19 +71,22 @@ IsShown Says (Some part) (Some text) = Says part text
 IsShown Says _ _ = ⊥
 
 -- The columns say what is asked.
-pub record AreShown (k : Contents) (parts : Parts) (texts : AskedTexts) : Type 0 where
-  pub act : SaysAct parts.act texts.act
-  pub day : IsShown IsDayText parts.day texts.day
-  pub patron : IsShown (SaysPatron k) parts.patron texts.patron
-  pub copy : IsShown (SaysCopy k) parts.copy texts.copy
-  pub title : IsShown (SaysTitle k) parts.title texts.title
-  pub branch : IsShown (SaysBranch k) parts.branch texts.branch
-  pub admits : IsShown SaysAdmits parts.admits texts.admits
-  pub until : IsShown IsDayText parts.until texts.until
+abbrev pub AreShown : Contents → Parts → KeptTurn → Type 0
+AreShown k parts row =
+    AllByRecursion (λ column. IsShown (Says k column) (part parts column) (text row column)) asked_columns
+
+-- the columns of names, and that the catalogue has what a number in one of them names
+abbrev pub named_columns : List Column
+named_columns = columns.Patron ∷ columns.Copy ∷ columns.Title ∷ columns.Branch ∷ []
+
+abbrev pub IsKnownIn : Facts → (column : Column) → Said column → Type 0
+IsKnownIn k columns.Patron patron = patron < k.patrons
+IsKnownIn k columns.Copy copy = copy < k.copies
+IsKnownIn k columns.Title title = title < k.titles
+IsKnownIn k columns.Branch branch = branch < k.branches
+IsKnownIn k column said = Unit {0}
 
 -- all that is asked names things of the catalogue
-pub record AreKnownParts (k : Facts) (parts : Parts) : Type 0 where
-  pub patron : IfSome parts.patron (λ patron. patron < k.patrons)
-  pub copy : IfSome parts.copy (λ copy. copy < k.copies)
-  pub title : IfSome parts.title (λ title. title < k.titles)
-  pub branch : IfSome parts.branch (λ branch. branch < k.branches)
+abbrev pub AreKnownParts : Facts → Parts → Type 0
+AreKnownParts k parts =
+    AllByRecursion (λ column. IfSome (part parts column) (IsKnownIn k column)) named_columns

@@ -1,5 +1,5 @@
 -- What is asked, column by column. Each part is a number, as a command has it.
-use Rattle.std.specs.Prelude.{ℕ, Bool, true, false, Option, Some, None, option_map, option_and_then}
+use Rattle.std.specs.Prelude.{ℕ, true, false, Option, Some, None, option_map, option_and_then, unwrap_or}
 use Rattle.hd_rules.specs.declared.holds.HoldKind.{HoldKind}
 use Rattle.hd_rules.specs.declared.holds.HoldKind.TheVariants as kind
 use Rattle.hd_rules.specs.declared.commands.Action.{Action}
@@ -27,10 +27,15 @@ bare act = record {
   until = None;
 }
 
--- a checkout, by whether it may renew
-abbrev pub checkout_act : Bool → Act
-checkout_act true = acts.CheckoutOrRenewal
-checkout_act false = acts.Checkout
+-- of a copy; of a copy and a patron; of a patron's hold of a title
+abbrev pub copy_parts : Act → ℕ → Parts
+copy_parts act copy = record (bare act) { copy = Some copy }
+
+abbrev pub loan_parts : Act → ℕ → ℕ → Parts
+loan_parts act patron copy = record (bare act) { patron = Some patron; copy = Some copy }
+
+abbrev pub hold_parts : Act → ℕ → ℕ → Parts
+hold_parts act patron title = record (bare act) { patron = Some patron; title = Some title }
 
 -- what a hold admits, without the copy
 abbrev pub admits_of : HoldKind → Admits
@@ -40,57 +45,80 @@ admits_of kind.AtBranch = admitted.Branch
 
 -- and the copy, where it admits one alone
 abbrev pub copy_of : HoldKind → Option ℕ
-copy_of kind.Any = None
 copy_of (kind.One copy) = Some copy
-copy_of kind.AtBranch = None
+copy_of sort = None
 
--- a command of a day
-abbrev pub command_parts : ℕ → Action → Parts
-command_parts day (action.Checkout patron copy may_renew) =
-    record (bare (checkout_act may_renew)) { day = Some day; patron = Some patron; copy = Some copy }
-command_parts day (action.OffLine patron copy due) =
-    record (bare acts.OffLine) { day = Some day; patron = Some patron; copy = Some copy; until = Some due }
-command_parts day (action.Checkin copy branch) =
-    record (bare acts.Checkin) { day = Some day; copy = Some copy; branch = Some branch }
-command_parts day (action.Add patron title sort pickup expiry) = record {
-  act = acts.Add;
-  day = Some day;
-  patron = Some patron;
+-- what a command does
+abbrev pub action_parts : Action → Parts
+action_parts (action.Checkout patron copy true) = loan_parts acts.CheckoutOrRenewal patron copy
+action_parts (action.Checkout patron copy false) = loan_parts acts.Checkout patron copy
+action_parts (action.OffLine patron copy due) =
+    record (loan_parts acts.OffLine patron copy) { until = Some due }
+action_parts (action.Checkin copy branch) = record (copy_parts acts.Checkin copy) { branch = Some branch }
+action_parts (action.Add patron title sort pickup expiry) = record (hold_parts acts.Add patron title) {
   copy = copy_of sort;
-  title = Some title;
   branch = Some pickup;
   admits = Some (admits_of sort);
   until = expiry;
 }
-command_parts day (action.Delete patron title) =
-    record (bare acts.Delete) { day = Some day; patron = Some patron; title = Some title }
-command_parts day (action.Change patron title sort pickup expiry) = record {
-  act = acts.Change;
-  day = Some day;
-  patron = Some patron;
+action_parts (action.Delete patron title) = hold_parts acts.Delete patron title
+action_parts (action.Change patron title sort pickup expiry) = record (hold_parts acts.Change patron title) {
   copy = option_and_then copy_of sort;
-  title = Some title;
   branch = pickup;
   admits = option_map admits_of sort;
   until = expiry;
 }
-command_parts day (action.Renewal patron copy) =
-    record (bare acts.Renewal) { day = Some day; patron = Some patron; copy = Some copy }
+action_parts (action.Renewal patron copy) = loan_parts acts.Renewal patron copy
 
 -- a cancellation: it has no day
 abbrev pub cancel_parts : Cancel → Parts
-cancel_parts (cancel.Checkout copy) = record (bare acts.CancelCheckout) { copy = Some copy }
-cancel_parts (cancel.Checkin copy) = record (bare acts.CancelCheckin) { copy = Some copy }
-cancel_parts (cancel.Renewal copy) = record (bare acts.CancelRenewal) { copy = Some copy }
-cancel_parts (cancel.Add patron title) =
-    record (bare acts.CancelAdd) { patron = Some patron; title = Some title }
-cancel_parts (cancel.Delete patron title) =
-    record (bare acts.CancelDelete) { patron = Some patron; title = Some title }
-cancel_parts (cancel.Change patron title) =
-    record (bare acts.CancelChange) { patron = Some patron; title = Some title }
+cancel_parts (cancel.Checkout copy) = copy_parts acts.CancelCheckout copy
+cancel_parts (cancel.Checkin copy) = copy_parts acts.CancelCheckin copy
+cancel_parts (cancel.Renewal copy) = copy_parts acts.CancelRenewal copy
+cancel_parts (cancel.Add patron title) = hold_parts acts.CancelAdd patron title
+cancel_parts (cancel.Delete patron title) = hold_parts acts.CancelDelete patron title
+cancel_parts (cancel.Change patron title) = hold_parts acts.CancelChange patron title
 
 -- what is asked; a query changes nothing, and has no row
 abbrev pub asked_parts : Asked → Option Parts
-asked_parts (ask.Command command) = Some (command_parts command.day command.action)
+asked_parts (ask.Command command) = Some (record (action_parts command.action) { day = Some command.day })
 asked_parts (ask.Cancel what) = Some (cancel_parts what)
 asked_parts (ask.Item copy) = None
+
+-- a part, and the first number of its kind where it is wanting
+abbrev pub value : Option ℕ → ℕ
+value part = unwrap_or part 0
+
+-- the hold's kind of two columns
+abbrev pub kind_by : Admits → ℕ → HoldKind
+kind_by admitted.Any copy = kind.Any
+kind_by admitted.Copy copy = kind.One copy
+kind_by admitted.Branch copy = kind.AtBranch
+
+abbrev pub command_by : Parts → Action → Asked
+command_by p does = ask.Command (record { day = value p.day; action = does })
+
+-- What parts ask of an act. For a part that is wanting stands the first number of its kind, and one that the
+-- act bars isn't looked at: so parts are those of some ask just where they are those of this one.
+abbrev pub asked_at : Act → Parts → Asked
+asked_at acts.Checkout p = command_by p (action.Checkout (value p.patron) (value p.copy) false)
+asked_at acts.CheckoutOrRenewal p = command_by p (action.Checkout (value p.patron) (value p.copy) true)
+asked_at acts.OffLine p = command_by p (action.OffLine (value p.patron) (value p.copy) (value p.until))
+asked_at acts.Checkin p = command_by p (action.Checkin (value p.copy) (value p.branch))
+asked_at acts.Add p =
+    let sort = kind_by (unwrap_or p.admits admitted.Any) (value p.copy) in
+    command_by p (action.Add (value p.patron) (value p.title) sort (value p.branch) p.until)
+asked_at acts.Delete p = command_by p (action.Delete (value p.patron) (value p.title))
+asked_at acts.Change p =
+    let sort = option_map (λ admits. kind_by admits (value p.copy)) p.admits in
+    command_by p (action.Change (value p.patron) (value p.title) sort p.branch p.until)
+asked_at acts.Renewal p = command_by p (action.Renewal (value p.patron) (value p.copy))
+asked_at acts.CancelCheckout p = ask.Cancel (cancel.Checkout (value p.copy))
+asked_at acts.CancelCheckin p = ask.Cancel (cancel.Checkin (value p.copy))
+asked_at acts.CancelRenewal p = ask.Cancel (cancel.Renewal (value p.copy))
+asked_at acts.CancelAdd p = ask.Cancel (cancel.Add (value p.patron) (value p.title))
+asked_at acts.CancelDelete p = ask.Cancel (cancel.Delete (value p.patron) (value p.title))
+asked_at acts.CancelChange p = ask.Cancel (cancel.Change (value p.patron) (value p.title))
+
+unfoldable pub asked_by : Parts → Asked
+asked_by p = asked_at p.act p

@@ -1,23 +1,19 @@
 -- What a turn came to, as columns of its row.
-use Rattle.std.specs.Prelude.{ℕ, ◌^◌, Bool, true, false, nat_lt, if◌then◌else◌, Option, Some, None}
-use Rattle.std.specs.Prelude.{option_and_then, List, [], ◌∷◌, ◌++◌, codes}
-use Rattle.hd_rules.specs.RefusalTexts.{words_of}
+use Rattle.std.specs.Prelude.{ℕ, ◌+◌, ◌^◌, Bool, true, false, nat_lt, if◌then◌else◌, Option, Some, None}
+use Rattle.std.specs.Prelude.{option_and_then, List, [], ◌∷◌, codes}
 use Rattle.hd_rules.specs.declared.copies.CopyState.{CopyState}
 use Rattle.hd_rules.specs.declared.copies.CopyState.TheVariants.{Shelf, OnLoan, OnHoldShelf, InTransit}
 use Rattle.hd_rules.specs.declared.holds.Hold.{Hold}
 use Rattle.hd_rules.specs.declared.holds.HoldKind.{HoldKind}
 use Rattle.hd_rules.specs.declared.holds.HoldKind.TheVariants as kind
-use Rattle.hd_rules.specs.declared.replies.ItemView.{ItemView}
 use Rattle.hd_rules.specs.declared.replies.Refusal.{Refusal}
+use Rattle.hd_rules.specs.declared.replies.Refusal.TheVariants as refusal
 use Rattle.hd_rules.specs.declared.replies.Refusal.TheVariants.{Depends}
 use Rattle.hd_rules.specs.declared.replies.Reply.{Reply}
 use Rattle.hd_rules.specs.declared.replies.Reply.TheVariants.{LentOrRenewed, Returned, Held, Deleted}
 use Rattle.hd_rules.specs.declared.replies.TurnReply.{TurnReply}
 use Rattle.hd_rules.specs.declared.replies.TurnReply.TheVariants.{Done, Refused, Cancelled, Item}
-use Rattle.hd_turn_row.specs.Pieces.{IsJoined}
-use Rattle.hd_turn_row.specs.declared.piece.Piece.{Piece}
-use Rattle.hd_turn_row.specs.declared.piece.Piece.TheVariants.{Word, Number, Day}
-use Rattle.hd_turn_row.specs.declared.word.Word.TheVariants as words
+use Rattle.hd_turn_row.specs.Written.{IsWritten}
 
 -- what a turn came to, in one word
 abbrev pub outcome_word : TurnReply → List ℕ
@@ -38,103 +34,84 @@ named_command (Item view) = None
 abbrev pub column_number : ℕ → Option ℕ
 column_number number = if nat_lt number (2 ^ 32) then Some number else None
 
--- the number's column; the text has each number, also one that this column can't hold
+-- the number's column; the reply's column has each number, also one that this can't hold
 abbrev pub number_column : TurnReply → Option ℕ
 number_column reply = option_and_then column_number (named_command reply)
 
--- a number or a day, where there is one
-abbrev pub number_piece : Option ℕ → Piece
-number_piece (Some number) = Number number
-number_piece None = Word words.Nothing
+-- a truth, and a number where there is one
+abbrev pub truth_number : Bool → ℕ
+truth_number true = 1
+truth_number false = 0
 
-abbrev pub day_piece : Option ℕ → Piece
-day_piece (Some day) = Day day
-day_piece None = Word words.Nothing
+abbrev pub number_if_any : Option ℕ → ℕ
+number_if_any (Some number) = number + 1
+number_if_any None = 0
 
 -- where a copy is
-abbrev pub state_pieces : CopyState → List Piece
-state_pieces (Shelf branch) = Word words.Shelf ∷ Number branch ∷ []
-state_pieces (OnLoan loan) =
-    Word words.Loan ∷ Word words.Patron ∷ Number loan.patron ∷ Word words.Due ∷ Day loan.due
-    ∷ Word words.Renewals ∷ Number loan.renewals ∷ []
-state_pieces (OnHoldShelf spot) =
-    Word words.Hold ∷ Word words.Shelf ∷ Number spot.branch ∷ Word words.Place ∷ Number spot.place
-    ∷ Word words.Patron ∷ Number spot.patron ∷ []
-state_pieces (InTransit way) =
-    Word words.Transit ∷ Word words.From ∷ Number way.from ∷ Word words.To ∷ Number way.to
-    ∷ Word words.Patron ∷ number_piece way.patron ∷ []
+abbrev pub state_numbers : CopyState → List ℕ
+state_numbers (Shelf branch) = 0 ∷ branch ∷ []
+state_numbers (OnLoan loan) = 1 ∷ loan.patron ∷ loan.due ∷ loan.renewals ∷ []
+state_numbers (OnHoldShelf spot) = 2 ∷ spot.branch ∷ spot.place ∷ spot.patron ∷ []
+state_numbers (InTransit way) = 3 ∷ way.from ∷ way.to ∷ number_if_any way.patron ∷ []
 
 -- which copies a hold admits
-abbrev pub kind_pieces : HoldKind → List Piece
-kind_pieces kind.Any = Word words.Any ∷ []
-kind_pieces (kind.One copy) = Word words.Copy ∷ Number copy ∷ []
-kind_pieces kind.AtBranch = Word words.Branch ∷ []
+abbrev pub kind_number : HoldKind → ℕ
+kind_number kind.Any = 0
+kind_number kind.AtBranch = 1
+kind_number (kind.One copy) = copy + 2
 
--- a hold: whose it is and what it admits, and where and how long it waits
-abbrev pub holder_pieces : Hold → List Piece
-holder_pieces hold =
-    Word words.Patron ∷ Number hold.patron ∷ Word words.Stamp ∷ Number hold.stamp ∷ Word words.Admits ∷ []
+-- a hold: whose it is and what it admits, where and how long it waits, and the copy that it has
+abbrev pub hold_numbers : Hold → List ℕ
+hold_numbers hold =
+    hold.patron ∷ hold.stamp ∷ kind_number hold.kind ∷ hold.pickup ∷ number_if_any hold.expiry
+    ∷ number_if_any hold.copy ∷ []
 
-abbrev pub pickup_pieces : Hold → List Piece
-pickup_pieces hold =
-    Word words.Pickup ∷ Number hold.pickup ∷ Word words.Until ∷ day_piece hold.expiry ∷ Word words.Copy
-    ∷ number_piece hold.copy ∷ []
+-- a refusal; one has a number of its own behind that
+abbrev pub refusal_number : Refusal → ℕ
+refusal_number refusal.NotLoggedIn = 0
+refusal_number refusal.Unreadable = 1
+refusal_number refusal.BadDate = 2
+refusal_number refusal.UnknownPatron = 3
+refusal_number refusal.UnknownItem = 4
+refusal_number refusal.UnknownTitle = 5
+refusal_number refusal.UnknownBranch = 6
+refusal_number refusal.HoldExists = 7
+refusal_number refusal.NoSuchHold = 8
+refusal_number refusal.HoldHasCopy = 9
+refusal_number refusal.ExpiryPassed = 10
+refusal_number refusal.OnLoan = 11
+refusal_number refusal.KeptForAnother = 12
+refusal_number refusal.InTransit = 13
+refusal_number refusal.LoanLimit = 14
+refusal_number refusal.NotOnLoan = 15
+refusal_number refusal.NotRenewable = 16
+refusal_number refusal.DueRange = 17
+refusal_number refusal.JournalFull = 18
+refusal_number refusal.NothingToCancel = 19
+refusal_number (Depends number) = 20
 
-abbrev pub hold_pieces : Hold → List Piece
-hold_pieces hold = holder_pieces hold ++ (kind_pieces hold.kind ++ pickup_pieces hold)
+abbrev pub depended_on : Refusal → List ℕ
+depended_on (Depends number) = number ∷ []
+depended_on refused = []
 
--- a loan or its renewal
-abbrev pub lent_piece : Bool → Piece
-lent_piece true = Word words.Renewed
-lent_piece false = Word words.Lent
+-- the reply to the command of a number
+abbrev pub done_numbers : ℕ → Reply → List ℕ
+done_numbers number (LentOrRenewed title due renewal) =
+    1 ∷ number ∷ title ∷ due ∷ truth_number renewal ∷ []
+done_numbers number (Returned title home state) = 2 ∷ number ∷ title ∷ home ∷ state_numbers state
+done_numbers number (Held title available position hold) =
+    3 ∷ number ∷ title ∷ truth_number available ∷ position ∷ hold_numbers hold
+done_numbers number (Deleted title) = 4 ∷ number ∷ title ∷ []
 
-abbrev pub truth_piece : Bool → Piece
-truth_piece true = Word words.Yes
-truth_piece false = Word words.No
+-- A reply in numbers: first which it is, and then all that it says. Titles, copies, patrons and branches
+-- stand there by their numbers in the catalogue, days by theirs, and what is none as 0, all else of its kind
+-- as one more.
+abbrev pub reply_numbers : TurnReply → List ℕ
+reply_numbers (Done number reply) = done_numbers number reply
+reply_numbers (Refused refused) = 5 ∷ refusal_number refused ∷ depended_on refused
+reply_numbers (Cancelled number) = 6 ∷ number ∷ []
+reply_numbers (Item view) = 7 ∷ view.holds ∷ state_numbers view.state
 
--- the first pieces of each reply to an accepted command
-abbrev pub lent_pieces : ℕ → ℕ → Bool → List Piece
-lent_pieces title due renewal =
-    lent_piece renewal ∷ Word words.Title ∷ Number title ∷ Word words.Due ∷ Day due ∷ []
-
-abbrev pub returned_pieces : ℕ → ℕ → List Piece
-returned_pieces title home =
-    Word words.Returned ∷ Word words.Title ∷ Number title ∷ Word words.Home ∷ Number home ∷ []
-
-abbrev pub held_pieces : ℕ → Bool → ℕ → List Piece
-held_pieces title available position =
-    Word words.Held ∷ Word words.Title ∷ Number title ∷ Word words.Available ∷ truth_piece available
-    ∷ Word words.Position ∷ Number position ∷ []
-
-abbrev pub deleted_pieces : ℕ → List Piece
-deleted_pieces title = Word words.Deleted ∷ Word words.Title ∷ Number title ∷ []
-
--- what is said of an accepted command
-abbrev pub done_pieces : Reply → List Piece
-done_pieces (LentOrRenewed title due renewal) = lent_pieces title due renewal
-done_pieces (Returned title home state) = returned_pieces title home ++ state_pieces state
-done_pieces (Held title available position hold) =
-    held_pieces title available position ++ hold_pieces hold
-done_pieces (Deleted title) = deleted_pieces title
-
--- the command's own number
-abbrev pub command_pieces : ℕ → List Piece
-command_pieces number = Word words.Command ∷ Number number ∷ []
-
--- the number that a refusal has
-abbrev pub refusal_pieces : Refusal → List Piece
-refusal_pieces (Depends number) = Number number ∷ []
-refusal_pieces refusal = []
-
--- what a query shows
-abbrev pub item_pieces : ItemView → List Piece
-item_pieces view =
-    Word words.Item ∷ state_pieces view.state ++ Word words.Holds ∷ Number view.holds ∷ []
-
--- The text is that of a reply, with all that it says. Titles, copies, patrons and branches stand there by
--- their numbers in the catalogue.
-abbrev pub IsReplyText : TurnReply → List ℕ → Type 0
-IsReplyText (Done number reply) text = IsJoined (done_pieces reply ++ command_pieces number) [] text
-IsReplyText (Refused refusal) text = IsJoined (refusal_pieces refusal) (words_of refusal) text
-IsReplyText (Cancelled number) text = IsJoined (Word words.Cancelled ∷ Number number ∷ []) [] text
-IsReplyText (Item view) text = IsJoined (item_pieces view) [] text
+-- The column is that of a reply.
+abbrev pub IsReplyColumn : TurnReply → List ℕ → Type 0
+IsReplyColumn reply column = IsWritten (reply_numbers reply) [] column

@@ -1,7 +1,6 @@
 //! The words of acts, and of what a hold admits.
-ghost use Rattle.std.specs.Prelude.{◌≡◌, IfNone, IfSome};
+ghost use Rattle.std.specs.Prelude.{◌≡◌};
 ghost use Rattle.hd_turn_row.specs.Acts.{act_named, act_word, admits_named, admits_word};
-ghost use Rattle.hd_turn_row.specs.Columns.{SaysAct, SaysAdmits};
 
 /// What a terminal asks, without what that names.
 #[derive(Clone, Copy, PartialEq, Eq, Debug)]
@@ -78,16 +77,8 @@ impl Act {
     }
 
     /// The act of a word, or `None` where it is no act's.
-    pub(crate) fn of_word(word: &[u8]) -> Option<Act>
-        ensures said { IfSome result (λ act. SaysAct act word.now) }
-        ensures none { IfNone result ((act : Act) → ¬ SaysAct act word.now) }
-    {
-        Act::first_of_word(word)
-    }
-
-    /// The first act that has the word.
     #[tactic(auto, unfolding(crate::specs::Acts::act_named))]
-    fn first_of_word(word: &[u8]) -> Option<Act>
+    pub(crate) fn of_word(word: &[u8]) -> Option<Act>
         ensures { result ≡ act_named word.now }
     {
         ACTS.iter().copied().find(|act| act.word() == word)
@@ -121,16 +112,8 @@ impl Admits {
     }
 
     /// What a word says that a hold admits, or `None` where it says nothing.
-    pub(crate) fn of_word(word: &[u8]) -> Option<Admits>
-        ensures said { IfSome result (λ admits. SaysAdmits admits word.now) }
-        ensures none { IfNone result ((admits : Admits) → ¬ SaysAdmits admits word.now) }
-    {
-        Admits::first_of_word(word)
-    }
-
-    /// The first of these that has the word.
     #[tactic(auto, unfolding(crate::specs::Acts::admits_named))]
-    fn first_of_word(word: &[u8]) -> Option<Admits>
+    pub(crate) fn of_word(word: &[u8]) -> Option<Admits>
         ensures { result ≡ admits_named word.now }
     {
         ALL_ADMITS

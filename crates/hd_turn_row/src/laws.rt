@@ -7,11 +7,12 @@ ghost use Rattle.hd_rules.specs.declared.replies.TurnReply.{TurnReply};
 ghost use Rattle.hd_turn_row.specs.Days.{IsDayText};
 ghost use Rattle.hd_turn_row.specs.Faults.{IsFirstFault};
 ghost use Rattle.hd_turn_row.specs.Grown.{OnlyGrew};
-ghost use Rattle.hd_turn_row.specs.Replies.{IsReplyText};
-ghost use Rattle.hd_turn_row.specs.Rows.{IsRowOf, RowTexts};
+ghost use Rattle.hd_turn_row.specs.Replies.{IsReplyColumn};
+ghost use Rattle.hd_turn_row.specs.Rows.{IsRowOf};
+ghost use Rattle.hd_turn_store.specs.Kept.{KeptTurn};
 
 use crate::fault::RowFault;
-use hd_date::{days_are_dates, prints_show_their_stamp, texts_show_one_stamp};
+use hd_date::{prints_show_their_stamp, texts_show_one_stamp};
 
 /// A text is that of one day at most.
 pub(crate) fn a_text_is_of_one_day()
@@ -24,12 +25,12 @@ pub(crate) fn a_text_is_of_one_day()
 /// A row is that of one message of one seat at most, and of none where it has a fault. What it asks is known
 /// to the catalogue.
 pub fn a_row_is_of_one_message()
-    ensures one { (k : Contents) (seat seat' : ℕ) (message message' : Message) (row : RowTexts)
+    ensures one { (k : Contents) (seat seat' : ℕ) (message message' : Message) (row : KeptTurn)
         → IsRowOf k seat message row → IsRowOf k seat' message' row
         → (seat ≡ seat') × (message ≡ message') }
-    ensures none { (k : Contents) (seat : ℕ) (message : Message) (row : RowTexts) (fault : RowFault)
-        → IsFirstFault k row.terminal row.asked fault → ¬ IsRowOf k seat message row }
-    ensures known { (k : Contents) (seat : ℕ) (message : Message) (row : RowTexts)
+    ensures none { (k : Contents) (seat : ℕ) (message : Message) (row : KeptTurn) (fault : RowFault)
+        → IsFirstFault k row fault → ¬ IsRowOf k seat message row }
+    ensures known { (k : Contents) (seat : ℕ) (message : Message) (row : KeptTurn)
         → IsRowOf k seat message row → IsKnownMessage (facts_of k) message }
 {
     a_text_is_of_one_day();
@@ -37,18 +38,15 @@ pub fn a_row_is_of_one_message()
 
 /// A row asks the same of a catalogue that only grew.
 pub fn a_grown_catalogue_reads_the_same()
-    ensures { (old new : Contents) (seat : ℕ) (message : Message) (row : RowTexts) → OnlyGrew old new
+    ensures { (old new : Contents) (seat : ℕ) (message : Message) (row : KeptTurn) → OnlyGrew old new
         → IsRowOf old seat message row → IsRowOf new seat message row }
 {}
 
-/// A text is that of one reply at most, and a reply has one text at most. So two replies are the same where
-/// their texts are, and where they differ their texts do.
-pub fn replies_of_one_text_are_one()
-    ensures reply { (one other : TurnReply) (text : List ℕ) → IsReplyText one text → IsReplyText other text
-        → one ≡ other }
-    ensures text { (reply : TurnReply) (one other : List ℕ) → IsReplyText reply one
-        → IsReplyText reply other → one ≡ other }
-{
-    a_text_is_of_one_day();
-    days_are_dates();
-}
+/// A column is that of one reply at most, and a reply has one column at most. So two replies are the same
+/// where their columns are, and where they differ their columns do.
+pub fn replies_of_one_column_are_one()
+    ensures reply { (one other : TurnReply) (column : List ℕ) → IsReplyColumn one column
+        → IsReplyColumn other column → one ≡ other }
+    ensures column { (reply : TurnReply) (one other : List ℕ) → IsReplyColumn reply one
+        → IsReplyColumn reply other → one ≡ other }
+{}

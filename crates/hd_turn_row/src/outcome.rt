@@ -2,24 +2,56 @@
 ghost use Rattle.std.specs.Prelude.{◌≡◌};
 ghost use Rattle.hd_turn_row.specs.Replies.{named_command, number_column, outcome_word};
 
+use crate::reply::reply_column;
 use hd_rules::{Refusal, TurnReply};
+use std::alloc::{AllocError, Global};
 
-/// What a turn came to, in one word: `done`, `refused`, `cancelled`, or `item` of a query.
-pub fn outcome_of(reply: &TurnReply) -> &'static str
-    ensures { result.now ≡ outcome_word reply.now }
-{
-    match reply {
-        TurnReply::Done { .. } => "done",
-        TurnReply::Refused(_) => "refused",
-        TurnReply::Cancelled { .. } => "cancelled",
-        TurnReply::Item(_) => "item",
+/// What a turn came to, in the columns of its row.
+#[derive(Drop)]
+pub struct OutcomeColumns {
+    /// How it went, in one word: `done`, `refused`, `cancelled`, or `item` of a query.
+    pub outcome: &'static [u8],
+    /// The number of the command that the reply names: the one that was done or cancelled, or that depends on
+    /// the target of a refused cancellation. It is `None` where the reply names none, and where its number
+    /// has more than 32 bits, which the column of the reply has all the same.
+    pub number: Option<u32>,
+    /// The reply, with all that it says.
+    pub reply: Vec<u8>,
+}
+
+impl OutcomeColumns {
+    ghost use Rattle.std.specs.Prelude.{IfOk};
+    ghost use Rattle.hd_turn_row.specs.Rows.{AreColumnsOf};
+
+    /// The columns of what a turn with this reply came to.
+    ///
+    /// # Errors
+    /// Out of memory.
+    pub fn of(alloc: Global, reply: &TurnReply) -> Result<OutcomeColumns, AllocError>
+        ensures { IfOk result (AreColumnsOf reply.now) }
+    {
+        Ok(OutcomeColumns {
+            outcome: outcome_of(reply),
+            number: number_of(reply),
+            reply: reply_column(alloc, reply)?,
+        })
     }
 }
 
-/// The number of the command that a reply names: the one that was done or cancelled, or that depends on the
-/// target of a refused cancellation. It is `None` where the reply names none, and where its number has more
-/// than 32 bits, which the text of the reply has all the same.
-pub fn number_of(reply: &TurnReply) -> Option<u32>
+/// What a turn came to, in one word.
+fn outcome_of(reply: &TurnReply) -> &'static [u8]
+    ensures { result.now ≡ outcome_word reply.now }
+{
+    match reply {
+        TurnReply::Done { .. } => b"done",
+        TurnReply::Refused(_) => b"refused",
+        TurnReply::Cancelled { .. } => b"cancelled",
+        TurnReply::Item(_) => b"item",
+    }
+}
+
+/// The number of the command that a reply names, where it has 32 bits.
+fn number_of(reply: &TurnReply) -> Option<u32>
     ensures { result ≡ number_column reply.now }
 {
     let number = named_command(reply)?;

@@ -1,13 +1,10 @@
 //! What is asked, column by column.
 ghost use Rattle.std.specs.Prelude.{◌≡◌};
-ghost use Rattle.hd_turn_row.specs.Parts.{admits_of, bare, cancel_parts, checkout_act, command_parts};
-ghost use Rattle.hd_turn_row.specs.Parts.{copy_of};
-ghost use Rattle.hd_turn_row.specs.Parts.{asked_parts};
+ghost use Rattle.hd_turn_row.specs.Parts.{action_parts, admits_of, asked_parts, bare, cancel_parts};
+ghost use Rattle.hd_turn_row.specs.Parts.{copy_of, copy_parts, hold_parts, loan_parts};
 
 use crate::act::{Act, Admits};
-use hd_rules::{
-    Action, Asked, BranchNo, Cancel, Command, CopyNo, Day, HoldKind, PatronNo, TitleNo,
-};
+use hd_rules::{Action, Asked, BranchNo, Cancel, CopyNo, Day, HoldKind, PatronNo, TitleNo};
 
 /// What is asked, column by column: nothing where the column is empty.
 #[derive(Clone, Copy)]
@@ -27,9 +24,75 @@ pub(crate) fn parts_of(asked: &Asked) -> Option<Parts>
     ensures { result ≡ asked_parts asked.now }
 {
     match asked {
-        Asked::Command(command) => Some(command_parts(command)),
+        Asked::Command(command) => Some(Parts {
+            day: Some(command.day),
+            ..action_parts(&command.action)
+        }),
         Asked::Cancel(what) => Some(cancel_parts(what)),
         Asked::Item(_) => None,
+    }
+}
+
+/// What a command does.
+fn action_parts(action: &Action) -> Parts
+    ensures { result ≡ action_parts action.now }
+{
+    match action {
+        Action::Checkout {
+            patron,
+            copy,
+            may_renew,
+        } => of_checkout(*may_renew, *patron, *copy),
+        Action::OffLine { patron, copy, due } => Parts {
+            until: Some(*due),
+            ..of_loan(Act::OffLine, *patron, *copy)
+        },
+        Action::Checkin { copy, branch } => Parts {
+            branch: Some(*branch),
+            ..of_copy(Act::Checkin, *copy)
+        },
+        Action::Add {
+            patron,
+            title,
+            kind,
+            pickup,
+            expiry,
+        } => Parts {
+            copy: copy_of(kind),
+            branch: Some(*pickup),
+            admits: Some(admits_of(kind)),
+            until: *expiry,
+            ..of_hold(Act::Add, *patron, *title)
+        },
+        Action::Delete { patron, title } => of_hold(Act::Delete, *patron, *title),
+        Action::Change {
+            patron,
+            title,
+            kind,
+            pickup,
+            expiry,
+        } => Parts {
+            copy: kind.as_ref().and_then(copy_of),
+            branch: *pickup,
+            admits: kind.as_ref().map(admits_of),
+            until: *expiry,
+            ..of_hold(Act::Change, *patron, *title)
+        },
+        Action::Renewal { patron, copy } => of_loan(Act::Renewal, *patron, *copy),
+    }
+}
+
+/// What a cancellation asks. It has no day.
+fn cancel_parts(what: &Cancel) -> Parts
+    ensures { result ≡ cancel_parts what.now }
+{
+    match what {
+        Cancel::Checkout(copy) => of_copy(Act::CancelCheckout, *copy),
+        Cancel::Checkin(copy) => of_copy(Act::CancelCheckin, *copy),
+        Cancel::Renewal(copy) => of_copy(Act::CancelRenewal, *copy),
+        Cancel::Add(patron, title) => of_hold(Act::CancelAdd, *patron, *title),
+        Cancel::Delete(patron, title) => of_hold(Act::CancelDelete, *patron, *title),
+        Cancel::Change(patron, title) => of_hold(Act::CancelChange, *patron, *title),
     }
 }
 
@@ -49,99 +112,9 @@ fn bare(act: Act) -> Parts
     }
 }
 
-/// What a command asks.
-fn command_parts(command: &Command) -> Parts
-    ensures { result ≡ command_parts command.now.day command.now.action }
-{
-    let day = Some(command.day);
-    match &command.action {
-        Action::Checkout {
-            patron,
-            copy,
-            may_renew,
-        } => Parts {
-            day,
-            patron: Some(*patron),
-            copy: Some(*copy),
-            ..bare(checkout_act(*may_renew))
-        },
-        Action::OffLine { patron, copy, due } => Parts {
-            day,
-            patron: Some(*patron),
-            copy: Some(*copy),
-            until: Some(*due),
-            ..bare(Act::OffLine)
-        },
-        Action::Checkin { copy, branch } => Parts {
-            day,
-            copy: Some(*copy),
-            branch: Some(*branch),
-            ..bare(Act::Checkin)
-        },
-        Action::Add {
-            patron,
-            title,
-            kind,
-            pickup,
-            expiry,
-        } => Parts {
-            act: Act::Add,
-            day,
-            patron: Some(*patron),
-            copy: copy_of(kind),
-            title: Some(*title),
-            branch: Some(*pickup),
-            admits: Some(admits_of(kind)),
-            until: *expiry,
-        },
-        Action::Delete { patron, title } => Parts {
-            day,
-            patron: Some(*patron),
-            title: Some(*title),
-            ..bare(Act::Delete)
-        },
-        Action::Change {
-            patron,
-            title,
-            kind,
-            pickup,
-            expiry,
-        } => Parts {
-            act: Act::Change,
-            day,
-            patron: Some(*patron),
-            copy: kind.as_ref().and_then(copy_of),
-            title: Some(*title),
-            branch: *pickup,
-            admits: kind.as_ref().map(admits_of),
-            until: *expiry,
-        },
-        Action::Renewal { patron, copy } => Parts {
-            day,
-            patron: Some(*patron),
-            copy: Some(*copy),
-            ..bare(Act::Renewal)
-        },
-    }
-}
-
-/// What a cancellation asks. It has no day.
-fn cancel_parts(what: &Cancel) -> Parts
-    ensures { result ≡ cancel_parts what.now }
-{
-    match what {
-        Cancel::Checkout(copy) => of_copy(Act::CancelCheckout, *copy),
-        Cancel::Checkin(copy) => of_copy(Act::CancelCheckin, *copy),
-        Cancel::Renewal(copy) => of_copy(Act::CancelRenewal, *copy),
-        Cancel::Add(patron, title) => of_hold(Act::CancelAdd, *patron, *title),
-        Cancel::Delete(patron, title) => of_hold(Act::CancelDelete, *patron, *title),
-        Cancel::Change(patron, title) => of_hold(Act::CancelChange, *patron, *title),
-    }
-}
-
-/// The cancellation of what was done with a copy.
+/// What is done with a copy.
 fn of_copy(act: Act, copy: CopyNo) -> Parts
-    ensures { result ≡ record (bare act) { copy = Some copy } }
+    ensures { result ≡ copy_parts act copy }
 {
     Parts {
         copy: Some(copy),
@@ -149,9 +122,19 @@ fn of_copy(act: Act, copy: CopyNo) -> Parts
     }
 }
 
-/// The cancellation of what was done with a hold.
+/// What is done with a patron's loan.
+fn of_loan(act: Act, patron: PatronNo, copy: CopyNo) -> Parts
+    ensures { result ≡ loan_parts act patron copy }
+{
+    Parts {
+        patron: Some(patron),
+        ..of_copy(act, copy)
+    }
+}
+
+/// What is done with a patron's hold.
 fn of_hold(act: Act, patron: PatronNo, title: TitleNo) -> Parts
-    ensures { result ≡ record (bare act) { patron = Some patron; title = Some title } }
+    ensures { result ≡ hold_parts act patron title }
 {
     Parts {
         patron: Some(patron),
@@ -161,13 +144,13 @@ fn of_hold(act: Act, patron: PatronNo, title: TitleNo) -> Parts
 }
 
 /// A checkout, by whether it may renew.
-fn checkout_act(may_renew: bool) -> Act
-    ensures { result ≡ checkout_act may_renew }
+fn of_checkout(may_renew: bool, patron: PatronNo, copy: CopyNo) -> Parts
+    ensures { result ≡ action_parts (Action.Checkout patron copy may_renew) }
 {
     if may_renew {
-        Act::CheckoutOrRenewal
+        of_loan(Act::CheckoutOrRenewal, patron, copy)
     } else {
-        Act::Checkout
+        of_loan(Act::Checkout, patron, copy)
     }
 }
 

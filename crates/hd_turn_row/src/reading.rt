@@ -1,70 +1,55 @@
 //! What columns say.
 ghost use Rattle.std.specs.Prelude.{◌≡◌, IfErr, IfOk, OnErr};
 ghost use Rattle.std.specs.Option.{option_copied};
-ghost use Rattle.hd_turn_row.specs.Columns.{AreShown, SaysAct, SaysAdmits, SaysBranch, SaysCopy, SaysPatron};
-ghost use Rattle.hd_turn_row.specs.Columns.{SaysTitle, asked_texts};
+ghost use Rattle.hd_turn_row.specs.Acts.{act_word, admits_word};
+ghost use Rattle.hd_turn_row.specs.Columns.{AreShown, Says, day_of};
 ghost use Rattle.hd_turn_row.specs.Days.{IsDayText};
 ghost use Rattle.hd_turn_row.specs.Faults.{IsFirstUnread, IsReading};
+ghost use Rattle.hd_turn_store.specs.Rows.{kept};
 
 use crate::act::{Act, Admits};
-use crate::columns::AskedColumns;
 use crate::day::day_said;
 use crate::fault::{Column, RowFault};
 use crate::parts::Parts;
 use hd_catalogue::Catalogue;
 use hd_rules::{BranchNo, CopyNo, Day, PatronNo, TitleNo};
+use hd_turn_store::TurnRow;
 use std::alloc::Allocator;
 
-/// What the columns say, or the first that says nothing.
+/// What the columns of a row say, or the first that says nothing.
 pub(crate) fn parts_said<A: Allocator + Copy>(
     catalogue: &Catalogue<A>,
-    columns: &AskedColumns<'_>,
+    row: &TurnRow<'_>,
 ) -> Result<Parts, RowFault>
-    ensures shown { IfOk result (λ parts. AreShown catalogue.now parts (asked_texts columns.now)) }
-    ensures fault { IfErr result (IsFirstUnread catalogue.now (asked_texts columns.now)) }
+    ensures shown { IfOk result (λ parts. AreShown catalogue.now parts (kept row.now)) }
+    ensures fault { IfErr result (IsFirstUnread catalogue.now (kept row.now)) }
 {
-    let day = day_if_any(Column::Day, columns.day)?;
-    let act = act_said(columns.act)?;
-    let patron = patron_if_any(catalogue, columns.patron)?;
-    let copy = copy_if_any(catalogue, columns.copy)?;
-    let title = title_if_any(catalogue, columns.title)?;
-    let branch = branch_if_any(catalogue, columns.branch)?;
-    let admits = admits_if_any(columns.admits)?;
-    let until = day_if_any(Column::Until, columns.until)?;
     Ok(Parts {
-        act,
-        day,
-        patron,
-        copy,
-        title,
-        branch,
-        admits,
-        until,
+        day: own_day(row.day)?,
+        act: act_said(row.act)?,
+        patron: patron_if_any(catalogue, row.patron)?,
+        copy: copy_if_any(catalogue, row.copy)?,
+        title: title_if_any(catalogue, row.title)?,
+        branch: branch_if_any(catalogue, row.branch)?,
+        admits: admits_if_any(row.admits)?,
+        until: day_if_any(Column::Until, row.until)?,
     })
 }
 
-/// The act of a word.
-fn act_said(word: &[u8]) -> Result<Act, RowFault>
-    ensures said { IfOk result (λ act. SaysAct act word.now) }
-    ensures fault { IfErr result (λ fault. fault ≡ RowFault.UnknownWord Column.Act) }
-    ensures none { OnErr result ((act : Act) → ¬ SaysAct act word.now) }
+/// The transaction day of a text, if it isn't empty.
+fn own_day(text: &[u8]) -> Result<Option<Day>, RowFault>
+    ensures { IsReading IsDayText (RowFault.NoDay Column.Day) (day_of text.now) result }
 {
-    match Act::of_word(word) {
-        Some(act) => Ok(act),
-        None => Err(RowFault::UnknownWord(Column::Act)),
-    }
+    day_if_any(Column::Day, day_in(text))
 }
 
-/// What a hold admits by a word, if there is one.
-fn admits_if_any(text: Option<&[u8]>) -> Result<Option<Admits>, RowFault>
-    ensures { IsReading SaysAdmits (RowFault.UnknownWord Column.Admits) (option_copied text.entry) result }
+/// A day's text, if it isn't empty.
+fn day_in(text: &[u8]) -> Option<&[u8]>
+    ensures { option_copied result ≡ day_of text.now }
 {
-    let Some(word) = text else {
-        return Ok(None);
-    };
-    match Admits::of_word(word) {
-        Some(admits) => Ok(Some(admits)),
-        None => Err(RowFault::UnknownWord(Column::Admits)),
+    match text {
+        [] => None,
+        text => Some(text),
     }
 }
 
@@ -81,12 +66,40 @@ fn day_if_any(column: Column, text: Option<&[u8]>) -> Result<Option<Day>, RowFau
     }
 }
 
+/// The act of a word.
+#[tactic(auto, using(crate::proofs::ActLemmas::act_said, crate::proofs::ActLemmas::act_unsaid))]
+fn act_said(word: &[u8]) -> Result<Act, RowFault>
+    ensures said { IfOk result (λ act. word.now ≡ act_word act) }
+    ensures fault { IfErr result (λ fault. fault ≡ RowFault.UnknownWord Column.Act) }
+    ensures none { OnErr result ((act : Act) → ¬ (word.now ≡ act_word act)) }
+{
+    match Act::of_word(word) {
+        Some(act) => Ok(act),
+        None => Err(RowFault::UnknownWord(Column::Act)),
+    }
+}
+
+/// What a hold admits by a word, if there is one.
+#[tactic(auto, using(crate::proofs::ActLemmas::admits_said, crate::proofs::ActLemmas::admits_unsaid))]
+fn admits_if_any(text: Option<&[u8]>) -> Result<Option<Admits>, RowFault>
+    ensures { IsReading (λ admits text. text ≡ admits_word admits) (RowFault.UnknownWord Column.Admits)
+        (option_copied text.entry) result }
+{
+    let Some(word) = text else {
+        return Ok(None);
+    };
+    match Admits::of_word(word) {
+        Some(admits) => Ok(Some(admits)),
+        None => Err(RowFault::UnknownWord(Column::Admits)),
+    }
+}
+
 /// The patron of a name, if there is one.
 fn patron_if_any<A: Allocator + Copy>(
     catalogue: &Catalogue<A>,
     text: Option<&[u8]>,
 ) -> Result<Option<PatronNo>, RowFault>
-    ensures { IsReading (SaysPatron catalogue.now) (RowFault.UnknownName Column.Patron)
+    ensures { IsReading (Says catalogue.now Column.Patron) (RowFault.UnknownName Column.Patron)
         (option_copied text.entry) result }
 {
     let Some(name) = text else {
@@ -103,7 +116,7 @@ fn copy_if_any<A: Allocator + Copy>(
     catalogue: &Catalogue<A>,
     text: Option<&[u8]>,
 ) -> Result<Option<CopyNo>, RowFault>
-    ensures { IsReading (SaysCopy catalogue.now) (RowFault.UnknownName Column.Copy)
+    ensures { IsReading (Says catalogue.now Column.Copy) (RowFault.UnknownName Column.Copy)
         (option_copied text.entry) result }
 {
     let Some(name) = text else {
@@ -120,7 +133,7 @@ fn title_if_any<A: Allocator + Copy>(
     catalogue: &Catalogue<A>,
     text: Option<&[u8]>,
 ) -> Result<Option<TitleNo>, RowFault>
-    ensures { IsReading (SaysTitle catalogue.now) (RowFault.UnknownName Column.Title)
+    ensures { IsReading (Says catalogue.now Column.Title) (RowFault.UnknownName Column.Title)
         (option_copied text.entry) result }
 {
     let Some(name) = text else {
@@ -137,7 +150,7 @@ fn branch_if_any<A: Allocator + Copy>(
     catalogue: &Catalogue<A>,
     text: Option<&[u8]>,
 ) -> Result<Option<BranchNo>, RowFault>
-    ensures { IsReading (SaysBranch catalogue.now) (RowFault.UnknownName Column.Branch)
+    ensures { IsReading (Says catalogue.now Column.Branch) (RowFault.UnknownName Column.Branch)
         (option_copied text.entry) result }
 {
     let Some(name) = text else {

@@ -1,94 +1,87 @@
-//! The text of a reply.
-ghost use Rattle.std.specs.Prelude.{◌≡◌, ◌++◌, ◌∷◌, [], IfOk, OnOk};
-ghost use Rattle.hd_rules.specs.RefusalTexts.{words_of};
-ghost use Rattle.hd_turn_row.specs.Pieces.{IsJoined};
-ghost use Rattle.hd_turn_row.specs.Replies.{IsReplyText, command_pieces, done_pieces, hold_pieces};
-ghost use Rattle.hd_turn_row.specs.Replies.{item_pieces, kind_pieces, refusal_pieces, state_pieces};
+//! The column of a reply.
+ghost use Rattle.std.specs.Prelude.{◌≡◌, IfOk, OnOk};
+ghost use Rattle.hd_turn_row.specs.Replies.{IsReplyColumn, depended_on, done_numbers, hold_numbers};
+ghost use Rattle.hd_turn_row.specs.Replies.{kind_number, number_if_any, refusal_number, reply_numbers};
+ghost use Rattle.hd_turn_row.specs.Replies.{state_numbers, truth_number};
+ghost use Rattle.hd_turn_row.specs.Written.{IsWritten};
 
-use crate::joining::append;
-use crate::piece::Piece;
-use crate::told::{
-    deleted_pieces, held_pieces, holder, in_transit, lent_pieces, on_hold_shelf, on_loan, one_copy,
-    pickup, returned_pieces, shelf,
-};
-use crate::word::Word;
+use crate::written::append;
 use hd_rules::{CopyState, Hold, HoldKind, ItemView, Refusal, Reply, TurnReply};
 use std::alloc::{AllocError, Allocator};
 
-/// The text of a reply, with all that it says: words, decimal numbers and days, joined by blanks, as in
-/// `lent title 3 due 2026-12-01 command 12`.
+// Which reply it is.
+const LENT: u64 = 1;
+
+const RETURNED: u64 = 2;
+
+const HELD: u64 = 3;
+
+const DELETED: u64 = 4;
+
+const REFUSED: u64 = 5;
+
+const CANCELLED: u64 = 6;
+
+const ITEM: u64 = 7;
+
+// Where a copy is.
+const SHELF: u64 = 0;
+
+const ON_LOAN: u64 = 1;
+
+const HOLD_SHELF: u64 = 2;
+
+const IN_TRANSIT: u64 = 3;
+
+/// The column of a reply: which it is and all that it says, in numbers of eight bytes each, the most
+/// significant first.
 ///
 /// Titles, copies, patrons and branches stand there by their numbers in the catalogue, which a catalogue that
-/// only grew keeps. A refusal has its own words (docs/protocol.md, "Refusals").
+/// only grew keeps.
 ///
 /// # Errors
 /// Out of memory.
-pub fn reply_text<A: Allocator>(alloc: A, reply: &TurnReply) -> Result<Vec<u8, A>, AllocError>
-    ensures { IfOk result (λ text. IsReplyText reply.now text.items) }
+pub(crate) fn reply_column<A: Allocator>(
+    alloc: A,
+    reply: &TurnReply,
+) -> Result<Vec<u8, A>, AllocError>
+    ensures { IfOk result (λ column. IsReplyColumn reply.now column.items) }
 {
-    let mut text = Vec::new(alloc);
+    let mut column = Vec::new(alloc);
     match reply {
-        TurnReply::Done { number, reply } => append_done(&mut text, *number, reply)?,
-        TurnReply::Refused(refusal) => append_refusal(&mut text, *refusal)?,
-        TurnReply::Cancelled { number } => append(
-            &mut text,
-            &[Piece::Word(Word::Cancelled), Piece::Number(*number)],
-        )?,
-        TurnReply::Item(view) => append_item(&mut text, view)?,
+        TurnReply::Done { number, reply } => append_done(&mut column, *number, reply)?,
+        TurnReply::Refused(refusal) => append_refusal(&mut column, *refusal)?,
+        TurnReply::Cancelled { number } => append(&mut column, &[CANCELLED, *number])?,
+        TurnReply::Item(view) => append_item(&mut column, view)?,
     }
-    Ok(text)
+    Ok(column)
 }
 
-/// Appends what is said of an accepted command, and its number.
+/// Appends the reply to the command of a number.
 fn append_done<A: Allocator>(
     out: &mut Vec<u8, A>,
     number: u64,
     reply: &Reply,
 ) -> Result<(), AllocError>
-    ensures { OnOk result
-        (IsJoined (done_pieces reply.now ++ command_pieces number) out.old.items out.new.items) }
-{
-    append_reply(out, reply)?;
-    append(out, &[Piece::Word(Word::Command), Piece::Number(number)])?;
-    Ok(())
-}
-
-/// Appends the words of a refusal, and its number where it has one.
-fn append_refusal<A: Allocator>(out: &mut Vec<u8, A>, refusal: Refusal) -> Result<(), AllocError>
-    ensures { OnOk result
-        (IsJoined (refusal_pieces refusal) (out.old.items ++ words_of refusal) out.new.items) }
-{
-    out.extend_from_slice(refusal.words())?;
-    if let Refusal::Depends { number } = refusal {
-        append(out, &[Piece::Number(number)])?;
-    }
-    Ok(())
-}
-
-/// Appends what a query shows.
-fn append_item<A: Allocator>(out: &mut Vec<u8, A>, view: &ItemView) -> Result<(), AllocError>
-    ensures { OnOk result (IsJoined (item_pieces view.now) out.old.items out.new.items) }
-{
-    append(out, &[Piece::Word(Word::Item)])?;
-    append_state(out, &view.state)?;
-    let holds = Piece::Number(u64::from(view.holds));
-    append(out, &[Piece::Word(Word::Holds), holds])?;
-    Ok(())
-}
-
-/// Appends what is said of an accepted command.
-fn append_reply<A: Allocator>(out: &mut Vec<u8, A>, reply: &Reply) -> Result<(), AllocError>
-    ensures { OnOk result (IsJoined (done_pieces reply.now) out.old.items out.new.items) }
+    ensures { OnOk result (IsWritten (done_numbers number reply.now) out.old.items out.new.items) }
 {
     match reply {
         Reply::LentOrRenewed {
             title,
             due,
             renewal,
-        } => append(out, &lent_pieces(*title, *due, *renewal))?,
+        } => {
+            let due = u64::from(due.number());
+            let renewal = truth_number(*renewal);
+            append(
+                out,
+                &[LENT, number, u64::from(title.number()), due, renewal],
+            )
+        }
         Reply::Returned { title, home, now } => {
-            append(out, &returned_pieces(*title, *home))?;
-            append_state(out, now)?;
+            let home = u64::from(home.number());
+            append(out, &[RETURNED, number, u64::from(title.number()), home])?;
+            append_state(out, now)
         }
         Reply::Held {
             title,
@@ -96,43 +89,135 @@ fn append_reply<A: Allocator>(out: &mut Vec<u8, A>, reply: &Reply) -> Result<(),
             position,
             hold,
         } => {
-            append(out, &held_pieces(*title, *available, *position))?;
+            let title = u64::from(title.number());
+            let available = truth_number(*available);
+            append(out, &[HELD, number, title, available, *position])?;
             append_hold(out, hold)?;
+            Ok(())
         }
-        Reply::Deleted { title } => append(out, &deleted_pieces(*title))?,
+        Reply::Deleted { title } => append(out, &[DELETED, number, u64::from(title.number())]),
+    }
+}
+
+/// Appends a refusal, and its number where it has one.
+fn append_refusal<A: Allocator>(out: &mut Vec<u8, A>, refusal: Refusal) -> Result<(), AllocError>
+    ensures { OnOk result
+        (IsWritten (reply_numbers (TurnReply.Refused refusal)) out.old.items out.new.items) }
+{
+    append(out, &[REFUSED, refusal_number(refusal)])?;
+    if let Refusal::Depends { number } = refusal {
+        append(out, &[number])?;
     }
     Ok(())
 }
 
+/// Appends what a query shows.
+fn append_item<A: Allocator>(out: &mut Vec<u8, A>, view: &ItemView) -> Result<(), AllocError>
+    ensures { OnOk result (IsWritten (reply_numbers (TurnReply.Item view.now)) out.old.items out.new.items) }
+{
+    append(out, &[ITEM, u64::from(view.holds)])?;
+    append_state(out, &view.state)
+}
+
 /// Appends where a copy is.
 fn append_state<A: Allocator>(out: &mut Vec<u8, A>, state: &CopyState) -> Result<(), AllocError>
-    ensures { OnOk result (IsJoined (state_pieces state.now) out.old.items out.new.items) }
+    ensures { OnOk result (IsWritten (state_numbers state.now) out.old.items out.new.items) }
 {
     match state {
-        CopyState::Shelf(branch) => append(out, &shelf(*branch)),
-        CopyState::OnLoan(loan) => append(out, &on_loan(loan)),
-        CopyState::OnHoldShelf(place) => append(out, &on_hold_shelf(place)),
-        CopyState::InTransit(way) => append(out, &in_transit(way)),
+        CopyState::Shelf(branch) => append(out, &[SHELF, u64::from(branch.number())]),
+        CopyState::OnLoan(loan) => {
+            let patron = u64::from(loan.patron.number());
+            let due = u64::from(loan.due.number());
+            append(out, &[ON_LOAN, patron, due, u64::from(loan.renewals)])
+        }
+        CopyState::OnHoldShelf(spot) => {
+            let branch = u64::from(spot.branch.number());
+            let patron = u64::from(spot.patron.number());
+            append(out, &[HOLD_SHELF, branch, u64::from(spot.place), patron])
+        }
+        CopyState::InTransit(way) => {
+            let from = u64::from(way.from.number());
+            let to = u64::from(way.to.number());
+            let patron = number_if_any(way.patron.map(|patron| patron.number()));
+            append(out, &[IN_TRANSIT, from, to, patron])
+        }
     }
 }
 
 /// Appends a hold.
 fn append_hold<A: Allocator>(out: &mut Vec<u8, A>, hold: &Hold) -> Result<(), AllocError>
-    ensures { OnOk result (IsJoined (hold_pieces hold.now) out.old.items out.new.items) }
+    ensures { OnOk result (IsWritten (hold_numbers hold.now) out.old.items out.new.items) }
 {
-    append(out, &holder(hold))?;
-    append_kind(out, &hold.kind)?;
-    append(out, &pickup(hold))?;
-    Ok(())
+    let patron = u64::from(hold.patron.number());
+    let pickup = u64::from(hold.pickup.number());
+    let expiry = number_if_any(hold.expiry.map(|day| day.number()));
+    let copy = number_if_any(hold.copy.map(|copy| copy.number()));
+    append(
+        out,
+        &[
+            patron,
+            hold.stamp,
+            kind_number(&hold.kind),
+            pickup,
+            expiry,
+            copy,
+        ],
+    )
 }
 
-/// Appends which copies a hold admits.
-fn append_kind<A: Allocator>(out: &mut Vec<u8, A>, kind: &HoldKind) -> Result<(), AllocError>
-    ensures { OnOk result (IsJoined (kind_pieces kind.now) out.old.items out.new.items) }
+/// Which copies a hold admits.
+fn kind_number(kind: &HoldKind) -> u64
+    ensures { result ≡ kind_number kind.now }
 {
     match kind {
-        HoldKind::Any => append(out, &[Piece::Word(Word::Any)]),
-        HoldKind::One(copy) => append(out, &one_copy(*copy)),
-        HoldKind::AtBranch => append(out, &[Piece::Word(Word::Branch)]),
+        HoldKind::Any => 0,
+        HoldKind::AtBranch => 1,
+        HoldKind::One(copy) => u64::from(copy.number()) + 2,
+    }
+}
+
+/// 0 of none, and one more than a number that there is.
+fn number_if_any(number: Option<u32>) -> u64
+    ensures { result ≡ number_if_any number }
+{
+    match number {
+        Some(number) => u64::from(number) + 1,
+        None => 0,
+    }
+}
+
+/// 1 where it is so.
+fn truth_number(holds: bool) -> u64
+    ensures { result ≡ truth_number holds }
+{
+    if holds { 1 } else { 0 }
+}
+
+/// Which refusal it is.
+fn refusal_number(refusal: Refusal) -> u64
+    ensures { result ≡ refusal_number refusal }
+{
+    match refusal {
+        Refusal::NotLoggedIn => 0,
+        Refusal::Unreadable => 1,
+        Refusal::BadDate => 2,
+        Refusal::UnknownPatron => 3,
+        Refusal::UnknownItem => 4,
+        Refusal::UnknownTitle => 5,
+        Refusal::UnknownBranch => 6,
+        Refusal::HoldExists => 7,
+        Refusal::NoSuchHold => 8,
+        Refusal::HoldHasCopy => 9,
+        Refusal::ExpiryPassed => 10,
+        Refusal::OnLoan => 11,
+        Refusal::KeptForAnother => 12,
+        Refusal::InTransit => 13,
+        Refusal::LoanLimit => 14,
+        Refusal::NotOnLoan => 15,
+        Refusal::NotRenewable => 16,
+        Refusal::DueRange => 17,
+        Refusal::JournalFull => 18,
+        Refusal::NothingToCancel => 19,
+        Refusal::Depends { .. } => 20,
     }
 }

@@ -1,59 +1,78 @@
 //! The row of a turn.
-ghost use Rattle.std.specs.Prelude.{◌≡◌, ℕ, IfErr, IfNone, IfOk, IfSome, None, OnErr};
+ghost use Rattle.std.specs.Prelude.{◌≡◌, ℕ, IfErr, IfOk, OnErr};
+ghost use Rattle.std.specs.Option.{option_copied};
 ghost use Rattle.hd_catalogue.specs.Contents.{facts_of};
 ghost use Rattle.hd_rules.specs.Messages.{IsKnownMessage, message_of};
 ghost use Rattle.hd_rules.specs.Turns.{Message};
-ghost use Rattle.hd_turn_row.specs.Columns.{asked_texts};
+ghost use Rattle.hd_rules.specs.declared.replies.TurnReply.{TurnReply};
+ghost use Rattle.hd_turn_row.specs.Columns.{AreKnownParts};
 ghost use Rattle.hd_turn_row.specs.Faults.{IsFirstFault};
-ghost use Rattle.hd_turn_row.specs.Parts.{asked_parts};
-ghost use Rattle.hd_turn_row.specs.Rows.{AreDaysOfAsked, IsRowOf, row_texts};
+ghost use Rattle.hd_turn_row.specs.Rows.{AreAskedColumns, AreColumnsOf, HasOutcome, IsRowOf};
+ghost use Rattle.hd_turn_store.specs.Rows.{kept};
 
 use crate::asked::asked_of;
-use crate::columns::AskedColumns;
-use crate::days::RowDays;
+use crate::asked_columns::AskedColumns;
 use crate::fault::{Column, RowFault};
 use crate::laws::a_row_is_of_one_message;
-use crate::parts::parts_of;
+use crate::outcome::OutcomeColumns;
 use crate::reading::parts_said;
 use crate::terminals::terminal_named;
-use crate::writing::columns_of;
 use hd_catalogue::Catalogue;
 use hd_rules::{Ask, SeatNo};
+use hd_turn_store::TurnRow;
 use std::alloc::Allocator;
 
-/// A changing turn as a row of names and texts. It lends them all.
-#[derive(Clone, Copy)]
-pub struct Row<'a> {
-    /// The number of the seat.
-    pub seat: u32,
-    /// The terminal's name.
-    pub terminal: &'a [u8],
-    /// What it asked.
-    pub asked: AskedColumns<'a>,
-    /// The message's line, where it carried a sequence number.
-    pub line: Option<&'a [u8]>,
-}
-
-/// The row of what was asked, or `None` of a query, which changes nothing and has none. It takes no memory:
-/// `days` are the texts that neither the catalogue nor the message has.
+/// The row of what was asked and of what that came to. It takes no memory: the columns have the texts that
+/// neither the catalogue nor the message has.
 pub fn row_of<'a, A: Allocator + Copy>(
     catalogue: &'a Catalogue<A>,
     ask: &Ask<'a>,
-    days: &'a RowDays,
-) -> Option<Row<'a>>
+    asked: &'a AskedColumns,
+    came: &'a OutcomeColumns,
+) -> TurnRow<'a>
     requires known { IsKnownMessage (facts_of catalogue.now) (message_of ask.now).message }
-    requires days { AreDaysOfAsked ask.now.asked days.now }
+    requires asked { AreAskedColumns ask.now.asked asked.now }
     ensures row { let asking = message_of ask.now in
-        IfSome result (λ row. IsRowOf catalogue.now asking.seat asking.message (row_texts row)) }
-    ensures query { IfNone result (asked_parts ask.now.asked ≡ None) }
+        IsRowOf catalogue.now asking.seat asking.message (kept result) }
+    ensures came { (format : ℕ) (reply : TurnReply) → AreColumnsOf reply came.now
+        → HasOutcome format reply (kept result) }
 {
-    let parts = parts_of(ask.what_is_asked())?;
-    Some(Row {
+    row_with(catalogue, ask, asked, came)
+}
+
+/// The same of parts that name things of the catalogue.
+#[tactic(auto, using(crate::proofs::ColumnLemmas::day_column))]
+fn row_with<'a, A: Allocator + Copy>(
+    catalogue: &'a Catalogue<A>,
+    ask: &Ask<'a>,
+    asked: &'a AskedColumns,
+    came: &'a OutcomeColumns,
+) -> TurnRow<'a>
+    requires terminal { IsKnownMessage (facts_of catalogue.now) (message_of ask.now).message }
+    requires known { AreKnownParts (facts_of catalogue.now) asked.now.parts }
+    requires asked { AreAskedColumns ask.now.asked asked.now }
+    ensures row { let asking = message_of ask.now in
+        IsRowOf catalogue.now asking.seat asking.message (kept result) }
+    ensures came { (format : ℕ) (reply : TurnReply) → AreColumnsOf reply came.now
+        → HasOutcome format reply (kept result) }
+{
+    let parts = &asked.parts;
+    TurnRow {
         seat: ask.seat().number(),
         terminal: catalogue.terminal_name(ask.terminal()),
-        asked: columns_of(catalogue, &parts, days),
+        day: asked.day(),
+        act: parts.act.word(),
+        patron: parts.patron.map(|patron| catalogue.patron_name(patron)),
+        copy: parts.copy.map(|copy| catalogue.copy_name(copy)),
+        title: parts.title.map(|title| catalogue.title_name(title)),
+        branch: parts.branch.map(|branch| catalogue.branch_name(branch)),
+        admits: parts.admits.map(|admits| admits.word()),
+        until: asked.until(),
         line: ask.line(),
-    })
+        outcome: came.outcome,
+        number: came.number,
+        reply: came.reply.as_slice(),
+    }
 }
 
 /// What a row asks. The catalogue knows it, so that a journal may take it again.
@@ -62,24 +81,23 @@ pub fn row_of<'a, A: Allocator + Copy>(
 /// The first fault of the row, which is then that of no message.
 pub fn ask_of<'a, A: Allocator + Copy>(
     catalogue: &Catalogue<A>,
-    row: &Row<'a>,
+    row: &TurnRow<'a>,
 ) -> Result<Ask<'a>, RowFault>
     ensures row { IfOk result (λ ask.
-        IsRowOf catalogue.now (message_of ask).seat (message_of ask).message (row_texts row.now)) }
+        IsRowOf catalogue.now (message_of ask).seat (message_of ask).message (kept row.now)) }
     ensures only { IfOk result (λ ask. (seat : ℕ) (message : Message)
-        → IsRowOf catalogue.now seat message (row_texts row.now)
+        → IsRowOf catalogue.now seat message (kept row.now)
         → (seat ≡ (message_of ask).seat) × (message ≡ (message_of ask).message)) }
     ensures known { IfOk result (λ ask. IsKnownMessage (facts_of catalogue.now) (message_of ask).message) }
-    ensures fault { IfErr result
-        (IsFirstFault catalogue.now row.now.terminal.now (asked_texts row.now.asked)) }
+    ensures fault { IfErr result (IsFirstFault catalogue.now (kept row.now)) }
     ensures none { OnErr result ((seat : ℕ) (message : Message)
-        → ¬ IsRowOf catalogue.now seat message (row_texts row.now)) }
+        → ¬ IsRowOf catalogue.now seat message (kept row.now)) }
 {
     a_row_is_of_one_message();
     let Some(terminal) = terminal_named(catalogue, row.terminal) else {
         return Err(RowFault::UnknownName(Column::Terminal));
     };
-    let parts = parts_said(catalogue, &row.asked)?;
+    let parts = parts_said(catalogue, row)?;
     let asked = asked_of(&parts)?;
     let seat = SeatNo::new(row.seat);
     Ok(Ask::new(seat, terminal, asked, row.line))

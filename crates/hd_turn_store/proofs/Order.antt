@@ -1,5 +1,5 @@
 -- How numbers compare as values, and how lists are cut.
-use Rattle.std.proofs.Common.{◌≡◌, ℕ, zero, suc, ◌<◌, ◌≤◌, ℤ, pos, ◌<ℤ◌, List, [], ◌∷◌, length, take, refl, ap, ◌∙◌, arith, Ordering, Less, Equal, Greater, int_cmp}
+use Rattle.std.proofs.Common.{◌≡◌, ℕ, zero, suc, ◌<◌, ℤ, pos, ◌<ℤ◌, List, [], take, refl, ◌∙◌, arith, Ordering, Less, Equal, Greater, int_cmp}
 use Rattle.std.proofs.lemmas.Int.{ints}
 use Rattle.std.proofs.lemmas.Cmp.{int_ranked}
 use Rattle.sqlite.specs.declared.types.Value.TheVariants.{Int}
@@ -29,9 +29,3 @@ cmp_equal m n h = rw h (value_cmp-Int (pos n) (pos n) ∙ equal (pos n) _ refl)
 pub take_none : {X : Type 0} (n : ℕ) → ◌≡◌ {A = List X} (take n []) []
 take_none zero = refl
 take_none (suc n) = refl
-
-pub take_all : {X : Type 0} (n : ℕ) (xs : List X) → length xs ≤ n → take n xs ≡ xs
-take_all zero [] h = refl
-take_all zero (x ∷ xs) h = absurd (omega arith)
-take_all (suc n) [] h = refl
-take_all (suc n) (x ∷ xs) h = ap (λ l. x ∷ l) (take_all n xs (omega arith))

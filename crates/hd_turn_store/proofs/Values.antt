@@ -1,5 +1,6 @@
 -- What a STRICT table makes of values of its columns' kinds: nothing.
-use Rattle.std.proofs.Common.{◌≡◌, ℕ, pos, List, [], ◌∷◌, Bool, true, false, cond, Option, Some, None, refl}
+use Rattle.std.proofs.Common.{◌≡◌, ℕ, pos, List, [], ◌∷◌, length, Bool, true, false, cond, Option, Some, None}
+use Rattle.std.proofs.Common.{refl}
 use Rattle.sqlite.specs.declared.types.Value.{Value}
 use Rattle.sqlite.specs.declared.types.Value.TheVariants.{Null, Int, Text as Words, Blob as Bytes}
 use Rattle.sqlite.specs.Values.{or_null}
@@ -8,9 +9,9 @@ use Rattle.sqlite.specs.Kind.TheVariants.{Integer, Text}
 use Rattle.sqlite.specs.Cast.{cast}
 use Rattle.sqlite_rules.specs.Cast.{cast_row}
 use Rattle.sqlite_sql.specs.Term.{eval_all}
-use Rattle.hd_turn_store.specs.Kept.{KeptTurn, cells, number_cell}
-use Rattle.hd_turn_store.specs.Tables.{turn_table}
-use Rattle.hd_turn_store.proofs.InsertTexts.{turn_terms}
+use Rattle.hd_turn_store.specs.Kept.{KeptTurn, Head, cells, head_cells, number_cell}
+use Rattle.hd_turn_store.specs.Tables.{head_columns, journal_table, turn_columns, turn_table}
+use Rattle.hd_turn_store.proofs.Texts.{row_terms}
 
 either : (b : Bool) (x : Value) → cond b x x ≡ x
 either true x = refl
@@ -33,16 +34,37 @@ cast_words None = refl
 cast_words (Some t) = refl
 
 -- the row of a turn before it has its number
-pub cast_turn : (k : KeptTurn) → cast_row turn_table (eval_all turn_terms (cells k ∷ [])) ≡ Null ∷ Null ∷ cells k
+pub cast_turn : (k : KeptTurn)
+    → cast_row turn_table (eval_all (row_terms (length turn_columns)) (cells k ∷ [])) ≡ Null ∷ Null ∷ cells k
 unfolding cells
 cast_turn k =
-    rw (cast_null, cast_int k.seat, cast_words k.asked.patron, cast_words k.asked.copy, cast_words k.asked.title, cast_words k.asked.branch, cast_words k.asked.admits, cast_words k.asked.until, cast_number k.number)
+    rw (
+      cast_null,
+      cast_int k.seat,
+      cast_words k.patron,
+      cast_words k.copy,
+      cast_words k.title,
+      cast_words k.branch,
+      cast_words k.admits,
+      cast_words k.until,
+      cast_number k.number,
+    )
+
+-- and that of a journal's head
+pub cast_head : (h : Head)
+    → cast_row journal_table (eval_all (row_terms (length head_columns)) (head_cells h ∷ []))
+    ≡ Null ∷ Null ∷ head_cells h
+cast_head h = rw (cast_null, cast_int h.format)
 
 -- the values of a turn, each known by itself
-pub cells_are : (k : KeptTurn) (seat : Value) (terminal day act : List ℕ) (patron copy title branch admits until line : Value) (outcome : List ℕ) (number : Value)
-    → seat ≡ Int (pos k.seat) → terminal ≡ k.terminal → day ≡ k.day → act ≡ k.asked.act → patron ≡ or_null Words k.asked.patron → copy ≡ or_null Words k.asked.copy
-    → title ≡ or_null Words k.asked.title → branch ≡ or_null Words k.asked.branch → admits ≡ or_null Words k.asked.admits → until ≡ or_null Words k.asked.until
+pub cells_are : (k : KeptTurn) (seat : Value) (terminal day act : List ℕ)
+    (patron copy title branch admits until line : Value) (outcome : List ℕ) (number : Value)
+    → seat ≡ Int (pos k.seat) → terminal ≡ k.terminal → day ≡ k.day → act ≡ k.act
+    → patron ≡ or_null Words k.patron → copy ≡ or_null Words k.copy → title ≡ or_null Words k.title
+    → branch ≡ or_null Words k.branch → admits ≡ or_null Words k.admits → until ≡ or_null Words k.until
     → line ≡ or_null Bytes k.line → outcome ≡ k.outcome → number ≡ or_null number_cell k.number
-    → seat ∷ Words terminal ∷ Words day ∷ Words act ∷ patron ∷ copy ∷ title ∷ branch ∷ admits ∷ until ∷ line ∷ Words outcome ∷ number ∷ Bytes k.reply ∷ [] ≡ cells k
+    → seat ∷ Words terminal ∷ Words day ∷ Words act ∷ patron ∷ copy ∷ title ∷ branch ∷ admits ∷ until ∷ line
+    ∷ Words outcome ∷ number ∷ Bytes k.reply ∷ [] ≡ cells k
 unfolding cells
-cells_are k seat terminal day act patron copy title branch admits until line outcome number s t d a p c i b m u l o n = rw (s, t, d, a, p, c, i, b, m, u, l, o, n)
+cells_are k seat terminal day act patron copy title branch admits until line outcome number s t d a p c i b m u l
+    o n = rw (s, t, d, a, p, c, i, b, m, u, l, o, n)

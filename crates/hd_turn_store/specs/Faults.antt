@@ -1,5 +1,5 @@
 -- Which fault an error of the database is told as.
-use Rattle.std.specs.Prelude.{◌≡◌, ◌≢◌, ℕ, List, [], ◌∷◌, ⊤, Err}
+use Rattle.std.specs.Prelude.{◌≡◌, ℕ, List, [], ◌∷◌, ⊤, Err}
 use Rattle.sqlite.specs.declared.error.ErrorCode.TheVariants as code
 use Rattle.sqlite.specs.declared.error.Error.{Error}
 use Rattle.sqlite.specs.declared.error.Error.TheVariants.{SqliteFailure, SqlInputError, InvalidColumnType}
@@ -10,7 +10,7 @@ use Rattle.hd_turn_store.specs.declared.fault.Fault.{Fault}
 use Rattle.hd_turn_store.specs.declared.fault.Fault.TheVariants.{Busy, CannotOpen, Damaged, NotAJournal}
 use Rattle.hd_turn_store.specs.declared.fault.Fault.TheVariants.{DiskFull, CannotWrite, CannotRead}
 use Rattle.hd_turn_store.specs.declared.fault.Fault.TheVariants.{Memory, UnknownFormat}
-use Rattle.hd_turn_store.specs.Kept.{KeptTurn, cells, known_format}
+use Rattle.hd_turn_store.specs.Kept.{KeptTurn, cells, IsKnownFormat}
 use Rattle.hd_turn_store.specs.Texts.{insert_turn_text, update_head_text}
 
 -- where the files are opened
@@ -64,7 +64,7 @@ RefusesDigest old new digest fault =
     (error : Error) × Executes update_head_text (Blob digest ∷ []) old new (Err error)
     × (fault ≡ writing_fault error)
 
--- Why a journal of a format is refused: another format than the known one is told, or its head can't be read.
+-- Why a journal of a format is refused: a format that is unknown is told, or its head can't be read.
 abbrev pub RefusesFormat : ℕ → Fault → Type 0
-RefusesFormat format (UnknownFormat told) = (told ≡ format) × (format ≢ known_format)
+RefusesFormat format (UnknownFormat told) = (told ≡ format) × ¬ IsKnownFormat format
 RefusesFormat format fault = IsReadingFault fault

@@ -1,12 +1,15 @@
 -- What is kept of a turn, and of the journal that it belongs to.
-use Rattle.std.specs.Prelude.{ℕ, pos, List, [], ◌∷◌, Option}
+use Rattle.std.specs.Prelude.{◌≡◌, ◌⊎◌, ℕ, pos, List, [], ◌∷◌, Option}
 use Rattle.sqlite.specs.declared.types.Value.{Value}
 use Rattle.sqlite.specs.declared.types.Value.TheVariants.{Int, Text, Blob}
 use Rattle.sqlite.specs.Order.{Row}
 use Rattle.sqlite.specs.Values.{or_null}
 
--- what was asked, by the catalogue's names
-pub record Named : Type 0 where
+-- a turn; a day is empty where there is none
+pub record KeptTurn : Type 0 where
+  pub seat : ℕ
+  pub terminal : List ℕ
+  pub day : List ℕ
   pub act : List ℕ
   pub patron : Option (List ℕ)
   pub copy : Option (List ℕ)
@@ -14,13 +17,6 @@ pub record Named : Type 0 where
   pub branch : Option (List ℕ)
   pub admits : Option (List ℕ)
   pub until : Option (List ℕ)
-
--- a turn
-pub record KeptTurn : Type 0 where
-  pub seat : ℕ
-  pub terminal : List ℕ
-  pub day : List ℕ
-  pub asked : Named
   pub line : Option (List ℕ)
   pub outcome : List ℕ
   pub number : Option ℕ
@@ -31,13 +27,17 @@ pub record Head : Type 0 where
   pub format : ℕ
   pub catalogue : List ℕ
 
--- the format that is written, and the only one that is known
-abbrev pub known_format : ℕ
-known_format = 1
+-- the format that is written; in the one before, the column of the reply had a text
+abbrev pub new_format : ℕ
+new_format = 2
+
+-- both are read
+abbrev pub IsKnownFormat : ℕ → Type 0
+IsKnownFormat format = (format ≡ new_format) ⊎ (format ≡ 1)
 
 -- the head of a journal that is begun
 abbrev pub new_head : List ℕ → Head
-new_head digest = record { format = known_format; catalogue = digest }
+new_head digest = record { format = new_format; catalogue = digest }
 
 abbrev pub number_cell : ℕ → Value
 number_cell n = Int (pos n)
@@ -45,10 +45,10 @@ number_cell n = Int (pos n)
 -- the values of a turn, in the order of their columns
 unfoldable pub cells : KeptTurn → Row
 cells k =
-    Int (pos k.seat) ∷ Text k.terminal ∷ Text k.day ∷ Text k.asked.act ∷ or_null Text k.asked.patron
-    ∷ or_null Text k.asked.copy
-    ∷ or_null Text k.asked.title ∷ or_null Text k.asked.branch ∷ or_null Text k.asked.admits
-    ∷ or_null Text k.asked.until
+    Int (pos k.seat) ∷ Text k.terminal ∷ Text k.day ∷ Text k.act ∷ or_null Text k.patron
+    ∷ or_null Text k.copy
+    ∷ or_null Text k.title ∷ or_null Text k.branch ∷ or_null Text k.admits
+    ∷ or_null Text k.until
     ∷ or_null Blob k.line ∷ Text k.outcome ∷ or_null number_cell k.number ∷ Blob k.reply ∷ []
 
 -- the values of a journal's head

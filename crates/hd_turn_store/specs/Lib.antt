@@ -1,7 +1,9 @@
-pub mod Kept
-pub mod Tables
-pub mod Holds
-pub mod Rows
-pub mod Crashes
-pub mod Texts
-pub mod Faults
+-- Turns in an SQLite file, to be read in this order.
+pub mod Kept  -- what is kept of a turn, and of the journal that it belongs to
+pub mod Tables  -- the tables of a journal, and their rows
+pub mod Columns  -- a column as the code lists it
+pub mod Texts  -- the texts of SQL
+pub mod Holds  -- what a connection to a journal sees
+pub mod Crashes  -- what the files hold, also after a crash
+pub mod Rows  -- a turn as it is handed in and given back
+pub mod Faults  -- which fault an error of the database is told as

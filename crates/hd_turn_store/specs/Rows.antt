@@ -1,56 +1,74 @@
--- A turn as it is handed in, and as it is read.
-use Rattle.std.specs.Prelude.{option_map, string_bytes}
-use Rattle.hd_turn_store.specs.declared.row.NamesRow.{NamesRow}
+-- A turn as it is handed in and given back, and what values say of one.
+use Rattle.std.specs.Prelude.{ℕ, pos, List, [], Option, Some, None}
+use Rattle.std.specs.Option.{option_copied}
+use Rattle.sqlite.specs.declared.types.Value.{Value}
+use Rattle.sqlite.specs.declared.types.Value.TheVariants.{Int, Text, Blob}
+use Rattle.sqlite.specs.Order.{Row, column}
 use Rattle.hd_turn_store.specs.declared.row.TurnRow.{TurnRow}
-use Rattle.hd_turn_store.specs.declared.stored.StoredNames.{StoredNames}
-use Rattle.hd_turn_store.specs.declared.stored.StoredTurn.{StoredTurn}
-use Rattle.hd_turn_store.specs.declared.stored.Heading.{Heading}
-use Rattle.hd_turn_store.specs.Kept.{Named, KeptTurn, Head}
+use Rattle.hd_turn_store.specs.declared.heading.Heading.{Heading}
+use Rattle.hd_turn_store.specs.Kept.{KeptTurn, Head}
 
-abbrev pub names_of_row : NamesRow → Named
-names_of_row n = record {
-  act = n.act.now;
-  patron = option_map (λ t. t.now) n.patron;
-  copy = option_map (λ t. t.now) n.copy;
-  title = option_map (λ t. t.now) n.title;
-  branch = option_map (λ t. t.now) n.branch;
-  admits = option_map (λ t. t.now) n.admits;
-  until = option_map (λ t. t.now) n.until;
+-- what a row lends
+abbrev pub kept : TurnRow → KeptTurn
+kept row = record {
+  seat = row.seat;
+  terminal = row.terminal.now;
+  day = row.day.now;
+  act = row.act.now;
+  patron = option_copied row.patron;
+  copy = option_copied row.copy;
+  title = option_copied row.title;
+  branch = option_copied row.branch;
+  admits = option_copied row.admits;
+  until = option_copied row.until;
+  line = option_copied row.line;
+  outcome = row.outcome.now;
+  number = row.number;
+  reply = row.reply.now;
 }
 
-abbrev pub turn_of_row : TurnRow → KeptTurn
-turn_of_row r = record {
-  seat = r.seat;
-  terminal = r.terminal.now;
-  day = r.day.now;
-  asked = names_of_row r.asked;
-  line = option_map (λ b. b.now) r.line;
-  outcome = r.outcome.now;
-  number = r.number;
-  reply = r.reply.now;
-}
+-- what a value says, and what it says where it isn't null
+abbrev pub text_in : Value → List ℕ
+text_in (Text text) = text
+text_in _ = []
 
-abbrev pub read_names : StoredNames → Named
-read_names n = record {
-  act = string_bytes n.act;
-  patron = option_map string_bytes n.patron;
-  copy = option_map string_bytes n.copy;
-  title = option_map string_bytes n.title;
-  branch = option_map string_bytes n.branch;
-  admits = option_map string_bytes n.admits;
-  until = option_map string_bytes n.until;
-}
+abbrev pub text_if : Value → Option (List ℕ)
+text_if (Text text) = Some text
+text_if _ = None
 
-abbrev pub read_turn : StoredTurn → KeptTurn
-read_turn t = record {
-  seat = t.seat;
-  terminal = string_bytes t.terminal;
-  day = string_bytes t.day;
-  asked = read_names t.asked;
-  line = option_map (λ b. b.items) t.line;
-  outcome = string_bytes t.outcome;
-  number = t.number;
-  reply = t.reply.items;
+abbrev pub bytes_in : Value → List ℕ
+bytes_in (Blob bytes) = bytes
+bytes_in _ = []
+
+abbrev pub bytes_if : Value → Option (List ℕ)
+bytes_if (Blob bytes) = Some bytes
+bytes_if _ = None
+
+abbrev pub number_in : Value → ℕ
+number_in (Int (pos number)) = number
+number_in _ = 0
+
+abbrev pub number_if : Value → Option ℕ
+number_if (Int (pos number)) = Some number
+number_if _ = None
+
+-- what the values of a turn's columns say
+unfoldable pub read_cells : Row → KeptTurn
+read_cells row = record {
+  seat = number_in (column row 0);
+  terminal = text_in (column row 1);
+  day = text_in (column row 2);
+  act = text_in (column row 3);
+  patron = text_if (column row 4);
+  copy = text_if (column row 5);
+  title = text_if (column row 6);
+  branch = text_if (column row 7);
+  admits = text_if (column row 8);
+  until = text_if (column row 9);
+  line = bytes_if (column row 10);
+  outcome = text_in (column row 11);
+  number = number_if (column row 12);
+  reply = bytes_in (column row 13);
 }
 
 abbrev pub read_head : Heading → Head

@@ -1,9 +1,12 @@
 -- The two tables of a journal, and their rows.
-use Rattle.std.specs.Prelude.{◌≡◌, ℕ, ◌+◌, pos, Bool, true, false, List, [], ◌∷◌, ◌++◌, Some, codes}
+use Rattle.std.specs.Prelude.{◌≡◌, ◌⊎◌, ℕ, ◌+◌, pos, Bool, true, false, List, [], ◌∷◌, map}
+use Rattle.std.specs.Prelude.{Some, codes}
 use Rattle.sqlite.specs.Collation.TheVariants.{Binary}
 use Rattle.sqlite.specs.declared.types.Value.TheVariants.{Null, Int}
 use Rattle.sqlite.specs.Order.{Row}
 use Rattle.sqlite.specs.Table.{Table}
+use Rattle.sqlite_schema.specs.declared.schema.Index.{Index}
+use Rattle.sqlite_value.specs.Keys.{plain}
 use Rattle.sqlite_schema.specs.declared.schema.Column.{Column}
 use Rattle.sqlite.specs.Schema.{Schema}
 use Rattle.sqlite.specs.Kind.{Kind}
@@ -11,24 +14,39 @@ use Rattle.sqlite.specs.Kind.TheVariants.{Integer, Text, Blob}
 use Rattle.sqlite.specs.Tree.{Trees}
 use Rattle.hd_turn_store.specs.Kept.{KeptTurn, Head, cells, head_cells}
 
--- a column of a STRICT table
-abbrev pub strict : List ℕ → Kind → Bool → Column
-strict name kind not_null =
+-- a column of a STRICT table: its name, what it has, and whether it has a value in each row
+abbrev pub column : List ℕ → Kind → Bool → Column
+column name kind is_needed =
     record {
       name = name;
       kind = kind;
       is_strict = true;
-      not_null = not_null;
+      not_null = is_needed;
       default = Null;
       collation = Binary;
     }
 
+-- the columns of a journal's head, behind its key
+abbrev pub head_columns : List Column
+head_columns = column (codes "format") Integer true ∷ column (codes "catalogue") Blob true ∷ []
+
+-- the columns of a turn, behind its number: who asked, for what, within which bounds, in which words, and
+-- what was answered
+abbrev pub turn_columns : List Column
+turn_columns =
+    column (codes "seat") Integer true ∷ column (codes "terminal") Text true ∷ column (codes "day") Text true
+    ∷ column (codes "act") Text true ∷ column (codes "patron") Text false ∷ column (codes "copy") Text false
+    ∷ column (codes "title") Text false ∷ column (codes "branch") Text false
+    ∷ column (codes "admits") Text false ∷ column (codes "until") Text false
+    ∷ column (codes "line") Blob false ∷ column (codes "outcome") Text true
+    ∷ column (codes "number") Integer false ∷ column (codes "reply") Blob true ∷ []
+
 -- a table whose first column is its INTEGER PRIMARY KEY, and which has no other rule
-abbrev pub table_by_number : List ℕ → ℕ → List Column → Table
-table_by_number name tree columns = record {
+abbrev pub table_by : List ℕ → ℕ → List ℕ → List Column → Table
+table_by name tree key columns = record {
   name = name;
   tree = tree;
-  columns = columns;
+  columns = column key Integer false ∷ columns;
   key = Some 0;
   primary = 0 ∷ [];
   uniques = [];
@@ -40,41 +58,33 @@ table_by_number name tree columns = record {
   is_counted = false;
 }
 
-abbrev pub journal_columns : List Column
-journal_columns = strict (codes "only") Integer false ∷ strict (codes "format") Integer true
-    ∷ strict (codes "catalogue") Blob true ∷ []
-
--- the columns of a turn: who asked
-abbrev pub who_columns : List Column
-who_columns = strict (codes "at") Integer false ∷ strict (codes "seat") Integer true
-    ∷ strict (codes "terminal") Text true ∷ strict (codes "day") Text true ∷ []
-
--- for what
-abbrev pub what_columns : List Column
-what_columns = strict (codes "act") Text true ∷ strict (codes "patron") Text false
-    ∷ strict (codes "copy") Text false ∷ strict (codes "title") Text false ∷ []
-
--- within which bounds
-abbrev pub bound_columns : List Column
-bound_columns = strict (codes "branch") Text false ∷ strict (codes "admits") Text false
-    ∷ strict (codes "until") Text false ∷ []
-
--- in which words, and what was answered
-abbrev pub answer_columns : List Column
-answer_columns = strict (codes "line") Blob false ∷ strict (codes "outcome") Text true
-    ∷ strict (codes "number") Integer false ∷ strict (codes "reply") Blob true ∷ []
-
-abbrev pub turn_columns : List Column
-turn_columns = who_columns ++ (what_columns ++ (bound_columns ++ answer_columns))
-
 abbrev pub journal_table : Table
-journal_table = table_by_number (codes "journal") 0 journal_columns
+journal_table = table_by (codes "journal") 0 (codes "only") head_columns
 
 abbrev pub turn_table : Table
-turn_table = table_by_number (codes "turn") 1 turn_columns
+turn_table = table_by (codes "turn") 1 (codes "at") turn_columns
+
+-- the turns by the number of a command, which is not unique: a cancellation names it again
+abbrev pub number_index : Index
+number_index = record {
+  name = codes "turn_number";
+  tree = 2;
+  table = 1;
+  columns = 14 ∷ [];
+  order = plain;
+  is_unique = false;
+}
+
+-- both tables, and these indexes
+abbrev pub schema_with : List Index → Schema
+schema_with indexes = record { tables = journal_table ∷ turn_table ∷ []; indexes = indexes; views = [] }
 
 abbrev pub journal_schema : Schema
-journal_schema = record { tables = journal_table ∷ turn_table ∷ []; indexes = []; views = [] }
+journal_schema = schema_with (number_index ∷ [])
+
+-- A journal of the format before has no index.
+abbrev pub IsJournal : Schema → Type 0
+IsJournal schema = (schema ≡ journal_schema) ⊎ (schema ≡ schema_with [])
 
 -- the first table alone
 abbrev pub head_schema : Schema
@@ -83,20 +93,12 @@ head_schema = record { tables = journal_table ∷ []; indexes = []; views = [] }
 abbrev pub no_schema : Schema
 no_schema = record { tables = []; indexes = []; views = [] }
 
--- the row of a turn with this number
-abbrev pub row_of_turn : ℕ → KeptTurn → Row
-row_of_turn at k = Int (pos at) ∷ Null ∷ cells k
-
--- the rows of turns that are numbered in order from this number
-abbrev pub stored_from : ℕ → List KeptTurn → List Row
-stored_from at [] = []
-stored_from at (k ∷ ks) = row_of_turn at k ∷ stored_from (at + 1) ks
-
--- the one row of the other table
-abbrev pub head_row : Head → Row
-head_row h = Int (pos 1) ∷ Null ∷ head_cells h
+-- rows of these values that are numbered in order from this number
+abbrev pub numbered_from : ℕ → List Row → List Row
+numbered_from at [] = []
+numbered_from at (row ∷ rows) = (Int (pos at) ∷ Null ∷ row) ∷ numbered_from (at + 1) rows
 
 -- a database's trees have this head and just these turns
 pub record Stores (h : Head) (ks : List KeptTurn) (db : Trees) : Type 0 where
-  pub head : db 0 ≡ head_row h ∷ []
-  pub turns : db 1 ≡ stored_from 1 ks
+  pub head : db 0 ≡ numbered_from 1 (head_cells h ∷ [])
+  pub turns : db 1 ≡ numbered_from 1 (map cells ks)

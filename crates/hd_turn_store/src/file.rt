@@ -11,9 +11,9 @@ ghost use Rattle.sqlite.specs.WalFiles.{image_at};
 ghost use Rattle.sqlite.specs.Recovery.{Image};
 ghost use Rattle.sqlite_store.specs.FileStore.{state as store_state, view};
 ghost use Rattle.sqlite_trees.specs.View.{IsClean};
-ghost use Rattle.hd_turn_store.specs.Kept.{KeptTurn, Head, known_format, new_head};
+ghost use Rattle.hd_turn_store.specs.Kept.{KeptTurn, Head, IsKnownFormat, new_head};
 ghost use Rattle.hd_turn_store.specs.Faults.{IsWritingFault};
-ghost use Rattle.hd_turn_store.specs.Tables.{journal_schema, no_schema};
+ghost use Rattle.hd_turn_store.specs.Tables.{IsJournal, no_schema};
 ghost use Rattle.hd_turn_store.specs.Holds.{Holds};
 ghost use Rattle.hd_turn_store.specs.Crashes.{HoldsTurns, HoldsTurnsAlone};
 
@@ -57,7 +57,7 @@ fn connect<S: Start>(
 ) -> Result<Connection<FileStore<FileFrom<S>>>, Fault>
     ensures memory { path.now ≡ codes ":memory:" → IsErrAnd result (λ fault. fault ≡ Fault.CannotOpen) }
     ensures found { IfOk result (λ c. HasCleanDisk (file_state c) → (head : Head) (ks : List KeptTurn)
-        → HoldsTurns (image_at S.Start) head ks → (file_state c).now.schema ≡ journal_schema
+        → HoldsTurns (image_at S.Start) head ks → IsJournal (file_state c).now.schema
         → Holds (file_state c) head ks) }
     // Files that hold a journal show its tables.
     ensures blank { IfOk result (λ c. HasCleanDisk (file_state c) → (file_state c).now.schema ≡ no_schema
@@ -77,14 +77,13 @@ fn begin_or_check<S: Alter>(conn: &mut Connection<S>, digest: &[u8; 32]) -> Resu
     ensures begun { HasCleanDisk (state S.Store conn.new) → IfOk result (λ is_new. IsTrue is_new
         → Holds (state S.Store conn.new) (new_head digest.now) []) }
     ensures blank { IfOk result (λ is_new. IsTrue is_new → (state S.Store conn.old).now.schema ≡ no_schema) }
-    ensures journal { IfOk result (λ is_new. is_new ≡ false
-        → (state S.Store conn.old).now.schema ≡ journal_schema) }
+    ensures journal { IfOk result (λ is_new. is_new ≡ false → IsJournal (state S.Store conn.old).now.schema) }
     ensures same { HasCleanDisk (state S.Store conn.new) → IfOk result (λ is_new. is_new ≡ false
         → (head : Head) (ks : List KeptTurn) → Holds (state S.Store conn.old) head ks
         → Holds (state S.Store conn.new) head ks) }
     ensures known { HasCleanDisk (state S.Store conn.new) → IfOk result (λ is_new. is_new ≡ false
         → (head : Head) (ks : List KeptTurn) → Holds (state S.Store conn.old) head ks
-        → head.format ≡ known_format) }
+        → IsKnownFormat head.format) }
     ensures crash { HasCleanDisk (state S.Store conn.new) → (head : Head) (ks : List KeptTurn)
         → Holds (state S.Store conn.old) head ks → (db : Trees) → (state S.Store conn.new).may_leave db
         → (state S.Store conn.old).may_leave db }
@@ -97,7 +96,7 @@ fn begin_or_check<S: Alter>(conn: &mut Connection<S>, digest: &[u8; 32]) -> Resu
     Ok(false)
 }
 
-/// Opens a journal, also one that a crash ended: it has the head and the turns that the files hold, in the
+/// Opens a journal, also one that a crash ended: it has the head and the turns that the files hold, in a
 /// known format. Where there is no file, an empty one, or one that a crash left before its tables were made,
 /// it is begun; with the connection comes whether it was. A file with other tables is `NotAJournal`.
 pub fn open<S: Start>(
@@ -116,7 +115,7 @@ pub fn open<S: Start>(
     ensures restored { IfOk result (λ r. HasCleanDisk (file_state r.0) → r.1 ≡ false → (head : Head)
         (ks : List KeptTurn) → HoldsTurns (image_at S.Start) head ks → Holds (file_state r.0) head ks) }
     ensures known { IfOk result (λ r. HasCleanDisk (file_state r.0) → r.1 ≡ false → (head : Head)
-        (ks : List KeptTurn) → HoldsTurns (image_at S.Start) head ks → head.format ≡ known_format) }
+        (ks : List KeptTurn) → HoldsTurns (image_at S.Start) head ks → IsKnownFormat head.format) }
 {
     let mut conn = connect(rt, path, start)?;
     let is_new = begin_or_check(&mut conn, digest)?;

@@ -4,24 +4,42 @@ ghost use Rattle.std.specs.Prelude.{◌≡◌, ◌⊎◌, ◌∷◌, [], List, I
 ghost use Rattle.sqlite.specs.State.{HasCleanDisk};
 ghost use Rattle.sqlite.specs.Held.{state};
 ghost use Rattle.sqlite.specs.Tree.{Trees};
-ghost use Rattle.hd_turn_store.specs.Kept.{KeptTurn, Head, head_cells, known_format};
-ghost use Rattle.hd_turn_store.specs.Tables.{Stores, journal_schema};
+ghost use Rattle.hd_turn_store.specs.Kept.{KeptTurn, Head, head_cells, IsKnownFormat};
+ghost use Rattle.hd_turn_store.specs.Tables.{IsJournal, Stores};
 ghost use Rattle.hd_turn_store.specs.Holds.{Holds};
 ghost use Rattle.hd_turn_store.specs.Rows.{read_head};
 ghost use Rattle.hd_turn_store.specs.Faults.{IsWritingFault, IsReadingFault, RefusesDigest, RefusesFormat};
 
+use crate::columns::{SELECT_HEAD, UPDATE_HEAD};
 use crate::fault::Fault;
-use crate::stored::{Heading, heading_in};
+use crate::row::number_value;
 use crate::table::is_journal;
 use sqlite::types::ValueRef;
 use sqlite::{Alter, Connection, Error, Row};
 
-/// The format that is written, and the only one that is known.
-const FORMAT: u32 = 1;
+/// The format that is written.
+pub const FORMAT: u32 = 2;
 
-const SELECT_HEAD: &str = "SELECT format, catalogue FROM journal";
+/// The one before, which is read.
+const OLD_FORMAT: u32 = 1;
 
-const UPDATE_HEAD: &str = "UPDATE journal SET catalogue = ?1";
+/// Which catalogue a journal is of, and how it is written.
+#[derive(Debug, Drop)]
+pub struct Heading {
+    /// The format: 2, or 1 of a journal that was begun with an earlier program.
+    pub format: u32,
+    /// The digest of the catalogue file: SHA-256, 32 bytes.
+    pub catalogue: Vec<u8>,
+}
+
+/// The head that a row shows.
+fn heading_in(row: &Row) -> Result<Heading, Error>
+    ensures { IfOk result (λ h. (head : Head) → row.now ≡ head_cells head → read_head h ≡ head) }
+{
+    let format: u32 = row.get(0)?;
+    let catalogue: Vec<u8> = row.get(1)?;
+    Ok(Heading { format, catalogue })
+}
 
 fn head_rows<S: Alter>(conn: &mut Connection<S>) -> Result<Vec<Row>, Error>
     ensures clean { HasCleanDisk (state S.Store conn.new) → HasCleanDisk (state S.Store conn.old) }
@@ -33,7 +51,7 @@ fn head_rows<S: Alter>(conn: &mut Connection<S>) -> Result<Vec<Row>, Error>
         → Holds (state S.Store conn.old) head ks → (db : Trees) → (state S.Store conn.new).may_leave db
         → (state S.Store conn.old).may_leave db }
 {
-    conn.query_all(SELECT_HEAD, &[])
+    conn.query_all(SELECT_HEAD, &[number_value(0), number_value(1)])
 }
 
 fn head_among(rows: &[Row]) -> Result<Heading, Fault>
@@ -90,15 +108,15 @@ pub fn accept<S: Alter>(conn: &mut Connection<S>, digest: &[u8; 32]) -> Result<(
     }
 }
 
-/// Whether a journal can be read: its tables are those of a journal, and its format is the known one. What
-/// the files hold stays.
+/// Whether a journal can be read: its tables are those of a journal, and its format is known. What the files
+/// hold stays.
 pub(crate) fn check<S: Alter>(conn: &mut Connection<S>) -> Result<(), Fault>
     ensures clean { HasCleanDisk (state S.Store conn.new) → HasCleanDisk (state S.Store conn.old) }
-    ensures schema { OnOk result ((state S.Store conn.old).now.schema ≡ journal_schema) }
+    ensures schema { OnOk result (IsJournal (state S.Store conn.old).now.schema) }
     ensures same { HasCleanDisk (state S.Store conn.new) → OnOk result ((head : Head) (ks : List KeptTurn)
         → Holds (state S.Store conn.old) head ks → Holds (state S.Store conn.new) head ks) }
     ensures known { HasCleanDisk (state S.Store conn.new) → OnOk result ((head : Head) (ks : List KeptTurn)
-        → Holds (state S.Store conn.old) head ks → head.format ≡ known_format) }
+        → Holds (state S.Store conn.old) head ks → IsKnownFormat head.format) }
     ensures fault { HasCleanDisk (state S.Store conn.new) → IfErr result (λ fault. (head : Head)
         (ks : List KeptTurn) → Holds (state S.Store conn.old) head ks → RefusesFormat head.format fault) }
     ensures crash { HasCleanDisk (state S.Store conn.new) → (head : Head) (ks : List KeptTurn)
@@ -109,7 +127,7 @@ pub(crate) fn check<S: Alter>(conn: &mut Connection<S>) -> Result<(), Fault>
         return Err(Fault::NotAJournal);
     }
     let heading = catalogue(conn)?;
-    if heading.format == FORMAT {
+    if heading.format == FORMAT || heading.format == OLD_FORMAT {
         Ok(())
     } else {
         Err(Fault::UnknownFormat(heading.format))

@@ -1,52 +1,102 @@
-//! A turn as it is handed in, and its values.
+//! A turn's row.
 
-ghost use Rattle.std.specs.Prelude.{◌≡◌, option_map};
+ghost use Rattle.std.specs.Prelude.{◌≡◌, IfErr, IfOk};
+ghost use Rattle.std.specs.Option.{option_copied};
 ghost use Rattle.sqlite.specs.declared.types.Value.TheVariants.{Text as Words, Blob as Bytes};
+ghost use Rattle.sqlite.specs.Order.{column};
 ghost use Rattle.sqlite.specs.Values.{bound, bound_value, or_null};
 ghost use Rattle.sqlite_value.specs.Value.{owned};
+ghost use Rattle.hd_turn_store.specs.Faults.{IsReadingFault};
 ghost use Rattle.hd_turn_store.specs.Kept.{cells, number_cell};
-ghost use Rattle.hd_turn_store.specs.Rows.{turn_of_row};
+ghost use Rattle.hd_turn_store.specs.Rows.{bytes_if, bytes_in, kept, number_if, number_in, read_cells};
+ghost use Rattle.hd_turn_store.specs.Rows.{text_if, text_in};
 
+use crate::fault::Fault;
+use sqlite::Row;
 use sqlite::types::ValueRef;
 
-/// What a turn asked, by the catalogue's names.
-#[derive(Clone, Copy)]
-pub struct NamesRow<'a> {
-    /// What was to be done.
-    pub act: &'a str,
-    /// The patron.
-    pub patron: Option<&'a str>,
-    /// The copy.
-    pub copy: Option<&'a str>,
-    /// The title.
-    pub title: Option<&'a str>,
-    /// The branch: where a hold is picked up, or where the terminal stands.
-    pub branch: Option<&'a str>,
-    /// What a hold admits.
-    pub admits: Option<&'a str>,
-    /// The last day of a hold or of a loan.
-    pub until: Option<&'a str>,
-}
-
-/// A turn that is to be kept.
+/// A turn, as it is kept in a journal. It lends its texts: those of whoever hands it in, or of the row of
+/// values that it is read from.
 #[derive(Clone, Copy)]
 pub struct TurnRow<'a> {
     /// The seat that it came from.
     pub seat: u32,
     /// The name of the terminal that asked.
-    pub terminal: &'a str,
-    /// The transaction's day.
-    pub day: &'a str,
-    /// What it asked.
-    pub asked: NamesRow<'a>,
+    pub terminal: &'a [u8],
+    /// The transaction's day, or nothing where it has none.
+    pub day: &'a [u8],
+    /// What was to be done.
+    pub act: &'a [u8],
+    /// The patron's name.
+    pub patron: Option<&'a [u8]>,
+    /// The copy's name.
+    pub copy: Option<&'a [u8]>,
+    /// The title's name.
+    pub title: Option<&'a [u8]>,
+    /// The name of the branch: where a hold is picked up, or where the terminal stands.
+    pub branch: Option<&'a [u8]>,
+    /// What a hold admits.
+    pub admits: Option<&'a [u8]>,
+    /// The last day of a hold or of a loan.
+    pub until: Option<&'a [u8]>,
     /// The message's line, where it carried a sequence number.
     pub line: Option<&'a [u8]>,
     /// Done, refused or otherwise: how it went.
-    pub outcome: &'a str,
+    pub outcome: &'a [u8],
     /// The command's number, where there is one.
     pub number: Option<u32>,
     /// The reply.
     pub reply: &'a [u8],
+}
+
+impl<'a> TurnRow<'a> {
+    /// The turn that a row of values shows.
+    ///
+    /// # Errors
+    /// `Damaged`, where one of them isn't of its column's kind.
+    pub fn of(row: &'a Row) -> Result<TurnRow<'a>, Fault>
+        ensures turn { IfOk result (λ turn. kept turn ≡ read_cells row.now) }
+        ensures fault { IfErr result IsReadingFault }
+    {
+        Ok(TurnRow {
+            seat: number(row, 0)?,
+            terminal: text(row, 1)?,
+            day: text(row, 2)?,
+            act: text(row, 3)?,
+            patron: text_if_any(row, 4)?,
+            copy: text_if_any(row, 5)?,
+            title: text_if_any(row, 6)?,
+            branch: text_if_any(row, 7)?,
+            admits: text_if_any(row, 8)?,
+            until: text_if_any(row, 9)?,
+            line: bytes_if_any(row, 10)?,
+            outcome: text(row, 11)?,
+            number: number_if_any(row, 12)?,
+            reply: bytes(row, 13)?,
+        })
+    }
+
+    /// The values of its columns, in their order.
+    pub(crate) fn cells(&self) -> [ValueRef<'a>; 14]
+        ensures { bound result ≡ cells (kept self.now) }
+    {
+        [
+            number_value(self.seat),
+            ValueRef::Text(self.terminal),
+            ValueRef::Text(self.day),
+            ValueRef::Text(self.act),
+            text_or_null(self.patron),
+            text_or_null(self.copy),
+            text_or_null(self.title),
+            text_or_null(self.branch),
+            text_or_null(self.admits),
+            text_or_null(self.until),
+            bytes_or_null(self.line),
+            ValueRef::Text(self.outcome),
+            number_or_null(self.number),
+            ValueRef::Blob(self.reply),
+        ]
+    }
 }
 
 /// A number as a value.
@@ -56,17 +106,17 @@ pub(crate) fn number_value(number: u32) -> ValueRef<'static>
     ValueRef::Int(i64::from(number))
 }
 
-fn text_or_null(text: Option<&str>) -> ValueRef<'_>
-    ensures { bound_value (owned result) ≡ or_null Words (option_map (λ t. t.now) text.entry) }
+fn text_or_null(text: Option<&[u8]>) -> ValueRef<'_>
+    ensures { bound_value (owned result) ≡ or_null Words (option_copied text.entry) }
 {
     match text {
-        Some(text) => ValueRef::Text(text.as_bytes()),
+        Some(text) => ValueRef::Text(text),
         None => ValueRef::Null,
     }
 }
 
 fn bytes_or_null(bytes: Option<&[u8]>) -> ValueRef<'_>
-    ensures { bound_value (owned result) ≡ or_null Bytes (option_map (λ b. b.now) bytes.entry) }
+    ensures { bound_value (owned result) ≡ or_null Bytes (option_copied bytes.entry) }
 {
     match bytes {
         Some(bytes) => ValueRef::Blob(bytes),
@@ -83,25 +133,73 @@ fn number_or_null(number: Option<u32>) -> ValueRef<'static>
     }
 }
 
-/// The values of a turn, in the order of their columns.
-pub(crate) fn cells<'a>(row: &TurnRow<'a>) -> [ValueRef<'a>; 14]
-    ensures { bound result ≡ cells (turn_of_row row.now) }
+/// The number in a column.
+fn number(row: &Row, at: usize) -> Result<u32, Fault>
+    ensures number { IfOk result (λ number. number ≡ number_in (column row.now at)) }
+    ensures fault { IfErr result IsReadingFault }
 {
-    let asked = row.asked;
-    [
-        number_value(row.seat),
-        ValueRef::Text(row.terminal.as_bytes()),
-        ValueRef::Text(row.day.as_bytes()),
-        ValueRef::Text(asked.act.as_bytes()),
-        text_or_null(asked.patron),
-        text_or_null(asked.copy),
-        text_or_null(asked.title),
-        text_or_null(asked.branch),
-        text_or_null(asked.admits),
-        text_or_null(asked.until),
-        bytes_or_null(row.line),
-        ValueRef::Text(row.outcome.as_bytes()),
-        number_or_null(row.number),
-        ValueRef::Blob(row.reply),
-    ]
+    match row.get::<u32>(at) {
+        Ok(number) => Ok(number),
+        Err(error) => Err(Fault::of_reading(error)),
+    }
+}
+
+/// The number in a column, where it has one.
+fn number_if_any(row: &Row, at: usize) -> Result<Option<u32>, Fault>
+    ensures number { IfOk result (λ number. number ≡ number_if (column row.now at)) }
+    ensures fault { IfErr result IsReadingFault }
+{
+    match row.get_ref(at) {
+        Ok(ValueRef::Null) => Ok(None),
+        _ => match row.get::<u32>(at) {
+            Ok(number) => Ok(Some(number)),
+            Err(error) => Err(Fault::of_reading(error)),
+        },
+    }
+}
+
+/// The text in a column.
+fn text(row: &Row, at: usize) -> Result<&[u8], Fault>
+    ensures text { IfOk result (λ text. text.now ≡ text_in (column row.now at)) }
+    ensures fault { IfErr result IsReadingFault }
+{
+    match row.get_ref(at) {
+        Ok(ValueRef::Text(text)) => Ok(text),
+        _ => Err(Fault::Damaged),
+    }
+}
+
+/// The text in a column, where it has one.
+fn text_if_any(row: &Row, at: usize) -> Result<Option<&[u8]>, Fault>
+    ensures text { IfOk result (λ text. option_copied text ≡ text_if (column row.now at)) }
+    ensures fault { IfErr result IsReadingFault }
+{
+    match row.get_ref(at) {
+        Ok(ValueRef::Null) => Ok(None),
+        Ok(ValueRef::Text(text)) => Ok(Some(text)),
+        _ => Err(Fault::Damaged),
+    }
+}
+
+/// The bytes in a column.
+fn bytes(row: &Row, at: usize) -> Result<&[u8], Fault>
+    ensures bytes { IfOk result (λ bytes. bytes.now ≡ bytes_in (column row.now at)) }
+    ensures fault { IfErr result IsReadingFault }
+{
+    match row.get_ref(at) {
+        Ok(ValueRef::Blob(bytes)) => Ok(bytes),
+        _ => Err(Fault::Damaged),
+    }
+}
+
+/// The bytes in a column, where it has some.
+fn bytes_if_any(row: &Row, at: usize) -> Result<Option<&[u8]>, Fault>
+    ensures bytes { IfOk result (λ bytes. option_copied bytes ≡ bytes_if (column row.now at)) }
+    ensures fault { IfErr result IsReadingFault }
+{
+    match row.get_ref(at) {
+        Ok(ValueRef::Null) => Ok(None),
+        Ok(ValueRef::Blob(bytes)) => Ok(Some(bytes)),
+        _ => Err(Fault::Damaged),
+    }
 }

@@ -1,169 +1,124 @@
 //! Whether a database has a journal's tables and nothing else, or no table yet.
 
-ghost use Rattle.std.specs.Prelude.{◌≡◌, IsTrue};
-ghost use Rattle.hd_turn_store.specs.Tables.{strict, table_by_number, journal_columns, who_columns};
-ghost use Rattle.hd_turn_store.specs.Tables.{what_columns, bound_columns, answer_columns, turn_columns, journal_table};
-ghost use Rattle.hd_turn_store.specs.Tables.{turn_table, journal_schema, no_schema};
+ghost use Rattle.std.specs.Prelude.{◌≡◌, ◌⊎◌, ◌∷◌, [], false, IsTrue, map};
+ghost use Rattle.hd_turn_store.specs.Columns.{column_of};
+ghost use Rattle.hd_turn_store.specs.Tables.{IsJournal, column, journal_table, no_schema, number_index};
+ghost use Rattle.hd_turn_store.specs.Tables.{table_by, turn_table};
+ghost use Rattle.sqlite.specs.Kind.TheVariants.{Integer};
 
-use sqlite_schema::schema::{Column, Kind, Schema, Table};
-use sqlite_value::keys::Collation;
+use crate::columns::{COLUMNS, Column, HEAD_COLUMNS};
+use sqlite_schema::schema::{Column as Found, Index, Kind, Schema, Table};
+use sqlite_value::keys::{Collation, Order};
 use sqlite_value::value::Value;
 
-/// Whether it is such a column of a STRICT table.
-fn is_column(column: &Column, name: &[u8], kind: Kind, not_null: bool) -> bool
-    ensures { IsTrue result → column.now ≡ strict name.now kind not_null }
+/// Whether a column is this one, of a STRICT table.
+fn is_column(found: &Found, name: &[u8], kind: Kind, is_needed: bool) -> bool
+    ensures { IsTrue result → found.now ≡ column name.now kind is_needed }
 {
-    column.name.as_slice() == name
-        && column.kind == kind
-        && column.is_strict
-        && column.not_null == not_null
-        && matches!(column.default, Value::Null)
-        && column.collation == Collation::Binary
+    found.name.as_slice() == name
+        && found.kind == kind
+        && found.is_strict
+        && found.not_null == is_needed
+        && matches!(found.default, Value::Null)
+        && found.collation == Collation::Binary
 }
 
-/// Whether they are the columns of the journal's head.
-fn are_journal_columns(columns: &[Column]) -> bool
-    ensures { IsTrue result → columns.now ≡ journal_columns }
+/// Whether columns are these, in their order.
+fn are_columns(found: &[Found], wanted: &[Column]) -> bool
+    ensures { IsTrue result → found.now ≡ map column_of wanted.now }
 {
-    let [only, format, catalogue] = columns else {
-        return false;
-    };
-    if !is_column(only, b"only", Kind::Integer, false) {
+    if found.len() != wanted.len() {
         return false;
     }
-    if !is_column(format, b"format", Kind::Integer, true) {
-        return false;
+    for at in 0..wanted.len() {
+        let Column {
+            name,
+            kind,
+            is_needed,
+        } = wanted[at];
+        if !is_column(&found[at], name.as_bytes(), kind, is_needed) {
+            return false;
+        }
     }
-    is_column(catalogue, b"catalogue", Kind::Blob, true)
+    true
 }
 
-/// Whether they say who asked.
-fn are_who(columns: &[Column]) -> bool
-    ensures { IsTrue result → columns.now ≡ who_columns }
+/// Whether the first column is the table's key, and these are the others.
+fn are_keyed(found: &[Found], key: &[u8], wanted: &[Column]) -> bool
+    ensures { IsTrue result → found.now ≡ column key.now Integer false ∷ map column_of wanted.now }
 {
-    let [at, seat, terminal, day] = columns else {
-        return false;
-    };
-    if !is_column(at, b"at", Kind::Integer, false) {
-        return false;
+    match found.split_first() {
+        Some((first, others)) => is_column(first, key, Kind::Integer, false)
+            && are_columns(others, wanted),
+        None => false,
     }
-    if !is_column(seat, b"seat", Kind::Integer, true) {
-        return false;
-    }
-    if !is_column(terminal, b"terminal", Kind::Text, true) {
-        return false;
-    }
-    is_column(day, b"day", Kind::Text, true)
 }
 
-/// Whether they say for what.
-fn are_what(columns: &[Column]) -> bool
-    ensures { IsTrue result → columns.now ≡ what_columns }
+/// Whether a table has its first column as its key, and no other rule.
+fn is_table(found: &Table, name: &[u8], tree: u32) -> bool
+    ensures { IsTrue result → found.now
+        ≡ record (table_by name.now tree [] []) { columns = found.now.columns } }
 {
-    let [act, patron, copy, title] = columns else {
-        return false;
-    };
-    if !is_column(act, b"act", Kind::Text, true) {
-        return false;
-    }
-    if !is_column(patron, b"patron", Kind::Text, false) {
-        return false;
-    }
-    if !is_column(copy, b"copy", Kind::Text, false) {
-        return false;
-    }
-    is_column(title, b"title", Kind::Text, false)
-}
-
-/// Whether they say within which bounds.
-fn are_bounds(columns: &[Column]) -> bool
-    ensures { IsTrue result → columns.now ≡ bound_columns }
-{
-    let [branch, admits, until] = columns else {
-        return false;
-    };
-    if !is_column(branch, b"branch", Kind::Text, false) {
-        return false;
-    }
-    if !is_column(admits, b"admits", Kind::Text, false) {
-        return false;
-    }
-    is_column(until, b"until", Kind::Text, false)
-}
-
-/// Whether they say in which words, and what was answered.
-fn are_answer(columns: &[Column]) -> bool
-    ensures { IsTrue result → columns.now ≡ answer_columns }
-{
-    let [line, outcome, number, reply] = columns else {
-        return false;
-    };
-    if !is_column(line, b"line", Kind::Blob, false) {
-        return false;
-    }
-    if !is_column(outcome, b"outcome", Kind::Text, true) {
-        return false;
-    }
-    if !is_column(number, b"number", Kind::Integer, false) {
-        return false;
-    }
-    is_column(reply, b"reply", Kind::Blob, true)
-}
-
-/// Whether they are the columns of a turn.
-fn are_turn_columns(columns: &[Column]) -> bool
-    ensures { IsTrue result → columns.now ≡ turn_columns }
-{
-    if columns.len() < 11 {
-        return false;
-    }
-    let (who, more) = columns.split_at(4);
-    let (what, more) = more.split_at(4);
-    let (bounds, answer) = more.split_at(3);
-    are_who(who) && are_what(what) && are_bounds(bounds) && are_answer(answer)
-}
-
-/// Whether the table has its first column as its key, and no other rule.
-fn is_keyed(table: &Table, name: &[u8], tree: u32) -> bool
-    ensures { IsTrue result → table.now ≡ table_by_number name.now tree table.now.columns }
-{
-    table.name.as_slice() == name
-        && table.tree == tree
-        && table.key == Some(0)
-        && table.primary.as_slice() == [0].as_slice()
-        && table.uniques.is_empty()
-        && table.orders.is_empty()
-        && table.checks.roots.is_empty()
-        && table.references.is_empty()
-        && table.computed.is_empty()
-        && table.stamps.places.is_empty()
-        && table.stamps.terms.roots.is_empty()
-        && table.stamps.formats.is_empty()
-        && !table.is_counted
+    found.name.as_slice() == name
+        && found.tree == tree
+        && found.key == Some(0)
+        && found.primary.as_slice() == [0].as_slice()
+        && found.uniques.is_empty()
+        && found.orders.is_empty()
+        && found.checks.roots.is_empty()
+        && found.references.is_empty()
+        && found.computed.is_empty()
+        && found.stamps.places.is_empty()
+        && found.stamps.terms.roots.is_empty()
+        && found.stamps.formats.is_empty()
+        && !found.is_counted
 }
 
 /// Whether it is the table of the journal's head.
-fn is_journal_table(table: &Table) -> bool
-    ensures { IsTrue result → table.now ≡ journal_table }
+fn is_journal_table(found: &Table) -> bool
+    ensures { IsTrue result → found.now ≡ journal_table }
 {
-    is_keyed(table, b"journal", 0) && are_journal_columns(table.columns.as_slice())
+    is_table(found, b"journal", 0) && are_keyed(found.columns.as_slice(), b"only", &HEAD_COLUMNS)
 }
 
 /// Whether it is the table of turns.
-fn is_turn_table(table: &Table) -> bool
-    ensures { IsTrue result → table.now ≡ turn_table }
+fn is_turn_table(found: &Table) -> bool
+    ensures { IsTrue result → found.now ≡ turn_table }
 {
-    is_keyed(table, b"turn", 1) && are_turn_columns(table.columns.as_slice())
+    is_table(found, b"turn", 1) && are_keyed(found.columns.as_slice(), b"at", &COLUMNS)
 }
 
-/// Whether a database has the two tables of a journal, and nothing else.
+/// Whether it is the index of turns by number.
+fn is_number_index(found: &Index) -> bool
+    ensures { IsTrue result → found.now ≡ number_index }
+{
+    found.name.as_slice() == b"turn_number".as_slice()
+        && found.tree == 2
+        && found.table == 1
+        && found.columns.as_slice() == [14].as_slice()
+        && found.order == Order::PLAIN
+        && !found.is_unique
+}
+
+/// Whether there is no index, or that of turns by number alone.
+fn are_indexes(found: &[Index]) -> bool
+    ensures { IsTrue result → (found.now ≡ number_index ∷ []) ⊎ (found.now ≡ []) }
+{
+    match found {
+        [] => true,
+        [only] => is_number_index(only),
+        _ => false,
+    }
+}
+
+/// Whether a database has the two tables of a journal, perhaps their index, and nothing else.
 pub fn is_journal(schema: &Schema) -> bool
-    ensures { IsTrue result → schema.now ≡ journal_schema }
+    ensures { IsTrue result → IsJournal schema.now }
 {
     match schema.tables.as_slice() {
         [journal, turn] => is_journal_table(journal)
             && is_turn_table(turn)
-            && schema.indexes.is_empty()
+            && are_indexes(schema.indexes.as_slice())
             && schema.views.is_empty(),
         _ => false,
     }

@@ -11,8 +11,8 @@ use hd_desk::{Desk, HeldTitle, LentCopies};
 use hd_rules::{CopyNo, CopyState, Day, Hold, ListItem, PatronNo, listed_once};
 use std::alloc::Allocator;
 
-/// The copies on loan to the patron.
-pub(crate) fn lent<A: Allocator + Copy>(desk: &Desk<A>, patron: PatronNo) -> LentCopies<'_, A>
+/// The copies on loan to the patron, by rising number. It goes over these alone, and takes no memory.
+pub fn lent<A: Allocator + Copy>(desk: &Desk<A>, patron: PatronNo) -> LentCopies<'_, A>
     ensures copies { result ≡ loans_of (facts desk.now) (desk_of desk.now) patron }
     ensures known { All (λ (copy : ℕ). copy < (facts desk.now).copies) result }
     ensures few { length result < 2 ^ 32 }
@@ -21,8 +21,8 @@ pub(crate) fn lent<A: Allocator + Copy>(desk: &Desk<A>, patron: PatronNo) -> Len
     desk.lent_to(patron)
 }
 
-/// The titles that the patron holds, in the order of their holds.
-pub(crate) fn held<A: Allocator + Copy>(desk: &Desk<A>, patron: PatronNo) -> &[HeldTitle]
+/// The titles that the patron holds, in the order of their holds. It takes no memory.
+pub fn held<A: Allocator + Copy>(desk: &Desk<A>, patron: PatronNo) -> &[HeldTitle]
     ensures holds { held_by (desk_of desk.now) patron result.now
         ≡ holds_of (facts desk.now) (desk_of desk.now) patron }
     ensures count { length result.now ≡ length (holds_of (facts desk.now) (desk_of desk.now) patron) }

@@ -9,7 +9,8 @@ mod having;
 mod pages;
 mod views;
 
+pub use crate::having::{held, lent};
 pub use crate::pages::page;
 pub use crate::views::view;
-pub use hd_desk::Desk;
+pub use hd_desk::{Desk, HeldTitle, LentCopies};
 pub use hd_rules::{Borrowing, ListItem, PatronView, Summary, Wanted};

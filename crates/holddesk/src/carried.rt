@@ -10,7 +10,6 @@ use hd_catalogue::Catalogue;
 use hd_desk::Desk;
 use hd_journal::Journal;
 use hd_rules::{CopyNo, OpeningRow};
-use sha2::{Digest, Sha256};
 
 /// Which way a desk is to be carried over.
 #[derive(Clone, Copy)]
@@ -30,12 +29,15 @@ pub(crate) struct Carried {
     pub(crate) turns: usize,
     /// The last number that was given.
     pub(crate) last: u32,
+    /// The SHA-256 of the file that the journal begins with.
+    pub(crate) before: [u8; 32],
     /// The SHA-256 of the opening file.
     pub(crate) digest: [u8; 32],
 }
 
 /// Carries the desk of a journal over, and writes the opening beside its path. What was written is read back,
-/// and its desk compared with the journal's, cell by cell.
+/// and its desk compared with the journal's, cell by cell. `before` is the SHA-256 of the file that the
+/// journal begins with.
 ///
 /// # Errors
 /// Something is in the way; the new catalogue can't be read or is refused; the opening can't be written, or
@@ -43,32 +45,25 @@ pub(crate) struct Carried {
 pub(crate) fn carry_desk(
     rt: &HostRuntime,
     journal: &Journal,
+    before: [u8; 32],
     way: &Way<'_, '_, '_>,
 ) -> Result<Carried, Fault> {
     let desk = journal.desk();
     let last = last_number(journal)?;
     let written_off = listed_copies(rt, desk.catalogue(), way.write_off)?;
-    let text = opening_text(rt, desk, last, way.to, written_off.as_slice())?;
-    write_opening(rt, desk, way, text.as_slice(), written_off.as_slice())?;
+    let part = part_path(rt.alloc(), way.into)?;
+    let library = next_library(rt, desk, last, way.to, written_off.as_slice())?;
+    write_opening(rt, &library, part.as_str())?;
+    let library = library.opened(rt, part.as_str())?;
+    let digest = library.digest;
+    see_carried_over(rt, desk, last, library, written_off.as_slice())?;
+    tell_written_off(rt, desk, written_off.as_slice())?;
     Ok(Carried {
         turns: journal.front(),
         last,
-        digest: Sha256::digest(text.as_slice()),
+        before,
+        digest,
     })
-}
-
-/// Writes an opening beside its path, sees that it tells the desk, and tells which loans are dropped.
-fn write_opening(
-    rt: &HostRuntime,
-    desk: &Desk,
-    way: &Way<'_, '_, '_>,
-    text: &[u8],
-    written_off: &[CopyNo],
-) -> Result<(), Fault> {
-    let part = part_path(rt.alloc(), way.into)?;
-    write_part(rt, part.as_str(), text)?;
-    see_carried_over(rt, desk, way.to, part.as_str(), written_off)?;
-    tell_written_off(rt, desk, written_off)
 }
 
 /// The last number that was given in a journal, or before it.
@@ -79,24 +74,34 @@ fn last_number(journal: &Journal) -> Result<u32, Fault> {
     }
 }
 
-/// The text of the opening over a new catalogue.
-fn opening_text(
+/// The library of a new catalogue file's bytes, whose journal begins with a desk.
+fn next_library(
     rt: &HostRuntime,
     desk: &Desk,
     last: u32,
     to: &[u8],
     written_off: &[CopyNo],
-) -> Result<Vec<u8>, Fault> {
+) -> Result<Library, Fault> {
     let library = Library::of_catalogue(rt, to)?.with_text()?;
     let rows = rows_of(rt, desk, last, &library.catalogue, written_off)?;
     let Library {
         catalogue,
         digest,
-        ..
+        is_text,
     } = library;
-    let next = catalogue.with_opening(rows, last)?;
-    let text = hd_opening::write(rt.alloc(), &next, next.opening(), last, &digest)?;
-    Ok(text)
+    Ok(Library {
+        catalogue: catalogue.with_opening(rows, last)?,
+        digest,
+        is_text,
+    })
+}
+
+/// Writes how the journal of a library begins, whose digest is that of the catalogue file.
+fn write_opening(rt: &HostRuntime, library: &Library, part: &str) -> Result<(), Fault> {
+    let catalogue = &library.catalogue;
+    let (rows, last) = (catalogue.opening(), catalogue.last_before());
+    let text = hd_opening::write(rt.alloc(), catalogue, rows, last, &library.digest)?;
+    write_part(rt, part, text.as_slice())
 }
 
 /// The rows of a desk over a new catalogue.
@@ -144,17 +149,17 @@ fn lines_of(
     }
 }
 
-/// Sees that an opening that was written tells the desk.
+/// Sees that the journal of a library begins with the desk, by names, and behind the last number.
 fn see_carried_over(
     rt: &HostRuntime,
     desk: &Desk,
-    catalogue: &[u8],
-    opening: &str,
+    last: u32,
+    library: Library,
     written_off: &[CopyNo],
 ) -> Result<(), Fault> {
-    let library = Library::of_catalogue(rt, catalogue)?.opened(rt, opening)?;
+    let is_next = library.catalogue.last_before() == last;
     let next = library.journal(rt)?;
-    if is_carried_over(desk, next.desk(), written_off) {
+    if is_next && is_carried_over(desk, next.desk(), written_off) {
         Ok(())
     } else {
         Err(Fault::NotCarriedOver)

@@ -5,8 +5,8 @@ use crate::carried::{Carried, Way, carry_desk};
 use crate::ending::end_journal;
 use crate::fault::Fault;
 use crate::folder::{Paths, last_period};
-use crate::keeping::{Keeping, open_kept};
-use crate::library::{digest_of, read_file};
+use crate::keeping::{Keeping, open_over};
+use crate::library::{Library, read_file};
 use crate::presence::{remove_journal, see_no_file};
 use crate::writing::{name_part, part_path, write_whole};
 use hd_command_line::{Carry, LibraryFiles, Place};
@@ -19,7 +19,7 @@ pub(crate) fn carry_over(rt: &HostRuntime, order: &Carry<'_>) -> Result<(), Faul
             let catalogue = read_file(rt, order.to)?;
             let way = way_of(order, catalogue.as_slice(), order.into.unwrap_or(""));
             let carried = carry_files(rt, files, &way)?;
-            name_opening(rt, files, &way, &carried)
+            name_opening(rt, &way, &carried)
         }
         Place::Folder(folder) => carry_folder(rt, folder, order),
     }
@@ -50,7 +50,7 @@ fn carry_period(
     let carried = carry_files(rt, old, &way)?;
     write_whole(rt, new.catalogue, catalogue.as_slice())?;
     begin_anew(rt, new.journal.unwrap_or(""), &carried.digest)?;
-    name_opening(rt, old, &way, &carried)
+    name_opening(rt, &way, &carried)
 }
 
 /// Which way a desk is to be carried over to this catalogue file's bytes, into this opening file.
@@ -83,21 +83,18 @@ fn carry_files(
         library: *files,
         is_other_accepted: false,
     };
-    let kept = open_kept(rt, Unknown, &keeping)?;
-    let carried = carry_desk(rt, kept.journal(), way);
+    let library = Library::read_text(rt, files)?;
+    let before = library.digest;
+    let kept = open_over(rt, Unknown, &keeping, library)?;
+    let carried = carry_desk(rt, kept.journal(), before, way);
     end_journal(kept)?;
     carried
 }
 
 /// Gives the opening that lies beside its path its name, and tells what was carried over.
-fn name_opening(
-    rt: &HostRuntime,
-    old: &LibraryFiles<'_>,
-    way: &Way<'_, '_, '_>,
-    carried: &Carried,
-) -> Result<(), Fault> {
+fn name_opening(rt: &HostRuntime, way: &Way<'_, '_, '_>, carried: &Carried) -> Result<(), Fault> {
     let alloc = rt.alloc();
-    let before = hex::encode(alloc, digest_of(rt, old)?)?;
+    let before = hex::encode(alloc, carried.before)?;
     let now = hex::encode(alloc, carried.digest)?;
     let part = part_path(rt.alloc(), way.into)?;
     name_part(rt, part.as_str(), way.into)?;

@@ -4,6 +4,8 @@ use crate::away::Away;
 use crate::fault::Fault;
 use crate::folder::Paths;
 use crate::library::{Library, read_file};
+use crate::mending::{tell_faults, tell_warnings};
+use crate::told::Told;
 use hd_catalogue::{Catalogue, TitleNo};
 use hd_command_line::{Check, LibraryFiles};
 use hd_desk::Desk;
@@ -16,30 +18,54 @@ const LONG_FILE: usize = 10_000_000;
 /// Tells what a library's files say, or why one is refused.
 pub(crate) fn check(rt: &HostRuntime, order: &Check<'_>) -> Result<(), Fault> {
     let paths = Paths::of(rt, &order.library)?;
-    check_files(rt, &paths.files())
+    check_files(rt, &paths.files(), order.patrons)
 }
 
-/// Tells what these files of a library say.
-fn check_files(rt: &HostRuntime, files: &LibraryFiles<'_>) -> Result<(), Fault> {
+/// Tells what these files of a library say, and the patrons' file at this path, if there is one.
+fn check_files(
+    rt: &HostRuntime,
+    files: &LibraryFiles<'_>,
+    patrons: Option<&str>,
+) -> Result<(), Fault> {
     let (version, library) = library_of(rt, files.catalogue)?;
     let report = report_of(rt.alloc(), version, &library.catalogue)?;
-    match files.opening {
-        None => {
-            rt.stdout().write_all(report.as_slice())?;
-            Ok(())
-        }
-        Some(path) => check_opening(rt, library.opened(rt, path)?, report.as_slice()),
+    let library = match files.opening {
+        Some(path) => library.opened(rt, path)?,
+        None => library,
+    };
+    let told = match patrons {
+        Some(path) => Some(Told::read(rt, path, &library.catalogue)?),
+        None => None,
+    };
+    if files.opening.is_some() {
+        check_opening(rt, library, report.as_slice())?;
+    } else {
+        rt.stdout().write_all(report.as_slice())?;
     }
+    if let Some(told) = told {
+        told.print(rt)?;
+    }
+    Ok(())
 }
 
-/// The version of a catalogue file, and its library. A terminal is told before a long file is read.
+/// The version of a catalogue file, and its library. A terminal is told before a long file is read, and
+/// standard error what is wrong with a file, or odd about one that is accepted.
 fn library_of(rt: &HostRuntime, path: &str) -> Result<(u8, Library), Fault> {
     let file = read_file(rt, path)?;
     if file.len() > LONG_FILE && rt.stderr().is_terminal() {
         eprintln!(rt; "checking {} MB", file.len() / 1_000_000)?;
     }
-    let library = Library::of_catalogue(rt, file.as_slice())?;
-    Ok((version_of(file.as_slice()), library))
+    match Library::of_catalogue(rt, file.as_slice()) {
+        Ok(library) => {
+            tell_warnings(rt, path, file.as_slice(), &library.catalogue)?;
+            Ok((version_of(file.as_slice()), library))
+        }
+        Err(fault) => {
+            // The fault itself is told last, also where there was no room for more.
+            let _told = tell_faults(rt, path, file.as_slice());
+            Err(fault)
+        }
+    }
 }
 
 /// Tells what a catalogue file says, and then what the opening file does: the last number, and how many

@@ -23,22 +23,28 @@ fn are_copies_carried_over(old: &Desk, new: &Desk, written_off: &[CopyNo]) -> bo
     true
 }
 
-/// Whether a copy of the new desk stands where it stood, or at home where it is new or was written off.
+/// Whether a copy of the new desk stands where it stood, or at home where it is new or was written off. Where
+/// both come to the same, which of them it is isn't asked.
 fn is_copy_carried_over(old: &Desk, new: &Desk, copy: CopyNo, written_off: &[CopyNo]) -> bool {
     let was: &Catalogue = old.catalogue();
     let is: &Catalogue = new.catalogue();
     if (copy.number() as usize) >= is.copies() {
         return false;
     }
-    let home = CopyState::Shelf(is.home(copy));
     let state = new.copy(copy);
+    let is_home = state == CopyState::Shelf(is.home(copy));
     let Some(before) = was.copy(is.copy_name(copy)) else {
-        return state == home;
+        return is_home;
     };
-    if title_name_of(was, before) != title_name_of(is, copy) || written_off.contains(&before) {
-        return state == home;
+    let is_same = is_same_state(was, &old.copy(before), is, &state);
+    if is_same == is_home {
+        return is_home;
     }
-    is_same_state(was, &old.copy(before), is, &state)
+    if title_name_of(was, before) != title_name_of(is, copy) || written_off.contains(&before) {
+        is_home
+    } else {
+        is_same
+    }
 }
 
 /// Whether a copy's state is the same by names.
@@ -80,23 +86,39 @@ fn is_same_patron(
     }
 }
 
-/// Whether the queue of each title of the new desk is what it was, and no hold is lost.
+/// Whether the queue of each title of the new desk is what it was, and no hold is lost. Of the titles that
+/// nobody holds none is looked up.
 fn are_queues_carried_over(old: &Desk, new: &Desk) -> bool {
     let was: &Catalogue = old.catalogue();
     let is: &Catalogue = new.catalogue();
     for number in 0..is.titles() {
         let title = TitleNo::new(number as u32).unwrap();
-        if !is_queue_carried_over(old, new, title) {
+        if is_held(new, title) && !is_queue_carried_over(old, new, title) {
             return false;
         }
     }
     for number in 0..was.titles() {
         let title = TitleNo::new(number as u32).unwrap();
-        if is.title(was.title_name(title)).is_none() && old.queue(title).holds().next().is_some() {
+        if is_held(old, title) && !is_name_held(new, was.title_name(title)) {
             return false;
         }
     }
     true
+}
+
+/// Whether anybody holds a title.
+fn is_held(desk: &Desk, title: TitleNo) -> bool {
+    let catalogue: &Catalogue = desk.catalogue();
+    (title.number() as usize) < catalogue.titles() && desk.queue(title).holds().next().is_some()
+}
+
+/// Whether a title has this name, and anybody holds it.
+fn is_name_held(desk: &Desk, name: &[u8]) -> bool {
+    let catalogue: &Catalogue = desk.catalogue();
+    match catalogue.title(name) {
+        Some(title) => is_held(desk, title),
+        None => false,
+    }
 }
 
 /// Whether the queue of a title of the new desk is what it was; of a new title it is empty.

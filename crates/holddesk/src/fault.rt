@@ -4,6 +4,7 @@ use hd_catalogue::{CatFault, OpeningFault as UnfitOpening};
 use hd_desk::{OpenFault as DeskFault, RowFault};
 use hd_journal_file::OpenFault;
 use hd_opening::OpeningFault;
+use hd_patrons::PatronsFault;
 use hd_replay::ReplayFault;
 use hd_serve::ServeFault;
 use hd_server::ServerFault;
@@ -68,6 +69,12 @@ pub(crate) enum Fault {
         /// Its line, from 1.
         line: usize,
     },
+    /// The patrons' file can't be read.
+    #[error("cannot read the patrons")]
+    CannotReadPatrons,
+    /// The patrons' file is refused.
+    #[error("{0}")]
+    Patrons(PatronsFault),
     /// No title of the library has this name.
     #[error("there is no title {0}")]
     NoTitle(String),
@@ -83,6 +90,9 @@ pub(crate) enum Fault {
     /// What is in the way of a library that is to be carried over, a line for each thing.
     #[error("{0}")]
     InTheWay(String),
+    /// Sheets make no catalogue file.
+    #[error("{0}")]
+    Sheets(String),
     /// So many numbers have been given that no more can be carried over.
     #[error("the numbers are used up")]
     NumbersUsedUp,

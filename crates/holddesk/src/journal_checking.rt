@@ -4,9 +4,10 @@ use crate::away::Away;
 use crate::ending::end_journal;
 use crate::fault::Fault;
 use crate::folder::Paths;
-use crate::keeping::{Keeping, open_kept};
+use crate::keeping::{Keeping, KeptJournal, open_kept};
 use hd_command_line::JournalCheck;
 use hd_journal::Journal;
+use hd_journal_file::OpenFault;
 use hd_server::summary_of;
 use hd_turn_store::Unknown;
 use std::io;
@@ -17,12 +18,37 @@ pub(crate) fn check_journal(rt: &HostRuntime, order: &JournalCheck<'_>) -> Resul
     let paths = Paths::of(rt, &order.library)?;
     let keeping = Keeping {
         library: paths.files(),
-        is_other_accepted: order.is_other_accepted,
+        is_other_accepted: false,
     };
-    let kept = open_kept(rt, Unknown, &keeping)?;
+    let kept = match open_kept(rt, Unknown, &keeping) {
+        Err(Fault::Journal(OpenFault::OtherCatalogue)) if order.is_other_accepted => {
+            open_with_other(rt, &keeping)?
+        }
+        opened => opened?,
+    };
     let told = tell(rt, kept.journal());
     end_journal(kept)?;
     Ok(told?)
+}
+
+/// Opens a journal's file that was written with another catalogue, accepts it, and tells so.
+///
+/// # Errors
+/// It is refused.
+fn open_with_other(rt: &HostRuntime, keeping: &Keeping<'_>) -> Result<KeptJournal<Unknown>, Fault> {
+    let library = keeping.library;
+    let kept = open_kept(
+        rt,
+        Unknown,
+        &Keeping {
+            library,
+            is_other_accepted: true,
+        },
+    )?;
+    let journal = keeping.journal();
+    let catalogue = library.catalogue;
+    eprintln!(rt; "accepted: {journal} belongs to {catalogue} now")?;
+    Ok(kept)
 }
 
 /// Writes what a journal comes to, a line for each number.

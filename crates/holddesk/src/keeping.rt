@@ -39,11 +39,21 @@ pub(crate) fn open_kept<S: Start>(
     keeping: &Keeping<'_>,
 ) -> Result<KeptJournal<S>, Fault> {
     let library = Library::read_text(rt, &keeping.library)?;
+    open_over(rt, start, keeping, library)
+}
+
+/// Opens a journal's file, which has to be there, over its library, which was read.
+pub(crate) fn open_over<S: Start>(
+    rt: &HostRuntime,
+    start: S,
+    keeping: &Keeping<'_>,
+    library: Library,
+) -> Result<KeptJournal<S>, Fault> {
     see_journal(rt, keeping.journal())?;
     take_again(rt, start, keeping, library)
 }
 
-/// Opens a journal's file over its library.
+/// Takes the turns of a journal's file again, over its library.
 fn take_again<S: Start>(
     rt: &HostRuntime,
     start: S,

@@ -103,16 +103,6 @@ impl Library {
     }
 }
 
-/// The SHA-256 of the file that a library's journal begins with: of the opening where there is one, else of
-/// the catalogue.
-///
-/// # Errors
-/// It can't be read.
-pub(crate) fn digest_of(rt: &HostRuntime, files: &LibraryFiles<'_>) -> Result<[u8; 32], Fault> {
-    let file = read_file(rt, files.opening.unwrap_or(files.catalogue))?;
-    Ok(Sha256::digest(file.as_slice()))
-}
-
 /// The bytes of a catalogue file.
 ///
 /// An error is that it can't be read.

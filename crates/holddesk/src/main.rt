@@ -10,12 +10,15 @@ mod comparing;
 mod counted;
 mod days;
 mod ending;
+mod extending;
 mod fault;
 mod folder;
+mod importing;
 mod journal_checking;
 mod keeping;
 mod library;
 mod listing;
+mod mending;
 mod names;
 mod presence;
 mod replaying;
@@ -24,6 +27,7 @@ mod serving;
 mod serving_kept;
 mod showing;
 mod table;
+mod told;
 mod views;
 mod writing;
 mod written_off;
@@ -32,7 +36,9 @@ use crate::beginning::begin_journal;
 use crate::carrying::carry_over;
 use crate::checking::check;
 use crate::fault::Fault;
+use crate::importing::import_sheets;
 use crate::journal_checking::check_journal;
+use crate::mending::tell_option;
 use crate::replaying::answer;
 use crate::serving_kept::serve;
 use crate::showing::show_journal;
@@ -53,8 +59,15 @@ fn main(rt: HostRuntime) -> io::Result<ExitCode> {
     let order = match parse(alloc, words.as_slice()) {
         Ok(order) => order,
         Err(error) => {
-            error.print(&rt)?;
-            return Ok(ExitCode::from(if error.use_stderr() { REFUSED } else { 0 }));
+            if error.print(&rt).is_err() {
+                eprintln!(rt; "{}", Fault::CannotWrite)?;
+                return Ok(ExitCode::from(FAULT));
+            }
+            if !error.use_stderr() {
+                return Ok(ExitCode::SUCCESS);
+            }
+            tell_option(&rt, words.as_slice())?;
+            return Ok(ExitCode::from(REFUSED));
         }
     };
     let ended = match order {
@@ -62,6 +75,7 @@ fn main(rt: HostRuntime) -> io::Result<ExitCode> {
         Order::Replay(order) => answer(&rt, &order),
         Order::Serve(order) => serve(&rt, &rt, &order),
         Order::Carry(order) => carry_over(&rt, &order),
+        Order::Import(order) => import_sheets(&rt, &order),
         Order::JournalBegin(order) => begin_journal(&rt, &order),
         Order::JournalCheck(order) => check_journal(&rt, &order),
         Order::JournalShow(order) => show_journal(&rt, &order),

@@ -1,5 +1,6 @@
 //! Answering the messages of the standard input.
 
+use crate::extending::{extensions_of, is_extended};
 use crate::fault::Fault;
 use crate::library::{Library, read_file};
 use hd_command_line::{LibraryFiles, Replay};
@@ -11,7 +12,9 @@ use hd_server::replay;
 pub(crate) fn answer(rt: &HostRuntime, order: &Replay<'_>) -> Result<(), Fault> {
     if order.library.opening.is_some() {
         see_opening(rt, &order.library)?;
-        return answer_over(rt, Library::read(rt, &order.library)?, order.now);
+    }
+    if order.library.opening.is_some() || is_extended(&order.extended) {
+        return answer_over(rt, Library::read(rt, &order.library)?, order);
     }
     let file = read_file(rt, order.library.catalogue)?;
     let now = order.now.as_bytes();
@@ -30,14 +33,23 @@ fn see_opening(rt: &HostRuntime, files: &LibraryFiles<'_>) -> Result<(), Fault> 
     Ok(())
 }
 
-/// Answers the messages of the standard input over a library, from its opening on.
-fn answer_over(rt: &HostRuntime, library: Library, now: &str) -> Result<(), Fault> {
+/// Answers the messages of the standard input over a library, from its opening on, with what extends them.
+fn answer_over(rt: &HostRuntime, library: Library, order: &Replay<'_>) -> Result<(), Fault> {
     let Library { catalogue, .. } = library;
-    let Ok(now) = hd_date::read(now.as_bytes(), catalogue.offset()) else {
+    let extensions = extensions_of(rt, &order.extended, &catalogue)?;
+    let Ok(now) = hd_date::read(order.now.as_bytes(), catalogue.offset()) else {
         return Err(Fault::from(ReplayFault::BadNow));
     };
     let mut from = Fallible(rt.stdin());
     let mut to = Fallible(rt.stdout());
-    replay_over(rt, rt.alloc(), catalogue, now, &mut from, &mut to)?;
+    replay_over(
+        rt,
+        rt.alloc(),
+        catalogue,
+        now,
+        Some(&extensions),
+        &mut from,
+        &mut to,
+    )?;
     Ok(())
 }

@@ -1,7 +1,8 @@
 //! Serving terminals over the library of a catalogue file.
-ghost use Rattle.std.specs.Prelude.{◌≡◌, ◌≤◌, [], IfOk};
+ghost use Rattle.std.specs.Prelude.{◌≡◌, ◌≤◌, [], IfOk, Some};
 
 use crate::counted::Counted;
+use crate::extending::extensions_of;
 use crate::fault::Fault;
 use crate::library::Library;
 use hd_catalogue::Catalogue;
@@ -10,6 +11,7 @@ use hd_hall::Keeper;
 use hd_journal::Journal;
 use hd_serve::{Gate, ServeFault};
 use hd_server::{Options, Summary};
+use hd_session::Extensions;
 use std::alloc::Global;
 use std::io;
 use std::net::{SocketAddr, TcpListener};
@@ -24,14 +26,23 @@ impl Gate for OpenGate {
     fn before(&self, _session: usize, _turn: usize) {}
 }
 
-/// A server that has its port, and a journal without turns.
+/// How terminals are to be served, by the words of the command line, and what extends their messages.
+#[derive(Clone, Copy)]
+pub(crate) struct Serving<'a> {
+    pub(crate) order: &'a Serve<'a>,
+    pub(crate) extensions: &'a Extensions,
+}
+
+/// A server that has its port, a journal without turns, and what extends the messages of its terminals.
 #[derive(Drop)]
 pub(crate) struct OpenServer {
     listener: TcpListener,
     journal: Journal,
+    extensions: Extensions,
 }
 
-/// Reads the catalogue, takes the port, and says on standard error where the server listens.
+/// Reads the catalogue and what extends the messages, takes the port, and says on standard error where the
+/// server listens.
 pub(crate) fn start(
     rt: &HostRuntime,
     files: &LibraryFiles<'_>,
@@ -40,9 +51,14 @@ pub(crate) fn start(
     ensures { IfOk result (λ server. server.journal.turns ≡ []) }
 {
     let library = Library::read(rt, files)?;
+    let extensions = extensions_of(rt, &order.extended, &library.catalogue)?;
     let listener = listen(rt, order, &library.catalogue)?;
     let journal = library.journal(rt)?;
-    Ok(OpenServer { listener, journal })
+    Ok(OpenServer {
+        listener,
+        journal,
+        extensions,
+    })
 }
 
 /// Says on standard error how many turns the journal has, and takes the port.
@@ -102,8 +118,15 @@ pub(crate) fn run<R: Threads + Wait + Clock + Sync + Print>(
 ) -> Result<(), Fault>
     requires { server.journal.turns ≡ [] }
 {
-    let OpenServer { listener, journal } = server;
-    let options = options_of(order);
+    let OpenServer {
+        listener,
+        journal,
+        extensions,
+    } = server;
+    let options = options_of(&Serving {
+        order,
+        extensions: &extensions,
+    });
     let summary = hd_server::serve(rt, alloc, listener, journal, &options, &OpenGate)?;
     tell_end(rt, &summary)?;
     Ok(())
@@ -114,23 +137,27 @@ pub(crate) fn serve_at<
     R: Threads + Wait + Clock + Sync,
     Q: Drop + Send,
     K: Keeper<Global, Q> + Drop + Send,
->(rt: &R, host: &HostRuntime, turns: usize, keeper: K, order: &Serve<'_>) -> Result<K, Fault>
+>(rt: &R, host: &HostRuntime, turns: usize, keeper: K, serving: &Serving<'_>) -> Result<K, Fault>
     requires { K.turns keeper ≡ [] }
 {
-    let listener = listen_at(host, order, turns, keeper.catalogue())?;
-    let options = options_of(order);
+    let listener = listen_at(host, serving.order, turns, keeper.catalogue())?;
+    let options = options_of(serving);
     let alloc = host.alloc();
     Ok(hd_serve::serve(rt, alloc, listener, keeper, &options, &OpenGate)?)
 }
 
 /// How terminals are to be served, as the words of the command line say.
-fn options_of(order: &Serve<'_>) -> Options
+fn options_of<'a>(serving: &Serving<'a>) -> Options<'a>
     ensures workers { (1 ≤ result.workers) × (result.workers ≤ 64) }
+    ensures extensions { result.extensions ≡ Some serving.now.extensions }
+    ensures line_feeds { result.has_line_feeds ≡ serving.now.order.now.has_line_feeds }
 {
     Options {
-        workers: order.workers.clamp(1, 64),
-        connections: order.connections,
-        idle: order.idle,
+        workers: serving.order.workers.clamp(1, 64),
+        connections: serving.order.connections,
+        idle: serving.order.idle,
+        extensions: Some(serving.extensions),
+        has_line_feeds: serving.order.has_line_feeds,
     }
 }
 

@@ -1,9 +1,11 @@
 //! Serving terminals with a journal that is kept in a file.
 
+use crate::extending::extensions_of;
 use crate::fault::Fault;
 use crate::folder::Paths;
-use crate::keeping::{Keeping, end_kept, open_kept};
-use crate::serving::{run, serve_at, start, tell_end};
+use crate::keeping::{Keeping, end_kept, open_over};
+use crate::library::Library;
+use crate::serving::{Serving, run, serve_at, start, tell_end};
 use hd_command_line::Serve;
 use hd_durable::{DurableJournal, DurableKeeper, TurnTable};
 use hd_journal_file::JournalFile;
@@ -46,8 +48,14 @@ fn run_kept<R: Threads + Wait + Clock + Sync + Print, S: Start + Send>(
     keeping: &Keeping<'_>,
     order: &Serve<'_>,
 ) -> Result<(), Fault> {
-    let opened = open_kept(host, start, keeping)?;
-    let summary = serve_from_disks(rt, host, opened, order)?;
+    let library = Library::read_text(host, &keeping.library)?;
+    let extensions = extensions_of(host, &order.extended, &library.catalogue)?;
+    let opened = open_over(host, start, keeping, library)?;
+    let serving = Serving {
+        order,
+        extensions: &extensions,
+    };
+    let summary = serve_from_disks(rt, host, opened, &serving)?;
     tell_end(rt, &summary)?;
     Ok(())
 }
@@ -59,9 +67,9 @@ fn serve_from_disks<R: Threads + Wait + Clock + Sync, D: Disk + Drop + Send, F: 
     rt: &R,
     host: &HostRuntime,
     journal: DurableJournal<JournalFile<FileStore<D>, F>>,
-    order: &Serve<'_>,
+    serving: &Serving<'_>,
 ) -> Result<Summary, Fault> {
-    let (summary, conn) = serve_from_file(rt, host, journal, order)?;
+    let (summary, conn) = serve_from_file(rt, host, journal, serving)?;
     end_kept(conn)?;
     Ok(summary)
 }
@@ -72,9 +80,9 @@ fn serve_from_file<R: Threads + Wait + Clock + Sync, S: Alter + Drop + Send, F: 
     rt: &R,
     host: &HostRuntime,
     journal: DurableJournal<JournalFile<S, F>>,
-    order: &Serve<'_>,
+    serving: &Serving<'_>,
 ) -> Result<(Summary, Connection<S>), Fault> {
-    let (summary, file) = serve_durable(rt, host, journal, order)?;
+    let (summary, file) = serve_durable(rt, host, journal, serving)?;
     Ok((summary, file.into_connection()))
 }
 
@@ -83,10 +91,10 @@ fn serve_durable<R: Threads + Wait + Clock + Sync, T: TurnTable + Drop + Send>(
     rt: &R,
     host: &HostRuntime,
     journal: DurableJournal<T>,
-    order: &Serve<'_>,
+    serving: &Serving<'_>,
 ) -> Result<(Summary, T), Fault> {
     let turns = journal.front();
-    let keeper = serve_at(rt, host, turns, DurableKeeper::new(journal), order)?;
+    let keeper = serve_at(rt, host, turns, DurableKeeper::new(journal), serving)?;
     let served = keeper.into_journal();
     let summary = summary_of(served.journal());
     Ok((summary, served.into_table()))

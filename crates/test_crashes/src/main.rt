@@ -15,13 +15,14 @@ mod stopping;
 mod whole;
 
 use crate::row::{OFF_LINE_CHECKOUTS, REPEATS_AND_GAPS, Row};
-use crate::stopping::{Disk, calls};
+use crate::stopping::{Disk, calls, is_read_in_the_old_format};
 use std::io;
 
 fn main(rt: HostRuntime) -> io::Result<()> {
     for row in [REPEATS_AND_GAPS, OFF_LINE_CHECKOUTS] {
         print_calls(&rt, &row, Disk::Log)?;
         print_calls(&rt, &row, Disk::Database)?;
+        print_old_format(&rt, &row)?;
     }
     Ok(())
 }
@@ -34,5 +35,14 @@ fn print_calls(rt: &HostRuntime, row: &Row, disk: Disk) -> io::Result<()> {
     match calls(rt, row, disk) {
         Some(calls) => println!(rt; "{name}: stopped before each of {calls} calls of the {of}: ok"),
         None => println!(rt; "{name}: stops of the {of}: FAILED"),
+    }
+}
+
+/// Prints a row's name, and whether its turns are taken again from a file of the format before.
+fn print_old_format(rt: &HostRuntime, row: &Row) -> io::Result<()> {
+    let name = row.name;
+    match is_read_in_the_old_format(rt, row) {
+        Some(true) => println!(rt; "{name}: read in the old format: ok"),
+        _ => println!(rt; "{name}: read in the old format: FAILED"),
     }
 }

@@ -14,7 +14,7 @@ use crate::whole::Whole;
 use hd_durable::{DurableJournal, TurnTable};
 use hd_journal::{Ask, Journal, OwnedAsk, SeatNo};
 use hd_journal_file::{Wanted, open_over, restore_turns};
-use hd_turn_store::{Alter, Connection, Unknown, begin, is_blank, leave};
+use hd_turn_store::{Alter, Connection, Unknown, begin, catalogue, is_blank, leave};
 use std::alloc::Global;
 
 /// One of the two disks.
@@ -62,6 +62,23 @@ const MOST_CALLS: u64 = 10_000;
 pub(crate) fn calls(rt: &HostRuntime, row: &Row, disk: Disk) -> Option<u64> {
     let whole = Whole::of(rt, row.steps)?;
     calls_beside(rt, &whole, row, disk)
+}
+
+/// Whether the turns of a row are taken again from a file of the format before, whose replies are texts.
+pub(crate) fn is_read_in_the_old_format(rt: &HostRuntime, row: &Row) -> Option<bool> {
+    let whole = Whole::of(rt, row.steps)?;
+    let whole_disks = Disk::Log.stopped_after(rt.alloc(), u64::MAX);
+    let Played {
+        answered: _,
+        is_ended: _,
+        disks,
+    } = play(rt, row.steps, whole_disks)?;
+    let mut conn = open(rt.alloc(), disks).ok()?;
+    conn.execute("UPDATE journal SET format = 1", &[]).ok()?;
+    conn.execute("UPDATE turn SET reply = x'6e6f7465'", &[])
+        .ok()?;
+    let journal = restore_from(rt, &mut conn)?;
+    Some(journal.front() == whole.changing_in(row.steps.len()) && whole.begins_with(&journal))
 }
 
 /// The same beside the row whose turns are all taken.
@@ -205,7 +222,8 @@ fn take_again<S: Alter>(
     if is_blank(conn.schema()) {
         return Some(());
     }
-    match restore_turns(conn, alloc, journal, alloc, &mut ()) {
+    let format = catalogue(conn).ok()?.format;
+    match restore_turns(conn, format, alloc, journal, alloc, &mut ()) {
         Ok(_) => Some(()),
         Err(_) => None,
     }

@@ -8,7 +8,7 @@ mod damage;
 mod ends;
 mod failing;
 mod hall;
-mod lines;
+pub(crate) mod lines;
 mod outcome;
 mod wire;
 

@@ -1,5 +1,4 @@
 //! Journals and desks beside one another: what their public calls tell.
-use crate::library::Memory;
 use hd_desk::Desk;
 use hd_journal::{Journal, RecordRef, TurnRef};
 use hd_rules::{CopyState, Hold, ItemView, same_asked, same_turn_reply};
@@ -7,14 +6,20 @@ use std::alloc::Allocator;
 use test_kit::{COPIES, PATRONS, TITLES};
 
 /// Whether two journals have the same turns, the same records of the same survivors, and the same desk.
-pub(crate) fn are_alike(one: &Journal<Memory<'_>>, other: &Journal<Memory<'_>>) -> bool {
+pub(crate) fn are_alike<A: Allocator + Copy, B: Allocator + Copy>(
+    one: &Journal<A>,
+    other: &Journal<B>,
+) -> bool {
     have_same_turns(one, other)
         && have_same_records(one, other)
         && are_desks_alike(one.desk(), other.desk())
 }
 
 /// Whether two journals have the same turns.
-fn have_same_turns(one: &Journal<Memory<'_>>, other: &Journal<Memory<'_>>) -> bool {
+fn have_same_turns<A: Allocator + Copy, B: Allocator + Copy>(
+    one: &Journal<A>,
+    other: &Journal<B>,
+) -> bool {
     for at in 1..=one.front() {
         let (Some(turn), Some(twin)) = (one.turn_at(at), other.turn_at(at)) else {
             return false;
@@ -35,7 +40,10 @@ pub(crate) fn is_same_but_for_its_seat(one: &TurnRef<'_>, other: &TurnRef<'_>) -
 }
 
 /// Whether two journals have the same records under the same numbers, and no others.
-fn have_same_records(one: &Journal<Memory<'_>>, other: &Journal<Memory<'_>>) -> bool {
+fn have_same_records<A: Allocator + Copy, B: Allocator + Copy>(
+    one: &Journal<A>,
+    other: &Journal<B>,
+) -> bool {
     for number in 1..=one.last() {
         match (one.record(number), other.record(number)) {
             (Some(record), Some(twin)) => {
@@ -101,7 +109,11 @@ fn have_same_holds<A: Allocator + Copy, B: Allocator + Copy>(
 }
 
 /// The hold of the title that the patron has.
-fn hold<A: Allocator + Copy>(desk: &Desk<A>, title: &[u8], patron: &[u8]) -> Option<Hold> {
+pub(crate) fn hold<A: Allocator + Copy>(
+    desk: &Desk<A>,
+    title: &[u8],
+    patron: &[u8],
+) -> Option<Hold> {
     let title = desk.catalogue().title(title)?;
     let patron = desk.catalogue().patron(patron)?;
     desk.hold(title, patron)

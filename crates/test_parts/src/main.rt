@@ -15,18 +15,47 @@ mod sessions;
 mod streams;
 
 use std::io;
+use std::sync::Wait;
+use std::thread::Threads;
+
+/// A part of the house, with a heading over its rows.
+#[derive(Clone, Copy)]
+enum Part {
+    Streams,
+    Sessions,
+    Hall,
+    Connections,
+    Replay,
+    Refusals,
+}
+
+const PARTS: [(&str, Part); 6] = [
+    ("Reads, writes and requests for memory", Part::Streams),
+    ("Sessions", Part::Sessions),
+    ("A hall", Part::Hall),
+    ("Connections at a hall", Part::Connections),
+    ("Replay", Part::Replay),
+    ("Requests for memory, each refused in turn", Part::Refusals),
+];
 
 fn main(rt: HostRuntime) -> io::Result<()> {
-    println!(rt; "Reads, writes and requests for memory")?;
-    streams::play(&rt)?;
-    println!(rt; "Sessions")?;
-    sessions::play(&rt)?;
-    println!(rt; "A hall")?;
-    halls::play(&rt, &rt)?;
-    println!(rt; "Connections at a hall")?;
-    attending::play(&rt, &rt)?;
-    println!(rt; "Replay")?;
-    replaying::play(&rt)?;
-    println!(rt; "Requests for memory, each refused in turn")?;
-    refusals::play(&rt, &rt)
+    for (heading, part) in PARTS {
+        println!(rt; "{heading}")?;
+        part.play(&rt, &rt)?;
+    }
+    Ok(())
+}
+
+impl Part {
+    /// Plays its rows, by handles that wait and start threads, and that print.
+    fn play<R: Threads + Wait + Sync>(self, rt: &R, host: &HostRuntime) -> io::Result<()> {
+        match self {
+            Part::Streams => streams::play(host),
+            Part::Sessions => sessions::play(host),
+            Part::Hall => halls::play(rt, host),
+            Part::Connections => attending::play(rt, host),
+            Part::Replay => replaying::play(host),
+            Part::Refusals => refusals::play(rt, host),
+        }
+    }
 }

@@ -12,6 +12,7 @@ use crate::replaying::calls::{is_each_interruption_borne, is_each_read_told, is_
 use crate::replaying::examples::{EXAMPLES, are_lines_without_a_session_told, is_answered};
 use crate::replaying::long::{has_an_input_a_longest_length, is_a_long_line_ended};
 use crate::replaying::watching::are_replies_written_in_time;
+use hd_connection::{Input, Output};
 use hd_replay::{ReplayFault, replay};
 use std::io;
 use test_kit::{NOW, tell};
@@ -21,31 +22,38 @@ pub(crate) fn play(rt: &HostRuntime) -> io::Result<()> {
     for example in &EXAMPLES {
         tell(rt, example.name, is_answered(rt, example))?;
     }
-    play_long(rt)?;
-    play_calls(rt)
+    for (name, is_well) in played(rt) {
+        tell(rt, name, is_well)?;
+    }
+    Ok(())
 }
 
-/// Plays long lines and inputs, and lines that stop an input.
-fn play_long(rt: &HostRuntime) -> io::Result<()> {
-    let is_ended = is_a_long_line_ended(rt) == Ok(true);
-    tell(rt, "a long line ends its session", is_ended)?;
-    let are_told = are_lines_without_a_session_told(rt) == Ok(true);
-    tell(rt, "a line without a session stops the input", are_told)?;
-    let has_length = has_an_input_a_longest_length(rt);
-    tell(rt, "an input has a longest length", has_length)
-}
-
-/// Plays reads and writes that fail or are interrupted, and looks when replies are written.
-fn play_calls(rt: &HostRuntime) -> io::Result<()> {
-    tell(rt, "a read fails at each call", is_each_read_told(rt))?;
-    tell(rt, "a write fails at each call", is_each_write_told(rt))?;
-    tell(
-        rt,
-        "an interrupted call is tried again sixteen times in a row",
-        is_each_interruption_borne(rt),
-    )?;
-    let are_in_time = are_replies_written_in_time(rt);
-    tell(rt, "replies are written before the next read", are_in_time)
+/// What else is played, and whether it goes as it is to.
+fn played(rt: &HostRuntime) -> [(&'static str, bool); 7] {
+    [
+        (
+            "a long line ends its session",
+            is_a_long_line_ended(rt) == Ok(true),
+        ),
+        (
+            "a line without a session stops the input",
+            are_lines_without_a_session_told(rt) == Ok(true),
+        ),
+        (
+            "an input has a longest length",
+            has_an_input_a_longest_length(rt),
+        ),
+        ("a read fails at each call", is_each_read_told(rt)),
+        ("a write fails at each call", is_each_write_told(rt)),
+        (
+            "an interrupted call is tried again sixteen times in a row",
+            is_each_interruption_borne(rt),
+        ),
+        (
+            "replies are written before the next read",
+            are_replies_written_in_time(rt),
+        ),
+    ]
 }
 
 /// What `replay` writes for an input, and how it ends: not at a read that fails, since none does from memory.
@@ -56,4 +64,26 @@ fn run(rt: &HostRuntime, catalogue: &[u8], input: &[u8]) -> (Vec<u8>, Result<(),
     let mut out = Vec::new(rt.alloc());
     let end = replay(rt, catalogue, NOW, &mut from, &mut out);
     (out, end)
+}
+
+/// What `replay` writes for what a reader gives, and how it ends.
+fn read_from<R: Input>(
+    rt: &HostRuntime,
+    catalogue: &[u8],
+    from: &mut R,
+) -> (Vec<u8>, Result<(), ReplayFault>) {
+    let mut out = Vec::new(rt.alloc());
+    let end = replay(rt, catalogue, NOW, from, &mut out);
+    (out, end)
+}
+
+/// How `replay` ends for an input, where a writer takes what it writes.
+fn write_to<W: Output>(
+    rt: &HostRuntime,
+    catalogue: &[u8],
+    input: &[u8],
+    to: &mut W,
+) -> Result<(), ReplayFault> {
+    let mut from = input;
+    replay(rt, catalogue, NOW, &mut from, to)
 }

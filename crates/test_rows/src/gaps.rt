@@ -8,7 +8,7 @@ pub(crate) fn tells_gaps(script: &[u8]) -> bool {
 }
 
 /// Whether each session has counted as many gaps as the script says of it, if it does.
-pub(crate) fn are_gaps_counted(script: &[u8], terminals: &Terminals) -> bool {
+pub(crate) fn are_gaps_counted(script: &[u8], terminals: &Terminals<'_>) -> bool {
     for line in script.split(is_line_end) {
         if let Some(told) = after(line, b"gaps ")
             && !is_counted(told, terminals)
@@ -20,7 +20,7 @@ pub(crate) fn are_gaps_counted(script: &[u8], terminals: &Terminals) -> bool {
 }
 
 /// Whether a session has counted so many gaps: the session and the number are told.
-fn is_counted(told: &[u8], terminals: &Terminals) -> bool {
+fn is_counted(told: &[u8], terminals: &Terminals<'_>) -> bool {
     let Some((session, number)) = of_session(told) else {
         return false;
     };

@@ -2,9 +2,11 @@
 use crate::answers::is_answered;
 use crate::cuts::Cut;
 use crate::gaps::are_gaps_counted;
+use crate::options::extensions_of;
 use crate::row::Row;
 use crate::script::{after, is_line_end, of_session};
 use crate::terminals::{TERMINALS, Terminals};
+use hd_session::Extensions;
 use std::alloc::{AllocError, Global};
 
 /// How lines come: what ends each, and how it is cut.
@@ -16,7 +18,20 @@ pub(crate) struct Way {
 
 /// Whether a row is answered as it says, and counts the gaps that it says, where its lines come so.
 pub(crate) fn is_heard(rt: &HostRuntime, row: &Row, way: Way) -> Result<bool, AllocError> {
-    match Terminals::open(rt, row)? {
+    match extensions_of(rt.alloc(), row) {
+        Some(extensions) => is_heard_with(rt, row, way, &extensions),
+        None => Ok(false),
+    }
+}
+
+/// The same with what extends the row's messages.
+fn is_heard_with(
+    rt: &HostRuntime,
+    row: &Row,
+    way: Way,
+    extensions: &Extensions,
+) -> Result<bool, AllocError> {
+    match Terminals::open(rt, row, extensions)? {
         Some(mut terminals) => hear(rt.alloc(), &mut terminals, row, way),
         None => Ok(false),
     }
@@ -24,7 +39,12 @@ pub(crate) fn is_heard(rt: &HostRuntime, row: &Row, way: Way) -> Result<bool, Al
 
 /// Sends the lines of a row, which come so, from its terminals before any line. Whether they are answered as
 /// it says, and the gaps counted.
-fn hear(alloc: Global, terminals: &mut Terminals, row: &Row, way: Way) -> Result<bool, AllocError> {
+fn hear(
+    alloc: Global,
+    terminals: &mut Terminals<'_>,
+    row: &Row,
+    way: Way,
+) -> Result<bool, AllocError> {
     let mut printed = Vec::new(alloc);
     for line in row.script().split(is_line_end) {
         if let Some(text) = after(line, b"> ") {
@@ -41,7 +61,7 @@ fn hear(alloc: Global, terminals: &mut Terminals, row: &Row, way: Way) -> Result
 /// Sends a message of a session as a line that comes so.
 fn send(
     alloc: Global,
-    terminals: &mut Terminals,
+    terminals: &mut Terminals<'_>,
     session: usize,
     message: &[u8],
     way: Way,
@@ -54,7 +74,7 @@ fn send(
 /// Prints what the sessions were answered to a line of one of them, as `replay` does.
 fn print_outs(
     alloc: Global,
-    terminals: &Terminals,
+    terminals: &Terminals<'_>,
     sender: usize,
     printed: &mut Vec<u8>,
 ) -> Result<(), AllocError> {

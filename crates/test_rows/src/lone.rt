@@ -5,30 +5,31 @@ use crate::library::library_of;
 use hd_date::Stamp18;
 use hd_desk::Meter;
 use hd_journal::Journal;
-use hd_session::Session;
+use hd_session::{Extensions, Session};
 use std::alloc::{AllocError, Allocator};
 
 /// A terminal in a session, alone at a journal, over memory of an allocator.
 #[derive(Drop)]
-pub(crate) struct Lone<A: Allocator> {
+pub(crate) struct Lone<'e, A: Allocator> {
     journal: Journal<A>,
     now: Stamp18,
-    session: Session<A>,
+    session: Session<'e, A>,
     /// What it was answered to the last line.
     out: Vec<u8, A>,
     ghost known: { IsKnownTo journal.contents session.state },
 }
 
-impl<A: Allocator + Copy> Lone<A> {
-    /// The terminal before any line, in the library of a catalogue's text and at this present. None where
-    /// there is no such library or present.
+impl<'e, A: Allocator + Copy> Lone<'e, A> {
+    /// The terminal before any line, in the library of a catalogue's text and at this present, with what
+    /// extends its messages, if anything does. None where there is no such library or present.
     pub(crate) fn open(
         rt: &HostRuntime,
         alloc: A,
         catalogue: &[u8],
         now: &[u8],
-    ) -> Result<Option<Lone<A>>, AllocError> {
-        let session = Session::new(alloc)?;
+        extensions: Option<&'e Extensions<A>>,
+    ) -> Result<Option<Lone<'e, A>>, AllocError> {
+        let session = Session::opened(alloc, extensions)?;
         let Some((catalogue, now)) = library_of(alloc, catalogue, now) else {
             return Ok(None);
         };

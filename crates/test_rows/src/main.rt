@@ -1,12 +1,12 @@
 //! Plays rows of messages and replies through `replay` and through sessions whose lines are cut into pieces;
-//! says of each whether it was answered as it is to be. Of cancellations beside many held copies it says
-//! whether they make few requests for memory.
+//! says of each whether it was answered as it is to be. Of lists it says whether they are cut where they are
+//! to be, and of cancellations beside many held copies whether they make few requests for memory.
 //!
-//! A row is a script in `data/`: `catalogue FILE` and `now DATE` say what `replay` is given. `> LINE` is a
-//! line of its input; the lines that answer it stand under it: `< LINE` whole, `<~ SESSION PART` some reply
-//! of that session with that part (several of these in a row speak of one reply), `<* SESSION` some reply of
-//! that session. `error LINE` says how `replay` ends where it doesn't end well. `gaps SESSION NUMBER` says
-//! how many gaps the session has counted at the end.
+//! A row is a script in `data/`: `catalogue FILE`, `now DATE` and `options WORDS` say what `replay` is given.
+//! `> LINE` is a line of its input; the lines that answer it stand under it: `< LINE` whole, `<~ SESSION
+//! PART` some reply of that session with that part (several of these in a row speak of one reply), `<*
+//! SESSION` some reply of that session. `error LINE` says how `replay` ends where it doesn't end well. `gaps
+//! SESSION NUMBER` says how many gaps the session has counted at the end.
 #![tactic(auto)]
 
 mod answers;
@@ -15,9 +15,11 @@ mod cuts;
 mod gaps;
 mod hearing;
 mod library;
+mod lists;
 mod lone;
 mod memory;
 mod names;
+mod options;
 mod replaying;
 mod row;
 mod script;
@@ -25,6 +27,7 @@ mod terminals;
 mod ways;
 
 use crate::catalogues::read_catalogues;
+use crate::lists::cut_lists;
 use crate::memory::cancel_with_little_memory;
 use crate::names::ROWS;
 use crate::replaying::is_replayed;
@@ -41,6 +44,7 @@ fn main(rt: HostRuntime) -> io::Result<()> {
     read_catalogues(&rt)?;
     replay_rows(&rt, rows.as_slice())?;
     hear_rows(&rt, rows.as_slice())?;
+    cut_lists(&rt)?;
     cancel_with_little_memory(&rt)
 }
 

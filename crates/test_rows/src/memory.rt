@@ -18,7 +18,7 @@ const NOW: &[u8] = b"20260301    120000";
 pub(crate) fn cancel_with_little_memory(rt: &HostRuntime) -> io::Result<()> {
     let refusing = Refusing::after(rt.alloc(), u64::MAX);
     let catalogue = catalogue(rt.alloc())?;
-    match Lone::open(rt, &refusing, catalogue.as_bytes(), NOW)? {
+    match Lone::open(rt, &refusing, catalogue.as_bytes(), NOW, None)? {
         Some(mut lone) => keep_and_cancel(rt, &refusing, &mut lone),
         None => println!(rt; "{TITLES} held copies: FAILED"),
     }
@@ -29,7 +29,7 @@ pub(crate) fn cancel_with_little_memory(rt: &HostRuntime) -> io::Result<()> {
 fn keep_and_cancel<A: Allocator + Copy>(
     rt: &HostRuntime,
     refusing: &Refusing<Global>,
-    lone: &mut Lone<A>,
+    lone: &mut Lone<'_, A>,
 ) -> io::Result<()> {
     refusing.refuse_after(u64::MAX);
     keep_copies(rt.alloc(), lone)?;
@@ -57,7 +57,7 @@ fn print_cancelled(rt: &HostRuntime, is_well: bool) -> io::Result<()> {
 /// Whether the reply to a line ends so, and no more requests for memory are made for it than may be.
 fn is_cancelled<A: Allocator + Copy>(
     refusing: &Refusing<Global>,
-    lone: &mut Lone<A>,
+    lone: &mut Lone<'_, A>,
     line: &[u8],
     end: &[u8],
 ) -> bool {
@@ -81,7 +81,10 @@ fn catalogue(alloc: Global) -> Result<String, AllocError> {
 }
 
 /// Logs in, lends the one more copy, and has the copy of each title kept for a hold.
-fn keep_copies<A: Allocator + Copy>(alloc: Global, lone: &mut Lone<A>) -> Result<(), AllocError> {
+fn keep_copies<A: Allocator + Copy>(
+    alloc: Global,
+    lone: &mut Lone<'_, A>,
+) -> Result<(), AllocError> {
     lone.send(b"9300CNt1|COpw|\r");
     lone.send(b"11NN20260301    10000020260301    100000AOlib|AAp2|ABd|AC|\r");
     for title in 1..=TITLES {

@@ -1,14 +1,21 @@
 //! Rows through `replay`.
 use crate::answers::is_answered;
+use crate::library::library_of;
+use crate::options::extensions_of;
 use crate::row::Row;
 use crate::script::input_of;
+use hd_catalogue::Catalogue;
+use hd_date::Stamp18;
+use hd_replay::replay_over;
 use hd_server::replay;
+use hd_session::Extensions;
 use std::alloc::AllocError;
 
 /// Whether a row's input, given to `replay`, is answered as the row says, and ends so.
 pub(crate) fn is_replayed(rt: &HostRuntime, row: &Row) -> Result<bool, AllocError> {
     let mut out = Vec::new(rt.alloc());
-    let end = replay_row(rt, row, &mut out)?;
+    let input = input_of(rt.alloc(), row.script())?;
+    let end = replay_row(rt, row, input.as_slice(), &mut out)?;
     let same_end = match &end {
         Some(text) => row.error() == Some(text.as_bytes()),
         None => row.error().is_none(),
@@ -20,13 +27,64 @@ pub(crate) fn is_replayed(rt: &HostRuntime, row: &Row) -> Result<bool, AllocErro
 fn replay_row(
     rt: &HostRuntime,
     row: &Row,
+    mut input: &[u8],
     out: &mut Vec<u8>,
 ) -> Result<Option<String>, AllocError> {
-    let alloc = rt.alloc();
-    let input = input_of(alloc, row.script())?;
-    let mut from = input.as_slice();
-    match replay(rt, row.catalogue(), row.now(), &mut from, out) {
+    if row.is_extended() {
+        return replay_extended(rt, row, input, out);
+    }
+    match replay(rt, row.catalogue(), row.now(), &mut input, out) {
         Ok(()) => Ok(None),
-        Err(fault) => Ok(Some(format!(in alloc; "{fault}")?)),
+        Err(fault) => Ok(Some(format!(in rt.alloc(); "{fault}")?)),
+    }
+}
+
+/// The same of a row whose messages something extends.
+fn replay_extended(
+    rt: &HostRuntime,
+    row: &Row,
+    input: &[u8],
+    out: &mut Vec<u8>,
+) -> Result<Option<String>, AllocError> {
+    match extensions_of(rt.alloc(), row) {
+        Some(extensions) => replay_with(rt, row, &extensions, input, out),
+        None => Ok(Some(String::from_str(rt.alloc(), "no patrons")?)),
+    }
+}
+
+/// The same with what extends them.
+fn replay_with(
+    rt: &HostRuntime,
+    row: &Row,
+    extensions: &Extensions,
+    input: &[u8],
+    out: &mut Vec<u8>,
+) -> Result<Option<String>, AllocError> {
+    match library_of(rt.alloc(), row.catalogue(), row.now()) {
+        Some((catalogue, now)) => replay_in_library(rt, catalogue, now, extensions, input, out),
+        None => Ok(Some(String::from_str(rt.alloc(), "no library")?)),
+    }
+}
+
+/// The same in a library, at a present.
+fn replay_in_library(
+    rt: &HostRuntime,
+    catalogue: Catalogue,
+    now: Stamp18,
+    extensions: &Extensions,
+    mut input: &[u8],
+    out: &mut Vec<u8>,
+) -> Result<Option<String>, AllocError> {
+    match replay_over(
+        rt,
+        rt.alloc(),
+        catalogue,
+        now,
+        Some(extensions),
+        &mut input,
+        out,
+    ) {
+        Ok(()) => Ok(None),
+        Err(fault) => Ok(Some(format!(in rt.alloc(); "{fault}")?)),
     }
 }

@@ -10,7 +10,7 @@ use crate::row::Row;
 use hd_date::Stamp18;
 use hd_desk::Meter;
 use hd_journal::Journal;
-use hd_session::{Session, script};
+use hd_session::{Extensions, Session, script};
 use std::alloc::{AllocError, Global};
 
 /// How many terminals there are.
@@ -18,22 +18,26 @@ pub(crate) const TERMINALS: usize = 9;
 
 /// Terminals, each in a session, over one journal. Sessions are counted from 0.
 #[derive(Drop)]
-pub(crate) struct Terminals {
+pub(crate) struct Terminals<'e> {
     journal: Journal,
     now: Stamp18,
-    sessions: Vec<Session>,
+    sessions: Vec<Session<'e>>,
     /// What each session was answered to the last line.
     outs: Vec<Vec<u8>>,
     ghost as_many: { vec_len outs ≡ vec_len sessions },
     ghost known: { AreKnownTo journal.contents sessions.items },
 }
 
-impl Terminals {
-    /// The terminals before any line, in the library and at the present of a row. None where that has no such
-    /// library or present.
-    pub(crate) fn open(rt: &HostRuntime, row: &Row) -> Result<Option<Terminals>, AllocError> {
+impl<'e> Terminals<'e> {
+    /// The terminals before any line, in the library and at the present of a row, with what extends its
+    /// messages. None where that has no such library or present.
+    pub(crate) fn open(
+        rt: &HostRuntime,
+        row: &Row,
+        extensions: &'e Extensions,
+    ) -> Result<Option<Terminals<'e>>, AllocError> {
         let alloc = rt.alloc();
-        let sessions = new_sessions(alloc)?;
+        let sessions = new_sessions(alloc, extensions)?;
         let outs = empty_outs(alloc)?;
         let Some((catalogue, now)) = library_of(alloc, row.catalogue(), row.now()) else {
             return Ok(None);
@@ -96,23 +100,28 @@ impl Terminals {
 }
 
 /// The sessions before any line.
-fn new_sessions(alloc: Global) -> Result<Vec<Session>, AllocError>
+fn new_sessions(alloc: Global, extensions: &Extensions) -> Result<Vec<Session<'_>>, AllocError>
     ensures size { IfOk result (λ sessions. vec_len sessions ≡ 9) }
     ensures known { (k : Contents) → IfOk result (λ sessions. AreKnownTo k sessions.items) }
 {
     let mut sessions = Vec::new(alloc);
     for _ in 0..TERMINALS {
-        put_new(alloc, &mut sessions)?;
+        put_new(alloc, extensions, &mut sessions)?;
     }
     Ok(sessions)
 }
 
 /// Adds a new session.
-fn put_new(alloc: Global, sessions: &mut Vec<Session>) -> Result<(), AllocError>
+fn put_new<'e>(
+    alloc: Global,
+    extensions: &'e Extensions,
+    sessions: &mut Vec<Session<'e>>,
+) -> Result<(), AllocError>
     ensures one { OnOk result (vec_len sessions.new ≡ vec_len sessions.old + 1) }
-    ensures new { OnOk result (sessions.new.items ≡ sessions.old.items ++ new_session ∷ []) }
+    ensures new { OnOk result (sessions.new.items
+        ≡ sessions.old.items ++ new_session extensions.now ∷ []) }
 {
-    let session = Session::new(alloc)?;
+    let session = Session::extended(alloc, extensions)?;
     sessions.push(session)?;
     Ok(())
 }

@@ -19,62 +19,65 @@ mod unwritten_reply;
 mod unwritten_turn;
 mod waiting;
 
-use crate::script::{
-    A_LONG_LINE, A_RESET, A_REST, BYTE_BY_BYTE, FIVE_IN_A_ROW, SIXTY_FOUR, is_played,
-};
+use crate::script::{SCRIPTS, is_played};
 use std::io;
+use std::sync::Wait;
+use std::thread::Threads;
+use std::time::Clock;
+use test_kit::tell;
 
-fn main(rt: HostRuntime) -> io::Result<()> {
-    tell(&rt, "two connections", two_connections::goes(&rt, &rt))?;
-    tell(
-        &rt,
-        "two connections at one worker",
-        two_connections::waits(&rt, &rt),
-    )?;
-    tell(
-        &rt,
-        "a reply that can't be written",
-        unwritten_reply::goes(&rt, &rt),
-    )?;
-    tell(
-        &rt,
-        "a turn that can't be written",
-        unwritten_turn::goes(&rt, &rt),
-    )?;
-    tell(
-        &rt,
-        "the same behind the last connection",
-        unwritten_turn::goes_behind_the_last(&rt, &rt),
-    )?;
-    tell(&rt, "a connection reset", is_played(&rt, &rt, &A_RESET))?;
-    tell(&rt, "byte by byte", is_played(&rt, &rt, &BYTE_BY_BYTE))?;
-    tell(
-        &rt,
-        "a rest without its carriage return",
-        is_played(&rt, &rt, &A_REST),
-    )?;
-    tell(&rt, "100 lines in one piece", hundred_lines::goes(&rt, &rt))?;
-    tell(
-        &rt,
-        "five connections at one worker",
-        is_played(&rt, &rt, &FIVE_IN_A_ROW),
-    )?;
-    tell(
-        &rt,
-        "64 connections at 64 workers",
-        is_played(&rt, &rt, &SIXTY_FOUR),
-    )?;
-    tell(&rt, "an idle connection", idle::goes(&rt, &rt))?;
-    tell(
-        &rt,
-        "a line that is too long",
-        is_played(&rt, &rt, &A_LONG_LINE),
-    )?;
-    tell(&rt, "a failed accept", failed_accept::goes(&rt, &rt))?;
-    tell(&rt, "the present", present::goes(&rt, &rt))
+/// A row with a gate, a keeper or a port of its own.
+#[derive(Clone, Copy)]
+enum Row {
+    TwoConnections,
+    TwoAtOneWorker,
+    UnwrittenReply,
+    UnwrittenTurn,
+    UnwrittenBehindTheLast,
+    HundredLines,
+    Idle,
+    FailedAccept,
+    Present,
 }
 
-/// Prints how a row went.
-fn tell(rt: &HostRuntime, name: &str, gone: Option<bool>) -> io::Result<()> {
-    test_kit::tell(rt, name, gone == Some(true))
+const ROWS: [(&str, Row); 9] = [
+    ("two connections", Row::TwoConnections),
+    ("two connections at one worker", Row::TwoAtOneWorker),
+    ("a reply that can't be written", Row::UnwrittenReply),
+    ("a turn that can't be written", Row::UnwrittenTurn),
+    (
+        "the same behind the last connection",
+        Row::UnwrittenBehindTheLast,
+    ),
+    ("100 lines in one piece", Row::HundredLines),
+    ("an idle connection", Row::Idle),
+    ("a failed accept", Row::FailedAccept),
+    ("the present", Row::Present),
+];
+
+fn main(rt: HostRuntime) -> io::Result<()> {
+    for (name, row) in ROWS {
+        tell(&rt, name, row.goes(&rt, &rt) == Some(true))?;
+    }
+    for (name, script) in SCRIPTS {
+        tell(&rt, name, is_played(&rt, &rt, &script) == Some(true))?;
+    }
+    Ok(())
+}
+
+impl Row {
+    /// Whether it goes as it is to. None where it can't be played.
+    fn goes<R: Threads + Wait + Clock + Sync>(self, rt: &R, host: &HostRuntime) -> Option<bool> {
+        match self {
+            Row::TwoConnections => two_connections::goes(rt, host),
+            Row::TwoAtOneWorker => two_connections::waits(rt, host),
+            Row::UnwrittenReply => unwritten_reply::goes(rt, host),
+            Row::UnwrittenTurn => unwritten_turn::goes(rt, host),
+            Row::UnwrittenBehindTheLast => unwritten_turn::goes_behind_the_last(rt, host),
+            Row::HundredLines => hundred_lines::goes(rt, host),
+            Row::Idle => idle::goes(rt, host),
+            Row::FailedAccept => failed_accept::goes(rt, host),
+            Row::Present => present::goes(rt, host),
+        }
+    }
 }

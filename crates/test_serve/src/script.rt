@@ -1,6 +1,4 @@
 //! Rows in which the gate lets each turn pass: what the terminals say and hear is data.
-ghost use Rattle.std.specs.Prelude.{◌≤◌};
-
 use crate::lines::{
     CANCEL_2, CANCELLED_2, HELD_1_FIRST, HELD_2_SECOND, HOLD_1, HOLD_2, ITEM, LOGGED_IN, LOGIN_1,
     LOGIN_2, ON_SHELF, ON_SHELF_HELD,
@@ -70,7 +68,7 @@ const BEGINNING: &[u8] = b"1720260301    100000AOlib|ABa1|AC";
 const MOST: usize = 1_024;
 
 /// A terminal sends each byte alone, and each line gets its reply.
-pub(crate) const BYTE_BY_BYTE: Script = Script {
+const BYTE_BY_BYTE: Script = Script {
     workers: 1,
     terminals: 1,
     steps: &[
@@ -86,7 +84,7 @@ pub(crate) const BYTE_BY_BYTE: Script = Script {
 };
 
 /// A terminal ends in the middle of a line: the rest has no reply and makes no turn.
-pub(crate) const A_REST: Script = Script {
+const A_REST: Script = Script {
     workers: 1,
     terminals: 1,
     steps: &[
@@ -104,7 +102,7 @@ pub(crate) const A_REST: Script = Script {
 
 /// Each terminal ends before the next one speaks: each is served, at one desk, and the turns of all are
 /// counted.
-pub(crate) const FIVE_IN_A_ROW: Script = Script {
+const FIVE_IN_A_ROW: Script = Script {
     workers: 1,
     terminals: 5,
     steps: &[
@@ -128,9 +126,9 @@ pub(crate) const FIVE_IN_A_ROW: Script = Script {
     survivors: 1,
 };
 
-/// A terminal goes without having read its replies, which resets its connection: its hold stays, and the other
-/// goes on.
-pub(crate) const A_RESET: Script = Script {
+/// A terminal goes without having read its replies, which resets its connection: its hold stays, and the
+/// other goes on.
+const A_RESET: Script = Script {
     workers: 2,
     terminals: 2,
     steps: &[
@@ -147,7 +145,7 @@ pub(crate) const A_RESET: Script = Script {
 };
 
 /// No terminal ends before all are answered: all are served side by side, and the turns of all are counted.
-pub(crate) const SIXTY_FOUR: Script = Script {
+const SIXTY_FOUR: Script = Script {
     workers: 64,
     terminals: 64,
     steps: &[
@@ -161,7 +159,7 @@ pub(crate) const SIXTY_FOUR: Script = Script {
 };
 
 /// A line of a byte too many ends its connection, without a reply, and the longest of another is answered.
-pub(crate) const A_LONG_LINE: Script = Script {
+const A_LONG_LINE: Script = Script {
     workers: 2,
     terminals: 2,
     steps: &[
@@ -189,14 +187,26 @@ pub(crate) const AN_UNWRITTEN_TURN: &[Step] = &[
     Step::At(1, Deed::IsLeft),
 ];
 
-/// Plays a script at a server of its own. Whether all went as it says.
+/// The scripts that are played from a journal in memory, with the names that are printed.
+pub(crate) const SCRIPTS: [(&str, Script); 6] = [
+    ("a connection reset", A_RESET),
+    ("byte by byte", BYTE_BY_BYTE),
+    ("a rest without its carriage return", A_REST),
+    ("five connections at one worker", FIVE_IN_A_ROW),
+    ("64 connections at 64 workers", SIXTY_FOUR),
+    ("a line that is too long", A_LONG_LINE),
+];
+
+/// Plays a script at a server of its own. Whether all went as it says; None where it can't be played, as with
+/// more workers than a server may have.
 pub(crate) fn is_played<R: Threads + Wait + Clock + Sync>(
     rt: &R,
     host: &HostRuntime,
     script: &Script,
-) -> Option<bool>
-    requires { (1 ≤ script.now.workers) × (script.now.workers ≤ 64) }
-{
+) -> Option<bool> {
+    if script.workers == 0 || script.workers > 64 {
+        return None;
+    }
     let opened = open(host, script.terminals)?;
     let scale = Scale {
         workers: script.workers,

@@ -122,13 +122,15 @@ pub(crate) fn play_kept<
 }
 
 /// How terminals are to be served at this scale.
-fn options_of(scale: Scale) -> Options
+fn options_of<'a>(scale: Scale) -> Options<'a>
     ensures workers { result.workers ≡ scale.workers }
 {
     Options {
         workers: scale.workers,
         connections: scale.connections,
         idle: scale.idle,
+        extensions: None,
+        has_line_feeds: false,
     }
 }
 

@@ -39,6 +39,18 @@ fn play_in<H: House, R: Wait>(
     requires parts { (blank.parts ≡ H.parts) × (H.parts ≡ 4294967296) }
 {
     let hall = Hall::<H>::new(alloc, journal, blank).ok()?;
+    play_at(rt, alloc, hall, wire)
+}
+
+/// The same at this hall.
+fn play_at<H: House, R: Wait>(
+    rt: &R,
+    alloc: Global,
+    hall: Hall<H>,
+    wire: &Wire<'_>,
+) -> Option<Outcome>
+    requires { H.parts ≡ 4294967296 }
+{
     let mut seat = hall.seat(rt)?;
     let exchanged = exchange(rt, alloc, &hall, &mut seat, wire);
     let journal = close(alloc, hall, seat)?;

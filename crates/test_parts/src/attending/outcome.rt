@@ -6,11 +6,21 @@ use hd_journal::Journal;
 
 /// What comes of bytes: what is written, how it ends, and the journal with the turns that are made, on the
 /// heap, so that it is let go by one function.
-#[derive(Drop)]
 pub(crate) struct Outcome {
     pub(crate) text: Vec<u8>,
     pub(crate) end: Result<(), AttendFault>,
     pub(crate) journal: Box<Journal>,
+}
+
+// Written out, so that a caller's proof sees one call and not the drop of each field.
+impl Drop for Outcome {
+    fn drop(self) {
+        let Outcome {
+            text: _text,
+            end: _end,
+            journal: _journal,
+        } = self;
+    }
 }
 
 impl Outcome {

@@ -98,9 +98,21 @@ pub(crate) fn hold<A: Allocator + Copy>(
 ) -> Option<Wish>
     ensures { IfSome result (IsOf catalogue.now) }
 {
+    hold_of(catalogue, terminal, patron, b"ta")
+}
+
+/// The same of any title.
+pub(crate) fn hold_of<A: Allocator + Copy>(
+    catalogue: &Catalogue<A>,
+    terminal: &[u8],
+    patron: &[u8],
+    title: &[u8],
+) -> Option<Wish>
+    ensures { IfSome result (IsOf catalogue.now) }
+{
     let terminal = catalogue.terminal(terminal, b"pw")?;
     let patron = catalogue.patron(patron)?;
-    let title = catalogue.title(b"ta")?;
+    let title = catalogue.title(title)?;
     let pickup = catalogue.branch(b"north")?;
     let day = present()?.day();
     Some(Wish {

@@ -2,6 +2,7 @@
 
 use hd_catalogue::{CatFault, Catalogue, Cause};
 use hd_desk::{Desk, OpenFault};
+use std::alloc::Allocator;
 use std::sync::Arc;
 use test_kit::{CATALOGUE, Refusing};
 
@@ -49,18 +50,34 @@ pub(crate) fn read_catalogue(rt: &HostRuntime, passed: u64) -> Option<u64> {
 /// None where the desk isn't opened, or, where a request is refused, isn't opened the next time.
 pub(crate) fn open_desk(rt: &HostRuntime, passed: u64) -> Option<u64> {
     let memory = Refusing::after(rt.alloc(), u64::MAX);
-    let catalogue = Catalogue::read(&memory, CATALOGUE).ok()?;
-    let catalogue = hd_journal::share(&memory, catalogue).ok()?;
-    let again = Arc::try_clone(&catalogue).ok()?;
+    let catalogue = shared_catalogue(&memory)?;
     memory.refuse_after(passed);
-    let opened = Desk::open(&memory, rt.alloc(), catalogue);
+    let is_refused = is_desk_refused(rt, &memory, &catalogue)?;
     let requests = memory.requests();
-    let is_well = match opened {
-        Ok(_) => requests <= passed,
-        Err(OpenFault::Memory) => {
-            requests > passed && Desk::open(&memory, rt.alloc(), again).is_ok()
-        }
-        Err(OpenFault::Row { .. }) => false,
+    let is_well = if is_refused {
+        requests > passed && is_desk_refused(rt, &memory, &catalogue) == Some(false)
+    } else {
+        requests <= passed
     };
     is_well.then_some(requests)
+}
+
+/// The catalogue, for desks to share.
+fn shared_catalogue<A: Allocator + Copy>(alloc: A) -> Option<Arc<Catalogue<A>, A>> {
+    let catalogue = Catalogue::read(alloc, CATALOGUE).ok()?;
+    hd_journal::share(alloc, catalogue).ok()
+}
+
+/// Whether a desk of a catalogue isn't opened, out of memory. None where it isn't for another reason.
+fn is_desk_refused<A: Allocator + Copy>(
+    rt: &HostRuntime,
+    alloc: A,
+    catalogue: &Arc<Catalogue<A>, A>,
+) -> Option<bool> {
+    let own = Arc::try_clone(catalogue).ok()?;
+    match Desk::open(alloc, rt.alloc(), own) {
+        Ok(_) => Some(false),
+        Err(OpenFault::Memory) => Some(true),
+        Err(OpenFault::Row { .. }) => None,
+    }
 }

@@ -11,20 +11,19 @@ use test_kit::{CATALOGUE, NOW, Refusing};
 pub(crate) fn replay_row(rt: &HostRuntime, row: &Row, passed: u64) -> Option<u64> {
     let input = replay_lines(rt.alloc(), row.messages).ok()?;
     let whole = replay_lines(rt.alloc(), row.replies).ok()?;
+    replay_text(rt, input.as_slice(), whole.as_slice(), passed)
+}
+
+/// The same with the row's lines as `replay` is given them, and all that it writes.
+fn replay_text(rt: &HostRuntime, input: &[u8], whole: &[u8], passed: u64) -> Option<u64> {
     let memory = Refusing::after(rt.alloc(), passed);
+    let mut from = input;
     let mut written = Vec::new(rt.alloc());
-    let end = replay_in(
-        rt,
-        &memory,
-        CATALOGUE,
-        NOW,
-        &mut input.as_slice(),
-        &mut written,
-    );
+    let end = replay_in(rt, &memory, CATALOGUE, NOW, &mut from, &mut written);
     let requests = memory.requests();
     let is_well = match end {
-        Ok(()) => requests <= passed && written.as_slice() == whole.as_slice(),
-        Err(fault) => requests > passed && is_borne(fault, written.as_slice(), whole.as_slice()),
+        Ok(()) => requests <= passed && written.as_slice() == whole,
+        Err(fault) => requests > passed && is_borne(fault, written.as_slice(), whole),
     };
     is_well.then_some(requests)
 }

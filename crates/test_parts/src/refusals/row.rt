@@ -1,4 +1,5 @@
 //! Rows of messages of one session, and the replies to them.
+use crate::attending::lines::{LINES, REPLIES};
 use std::alloc::{AllocError, Global};
 
 /// A row of messages of one session.
@@ -86,22 +87,8 @@ pub(crate) const ROOM_AFTER_A_CANCELLED_RETURN: Row = Row {
 
 /// Messages that are sent again, with sequence digits and without.
 pub(crate) const REPEATS_AND_GAPS: Row = Row {
-    messages: b"9300CNt1|COpw|\r\
-        11NN20260301    10000020260301    100000AOlib|AAp1|ABa1|AC|\r\
-        09N20260301    10000020260301    100000APnorth|AOlib|ABa1|AC|\r\
-        11NN20260301    10000020260301    100000AOlib|AAp1|ABa1|AC|AY3AZF0C9\r\
-        11NN20260301    10000020260301    100000AOlib|AAp1|ABa1|AC|AY3AZF0C9\r\
-        09N20260301    10000020260301    100000APnorth|AOlib|ABa1|AC|BIY|AY4AZEE16\r\
-        09N20260301    10000020260301    100000APnorth|AOlib|ABa1|AC|BIY|AY4AZEE16\r\
-        09N20260301    10000020260301    100000APnorth|AOlib|ABa1|AC|BIY|\r",
-    replies: b"941\r\
-        121NNY20260301    100000AOlib|AAp1|ABa1|AJta|AH20260322    235900|\r\
-        101YNN20260301    100000AOlib|ABa1|AQnorth|AJta|\r\
-        121NNY20260301    100000AOlib|AAp1|ABa1|AJta|AH20260322    235900|AY3AZEE48\r\
-        121NNY20260301    100000AOlib|AAp1|ABa1|AJta|AH20260322    235900|AY3AZEE48\r\
-        101YNN20260301    100000AOlib|ABa1|AQnorth|AJta|AFCANCELLED 3|AY4AZED27\r\
-        101YNN20260301    100000AOlib|ABa1|AQnorth|AJta|AFCANCELLED 3|AY4AZED27\r\
-        100NNN20260301    100000AOlib|ABa1|AQ|AFDEPENDS 2|\r",
+    messages: LINES,
+    replies: REPLIES,
     calm: 0,
 };
 

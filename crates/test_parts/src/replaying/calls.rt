@@ -1,6 +1,7 @@
 //! Reads and writes that fail or are interrupted, each in turn.
-use hd_replay::{ReplayFault, replay};
-use test_kit::{CATALOGUE, FailingReader, FailingWriter, Fault, NOW};
+use crate::replaying::{read_from, write_to};
+use hd_replay::ReplayFault;
+use test_kit::{CATALOGUE, FailingReader, FailingWriter, Fault};
 
 /// Lines of two sessions, the last of which nothing ends.
 pub(crate) const INPUT: &[u8] = b"1 9300CNt1|COpw|
@@ -23,17 +24,13 @@ const TAKEN: usize = 5;
 
 /// What is written, and how it ends, where these reads fail.
 fn replayed_reading(rt: &HostRuntime, fault: Fault) -> (Vec<u8>, Result<(), ReplayFault>) {
-    let mut from = FailingReader::new(INPUT, GIVEN, fault);
-    let mut out = Vec::new(rt.alloc());
-    let end = replay(rt, CATALOGUE, NOW, &mut from, &mut out);
-    (out, end)
+    read_from(rt, CATALOGUE, &mut FailingReader::new(INPUT, GIVEN, fault))
 }
 
 /// What is written, and how it ends, where these writes fail.
 fn replayed_writing(rt: &HostRuntime, fault: Fault) -> (FailingWriter, Result<(), ReplayFault>) {
-    let mut from = INPUT;
     let mut to = FailingWriter::in_pieces(TAKEN, fault);
-    let end = replay(rt, CATALOGUE, NOW, &mut from, &mut to);
+    let end = write_to(rt, CATALOGUE, INPUT, &mut to);
     (to, end)
 }
 

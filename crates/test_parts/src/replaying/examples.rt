@@ -1,8 +1,8 @@
 //! Inputs, and what comes of them.
-use crate::replaying::run;
-use hd_replay::{ReplayFault, replay};
-use std::alloc::AllocError;
-use test_kit::{CATALOGUE, FailingReader, FailingWriter, Fault, NOW};
+use crate::replaying::{read_from, run, write_to};
+use hd_replay::ReplayFault;
+use std::alloc::{AllocError, Global};
+use test_kit::{CATALOGUE, FailingReader, FailingWriter, Fault};
 
 /// An input in a library, with what is written and how it ends.
 #[derive(Clone, Copy)]
@@ -72,20 +72,25 @@ pub(crate) fn is_answered(rt: &HostRuntime, example: &Example) -> bool {
     match example.streams {
         Streams::Memory => {
             let (out, end) = run(rt, example.catalogue, example.input);
-            end == example.end && out.as_slice() == example.written
+            example.is(out.as_slice(), end)
         }
         Streams::ReadFails => {
             let mut from = FailingReader::new(example.input, 5, Fault::FailsAt(2));
-            let mut out = Vec::new(rt.alloc());
-            let end = replay(rt, example.catalogue, NOW, &mut from, &mut out);
-            end == example.end && out.as_slice() == example.written
+            let (out, end) = read_from(rt, example.catalogue, &mut from);
+            example.is(out.as_slice(), end)
         }
         Streams::WriterTakesNone => {
-            let mut from = example.input;
             let mut to = FailingWriter::in_pieces(0, Fault::None);
-            let end = replay(rt, example.catalogue, NOW, &mut from, &mut to);
-            end == example.end && to.bytes() == example.written
+            let end = write_to(rt, example.catalogue, example.input, &mut to);
+            example.is(to.bytes(), end)
         }
+    }
+}
+
+impl Example {
+    /// Whether this is what is written, and how it ends.
+    fn is(&self, written: &[u8], end: Result<(), ReplayFault>) -> bool {
+        end == self.end && written == self.written
     }
 }
 
@@ -106,9 +111,15 @@ pub(crate) fn are_lines_without_a_session_told(rt: &HostRuntime) -> Result<bool,
 
 /// Whether a line of no session, between two others, stops the input there.
 fn is_line_without_a_session_told(rt: &HostRuntime, line: &[u8]) -> Result<bool, AllocError> {
-    let mut input = Vec::from_slice(rt.alloc(), b"1 97\n")?;
-    input.extend_from_slice(line)?;
-    input.extend_from_slice(b"\n1 97\n")?;
+    let input = between_two(rt.alloc(), line)?;
     let (out, end) = run(rt, CATALOGUE, input.as_slice());
     Ok(end == Err(ReplayFault::NoSession { line: 2 }) && out.as_slice() == b"1 96\n".as_slice())
+}
+
+/// A line between two others.
+fn between_two(alloc: Global, line: &[u8]) -> Result<Vec<u8>, AllocError> {
+    let mut input = Vec::from_slice(alloc, b"1 97\n")?;
+    input.extend_from_slice(line)?;
+    input.extend_from_slice(b"\n1 97\n")?;
+    Ok(input)
 }

@@ -1,38 +1,44 @@
 //! Lines and inputs that are as long as they may be, and longer.
-use crate::replaying::run;
+use crate::replaying::{read_from, run};
 use hd_connection::Fallible;
-use hd_replay::{ReplayFault, replay};
+use hd_replay::ReplayFault;
 use std::alloc::{AllocError, Global};
 use std::io::{self, Read};
-use test_kit::{CATALOGUE, NOW};
+use test_kit::CATALOGUE;
 
-/// A hold in a session with a line of so many bytes, at least 33.
-fn line_of(alloc: Global, session: &[u8], length: usize) -> Result<Vec<u8>, AllocError> {
-    let mut line = Vec::from_slice(alloc, session)?;
-    line.extend_from_slice(b" 15+20260301    100000AAp1|AJta|AC")?;
-    for _ in 33..length {
-        line.push(b'x')?;
-    }
-    line.push(b'\n')?;
-    Ok(line)
-}
-
-/// Whether a line of 1,024 bytes is answered, and one of a byte more ends its session, and no other.
-pub(crate) fn is_a_long_line_ended(rt: &HostRuntime) -> Result<bool, AllocError> {
-    let mut input = Vec::from_slice(rt.alloc(), b"7 9300CNt1|COpw|\n")?;
-    input.extend_from_slice(line_of(rt.alloc(), b"7", 1024)?.as_slice())?;
-    input.extend_from_slice(line_of(rt.alloc(), b"64", 1025)?.as_slice())?;
-    input.extend_from_slice(b"64 97\n7 00\n64 \n")?;
-    let (out, end) = run(rt, CATALOGUE, input.as_slice());
-    let wanted = b"7 941
+/// What the long lines are answered.
+const ANSWERED: &[u8] = b"7 941
 7 161Y20260301    100000BR1|BSnorth|AOlib|AAp1|AJta|
 64 ENDED
 64 ENDED
 7 96
 64 ENDED
-"
-        .as_slice();
-    Ok(end == Ok(()) && out.as_slice() == wanted)
+";
+
+/// Whether a line of 1,024 bytes is answered, and one of a byte more ends its session, and no other.
+pub(crate) fn is_a_long_line_ended(rt: &HostRuntime) -> Result<bool, AllocError> {
+    let input = long_lines(rt.alloc())?;
+    let (out, end) = run(rt, CATALOGUE, input.as_slice());
+    Ok(end == Ok(()) && out.as_slice() == ANSWERED)
+}
+
+/// The longest line in one session, one of a byte more in another, and lines that follow in both.
+fn long_lines(alloc: Global) -> Result<Vec<u8>, AllocError> {
+    let mut input = Vec::from_slice(alloc, b"7 9300CNt1|COpw|\n")?;
+    add_line(&mut input, b"7", 1024)?;
+    add_line(&mut input, b"64", 1025)?;
+    input.extend_from_slice(b"64 97\n7 00\n64 \n")?;
+    Ok(input)
+}
+
+/// Adds a hold in a session with a line of so many bytes, at least 33.
+fn add_line(input: &mut Vec<u8>, session: &[u8], length: usize) -> Result<(), AllocError> {
+    input.extend_from_slice(session)?;
+    input.extend_from_slice(b" 15+20260301    100000AAp1|AJta|AC")?;
+    for _ in 33..length {
+        input.push(b'x')?;
+    }
+    input.extend_from_slice(b"\n")
 }
 
 /// A reader that gives so many bytes, none of which ends a line.
@@ -61,7 +67,6 @@ pub(crate) fn has_an_input_a_longest_length(rt: &HostRuntime) -> bool {
 /// Whether an input of so many bytes, none of which ends a line, ends so, and nothing is written.
 fn ends_so(rt: &HostRuntime, length: usize, wanted: ReplayFault) -> bool {
     let mut from = Fallible(EndlessLine { left: length });
-    let mut out = Vec::new(rt.alloc());
-    let end = replay(rt, CATALOGUE, NOW, &mut from, &mut out);
+    let (out, end) = read_from(rt, CATALOGUE, &mut from);
     end == Err(wanted) && out.is_empty()
 }

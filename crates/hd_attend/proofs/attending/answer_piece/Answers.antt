@@ -7,7 +7,7 @@ pub returns-in_err-write_all-clause-attends : goal.returns-in_err-write_all-clau
 returns-in_err-write_all-clause-attends g c =
     let fed = c.feed-fed.ensures.fed in
     let wrote = c.in_err-write_all.ensures.wrote in (
-      fed.made,
+      fed.did,
       fed.works,
       attends_passed _ _ _ _ _ _ _ _ _ Write c.from_residual.ensures.0 c.from_residual.ensures.1
           (attends_piece _ _ _ _ _ _ _ _ _ _ fed.fed _ _
@@ -19,7 +19,7 @@ pub returns-in_err-fed-clause-attends : goal.returns-in_err-fed-clause-attends
 returns-in_err-fed-clause-attends g c =
     let fed = c.feed-fed.ensures.fed in
     let why = c.in_err-fed.field-0.0 in (
-      fed.made,
+      fed.did,
       fed.works,
       attends_passed _ _ _ _ _ _ _ _ _
           (Ended why) c.from_residual-in_err-fed.ensures.0 c.from_residual-in_err-fed.ensures.1
@@ -32,7 +32,7 @@ returns-in_err-fed-clause-attends g c =
 pub returns-clause-attends : goal.returns-clause-attends
 returns-clause-attends g c =
     let fed = c.feed-fed.ensures.fed in (
-      fed.made,
+      fed.did,
       fed.works,
       attends_piece _ _ _ _ _ _ _ _ _ _ fed.fed _ _
           (Ok tt) _ _ _ _ c.requires.piece.0 c.requires.piece.1 fed.known c.clear.ensures.items

@@ -20,7 +20,7 @@ loop-preserved g c =
     record {
       attends = (
         before.0 ++ next.0,
-        works_more _ _ _ _ _ _ before.1 next.1.turns below.1 next.1.holds,
+        works_more _ _ _ _ _ _ before.1 next.1.turns next.1.shown below.1 next.1.holds,
         attends_more _ _ _ _ _ _ _ _ _ _ _ _ before.2 _ _ _ _ _ Read c.in_ok-count.ensures.read.0
             (λ now is. subst (λ (s : Stamp). g.S.Surroundings.tells c.args.surroundings.now s)
             (sym is) c.now-now.ensures)
@@ -35,7 +35,7 @@ returns-in_err-answer_piece-clause-attends g c =
     let next = c.in_err-answer_piece.ensures.attends in
     let below = keeps_behind _ _ _ _ next.1.same in
     let works : Works g.O.Office c.args.office.now c.answer_piece.new.office.office.now (before.0 ++ next.0) =
-    works_more _ _ _ _ _ _ before.1 next.1.turns below.1 next.1.holds in (
+    works_more _ _ _ _ _ _ before.1 next.1.turns next.1.shown below.1 next.1.holds in (
       before.0 ++ next.0,
       first_of (search (rules, works), search rules),
       attends_passed _ _ _ _ _ _ _ _ _ c.in_err-answer_piece.field-0.0

@@ -1,6 +1,6 @@
 use Rattle.std.proofs.Common.{◌≡◌, Err, List}
 use Rattle.hd_connection.specs.Streams.{streams}
-use Rattle.hd_rules.specs.Journal.{Turn}
+use Rattle.hd_exchange.specs.Deeds.{Deed}
 use Rattle.hd_exchange.specs.Works.{Works}
 use Rattle.hd_attend.specs.Attending.{Attends}
 use Rattle.hd_attend.specs.declared.fault.AttendFault.TheVariants.{Read}
@@ -10,11 +10,11 @@ use Rattle.hd_attend.proofs.attending.attend.Given as goal
 -- now
 abbrev pub invariant-loop : goal.invariant-loop
 invariant-loop g l = record {
-  attends : (made : List Turn) × Works g.O.Office l.fn.office l.announced.office.now made
+  attends : (did : List Deed) × Works g.O.Office l.fn.office l.announced.office.now did
       × Attends (g.O.Office.keeps l.fn.office).contents (g.O.Office.keeps l.fn.office).seat g.O.Office.faults
       (g.S.Surroundings.tells l.surroundings)
       (streams (g.I.Read.remaining l.fn.from) (g.I.Read.remaining l.from) (g.W.Write.contents l.fn.to)
       (g.W.Write.contents l.to))
-      made l.fn.state l.state (Err Read);
+      did l.fn.state l.state (Err Read);
   same_reference : l.announced.office.ghost_name ≡ l.initial.announced.office.ghost_name;
 }

@@ -1,6 +1,6 @@
 use Rattle.std.proofs.Common.{◌∙◌, List, [], refl, sym, subst, true≢false}
 use Rattle.hd_rules.specs.Journal.{Turn}
-use Rattle.hd_journal_file.specs.Rows.{AreTurnRows}
+use Rattle.hd_turn_row.specs.Rows.{AreTurnRows}
 use Rattle.hd_journal_file.proofs.opening.open_over.Goals as goal
 
 pub durable-requires-clause-held : goal.durable-requires-clause-held
@@ -10,7 +10,7 @@ durable-requires-clause-held g c reliable =
       head = begun.0;
       rows = [];
       holds = begun.1;
-      are = subst (λ (turns : List Turn). AreTurnRows c.args.journal.contents turns [])
+      are = subst (λ (turns : List Turn). AreTurnRows c.args.journal.contents begun.0.format turns [])
           (sym c.requires.empty) tt;
     }
 

@@ -14,9 +14,9 @@ invariant-loop-piece g l =
     let now = state g.S.Store l.conn in
     record {
       clean : HasCleanDisk now → HasCleanDisk old;
-      took : (rows : List KeptTurn) × TakesRows l.initial.journal l.journal rows;
+      took : (rows : List KeptTurn) × TakesRows l.format l.initial.journal l.journal rows;
       rows : HasCleanDisk now → (head : Head) (rows : List KeptTurn) → Holds old head rows
-          → Holds now head rows × TakesRows l.initial.journal l.journal (take l.at rows)
+          → Holds now head rows × TakesRows l.format l.initial.journal l.journal (take l.at rows)
           × (length (take l.at rows) ≡ l.at);
       crash : HasCleanDisk now → (head : Head) (rows : List KeptTurn) → Holds old head rows
           → (db : Trees) → now.may_leave db → old.may_leave db;

@@ -39,4 +39,6 @@ returns-clause-lines g c =
     let none : length c.loop-rest.rest.now ≡ 0 = grind (arith, common_steps) in
     let whole : lines c.loop-rest.rest.now ≡ [] = ap lines (nil_from_length c.loop-rest.rest.now none) in
     let read = subst (λ (ls : List (List _)). HasRead k digest all c.in-Ok.last c.loop-rest.number c.loop-rest.rows.items ls) whole c.loop-rest.invariant.so_far in
-    counted k digest all (told_by c.loop-rest.rows.items c.in-Ok.last) (done k digest all c.in-Ok.last c.loop-rest.number c.loop-rest.rows.items read)
+    let kept : c.shrink_to_fit.new.self.items ≡ c.loop-rest.rows.items = c.shrink_to_fit.ensures.items in
+    subst (λ (rows : List OpeningRow). length all ≡ length rows + 1) (sym {b = c.loop-rest.rows.items} kept)
+    (counted k digest all (told_by c.loop-rest.rows.items c.in-Ok.last) (done k digest all c.in-Ok.last c.loop-rest.number c.loop-rest.rows.items read))

@@ -1,4 +1,5 @@
 use Rattle.std.proofs.Common.{◌≡◌, inl, inr}
+use Rattle.hd_exchange.specs.Extensions.{extensions_lent}
 use Rattle.hd_replay.specs.Replays.{before_any_line}
 use Rattle.std.proofs.KnownBytes.{Keeps-refl}
 use Rattle.hd_replay.proofs.Ended.{for_memory}
@@ -9,7 +10,7 @@ returns-in_err-sessions-clause-replay g c = inl ((Keeps-refl _, Keeps-refl _), f
 
 pub returns-clause-replay : goal.returns-clause-replay
 returns-clause-replay g c =
-    let first : c.in_ok-sessions.sessions ≡ before_any_line c.args.journal.contents c.args.now = c.in_ok-sessions.ensures.new in
+    let first : c.in_ok-sessions.sessions ≡ before_any_line c.args.journal.contents (extensions_lent c.args.extensions) c.args.now = c.in_ok-sessions.ensures.new in
     inr (record {
       after = c.answer_input.new.sessions;
       reads = rw first at c.answer_input.ensures.reads;

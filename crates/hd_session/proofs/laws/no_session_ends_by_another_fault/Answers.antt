@@ -4,7 +4,7 @@ use Rattle.hd_session.proofs.laws.no_session_ends_by_another_fault.Goals as goal
 
 pub returns-clause-fed : goal.returns-clause-fed
 returns-clause-fed g c =
-    λ k seat now room piece made h h' text f other never. fed_other k seat g.O.Office.faults f other never now room piece made h h' text
+    λ k seat now room piece did h h' text f other never. fed_other k seat g.O.Office.faults f other never now room piece did h h' text
 
 pub returns-clause-script : goal.returns-clause-script
 returns-clause-script g c =

@@ -1,8 +1,13 @@
-use Rattle.hd_turn_row.specs.Replies.{command_pieces, done_pieces}
-use Rattle.hd_turn_row.proofs.PieceLemmas.{joined_both}
+use Rattle.std.proofs.Common.{◌≡◌, ◌∷◌, [], rules}
+use Rattle.hd_turn_row.specs.Replies.{hold_numbers}
+use Rattle.hd_turn_row.proofs.ReplyLemmas.{written_both}
 use Rattle.hd_turn_row.proofs.reply.append_done.Goals as goal
 
-pub returns : goal.returns
-returns g c =
-    joined_both (done_pieces c.args.reply.now) (command_pieces c.args.number) c.args.out.now.items
-    c.append_reply.new.out.items c.append.new.out.items c.in_ok-append_reply.ensures c.in_ok-append.ensures
+pub returns-in_ok-append_hold-in-Held : goal.returns-in_ok-append_hold-in-Held
+returns-in_ok-append_hold-in-Held g c =
+    let held = c.in-Held in
+    let title : c.from-title.result ≡ held.title = search rules in
+    rw (c.in-Held.is, ← c.truth_number-available.ensures, ← title)
+    (written_both (3 ∷ c.args.number ∷ c.from-title.result ∷ c.truth_number-available.result ∷ held.position ∷ [])
+    (hold_numbers held.hold) c.args.out.now.items c.append-in-Held.new.out.items c.append_hold.new.out.items
+    c.in_ok-append-in-Held.ensures c.in_ok-append_hold-in-Held.ensures)

@@ -3,7 +3,7 @@ use Rattle.std.proofs.Math.Logic.{∥∥₁_map}
 use Rattle.sqlite_trees.specs.Tree.{Trees}
 use Rattle.sqlite.specs.Files.{file_state, HoldsDatabase}
 use Rattle.hd_turn_store.specs.Tables.{Stores}
-use Rattle.hd_turn_store.proofs.Adds.{lasting}
+use Rattle.hd_turn_store.proofs.Commits.{lasting}
 use Rattle.hd_turn_store.proofs.file.end.Goals as goal
 
 pub returns-in-Ok-clause-copied : goal.returns-in-Ok-clause-copied

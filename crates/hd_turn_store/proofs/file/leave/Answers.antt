@@ -4,7 +4,7 @@ use Rattle.sqlite.specs.Files.{file_state, HoldsDatabase}
 use Rattle.sqlite_store.specs.Laws.{settled_at}
 use Rattle.sqlite.proofs.Theorems.{opens_again}
 use Rattle.hd_turn_store.specs.Tables.{Stores}
-use Rattle.hd_turn_store.proofs.Adds.{lasting}
+use Rattle.hd_turn_store.proofs.Commits.{lasting}
 use Rattle.hd_turn_store.proofs.file.leave.Goals as goal
 
 pub returns : goal.returns

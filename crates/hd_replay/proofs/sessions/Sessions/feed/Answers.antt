@@ -70,7 +70,7 @@ returns-clause-replayed g c text is =
     c.print_answer-printed.new.out.items) c.self.view_is
     (line_put c.args.number text c.args.piece.now prints.1 prints.0 before after (map (λ out. out.items) c.self.inside.outs.items)
     (map (λ out. out.items) c.play.new.outs.items) one few is c.self.invariant.2 sessions played.events played.fed
-    played.works.turns played.outs_are (subst (λ (t : List ℕ). AreLines 13 t prints.0 prints.1) said prints.2) c.print_answer-printed.result c.args.out.now.items
+    played.works.turns played.works.shown played.outs_are (subst (λ (t : List ℕ). AreLines 13 t prints.0 prints.1) said prints.2) c.print_answer-printed.result c.args.out.now.items
     c.print_answer-printed.new.out.items (ap (λ (keeps : Keeps). keeps.contents) played.works.same, refl) refl
     (c.play.ensures.office (c.args.number - 1)) c.print_answer-printed.ensures.memory (rw end at c.print_answer-printed.ensures.well)
     (rw end at prints.3))

@@ -6,7 +6,7 @@ use Rattle.hd_session.proofs.state.SessionState.hear.Goals as goal
 pub returns-in-Wrong-clause-heard : goal.returns-in-Wrong-clause-heard
 returns-in-Wrong-clause-heard g c =
     answers_read _ _ _ _ _ _ c.args.line.now _ _ [] _ (send_again true) c.requires.some c.in-Wrong.ensures.computed (refl, refl, refl)
-    (record { turns = sym (append-nil _); same = refl; holds = λ held. held }) c.put_send_again.ensures.text (omega arith) (λ known. known)
+    (record { turns = sym (append-nil _); shown = tt; same = refl; holds = λ held. held }) c.put_send_again.ensures.text (omega arith) (λ known. known)
 
 pub returns-in_ok-answer-in-Plain-clause-heard : goal.returns-in_ok-answer-in-Plain-clause-heard
 returns-in_ok-answer-in-Plain-clause-heard g c =

@@ -1,0 +1,52 @@
+//! Asking a server.
+
+use crate::answer::{Answer, read_answer};
+use crate::fault::AskFault;
+use crate::request::{Question, request_of};
+use std::alloc::Global;
+use std::io::{self, ErrorKind, Write};
+use std::net::Net;
+use std::os::unix::net::UnixStream;
+use std::time::Duration;
+
+/// For how many seconds a server may give nothing that was asked for what it has.
+const PATIENCE: u64 = 60;
+
+/// Asks the server at a door. Where it is asked to end, the answer is there when it has ended.
+///
+/// # Errors
+/// `NoServer` where nobody listens at the path, `Forbidden` where the door is another user's, `Refused` where who
+/// listens can't be asked, `Unreadable` where what comes isn't one whole answer, and `Memory`.
+pub fn ask<R: Net>(
+    rt: &R,
+    alloc: Global,
+    door: &str,
+    question: &Question<'_>,
+) -> Result<Answer, AskFault> {
+    let request = request_of(alloc, question)?;
+    let server = match UnixStream::connect(rt, door) {
+        Ok(server) => server,
+        Err(error) => return Err(fault_of(&error)),
+    };
+    if say(&server, question, request.as_slice()).is_err() {
+        return Err(AskFault::Unreadable);
+    }
+    read_answer(alloc, &server)
+}
+
+/// Why a server can't be asked, where connecting failed so.
+fn fault_of(error: &io::Error) -> AskFault {
+    match error.kind() {
+        ErrorKind::NotFound | ErrorKind::ConnectionRefused => AskFault::NoServer,
+        ErrorKind::PermissionDenied => AskFault::Forbidden,
+        _ => AskFault::Refused,
+    }
+}
+
+/// Says a request. The server may let us wait so long, or, where it is to end, as long as that takes.
+fn say(mut server: &UnixStream, question: &Question<'_>, request: &[u8]) -> io::Result<()> {
+    if *question != Question::Stop {
+        server.set_read_timeout(Some(Duration::from_secs(PATIENCE)))?;
+    }
+    server.write_all(request)
+}

@@ -1,0 +1,154 @@
+//! The options of `import`.
+
+use crate::options::PLAIN;
+use crate::words::{Choice, Need, Number, OptionWords, Value};
+
+/// A file of the spreadsheet, of which those below name and say which it is.
+const SHEET: OptionWords = OptionWords {
+    value: Value::Text("FILE"),
+    need: Need::Always,
+    ..PLAIN
+};
+
+/// The sheet of branches.
+pub(crate) const SHEET_OF_BRANCHES: OptionWords = OptionWords {
+    name: "branches",
+    help: "The CSV file of the branches",
+    ..SHEET
+};
+
+/// The sheet of terminals.
+pub(crate) const SHEET_OF_TERMINALS: OptionWords = OptionWords {
+    name: "terminals",
+    help: "The CSV file of the terminals, with the branch that each stands at",
+    ..SHEET
+};
+
+/// The sheet of patrons.
+pub(crate) const SHEET_OF_PATRONS: OptionWords = OptionWords {
+    name: "patrons",
+    help: "The CSV file of the patrons",
+    ..SHEET
+};
+
+/// The sheet of titles.
+pub(crate) const SHEET_OF_TITLES: OptionWords = OptionWords {
+    name: "titles",
+    help: "The CSV file of the titles",
+    ..SHEET
+};
+
+/// The sheet of copies.
+pub(crate) const SHEET_OF_COPIES: OptionWords = OptionWords {
+    name: "copies",
+    help: "The CSV file of the copies, with the title and the home branch of each",
+    ..SHEET
+};
+
+/// The catalogue file that is to be.
+pub(crate) const INTO_CATALOGUE: OptionWords = OptionWords {
+    name: "into",
+    value: Value::Text("FILE"),
+    help: "The catalogue file to write; one that is there is replaced",
+    need: Need::Always,
+    ..PLAIN
+};
+
+/// The institution.
+pub(crate) const INSTITUTION: OptionWords = OptionWords {
+    name: "institution",
+    value: Value::Text("NAME"),
+    help: "The institution that replies carry in AO",
+    need: Need::Always,
+    ..PLAIN
+};
+
+/// The offset of local time.
+pub(crate) const OFFSET: OptionWords = OptionWords {
+    name: "offset",
+    value: Value::Number(Number {
+        name: "MINUTES",
+        least: -1439,
+        most: 1439,
+        default: None,
+    }),
+    help: "How many minutes local time is later than universal time, -1439 to 1439",
+    need: Need::Always,
+    ..PLAIN
+};
+
+/// The limit of commands.
+pub(crate) const COMMANDS_LIMIT: OptionWords = OptionWords {
+    name: "commands",
+    value: Value::Number(Number {
+        name: "N",
+        least: 1,
+        most: 1_000_000,
+        default: Some("1000000"),
+    }),
+    help: "How many commands the desk may take in all, 1 to 1000000",
+    ..PLAIN
+};
+
+/// The loan limit of the others.
+pub(crate) const LOAN_LIMIT: OptionWords = OptionWords {
+    name: "loan-limit",
+    value: Value::Number(Number {
+        name: "N",
+        least: 0,
+        most: 999,
+        default: None,
+    }),
+    help: "The loan limit of a patron whose row has none, 0 to 999",
+    ..PLAIN
+};
+
+/// The days of a loan of the others.
+pub(crate) const LOAN_DAYS: OptionWords = OptionWords {
+    name: "loan-days",
+    value: Value::Number(Number {
+        name: "N",
+        least: 0,
+        most: 3650,
+        default: None,
+    }),
+    help: "The days of a loan of a title whose row has none, 0 to 3650",
+    ..PLAIN
+};
+
+/// How often a loan of the others may be renewed.
+pub(crate) const RENEWALS: OptionWords = OptionWords {
+    name: "renewals",
+    value: Value::Number(Number {
+        name: "N",
+        least: 0,
+        most: 99,
+        default: None,
+    }),
+    help: "How often a loan of a title may be renewed whose row has no number, 0 to 99",
+    ..PLAIN
+};
+
+/// The encoding of the sheets.
+pub(crate) const FROM: OptionWords = OptionWords {
+    name: "from",
+    value: Value::Choice(Choice {
+        name: "ENCODING",
+        words: &["utf8", "latin1"],
+        default: "utf8",
+    }),
+    help: "The encoding of the CSV files; the catalogue is UTF-8",
+    ..PLAIN
+};
+
+/// The separator of the sheets.
+pub(crate) const SEPARATOR: OptionWords = OptionWords {
+    name: "separator",
+    value: Value::Choice(Choice {
+        name: "SEPARATOR",
+        words: &["found", "comma", "semicolon", "tab"],
+        default: "found",
+    }),
+    help: "What stands between two values; found: what the first line shows",
+    ..PLAIN
+};

@@ -1,0 +1,4 @@
+pub mod NameLemmas
+pub mod LineLemmas
+pub mod PrintableLemmas
+pub mod FaultLemmas

@@ -1,0 +1,61 @@
+//! Bytes of a file as one line of printable characters.
+ghost use Rattle.std.specs.Prelude.{◌≡◌, ◌++◌, ◌<◌, IfOk, OnOk, string_bytes, true};
+ghost use Rattle.std.specs.List.{flat_map};
+ghost use Rattle.hd_diagnosis.specs.Printable.{hex_digit, is_line, is_printable, shown};
+
+use std::alloc::{AllocError, Global};
+
+/// Most bytes of a value that are shown.
+const MOST_SHOWN: usize = 60;
+
+/// These bytes as one line of printable characters: each but 0x20 to 0x7E is written as `\xNN`.
+pub(crate) fn printable(alloc: Global, bytes: &[u8]) -> Result<String, AllocError>
+    ensures text { IfOk result (λ text. string_bytes text ≡ flat_map shown bytes.now) }
+    ensures line { IfOk result (λ text. is_line (string_bytes text) ≡ true) }
+{
+    let mut text = String::new(alloc);
+    for byte in bytes {
+        put_byte(&mut text, *byte)?;
+    }
+    Ok(text)
+}
+
+/// A value in quotes, as far as it is shown.
+pub(crate) fn quoted(alloc: Global, value: &[u8]) -> Result<String, AllocError> {
+    if value.len() > MOST_SHOWN {
+        let text = printable(alloc, value.split_at(MOST_SHOWN).0)?;
+        format!(in alloc; "'{text}..'")
+    } else {
+        let text = printable(alloc, value)?;
+        format!(in alloc; "'{text}'")
+    }
+}
+
+/// Appends a byte.
+fn put_byte(text: &mut String, byte: u8) -> Result<(), AllocError>
+    ensures text { OnOk result (string_bytes text.new ≡ string_bytes text.old ++ shown byte) }
+    ensures line { OnOk result
+        (is_line (string_bytes text.old) ≡ true → is_line (string_bytes text.new) ≡ true) }
+{
+    if (0x20..=0x7E).contains(&byte) {
+        text.push(char::from(byte))
+    } else {
+        text.push_str("\\x")?;
+        text.push(hex_digit(byte / 16))?;
+        text.push(hex_digit(byte % 16))
+    }
+}
+
+/// The digit of a number below 16.
+fn hex_digit(number: u8) -> char
+    requires { number < 16 }
+    ensures digit { result ≡ hex_digit number }
+    ensures printable { is_printable result ≡ true }
+    ensures ascii { result < 128 }
+{
+    if number < 10 {
+        char::from(b'0' + number)
+    } else {
+        char::from(b'A' - 10 + number)
+    }
+}

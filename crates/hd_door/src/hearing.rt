@@ -1,0 +1,65 @@
+//! Hearing a request's head.
+ghost use Rattle.std.specs.Prelude.{◌<◌, IfSome, IsFalse, IsTrue, length};
+ghost use Rattle.httparse.specs.Grammar.{HasNoRequest};
+ghost use Rattle.hd_door.specs.Hearing.{IsHeard, IsSettled, Comes};
+
+use hd_connection::Input;
+use hd_page::FIELDS;
+use httparse::Status;
+use httparse::spans::{EMPTY_HEADER_SPAN, parse_request};
+use std::alloc::Global;
+
+/// The most bytes that are taken of a request.
+pub const MOST: usize = 8_192;
+
+/// The most bytes of a read.
+const PIECE: usize = 1_024;
+
+/// What was heard of a request.
+#[derive(Drop)]
+pub enum Heard {
+    /// Its whole head and what came with it, or bytes that no more can make a head.
+    Whole(Vec<u8>),
+    /// As many bytes as are taken, and no head.
+    TooLong,
+}
+
+/// Hears a request's head, and takes no more than `MOST` bytes of it; or `None`, where it doesn't come: the
+/// connection ends or fails before, or memory runs out.
+pub fn hear<I: Input>(alloc: Global, from: &mut I) -> Option<Heard>
+    ensures { IfSome result (IsHeard (I.remaining from.old) (I.remaining from.new)) }
+{
+    let mut request = Vec::new(alloc);
+    while request.len() < MOST {
+        hear_more(from, &mut request)?;
+        if !wants_more(request.as_slice()) {
+            return Some(Heard::Whole(request));
+        }
+    }
+    Some(Heard::TooLong)
+}
+
+/// Reads once, behind what was read of a request; or `None`, where nothing comes.
+fn hear_more<I: Input>(from: &mut I, request: &mut Vec<u8>) -> Option<()>
+    requires { length request.old.items < 8192 }
+    ensures { IfSome result (λ _. Comes (I.remaining from.old) (I.remaining from.new)
+        request.old.items request.new.items) }
+{
+    let mut piece = [0u8; PIECE];
+    let room = PIECE.min(MOST - request.len());
+    let count = from.read_some(&mut piece[..room]).ok()?;
+    if count == 0 {
+        return None;
+    }
+    request.extend_from_slice(&piece[..count]).ok()?;
+    Some(())
+}
+
+/// Whether these bytes are no request's head, and more can make one of them.
+fn wants_more(request: &[u8]) -> bool
+    ensures no { IsFalse result → IsSettled request.now }
+    ensures yes { IsTrue result → HasNoRequest request.now }
+{
+    let mut fields = [EMPTY_HEADER_SPAN; FIELDS];
+    matches!(parse_request(request, &mut fields), Ok(Status::Partial))
+}

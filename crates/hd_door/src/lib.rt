@@ -1,0 +1,21 @@
+//! Requests that come in at a Unix socket, each answered and its connection closed.
+#![tactic(auto)]
+
+mod connection;
+mod deadline;
+mod door;
+mod fault;
+mod hearing;
+mod lingering;
+mod responding;
+mod serving;
+mod socket_file;
+mod stopping;
+mod timely;
+
+pub use crate::door::Door;
+pub use crate::fault::DoorFault;
+pub use crate::hearing::{Heard, MOST, hear};
+pub use crate::responding::{Response, respond};
+pub use crate::serving::{Service, serve};
+pub use crate::stopping::OnStop;

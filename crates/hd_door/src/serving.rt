@@ -1,0 +1,155 @@
+//! Answering requests.
+ghost use Rattle.std.specs.Prelude.{◌≡◌, ◌≢◌, ℕ, Some, take, true};
+ghost use Rattle.std.specs.Io.KnownBytes.{Appends};
+ghost use Rattle.hd_page.specs.declared.answering.Sequel.TheVariants.{Stop};
+
+use crate::connection::Connection;
+use crate::deadline::Deadline;
+use crate::door::Door;
+use crate::hearing::hear;
+use crate::lingering::linger;
+use crate::responding::{Response, respond};
+use crate::stopping::OnStop;
+use crate::timely::Timely;
+use hd_connection::{Output, write_all};
+use hd_page::{Page, Sequel, View};
+use std::alloc::Global;
+use std::os::unix::net::UnixStream;
+use std::sync::Wait;
+use std::thread::{self, Threads};
+use std::time::{Clock, Duration};
+
+/// How many connections are attended to at once.
+const WORKERS: usize = 4;
+
+/// For how many seconds a request's head may come.
+const HEAD_SECONDS: u64 = 5;
+
+/// For how many seconds an answer may be taken.
+const ANSWER_SECONDS: u64 = 5;
+
+/// For how many seconds a client may go on sending that has its answer.
+const LINGER_SECONDS: u64 = 1;
+
+/// How many milliseconds are waited where a connection can't be accepted.
+const PAUSE_MILLISECONDS: u64 = 100;
+
+/// What is served at a door.
+#[derive(Drop)]
+pub struct Service<'a, V, S> {
+    pub alloc: Global,
+    /// What is answered at `/`.
+    pub page: Page<'a>,
+    /// What all else is answered of.
+    pub view: &'a V,
+    /// What `POST /stop` calls.
+    pub on_stop: S,
+}
+
+/// Answers the requests that come in at a door, until it is closed: one of each connection, four connections at
+/// a time. Where not all threads can be had, those that can and this one do the work.
+///
+/// A request's head has 5 seconds and 8,192 bytes, and an answer 5 seconds. `POST /stop` is answered, and then
+/// calls what the service has for it; its connection stays open until the door is taken away.
+pub fn serve<R: Threads + Wait + Clock + Sync, V: View + Sync, S: OnStop + Copy + Sync>(
+    rt: &R,
+    door: &Door,
+    service: &Service<'_, V, S>,
+) {
+    thread::scope(thread::scope_env(), rt, |scope| {
+        for _ in 1..WORKERS {
+            if scope.spawn(|| work(rt, door, service)).is_err() {
+                break;
+            }
+        }
+        work(rt, door, service);
+    })
+}
+
+/// Attends to one connection after another, until the door is closed.
+fn work<R: Wait + Clock, V: View, S: OnStop + Copy>(
+    rt: &R,
+    door: &Door,
+    service: &Service<'_, V, S>,
+) {
+    for came in door.listener.incoming() {
+        if door.is_closed() {
+            return;
+        }
+        match came {
+            Ok(connection) => welcome(rt, door, service, connection),
+            Err(_) => {
+                let _ = thread::sleep(rt, Duration::from_millis(PAUSE_MILLISECONDS));
+            }
+        }
+    }
+}
+
+/// Attends to a connection. It is closed then, but for one by which a stop was asked.
+fn welcome<R: Wait + Clock, V: View, S: OnStop + Copy>(
+    rt: &R,
+    door: &Door,
+    service: &Service<'_, V, S>,
+    connection: UnixStream,
+) {
+    let mut on_stop = service.on_stop;
+    match attend(rt, service, &connection, &mut on_stop) {
+        Some(Sequel::Stop) => door.hold(rt, connection),
+        Some(Sequel::GoOn) => take_leave(rt, &connection),
+        None => {}
+    }
+}
+
+/// Answers the request that comes by a connection: what the answer was followed by; or `None`, where no request
+/// comes, or memory runs out.
+fn attend<R: Clock, V: View, S: OnStop>(
+    rt: &R,
+    service: &Service<'_, V, S>,
+    connection: &UnixStream,
+    on_stop: &mut S,
+) -> Option<Sequel>
+    ensures stop { result ≡ Some Stop → S.is_called on_stop.new ≡ true }
+    ensures goes_on { result ≢ Some Stop → on_stop.new ≡ on_stop.old }
+{
+    let mut from = within(rt, connection, HEAD_SECONDS)?;
+    let heard = hear(service.alloc, &mut from)?;
+    let response = respond(service.alloc, &heard, &service.page, service.view).ok()?;
+    let mut to = within(rt, connection, ANSWER_SECONDS)?;
+    give(&response, &mut to, on_stop);
+    Some(response.sequel)
+}
+
+/// Gives an answer, or as much of it as is taken, and has the server end where that is asked.
+fn give<O: Output, S: OnStop>(response: &Response, to: &mut O, on_stop: &mut S)
+    ensures sent { (n : ℕ) × Appends (O.contents to.old) (O.contents to.new) (take n response.now.text.items) }
+    ensures stop { response.now.sequel ≡ Stop → S.is_called on_stop.new ≡ true }
+    ensures goes_on { response.now.sequel ≢ Stop → on_stop.new ≡ on_stop.old }
+{
+    let _ = write_all(to, response.text.as_slice());
+    match response.sequel {
+        Sequel::Stop => on_stop.call(),
+        Sequel::GoOn => {}
+    }
+}
+
+/// Says that no more is written, and reads a little of what still comes.
+fn take_leave<R: Clock>(rt: &R, connection: &UnixStream) {
+    connection.finish();
+    if let Some(mut from) = within(rt, connection, LINGER_SECONDS) {
+        linger(&mut from);
+    }
+}
+
+/// A connection on which nothing waits longer than so many seconds from now in all, if the clock can be read.
+fn within<'a, R: Clock>(
+    rt: &'a R,
+    connection: &'a UnixStream,
+    seconds: u64,
+) -> Option<Timely<'a, R, &'a UnixStream>> {
+    let deadline = Deadline::after(rt, Duration::from_secs(seconds)).ok()?;
+    Some(Timely {
+        rt,
+        deadline,
+        connection,
+    })
+}

@@ -1,0 +1,125 @@
+-- Why sheets make no catalogue file.
+use Rattle.std.specs.Prelude.{◌≡◌, ℕ, ◌+◌, ◌<◌, true, false, List, [], ◌∷◌, ◌++◌, Contains, IsUtf8, None}
+use Rattle.std.specs.Prelude.{◌⊎◌, length, slice_index_or, string_bytes, sum, take}
+use Rattle.std.specs.List.{HoldsAt}
+use Rattle.hd_catalogue.specs.Files.{IsFirstBad, lines_of}
+use Rattle.hd_catalogue.specs.Text.{is_name}
+use Rattle.hd_catalogue.specs.declared.cause.CatFault.{CatFault}
+use Rattle.hd_catalogue.specs.declared.cause.Cause.{Cause}
+use Rattle.hd_catalogue.specs.declared.cause.Cause.TheVariants as cause
+use Rattle.hd_import.specs.Columns.{all_sheets, columns_of, is_fit}
+use Rattle.hd_import.specs.Rows.{AreRowsOfFile, Row}
+use Rattle.hd_import.specs.Texts.{IsTextOf, Table, counts_of, file_of}
+use Rattle.hd_import.specs.Values.{given, otherwise, place_of, value_of}
+use Rattle.hd_import.specs.declared.column.Column.{Column}
+use Rattle.hd_import.specs.declared.column.Sheet.{Sheet}
+use Rattle.hd_import.specs.declared.fault.Fault.{Fault}
+use Rattle.hd_import.specs.declared.fault.Fault.TheVariants as fault
+use Rattle.hd_import.specs.declared.fault.Place.{Place}
+use Rattle.hd_import.specs.declared.format.Encoding.TheVariants as encoding
+use Rattle.hd_import.specs.declared.format.Format.{Format}
+use Rattle.hd_import.specs.declared.rows.RowsFault.{RowsFault}
+use Rattle.hd_import.specs.declared.rows.RowsFault.TheVariants as rows_fault
+use Rattle.hd_import.specs.declared.settings.Settings.{Settings}
+use Rattle.hd_import.specs.declared.sources.Source.{Source}
+use Rattle.hd_import.specs.declared.sources.Sources.{Sources}
+use Rattle.hd_import.specs.declared.writing.LineFault.{LineFault}
+use Rattle.hd_import.specs.declared.writing.RowFault.{RowFault}
+use Rattle.hd_import.specs.declared.writing.RowFault.TheVariants as row_fault
+
+-- the file isn't UTF-8, which is its encoding; or it is out of memory
+abbrev pub IsRowsFault : Format → List ℕ → RowsFault → Type 0
+IsRowsFault format bytes (rows_fault.NotUtf8 valid) =
+    (format.encoding ≡ encoding.Utf8) × ¬ (IsUtf8 bytes)
+IsRowsFault format bytes rows_fault.Memory = Unit {0}
+
+-- the catalogue doesn't take what the row says in this column, one of the sheet's
+abbrev pub IsUnfit : Settings → Sheet → Row → Row → Column → Type 0
+IsUnfit settings sheet headings row column =
+    Contains (columns_of sheet) column × (is_fit column (value_of settings headings row column) ≡ false)
+
+abbrev pub IsValueFault : Settings → Row → Row → Column → RowFault → Type 0
+IsValueFault settings headings row column (row_fault.Value named) =
+    (named ≡ column) × (is_fit column (value_of settings headings row column) ≡ false)
+IsValueFault settings headings row column row_fault.Memory = Unit {0}
+
+abbrev pub IsRowFault : Settings → Sheet → Row → Row → RowFault → Type 0
+IsRowFault settings sheet headings row (row_fault.Value column) = IsUnfit settings sheet headings row column
+IsRowFault settings sheet headings row row_fault.Memory = Unit {0}
+
+-- the fault is of the row with this number, from 0
+abbrev pub IsLineFault : Settings → Sheet → Row → List Row → LineFault → Type 0
+IsLineFault settings sheet headings rows fault =
+    (fault.row < length rows)
+    × IsRowFault settings sheet headings (slice_index_or rows fault.row []) fault.fault
+
+-- no heading is that of this column, one of the sheet's, and nothing stands for its values
+abbrev pub IsMissing : Settings → Sheet → Row → Column → Type 0
+IsMissing settings sheet headings column =
+    Contains (columns_of sheet) column × (place_of headings column ≡ None) × (otherwise settings column ≡ [])
+
+-- the headings of a sheet with these rows
+abbrev pub headings_of : List Row → Row
+headings_of [] = []
+headings_of (headings ∷ rows) = headings
+
+-- a row of the file has this value in the column, and the catalogue takes none such
+abbrev pub IsUnfitAt : Settings → Format → Sheet → Source → ℕ → Column → List ℕ → Type 0
+IsUnfitAt settings format sheet file row column value =
+    (headings : Row) × (rows : List Row) × AreRowsOfFile format file.bytes.now (headings ∷ rows)
+    × (row < length rows) × IsUnfit settings sheet headings (slice_index_or rows row []) column
+    × (value ≡ given headings (slice_index_or rows row []) column)
+
+-- the fault is of this file of a sheet
+abbrev pub IsSheetFault : Settings → Format → Sheet → Source → Fault → Type 0
+IsSheetFault settings format sheet file (fault.NotUtf8 path line) =
+    (path.now ≡ file.path.now) × (format.encoding ≡ encoding.Utf8) × ¬ (IsUtf8 file.bytes.now)
+IsSheetFault settings format sheet file (fault.NoColumn path column) =
+    (path.now ≡ file.path.now)
+    × (rows : List Row) × AreRowsOfFile format file.bytes.now rows
+    × IsMissing settings sheet (headings_of rows) column
+IsSheetFault settings format sheet file (fault.Value place column value) =
+    (place.sheet ≡ sheet) × (place.path.now ≡ file.path.now)
+    × IsUnfitAt settings format sheet file place.row column (string_bytes value)
+IsSheetFault settings format sheet file fault.Memory = Unit {0}
+IsSheetFault settings format sheet file fault.Institution = ⊥
+IsSheetFault settings format sheet file (fault.Double place column value) = ⊥
+IsSheetFault settings format sheet file (fault.Unknown place column value other) = ⊥
+IsSheetFault settings format sheet file (fault.TooMany place) = ⊥
+IsSheetFault settings format sheet file (fault.Refused refused) = ⊥
+
+-- The line is that of a row of a sheet, where the sheets have so many rows each: behind the first line and
+-- the rows of the sheets before it.
+abbrev pub IsLineOfRow : List ℕ → Sheet → ℕ → ℕ → Type 0
+IsLineOfRow counts sheet row line =
+    (index : ℕ) × (index < length counts) × HoldsAt (λ s. s ≡ sheet) all_sheets index
+    × (row < slice_index_or counts index 0) × (line ≡ 2 + sum (take index counts) + row)
+
+-- the fault names the row whose line the catalogue refuses, and the cause
+abbrev pub IsTraced : List ℕ → CatFault → Fault → Type 0
+IsTraced counts refused (fault.Double place column value) =
+    (refused.cause ≡ cause.Double) × IsLineOfRow counts place.sheet place.row refused.line
+IsTraced counts refused (fault.Unknown place column value other) =
+    (refused.cause ≡ cause.Unknown) × IsLineOfRow counts place.sheet place.row refused.line
+IsTraced counts refused (fault.TooMany place) =
+    (refused.cause ≡ cause.Limit) × IsLineOfRow counts place.sheet place.row refused.line
+IsTraced counts refused (fault.Refused told) = told ≡ refused
+IsTraced counts refused fault.Memory = Unit {0}
+IsTraced counts refused fault.Institution = ⊥
+IsTraced counts refused (fault.NotUtf8 path line) = ⊥
+IsTraced counts refused (fault.NoColumn path column) = ⊥
+IsTraced counts refused (fault.Value place column value) = ⊥
+
+-- the sheets make a file that the catalogue refuses, and the fault says where and why
+abbrev pub IsCatalogueFault : Settings → Format → Sources → Fault → Type 0
+IsCatalogueFault settings format sources told =
+    (tables : List Table) × (text : List ℕ) × (refused : CatFault)
+    × IsTextOf settings format sources tables text × IsFirstBad (lines_of text) refused
+    × IsTraced (counts_of tables) refused told
+
+-- What a fault says is so: of the institution, of a sheet's file, or of the catalogue file.
+abbrev pub IsFault : Settings → Format → Sources → Fault → Type 0
+IsFault settings format sources told =
+    ((told ≡ fault.Institution) × (is_name settings.institution.now ≡ false))
+    ⊎ ((sheet : Sheet) × IsSheetFault settings format sheet (file_of sources sheet) told)
+    ⊎ IsCatalogueFault settings format sources told

@@ -1,0 +1,196 @@
+//! Where in the sheets a fault of the catalogue file comes from.
+ghost use Rattle.std.specs.Prelude.{ℕ, IfSome, List};
+ghost use Rattle.hd_import.specs.Faults.{IsLineOfRow, IsTraced};
+
+use crate::column::{Column, Sheet, all_sheets};
+use crate::fault::{Fault, Place};
+use crate::format::{Encoding, Format};
+use crate::rows::rows_of_file;
+use crate::sources::{Source, Sources};
+use crate::values::given;
+use csv::StringRecord;
+use hd_catalogue::{CatFault, Cause};
+use std::alloc::Global;
+
+/// The fault of the row whose line a catalogue refuses, where the sheets have so many rows each.
+pub(crate) fn trace<'a>(
+    alloc: Global,
+    format: Format,
+    sources: &Sources<'a>,
+    counts: &[usize],
+    fault: CatFault,
+) -> Fault<'a>
+    ensures { IsTraced counts.now fault result }
+{
+    if matches!(fault.cause, Cause::Memory) {
+        return Fault::Memory;
+    }
+    let Some((sheet, row)) = row_of_line(counts, fault.line) else {
+        return Fault::Refused(fault);
+    };
+    let file = sources.file_of(sheet);
+    let Ok(rows) = rows_of_file(alloc, format, file.bytes) else {
+        return Fault::Memory;
+    };
+    let Some((headings, rows)) = rows.as_slice().split_first() else {
+        return Fault::Refused(fault);
+    };
+    let Some(values) = rows.get(row) else {
+        return Fault::Refused(fault);
+    };
+    let place = Place {
+        sheet,
+        path: file.path,
+        line: line_of_row(format, file.bytes, values),
+        row,
+    };
+    fault_at(alloc, format, sources, place, headings, values, fault)
+}
+
+/// The sheet and the row, from 0, whose line this is, where the sheets have so many rows each. The first line
+/// is of none.
+fn row_of_line(counts: &[usize], line: usize) -> Option<(Sheet, usize)>
+    ensures { IfSome result (λ found. IsLineOfRow counts.now found.0 found.1 line) }
+{
+    let sheets = all_sheets();
+    let mut left = line.checked_sub(2)?;
+    for index in 0..counts.len().min(sheets.len()) {
+        if left < counts[index] {
+            return Some((sheets[index], left));
+        }
+        left -= counts[index];
+    }
+    None
+}
+
+/// The fault of a row, by the cause for which the catalogue refuses its line.
+fn fault_at<'a>(
+    alloc: Global,
+    format: Format,
+    sources: &Sources<'a>,
+    place: Place<'a>,
+    headings: &StringRecord,
+    row: &StringRecord,
+    fault: CatFault,
+) -> Fault<'a>
+    ensures { (counts : List ℕ) → IsLineOfRow counts place.entry.sheet place.entry.row fault.line
+        → IsTraced counts fault result }
+{
+    let name = place.sheet.columns()[0];
+    match fault.cause {
+        Cause::Double => match String::from_str(alloc, given(headings, row, name)) {
+            Ok(value) => Fault::Double {
+                place,
+                column: name,
+                value,
+            },
+            Err(_) => Fault::Memory,
+        },
+        Cause::Unknown => {
+            let column = column_unknown(alloc, format, sources, place.sheet, headings, row);
+            match String::from_str(alloc, given(headings, row, column)) {
+                Ok(value) => Fault::Unknown {
+                    place,
+                    column,
+                    value,
+                    of: file_with(sources, column).path,
+                },
+                Err(_) => Fault::Memory,
+            }
+        }
+        Cause::Limit => Fault::TooMany { place },
+        _ => Fault::Refused(fault),
+    }
+}
+
+/// Which column of a row names something that isn't known: of a copy's the title, if its sheet lacks it, else
+/// the branch.
+fn column_unknown(
+    alloc: Global,
+    format: Format,
+    sources: &Sources<'_>,
+    sheet: Sheet,
+    headings: &StringRecord,
+    row: &StringRecord,
+) -> Column {
+    if sheet != Sheet::Copies {
+        return Column::Branch;
+    }
+    let title = given(headings, row, Column::Title);
+    match rows_of_file(alloc, format, sources.titles.bytes) {
+        Ok(titles) if !has_title(titles.as_slice(), title) => Column::Title,
+        _ => Column::Branch,
+    }
+}
+
+/// Whether the rows of titles, the headings first, have this title.
+fn has_title(titles: &[StringRecord], title: &str) -> bool {
+    match titles.split_first() {
+        Some((headings, rows)) => {
+            for row in rows {
+                if given(headings, row, Column::Title) == title {
+                    return true;
+                }
+            }
+            false
+        }
+        None => false,
+    }
+}
+
+/// The sheet that has what a column names.
+fn file_with<'a>(sources: &Sources<'a>, column: Column) -> Source<'a> {
+    match column {
+        Column::Title => sources.titles,
+        _ => sources.branches,
+    }
+}
+
+/// The line of a file in which a row begins, from 1.
+pub(crate) fn line_of_row(format: Format, bytes: &[u8], row: &StringRecord) -> usize {
+    let start = match row.position() {
+        Some(position) => position.byte() as usize,
+        None => 0,
+    };
+    let start = match format.encoding {
+        Encoding::Utf8 => start,
+        Encoding::Latin1 => byte_of_latin1(bytes, start),
+    };
+    line_of_byte(bytes, first_byte(bytes, start))
+}
+
+/// The byte of a file in Latin-1 that stands where so many bytes of its text in UTF-8 end.
+fn byte_of_latin1(bytes: &[u8], text: usize) -> usize {
+    let mut left = text;
+    for place in 0..bytes.len() {
+        if left == 0 {
+            return place;
+        }
+        left = left.saturating_sub(if bytes[place] < 128 { 1 } else { 2 });
+    }
+    bytes.len()
+}
+
+/// The first byte from a place on that ends no line.
+fn first_byte(bytes: &[u8], start: usize) -> usize {
+    for place in start..bytes.len() {
+        if bytes[place] != b'\r' && bytes[place] != b'\n' {
+            return place;
+        }
+    }
+    start
+}
+
+/// The line of a file in which a byte stands, from 1.
+pub(crate) fn line_of_byte(bytes: &[u8], at: usize) -> usize {
+    let mut line = 1usize;
+    for place in 0..bytes.len() {
+        if place >= at {
+            return line;
+        }
+        if bytes[place] == b'\n' {
+            line = line.saturating_add(1);
+        }
+    }
+    line
+}

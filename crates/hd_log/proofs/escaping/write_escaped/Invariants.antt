@@ -1,0 +1,8 @@
+use Rattle.std.proofs.Common.{◌≡◌, ◌++◌, take}
+use Rattle.hd_log.specs.Escapes.{escaped}
+use Rattle.hd_log.proofs.escaping.write_escaped.Given as goal
+
+-- the bytes so far are written
+abbrev pub invariant-loop-byte : goal.invariant-loop-byte
+invariant-loop-byte l =
+    l.out.items ≡ (l.initial.out.items ++ escaped (take l.byte-index l.bytes))

@@ -1,0 +1,191 @@
+//! Events.
+ghost use Rattle.std.specs.Prelude.{◌≡◌};
+ghost use Rattle.hd_log.specs.Events.{end_word, event_level, refusal_word};
+
+use crate::level::Level;
+
+/// What is told of a server. Texts of which nothing is said are any bytes.
+#[derive(Clone, Copy, Debug, PartialEq, Eq)]
+pub enum Event<'a> {
+    /// It listens.
+    Listening {
+        /// Its address.
+        address: &'a [u8],
+        /// How many connections it serves at once.
+        workers: u64,
+    },
+    /// It can't listen.
+    CannotListen {
+        /// The address that it was given.
+        address: &'a [u8],
+        /// Why.
+        why: &'a [u8],
+    },
+    /// It can't accept a connection now.
+    CannotAccept {
+        /// How often in a row.
+        times: u64,
+        /// Why.
+        why: &'a [u8],
+    },
+    /// Nine tenths of the numbers for commands have been given.
+    FewNumbers {
+        /// The last that was given.
+        last: u64,
+        /// The last that there is.
+        most: u64,
+    },
+    /// Its journal can't be written.
+    Unwritten {
+        /// Why.
+        why: &'a [u8],
+    },
+    /// Something happened at a connection.
+    At {
+        /// The connection's number, from 1.
+        connection: u64,
+        /// What happened.
+        what: ConnectionEvent<'a>,
+    },
+}
+
+/// What is told of a connection.
+#[derive(Clone, Copy, Debug, PartialEq, Eq)]
+pub enum ConnectionEvent<'a> {
+    /// It was accepted.
+    Opened {
+        /// Where it comes from.
+        address: &'a [u8],
+    },
+    /// It waits until another ends.
+    Waiting {
+        /// Where it comes from.
+        address: &'a [u8],
+    },
+    /// It was closed, since there are as many as may be.
+    TurnedAway {
+        /// Where it came from.
+        address: &'a [u8],
+    },
+    /// It has ended.
+    Closed {
+        /// Where it came from.
+        address: &'a [u8],
+        /// Why.
+        why: End,
+        /// How many messages were answered.
+        messages: u64,
+        /// For how many seconds it was served.
+        seconds: u64,
+    },
+    /// A login was taken.
+    LoggedIn {
+        /// The terminal's name.
+        terminal: &'a [u8],
+    },
+    /// A login wasn't taken.
+    NotLoggedIn {
+        /// The name that it gave.
+        terminal: &'a [u8],
+        /// Why.
+        why: Refused,
+    },
+    /// A line was too long.
+    LongLine,
+    /// A line feed came without a carriage return before it, which ends no line.
+    LineFeedAlone,
+    /// A line came.
+    Line {
+        /// The line.
+        text: &'a [u8],
+    },
+    /// A line was answered.
+    Reply {
+        /// The reply.
+        text: &'a [u8],
+    },
+}
+
+/// Why a login wasn't taken.
+#[derive(Clone, Copy, Debug, PartialEq, Eq)]
+pub enum Refused {
+    /// No terminal has this name.
+    UnknownTerminal,
+    /// The terminal has another password.
+    WrongPassword,
+    /// The name or the password is encrypted.
+    Encrypted,
+    /// The message can't be read.
+    Unreadable,
+}
+
+/// Why a connection ended.
+#[derive(Clone, Copy, Debug, PartialEq, Eq)]
+pub enum End {
+    /// The other side ended it.
+    Peer,
+    /// The server ends.
+    Stop,
+    /// Nothing came, or nothing was taken, for the idle time.
+    Idle,
+    /// A read failed.
+    Read,
+    /// A write failed.
+    Write,
+    /// A line was too long.
+    LongLine,
+    /// Out of memory, or of seats.
+    Memory,
+    /// The journal lacks a turn that the connection was told of.
+    Estranged,
+    /// The journal can't be written.
+    Unwritten,
+}
+
+impl Refused {
+    /// The word for it.
+    pub(crate) fn word(self) -> &'static [u8]
+        ensures { result.now ≡ refusal_word self }
+    {
+        match self {
+            Refused::UnknownTerminal => b"unknown_terminal",
+            Refused::WrongPassword => b"wrong_password",
+            Refused::Encrypted => b"encrypted",
+            Refused::Unreadable => b"unreadable",
+        }
+    }
+}
+
+impl End {
+    /// The word for it.
+    pub(crate) fn word(self) -> &'static [u8]
+        ensures { result.now ≡ end_word self }
+    {
+        match self {
+            End::Peer => b"peer",
+            End::Stop => b"stop",
+            End::Idle => b"idle",
+            End::Read => b"read_failed",
+            End::Write => b"write_failed",
+            End::LongLine => b"long_line",
+            End::Memory => b"no_memory",
+            End::Estranged => b"estranged",
+            End::Unwritten => b"journal_unwritten",
+        }
+    }
+}
+
+impl<'a> Event<'a> {
+    /// The least level at which it is told: lines and replies at that of messages, all else at that of events.
+    pub fn level(&self) -> Level
+        ensures { result ≡ event_level self.now }
+    {
+        match *self {
+            Event::At { what, .. } => match what {
+                ConnectionEvent::Line { .. } | ConnectionEvent::Reply { .. } => Level::Messages,
+                _ => Level::Events,
+            },
+            _ => Level::Events,
+        }
+    }
+}

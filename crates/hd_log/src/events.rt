@@ -1,0 +1,182 @@
+//! Events, written.
+ghost use Rattle.std.specs.Prelude.{◌≡◌, ◌++◌, OnOk, codes};
+ghost use Rattle.hd_log.specs.Events.{connection_fields, event_text, named, number, sent_fields, text, word};
+ghost use Rattle.hd_log.specs.Fields.{field_shown};
+ghost use Rattle.hd_log.specs.Lines.{line_text};
+
+use crate::event::{ConnectionEvent, Event};
+use crate::field::{Field, Value, write_line};
+use crate::masking::mask;
+use std::alloc::{AllocError, Global};
+
+/// Writes an event as one line: its fields as `key=value`, with blanks between them.
+///
+/// What a stranger may have sent stands in quotes, and each byte that isn't printable ASCII, `"` and `\` as
+/// `\xHH`. In a line and a reply the values of AC, AD and CO are told as `*`.
+///
+/// # Errors
+/// Out of memory. A beginning may be written then.
+#[tactic(auto, unfolding(crate::specs::Events::event_text))]
+pub fn write_event(alloc: Global, out: &mut Vec<u8>, event: &Event<'_>) -> Result<(), AllocError>
+    ensures { OnOk result (out.new.items ≡ out.old.items ++ event_text event.now) }
+{
+    match *event {
+        Event::Listening { address, workers } => {
+            let about = [
+                named(b"listening"),
+                text(b"address", address),
+                number(b"workers", workers),
+            ];
+            write_line(out, &about)
+        }
+        Event::CannotListen { address, why } => {
+            write_line(
+                out,
+                &[
+                    named(b"cannot_listen"),
+                    text(b"address", address),
+                    text(b"why", why),
+                ],
+            )
+        }
+        Event::CannotAccept { times, why } => {
+            write_line(
+                out,
+                &[
+                    named(b"cannot_accept"),
+                    number(b"times", times),
+                    text(b"why", why),
+                ],
+            )
+        }
+        Event::FewNumbers { last, most } => {
+            write_line(
+                out,
+                &[
+                    named(b"few_numbers"),
+                    number(b"last", last),
+                    number(b"most", most),
+                ],
+            )
+        }
+        Event::Unwritten { why } => {
+            write_line(out, &[named(b"journal_unwritten"), text(b"why", why)])
+        }
+        Event::At { connection, what } => {
+            write_at(alloc, out, &number(b"connection", connection), &what)
+        }
+    }
+}
+
+/// Writes what happened at a connection, which this field names.
+fn write_at(
+    alloc: Global,
+    out: &mut Vec<u8>,
+    at: &Field<'_>,
+    what: &ConnectionEvent<'_>,
+) -> Result<(), AllocError>
+    ensures { OnOk result (out.new.items
+        ≡ out.old.items ++ line_text (connection_fields (field_shown at.now) what.now)) }
+{
+    match *what {
+        ConnectionEvent::Opened { address } => {
+            write_line(out, &[named(b"opened"), *at, text(b"address", address)])
+        }
+        ConnectionEvent::Waiting { address } => {
+            write_line(out, &[named(b"waiting"), *at, text(b"address", address)])
+        }
+        ConnectionEvent::TurnedAway { address } => {
+            write_line(
+                out,
+                &[named(b"turned_away"), *at, text(b"address", address)],
+            )
+        }
+        ConnectionEvent::Closed {
+            address,
+            why,
+            messages,
+            seconds,
+        } => {
+            let about = [
+                named(b"closed"),
+                *at,
+                text(b"address", address),
+                word(b"why", why.word()),
+                number(b"messages", messages),
+                number(b"seconds", seconds),
+            ];
+            write_line(out, &about)
+        }
+        ConnectionEvent::LoggedIn { terminal } => {
+            write_line(
+                out,
+                &[named(b"logged_in"), *at, text(b"terminal", terminal)],
+            )
+        }
+        ConnectionEvent::NotLoggedIn { terminal, why } => {
+            let about = [
+                named(b"not_logged_in"),
+                *at,
+                text(b"terminal", terminal),
+                word(b"why", why.word()),
+            ];
+            write_line(out, &about)
+        }
+        ConnectionEvent::LongLine => write_line(out, &[named(b"long_line"), *at]),
+        ConnectionEvent::LineFeedAlone => write_line(out, &[named(b"line_feed_alone"), *at]),
+        ConnectionEvent::Line { text } => write_masked(alloc, out, b"line", at, text),
+        ConnectionEvent::Reply { text } => write_masked(alloc, out, b"reply", at, text),
+    }
+}
+
+/// Writes what was sent at a connection, without what isn't told.
+fn write_masked<'a>(
+    alloc: Global,
+    out: &mut Vec<u8>,
+    name: &'a [u8],
+    at: &Field<'a>,
+    sent: &[u8],
+) -> Result<(), AllocError>
+    ensures { OnOk result (out.new.items
+        ≡ out.old.items ++ line_text (sent_fields (named name.now) (field_shown at.now) sent.now)) }
+{
+    let told = mask(alloc, sent)?;
+    write_line(out, &[named(name), *at, text(b"text", told.as_slice())])
+}
+
+/// The field that names an event.
+fn named(name: &[u8]) -> Field<'_>
+    ensures { field_shown result ≡ word (codes "event") name.now }
+{
+    word(b"event", name)
+}
+
+/// A field with a word of the log's own.
+fn word<'a>(key: &'a [u8], value: &'a [u8]) -> Field<'a>
+    ensures { field_shown result ≡ word key.now value.now }
+{
+    Field {
+        key,
+        value: Value::Word(value),
+    }
+}
+
+/// A field with a text of any bytes.
+fn text<'a>(key: &'a [u8], value: &'a [u8]) -> Field<'a>
+    ensures { field_shown result ≡ text key.now value.now }
+{
+    Field {
+        key,
+        value: Value::Text(value),
+    }
+}
+
+/// A field with a number.
+fn number(key: &[u8], value: u64) -> Field<'_>
+    ensures { field_shown result ≡ number key.now value }
+{
+    Field {
+        key,
+        value: Value::Number(value),
+    }
+}

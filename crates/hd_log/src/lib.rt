@@ -1,0 +1,16 @@
+//! What a server tells while it runs: each event as one line of `key=value`, of printable ASCII whatever a
+//! stranger sent, and without what has to be kept secret.
+#![tactic(auto)]
+
+mod escaping;
+mod event;
+mod events;
+mod field;
+mod laws;
+mod level;
+mod masking;
+
+pub use crate::event::{ConnectionEvent, End, Event, Refused};
+pub use crate::events::write_event;
+pub use crate::laws::{escapes_are_read, lines_are_lines, numbers_are_plain, secrets_are_masked};
+pub use crate::level::Level;

@@ -1,0 +1,4 @@
+pub mod Appends
+pub mod Heads
+pub mod Placing
+pub mod Whole

@@ -1,0 +1,65 @@
+-- How requests are answered.
+use Rattle.std.specs.Prelude.{◌≡◌, ◌⊎◌, ◌≤◌, ℕ, Bool, true, false, List, ◌++◌, length, map, Option, Some, None}
+use Rattle.std.specs.List.{list_any}
+use Rattle.httparse.specs.Grammar.{HasNoRequest, ReadsRequest, RequestHead}
+use Rattle.httparse.specs.Spans.{name_and_value}
+use Rattle.hd_page.specs.declared.answering.Sequel.{Sequel}
+use Rattle.hd_page.specs.declared.answering.Sequel.TheVariants.{GoOn, Stop}
+use Rattle.hd_page.specs.declared.reply.Method.{Method}
+use Rattle.hd_page.specs.declared.reply.Method.TheVariants.{Get}
+use Rattle.hd_page.specs.declared.reply.Status.{Status}
+use Rattle.hd_page.specs.declared.reply.Status.TheVariants.{Accepted, BadRequest, TooLarge, FieldsTooLarge}
+use Rattle.hd_page.specs.Asking.{is_stop, method_of, refused_method, tells_body}
+use Rattle.hd_page.specs.Replies.{Answer, refusal, reply_text}
+use Rattle.hd_page.specs.Shows.{Shown, IsShown, IsLost}
+
+-- what is to follow an answer of this status
+abbrev pub sequel_of : Status → Sequel
+sequel_of Accepted = Stop
+sequel_of _ = GoOn
+
+-- the answer to a stop, or to a target that is read
+abbrev pub AnswersTarget : Shown → Bool → List ℕ → Answer → Type 0
+AnswersTarget shown true target a = a ≡ refusal Accepted
+AnswersTarget shown false target a = IsShown shown target a ⊎ IsLost target a
+
+-- the answer to a method that is allowed, with a body or without
+abbrev pub AnswersAllowed : Shown → List ℕ → Bool → Answer → Type 0
+AnswersAllowed shown target true a = a ≡ refusal TooLarge
+AnswersAllowed shown target false a = AnswersTarget shown (is_stop target) target a
+
+-- the answer to a method, where it is refused so
+abbrev pub AnswersMethod : Option Status → Shown → List ℕ → Bool → Answer → Type 0
+AnswersMethod (Some status) shown target body a = a ≡ refusal status
+AnswersMethod None shown target body a = AnswersAllowed shown target body a
+
+-- the answer to a request of this method and target, with a body or without
+abbrev pub AnswersParts : Shown → List ℕ → List ℕ → Bool → Answer → Type 0
+AnswersParts shown method target body a =
+    AnswersMethod (refused_method (is_stop target) method) shown target body a
+
+-- the answer to a request of this head, and whether its body is sent
+abbrev pub Answers : Shown → RequestHead → Method → Answer → Type 0
+Answers shown head m a =
+    (m ≡ method_of head.method)
+    × AnswersParts shown head.method head.target (list_any tells_body (map name_and_value head.fields)) a
+
+-- what is answered where no head can be read
+abbrev pub IsUnread : Answer → Type 0
+IsUnread a = (a ≡ refusal BadRequest) ⊎ (a ≡ refusal FieldsTooLarge)
+
+-- behind old one reply is written, whole: it answers the request's head, or says that none can be read
+pub record IsAnswered
+    (request policy : List ℕ) (shown : Shown) (sequel : Sequel) (old new : List ℕ) : Type 0 where
+  pub method : Method
+  pub reply : Answer
+  pub written : new ≡ old ++ reply_text policy method reply.status reply.media reply.body
+  pub follows : sequel ≡ sequel_of reply.status
+  pub read : (head : RequestHead) (rest : List ℕ) → ReadsRequest request head rest
+      → length head.fields ≤ 64 → Answers shown head method reply
+  pub unread : HasNoRequest request → IsUnread reply
+
+-- the text of the answer to a head that is too long
+abbrev pub too_long : List ℕ → List ℕ
+too_long policy =
+    let a : Answer = refusal FieldsTooLarge in reply_text policy Get a.status a.media a.body

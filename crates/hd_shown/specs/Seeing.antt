@@ -1,0 +1,88 @@
+-- What may be seen of what is asked.
+use Rattle.std.specs.Prelude.{◌≡◌, ⊤, ℕ, min, Bool, true, false, Option, Some, None, List, []}
+use Rattle.hd_rules.specs.Numbers.{Day}
+use Rattle.hd_rules.specs.Facts.{Facts}
+use Rattle.hd_catalogue.specs.Contents.{Contents, branch_number, copy_number, patron_number, title_number}
+use Rattle.hd_journal.specs.Books.{Book}
+use Rattle.hd_page.specs.Sights.{Asked, NameAsked, DayAsked, TurnsAsked, NumberAsked}
+use Rattle.hd_page.specs.Sights.{Sight, Rows, NoSuchName, NoSuchDay, NoSight}
+use Rattle.hd_page.specs.declared.view.Named.{Named}
+use Rattle.hd_page.specs.declared.view.Named.TheVariants as by
+use Rattle.hd_page.specs.declared.view.ViewFault.TheVariants.{Memory, Shut}
+use Rattle.hd_day_text.specs.Days.{IsDayText}
+use Rattle.hd_looks.specs.declared.row.Row.{Row}
+use Rattle.hd_looks.specs.declared.topic.CopyList.TheVariants as list
+use Rattle.hd_looks.specs.declared.topic.Topic.{Topic}
+use Rattle.hd_looks.specs.declared.topic.Topic.TheVariants as about
+use Rattle.hd_looks.specs.PageValue.{PageValue}
+use Rattle.hd_looks.specs.Shown.{IsShown, IsTopicOf}
+use Rattle.hd_shown.specs.declared.sought.Sought.{Sought}
+use Rattle.hd_shown.specs.declared.sought.Sought.TheVariants.{Known, NoName, NoDay}
+use Rattle.hd_shown.specs.Naming.{ArePage}
+
+-- the number, or the greatest of 32 bits: no list has so many entries
+abbrev pub capped : ℕ → ℕ
+capped n = min n 4294967295
+
+-- where a name has a number, this is looked up
+abbrev pub if_named : Option ℕ → (ℕ → Topic) → Sought
+if_named None topic = NoName
+if_named (Some n) topic = Known (topic n)
+
+-- what is looked up by a name
+abbrev pub named_sought : Contents → Named → List ℕ → ℕ → Sought
+named_sought k by.Copy name after = if_named (copy_number k name) about.Copy
+named_sought k by.Queue name after = if_named (title_number k name) (λ t. about.Queue t (capped after))
+named_sought k by.Patron name after = if_named (patron_number k name) (λ p. about.Patron p (capped after))
+named_sought k by.Shelf name after =
+    if_named (branch_number k name) (λ b. about.Copies (list.Shelf b) (capped after))
+named_sought k by.Transit name after =
+    if_named (branch_number k name) (λ b. about.Copies (list.Transit b) (capped after))
+
+-- what is overdue on the day of a text, where there is such a day
+abbrev pub IsDaySought : List ℕ → ℕ → Sought → Type 0
+IsDaySought text after (Known topic) =
+    (day : Day) × IsDayText day text × (topic ≡ about.Copies (list.Overdue day) (capped after))
+IsDaySought text after NoDay = (day : Day) → ¬ IsDayText day text
+IsDaySought text after NoName = ⊥
+
+-- what is asked, by the catalogue's numbers
+abbrev pub IsSought : Contents → Asked → Sought → Type 0
+IsSought k (NameAsked kind name after) sought = sought ≡ named_sought k kind name after
+IsSought k (DayAsked text after) sought = IsDaySought text after sought
+IsSought k (TurnsAsked after limit) sought = sought ≡ Known (about.Turns after limit)
+IsSought k (NumberAsked n) sought = sought ≡ Known (about.Command n)
+
+-- it is of the catalogue
+abbrev pub IsSoughtOf : Facts → Sought → Type 0
+IsSoughtOf k (Known topic) = IsTopicOf k topic
+IsSoughtOf k _ = ⊤
+
+-- the command that is looked up isn't there
+abbrev pub is_missing : Topic → List Row → Bool
+is_missing (about.Command n) [] = true
+is_missing _ rows = false
+
+module _ (k : Contents) (MayShow : Book → Type 0) (MayShut : Type 0) where
+  -- What is seen of what is looked up: the page of one journal that may be shown, by names; of a command that
+  -- isn't there, that it isn't.
+  abbrev pub IsSeen : Topic → Sight → Type 0
+  IsSeen topic (Rows objects) =
+      (book : Book) × MayShow book × (page : PageValue) × IsShown book topic page
+      × (is_missing topic page.rows ≡ false) × ArePage k page objects
+  IsSeen topic NoSuchName =
+      (book : Book) × MayShow book × (page : PageValue) × IsShown book topic page
+      × (is_missing topic page.rows ≡ true)
+  IsSeen topic NoSuchDay = ⊥
+  IsSeen topic (NoSight Memory) = ⊤
+  IsSeen topic (NoSight Shut) = MayShut
+
+  -- and of a name or a day that there isn't, that there is none
+  abbrev pub IsSightOf : Sought → Sight → Type 0
+  IsSightOf (Known topic) sight = IsSeen topic sight
+  IsSightOf NoName sight = sight ≡ NoSuchName
+  IsSightOf NoDay sight = sight ≡ NoSuchDay
+
+  -- What may be seen of what is asked.
+  abbrev pub Shows : Asked → Sight → Type 0
+  Shows asked sight = (sought : Sought) × IsSought k asked sought × IsSightOf sought sight

@@ -1,0 +1,99 @@
+//! What is asked, by the catalogue's numbers.
+ghost use Rattle.std.specs.Prelude.{◌≡◌};
+ghost use Rattle.hd_catalogue.specs.Contents.{facts_of};
+ghost use Rattle.hd_looks.specs.Shown.{IsTopicOf};
+ghost use Rattle.hd_page.specs.Sights.{asked_of};
+ghost use Rattle.hd_looks.specs.declared.topic.Topic.TheVariants as about;
+ghost use Rattle.hd_shown.specs.declared.sought.Sought.TheVariants.{Known};
+ghost use Rattle.hd_shown.specs.Seeing.{IsSought, IsSoughtOf, capped, named_sought};
+
+use hd_catalogue::Catalogue;
+use hd_day_text::day_said;
+use hd_looks::{CopyList, Topic};
+use hd_page::{Inquiry, Named};
+use std::alloc::Allocator;
+
+/// What is asked, by the catalogue's numbers.
+#[derive(Clone, Copy)]
+pub(crate) enum Sought {
+    /// This is looked up.
+    Known(Topic),
+    /// The catalogue has no such name.
+    NoName,
+    /// There is no such day.
+    NoDay,
+}
+
+/// What is asked, by the catalogue's numbers.
+pub(crate) fn sought_of<A: Allocator + Copy>(
+    catalogue: &Catalogue<A>,
+    inquiry: &Inquiry<'_>,
+) -> Sought
+    ensures sought { IsSought catalogue.now (asked_of inquiry.now) result }
+    ensures known { IsSoughtOf (facts_of catalogue.now) result }
+{
+    match inquiry {
+        Inquiry::ByName { kind, name, after } => sought_by_name(catalogue, *kind, name, *after),
+        Inquiry::Overdue { day, after } => match day_said(day) {
+            Some(day) => copies_on(CopyList::Overdue(day), capped(*after)),
+            None => Sought::NoDay,
+        },
+        Inquiry::Turns { after, limit } => Sought::Known(Topic::Turns {
+            after: *after,
+            limit: *limit,
+        }),
+        Inquiry::Command { number } => Sought::Known(Topic::Command(*number)),
+    }
+}
+
+/// What is looked up by a name.
+fn sought_by_name<A: Allocator + Copy>(
+    catalogue: &Catalogue<A>,
+    kind: Named,
+    name: &[u8],
+    after: u64,
+) -> Sought
+    ensures sought { result ≡ named_sought catalogue.now kind name.now after }
+    ensures known { IsSoughtOf (facts_of catalogue.now) result }
+{
+    let after = capped(after);
+    match kind {
+        Named::Copy => match catalogue.copy(name) {
+            Some(copy) => Sought::Known(Topic::Copy(copy)),
+            None => Sought::NoName,
+        },
+        Named::Queue => match catalogue.title(name) {
+            Some(title) => Sought::Known(Topic::Queue { title, after }),
+            None => Sought::NoName,
+        },
+        Named::Patron => match catalogue.patron(name) {
+            Some(patron) => Sought::Known(Topic::Patron { patron, after }),
+            None => Sought::NoName,
+        },
+        Named::Shelf => match catalogue.branch(name) {
+            Some(branch) => copies_on(CopyList::Shelf(branch), after),
+            None => Sought::NoName,
+        },
+        Named::Transit => match catalogue.branch(name) {
+            Some(branch) => copies_on(CopyList::Transit(branch), after),
+            None => Sought::NoName,
+        },
+    }
+}
+
+/// The copies on a list, from that of a number on.
+fn copies_on(which: CopyList, first: u32) -> Sought
+    ensures { result ≡ Known (about.Copies which first) }
+{
+    Sought::Known(Topic::Copies { which, first })
+}
+
+/// The number, or the greatest of 32 bits where it is above that: no list has so many entries.
+fn capped(number: u64) -> u32
+    ensures { result ≡ capped number }
+{
+    match u32::try_from(number) {
+        Ok(number) => number,
+        Err(_) => u32::MAX,
+    }
+}

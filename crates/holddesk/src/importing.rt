@@ -1,0 +1,121 @@
+//! What `import` does: it makes a catalogue file of a spreadsheet's files.
+
+use crate::fault::Fault;
+use crate::writing::write_whole;
+use hd_catalogue::OffsetMinutes;
+use hd_command_line::Import;
+use hd_import::{
+    Encoding, Fault as SheetFault, Format, Imported, Settings, Source, Sources, import,
+};
+use std::alloc::Global;
+use std::fs;
+
+/// The files of the sheets, as they were read.
+#[derive(Drop)]
+struct Sheets {
+    branches: Vec<u8>,
+    terminals: Vec<u8>,
+    patrons: Vec<u8>,
+    titles: Vec<u8>,
+    copies: Vec<u8>,
+}
+
+/// Makes a catalogue file of sheets, puts it in its place, and tells what it has.
+pub(crate) fn import_sheets(rt: &HostRuntime, order: &Import<'_>) -> Result<(), Fault> {
+    let sheets = read_sheets(rt, order)?;
+    let Imported { text, catalogue } = imported(rt.alloc(), order, &sheets)?;
+    write_whole(rt, order.into, text.as_bytes())?;
+    println!(rt;
+        "branches: {}\nterminals: {}\npatrons: {}\ntitles: {}\ncopies: {}",
+        catalogue.branches(),
+        catalogue.terminals(),
+        catalogue.patrons(),
+        catalogue.titles(),
+        catalogue.copies()
+    )?;
+    Ok(())
+}
+
+/// The catalogue file that sheets make.
+///
+/// # Errors
+/// They make none.
+fn imported(alloc: Global, order: &Import<'_>, sheets: &Sheets) -> Result<Imported, Fault> {
+    let Some(offset) = OffsetMinutes::new(order.offset) else {
+        return Err(Fault::Sheets(String::from_str(
+            alloc,
+            "the offset isn't -1439 to 1439 minutes",
+        )?));
+    };
+    let settings = Settings {
+        institution: order.institution,
+        offset,
+        commands: order.commands,
+        loan_limit: order.loan_limit,
+        loan_days: order.loan_days,
+        renewals: order.renewals,
+    };
+    match import(
+        alloc,
+        &settings,
+        format_of(order),
+        &sources_of(order, sheets),
+    ) {
+        Ok(imported) => Ok(imported),
+        Err(SheetFault::Memory) => Err(Fault::Memory),
+        Err(fault) => Err(Fault::Sheets(format!(in alloc; "{fault}")?)),
+    }
+}
+
+/// How the sheets are written.
+fn format_of(order: &Import<'_>) -> Format {
+    Format {
+        encoding: if order.is_latin1 {
+            Encoding::Latin1
+        } else {
+            Encoding::Utf8
+        },
+        separator: order.separator,
+    }
+}
+
+/// The files of the sheets, by their paths and bytes.
+fn sources_of<'a>(order: &Import<'a>, sheets: &'a Sheets) -> Sources<'a> {
+    Sources {
+        branches: source_of(order.branches, sheets.branches.as_slice()),
+        terminals: source_of(order.terminals, sheets.terminals.as_slice()),
+        patrons: source_of(order.patrons, sheets.patrons.as_slice()),
+        titles: source_of(order.titles, sheets.titles.as_slice()),
+        copies: source_of(order.copies, sheets.copies.as_slice()),
+    }
+}
+
+/// The file of a sheet, by its path and bytes.
+fn source_of<'a>(path: &'a str, bytes: &'a [u8]) -> Source<'a> {
+    Source { path, bytes }
+}
+
+/// Reads the files of the sheets.
+///
+/// # Errors
+/// One can't be read.
+fn read_sheets(rt: &HostRuntime, order: &Import<'_>) -> Result<Sheets, Fault> {
+    Ok(Sheets {
+        branches: read_sheet(rt, order.branches)?,
+        terminals: read_sheet(rt, order.terminals)?,
+        patrons: read_sheet(rt, order.patrons)?,
+        titles: read_sheet(rt, order.titles)?,
+        copies: read_sheet(rt, order.copies)?,
+    })
+}
+
+/// Reads the file of a sheet.
+///
+/// # Errors
+/// It can't be read.
+fn read_sheet(rt: &HostRuntime, path: &str) -> Result<Vec<u8>, Fault> {
+    match fs::read(rt, path) {
+        Ok(file) => Ok(file),
+        Err(_) => Err(Fault::CannotReadFile(String::from_str(rt.alloc(), path)?)),
+    }
+}

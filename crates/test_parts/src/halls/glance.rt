@@ -1,0 +1,108 @@
+//! What a look at a patron takes down.
+
+use crate::comparing::hold;
+use hd_desk::Desk;
+use hd_hall::{Hall, House, Seat};
+use hd_journal::{Journal, Look};
+use hd_rules::{CopyState, PatronNo};
+use std::alloc::Allocator;
+use std::sync::Wait;
+use test_kit::{COPIES, TITLES, present};
+
+/// How many of a patron's holds are kept, how many wait, and whether that agrees with all copies and holds of
+/// the same desk; and how many turns there are.
+#[derive(Clone, Copy)]
+pub(crate) struct Seen {
+    pub(crate) kept: u32,
+    pub(crate) waiting: u32,
+    pub(crate) is_whole: bool,
+    pub(crate) turns: usize,
+}
+
+/// A look at a patron of this name, and what it saw.
+#[derive(Clone, Copy)]
+struct Glance {
+    patron: &'static [u8],
+    seen: Option<Seen>,
+}
+
+impl<A: Allocator + Copy> Look<A> for Glance {
+    ghost fits = { λ glance contents. Unit {0} };
+
+    ghost saw = { λ old book new. Unit {0} };
+
+    fn look(&mut self, journal: &Journal<A>) {
+        self.seen = seen_in(journal, self.patron);
+    }
+}
+
+/// What a look at the hall sees of a patron.
+pub(crate) fn glance_at<H: House, R: Wait, A: Allocator + Copy>(
+    rt: &R,
+    hall: &Hall<H, A>,
+    patron: &'static [u8],
+) -> Option<Seen> {
+    let mut glance = Glance { patron, seen: None };
+    hall.look(rt, &mut glance).ok()?;
+    glance.seen
+}
+
+/// What a look from a seat sees of a patron.
+pub(crate) fn glance_from<H: House, R: Wait, A: Allocator + Copy>(
+    rt: &R,
+    hall: &Hall<H, A>,
+    seat: &Seat<H, A>,
+    patron: &'static [u8],
+) -> Option<Seen> {
+    let mut glance = Glance { patron, seen: None };
+    hall.look_from(rt, seat, &mut glance).ok()?;
+    glance.seen
+}
+
+/// What a journal shows of a patron.
+fn seen_in<A: Allocator + Copy>(journal: &Journal<A>, patron: &[u8]) -> Option<Seen> {
+    let desk = journal.desk();
+    let number = desk.catalogue().patron(patron)?;
+    let view = hd_views::view(desk, number, present()?.day());
+    let holds = holds(desk, patron);
+    Some(Seen {
+        kept: view.kept,
+        waiting: view.waiting,
+        is_whole: kept(desk, number) == view.kept
+            && holds == view.kept.saturating_add(view.waiting),
+        turns: journal.front(),
+    })
+}
+
+/// How many titles the patron holds, by a search of all.
+fn holds<A: Allocator + Copy>(desk: &Desk<A>, patron: &[u8]) -> u32 {
+    let mut holds: u32 = 0;
+    for title in TITLES {
+        if hold(desk, title, patron).is_some() {
+            holds = holds.saturating_add(1);
+        }
+    }
+    holds
+}
+
+/// How many copies are kept for the patron, by a search of all.
+fn kept<A: Allocator + Copy>(desk: &Desk<A>, patron: PatronNo) -> u32 {
+    let mut kept: u32 = 0;
+    for name in COPIES {
+        if is_kept(desk, name, patron) {
+            kept = kept.saturating_add(1);
+        }
+    }
+    kept
+}
+
+/// Whether the copy of this name is kept for the patron.
+fn is_kept<A: Allocator + Copy>(desk: &Desk<A>, name: &[u8], patron: PatronNo) -> bool {
+    match desk.catalogue().copy(name) {
+        Some(copy) => match desk.copy(copy) {
+            CopyState::OnHoldShelf(place) => place.patron == patron,
+            _ => false,
+        },
+        None => false,
+    }
+}
