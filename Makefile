@@ -1,5 +1,5 @@
 # The commands of the README. All need the Rattle kit's command rt on the path.
-.PHONY: help try run day hostile stops years load install uninstall dist wrong test
+.PHONY: help try run day page hostile stops years terminals load install uninstall dist wrong test
 
 PREFIX ?= /usr/local
 
@@ -8,9 +8,11 @@ help:
 	@echo 'make try        answer the stored messages by a program that is built without proofs (two to four minutes)'
 	@echo 'make run        prove what changed (half an hour or more at first), build holddesk, and answer the stored messages'
 	@echo 'make day        after make run: play stored messages, and kiosks, through connections of holddesk serve'
+	@echo 'make page       after make run: look at the page of a door by headless Chromium; pictures in PICTURES ($(PICTURES))'
 	@echo 'make hostile    after make run: hostile clients beside a terminal that has to be answered'
 	@echo 'make stops      after make run: kill -9 of holddesk serve 50 times and of carry at each write, and nothing is lost'
 	@echo 'make years      after make run: 700 days of a small library, a carry each night, compared with a model'
+	@echo 'make terminals  after make run: 1,000 terminals at once for half a minute; memory, and how long replies take'
 	@echo 'make load       after make run: turns a second beside a server that only echoes (four minutes; rustc)'
 	@echo 'make install    after make run: program, manual page, docs and systemd units, below PREFIX ($(PREFIX)) and DESTDIR'
 	@echo 'make uninstall  take them away again'
@@ -37,6 +39,11 @@ run:
 day:
 	@python3 scripts/serve_smoke.py
 	@python3 scripts/serve_kiosk.py
+
+# The page of a door, as make run has built it, in a browser: what its tables say, and pictures of it. Needs Chromium.
+PICTURES = bench/out/page
+page:
+	@python3 scripts/look_at_page.py --into $(PICTURES)
 
 # The program, its manual page, the documents, an example of a catalogue file, and the systemd units and the timer, in
 # which PREFIX is filled in. systemd finds those below /usr/local and /usr.
@@ -77,6 +84,10 @@ stops:
 years:
 	@python3 scripts/two_years.py
 
+# 1,000 terminals at once at holddesk serve, as make run has built it; the gate plays 100, without proofs.
+terminals:
+	@python3 scripts/serve_many.py
+
 # How fast holddesk serve, as make run has built it, answers beside a server that only echoes: four minutes. Needs rustc
 # and Python 3. LOAD has other words for hd_load compare (bench/out/hd_load --help).
 LOAD =
@@ -103,12 +114,12 @@ wrong:
 	@python3 scripts/wrong_bodies.py --self-test
 	@python3 scripts/wrong_bodies.py
 
-# The gate: the picture of the crates; the documents' examples, stored messages, kiosks, hostile clients and stops by
-# kill -9, played against a program that is built without proofs for them; a seat of one hall at another, which the types
-# refuse; then all proofs, the wrong bodies that stand for a promise, the tests and the stored runs; then the wrong
-# bodies that a script tries, many in a check, over the libraries that rt ci has proved and kept. Its last word is rt
-# ci's once more: nothing is left to prove then, and the tests and the stored runs are played again. What was proved
-# before and hasn't changed isn't proved again, and what was refused isn't tried again.
+# The gate: the picture of the crates; the documents' examples, stored messages, kiosks, hostile clients, a door and
+# stops by kill -9, played against a program that is built without proofs for them; a seat of one hall at another,
+# which the types refuse; then all proofs, the wrong bodies that stand for a promise, the tests and the stored runs;
+# then the wrong bodies that a script tries, many in a check, over the libraries that rt ci has proved and kept. Its
+# last word is rt ci's once more: nothing is left to prove then, and the tests and the stored runs are played again.
+# What was proved before and hasn't changed isn't proved again, and what was refused isn't tried again.
 test:
 	@python3 scripts/draw_house.py --check
 	@python3 scripts/make_page.py --check
@@ -116,6 +127,8 @@ test:
 	  python3 scripts/examples.py "$$program" && python3 scripts/import_sheets.py "$$program" && \
 	  python3 scripts/serve_smoke.py "$$program" && python3 scripts/serve_kiosk.py "$$program" && \
 	  python3 scripts/serve_hostile.py "$$program" && \
+	  python3 scripts/serve_many.py --terminals 100 --seconds 3 --latest 100 "$$program" && \
+	  python3 scripts/serve_door.py "$$program" && \
 	  python3 scripts/serve_crash.py --rounds 5 "$$program" && python3 scripts/carry_rows.py "$$program" && \
 	  python3 scripts/file_faults.py "$$program" && python3 scripts/catalogue_faults.py "$$program" && \
 	  python3 scripts/two_years.py --days 8 "$$program"

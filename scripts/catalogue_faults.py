@@ -7,15 +7,17 @@ PROGRAM is crates/holddesk/out/holddesk where it isn't given. catalogue_faults.r
 what it shows, `>` is a line of it, in which \\xNN is a byte, `-` says that its last line has no end, `mode` is its mode
 where that isn't 600, `!` is a line of standard error behind the file's name, and `=` the last line of one that is
 refused. serve has to tell that line alone. A file without `=` is accepted: then each `!` is a warning, and the ten
-lines of check are printed. Besides, a file with 30 faults is told 20 of them. Needs nothing but Python 3. Status 0: all
-is as it is stored.
+lines of check are printed. Besides, a file with 30 faults is told 20 of them, and one that isn't there is told with its
+path and why by check, and by replay and serve in a line that is the same for all paths. Needs nothing but Python 3.
+Status 0: all is as it is stored.
 """
 
 import os
+import re
 import subprocess
 import tempfile
 
-from server import LOOPBACK, SECONDS, Trouble, parser_of, reported
+from server import CATALOGUE, LOOPBACK, SECONDS, Trouble, parser_of, reported
 
 ROWS = os.path.splitext(os.path.abspath(__file__))[0] + ".rows"
 NAME = "library.catalogue"
@@ -80,6 +82,24 @@ def play_many(program):
         compare("30 faults", (done.returncode, done.stderr), (1, wanted + "catalogue line 2: FIELDS\n"))
 
 
+def play_missing(program):
+    """Files that aren't there."""
+    why, one_line = "No such file or directory[^\n]*", "cannot read the catalogue\n"
+    warned = "(?:[^\n]*: warning: [^\n]*\n)*"
+    serve = ["serve", "--catalogue", NAME, "--listen", f"{LOOPBACK}:0", "--workers", "1"]
+    faults = [(["check", "--catalogue", NAME], f"cannot read the catalogue {NAME}: {why}\n"),
+              (["check", "--catalogue", CATALOGUE, "--opening", "o"], f"{warned}cannot read the opening o: {why}\n"),
+              (["check", "--catalogue", CATALOGUE, "--patrons", "p"], f"{warned}cannot read the patrons p: {why}\n"),
+              (["replay", "--catalogue", NAME, "--now", "20260301    120000"], one_line),
+              (serve, one_line),
+              ([*serve, "--log", "events"], f'event=cannot_read file="{NAME}" why="{why}"\n{one_line}')]
+    with tempfile.TemporaryDirectory() as folder:
+        for words, wanted in faults:
+            done = run(program, folder, *words)
+            if (done.returncode, done.stdout) != (1, "") or not re.fullmatch(wanted, done.stderr):
+                raise Trouble(f"{words!r} ends with {done.returncode} and says {done.stderr!r}, wanted {wanted!r}")
+
+
 def play_rows(program):
     """Plays each row. How many there are."""
     chosen = rows()
@@ -87,6 +107,7 @@ def play_rows(program):
     for name, lines in chosen:
         play(program, name, lines)
     play_many(program)
+    play_missing(program)
     return len(chosen)
 
 

@@ -130,32 +130,18 @@ def edits_of(crate):
     return [Edit(crate, name, pairs_in(read(os.path.join(folder, name + ".edit"))), homes) for name in names]
 
 
-def reached_from(functions):
-    """Of each function, by its path, the paths of those that it calls, itself or by others: a function counts as called
-    where its name stands as self.f(, T::f( or f( alone."""
-    before = r"(?:self\.|Self::|\b[A-Z]\w*::|(?<![.\w:]))"
-    names = {it.path: re.compile(rf"{before}{it.name}(?:::<[^()]*>)?\(") for it in functions}
-    reached = {it.path: {path for path in names if names[path].search(it.text.partition("\n")[2])} for it in functions}
-    for by in reached:
-        for some in reached.values():
-            if by in some:
-                some |= reached[by]
-    return reached
+def fit_together(one, other):
+    """Whether two edits go into one check: neither is tried apart, and they are of different functions. One may call the
+    other: a proof rests on what a function promises and not on its body, and a caller of one that is refused has an open
+    goal only where it is itself otherwise than it should be."""
+    return not (one.is_apart or other.is_apart or one.places & other.places)
 
 
-def fit_together(one, other, reached):
-    """Whether two edits go into one check: they are of different functions, and neither of these calls the other."""
-    if one.is_apart or other.is_apart or one.places & other.places:
-        return False
-    paths = [(it.path, its.path) for it in one.functions for its in other.functions]
-    return not any(two in reached[one] or one in reached[two] for one, two in paths)
-
-
-def rounds_of(edits, reached):
+def rounds_of(edits):
     """The edits in rounds, in each of which they fit together."""
     rounds = []
     for edit in edits:
-        others = next((some for some in rounds if all(fit_together(edit, it, reached) for it in some)), None)
+        others = next((some for some in rounds if all(fit_together(edit, it) for it in some)), None)
         if others is None:
             rounds.append([edit])
         else:

@@ -12,9 +12,10 @@ in the background, is ended when it listens. Of a table with the heading 'Messag
 through holddesk replay.
 
 The address and the paths that the examples name stand for a free port and for a folder: what is printed is compared
-with these put back, and a SHA-256 by its form alone. Where there is no nc that knows -N, or no sqlite3, a few lines of
-Python stand in for it, which is told. Each option of a --help has to stand among the options of man/holddesk.1, and the
-other way round. Needs nothing but Python 3 and bash. Status 0: all is as it is written.
+with these put back, and a SHA-256, and where a connection comes from in a log, by its form alone. Where there is no nc
+that knows -N, or no sqlite3, a few lines of Python stand in for it, which is told. Each option of a --help has to stand
+among the options of man/holddesk.1, and the other way round. Needs nothing but Python 3 and bash. Status 0: all is as it
+is written.
 """
 
 import os
@@ -26,6 +27,7 @@ import sys
 import tempfile
 import time
 from concurrent.futures import ThreadPoolExecutor
+from contextlib import contextmanager, nullcontext
 
 from server import CATALOGUE, LOOPBACK, SECONDS, TOP, Server, Trouble, ask, begun, begun_folder, connect
 from server import parser_of, reported, without_progress
@@ -36,8 +38,10 @@ PAGES = ["README.md", *(f"docs/{name}.md" for name in ("operating", "catalogue",
 # the parts of protocol.md whose tables serve_kiosk.py plays
 KIOSK_PARTS = ["Patron messages", "Sorter fields"]
 LIBRARY = "/var/lib/holddesk"
-PLACES = [LIBRARY, "/srv/export", "/usr/local/share/doc/holddesk"]
+PLACES = [LIBRARY, "/srv/export", "/usr/local/share/doc/holddesk", "/run/holddesk"]
 DIGEST = re.compile(r"\b[0-9a-f]{64}\b")
+# what differs from day to day in a line of a server's log: the port that a terminal comes from, and the seconds
+PASSING = re.compile(rf'(?<=event=)(.*) address="{re.escape(LOOPBACK)}:\d+"|(?<= seconds=)\d+$')
 OPTION = re.compile(r"--[a-z][a-z-]*")
 # what stands in for programs that a machine may lack
 STAND_INS = {
@@ -66,6 +70,12 @@ HELD = [LOGIN, b"15+20260301    100000BSnorth|BY2|AOlib|AAp1|AJta|",
         b"15+20260301    100000BW20260401    000000BSsouth|BY2|AOlib|AAp2|AJta|",
         b"09N20260301    10000020260301    100000APnorth|AOlib|ABa1|AC|"]
 DAYS = {"carry": LENT, "journal check": LENT, "journal show": HELD, "journal views": LENT}
+# The day that a server has had which is looked at by its door: a loan, two holds, and two returns that bring a copy to
+# another branch's and to this branch's hold shelf.
+SEEN = [LOGIN, LOAN, HOLD, b"15+20260301    100000BW20260401    000000BSsouth|BY2|AOlib|AAp3|AJtb|",
+        b"09N20260301    10000020260301    100000APnorth|AOlib|ABb1|AC|",
+        b"09N20260301    10000020260301    100000APnorth|AOlib|ABa2|AC|"]
+DOOR = "/run/holddesk/door"
 LATE = 10  # seconds to wait for what a server says at its end
 LONGEST = 300  # seconds for a command, on a machine that has much else to do
 
@@ -93,11 +103,11 @@ class Stage:
         self.environment = {**os.environ, "PATH": os.pathsep.join([programs, os.environ.get("PATH", "")])}
         self.work = os.path.join(folder, "work")
         shutil.copytree(os.path.join(TOP, "examples", "export"), self.work)
-        for place in ("/usr/local/share/doc/holddesk", "/srv/export", os.path.dirname(LIBRARY)):
+        for place in ("/usr/local/share/doc/holddesk", "/srv/export", os.path.dirname(LIBRARY), os.path.dirname(DOOR)):
             os.makedirs(self.place(place))
         for path in ("/work", "/usr/local/share/doc/holddesk", "/srv/export/library.catalogue"):
             copy_catalogue(self.place(path))
-        self.servers, self.address = [], LOOPBACK
+        self.servers, self.shown, self.address = [], 0, LOOPBACK
 
     def place(self, path):
         """Where a path lies that the examples name."""
@@ -108,7 +118,7 @@ class Stage:
         for path in PLACES:
             text = text.replace(self.place(path), path)
         text = text.replace(f"{LOOPBACK}:{self.port}", f"{self.address}:6001").replace(self.folder, "")
-        return DIGEST.sub("SHA-256", without_progress(text)).splitlines()
+        return [settled(line) for line in without_progress(text).splitlines()]
 
     def command(self, text):
         """A command with the paths and addresses of this folder."""
@@ -142,22 +152,31 @@ class Stage:
         return done.stdout, done.returncode
 
     def told_by_servers(self, count):
-        """The lines that the servers said, once they are so many or have had time enough."""
+        """The lines that the servers said and that weren't shown, once they are so many or have had time enough."""
         end = time.monotonic() + LATE
         while True:
-            lines = [line for _, output in self.servers for line in self.told(self.said_by(output))]
-            if len(lines) >= count or time.monotonic() > end:
+            lines = [line for _, output in self.servers for line in self.told(self.said_by(output))][self.shown:]
+            if not self.servers or len(lines) >= count or time.monotonic() > end:
+                self.shown += len(lines)
                 return lines
             time.sleep(0.02)
 
-    def end(self):
-        """Ends the servers that still run."""
+    def end(self, late=0):
+        """Ends the servers that still run, after so many seconds in which they may end by themselves."""
+        end = time.monotonic() + late
         for server, output in self.servers:
+            while server.poll() is None and time.monotonic() < end:
+                time.sleep(0.02)
             if server.poll() is None:
                 os.killpg(server.pid, signal.SIGTERM)
             server.wait(SECONDS)
             output.close()
-        self.servers = []
+        self.servers, self.shown = [], 0
+
+
+def settled(line):
+    """A line that is printed, without what differs from day to day."""
+    return PASSING.sub(r"\1", DIGEST.sub("SHA-256", line))
 
 
 def is_merged(wanted, first, second):
@@ -213,19 +232,16 @@ def exchanges_of(lines):
 
 def play(stage, where, exchanges):
     """Runs commands, each of which has to end well and, where that is shown, to print just that. How many."""
-    beside = 0  # lines of servers that were shown already
     for command, wanted in exchanges:
-        if not any(server.poll() is None for server, _ in stage.servers):
-            stage.end()
-            beside = 0
+        words = command.split()
+        if words[:2] == ["holddesk", "serve"]:  # at the address of the one before, which may be about to end
+            stage.end(LATE)
         printed, status = stage.run(command)
-        wanted = wanted and [DIGEST.sub("SHA-256", line) for line in wanted]
+        wanted = wanted and [settled(line) for line in wanted]
         first = stage.told(printed)
-        second = stage.told_by_servers(beside + len(wanted or []) - len(first))[beside:] if stage.servers else []
-        beside += len(second)
+        second = stage.told_by_servers(len(wanted or []) - len(first))
         if status or wanted is not None and not is_merged(wanted, first, second):
             raise Trouble(f"{where}: {command!r} ends with {status} and prints {first + second!r}, wanted {wanted!r}")
-        words = command.split()
         if words[:2] == ["holddesk", "serve"] and words[-1] != "&" and "--connections" not in words:
             if not second:
                 raise Trouble(f"{where}: {command!r} doesn't listen")
@@ -320,14 +336,26 @@ def play_day(stage, command):
         server.end()
 
 
+@contextmanager
+def looked_at(stage):
+    """A server with a door, which has had a day."""
+    door = stage.place(DOOR)
+    with Server(stage.program, CATALOGUE, 1, "--door", door, "--log", "quiet") as server:
+        with connect(server.port) as connection:
+            for message in SEEN:
+                ask(connection, message)
+        yield
+
+
 def play_help(stage, command, text):
     """Plays the example of a command's help."""
     example = text.partition("\nExample")[2].partition("\n\n")[2]
     lines = [line.removeprefix("  ") for line in example.partition("\n\n")[0].splitlines()]
     if command in DAYS:
         play_day(stage, command)
-    # what an example doesn't show isn't compared
-    count = play(stage, f"the help of {command}", [(words, shown or None) for words, shown in exchanges_of(lines)])
+    with looked_at(stage) if any(DOOR in line for line in lines) else nullcontext():
+        # what an example doesn't show isn't compared
+        count = play(stage, f"the help of {command}", [(words, shown or None) for words, shown in exchanges_of(lines)])
     stage.end()
     return count
 

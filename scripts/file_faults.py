@@ -1,24 +1,35 @@
 #!/usr/bin/env python3
 """Has holddesk check read stored opening files and patrons' files over the demonstration library, and compares what it
-tells of each.
+tells of each; and looks at the rights of what it makes, and at a disk that takes no more.
 
     python3 scripts/file_faults.py [PROGRAM] [--only OPTION]
 
 PROGRAM is crates/holddesk/out/holddesk where it isn't given. file_faults.rows has the files: `row` begins one with the
 option that takes it and what it shows, `>` is a line of it, in which DIGEST stands for the SHA-256 of the catalogue
 file, `!` is the fault with which it is refused, and `=` a line that is printed of one that is accepted. A fault is the
-one line of standard error; status 1, and nothing is printed then. --only plays the rows of one option. Needs
-nothing but Python 3. Status 0: all is as it is stored.
+one line of standard error; status 1, and nothing is printed then. --only plays the rows of one option. Behind them a
+catalogue, a journal and an opening are made under an umask that lets everyone read and write, and their owner alone
+has to be let; and serve is started where it may write no more than some bytes into a file: that has to be told before
+it listens. A journal whose server was killed is refused without its log, and one that was ended well opens without it;
+where sqlite3 changed one of its rows it is refused, and where that only read it, it isn't.
+Needs nothing but Python 3. Status 0: all is as it is stored.
 """
 
+import contextlib
 import hashlib
 import os
+import resource
 import shutil
+import sqlite3
+import stat
 import subprocess
 import tempfile
 
-from server import CATALOGUE, SECONDS, Trouble, parser_of, reported
+from server import (CATALOGUE, LOOPBACK, SECONDS, TOP, Server, Trouble, ask, begun, begun_folder, connect, parser_of,
+                    reported, serve_words)
 
+MOST = 64  # bytes that a program may write into a file, where its disk takes no more: a log's heading has 32
+CHECKOUT = b"11NN20260301    10000020260301    100000AOlib|AAp1|ABa1|AC|"
 ROWS = os.path.splitext(os.path.abspath(__file__))[0] + ".rows"
 
 
@@ -72,6 +83,109 @@ def play_rows(program, only):
     return len(chosen)
 
 
+def made_files(program, folder):
+    """The files that holddesk makes in a folder, under an umask that takes no right away."""
+    before = os.umask(0)
+    try:
+        library = begun_folder(program, CATALOGUE, os.path.join(folder, "library"))
+        for words in (["carry", "--library", library, "--to", CATALOGUE], import_words(folder)):
+            subprocess.run([program, *words], capture_output=True, timeout=SECONDS, check=True)
+    finally:
+        os.umask(before)
+    return [os.path.join(library, name) for name in sorted(os.listdir(library))] + [os.path.join(folder, "imported")]
+
+
+def import_words(folder):
+    """The words that make a catalogue of the example's sheets."""
+    sheets = os.path.join(TOP, "examples", "export")
+    kinds = ("branches", "terminals", "patrons", "titles", "copies")
+    given = [word for kind in kinds for word in (f"--{kind}", os.path.join(sheets, f"{kind}.csv"))]
+    return ["import", *given, "--into", os.path.join(folder, "imported"), "--institution", "lib", "--offset", "60"]
+
+
+def compare_rights(program):
+    """Looks that the owner of a file alone may read and write it, whatever the umask. How many files there are."""
+    with tempfile.TemporaryDirectory() as folder:
+        files = made_files(program, folder)
+        modes = {path: stat.S_IMODE(os.stat(path).st_mode) for path in files}
+    others = [f"{path} has mode {mode:o}" for path, mode in modes.items() if mode != 0o600]
+    if others:
+        raise Trouble(f"its owner alone may not read and write: {others}")
+    return len(files)
+
+
+def narrow():
+    """Lets a program write no more than so many bytes into a file: more is refused, as by a disk."""
+    resource.setrlimit(resource.RLIMIT_FSIZE, (MOST, MOST))
+
+
+def compare_narrow_start(program):
+    """Looks that a start whose writes are refused says so before it listens."""
+    with tempfile.TemporaryDirectory() as folder:
+        journal = begun(program, CATALOGUE, os.path.join(folder, "journal"))
+        # Python has the signal ignored that comes with the refusal, and so has the program
+        done = subprocess.run(serve_words(program, CATALOGUE, 1, "--journal", journal), capture_output=True, text=True,
+                              timeout=SECONDS, check=False, preexec_fn=narrow, restore_signals=False)
+    if (done.returncode, done.stdout, done.stderr) != (1, "", "the journal can't be written\n"):
+        raise Trouble(f"where no write is taken serve ends with {done.returncode} and says {done.stderr!r}")
+
+
+def told_of(program, journal, *words):
+    """What a command says of a journal: its status, its output and its standard error."""
+    done = subprocess.run([program, *words, "--catalogue", CATALOGUE, "--journal", journal], capture_output=True,
+                          text=True, timeout=SECONDS, check=False)
+    return done.returncode, done.stdout, done.stderr
+
+
+def serve_until_killed(program, journal):
+    """Serves a journal, and kills the server once it has answered a checkout."""
+    with Server(program, CATALOGUE, 1, "--journal", journal) as server, connect(server.port) as terminal:
+        for message in (b"9300CNt1|COpw|", CHECKOUT):
+            ask(terminal, message)
+        server.kill()
+
+
+def compare_missing_log(program):
+    """Looks that a journal whose server was killed isn't opened without its log, and one that was ended well is."""
+    with tempfile.TemporaryDirectory() as folder:
+        journal = begun(program, CATALOGUE, os.path.join(folder, "journal"))
+        os.remove(f"{journal}-wal")
+        serve_until_killed(program, journal)
+        shutil.move(f"{journal}-wal", f"{journal}-away")
+        with open(journal, "rb") as file:
+            before = file.read()
+        for words in (["journal", "check"], ["journal", "show", "--copies"],
+                      ["serve", "--listen", f"{LOOPBACK}:0", "--workers", "1"]):
+            told = told_of(program, journal, *words)
+            if told != (1, "", "the journal's log is missing\n"):
+                raise Trouble(f"{words} of a journal without its log: {told!r}")
+        with open(journal, "rb") as file:
+            if os.path.exists(f"{journal}-wal") or file.read() != before:
+                raise Trouble("a journal without its log was changed")
+        shutil.move(f"{journal}-away", f"{journal}-wal")
+        for _ in range(2):
+            told = told_of(program, journal, "journal", "check")
+            if told[0] != 0 or not told[1].startswith("turns: 1\n"):
+                raise Trouble(f"a journal with its log, and then ended: {told!r}")
+            os.remove(f"{journal}-wal")
+        serve_until_killed(program, journal)
+
+
+def compare_changed(program):
+    """Looks that a journal is taken that somebody else has read, and refused where a row of it was changed, though its
+    turns would result in the same."""
+    with tempfile.TemporaryDirectory() as folder:
+        journal = begun(program, CATALOGUE, os.path.join(folder, "journal"))
+        serve_until_killed(program, journal)
+        for work, wanted in (("SELECT * FROM turn", 0), ("UPDATE turn SET patron = 'p2'", 1)):
+            told_of(program, journal, "journal", "check")
+            with contextlib.closing(sqlite3.connect(journal)) as connection, connection:
+                connection.execute(work)
+            told = told_of(program, journal, "journal", "check")
+            if told[0] != wanted or wanted and told[1:] != ("", "the journal is damaged\n"):
+                raise Trouble(f"behind {work} of sqlite3: {told!r}")
+
+
 def main():
     parser = parser_of(__doc__)
     parser.add_argument("--only", default="", metavar="OPTION",
@@ -79,6 +193,13 @@ def main():
     asked = parser.parse_args()
     count = reported("file_faults", play_rows, asked.program, asked.only)
     print(f"file_faults: {count} files, each accepted or refused as it is stored")
+    if not asked.only:
+        made = reported("file_faults", compare_rights, asked.program)
+        reported("file_faults", compare_narrow_start, asked.program)
+        reported("file_faults", compare_missing_log, asked.program)
+        reported("file_faults", compare_changed, asked.program)
+        print(f"file_faults: {made} files made for their owner alone; starts that can't write or lack a log say so, and "
+              "those of a journal that somebody else changed")
 
 
 if __name__ == "__main__":

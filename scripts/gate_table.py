@@ -1,7 +1,7 @@
 #!/usr/bin/env python3
 """Measures what each crate costs the gate, in seconds of processor time, and prints a table of it.
 
-    python3 scripts/gate_table.py [--at-once N] [--no-edits] [--figures FILE] [--wrong FILE] [NAME ..]
+    python3 scripts/gate_table.py [--at-once N] [--no-edits] [--figures FILE] [--wrong FILE] [--across N] [NAME ..]
 
 It runs rt ci with the name of each crate of crates.txt, the lowest first. rt keeps what it has proved on the machine,
 so that each call proves one crate: first without its must-fail edits, which tells its proof and that of its tests;
@@ -199,6 +199,19 @@ def print_table(names, uses, figures, wrong):
         print(f"Not in these sums, since it was kept from before: what of {', '.join(kept)} the table calls kept.")
 
 
+def print_cells(names, figures, wrong, across):
+    """Prints the table with so many crates across: of each its proof's seconds, its tests' with them, and those of all
+    its wrong bodies."""
+    cells = []
+    for name in names:
+        row = row_of(name, figures.by_crate[name], wrong)
+        proof, bodies = ((row[one] or 0) + (row[other] or 0) for one, other in (("proof", "tests"), ("edits", "wrong")))
+        cells.append(f"`{name.removeprefix('hd_')}` {proof:.0f}" + (f" + {bodies:.0f}" if bodies else ""))
+    print("|" + " |" * across + "\n|" + "---|" * across)
+    for at in range(0, len(cells), across):
+        print("| " + " | ".join(cells[at:at + across] + [""] * (at + across - len(cells))) + " |")
+
+
 def read_wrong(path):
     """By crate the seconds and the number of edits that wrong_bodies.py told."""
     lines = [line.split() for line in Path(path).read_text(encoding="utf-8").splitlines()] if path else []
@@ -217,6 +230,7 @@ def main():
     add("--at-once", type=int, default=1, metavar="N", help="how many crates are measured at once (1)")
     add("--no-edits", action="store_true", help="leave the must-fail edits to a later run")
     add("--figures", type=Path, default=TOP / "out" / "gate_table.json", metavar="FILE", help="the raw figures")
+    add("--across", type=int, metavar="N", help="print a small table, of so many crates across")
     add("--wrong", metavar="FILE", help="what wrong_bodies.py told: lines of a crate, its seconds, its edits")
     asked, uses = parser.parse_args(), uses_of_all()
     names = []
@@ -227,7 +241,10 @@ def main():
     figures, wrong = Figures(asked.figures), read_wrong(asked.wrong)
     calls = ["first", "again"] if asked.no_edits else ["first", "again", "edits"]
     measure_all(names, uses, figures, asked.at_once, calls)
-    print_table(names, uses, figures, wrong)
+    if asked.across:
+        print_cells(names, figures, wrong, asked.across)
+    else:
+        print_table(names, uses, figures, wrong)
 
 
 if __name__ == "__main__":

@@ -5,9 +5,9 @@
 
 PROGRAM is crates/holddesk/out/holddesk where it isn't given; N is 100,000, S is 5. Turns are made by bench/out/hd_load
 drive (make bench/out/hd_load; rustc), over the demonstration library, by 1 and by 16 connections: with the journal in
-memory, in a file, and in a file that is synced twice a turn. Then a file is filled with at least N turns, holddesk
-journal check takes them again, and the views of holddesk journal views are read from it. The file lies in the folder
-that TMPDIR names. Needs Python 3. Prints a table.
+memory, in a file, in one that sqlite3 made, so that its pages have no sums, and in one that is synced twice a turn. Then
+a file is filled with at least N turns, holddesk journal check takes them again, and the views of holddesk journal views
+are read from it. The file lies in the folder that TMPDIR names. Needs Python 3. Prints a table.
 """
 
 import contextlib
@@ -22,7 +22,9 @@ from make_library import write_with_room
 from server import CATALOGUE, LOOPBACK, TOP, Server, Trouble, begun, parser_of, reported
 
 LOAD = os.path.join(TOP, "bench", "out", "hd_load")
-WAYS = {"in memory": [], "in a file": ["--journal"], "in a file, wary": ["--journal", "--journal-wary"]}
+PLAIN = "in a file whose pages have no sums"
+WAYS = {"in memory": [], "in a file": ["--journal"], PLAIN: ["--journal"],
+        "in a file, wary": ["--journal", "--journal-wary"]}
 
 
 def figures_of(program, catalogue, connections, words, length):
@@ -42,12 +44,23 @@ def words_of(way, path):
     return [it for word in WAYS[way] for it in ([word, path] if word == "--journal" else [word])]
 
 
+def without_sums(path):
+    """A journal's file, made again by sqlite3."""
+    plain = f"{path}.plain"
+    with contextlib.closing(sqlite3.connect(path)) as old, contextlib.closing(sqlite3.connect(plain)) as made:
+        mark, = old.execute("PRAGMA user_version").fetchone()
+        made.execute("PRAGMA journal_mode = WAL")
+        made.executescript("\n".join(old.iterdump()))
+        made.execute(f"PRAGMA user_version = {mark}")
+    return plain
+
+
 def print_speeds(program, catalogue, folder, seconds):
     """Prints the turns a second in each way."""
     for connections, counted in ((1, "1 connection"), (16, "16 connections")):
         for number, way in enumerate(WAYS):
             path = begun(program, catalogue, os.path.join(folder, f"speed-{connections}-{number}"))
-            words = words_of(way, path)
+            words = words_of(way, without_sums(path) if way == PLAIN else path)
             figures = figures_of(program, catalogue, connections, words, ["--seconds", str(seconds)])
             print(f"| turns a second, {counted}, journal {way} | {figures['turns_a_second']:.0f} |", flush=True)
 

@@ -14,6 +14,7 @@ the right to mount one, and is told as skipped where there is none.
 Needs nothing but Python 3. Status 0: nothing was lost.
 """
 
+import contextlib
 import dataclasses
 import filecmp
 import os
@@ -241,8 +242,16 @@ def compare_refusals(program, catalogue, folder):
     compare_refusal(program, catalogue, journal, "the journal was written with another catalogue")
 
 
+def fill(disk):
+    """Writes a file until the disk takes no byte more."""
+    with open(os.path.join(disk, "other"), "wb", buffering=0) as file, contextlib.suppress(OSError):
+        while True:
+            file.write(bytes(4_096))
+
+
 def compare_full_disk(program, catalogue, folder):
-    """A disk that is full ends the server, and loses no turn that was answered. Why that was skipped, if it was."""
+    """A disk that is full ends the server, and loses no turn that was answered; a start says so before it listens.
+    Why that was skipped, if it was."""
     disk = os.path.join(folder, "disk")
     os.mkdir(disk)
     mounted = subprocess.run(["mount", "-t", "tmpfs", "-o", "size=512k", "holddesk", disk], capture_output=True,
@@ -258,6 +267,14 @@ def compare_full_disk(program, catalogue, folder):
         if status != 1 or not said.endswith("the journal can't be written: the disk is full\n"):
             raise Trouble(f"with a full disk it ends with {status} and says {said!r}")
         compare_rows(opened_copy(journal, folder), [terminal], 0)
+        # a start copies the log into the file, which gives the log's blocks back: so the disk is filled anew
+        with Server(program, catalogue, 1, "--connections", "1", "--journal", journal) as server:
+            connect(server.port).close()
+            status, _, said = server.end()
+        if status != 0:
+            raise Trouble(f"a start behind a full disk ends with {status} and says {said!r}")
+        fill(disk)
+        compare_refusal(program, catalogue, journal, "the journal can't be written: the disk is full")
     finally:
         subprocess.run(["umount", disk], check=False)
     return None

@@ -1,7 +1,7 @@
 """A holddesk serve for the scripts that ask it: how one is started, connected to, asked and ended.
 
-No script of its own: serve_smoke.py, serve_kiosk.py, serve_hostile.py, serve_crash.py, measure_journal.py and
-unproved.py import it.
+No script of its own: serve_smoke.py, serve_kiosk.py, serve_hostile.py, serve_many.py, serve_crash.py,
+measure_journal.py, unproved.py and those of a door import it.
 Needs nothing but Python 3.
 """
 

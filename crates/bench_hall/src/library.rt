@@ -36,11 +36,16 @@ C|d3|td|north
 C|d4|td|north
 ";
 
+/// The text of that library: a proof that has this call has one name for it.
+fn text() -> &'static [u8] {
+    CATALOGUE
+}
+
 /// A journal without turns.
 pub(crate) fn journal(rt: &HostRuntime) -> Option<Journal>
     ensures { IfSome result (λ journal. journal.turns ≡ []) }
 {
     let alloc = rt.alloc();
-    let catalogue = Catalogue::read(alloc, CATALOGUE).ok()?;
+    let catalogue = Catalogue::read(alloc, text()).ok()?;
     hd_journal::open(alloc, alloc, Meter::new(rt), catalogue).ok()
 }

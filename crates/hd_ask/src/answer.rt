@@ -1,7 +1,7 @@
 //! What a server answers.
-ghost use Rattle.std.specs.Prelude.{All, IfOk, length};
-ghost use Rattle.hd_ask.specs.Answers.{IsAnswerIn};
-ghost use Rattle.httparse.specs.Spans.{IsHeaderWithin};
+ghost use Rattle.std.specs.Prelude.{◌≡◌, All, IfOk, IfSome, length, map};
+ghost use Rattle.hd_ask.specs.Answers.{IsAnswerIn, IsNumberOf, TellsLength, is_length};
+ghost use Rattle.httparse.specs.Spans.{IsHeaderWithin, header_bytes};
 
 use crate::fault::AskFault;
 use httparse::Status;
@@ -59,14 +59,26 @@ pub fn answer_of(alloc: Global, bytes: &[u8]) -> Result<Answer, AskFault>
 /// The length of the body that a head tells, if it tells one.
 fn length_in(bytes: &[u8], fields: &[HeaderSpan]) -> Option<u64>
     requires { All (IsHeaderWithin (length bytes.now)) fields.now }
+    ensures { IfSome result (TellsLength (map (header_bytes bytes.now) fields.now)) }
 {
     for field in fields {
-        if b"content-length".eq_ignore_ascii_case(field.name.of(bytes)) {
-            return str::from_utf8(field.value.of(bytes))
-                .ok()?
-                .parse::<u64>()
-                .ok();
+        if is_length(field.name.of(bytes)) {
+            return number_in(field.value.of(bytes));
         }
     }
     None
+}
+
+/// Whether a field of this name tells the length of a body, whatever the case of its letters.
+fn is_length(name: &[u8]) -> bool
+    ensures { result ≡ is_length name.now }
+{
+    b"content-length".eq_ignore_ascii_case(name)
+}
+
+/// The number that a text is, if it is one.
+pub(crate) fn number_in(text: &[u8]) -> Option<u64>
+    ensures { IfSome result (IsNumberOf text.now) }
+{
+    str::from_utf8(text).ok()?.parse::<u64>().ok()
 }

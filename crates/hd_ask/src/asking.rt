@@ -15,8 +15,8 @@ const PATIENCE: u64 = 60;
 /// Asks the server at a door. Where it is asked to end, the answer is there when it has ended.
 ///
 /// # Errors
-/// `NoServer` where nobody listens at the path, `Forbidden` where the door is another user's, `Refused` where who
-/// listens can't be asked, `Unreadable` where what comes isn't one whole answer, and `Memory`.
+/// `NoServer` where nobody listens at the path, `Forbidden` where the door is another user's, `Refused` where
+/// who listens can't be asked, `Unreadable` where what comes isn't one whole answer, and `Memory`.
 pub fn ask<R: Net>(
     rt: &R,
     alloc: Global,

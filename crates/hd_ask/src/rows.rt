@@ -1,4 +1,7 @@
 //! The rows of an answer.
+ghost use Rattle.std.specs.Prelude.{◌≡◌};
+ghost use Rattle.serde_json.specs.View.{items_view, view};
+ghost use Rattle.hd_ask.specs.Rows.{all_in, next_in};
 
 use crate::fault::AskFault;
 use serde_json::Value;
@@ -33,7 +36,9 @@ impl Rows {
     }
 
     /// All rows. Where the page isn't the last, the last of them has where the next one begins.
-    fn all(&self) -> &[Value] {
+    fn all(&self) -> &[Value]
+        ensures { items_view result.now ≡ all_in (view self.now.array) }
+    {
         match self.array.as_array() {
             Some(rows) => rows.as_slice(),
             None => &[],
@@ -41,7 +46,9 @@ impl Rows {
     }
 
     /// Where the next page begins, if there is one.
-    pub fn next(&self) -> Option<u64> {
+    pub fn next(&self) -> Option<u64>
+        ensures { result ≡ next_in (view self.now.array) }
+    {
         self.all().last()?.get("next")?.as_u64()
     }
 
@@ -82,8 +89,8 @@ pub fn cell(alloc: Global, row: &Value, name: &str) -> Result<String, AllocError
     }
 }
 
-/// The text of a name whose bytes are told each by the character of its number: these bytes where they are text,
-/// and else those characters.
+/// The text of a name whose bytes are told each by the character of its number: these bytes where they are
+/// text, and else those characters.
 ///
 /// # Errors
 /// Out of memory.

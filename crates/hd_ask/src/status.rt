@@ -1,12 +1,17 @@
 //! How a server stands, for people.
+ghost use Rattle.std.specs.Prelude.{◌≡◌, IfOk, string_bytes};
+ghost use Rattle.hd_ask.specs.Lines.{first_line};
 
+use crate::answer::number_in;
 use std::alloc::{AllocError, Global};
 
 /// The first line of a text, without what can't be shown.
 ///
 /// # Errors
 /// Out of memory.
-pub fn first_line(alloc: Global, text: &[u8]) -> Result<String, AllocError> {
+pub fn first_line(alloc: Global, text: &[u8]) -> Result<String, AllocError>
+    ensures { IfOk result (λ line. string_bytes line ≡ first_line text.now) }
+{
     let mut line = String::new(alloc);
     for byte in text {
         if *byte == b'\n' {
@@ -23,14 +28,14 @@ pub fn first_line(alloc: Global, text: &[u8]) -> Result<String, AllocError> {
 pub fn number_of(text: &[u8], name: &[u8]) -> Option<u64> {
     for line in text.split(|byte| *byte == b'\n') {
         if let Some(digits) = line.strip_prefix(name) {
-            return str::from_utf8(digits).ok()?.parse::<u64>().ok();
+            return number_in(digits);
         }
     }
     None
 }
 
-/// What a server says of its health and of its numbers, a line for each. Turns are told of the kinds that were
-/// made.
+/// What a server says of its health and of its numbers, a line for each. Turns are told of the kinds that
+/// were made.
 ///
 /// # Errors
 /// Out of memory.

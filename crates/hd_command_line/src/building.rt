@@ -1,9 +1,11 @@
 //! The program's commands, put together from their words.
 
 use crate::commands::{COMMANDS, JOURNAL_COMMANDS};
+use crate::door_commands::{DOOR_COMMANDS, SHOW_COMMANDS};
+use crate::door_texts::SHOW_ABOUT;
 use crate::journal_texts::JOURNAL_ABOUT;
 use crate::texts::{ABOUT, VERSION};
-use crate::words::{Choice, CommandWords, GroupWords, Need, Number, OptionWords, Value};
+use crate::words::{Choice, CommandWords, Form, GroupWords, Need, Number, OptionWords, Value};
 use clap::builder::ValueParser;
 use clap::{Arg, ArgAction, ArgGroup, Command};
 use std::alloc::{AllocError, Global};
@@ -63,8 +65,21 @@ impl<'a> Building<'a> {
 pub(crate) fn program<'a>(alloc: Global) -> Result<Building<'a>, AllocError> {
     let command = Command::new(alloc, "holddesk").version(VERSION);
     let program = with_commands(alloc, above(command, ABOUT), &COMMANDS)?;
-    let command = Command::new(alloc, "journal");
-    program.subcommand(with_commands(alloc, above(command, JOURNAL_ABOUT), &JOURNAL_COMMANDS)?)
+    let program = with_group(alloc, program, "journal", JOURNAL_ABOUT, &JOURNAL_COMMANDS)?;
+    let program = with_group(alloc, program, "show", SHOW_ABOUT, &SHOW_COMMANDS)?;
+    with_commands(alloc, program, &DOOR_COMMANDS)
+}
+
+/// A program with a command below it of this name, which has these commands below it.
+fn with_group<'a>(
+    alloc: Global,
+    program: Building<'a>,
+    name: &'static str,
+    about: &'static str,
+    below: &[CommandWords],
+) -> Result<Building<'a>, AllocError> {
+    let command = above(Command::new(alloc, name), about);
+    program.subcommand(with_commands(alloc, command, below)?)
 }
 
 /// A command of which one below it has to be named, and what these do in a line.
@@ -97,10 +112,7 @@ fn command_of<'a>(alloc: Global, words: &CommandWords) -> Result<Building<'a>, A
         .long_about(words.long_about)
         .after_help(words.example);
     let command = with_options(alloc, Building { command }, words.options)?;
-    match words.group {
-        Some(group) => command.group(group_of(alloc, &group)?),
-        None => Ok(command),
-    }
+    with_groups(alloc, command, words.groups)
 }
 
 /// A command with these options.
@@ -116,12 +128,31 @@ fn with_options<'a>(
     Ok(command)
 }
 
+/// A command with these groups of its options.
+fn with_groups<'a>(
+    alloc: Global,
+    command: Building<'a>,
+    groups: &[GroupWords],
+) -> Result<Building<'a>, AllocError> {
+    let mut command = command;
+    for words in groups {
+        command = command.group(group_of(alloc, words)?)?;
+    }
+    Ok(command)
+}
+
 /// The option with these words.
 fn option_of<'a>(alloc: Global, words: &OptionWords) -> Result<Arg<'a>, AllocError> {
-    let option = Arg::new(alloc, words.name)
-        .long(words.name)
-        .help(words.help);
+    let option = formed(Arg::new(alloc, words.name).help(words.help), words);
     needed(valued(option, words.value), words.need)?.conflicts_with_all(words.conflicts)
+}
+
+/// An option that is given so.
+fn formed<'a>(option: Arg<'a>, words: &OptionWords) -> Arg<'a> {
+    match words.form {
+        Form::Named => option.long(words.name),
+        Form::Placed => option,
+    }
 }
 
 /// An option with what stands behind it.
@@ -136,17 +167,24 @@ fn valued<'a>(option: Arg<'a>, value: Value) -> Arg<'a> {
 
 /// An option with one of some words behind it.
 fn chosen<'a>(option: Arg<'a>, choice: &Choice) -> Arg<'a> {
-    option
+    let option = option
         .value_name(choice.name)
         .action(ArgAction::Set)
-        .value_parser(ValueParser::Names(choice.words))
-        .default_value(choice.default)
+        .value_parser(ValueParser::Names(choice.words));
+    defaulted(option, choice.default)
 }
 
 /// An option with a number behind it.
 fn numbered<'a>(option: Arg<'a>, number: &Number) -> Arg<'a> {
-    let option = bounded(option.value_name(number.name), number);
-    match number.default {
+    defaulted(
+        bounded(option.value_name(number.name), number),
+        number.default,
+    )
+}
+
+/// An option that stands for this where it isn't there.
+fn defaulted<'a>(option: Arg<'a>, default: Option<&'static str>) -> Arg<'a> {
+    match default {
         Some(default) => option.default_value(default),
         None => option,
     }

@@ -13,9 +13,10 @@ use crate::journal_texts::{
 };
 use crate::options::{
     ACCEPT_CATALOGUE, ACCEPT_CATALOGUE_OF_KEPT, CATALOGUE_ALWAYS, CATALOGUE_OR_FOLDER, CONNECTIONS,
-    COPIES, EXPIRED, FOLDER, IDLE, INTO, JOURNAL, JOURNAL_OR_FOLDER, JSON, LIBRARY, LISTEN, NOW,
-    OPENING, OVERDUE, PATRON_MESSAGES, PATRONS, PATRONS_OF_KIOSKS, QUEUE, REPLIES_END, SHELF,
-    SORTER_FIELDS, TO, TRANSITS, WARY, WORKERS, WRITE_OFF,
+    COPIES, DAYS_OFF, DOOR, EXPIRED, FOLDER, IDLE, INTO, JOURNAL, JOURNAL_OR_FOLDER, JSON, LIBRARY,
+    LISTEN, LOG, NOW, OPENING, OVERDUE, PATRON_MESSAGES, PATRONS, PATRONS_OF_KIOSKS, QUEUE,
+    REPLIES_END, SHELF, SORTER_FIELDS, TERMINALS_AT_ONCE, TO, TRANSITS, WARY, WORKERS, WRITE_OFF,
+    ZONE,
 };
 use crate::show_texts::{JOURNAL_SHOW, JOURNAL_SHOW_ABOUT, JOURNAL_SHOW_EXAMPLE};
 use crate::texts::{
@@ -32,7 +33,7 @@ pub(crate) const COMMANDS: [CommandWords; 5] = [
         long_about: CHECK,
         example: CHECK_EXAMPLE,
         options: &[CATALOGUE_OR_FOLDER, OPENING, LIBRARY, PATRONS],
-        group: None,
+        groups: &[],
     },
     CommandWords {
         name: "replay",
@@ -47,7 +48,7 @@ pub(crate) const COMMANDS: [CommandWords; 5] = [
             PATRONS_OF_KIOSKS,
             SORTER_FIELDS,
         ],
-        group: None,
+        groups: &[],
     },
     CommandWords {
         name: "serve",
@@ -60,6 +61,7 @@ pub(crate) const COMMANDS: [CommandWords; 5] = [
             LIBRARY,
             LISTEN,
             WORKERS,
+            TERMINALS_AT_ONCE,
             CONNECTIONS,
             IDLE,
             JOURNAL,
@@ -69,8 +71,12 @@ pub(crate) const COMMANDS: [CommandWords; 5] = [
             PATRONS_OF_KIOSKS,
             SORTER_FIELDS,
             REPLIES_END,
+            ZONE,
+            DOOR,
+            LOG,
+            DAYS_OFF,
         ],
-        group: Some(KEPT),
+        groups: &[SERVED, KEPT],
     },
     CommandWords {
         name: "carry",
@@ -86,7 +92,7 @@ pub(crate) const COMMANDS: [CommandWords; 5] = [
             INTO,
             WRITE_OFF,
         ],
-        group: None,
+        groups: &[],
     },
     CommandWords {
         name: "import",
@@ -109,7 +115,7 @@ pub(crate) const COMMANDS: [CommandWords; 5] = [
             FROM,
             SEPARATOR,
         ],
-        group: None,
+        groups: &[],
     },
 ];
 
@@ -121,7 +127,7 @@ pub(crate) const JOURNAL_COMMANDS: [CommandWords; 4] = [
         long_about: JOURNAL_BEGIN,
         example: JOURNAL_BEGIN_EXAMPLE,
         options: &[CATALOGUE_ALWAYS, OPENING, FOLDER, JOURNAL_OR_FOLDER],
-        group: None,
+        groups: &[],
     },
     CommandWords {
         name: "check",
@@ -135,7 +141,7 @@ pub(crate) const JOURNAL_COMMANDS: [CommandWords; 4] = [
             JOURNAL_OR_FOLDER,
             ACCEPT_CATALOGUE,
         ],
-        group: None,
+        groups: &[],
     },
     CommandWords {
         name: "show",
@@ -155,7 +161,7 @@ pub(crate) const JOURNAL_COMMANDS: [CommandWords; 4] = [
             EXPIRED,
             JSON,
         ],
-        group: Some(LISTING),
+        groups: &[LISTING],
     },
     CommandWords {
         name: "views",
@@ -163,9 +169,16 @@ pub(crate) const JOURNAL_COMMANDS: [CommandWords; 4] = [
         long_about: JOURNAL_VIEWS,
         example: JOURNAL_VIEWS_EXAMPLE,
         options: &[OPENING],
-        group: None,
+        groups: &[],
     },
 ];
+
+/// The options of how many connections are served at once, of which there has to be one.
+const SERVED: GroupWords = GroupWords {
+    name: "served",
+    is_required: true,
+    options: &["workers", "terminals"],
+};
 
 /// The options that have the journal kept in a file.
 const KEPT: GroupWords = GroupWords {

@@ -135,7 +135,7 @@ pub(crate) const FROM: OptionWords = OptionWords {
     value: Value::Choice(Choice {
         name: "ENCODING",
         words: &["utf8", "latin1"],
-        default: "utf8",
+        default: Some("utf8"),
     }),
     help: "The encoding of the CSV files; the catalogue is UTF-8",
     ..PLAIN
@@ -147,7 +147,7 @@ pub(crate) const SEPARATOR: OptionWords = OptionWords {
     value: Value::Choice(Choice {
         name: "SEPARATOR",
         words: &["found", "comma", "semicolon", "tab"],
-        default: "found",
+        default: Some("found"),
     }),
     help: "What stands between two values; found: what the first line shows",
     ..PLAIN

@@ -4,6 +4,10 @@
 mod building;
 mod carry_texts;
 mod commands;
+mod door_commands;
+mod door_options;
+mod door_parsing;
+mod door_texts;
 mod import_options;
 mod import_texts;
 mod journal_texts;
@@ -16,7 +20,7 @@ mod words;
 
 pub use crate::journal_texts::VIEWS;
 pub use crate::orders::{
-    Carry, Check, Extended, Import, JournalBegin, JournalCheck, JournalShow, JournalViews, Kiosks,
-    LibraryFiles, Listing, Order, Place, Replay, Serve,
+    Beyond, Carry, Check, Extended, Import, JournalBegin, JournalCheck, JournalShow, JournalViews,
+    Kiosks, LibraryFiles, Listing, Log, Order, Place, Replay, SeenTopic, Serve, Show, Status, Stop,
 };
 pub use crate::parsing::parse;

@@ -1,10 +1,11 @@
 //! The options of the program's commands.
 
-use crate::words::{Choice, Need, Number, OptionWords, Value};
+use crate::words::{Choice, Form, Need, Number, OptionWords, Value};
 
 /// An option without words, of which those below name the ones that they have.
 pub(crate) const PLAIN: OptionWords = OptionWords {
     name: "",
+    form: Form::Named,
     value: Value::Nothing,
     help: "",
     need: Need::Never,
@@ -86,7 +87,7 @@ pub(crate) const LISTEN: OptionWords = OptionWords {
     ..PLAIN
 };
 
-/// How many connections are served at once.
+/// How many connections are served at once, where others wait.
 pub(crate) const WORKERS: OptionWords = OptionWords {
     name: "workers",
     value: Value::Number(Number {
@@ -95,8 +96,40 @@ pub(crate) const WORKERS: OptionWords = OptionWords {
         most: 64,
         default: None,
     }),
-    help: "How many connections are served at once, 1 to 64",
-    need: Need::Always,
+    help: "How many connections are served at once, 1 to 64; one more waits",
+    ..PLAIN
+};
+
+/// How many connections are served at once, where others are closed.
+pub(crate) const TERMINALS_AT_ONCE: OptionWords = OptionWords {
+    name: "terminals",
+    value: Value::Number(Number {
+        name: "M",
+        least: 1,
+        most: 9999,
+        default: None,
+    }),
+    help: "How many connections are served at once, 1 to 9999; one more is closed",
+    ..PLAIN
+};
+
+/// The door of a server.
+pub(crate) const DOOR: OptionWords = OptionWords {
+    name: "door",
+    value: Value::Text("PATH"),
+    help: "Where to make the Unix socket by which people look at the server, and end it",
+    ..PLAIN
+};
+
+/// What a server tells while it runs.
+pub(crate) const LOG: OptionWords = OptionWords {
+    name: "log",
+    value: Value::Choice(Choice {
+        name: "LEVEL",
+        words: &["quiet", "events", "messages"],
+        default: None,
+    }),
+    help: "What to tell on standard error; without it: events where there is a door, else quiet",
     ..PLAIN
 };
 
@@ -123,6 +156,27 @@ pub(crate) const IDLE: OptionWords = OptionWords {
         default: Some("600"),
     }),
     help: "How long a connection may be silent before it is dropped, up to 86400; 0: for ever",
+    ..PLAIN
+};
+
+/// The time zone that a server goes by.
+pub(crate) const ZONE: OptionWords = OptionWords {
+    name: "zone",
+    value: Value::Text("FILE"),
+    help: "The TZif file whose offset at the start is local time's, in place of the catalogue's",
+    ..PLAIN
+};
+
+/// How far a terminal's clock may be off before that is told.
+pub(crate) const DAYS_OFF: OptionWords = OptionWords {
+    name: "days-off",
+    value: Value::Number(Number {
+        name: "DAYS",
+        least: 1,
+        most: 9999,
+        default: None,
+    }),
+    help: "Tell of terminals whose messages lie more days than this from the server's, 1 to 9999",
     ..PLAIN
 };
 
@@ -181,7 +235,7 @@ pub(crate) const REPLIES_END: OptionWords = OptionWords {
     value: Value::Choice(Choice {
         name: "END",
         words: &["cr", "crlf"],
-        default: "cr",
+        default: Some("cr"),
     }),
     help: "What ends a reply: a carriage return, or that and a line feed, which some terminals wait for",
     ..PLAIN
@@ -203,6 +257,7 @@ pub(crate) const INTO: OptionWords = OptionWords {
     help: "The opening file to write, which isn't there yet",
     need: Need::Without("library"),
     conflicts: &["library"],
+    ..PLAIN
 };
 
 /// The copies whose loans are dropped.

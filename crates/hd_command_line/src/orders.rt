@@ -21,6 +21,12 @@ pub enum Order<'a> {
     JournalShow(JournalShow<'a>),
     /// To print views of a journal's file.
     JournalViews(JournalViews<'a>),
+    /// To show what is where, by a server that runs.
+    Show(Show<'a>),
+    /// To tell how a server stands.
+    Status(Status<'a>),
+    /// To end a server.
+    Stop(Stop<'a>),
 }
 
 /// Where a library lies.
@@ -89,6 +95,8 @@ pub struct Serve<'a> {
     pub listen: &'a str,
     /// How many connections are served at once.
     pub workers: u32,
+    /// What becomes of one beyond these.
+    pub beyond: Beyond,
     /// After how many connections the hall is closed; 0: never.
     pub connections: u32,
     /// After how many idle seconds a connection is dropped; 0: never.
@@ -102,6 +110,34 @@ pub struct Serve<'a> {
     /// Whether a journal that was written with another catalogue is accepted, where each of its turns is
     /// answered the same with this one.
     pub is_other_accepted: bool,
+    /// The path of the door by which people look at the server, where there is to be one.
+    pub door: Option<&'a str>,
+    /// What is told while the server runs.
+    pub log: Log,
+    /// How many days a message may lie from the server's day before that is told, if it ever is.
+    pub days_off: Option<u32>,
+    /// The path of the time zone's file by which the server goes, if it goes by one.
+    pub zone: Option<&'a str>,
+}
+
+/// What becomes of a connection where as many are served as may be.
+#[derive(Clone, Copy)]
+pub enum Beyond {
+    /// It waits until one of them has ended.
+    Wait,
+    /// It is closed.
+    TurnAway,
+}
+
+/// What is told while a server runs.
+#[derive(Clone, Copy)]
+pub enum Log {
+    /// Nothing.
+    Quiet,
+    /// What happens to connections, to the journal and to the server.
+    Events,
+    /// The same, and each line that a terminal sends, with its reply.
+    Messages,
 }
 
 /// What `carry` is asked to do.
@@ -202,4 +238,50 @@ pub enum Listing<'a> {
     Overdue(&'a str),
     /// The holds whose last day was before this day.
     Expired(&'a str),
+}
+
+/// What `show` is asked to do.
+#[derive(Clone, Copy)]
+pub struct Show<'a> {
+    /// The path of the server's door.
+    pub door: &'a str,
+    /// What is to be shown.
+    pub topic: SeenTopic<'a>,
+    /// Whether it is to be JSON.
+    pub is_json: bool,
+}
+
+/// What a server can show.
+#[derive(Clone, Copy)]
+pub enum SeenTopic<'a> {
+    /// Where the copy with this name is.
+    Copy(&'a str),
+    /// The queue of the title with this name.
+    Title(&'a str),
+    /// The loans and the holds of the patron with this name.
+    Patron(&'a str),
+    /// The hold shelf of the branch with this name.
+    Shelf(&'a str),
+    /// The copies that are on their way to the branch with this name.
+    Transit(&'a str),
+    /// The loans that were due before this day.
+    Overdue(&'a str),
+    /// Turns, so many at most: those behind so many, or else the last ones.
+    Turns { after: Option<u32>, limit: u32 },
+    /// The command of this number, what it changed, and the first later one that depends on it.
+    Command(u32),
+}
+
+/// What `status` is asked to do.
+#[derive(Clone, Copy)]
+pub struct Status<'a> {
+    /// The path of the server's door.
+    pub door: &'a str,
+}
+
+/// What `stop` is asked to do.
+#[derive(Clone, Copy)]
+pub struct Stop<'a> {
+    /// The path of the server's door.
+    pub door: &'a str,
 }

@@ -1,11 +1,15 @@
 //! Reading the words of the command line.
-ghost use Rattle.std.specs.Prelude.{◌≡◌, IsFalse, IsTrue, None, Some, codes};
+ghost use Rattle.std.specs.Prelude.{◌≡◌, IfNone, IfSome, IsFalse, IsTrue, None, Some, codes};
+ghost use Rattle.hd_command_line.specs.declared.orders.Beyond.TheVariants.{TurnAway, Wait};
+ghost use Rattle.hd_command_line.specs.declared.orders.Log.TheVariants.{Events, Quiet};
+ghost use Rattle.hd_command_line.specs.Logs.{log_named};
 ghost use Rattle.std.specs.Str.{bytes_eq};
 
 use crate::building::program;
+use crate::door_parsing::door_order_of;
 use crate::orders::{
-    Carry, Check, Extended, Import, JournalBegin, JournalCheck, JournalShow, JournalViews, Kiosks,
-    LibraryFiles, Listing, Order, Place, Replay, Serve,
+    Beyond, Carry, Check, Extended, Import, JournalBegin, JournalCheck, JournalShow, JournalViews,
+    Kiosks, LibraryFiles, Listing, Log, Order, Place, Replay, Serve,
 };
 use clap::{ArgMatches, Error};
 use std::alloc::Global;
@@ -32,6 +36,9 @@ fn order_of<'a>(matches: &ArgMatches<'a>) -> Order<'a> {
     }
     if let Some(found) = matches.subcommand_matches("serve") {
         return Order::Serve(serve_of(found));
+    }
+    if let Some(order) = door_order_of(matches) {
+        return order;
     }
     match matches.subcommand_matches("check") {
         Some(found) => Order::Check(Check {
@@ -126,16 +133,61 @@ fn journal_views_of<'a>(found: Option<&ArgMatches<'a>>) -> JournalViews<'a> {
 
 /// What `serve` is asked to do by what was found.
 fn serve_of<'a>(found: &ArgMatches<'a>) -> Serve<'a> {
+    let door = found.get_str("door");
+    let terminals = found.get_one::<u32>("terminals");
     Serve {
         library: place_of(found),
         listen: found.get_str("listen").unwrap_or(""),
-        workers: found.get_one::<u32>("workers").unwrap_or(1),
+        workers: terminals.or(found.get_one::<u32>("workers")).unwrap_or(1),
+        beyond: beyond_of(terminals.is_some()),
         connections: found.get_one::<u32>("connections").unwrap_or(0),
         idle: found.get_one::<u32>("idle").unwrap_or(600),
         extended: extended_of(found),
         has_line_feeds: has_line_feeds(found.get_str("replies-end").unwrap_or("cr")),
         is_wary: found.get_flag("journal-wary"),
         is_other_accepted: found.get_flag("accept-catalogue"),
+        door,
+        log: log_of(found.get_str("log"), door.is_some()),
+        days_off: found.get_one::<u32>("days-off"),
+        zone: found.get_str("zone"),
+    }
+}
+
+/// What becomes of a connection beyond those that are served at once, where these are told as terminals, or
+/// else as workers.
+fn beyond_of(are_terminals: bool) -> Beyond
+    ensures terminals { IsTrue are_terminals → result ≡ TurnAway }
+    ensures workers { IsFalse are_terminals → result ≡ Wait }
+{
+    if are_terminals {
+        Beyond::TurnAway
+    } else {
+        Beyond::Wait
+    }
+}
+
+/// What is told while a server runs: as this word says, or else events where people can look at it by a door,
+/// and nothing where they can't.
+fn log_of(word: Option<&str>, has_door: bool) -> Log
+    ensures said { IfSome word.entry (λ level. result ≡ log_named level.now) }
+    ensures with_door { IfNone word.entry (IsTrue has_door → result ≡ Events) }
+    ensures without_door { IfNone word.entry (IsFalse has_door → result ≡ Quiet) }
+{
+    match word {
+        Some(word) => log_named(word),
+        None if has_door => Log::Events,
+        None => Log::Quiet,
+    }
+}
+
+/// The level of this name.
+fn log_named(name: &str) -> Log
+    ensures { result ≡ log_named name.now }
+{
+    match name {
+        "events" => Log::Events,
+        "messages" => Log::Messages,
+        _ => Log::Quiet,
     }
 }
 

@@ -90,7 +90,8 @@ pub(crate) const SERVE_ABOUT: &str = "Serves terminals that connect over TCP";
 pub(crate) const SERVE: &str = "Serves terminals that connect over TCP
 
 Each connection is a session: SIP2 messages, each ended by a carriage return, are answered in order. All
-connections share one desk. `holddesk replay --help` says what a session may ask.
+connections share one desk. `holddesk replay --help` says what a session may ask. With --workers a connection
+beyond those that are served at once waits, and with --terminals it is closed, so that its terminal tells it.
 
 When the port is bound, a line on standard error says so, with the port that the system gave where 0 was
 asked for. The desk is kept in memory, and a stop loses it: the next start begins with the catalogue. With
@@ -102,7 +103,18 @@ journal are those of a folder, which `holddesk journal begin --library` makes.
 Self-check kiosks and lockers read a patron's card first, and want --patron-messages; those that ask for a
 password, or greet by name, want --patrons as well. Sorters that choose a bin for holds and transits want
 --sorter-fields. Terminals that show each reply one message late wait for a line feed, and want --replies-end
-crlf. All four are off where nothing is said.";
+crlf. All four are off where nothing is said.
+
+Local time is ahead of universal time by the catalogue's offset, or with --zone, as of
+/usr/share/zoneinfo/Europe/Berlin, by what the zone has when the server starts; the log tells which. So a
+server that is started each night follows summer time. With --days-off the log tells once a day of each
+connection whose messages lie further from the server's day; none is refused for that.
+
+With --door people look at the server while it runs, by `holddesk show` and `holddesk status` or a browser
+behind a proxy, and `holddesk stop` ends it well: its Unix socket is for the server's own user alone. A
+socket that an earlier server left is replaced. --log quiet tells what is told without a door; events has a
+line for each thing that happens to a connection or the journal; messages has each line and reply too,
+without passwords.";
 
 /// An example of `serve`, and its exit statuses.
 pub(crate) const SERVE_EXAMPLE: &str =

@@ -12,21 +12,31 @@ pub(crate) struct CommandWords {
     pub(crate) example: &'static str,
     /// Its options, as its help lists them.
     pub(crate) options: &'static [OptionWords],
-    /// A group of its options, if they have one.
-    pub(crate) group: Option<GroupWords>,
+    /// The groups of its options.
+    pub(crate) groups: &'static [GroupWords],
 }
 
 /// The words of an option.
 #[derive(Clone, Copy)]
 pub(crate) struct OptionWords {
-    /// Its name, which stands behind two hyphens.
+    /// Its name.
     pub(crate) name: &'static str,
+    pub(crate) form: Form,
     pub(crate) value: Value,
     /// What it is, as the help says.
     pub(crate) help: &'static str,
     pub(crate) need: Need,
     /// The options beside which it is refused.
     pub(crate) conflicts: &'static [&'static str],
+}
+
+/// How an option is given.
+#[derive(Clone, Copy)]
+pub(crate) enum Form {
+    /// By its name behind two hyphens, and what stands behind that.
+    Named,
+    /// By what stands in its place, without a name.
+    Placed,
 }
 
 /// What stands behind an option.
@@ -60,7 +70,7 @@ pub(crate) struct Choice {
     pub(crate) name: &'static str,
     pub(crate) words: &'static [&'static str],
     /// Which it is where the option isn't there.
-    pub(crate) default: &'static str,
+    pub(crate) default: Option<&'static str>,
 }
 
 /// When an option has to be there.

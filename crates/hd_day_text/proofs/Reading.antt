@@ -28,8 +28,9 @@ day_printed day text h p = record {
 
 -- a text of ten bytes is those
 ten : (text : List ℕ) → length text ≡ 10 → text
-    ≡ slice_index text 0 ∷ slice_index text 1 ∷ slice_index text 2 ∷ slice_index text 3 ∷ slice_index text 4
-    ∷ slice_index text 5 ∷ slice_index text 6 ∷ slice_index text 7 ∷ slice_index text 8 ∷ slice_index text 9 ∷ []
+    ≡ slice_index text 0 ∷ slice_index text 1 ∷ slice_index text 2 ∷ slice_index text 3
+    ∷ slice_index text 4 ∷ slice_index text 5 ∷ slice_index text 6 ∷ slice_index text 7
+    ∷ slice_index text 8 ∷ slice_index text 9 ∷ []
 ten [] h = absurd (omega arith)
 ten (a ∷ []) h = absurd (omega arith)
 ten (a ∷ b ∷ []) h = absurd (omega arith)
@@ -49,7 +50,8 @@ midnight day = record { day = day; minute = 0; second = 0 }
 
 -- a text is of its first moment's day where that is what is printed of a stamp
 pub day_of_print : (text : List ℕ) (stamp : Stamp) → length text ≡ 10 → slice_index text 4 ≡ 45
-    → slice_index text 7 ≡ 45 → stamp.day < end_of_days → Prints stamp (midnight_text text) → IsDayText stamp.day text
+    → slice_index text 7 ≡ 45 → stamp.day < end_of_days → Prints stamp (midnight_text text)
+    → IsDayText stamp.day text
 day_of_print text stamp size one two h p =
     let parts = ten text size in
     let first : slice_index text 0 ≡ 48 + p.year / 1000 = ap (λ t. slice_index t 0) p.spelled in
@@ -102,18 +104,22 @@ module _ (shown : (stamp : Stamp) (text : List ℕ) (offset : ℤ) → IsMoment 
   pub midnight_shown : (day : ℕ) (text : List ℕ) (offset : ℤ) → IsDayText day text
       → IsStamp (midnight_text text) offset (midnight day)
   midnight_shown day text offset p =
-      shown (midnight day) (midnight_text text) offset (p.in_years, omega arith, omega arith) (midnight_printed day text p)
+      shown (midnight day) (midnight_text text) offset (p.in_years, omega arith, omega arith)
+      (midnight_printed day text p)
 
   -- a text is of one day at most
-  pub one_day : ((text : List ℕ) (offset : ℤ) (s t : Stamp) → IsStamp text offset s → IsStamp text offset t → s ≡ t)
+  pub one_day : ((text : List ℕ) (offset : ℤ) (s t : Stamp) → IsStamp text offset s
+      → IsStamp text offset t → s ≡ t)
       → (text : List ℕ) (day other : ℕ) → IsDayText day text → IsDayText other text → day ≡ other
   one_day one text day other p q =
-      ap (λ (s : Stamp). s.day) (one (midnight_text text) (pos 0) (midnight day) (midnight other) (midnight_shown day text (pos 0) p)
-      (midnight_shown other text (pos 0) q))
+      ap (λ (s : Stamp). s.day) (one (midnight_text text) (pos 0) (midnight day) (midnight other)
+      (midnight_shown day text (pos 0) p) (midnight_shown other text (pos 0) q))
 
   -- and of none where the stamp of its first moment has a fault
-  pub no_day : ((text : List ℕ) (offset : ℤ) (s : Stamp) (fault : DateFault) → IsStamp text offset s → IsFirstFault text offset fault → ⊥)
-      → (text moment : List ℕ) (offset : ℤ) (fault : DateFault) → moment ≡ midnight_text text → IsFirstFault moment offset fault
+  pub no_day : ((text : List ℕ) (offset : ℤ) (s : Stamp) (fault : DateFault) → IsStamp text offset s
+      → IsFirstFault text offset fault → ⊥)
+      → (text moment : List ℕ) (offset : ℤ) (fault : DateFault) → moment ≡ midnight_text text
+      → IsFirstFault moment offset fault
       → (day : ℕ) → IsDayText day text → ⊥
   no_day no_fault text moment offset fault is f day p =
       no_fault moment offset (midnight day) fault

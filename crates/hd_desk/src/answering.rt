@@ -77,7 +77,8 @@ impl<A: Allocator + Copy> Desk<A> {
     /// It takes no memory.
     pub fn held_by(&self, patron: PatronNo) -> &[HeldTitle]
         ensures titles { AreHeldBy (desk_of self.now).hold patron result.now }
-        ensures known { AllByRecursion (λ (held : HeldTitle). held.title < (facts self.now).titles) result.now }
+        ensures known { AllByRecursion (λ (held : HeldTitle). held.title < (facts self.now).titles)
+            result.now }
     {
         self.holds.of_patron(patron)
     }

@@ -1,6 +1,6 @@
 -- Names, each with the line that first defines it, in the order of those lines.
-use Rattle.std.specs.Prelude.{ℕ, Bool, List, [], ◌∷◌, ◌++◌, Option, bytes_eq, is_some, if◌then◌else◌, map, not}
-use Rattle.std.specs.Prelude.{length, nat_le, None}
+use Rattle.std.specs.Prelude.{ℕ, Bool, List, [], ◌∷◌, ◌++◌, Option, bytes_eq, is_some, if◌then◌else◌, map}
+use Rattle.std.specs.Prelude.{length, nat_le, None, not}
 use Rattle.std.specs.Map.{lookup}
 use Rattle.hd_catalogue.specs.Lines.{first_cause}
 use Rattle.hd_catalogue.specs.declared.cause.Cause.{Cause}

@@ -55,7 +55,7 @@ impl Defined {
         }
     }
 
-    /// Takes down that a line defines a name, where none before it does. On want of memory nothing is changed.
+    /// Takes down that a line defines a name, where none before it does. Out of memory, nothing is changed.
     pub(crate) fn define(
         &mut self,
         alloc: Global,

@@ -18,8 +18,8 @@ pub const MOST_TOLD: usize = 20;
 
 /// Tells what is wrong with a catalogue file: nothing where `Catalogue::read` accepts it, and else first the
 /// fault that it gives, and then those of the lines behind, up to [`MOST_TOLD`] in all. A fault of a line is
-/// told after what the lines before it define, whatever else is wrong with these. Where the first line is none
-/// at all, it alone is told.
+/// told after what the lines before it define, whatever else is wrong with these. Where the first line is
+/// none at all, it alone is told.
 ///
 /// # Errors
 /// Out of memory.

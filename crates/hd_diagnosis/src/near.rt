@@ -42,10 +42,10 @@ pub(crate) fn nearest<'a>(
     })
 }
 
-/// How many edits lead from a name to another, where they are few enough for a slip in one place: an insertion,
-/// a deletion, another character, or two neighbours in the other order. Digits are never taken for others, since numbers
-/// are near to each other by themselves; a lost 0 before a number, capitals and blanks around a name are one
-/// edit.
+/// How many edits lead from a name to another, where they are few enough for a slip in one place: an
+/// insertion, a deletion, another character, or two neighbours in the other order. Digits are never taken for
+/// others, since numbers are near to each other by themselves; a lost 0 before a number, capitals and blanks
+/// around a name are one edit.
 fn edits_to(alloc: Global, name: &str, other: &[u8]) -> Result<Option<usize>, AllocError> {
     let Ok(other) = str::from_utf8(other) else {
         return Ok(None);

@@ -11,8 +11,8 @@ abbrev pub IsSettled : List ℕ → Type 0
 IsSettled request =
     ((head : RequestHead) × (rest : List ℕ) × ReadsRequest request head rest) ⊎ RequestOverflows 64 request
 
--- What was heard by a reader that told these bytes before and after: all that it gave, at most 8,192 bytes. It is
--- a request, or else as many bytes, of which none make a head.
+-- What was heard by a reader that told these bytes before and after: all that it gave, at most 8,192 bytes.
+-- It is a request, or else as many bytes, of which none make a head.
 abbrev pub IsHeard : Option (List ℕ) → Option (List ℕ) → Heard → Type 0
 IsHeard before after (Whole request) =
     Consumes before after request.items × (length request.items ≤ 8192) × IsSettled request.items

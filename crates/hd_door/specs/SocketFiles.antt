@@ -8,8 +8,8 @@ use Rattle.hd_door.specs.declared.fault.DoorFault.TheVariants as fault
 use Rattle.hd_door.specs.declared.socket_file.Found.{Found}
 use Rattle.hd_door.specs.declared.socket_file.Found.TheVariants.{Nothing, Dead, Live, Other}
 
--- Whether a file gives way to a new socket's. One does at which nobody listens any more; where somebody listens, and
--- where it is no socket's, nothing is done.
+-- Whether a file gives way to a new socket's. One does at which nobody listens any more; where somebody
+-- listens, and where it is no socket's, nothing is done.
 abbrev pub gives_way : Found → Result Bool DoorFault
 gives_way Nothing = Ok false
 gives_way Dead = Ok true

@@ -56,8 +56,8 @@ impl Door {
         self.is_closed.load(Ordering::SeqCst)
     }
 
-    /// Holds a connection until the door is taken away, so that who waits at its other end knows when that is.
-    /// Where too many are held, or memory runs out, it is closed.
+    /// Holds a connection until the door is taken away, so that who waits at its other end knows when that
+    /// is. Where too many are held, or memory runs out, it is closed.
     pub(crate) fn hold<R: Wait>(&self, rt: &R, connection: UnixStream) {
         let mut held = self.held.lock(rt);
         if held.len() < HELD {

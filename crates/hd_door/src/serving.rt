@@ -46,11 +46,11 @@ pub struct Service<'a, V, S> {
     pub on_stop: S,
 }
 
-/// Answers the requests that come in at a door, until it is closed: one of each connection, four connections at
-/// a time. Where not all threads can be had, those that can and this one do the work.
+/// Answers the requests that come in at a door, until it is closed: one of each connection, four connections
+/// at a time. Where not all threads can be had, those that can and this one do the work.
 ///
-/// A request's head has 5 seconds and 8,192 bytes, and an answer 5 seconds. `POST /stop` is answered, and then
-/// calls what the service has for it; its connection stays open until the door is taken away.
+/// A request's head has 5 seconds and 8,192 bytes, and an answer 5 seconds. `POST /stop` is answered, and
+/// then calls what the service has for it; its connection stays open until the door is taken away.
 pub fn serve<R: Threads + Wait + Clock + Sync, V: View + Sync, S: OnStop + Copy + Sync>(
     rt: &R,
     door: &Door,
@@ -100,8 +100,8 @@ fn welcome<R: Wait + Clock, V: View, S: OnStop + Copy>(
     }
 }
 
-/// Answers the request that comes by a connection: what the answer was followed by; or `None`, where no request
-/// comes, or memory runs out.
+/// Answers the request that comes by a connection: what the answer was followed by; or `None`, where no
+/// request comes, or memory runs out.
 fn attend<R: Clock, V: View, S: OnStop>(
     rt: &R,
     service: &Service<'_, V, S>,
@@ -121,7 +121,8 @@ fn attend<R: Clock, V: View, S: OnStop>(
 
 /// Gives an answer, or as much of it as is taken, and has the server end where that is asked.
 fn give<O: Output, S: OnStop>(response: &Response, to: &mut O, on_stop: &mut S)
-    ensures sent { (n : ℕ) × Appends (O.contents to.old) (O.contents to.new) (take n response.now.text.items) }
+    ensures sent { (n : ℕ)
+        × Appends (O.contents to.old) (O.contents to.new) (take n response.now.text.items) }
     ensures stop { response.now.sequel ≡ Stop → S.is_called on_stop.new ≡ true }
     ensures goes_on { response.now.sequel ≢ Stop → on_stop.new ≡ on_stop.old }
 {

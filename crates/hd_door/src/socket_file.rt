@@ -101,7 +101,8 @@ fn found_at<R: Files + Net>(rt: &R, path: &str) -> io::Result<Found> {
     }
 }
 
-/// Which socket it is, where connecting to it went so: nobody listens exactly where the connection is refused.
+/// Which socket it is, where connecting to it went so: nobody listens exactly where the connection is
+/// refused.
 ///
 /// # Errors
 /// The connection's, where it failed in another way.

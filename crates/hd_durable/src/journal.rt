@@ -12,11 +12,13 @@ ghost use Rattle.hd_journal.specs.Shown.{turn_shown};
 ghost use Rattle.hd_durable.specs.Durable.{IsLeft, IsTakeFault, refuses_turn_of};
 
 use crate::table::TurnTable;
+use crate::timed::{LastCommit, TimedTable};
 use hd_catalogue::Catalogue;
 use hd_journal::{Journal, OwnedAsk, Turn, TurnFault, TurnRef, WriteFault};
 use std::alloc::{Allocator, Global};
 use std::marker::Model;
-use std::sync::Arc;
+use std::sync::{Arc, Wait};
+use std::time::Clock;
 
 /// A journal each of whose changing turns is committed to a table before it is answered.
 ///
@@ -175,6 +177,31 @@ impl<T: TurnTable, A: Allocator + Copy> DurableJournal<T, A> {
         match self.shut {
             None => Ok(&self.journal),
             Some(why) => Err(why),
+        }
+    }
+
+    /// The same journal, of whose commits is noted how long each takes.
+    pub fn timed<'a, R: Wait + Clock>(
+        self,
+        rt: &'a R,
+        last: &'a LastCommit,
+    ) -> DurableJournal<TimedTable<'a, R, T>, A>
+        ensures turns { result.turns ≡ self.turns }
+        ensures contents { result.contents ≡ self.contents }
+        ensures table { result.table.table ≡ self.table }
+        ensures shut { result.shut ≡ self.shut }
+    {
+        let DurableJournal {
+            journal,
+            table,
+            answered,
+            shut,
+        } = self;
+        DurableJournal {
+            journal,
+            table: TimedTable::new(rt, last, table),
+            answered,
+            shut,
         }
     }
 

@@ -9,6 +9,7 @@ mod journal;
 mod keeper;
 mod laws;
 mod table;
+mod timed;
 
 pub use crate::journal::DurableJournal;
 pub use crate::keeper::DurableKeeper;
@@ -18,3 +19,4 @@ pub use crate::laws::{
     the_changing_turns_of_a_beginning,
 };
 pub use crate::table::TurnTable;
+pub use crate::timed::{LastCommit, TimedTable};

@@ -265,12 +265,12 @@ impl<A: Allocator + Copy> Journal<A> {
         self.run.record(number)
     }
 
-    /// The number of the first later surviving command that depends on the surviving command of a number: what
-    /// a cancellation of that would be refused by now. `None` where none depends on it, so that it could be
-    /// taken back, or where no survivor has the number.
+    /// The number of the first later surviving command that depends on the surviving command of a number:
+    /// what a cancellation of that would be refused by now. `None` where none depends on it, so that it could
+    /// be taken back, or where no survivor has the number.
     ///
-    /// Of the later records those that its changes touch are looked at, as far as that one. The work is counted
-    /// by the caller's own meter, and no memory is taken.
+    /// Of the later records those that its changes touch are looked at, as far as that one. The work is
+    /// counted by the caller's own meter, and no memory is taken.
     pub fn first_dependent(&self, number: u64, meter: &mut Meter) -> Option<u64>
         ensures { IsFirstDependent (facts self.now) (state self.now).survivors number result }
     {

@@ -13,6 +13,7 @@ ghost use Rattle.hd_turn_store.specs.Crashes.{HoldsTurns};
 ghost use Rattle.hd_turn_store.specs.Faults.{IsReadingFault};
 ghost use Rattle.hd_turn_store.specs.Holds.{Holds};
 ghost use Rattle.hd_turn_store.specs.Kept.{Head, KeptTurn, new_head};
+ghost use Rattle.hd_turn_store.specs.Marks.{HasMark, open_mark};
 ghost use Rattle.hd_turn_store.specs.declared.fault.Fault.{Fault as StoreFault};
 ghost use Rattle.hd_turn_store.specs.declared.fault.Fault.TheVariants as store;
 ghost use Rattle.hd_journal_file.specs.Held.{IsReliable};
@@ -24,7 +25,9 @@ use crate::progress::Progress;
 use crate::restoring::restore_turns;
 use hd_durable::DurableJournal;
 use hd_journal::Journal;
-use hd_turn_store::{Alter, Connection, FileFrom, FileStore, Start, accept, catalogue};
+use hd_turn_store::{
+    Alter, Connection, FileFrom, FileStore, Start, accept, catalogue, open_for_turns,
+};
 use std::alloc::{AllocError, Global};
 use std::sync::Arc;
 
@@ -42,7 +45,7 @@ pub struct Wanted<'a> {
 /// each taken again and compared, whose changing turns are committed to the file from now on.
 ///
 /// `journal` has no turns, and its catalogue is the one that is wanted. `progress` is told how many turns are
-/// taken again.
+/// taken again. Where it is opened for turns, the file says so once they are (`open_for_turns` of the store).
 ///
 /// # Errors
 /// Each of `OpenFault`. The turns in the file stay as they were (`left` of `take_again`).
@@ -51,7 +54,8 @@ pub fn open<S: Start, P: Progress>(
     path: &str,
     start: S,
     wanted: &Wanted<'_>,
-    journal: Journal,
+    is_for_turns: bool,
+    mut journal: Journal,
     progress: &mut P,
 ) -> Result<DurableJournal<JournalFile<FileStore<FileFrom<S>>, S>>, OpenFault>
     requires { journal.turns ≡ [] }
@@ -68,9 +72,45 @@ pub fn open<S: Start, P: Progress>(
         × Holds (file_state opened.table.conn) (new_head wanted.now.digest.now) []) }
     ensures found { IfOk result (λ opened. AreFound (image_at S.Start) opened.table.is_new wanted.now
         (file_state opened.table.conn) opened.contents opened.turns) }
+    ensures marked { IfOk result (λ opened. HasCleanDisk (file_state opened.table.conn)
+        → IsTrue is_for_turns → HasMark open_mark (file_state opened.table.conn).now.trees) }
 {
-    let (conn, is_new) = hd_turn_store::open(rt, path, start, wanted.digest)?;
-    open_over(rt.alloc(), conn, is_new, wanted, journal, progress)
+    let alloc = rt.alloc();
+    let (mut conn, is_new) = hd_turn_store::open(rt, path, start, wanted.digest)?;
+    if is_new {
+        let begun = for_turns(alloc, conn, is_for_turns)?;
+        return Ok(durable(alloc, begun, true, journal)?);
+    }
+    take_again(alloc, &mut conn, wanted, &mut journal, progress)?;
+    let taken = for_turns(alloc, conn, is_for_turns)?;
+    Ok(durable(alloc, taken, false, journal)?)
+}
+
+/// The connection to a journal's file as it is, or, for turns, with the mark of a server that has it open.
+///
+/// # Errors
+/// `File`, where the mark can't be written.
+fn for_turns<S: Start>(
+    alloc: Global,
+    conn: Connection<FileStore<FileFrom<S>>>,
+    is_for_turns: bool,
+) -> Result<Connection<FileStore<FileFrom<S>>>, OpenFault>
+    ensures clean { IfOk result (λ c. HasCleanDisk (file_state c) → HasCleanDisk (file_state conn)) }
+    ensures same { IfOk result (λ c. HasCleanDisk (file_state c) → (head : Head) (rows : List KeptTurn)
+        → Holds (file_state conn) head rows → Holds (file_state c) head rows) }
+    ensures marked { IfOk result (λ c. HasCleanDisk (file_state c) → IsTrue is_for_turns
+        → HasMark open_mark (file_state c).now.trees) }
+{
+    if !is_for_turns {
+        return Ok(conn);
+    }
+    match open_for_turns(alloc, conn) {
+        Ok(marked) => Ok(marked),
+        Err((fault, store)) => {
+            drop(store.close());
+            Err(OpenFault::File(fault))
+        }
+    }
 }
 
 /// The same over a connection that is open: the journal was begun in it, and has no turns yet, or what the

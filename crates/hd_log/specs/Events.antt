@@ -52,8 +52,10 @@ sent_fields name connection sent = name ∷ connection ∷ text (codes "text") (
 
 -- the fields of what happened at a connection, which a field names
 abbrev pub connection_fields : Field → ConnectionEvent → List Field
-connection_fields by (at.Opened address) = named (codes "opened") ∷ by ∷ text (codes "address") address.now ∷ []
-connection_fields by (at.Waiting address) = named (codes "waiting") ∷ by ∷ text (codes "address") address.now ∷ []
+connection_fields by (at.Opened address) =
+    named (codes "opened") ∷ by ∷ text (codes "address") address.now ∷ []
+connection_fields by (at.Waiting address) =
+    named (codes "waiting") ∷ by ∷ text (codes "address") address.now ∷ []
 connection_fields by (at.TurnedAway address) =
     named (codes "turned_away") ∷ by ∷ text (codes "address") address.now ∷ []
 connection_fields by (at.Closed address why messages seconds) =
@@ -64,6 +66,9 @@ connection_fields by (at.LoggedIn terminal) =
 connection_fields by (at.NotLoggedIn terminal why) =
     named (codes "not_logged_in") ∷ by ∷ text (codes "terminal") terminal.now
     ∷ word (codes "why") (refusal_word why) ∷ []
+connection_fields by (at.ClockOff terminal date days) =
+    named (codes "clock_off") ∷ by ∷ text (codes "terminal") terminal.now
+    ∷ text (codes "date") date.now ∷ number (codes "days") days ∷ []
 connection_fields by at.LongLine = named (codes "long_line") ∷ by ∷ []
 connection_fields by at.LineFeedAlone = named (codes "line_feed_alone") ∷ by ∷ []
 connection_fields by (at.Line sent) = sent_fields (named (codes "line")) by sent.now
@@ -75,11 +80,15 @@ event_fields (events.Listening address workers) =
     named (codes "listening") ∷ text (codes "address") address.now ∷ number (codes "workers") workers ∷ []
 event_fields (events.CannotListen address why) =
     named (codes "cannot_listen") ∷ text (codes "address") address.now ∷ text (codes "why") why.now ∷ []
+event_fields (events.CannotRead file why) =
+    named (codes "cannot_read") ∷ text (codes "file") file.now ∷ text (codes "why") why.now ∷ []
 event_fields (events.CannotAccept times why) =
     named (codes "cannot_accept") ∷ number (codes "times") times ∷ text (codes "why") why.now ∷ []
 event_fields (events.FewNumbers last most) =
     named (codes "few_numbers") ∷ number (codes "last") last ∷ number (codes "most") most ∷ []
 event_fields (events.Unwritten why) = named (codes "journal_unwritten") ∷ text (codes "why") why.now ∷ []
+event_fields (events.Zone file offset) =
+    named (codes "zone") ∷ text (codes "file") file.now ∷ word (codes "offset") offset.now ∷ []
 event_fields (events.At connection what) = connection_fields (number (codes "connection") connection) what
 
 -- an event, written

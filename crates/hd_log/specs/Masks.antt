@@ -1,5 +1,5 @@
--- Values that aren't told: a message is a fixed part, and fields of two letters and a value, each ended by a bar
--- (SIP2 2.00). Where the fixed part ends depends on the message, so up to the first bar a field may begin
+-- Values that aren't told: a message is a fixed part, and fields of two letters and a value, each ended by a
+-- bar (SIP2 2.00). Where the fixed part ends depends on the message, so up to the first bar a field may begin
 -- anywhere; and so it may behind a field of a few bytes, which needs no bar.
 use Rattle.std.specs.Prelude.{◌≡◌, ℕ, Bool, true, false, ◌&&◌, ◌||◌, List, [], ◌∷◌, ◌++◌, Contains}
 use Rattle.std.specs.Prelude.{if◌then◌else◌, ◌==◌}
@@ -47,8 +47,8 @@ abbrev pub IsBehind : List ℕ → Type 0
 IsBehind [] = Unit {0}
 IsBehind (b ∷ rest) = b ≡ 124
 
--- The place behind these bytes is one where a field may begin: they have no bar, or a bar ends them, or with the
--- last bar a field of a few bytes begins.
+-- The place behind these bytes is one where a field may begin: they have no bar, or a bar ends them, or with
+-- the last bar a field of a few bytes begins.
 pub data MayBegin : List ℕ → Type 0 where
   InFirst : (before : List ℕ) → ¬ Contains before 124 → MayBegin before
   BehindBar : (before : List ℕ) → MayBegin (before ++ 124 ∷ [])

@@ -5,7 +5,7 @@ ghost use Rattle.hd_log.specs.Events.{end_word, event_level, refusal_word};
 use crate::level::Level;
 
 /// What is told of a server. Texts of which nothing is said are any bytes.
-#[derive(Clone, Copy, Debug, PartialEq, Eq)]
+#[derive(Clone, Copy, Debug)]
 pub enum Event<'a> {
     /// It listens.
     Listening {
@@ -18,6 +18,13 @@ pub enum Event<'a> {
     CannotListen {
         /// The address that it was given.
         address: &'a [u8],
+        /// Why.
+        why: &'a [u8],
+    },
+    /// It can't read one of its library's files.
+    CannotRead {
+        /// The path of the file.
+        file: &'a [u8],
         /// Why.
         why: &'a [u8],
     },
@@ -40,6 +47,13 @@ pub enum Event<'a> {
         /// Why.
         why: &'a [u8],
     },
+    /// It goes by the offset of a time zone, in place of its catalogue's.
+    Zone {
+        /// The path of the zone's file.
+        file: &'a [u8],
+        /// The offset, in minutes, as a word: `+60`.
+        offset: &'a [u8],
+    },
     /// Something happened at a connection.
     At {
         /// The connection's number, from 1.
@@ -50,7 +64,7 @@ pub enum Event<'a> {
 }
 
 /// What is told of a connection.
-#[derive(Clone, Copy, Debug, PartialEq, Eq)]
+#[derive(Clone, Copy, Debug)]
 pub enum ConnectionEvent<'a> {
     /// It was accepted.
     Opened {
@@ -89,6 +103,15 @@ pub enum ConnectionEvent<'a> {
         terminal: &'a [u8],
         /// Why.
         why: Refused,
+    },
+    /// A message's day lies too far from the server's.
+    ClockOff {
+        /// The name of the terminal that has logged in; empty where none has.
+        terminal: &'a [u8],
+        /// The message's transaction date.
+        date: &'a [u8],
+        /// How many days lie between them.
+        days: u64,
     },
     /// A line was too long.
     LongLine,
@@ -176,7 +199,8 @@ impl End {
 }
 
 impl<'a> Event<'a> {
-    /// The least level at which it is told: lines and replies at that of messages, all else at that of events.
+    /// The least level at which it is told: lines and replies at that of messages, all else at that of
+    /// events.
     pub fn level(&self) -> Level
         ensures { result ≡ event_level self.now }
     {

@@ -39,6 +39,16 @@ pub fn write_event(alloc: Global, out: &mut Vec<u8>, event: &Event<'_>) -> Resul
                 ],
             )
         }
+        Event::CannotRead { file, why } => {
+            write_line(
+                out,
+                &[
+                    named(b"cannot_read"),
+                    text(b"file", file),
+                    text(b"why", why),
+                ],
+            )
+        }
         Event::CannotAccept { times, why } => {
             write_line(
                 out,
@@ -61,6 +71,12 @@ pub fn write_event(alloc: Global, out: &mut Vec<u8>, event: &Event<'_>) -> Resul
         }
         Event::Unwritten { why } => {
             write_line(out, &[named(b"journal_unwritten"), text(b"why", why)])
+        }
+        Event::Zone { file, offset } => {
+            write_line(
+                out,
+                &[named(b"zone"), text(b"file", file), word(b"offset", offset)],
+            )
         }
         Event::At { connection, what } => {
             write_at(alloc, out, &number(b"connection", connection), &what)
@@ -119,6 +135,20 @@ fn write_at(
                 *at,
                 text(b"terminal", terminal),
                 word(b"why", why.word()),
+            ];
+            write_line(out, &about)
+        }
+        ConnectionEvent::ClockOff {
+            terminal,
+            date,
+            days,
+        } => {
+            let about = [
+                named(b"clock_off"),
+                *at,
+                text(b"terminal", terminal),
+                text(b"date", date),
+                number(b"days", days),
             ];
             write_line(out, &about)
         }

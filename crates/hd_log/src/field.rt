@@ -10,7 +10,7 @@ use itoa::Buffer;
 use std::alloc::AllocError;
 
 /// What a field says.
-#[derive(Clone, Copy, Debug, PartialEq, Eq)]
+#[derive(Clone, Copy)]
 pub(crate) enum Value<'a> {
     /// A number, in decimal.
     Number(u64),
@@ -21,7 +21,7 @@ pub(crate) enum Value<'a> {
 }
 
 /// A field of a line.
-#[derive(Clone, Copy, Debug, PartialEq, Eq)]
+#[derive(Clone, Copy)]
 pub(crate) struct Field<'a> {
     pub(crate) key: &'a [u8],
     pub(crate) value: Value<'a>,

@@ -21,8 +21,8 @@ pub fn numbers_are_plain()
     ensures { (number : ℕ) → number < 2 ^ 64 → escaped (decimal number) ≡ decimal number }
 {}
 
-/// The value of a secret field isn't told, wherever the field stands: two lines that differ in it alone are told
-/// alike. It ends at the next bar, or with the line.
+/// The value of a secret field isn't told, wherever the field stands: two lines that differ in it alone are
+/// told alike. It ends at the next bar, or with the line.
 pub fn secrets_are_masked()
     ensures { (before rest : List ℕ) (a b : ℕ) → MayBegin before → is_secret a b ≡ true → IsBehind rest
         → IsKept before a b rest }

@@ -11,7 +11,7 @@ const BAR: u8 = b'|';
 const STAR: u8 = b'*';
 
 /// Where a line is read.
-#[derive(Clone, Copy, Debug, PartialEq, Eq)]
+#[derive(Clone, Copy)]
 pub(crate) enum Place {
     /// In a value that isn't told.
     Hidden,

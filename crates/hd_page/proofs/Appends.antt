@@ -1,5 +1,5 @@
 -- Pieces that are written one behind the other.
-use Rattle.std.proofs.Common.{◌≡◌, ℕ, List, ◌++◌, append_assoc, refl, sym, ◌∙◌, ap}
+use Rattle.std.proofs.Common.{◌≡◌, ℕ, List, ◌++◌, append_assoc}
 
 pub two_pieces : (o n₁ n₂ a b : List ℕ) → n₁ ≡ o ++ a → n₂ ≡ n₁ ++ b → n₂ ≡ o ++ (a ++ b)
 two_pieces o n₁ n₂ a b first second = rw (second, first) (simp append_assoc)

@@ -1,5 +1,6 @@
 -- Each part of a reply's head is of its class.
-use Rattle.std.proofs.Common.{◌≡◌, ℕ, ◌+◌, ◌%◌, ◌<◌, ◌≤◌, ◌^◌, Bool, true, List, [], ◌∷◌, ◌++◌, length, refl, arith, All, IsTrue, codes, decimal, lit<, lit≤}
+use Rattle.std.proofs.Common.{◌≡◌, ℕ, ◌+◌, ◌%◌, ◌<◌, ◌≤◌, ◌^◌, true, List, [], ◌∷◌, ◌++◌, length, refl}
+use Rattle.std.proofs.Common.{arith, All, IsTrue, codes, decimal, lit<, lit≤}
 use Rattle.std.specs.List.{list_all, AllPass}
 use Rattle.std.specs.Char.{is_ascii_digit}
 use Rattle.std.proofs.lemmas.Grind.{common_steps}
@@ -8,8 +9,8 @@ use Rattle.std.proofs.lemmas.List.Sums.{AllPass-from_list_all}
 use Rattle.std.proofs.lemmas.Fmt.{decimal_by_steps}
 use Rattle.httparse.specs.Grammar.{Field, IsField, is_token_byte, is_value_byte, IsResponseHead}
 use Rattle.hd_page.specs.declared.reply.Status.{Status}
-use Rattle.hd_page.specs.declared.reply.Status.TheVariants.{Ok, Accepted, BadRequest, NotFound, OnlyRead, OnlyPosted}
-use Rattle.hd_page.specs.declared.reply.Status.TheVariants.{TooLarge, FieldsTooLarge, Unavailable}
+use Rattle.hd_page.specs.declared.reply.Status.TheVariants.{Ok, Accepted, BadRequest, NotFound, OnlyRead}
+use Rattle.hd_page.specs.declared.reply.Status.TheVariants.{OnlyPosted, TooLarge, FieldsTooLarge, Unavailable}
 use Rattle.hd_page.specs.declared.reply.Media.{Media}
 use Rattle.hd_page.specs.declared.reply.Media.TheVariants.{Html, Json, Metrics, Plain}
 use Rattle.hd_page.specs.Replies.{media_text}
@@ -48,7 +49,8 @@ named_field name value some token fine = record {
 
 length_field : (n : ℕ) → n < 2 ^ 64 → IsField (field (codes "Content-Length") (decimal n))
 unfolding is_token_byte
-length_field n small = named_field (codes "Content-Length") (decimal n) (lit< tt) refl (decimal_is_fine n small)
+length_field n small = named_field (codes "Content-Length") (decimal n) (lit< tt) refl
+    (decimal_is_fine n small)
 
 is_policy_field : (policy : List ℕ) → AllPass is_value_byte policy → IsField (policy_field policy)
 unfolding is_token_byte
@@ -134,7 +136,8 @@ whole_head policy status media len fine small = record {
   digits = head_digits status;
   reason = head_phrase status;
   fields = All-cons IsField (field (codes "Content-Type") (media_text media))
-      (field (codes "Content-Length") (decimal len) ∷ (allow_of status ++ (policy_field policy ∷ fixed_fields)))
+      (field (codes "Content-Length") (decimal len)
+      ∷ (allow_of status ++ (policy_field policy ∷ fixed_fields)))
       (type_field media)
       (All-cons IsField (field (codes "Content-Length") (decimal len))
       (allow_of status ++ (policy_field policy ∷ fixed_fields)) (length_field len small)

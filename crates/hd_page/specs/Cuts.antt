@@ -1,5 +1,6 @@
 -- Bytes cut at a mark or behind a prefix.
-use Rattle.std.specs.Prelude.{ℕ, ◌==◌, List, Option, Some, None, take, drop, length, position, if◌then◌else◌, nat_eq}
+use Rattle.std.specs.Prelude.{ℕ, ◌==◌, List, Option, Some, None, take, drop, length, position, if◌then◌else◌}
+use Rattle.std.specs.Prelude.{nat_eq}
 use Rattle.std.specs.Cmp.Lexicographic.{pointwise}
 
 -- what stands before the place, or all

@@ -1,9 +1,9 @@
 -- The heads of replies, in the words of a parser.
-use Rattle.std.specs.Prelude.{ℕ, List, [], ◌∷◌, ◌++◌, Option, Some, codes, decimal}
+use Rattle.std.specs.Prelude.{ℕ, List, [], ◌∷◌, ◌++◌, Some, codes, decimal}
 use Rattle.httparse.specs.Grammar.{Field, crlf, ResponseHead}
 use Rattle.hd_page.specs.declared.reply.Status.{Status}
-use Rattle.hd_page.specs.declared.reply.Status.TheVariants.{Ok, Accepted, BadRequest, NotFound, OnlyRead, OnlyPosted}
-use Rattle.hd_page.specs.declared.reply.Status.TheVariants.{TooLarge, FieldsTooLarge, Unavailable}
+use Rattle.hd_page.specs.declared.reply.Status.TheVariants.{Ok, Accepted, BadRequest, NotFound, OnlyRead}
+use Rattle.hd_page.specs.declared.reply.Status.TheVariants.{OnlyPosted, TooLarge, FieldsTooLarge, Unavailable}
 use Rattle.hd_page.specs.declared.reply.Media.{Media}
 use Rattle.hd_page.specs.Replies.{media_text}
 
@@ -63,6 +63,7 @@ head_of policy status media len = record {
   reason = Some (phrase_of status);
   line_end = crlf;
   fields = field (codes "Content-Type") (media_text media)
-      ∷ field (codes "Content-Length") (decimal len) ∷ (allow_of status ++ (policy_field policy ∷ fixed_fields));
+      ∷ field (codes "Content-Length") (decimal len)
+      ∷ (allow_of status ++ (policy_field policy ∷ fixed_fields));
   last = crlf;
 }

@@ -1,5 +1,6 @@
 -- A library's state in the text format of Prometheus.
-use Rattle.std.specs.Prelude.{ℕ, ◌+◌, ◌/◌, ◌%◌, List, [], ◌∷◌, ◌++◌, Option, Some, None, option_and_then, option_map, codes, decimal}
+use Rattle.std.specs.Prelude.{ℕ, ◌+◌, ◌/◌, ◌%◌, List, [], ◌∷◌, ◌++◌, Option, Some, None, option_and_then}
+use Rattle.std.specs.Prelude.{option_map, codes, decimal}
 use Rattle.std.specs.List.{concat, flat_map}
 use Rattle.hd_page.specs.declared.state.Health.{Health}
 use Rattle.hd_page.specs.declared.state.Health.TheVariants.{Well, Shut, Full}

@@ -2,8 +2,8 @@
 use Rattle.std.specs.Prelude.{ℕ, Bool, not, ◌==◌, IsTrue, List, ◌++◌, codes, ⊤}
 use Rattle.std.specs.List.{list_all}
 use Rattle.hd_page.specs.declared.place.Place.{Place}
-use Rattle.hd_page.specs.declared.place.Place.TheVariants.{Home, Health, Metrics, Copy, Queue, Patron, Shelf, Transit}
-use Rattle.hd_page.specs.declared.place.Place.TheVariants.{Overdue, Turns, Command}
+use Rattle.hd_page.specs.declared.place.Place.TheVariants.{Home, Health, Metrics, Copy, Queue, Patron, Shelf}
+use Rattle.hd_page.specs.declared.place.Place.TheVariants.{Transit, Overdue, Turns, Command}
 
 -- a byte of a name: any but /
 abbrev pub is_name_byte : ℕ → Bool

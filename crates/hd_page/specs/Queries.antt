@@ -3,7 +3,8 @@ use Rattle.std.specs.Prelude.{ℕ, zero, suc, min, List, [], ◌∷◌, Option, 
 use Rattle.hd_page.specs.Cuts.{before_mark, behind, behind_mark}
 use Rattle.hd_page.specs.Numbers.{number_in}
 
--- what a field of a query says: a day as it came, where a page begins, how many at most; or it isn't of the form
+-- what a field of a query says: a day as it came, where a page begins, how many at most; or it isn't of the
+-- form
 pub data Word : Type 0 where
   Day : List ℕ → Word
   After : ℕ → Word

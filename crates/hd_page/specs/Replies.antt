@@ -1,8 +1,8 @@
 -- Replies, and their texts.
 use Rattle.std.specs.Prelude.{ℕ, List, [], ◌++◌, codes, decimal, length}
 use Rattle.hd_page.specs.declared.reply.Status.{Status}
-use Rattle.hd_page.specs.declared.reply.Status.TheVariants.{Ok, Accepted, BadRequest, NotFound, OnlyRead, OnlyPosted}
-use Rattle.hd_page.specs.declared.reply.Status.TheVariants.{TooLarge, FieldsTooLarge, Unavailable}
+use Rattle.hd_page.specs.declared.reply.Status.TheVariants.{Ok, Accepted, BadRequest, NotFound, OnlyRead}
+use Rattle.hd_page.specs.declared.reply.Status.TheVariants.{OnlyPosted, TooLarge, FieldsTooLarge, Unavailable}
 use Rattle.hd_page.specs.declared.reply.Media.{Media}
 use Rattle.hd_page.specs.declared.reply.Media.TheVariants.{Html, Json, Metrics, Plain}
 use Rattle.hd_page.specs.declared.reply.Method.{Method}

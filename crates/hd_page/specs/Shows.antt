@@ -1,10 +1,9 @@
 -- What is shown at a place.
-use Rattle.std.specs.Prelude.{◌≡◌, ◌≢◌, ℕ, List, Option, Some, None, option_map, codes}
+use Rattle.std.specs.Prelude.{◌≡◌, ◌≢◌, ℕ, List, Option, Some, None, option_map}
 use Rattle.percent_encoding.specs.Percent.{percent_decode}
-use Rattle.hd_json.specs.Texts.{array_text}
 use Rattle.hd_page.specs.declared.place.Place.{Place}
-use Rattle.hd_page.specs.declared.place.Place.TheVariants.{Home, Health, Metrics, Copy, Queue, Patron, Shelf, Transit}
-use Rattle.hd_page.specs.declared.place.Place.TheVariants.{Overdue, Turns, Command}
+use Rattle.hd_page.specs.declared.place.Place.TheVariants.{Home, Health, Metrics, Copy, Queue, Patron, Shelf}
+use Rattle.hd_page.specs.declared.place.Place.TheVariants.{Transit, Overdue, Turns, Command}
 use Rattle.hd_page.specs.declared.state.State.{State}
 use Rattle.hd_page.specs.declared.view.Named.{Named}
 use Rattle.hd_page.specs.Answers.{fault_answer, health_answer, metrics_answer, page_answer, rows_answer}

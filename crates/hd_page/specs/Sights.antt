@@ -8,14 +8,16 @@ use Rattle.hd_page.specs.declared.view.Outcome.{Outcome}
 use Rattle.hd_page.specs.declared.view.Outcome.TheVariants.{Written, Unknown, Refused}
 use Rattle.hd_page.specs.declared.view.ViewFault.{ViewFault}
 
--- what is asked: what there is under a name, what is overdue on a day, the turns after so many, the command of a number
+-- what is asked: what there is under a name, what is overdue on a day, the turns after so many, the command
+-- of a number
 pub data Asked : Type 0 where
   NameAsked : Named → List ℕ → ℕ → Asked
   DayAsked : List ℕ → ℕ → Asked
   TurnsAsked : ℕ → ℕ → Asked
   NumberAsked : ℕ → Asked
 
--- what is seen: rows of members, that there is nothing of this name or number, that there is no such day, or nothing
+-- what is seen: rows of members, that there is nothing of this name or number, that there is no such day, or
+-- nothing
 pub data Sight : Type 0 where
   Rows : List (List Member) → Sight
   NoSuchName : Sight
@@ -31,7 +33,8 @@ asked_of (Command number) = NumberAsked number
 
 -- what may be seen is written behind old, or nothing is
 abbrev pub Writes : (Sight → Type 0) → Result Outcome ViewFault → List ℕ → List ℕ → Type 0
-Writes may (Ok Written) old new = (rows : List (List Member)) × may (Rows rows) × (new ≡ old ++ array_text rows)
+Writes may (Ok Written) old new = (rows : List (List Member)) × may (Rows rows)
+    × (new ≡ old ++ array_text rows)
 Writes may (Ok Unknown) old new = may NoSuchName × (new ≡ old)
 Writes may (Ok Refused) old new = may NoSuchDay × (new ≡ old)
 Writes may (Err fault) old new = may (NoSight fault)

@@ -1,5 +1,5 @@
 -- The words of a query, from Rust's values.
-use Rattle.std.specs.Prelude.{ℕ, List, [], ◌∷◌}
+use Rattle.std.specs.Prelude.{List, [], ◌∷◌}
 use Rattle.hd_page.specs.declared.query.Word as declared
 use Rattle.hd_page.specs.declared.query.Word.TheVariants.{Day, After, Limit, Other}
 use Rattle.hd_page.specs.declared.query.Said.{Said}

@@ -79,7 +79,8 @@ fn reply_to_head<V: View>(
     ensures parts { IfOk result (λ r. AnswersParts
         (record { page = page.now.text.now; shows = V.shows view.now; tells = V.tells view.now })
         (span_bytes request.now head.now.method) (span_bytes request.now head.now.path)
-        (list_any tells_body (map (header_bytes request.now) (take head.now.headers headers.now))) (seen r.1)) }
+        (list_any tells_body (map (header_bytes request.now) (take head.now.headers headers.now)))
+        (seen r.1)) }
 {
     let method = head.method.of(request);
     let target = head.path.of(request);

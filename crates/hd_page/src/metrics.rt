@@ -1,8 +1,9 @@
 //! A library's state in the text format of Prometheus.
 ghost use Rattle.std.specs.Prelude.{◌≡◌, ◌++◌, OnOk, decimal, map};
 ghost use Rattle.std.specs.List.{flat_map};
-ghost use Rattle.hd_page.specs.Metrics.{all_turns_text, commit_text, fraction, gauge_text, gauges, kind_text, kinds};
-ghost use Rattle.hd_page.specs.Metrics.{metrics_text, number_text, sample_text, seconds_text, turns_text, well};
+ghost use Rattle.hd_page.specs.Metrics.{all_turns_text, commit_text, fraction, gauge_text, gauges, kind_text};
+ghost use Rattle.hd_page.specs.Metrics.{kinds, metrics_text, number_text, sample_text, seconds_text};
+ghost use Rattle.hd_page.specs.Metrics.{turns_text, well};
 ghost use Rattle.hd_page.specs.Metered.{gauge_of, kind_of};
 
 use crate::pieces::write_pieces;

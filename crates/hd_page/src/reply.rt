@@ -1,7 +1,7 @@
 //! A reply, and its text.
 ghost use Rattle.std.specs.Prelude.{◌≡◌, ◌++◌, IfOk, OnOk};
-ghost use Rattle.hd_page.specs.Replies.{allow_text, fields_text, length_text, media_text, policy_text, refusal};
-ghost use Rattle.hd_page.specs.Replies.{reply_text, sent_of, start_text, status_text, words};
+ghost use Rattle.hd_page.specs.Replies.{allow_text, fields_text, length_text, media_text, policy_text};
+ghost use Rattle.hd_page.specs.Replies.{refusal, reply_text, sent_of, start_text, status_text, words};
 ghost use Rattle.hd_page.specs.Seen.{seen};
 
 use hd_json::write_number;

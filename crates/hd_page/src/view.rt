@@ -19,7 +19,8 @@ pub enum Named {
     Transit,
 }
 
-/// What is asked of a view. `after` is where a page begins: 0, or what the last row of the page before gave as `next`.
+/// What is asked of a view. `after` is where a page begins: 0, or what the last row of the page before gave
+/// as `next`.
 #[derive(Clone, Copy, Debug, PartialEq, Eq)]
 pub enum Inquiry<'a> {
     /// What there is under a name, which is any bytes.

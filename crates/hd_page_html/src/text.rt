@@ -25,11 +25,12 @@ dl { display: flex; flex-wrap: wrap; gap: .25rem 1.75rem; margin: 0; }
 dl div { display: flex; gap: .4rem; }
 dt, thead th { color: var(--soft); }
 dd { margin: 0; font-weight: 600; }
-dd, .n { font-variant-numeric: tabular-nums; }
+dd, .n { font-variant-numeric: tabular-nums; white-space: nowrap; }
 form { display: flex; flex-wrap: wrap; gap: .75rem; align-items: end; }
-label { display: grid; gap: .2rem; font-size: .875rem; color: var(--soft); }
+label { display: grid; gap: .2rem; max-width: 100%; font-size: .875rem; color: var(--soft); }
 input, select, button {
-  font: inherit; height: 2.5rem; padding: .4rem .6rem; border: 1px solid var(--soft); border-radius: .3rem;
+  font: inherit; height: 2.5rem; max-width: 100%; min-width: 0; padding: .4rem .6rem;
+  border: 1px solid var(--soft); border-radius: .3rem;
   background: Canvas; color: CanvasText;
 }
 button { background: var(--accent); color: Canvas; border-color: transparent; cursor: pointer; }
@@ -41,6 +42,8 @@ th, td { text-align: left; vertical-align: top; padding: .35rem 1rem .35rem 0; }
 th, td { border-bottom: 1px solid var(--line); }
 thead th { font-weight: 500; font-size: .875rem; white-space: nowrap; }
 .said { min-height: 1.5em; margin: .5rem 0 0; }
+#told:empty { min-height: 0; margin: 0; }
+#turns caption, #kinds caption { padding-top: 0; font-size: .875rem; font-weight: 400; color: var(--soft); }
 .bad { color: var(--bad); font-weight: 600; }
 </style>
 </head>
@@ -62,6 +65,7 @@ thead th { font-weight: 500; font-size: .875rem; white-space: nowrap; }
 <option value=\"branches/*/shelf\">A branch: what lies to be fetched</option>
 <option value=\"branches/*/transit\">A branch: what is on the way there</option>
 <option value=\"overdue?day=*\">A day: what is overdue</option>
+<option value=\"turns?day=*\">A day: what came in</option>
 <option value=\"commands/*\">A command: would a cancellation be refused?</option>
 </select></label>
 <label for=\"name\"><span id=\"named\">Name</span>
@@ -69,26 +73,28 @@ thead th { font-weight: 500; font-size: .875rem; white-space: nowrap; }
 <button>Show</button>
 </form>
 <p class=\"said\" id=\"said\" role=\"status\"></p>
-<div class=\"tables\" id=\"found\" tabindex=\"-1\"></div>
+<div class=\"tables\" id=\"found\" tabindex=\"0\" role=\"region\" aria-label=\"What was found\"></div>
 <p><button id=\"more\" type=\"button\" hidden>Show more</button></p>
 </section>
 <section aria-labelledby=\"last\">
 <h2 id=\"last\">The last turns</h2>
 <p class=\"said\" id=\"told\" role=\"status\"></p>
-<div class=\"tables\" id=\"turns\"></div>
+<div class=\"tables\" id=\"turns\" tabindex=\"0\" role=\"region\" aria-labelledby=\"last\"></div>
+<p><button id=\"earlier\" type=\"button\" hidden>Show earlier ones</button></p>
 </section>
 <section aria-labelledby=\"counted\">
 <h2 id=\"counted\">Turns since the program began</h2>
-<div class=\"tables\" id=\"kinds\"></div>
+<div class=\"tables\" id=\"kinds\" tabindex=\"0\" role=\"region\" aria-labelledby=\"counted\"></div>
 </section>
 </main>
 <script>
 'use strict';
 const at = id => document.getElementById(id);
-const PAGE = 512, LAST = 50;
+const PAGE = 512, FEW = 50, MOST_PAGES = 100;
+let last = FEW;
 const KINDS = [
   'copies/[^/?]+', 'titles/[^/?]+/queue', 'patrons/[^/?]+', 'branches/[^/?]+/shelf',
-  'branches/[^/?]+/transit', 'overdue[?]day=[^&]+', 'commands/[0-9]+',
+  'branches/[^/?]+/transit', '(overdue|turns)[?]day=[^&]+', 'commands/[0-9]+',
 ].map(form => new RegExp('^' + form + '$'));
 const LABELS = {
   command: 'Command', dependent: 'First that depends on it', due: 'Due', only: 'Only this copy',
@@ -101,6 +107,7 @@ const CAPTIONS = {
 const LINKS = {
   copy: 'copies/*', only: 'copies/*', title: 'titles/*/queue', patron: 'patrons/*', number: 'commands/*',
   command: 'commands/*', dependent: 'commands/*', stamp: 'commands/*', pickup: 'branches/*/shelf',
+  branch: 'branches/*/shelf', to: 'branches/*/transit',
 };
 const STATE = [
   ['holddesk_journal_turns', 'Turns'],
@@ -131,12 +138,13 @@ function byBytes(name) {
 function bytesOf(escaped) {
   return escaped.replace(/%([0-9a-f]{2})/gi, (all, digits) => String.fromCharCode(parseInt(digits, 16)));
 }
+function isDay(value) { return /^\\d{4}-\\d\\d-\\d\\d$/.test(value); }
 function label(name) { return LABELS[name] || name.charAt(0).toUpperCase() + name.slice(1); }
 
 function cell(name, value) {
   const td = make('td');
   if (value === null || value === undefined) return td;
-  if (typeof value === 'number') td.className = 'n';
+  if (typeof value === 'number' || isDay(value)) td.className = 'n';
   if (!Object.hasOwn(LINKS, name)) { td.textContent = readable(String(value)); return td; }
   const a = make('a', readable(String(value)));
   a.href = '#' + LINKS[name].replace('*', () => typeof value === 'number' ? value : byBytes(value));
@@ -183,6 +191,7 @@ async function get(path) {
 
 // The rows from a place on, page by page, until there are many or no more; and where the next page begins.
 async function rowsFrom(path, after) {
+  if (path.startsWith('turns?day=')) return [await returnsOn(path.slice('turns?day='.length)), null];
   const rows = [];
   for (;;) {
     const mark = path.includes('?') ? '&' : '?';
@@ -193,6 +202,24 @@ async function rowsFrom(path, after) {
     if (next === null || rows.length >= PAGE) return [rows, next];
     after = next;
   }
+}
+
+// The returns of a day that stand, the newest first: from the last turn back, to a page of earlier days.
+async function returnsOn(day) {
+  const rows = [], gone = new Set(), figures = counts(await (await get('/metrics')).text());
+  let end = Number(figures.get('holddesk_journal_turns') || 0);
+  for (let pages = 0; end > 0 && pages < MOST_PAGES; pages++) {
+    const from = Math.max(0, end - PAGE);
+    const page = await (await get('/api/turns?after=' + from + '&limit=' + (end - from))).json();
+    const turns = page.filter(row => row.row === 'turn').reverse();
+    for (const turn of turns) {
+      if (turn.outcome === 'cancelled') gone.add(turn.number);
+      const isReturn = turn.asked === 'checkin' && turn.outcome === 'done' && turn.day === day;
+      if (isReturn && !gone.has(turn.number)) rows.push(turnShown(turn));
+    }
+    end = turns.some(turn => turn.day !== null && turn.day >= day) ? from : 0;
+  }
+  return rows;
 }
 
 let shown = { path: '', rows: [], next: null };
@@ -269,6 +296,10 @@ function kindsOf(found) {
   }
   return [...rows.values()];
 }
+// A turn, without its seat. Of a refused cancellation the number is that of the command that depends.
+function turnShown({ seat, ...row }) {
+  return row.why === 'DEPENDS' ? { ...row, why: 'DEPENDS ' + row.number } : row;
+}
 async function refresh() {
   try {
     const health = await fetch('/health', { cache: 'no-store' }), words = (await health.text()).trim();
@@ -283,10 +314,13 @@ async function refresh() {
     const kinds = kindsOf(found);
     const none = make('p', 'They are not counted.');
     at('kinds').replaceChildren(kinds.length ? table('By kind and outcome', kinds) : none);
-    const turns = Number(found.get('holddesk_journal_turns') || 0), after = Math.max(0, turns - LAST);
-    const rows = (await (await get('/api/turns?after=' + after + '&limit=' + LAST)).json())
-      .filter(row => !Object.hasOwn(row, 'next'));
-    if (!at('turns').contains(document.activeElement)) at('turns').replaceChildren(...tables(rows.reverse()));
+    const turns = Number(found.get('holddesk_journal_turns') || 0), after = Math.max(0, turns - last);
+    const rows = (await (await get('/api/turns?after=' + after + '&limit=' + last)).json())
+      .filter(row => !Object.hasOwn(row, 'next')).map(turnShown).reverse();
+    if (!at('turns').querySelector(':focus')) {
+      at('turns').replaceChildren(...(rows.length ? [table('The newest first', rows)] : []));
+    }
+    at('earlier').hidden = after === 0 || last >= PAGE;
     at('told').textContent = rows.length ? '' : 'No turns yet.';
     at('told').classList.remove('bad');
   } catch (fault) {
@@ -295,8 +329,12 @@ async function refresh() {
   }
 }
 
+function today() {
+  const now = new Date();
+  return new Date(now.getTime() - 60000 * now.getTimezoneOffset()).toISOString().slice(0, 10);
+}
 function named() {
-  const day = at('kind').value.startsWith('overdue'), command = at('kind').value.startsWith('commands');
+  const day = at('kind').value.includes('day='), command = at('kind').value.startsWith('commands');
   at('name').type = day ? 'date' : 'text';
   at('name').inputMode = command ? 'numeric' : 'text';
   at('named').textContent = day ? 'Day' : command ? 'Number' : 'Name';
@@ -314,7 +352,10 @@ function asked() {
   at('name').value = readable(bytesOf(path.slice(front.length, path.length - back.length)));
   show(path);
 }
-at('kind').addEventListener('change', () => { named(); at('name').value = ''; });
+at('kind').addEventListener('change', () => {
+  named();
+  at('name').value = at('name').type === 'date' ? today() : '';
+});
 at('ask').addEventListener('submit', event => {
   event.preventDefault();
   const name = at('name').value.trim();
@@ -323,6 +364,10 @@ at('ask').addEventListener('submit', event => {
   if (location.hash.slice(1) === path) asked(); else location.hash = path;
 });
 at('more').addEventListener('click', more);
+at('earlier').addEventListener('click', () => {
+  last = Math.min(PAGE, last + FEW);
+  refresh();
+});
 addEventListener('hashchange', asked);
 named();
 asked();
@@ -335,8 +380,8 @@ setInterval(refresh, 10000);
 
 /// What a browser may load and run for it: its own style and script, by their sums, and nothing else.
 pub(crate) const POLICY: &[u8] = b"default-src 'none'; \
-    script-src 'sha256-fD3680gEtA8i6VDnL46g31OUDYeyQXUCBZKL7OfbxrE='; \
-    style-src 'sha256-0YkKHB7sJYxXkYdstKm3qk3eUzcJphjJtzWBPaEB/WQ='; \
+    script-src 'sha256-XfDsdkQ2JNl7CNCBnMm0Hnado4Zd7PGAC1ERrUVgomE='; \
+    style-src 'sha256-ks1hDWVwQIMjMtSfAgpzgU4Fgj+RQjHA7Foas3NWu0A='; \
     connect-src 'self'; \
     base-uri 'none'; \
     form-action 'none'; \

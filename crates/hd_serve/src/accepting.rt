@@ -1,13 +1,27 @@
 //! Accepting connections.
 ghost use Rattle.std.specs.Prelude.{◌≡◌, ◌↔◌, IsTrue};
-ghost use Rattle.hd_serve.specs.Accepting.{IsLast, admitted};
+ghost use Rattle.std.specs.IoError.{error_kind, raw_os_error};
+ghost use Rattle.hd_serve.specs.Accepting.{IsLast, kind_of, of_code, received, served};
 
 use crate::fault::ServeFault;
-use crate::stop::Stop;
+use crate::gate::Observer;
+use crate::options::{Beyond, Options};
+use crate::speaking::Speaker;
+use crate::standing::{Course, Standing};
 use crossbeam_channel::Sender;
-use hd_journal::WriteFault;
+use hd_log::{ConnectionEvent, End, Event};
+use std::alloc::Global;
+use std::io::{self, ErrorKind};
 use std::net::{TcpListener, TcpStream};
 use std::sync::Wait;
+use std::thread;
+use std::time::{Clock, Duration};
+
+/// How often in a row a failed accept of a kind that passes is tried again.
+const TRIES_AGAIN: u32 = 16;
+
+/// How many milliseconds are waited before.
+const PAUSE_MILLISECONDS: u64 = 100;
 
 /// A connection that was accepted.
 #[derive(Drop)]
@@ -15,46 +29,220 @@ pub(crate) struct Connection {
     pub(crate) stream: TcpStream,
     /// Its session's number, from 1.
     pub(crate) session: usize,
+    /// Its place among those that are open.
+    pub(crate) place: usize,
+    /// Where it comes from, as far as it is told.
+    pub(crate) address: String,
 }
 
-/// Hands on so many connections, or with 0 all that come. Dropping the sender ends the workers.
-///
-/// # Errors
-/// `Unwritten` where the server is to stop, `CannotListen` where a connection can't be accepted, and `Memory`
-/// where it can't be handed on.
-pub(crate) fn accept<R: Wait>(
-    rt: &R,
-    listener: &TcpListener,
-    stop: &Stop,
-    to: Sender<Connection>,
-    connections: u32,
-) -> Result<(), ServeFault> {
-    let mut session = 0usize;
-    for came in listener.incoming() {
-        let stream = admit(stop.why(rt), came)?;
-        session = session.saturating_add(1);
-        if to.send(rt, Connection { stream, session }).is_err() {
-            return Err(ServeFault::Memory);
+/// Why a connection couldn't be accepted.
+#[derive(Clone, Copy)]
+pub(crate) enum Failed {
+    /// For a reason that passes: the other side has gone, or there is no descriptor left.
+    ForNow,
+    /// For another.
+    ForGood,
+}
+
+/// What comes of what the port gave.
+#[derive(Drop)]
+pub(crate) enum Arrival<T> {
+    /// A connection that is to be served.
+    Connection(T),
+    /// Nothing; it is to be tried again.
+    Again,
+    /// No more connections are to be served.
+    End,
+}
+
+/// What accepts connections, and hands them on. Dropping it ends the workers.
+#[derive(Drop)]
+pub(crate) struct Reception<'a, R, O: Observer> {
+    pub(crate) rt: &'a R,
+    pub(crate) alloc: Global,
+    pub(crate) standing: &'a Standing,
+    pub(crate) options: Options<'a>,
+    pub(crate) observer: &'a O,
+    pub(crate) to: Sender<Connection>,
+    /// How many have been handed on.
+    pub(crate) session: usize,
+}
+
+impl<'a, R: Wait + Clock, O: Observer> Reception<'a, R, O> {
+    /// Hands on so many connections, or with 0 all that come, until the server is to end.
+    ///
+    /// # Errors
+    /// `Unwritten` where the journal can't be written, `CannotListen` where a connection can't be accepted,
+    /// for good or 17 times in a row, and `Memory` where it can't be handed on.
+    pub(crate) fn accept(mut self, listener: &TcpListener) -> Result<(), ServeFault> {
+        let mut failed = 0u32;
+        for came in listener.incoming() {
+            match received(
+                self.standing.course(self.rt),
+                self.told(came, failed),
+                failed,
+            )? {
+                Arrival::Connection(stream) => {
+                    failed = 0;
+                    self.welcome(stream)?;
+                }
+                Arrival::Again => {
+                    failed = failed.saturating_add(1);
+                    let _ = thread::sleep(self.rt, Duration::from_millis(PAUSE_MILLISECONDS));
+                }
+                Arrival::End => break,
+            }
+            if is_last(self.session, self.options.connections) {
+                break;
+            }
         }
-        if is_last(session, connections) {
-            break;
+        Ok(())
+    }
+
+    /// What the port gave; where it failed, the observer is told why, and how often in a row.
+    fn told(&self, came: io::Result<TcpStream>, failed: u32) -> Result<TcpStream, Failed> {
+        match came {
+            Ok(stream) => Ok(stream),
+            Err(error) => {
+                self.tell_failed(&error, failed);
+                Err(kind_of(&error))
+            }
         }
     }
-    Ok(())
+
+    /// Tells why no connection could be accepted, unless the server is to end, which shuts the port.
+    fn tell_failed(&self, error: &io::Error, failed: u32) {
+        let course = self.standing.course(self.rt);
+        if course.is_asked || course.unwritten.is_some() {
+            return;
+        }
+        if let Ok(why) = format!(in self.alloc; "{error}") {
+            self.observer.tell(&Event::CannotAccept {
+                times: u64::from(failed).saturating_add(1),
+                why: why.as_bytes(),
+            });
+        }
+    }
+
+    /// Hands a connection on, or closes it where there are as many as may be.
+    ///
+    /// # Errors
+    /// `Memory` where it can't be handed on.
+    fn welcome(&mut self, stream: TcpStream) -> Result<(), ServeFault> {
+        let is_beyond = self.standing.connections(self.rt) >= self.options.workers as usize;
+        self.session = self.session.saturating_add(1);
+        let speaker = Speaker::new(self.alloc, self.observer, self.session);
+        let address = speaker.address(&stream);
+        if is_beyond && self.options.beyond == Beyond::TurnAway {
+            let address = address.as_bytes();
+            speaker.tell(ConnectionEvent::TurnedAway { address });
+            return Ok(());
+        }
+        tell_opened(&speaker, address.as_bytes(), is_beyond);
+        match self.standing.enter(self.rt, &stream) {
+            Some(place) => self.hand_on(stream, place, address),
+            None => {
+                self.tell_closed(&speaker, address.as_bytes());
+                Ok(())
+            }
+        }
+    }
+
+    /// Tells that a connection is closed at once: the server is to end, or there is no room for it.
+    fn tell_closed(&self, speaker: &Speaker<'_, O>, address: &[u8]) {
+        let why = if self.standing.course(self.rt).is_asked {
+            End::Stop
+        } else {
+            End::Memory
+        };
+        speaker.tell(ConnectionEvent::Closed {
+            address,
+            why,
+            messages: 0,
+            seconds: 0,
+        });
+    }
+
+    /// Hands a connection on under the last number.
+    ///
+    /// # Errors
+    /// `Memory` where nobody is there any more to serve it.
+    fn hand_on(&self, stream: TcpStream, place: usize, address: String) -> Result<(), ServeFault> {
+        let connection = Connection {
+            stream,
+            session: self.session,
+            place,
+            address,
+        };
+        match self.to.send(self.rt, connection) {
+            Ok(()) => Ok(()),
+            Err(_) => Err(ServeFault::Memory),
+        }
+    }
 }
 
-/// What the port gave, where it gave a connection, and the server isn't to stop.
+/// Tells that a connection was accepted, and whether it waits.
+fn tell_opened<O: Observer>(speaker: &Speaker<'_, O>, address: &[u8], is_waiting: bool) {
+    speaker.tell(ConnectionEvent::Opened { address });
+    if is_waiting {
+        speaker.tell(ConnectionEvent::Waiting { address });
+    }
+}
+
+/// Whether a connection could not be accepted for now, or for good.
+fn kind_of(error: &io::Error) -> Failed
+    ensures { result ≡ kind_of (error_kind error.now) (raw_os_error error.now) }
+{
+    match error.kind() {
+        ErrorKind::ConnectionAborted | ErrorKind::ConnectionReset | ErrorKind::Interrupted => {
+            Failed::ForNow
+        }
+        _ => of_code(error.raw_os_error()),
+    }
+}
+
+/// The same by the system's code.
+fn of_code(code: Option<i32>) -> Failed
+    ensures { result ≡ of_code code }
+{
+    match code {
+        Some(23 | 24) => Failed::ForNow,
+        _ => Failed::ForGood,
+    }
+}
+
+/// What comes of what the port gave, where the server is on this course, and so many accepts failed before in
+/// a row.
 ///
 /// # Errors
-/// `Unwritten` with the reason to stop, where there is one; `CannotListen` where the port failed.
-fn admit<T: Drop, E: Drop>(stop: Option<WriteFault>, came: Result<T, E>) -> Result<T, ServeFault>
-    ensures { result ≡ admitted stop came }
+/// `Unwritten` with the reason, where the journal can't be written; `CannotListen` where the port failed for
+/// good, or once more than is tried again.
+fn received<T: Drop>(
+    course: Course,
+    came: Result<T, Failed>,
+    failed: u32,
+) -> Result<Arrival<T>, ServeFault>
+    ensures { result ≡ received course came failed }
 {
-    if let Some(why) = stop {
+    if let Some(why) = course.unwritten {
         return Err(ServeFault::Unwritten(why));
     }
+    if course.is_asked {
+        return Ok(Arrival::End);
+    }
+    served(came, failed)
+}
+
+/// The same where the server is to go on.
+///
+/// # Errors
+/// `CannotListen` where the port failed for good, or once more than is tried again.
+fn served<T: Drop>(came: Result<T, Failed>, failed: u32) -> Result<Arrival<T>, ServeFault>
+    ensures { result ≡ served came failed }
+{
     match came {
-        Ok(connection) => Ok(connection),
+        Ok(connection) => Ok(Arrival::Connection(connection)),
+        Err(Failed::ForNow) if failed < TRIES_AGAIN => Ok(Arrival::Again),
         Err(_) => Err(ServeFault::CannotListen),
     }
 }

@@ -2,18 +2,27 @@
 #![tactic(auto)]
 
 mod accepting;
+mod answering;
 mod clock;
+mod day_watch;
 mod fault;
 mod gate;
+mod hearing;
 mod line_feeds;
+mod logins;
 mod options;
 mod places;
+mod reading;
 mod serving;
-mod stop;
+mod speaking;
+mod standing;
 mod surroundings;
+mod terminals;
 mod worker;
 
 pub use crate::fault::ServeFault;
-pub use crate::gate::Gate;
-pub use crate::options::Options;
-pub use crate::serving::serve;
+pub use crate::gate::{Gate, Observer};
+pub use crate::options::{Beyond, Options};
+pub use crate::serving::{serve, serve_observed};
+pub use crate::standing::Standing;
+pub use crate::terminals::{Served, serve_terminals};

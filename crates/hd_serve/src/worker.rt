@@ -1,26 +1,35 @@
 //! Serving one connection after another.
-ghost use Rattle.std.specs.Prelude.{◌≡◌};
-ghost use Rattle.hd_serve.specs.Ends.{stop_of};
+ghost use Rattle.std.specs.Prelude.{◌≡◌, ◌↔◌, IsTrue};
+ghost use Rattle.hd_serve.specs.Ends.{AreFew, end_of, stop_of};
 ghost use Rattle.hd_exchange.specs.Extensions.{extensions_lent};
 ghost use Rattle.hd_session.specs.Sessions.{new_session};
 
 use crate::accepting::Connection;
-use crate::gate::Gate;
+use crate::answering::Answering;
+use crate::day_watch::{DayWatch, profile_of};
+use crate::gate::{Gate, Observer};
+use crate::hearing::Hearing;
 use crate::line_feeds::LineFeeds;
+use crate::options::Options;
 use crate::places::{Places, SeatWithShare};
-use crate::stop::Stop;
+use crate::reading::Reading;
+use crate::speaking::Speaker;
+use crate::standing::Standing;
 use crate::surroundings::ClockAndGate;
 use crossbeam_channel::Receiver;
 use hd_attend::{AttendFault, attend};
 use hd_connection::{Fallible, Output};
+use hd_field::Stream;
 use hd_hall::{Counter, Hall, House, Keeper, Seat};
 use hd_journal::{TurnFault, WriteFault};
-use hd_session::{Ended, Extensions, Session};
+use hd_log::{ConnectionEvent, End, Event};
+use hd_looks::CountsReader;
+use hd_session::{Ended, Session};
 use std::alloc::Global;
 use std::io;
 use std::net::TcpStream;
 use std::sync::{Mutex, Wait};
-use std::time::{Clock, Duration};
+use std::time::{Clock, Duration, Instant};
 
 /// What the workers of a server share.
 #[derive(Drop)]
@@ -29,114 +38,205 @@ pub(crate) struct Service<'a, H: House, Q: Drop, K: Keeper<Global, Q>> {
     pub(crate) hall: &'a Hall<H, Global, Q, K>,
     pub(crate) places: &'a Mutex<Places<H>>,
     pub(crate) from: &'a Receiver<Connection>,
-    pub(crate) stop: &'a Stop,
-    /// For how many seconds a connection may be idle; with 0 for ever.
-    pub(crate) idle: u32,
-    /// What extends the standard messages, if anything does.
-    pub(crate) extensions: Option<&'a Extensions>,
-    /// Whether a line feed is sent behind the carriage return of each reply.
-    pub(crate) has_line_feeds: bool,
+    pub(crate) standing: &'a Standing,
+    pub(crate) options: Options<'a>,
+}
+
+/// A connection that is served, and who is told of it.
+#[derive(Drop)]
+struct Visit<'v, R, O: Observer> {
+    rt: &'v R,
+    observer: &'v O,
+    speaker: &'v Speaker<'v, O>,
+    connection: &'v Connection,
+}
+
+/// How a connection went.
+#[derive(Clone, Copy)]
+struct Visited {
+    ended: Result<(), AttendFault>,
+    /// Whether its last read waited for longer than it may.
+    is_idle: bool,
+    /// How many replies it was given, as far as they are told.
+    replies: u64,
 }
 
 impl<'a, H: House, Q: Drop, K: Keeper<Global, Q> + Drop> Service<'a, H, Q, K> {
     /// Serves connections, until no more can come.
-    pub(crate) fn work<R: Wait + Clock, G: Gate>(&self, rt: &R, gate: &G) {
+    pub(crate) fn work<R: Wait + Clock, O: Gate + Observer>(&self, rt: &R, observer: &O) {
         for _ in rt.forever() {
             match self.from.recv(rt) {
-                Ok(connection) => self.welcome(rt, gate, &connection),
+                Ok(connection) => self.welcome(rt, observer, &connection),
                 Err(_) => return,
             }
         }
     }
 
-    /// Serves a connection to its end, and keeps its seat. Where its options can't be set, or there is no
-    /// room to keep a seat, no session or no seat, nothing is read and nothing written.
-    fn welcome<R: Wait + Clock, G: Gate>(&self, rt: &R, gate: &G, connection: &Connection) {
-        if prepare(&connection.stream, self.idle).is_err() || self.places.lock(rt).add().is_err() {
-            return;
-        }
-        let Ok(state) = Session::opened(self.alloc, self.extensions) else {
-            return;
-        };
-        let Some(seat) = self.hall.seat(rt) else {
-            return;
-        };
-        let seat = self.attend_one(rt, gate, connection, state, seat);
-        self.places.lock(rt).keep(seat);
-    }
-
-    /// The seat, when the connection has ended. Why it ended makes no difference to the others, but where the
-    /// journal can't be written: then no more are served.
-    fn attend_one<R: Wait + Clock, G: Gate>(
+    /// Serves a connection to its end, and tells how it ended.
+    fn welcome<R: Wait + Clock, O: Gate + Observer>(
         &self,
         rt: &R,
-        gate: &G,
+        observer: &O,
         connection: &Connection,
+    ) {
+        let speaker = Speaker::new(self.alloc, observer, connection.session);
+        let begin = Instant::now(rt);
+        let visited = self.serve_one(&Visit {
+            rt,
+            observer,
+            speaker: &speaker,
+            connection,
+        });
+        self.standing.leave(rt, connection.place);
+        let is_asked = self.standing.course(rt).is_asked;
+        speaker.tell(ConnectionEvent::Closed {
+            address: connection.address.as_bytes(),
+            why: end_of(visited.ended, visited.is_idle, is_asked),
+            messages: visited.replies,
+            seconds: seconds_since(rt, begin),
+        });
+        self.notice_numbers(rt, observer);
+    }
+
+    /// Serves a connection to its end, and keeps its seat: how it went. Where its options can't be set, or
+    /// there is no room to keep a seat, no session or no seat, nothing is read and nothing written.
+    fn serve_one<R: Wait + Clock, O: Gate + Observer>(&self, visit: &Visit<'_, R, O>) -> Visited {
+        match self.serve_seated(visit) {
+            Some(visited) => visited,
+            None => Visited {
+                ended: Err(AttendFault::Ended(Ended::Turn(TurnFault::Memory))),
+                is_idle: false,
+                replies: 0,
+            },
+        }
+    }
+
+    /// The same; nothing where nothing is read.
+    fn serve_seated<R: Wait + Clock, O: Gate + Observer>(
+        &self,
+        visit: &Visit<'_, R, O>,
+    ) -> Option<Visited> {
+        prepare(&visit.connection.stream, self.options.idle).ok()?;
+        self.places.lock(visit.rt).add().ok()?;
+        let state = Session::opened(self.alloc, self.options.extensions).ok()?;
+        let heard = Stream::new(self.alloc).ok()?;
+        let Some(seat) = self.hall.seat(visit.rt) else {
+            self.standing.note_full(visit.rt);
+            return None;
+        };
+        let (visited, seat) = self.attend_one(visit, state, heard, seat);
+        self.places.lock(visit.rt).keep(seat);
+        Some(visited)
+    }
+
+    /// How it went, and the seat, when the connection has ended. Why it ended makes no difference to the
+    /// others, but where the journal can't be written: then no more are served.
+    fn attend_one<R: Wait + Clock, O: Gate + Observer>(
+        &self,
+        visit: &Visit<'_, R, O>,
         state: Session<'_>,
+        heard: Stream,
         mut seat: Seat<H>,
-    ) -> SeatWithShare<H>
+    ) -> (Visited, SeatWithShare<H>)
         requires seat { seat.parts ≡ 1 }
-        requires state { state ≡ new_session (extensions_lent self.now.extensions) }
+        requires state { state ≡ new_session (extensions_lent self.now.options.extensions) }
     {
-        let ended = self.attend_to(rt, gate, connection, state, &mut seat);
-        if let Some(why) = stop_of(ended) {
-            self.stop.want(rt, why);
+        let visited = self.attend_to(visit, state, heard, &mut seat);
+        if let Some(why) = stop_of(visited.ended) {
+            self.standing.end_unwritten(visit.rt, why);
+            visit.speaker.tell_unwritten(why);
         }
-        SeatWithShare::new(seat)
+        (visited, SeatWithShare::new(seat))
     }
 
-    /// How a connection ends that is attended to at a seat.
-    fn attend_to<R: Wait + Clock, G: Gate>(
+    /// How a connection went that is attended to at a seat.
+    fn attend_to<R: Wait + Clock, O: Gate + Observer>(
         &self,
-        rt: &R,
-        gate: &G,
-        connection: &Connection,
+        visit: &Visit<'_, R, O>,
         state: Session<'_>,
+        heard: Stream,
         seat: &mut Seat<H>,
-    ) -> Result<(), AttendFault>
+    ) -> Visited
         requires seat { seat.old.parts ≡ 1 }
-        requires state { state ≡ new_session (extensions_lent self.now.extensions) }
+        requires state { state ≡ new_session (extensions_lent self.now.options.extensions) }
         ensures seat { seat.new.parts ≡ 1 }
     {
-        let writer = Fallible(&connection.stream);
-        if self.has_line_feeds {
-            self.attend_by(rt, gate, connection, state, seat, LineFeeds::new(writer))
+        let writer = Fallible(&visit.connection.stream);
+        if self.options.has_line_feeds {
+            self.attend_by(visit, state, heard, seat, LineFeeds::new(writer))
         } else {
-            self.attend_by(rt, gate, connection, state, seat, writer)
+            self.attend_by(visit, state, heard, seat, writer)
         }
     }
 
     /// The same, where the replies are given to this writer.
-    fn attend_by<R: Wait + Clock, G: Gate, W: Output + Drop>(
+    fn attend_by<R: Wait + Clock, O: Gate + Observer, W: Output + Drop>(
         &self,
-        rt: &R,
-        gate: &G,
-        connection: &Connection,
+        visit: &Visit<'_, R, O>,
         mut state: Session<'_>,
+        heard: Stream,
         seat: &mut Seat<H>,
-        mut writer: W,
-    ) -> Result<(), AttendFault>
+        writer: W,
+    ) -> Visited
         requires seat { seat.old.parts ≡ 1 }
-        requires state { state ≡ new_session (extensions_lent self.now.extensions) }
+        requires state { state ≡ new_session (extensions_lent self.now.options.extensions) }
         ensures seat { seat.new.parts ≡ 1 }
     {
-        let mut reader = Fallible(&connection.stream);
-        let surroundings = ClockAndGate {
-            clock: rt,
-            offset: self.hall.catalogue().offset(),
-            gate,
+        let catalogue = self.hall.catalogue();
+        let from = Fallible(Reading::new(&visit.connection.stream));
+        let days = DayWatch {
+            offset: catalogue.offset(),
+            profile: profile_of(self.options.extensions),
+            most: self.options.days_off,
+            told: None,
         };
-        let mut counter = Counter::new(rt, self.hall, seat);
-        attend(
-            rt,
+        let mut reader = Hearing::new(from, heard, catalogue, visit.speaker, visit.rt, days);
+        let mut writer = Answering::new(writer, visit.speaker);
+        let surroundings = ClockAndGate {
+            clock: visit.rt,
+            offset: catalogue.offset(),
+            gate: visit.observer,
+        };
+        let mut counter = Counter::new(visit.rt, self.hall, seat);
+        let ended = attend(
+            visit.rt,
             &mut reader,
             &mut writer,
             &mut counter,
             &mut state,
-            connection.session,
+            visit.connection.session,
             &surroundings,
-        )
+        );
+        Visited {
+            ended,
+            is_idle: reader.into_reader().0.is_idle(),
+            replies: writer.replies(),
+        }
     }
+
+    /// Tells once where nine tenths of the numbers for commands have been given.
+    fn notice_numbers<R: Wait, O: Observer>(&self, rt: &R, observer: &O) {
+        let mut reader = CountsReader { counts: None };
+        if self.hall.look(rt, &mut reader).is_err() {
+            return;
+        }
+        if let Some(counts) = reader.counts {
+            let most = counts.last_number.saturating_add(counts.numbers_left);
+            if are_few(counts.last_number, most) && self.standing.is_news(rt) {
+                observer.tell(&Event::FewNumbers {
+                    last: counts.last_number,
+                    most,
+                });
+            }
+        }
+    }
+}
+
+/// Whether nine tenths of so many numbers have been given, of which this is the last.
+fn are_few(last: u64, most: u64) -> bool
+    ensures { IsTrue result ↔ AreFew last most }
+{
+    last >= most - most / 10
 }
 
 /// Why no more connections are to be served, where one has ended so: a turn of it couldn't be written.
@@ -146,6 +246,37 @@ fn stop_of(ended: Result<(), AttendFault>) -> Option<WriteFault>
     match ended {
         Err(AttendFault::Ended(Ended::Turn(TurnFault::Unwritten(why)))) => Some(why),
         _ => None,
+    }
+}
+
+/// What is told of why a connection ended, whose last read waited for too long or not, at a server that was
+/// asked to end or wasn't.
+fn end_of(ended: Result<(), AttendFault>, is_idle: bool, is_asked: bool) -> End
+    ensures { result ≡ end_of ended is_idle is_asked }
+{
+    match ended {
+        Ok(()) if is_asked => End::Stop,
+        Ok(()) => End::Peer,
+        Err(AttendFault::Read) if is_idle => End::Idle,
+        Err(AttendFault::Read) => End::Read,
+        Err(AttendFault::Write) => End::Write,
+        Err(AttendFault::Ended(Ended::TooLong)) => End::LongLine,
+        Err(AttendFault::Ended(Ended::Turn(fault))) => match fault {
+            TurnFault::Memory => End::Memory,
+            TurnFault::Unwritten(_) => End::Unwritten,
+            _ => End::Estranged,
+        },
+    }
+}
+
+/// How many whole seconds have gone since a moment, where the clock can be read.
+fn seconds_since<R: Clock>(rt: &R, begin: io::Result<Instant>) -> u64 {
+    match begin {
+        Ok(begin) => match begin.elapsed(rt) {
+            Ok(gone) => gone.as_secs(),
+            Err(_) => 0,
+        },
+        Err(_) => 0,
     }
 }
 

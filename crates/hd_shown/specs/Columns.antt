@@ -1,5 +1,6 @@
 -- What is told in a row, member by member, before names and texts are put to it.
 use Rattle.std.specs.Prelude.{ℕ, Option, Some, None, option_map, option_and_then, List, [], ◌∷◌, ◌++◌, map}
+use Rattle.hd_asked.specs.Parts.{admits_of, command_parts, copy_of}
 use Rattle.hd_rules.specs.declared.turns.Asked.{Asked}
 use Rattle.hd_rules.specs.declared.cells.Cell.{Cell}
 use Rattle.hd_rules.specs.declared.cells.Cell.TheVariants.{Copy as CopyCell, Hold as HoldCell}
@@ -22,7 +23,7 @@ use Rattle.hd_shown.specs.declared.words.Heading.{Heading}
 use Rattle.hd_shown.specs.declared.words.Heading.TheVariants as heading
 use Rattle.hd_shown.specs.declared.words.Word.{Word}
 use Rattle.hd_shown.specs.declared.words.Word.TheVariants as word
-use Rattle.hd_shown.specs.Parts.{admits_word, asked_parts, command_parts, due_told, number_told, only_of}
+use Rattle.hd_shown.specs.Parts.{asked_parts, due_told, number_told}
 use Rattle.hd_shown.specs.Parts.{outcome_word, reply_due, state_parts, why_refused}
 
 abbrev pub column : Heading → Plain → Column
@@ -55,8 +56,8 @@ hold_columns w t position p hold =
     ∷ column heading.Position (plain.Number position)
     ∷ column heading.Patron (plain.Patron (Some p))
     ∷ column heading.Stamp (plain.Number (option_map (λ (h : Hold). h.stamp) hold))
-    ∷ column heading.Admits (plain.Word (option_map (λ (h : Hold). admits_word h.kind) hold))
-    ∷ column heading.Only (plain.Copy (option_and_then (λ (h : Hold). only_of h.kind) hold))
+    ∷ column heading.Admits (plain.Word (option_map (λ (h : Hold). word.Admits (admits_of h.kind)) hold))
+    ∷ column heading.Only (plain.Copy (option_and_then (λ (h : Hold). copy_of h.kind) hold))
     ∷ column heading.Pickup (plain.Branch (option_map (λ (h : Hold). h.pickup) hold))
     ∷ day_column heading.Until (option_and_then (λ (h : Hold). h.expiry) hold)
     ∷ column heading.Copy (plain.Copy (option_and_then (λ (h : Hold). h.copy) hold))
@@ -74,7 +75,7 @@ turn_columns n seat terminal asked reply =
     ∷ column heading.Turn (plain.Number (Some n))
     ∷ column heading.Seat (plain.Number (Some seat))
     ∷ column heading.Terminal (plain.Terminal terminal)
-    ∷ column heading.Asked (plain.Word (Some (asked_parts asked).act))
+    ∷ column heading.Asked (plain.Word (Some (asked_parts asked).word))
     ∷ day_column heading.Day (asked_parts asked).day
     ∷ column heading.Patron (plain.Patron (asked_parts asked).patron)
     ∷ column heading.Copy (plain.Copy (asked_parts asked).copy)
@@ -93,7 +94,7 @@ command_columns s reply dependent =
     column heading.Row (plain.Word (Some word.Command))
     ∷ column heading.Command (plain.Number (Some s.number))
     ∷ column heading.Terminal (plain.Terminal s.terminal)
-    ∷ column heading.Asked (plain.Word (Some (command_parts s.command).act))
+    ∷ column heading.Asked (plain.Word (Some (word.Act (command_parts s.command).act)))
     ∷ day_column heading.Day (command_parts s.command).day
     ∷ column heading.Patron (plain.Patron (command_parts s.command).patron)
     ∷ column heading.Copy (plain.Copy (command_parts s.command).copy)

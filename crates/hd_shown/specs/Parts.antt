@@ -1,23 +1,18 @@
 -- What is told of a copy, of what is asked, and of what it came to, part by part.
-use Rattle.std.specs.Prelude.{Bool, true, false, Option, Some, None, option_and_then}
-use Rattle.hd_rules.specs.declared.commands.Action.{Action}
-use Rattle.hd_rules.specs.declared.commands.Cancel.{Cancel}
-use Rattle.hd_rules.specs.declared.commands.Command.{Command}
+use Rattle.std.specs.Prelude.{Option, Some, None}
+use Rattle.hd_asked.specs.Parts.{cancel_parts, command_parts}
+use Rattle.hd_asked.specs.declared.parts.Parts.{Parts}
 use Rattle.hd_rules.specs.declared.copies.CopyState.{CopyState}
-use Rattle.hd_rules.specs.declared.holds.HoldKind.{HoldKind}
 use Rattle.hd_rules.specs.declared.replies.Refusal.{Refusal}
 use Rattle.hd_rules.specs.declared.replies.Reply.{Reply}
 use Rattle.hd_rules.specs.declared.replies.TurnReply.{TurnReply}
 use Rattle.hd_rules.specs.declared.turns.Asked.{Asked}
-use Rattle.hd_rules.specs.declared.holds.HoldKind.TheVariants.{Any, One, AtBranch}
 use Rattle.hd_rules.specs.declared.copies.CopyState.TheVariants.{Shelf, OnLoan, OnHoldShelf, InTransit}
 use Rattle.hd_rules.specs.declared.replies.Reply.TheVariants.{LentOrRenewed}
-use Rattle.hd_rules.specs.declared.commands.Action.TheVariants as action
-use Rattle.hd_rules.specs.declared.commands.Cancel.TheVariants as cancel
 use Rattle.hd_rules.specs.declared.replies.Refusal.TheVariants.{Depends}
 use Rattle.hd_rules.specs.declared.replies.TurnReply.TheVariants as turn
 use Rattle.hd_rules.specs.declared.turns.Asked.TheVariants as ask
-use Rattle.hd_rules.specs.Numbers.{CommandNo, CopyNo, Day}
+use Rattle.hd_rules.specs.Numbers.{CommandNo, Day}
 use Rattle.hd_shown.specs.declared.asked.AskedParts.{AskedParts}
 use Rattle.hd_shown.specs.declared.state.StateParts.{StateParts}
 use Rattle.hd_shown.specs.declared.words.Word.{Word}
@@ -48,79 +43,31 @@ state_parts (OnHoldShelf s) = record (bare_state word.HoldShelf) {
 state_parts (InTransit t) =
     record (bare_state word.InTransit) { branch = Some t.from; to = Some t.to; patron = t.patron }
 
--- which copies a hold admits
-abbrev pub admits_word : HoldKind → Word
-admits_word Any = word.Any
-admits_word (One copy) = word.Copy
-admits_word AtBranch = word.Branch
+-- what a command or a cancellation asks, as it is told
+abbrev pub told_parts : Parts → AskedParts
+told_parts p = record {
+  word = word.Act p.act;
+  day = p.day;
+  patron = p.patron;
+  copy = p.copy;
+  title = p.title;
+  branch = p.branch;
+  until = p.until;
+}
 
--- the copy that it admits, where it is one alone
-abbrev pub only_of : HoldKind → Option CopyNo
-only_of Any = None
-only_of (One copy) = Some copy
-only_of AtBranch = None
-
--- an act that names nothing
-abbrev pub bare_act : Word → AskedParts
-bare_act w = record {
-  act = w;
+-- what is asked
+unfoldable pub asked_parts : Asked → AskedParts
+asked_parts (ask.Command command) = told_parts (command_parts command)
+asked_parts (ask.Cancel what) = told_parts (cancel_parts what)
+asked_parts (ask.Item c) = record {
+  word = word.Item;
   day = None;
   patron = None;
-  copy = None;
+  copy = Some c;
   title = None;
   branch = None;
   until = None;
 }
-
--- a checkout, by whether it may renew
-abbrev pub checkout_word : Bool → Word
-checkout_word true = word.CheckoutOrRenewal
-checkout_word false = word.Checkout
-
--- what a command asks
-abbrev pub action_parts : Action → AskedParts
-action_parts (action.Checkout p c may_renew) =
-    record (bare_act (checkout_word may_renew)) { patron = Some p; copy = Some c }
-action_parts (action.OffLine p c due) =
-    record (bare_act word.OffLine) { patron = Some p; copy = Some c; until = Some due }
-action_parts (action.Checkin c b) = record (bare_act word.Checkin) { copy = Some c; branch = Some b }
-action_parts (action.Add p t kind pickup expiry) =
-    record (bare_act word.Hold) {
-      patron = Some p;
-      copy = only_of kind;
-      title = Some t;
-      branch = Some pickup;
-      until = expiry;
-    }
-action_parts (action.Delete p t) = record (bare_act word.Delete) { patron = Some p; title = Some t }
-action_parts (action.Change p t kind pickup expiry) =
-    record (bare_act word.Change) {
-      patron = Some p;
-      copy = option_and_then only_of kind;
-      title = Some t;
-      branch = pickup;
-      until = expiry;
-    }
-action_parts (action.Renewal p c) = record (bare_act word.Renewal) { patron = Some p; copy = Some c }
-
--- on its day
-abbrev pub command_parts : Command → AskedParts
-command_parts command = record (action_parts command.action) { day = Some command.day }
-
--- what a cancellation asks
-abbrev pub cancel_parts : Cancel → AskedParts
-cancel_parts (cancel.Checkout c) = record (bare_act word.CancelCheckout) { copy = Some c }
-cancel_parts (cancel.Checkin c) = record (bare_act word.CancelCheckin) { copy = Some c }
-cancel_parts (cancel.Renewal c) = record (bare_act word.CancelRenewal) { copy = Some c }
-cancel_parts (cancel.Add p t) = record (bare_act word.CancelHold) { patron = Some p; title = Some t }
-cancel_parts (cancel.Delete p t) = record (bare_act word.CancelDelete) { patron = Some p; title = Some t }
-cancel_parts (cancel.Change p t) = record (bare_act word.CancelChange) { patron = Some p; title = Some t }
-
--- what is asked
-abbrev pub asked_parts : Asked → AskedParts
-asked_parts (ask.Command command) = command_parts command
-asked_parts (ask.Cancel what) = cancel_parts what
-asked_parts (ask.Item c) = record (bare_act word.Item) { copy = Some c }
 
 -- what a turn came to, in one word
 abbrev pub outcome_word : TurnReply → Word

@@ -1,5 +1,6 @@
 -- The texts of words and headings.
 use Rattle.std.specs.Prelude.{ℕ, List, codes}
+use Rattle.hd_asked.specs.Acts.{act_word, admits_word}
 use Rattle.hd_shown.specs.declared.words.Word.{Word}
 use Rattle.hd_shown.specs.declared.words.Word.TheVariants as word
 use Rattle.hd_shown.specs.declared.words.Heading.{Heading}
@@ -16,21 +17,8 @@ word_text word.OpenShelf = codes "open shelf"
 word_text word.OnLoan = codes "on loan"
 word_text word.HoldShelf = codes "hold shelf"
 word_text word.InTransit = codes "in transit"
-word_text word.Any = codes "any"
-word_text word.Branch = codes "branch"
-word_text word.Checkout = codes "checkout"
-word_text word.CheckoutOrRenewal = codes "checkout or renewal"
-word_text word.OffLine = codes "checkout off line"
-word_text word.Checkin = codes "checkin"
-word_text word.Renewal = codes "renewal"
-word_text word.Delete = codes "delete hold"
-word_text word.Change = codes "change hold"
-word_text word.CancelCheckout = codes "cancel checkout"
-word_text word.CancelCheckin = codes "cancel checkin"
-word_text word.CancelRenewal = codes "cancel renewal"
-word_text word.CancelHold = codes "cancel hold"
-word_text word.CancelDelete = codes "cancel delete hold"
-word_text word.CancelChange = codes "cancel change hold"
+word_text (word.Admits admits) = admits_word admits
+word_text (word.Act act) = act_word act
 word_text word.Item = codes "item"
 word_text word.Done = codes "done"
 word_text word.Refused = codes "refused"

@@ -1,20 +1,16 @@
 //! What is asked, and what it came to, part by part.
 ghost use Rattle.std.specs.Prelude.{◌≡◌, Some};
-ghost use Rattle.hd_shown.specs.Parts.{action_parts, asked_parts, bare_act, cancel_parts, checkout_word};
-ghost use Rattle.hd_shown.specs.Parts.{command_parts, due_told, number_told, only_of, outcome_word};
-ghost use Rattle.hd_shown.specs.Parts.{reply_due, why_refused};
+ghost use Rattle.hd_shown.specs.Parts.{asked_parts, due_told, number_told, outcome_word, reply_due};
+ghost use Rattle.hd_shown.specs.Parts.{told_parts, why_refused};
 
-use crate::state::only_of;
 use crate::words::Word;
-use hd_rules::{
-    Action, Asked, BranchNo, Cancel, Command, CopyNo, Day, PatronNo, Refusal, Reply, TitleNo,
-    TurnReply,
-};
+use hd_asked::{Parts, cancel_parts, command_parts};
+use hd_rules::{Asked, BranchNo, CopyNo, Day, PatronNo, Refusal, Reply, TitleNo, TurnReply};
 
 /// What is asked, part by part: nothing where a part doesn't apply.
 #[derive(Clone, Copy)]
 pub(crate) struct AskedParts {
-    pub(crate) act: Word,
+    pub(crate) word: Word,
     pub(crate) day: Option<Day>,
     pub(crate) patron: Option<PatronNo>,
     pub(crate) copy: Option<CopyNo>,
@@ -23,154 +19,38 @@ pub(crate) struct AskedParts {
     pub(crate) until: Option<Day>,
 }
 
-/// An act that names nothing.
-fn bare_act(act: Word) -> AskedParts
-    ensures { result ≡ bare_act act }
-{
-    AskedParts {
-        act,
-        day: None,
-        patron: None,
-        copy: None,
-        title: None,
-        branch: None,
-        until: None,
-    }
-}
-
 /// What is asked.
+#[tactic(auto, unfolding(crate::specs::Parts::asked_parts))]
 pub(crate) fn asked_parts(asked: &Asked) -> AskedParts
     ensures { result ≡ asked_parts asked.now }
 {
     match asked {
-        Asked::Command(command) => command_parts(command),
-        Asked::Cancel(what) => cancel_parts(what),
+        Asked::Command(command) => told_parts(&command_parts(command)),
+        Asked::Cancel(what) => told_parts(&cancel_parts(what)),
         Asked::Item(copy) => AskedParts {
+            word: Word::Item,
+            day: None,
+            patron: None,
             copy: Some(*copy),
-            ..bare_act(Word::Item)
+            title: None,
+            branch: None,
+            until: None,
         },
     }
 }
 
-/// What a command asks, on its day.
-pub(crate) fn command_parts(command: &Command) -> AskedParts
-    ensures { result ≡ command_parts command.now }
+/// What a command or a cancellation asks, as it is told: what a hold admits stands in the command's cells.
+fn told_parts(parts: &Parts) -> AskedParts
+    ensures { result ≡ told_parts parts.now }
 {
     AskedParts {
-        day: Some(command.day),
-        ..action_parts(&command.action)
-    }
-}
-
-/// What a command asks.
-fn action_parts(action: &Action) -> AskedParts
-    ensures { result ≡ action_parts action.now }
-{
-    match action {
-        Action::Checkout {
-            patron,
-            copy,
-            may_renew,
-        } => AskedParts {
-            patron: Some(*patron),
-            copy: Some(*copy),
-            ..bare_act(checkout_word(*may_renew))
-        },
-        Action::OffLine { patron, copy, due } => AskedParts {
-            patron: Some(*patron),
-            copy: Some(*copy),
-            until: Some(*due),
-            ..bare_act(Word::OffLine)
-        },
-        Action::Checkin { copy, branch } => AskedParts {
-            copy: Some(*copy),
-            branch: Some(*branch),
-            ..bare_act(Word::Checkin)
-        },
-        Action::Add {
-            patron,
-            title,
-            kind,
-            pickup,
-            expiry,
-        } => AskedParts {
-            patron: Some(*patron),
-            copy: only_of(kind),
-            title: Some(*title),
-            branch: Some(*pickup),
-            until: *expiry,
-            ..bare_act(Word::Hold)
-        },
-        Action::Delete { patron, title } => AskedParts {
-            patron: Some(*patron),
-            title: Some(*title),
-            ..bare_act(Word::Delete)
-        },
-        Action::Change {
-            patron,
-            title,
-            kind,
-            pickup,
-            expiry,
-        } => AskedParts {
-            patron: Some(*patron),
-            copy: kind.as_ref().and_then(only_of),
-            title: Some(*title),
-            branch: *pickup,
-            until: *expiry,
-            ..bare_act(Word::Change)
-        },
-        Action::Renewal { patron, copy } => AskedParts {
-            patron: Some(*patron),
-            copy: Some(*copy),
-            ..bare_act(Word::Renewal)
-        },
-    }
-}
-
-/// A checkout, by whether it may renew.
-fn checkout_word(may_renew: bool) -> Word
-    ensures { result ≡ checkout_word may_renew }
-{
-    if may_renew {
-        Word::CheckoutOrRenewal
-    } else {
-        Word::Checkout
-    }
-}
-
-/// What a cancellation asks. It has no day.
-fn cancel_parts(what: &Cancel) -> AskedParts
-    ensures { result ≡ cancel_parts what.now }
-{
-    match what {
-        Cancel::Checkout(copy) => of_copy(Word::CancelCheckout, *copy),
-        Cancel::Checkin(copy) => of_copy(Word::CancelCheckin, *copy),
-        Cancel::Renewal(copy) => of_copy(Word::CancelRenewal, *copy),
-        Cancel::Add(patron, title) => of_hold(Word::CancelHold, *patron, *title),
-        Cancel::Delete(patron, title) => of_hold(Word::CancelDelete, *patron, *title),
-        Cancel::Change(patron, title) => of_hold(Word::CancelChange, *patron, *title),
-    }
-}
-
-/// The cancellation of what was done with a copy.
-fn of_copy(act: Word, copy: CopyNo) -> AskedParts
-    ensures { result ≡ record (bare_act act) { copy = Some copy } }
-{
-    AskedParts {
-        copy: Some(copy),
-        ..bare_act(act)
-    }
-}
-
-/// The cancellation of what was done with a hold.
-fn of_hold(act: Word, patron: PatronNo, title: TitleNo) -> AskedParts
-    ensures { result ≡ record (bare_act act) { patron = Some patron; title = Some title } }
-{
-    AskedParts {
-        patron: Some(patron),
-        title: Some(title),
-        ..bare_act(act)
+        word: Word::Act(parts.act),
+        day: parts.day,
+        patron: parts.patron,
+        copy: parts.copy,
+        title: parts.title,
+        branch: parts.branch,
+        until: parts.until,
     }
 }
 

@@ -3,12 +3,11 @@ ghost use Rattle.std.specs.Prelude.{◌≡◌, Some, None};
 ghost use Rattle.hd_shown.specs.Columns.{command_columns, copy_columns, hold_columns, title_part};
 ghost use Rattle.hd_shown.specs.Columns.{turn_columns};
 
-use crate::asked::{
-    asked_parts, command_parts, due_told, number_told, outcome_word, reply_due, why_refused,
-};
+use crate::asked::{asked_parts, due_told, number_told, outcome_word, reply_due, why_refused};
 use crate::part::{Column, Plain, day_column, plain_column};
-use crate::state::{admits_word, only_of, state_parts};
+use crate::state::state_parts;
 use crate::words::{Heading, Word};
+use hd_asked::{admits_of, command_parts, copy_of};
 use hd_rules::{
     Asked, CopyNo, CopyState, Hold, PatronNo, Reply, SeatNo, Survivor, TerminalNo, TitleNo,
     TurnReply,
@@ -50,8 +49,11 @@ pub(crate) fn hold_columns(
         plain_column(Heading::Position, Plain::Number(position)),
         plain_column(Heading::Patron, Plain::Patron(Some(patron))),
         plain_column(Heading::Stamp, Plain::Number(Some(hold.stamp))),
-        plain_column(Heading::Admits, Plain::Word(Some(admits_word(&hold.kind)))),
-        plain_column(Heading::Only, Plain::Copy(only_of(&hold.kind))),
+        plain_column(
+            Heading::Admits,
+            Plain::Word(Some(Word::Admits(admits_of(&hold.kind)))),
+        ),
+        plain_column(Heading::Only, Plain::Copy(copy_of(&hold.kind))),
         plain_column(Heading::Pickup, Plain::Branch(Some(hold.pickup))),
         day_column(Heading::Until, hold.expiry),
         plain_column(Heading::Copy, Plain::Copy(hold.copy)),
@@ -92,7 +94,7 @@ pub(crate) fn turn_columns(
         plain_column(Heading::Turn, Plain::Number(Some(number))),
         plain_column(Heading::Seat, Plain::Number(Some(u64::from(seat.number())))),
         plain_column(Heading::Terminal, Plain::Terminal(terminal)),
-        plain_column(Heading::Asked, Plain::Word(Some(parts.act))),
+        plain_column(Heading::Asked, Plain::Word(Some(parts.word))),
         day_column(Heading::Day, parts.day),
         plain_column(Heading::Patron, Plain::Patron(parts.patron)),
         plain_column(Heading::Copy, Plain::Copy(parts.copy)),
@@ -119,7 +121,7 @@ pub(crate) fn command_columns(
         plain_column(Heading::Row, Plain::Word(Some(Word::Command))),
         plain_column(Heading::Command, Plain::Number(Some(survivor.number))),
         plain_column(Heading::Terminal, Plain::Terminal(survivor.terminal)),
-        plain_column(Heading::Asked, Plain::Word(Some(parts.act))),
+        plain_column(Heading::Asked, Plain::Word(Some(Word::Act(parts.act)))),
         day_column(Heading::Day, parts.day),
         plain_column(Heading::Patron, Plain::Patron(parts.patron)),
         plain_column(Heading::Copy, Plain::Copy(parts.copy)),

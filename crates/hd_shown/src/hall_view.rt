@@ -1,18 +1,23 @@
 //! A view of a hall.
-ghost use Rattle.std.specs.Prelude.{◌≡◌, []};
+ghost use Rattle.std.specs.Prelude.{◌≡◌, [], IfSome};
+ghost use Rattle.hd_hall.specs.Looking.{IsShownTo};
+ghost use Rattle.hd_shown.specs.Counting.{AreTallied};
+ghost use Rattle.hd_shown.specs.Standing.{MayShut, Tells};
 
 use crate::seeing::write_shown;
 use crate::sought::{Sought, sought_of};
 use crate::standing::state_of;
+use crate::state_reader::StateReader;
 use hd_desk::Meter;
 use hd_hall::{Hall, House};
 use hd_journal::{Journal, Keeper, OwnedAsk};
-use hd_looks::{CountsReader, PageReader};
+use hd_looks::PageReader;
 use hd_page::{Health, Inquiry, Outcome, State, View, ViewFault};
-use std::alloc::{Allocator, Global};
-use std::sync::Wait;
+use std::alloc::{AllocError, Allocator, Global};
+use std::sync::{Mutex, Wait};
 
 /// A view of a hall: each answer is of one look at its journal.
+#[derive(Drop)]
 pub struct HallView<
     'a,
     R,
@@ -24,16 +29,55 @@ pub struct HallView<
     rt: &'a R,
     host: &'a HostRuntime,
     hall: &'a Hall<H, A, Q, K>,
+    /// What is counted of the journal, as far as it has been shown.
+    reader: Mutex<StateReader>,
 }
 
-impl<'a, R, H: House, A: Allocator, Q: Drop, K: Keeper<A, Q>> HallView<'a, R, H, A, Q, K> {
-    /// A view of the hall.
+impl<'a, R, H: House, A: Allocator + Copy, Q: Drop, K: Keeper<A, Q> + Drop> HallView<
+    'a,
+    R,
+    H,
+    A,
+    Q,
+    K,
+> {
+    /// A view of the hall. Its journal's turns behind so many are counted by kind and outcome.
+    ///
+    /// # Errors
+    /// There is no memory for what is counted.
     pub fn new(
         rt: &'a R,
         host: &'a HostRuntime,
         hall: &'a Hall<H, A, Q, K>,
-    ) -> HallView<'a, R, H, A, Q, K> {
-        HallView { rt, host, hall }
+        begun: usize,
+    ) -> Result<HallView<'a, R, H, A, Q, K>, AllocError> {
+        let terminals = hall.catalogue().terminals();
+        let reader = Mutex::new(StateReader::new(host.alloc(), begun, terminals)?);
+        Ok(HallView {
+            rt,
+            host,
+            hall,
+            reader,
+        })
+    }
+}
+
+impl<'a, R: Wait, H: House, A: Allocator + Copy, Q: Drop, K: Keeper<A, Q> + Drop> HallView<
+    'a,
+    R,
+    H,
+    A,
+    Q,
+    K,
+> {
+    /// Looks at the journal once: its state, unless there are more turns to be counted.
+    fn look_once(&self, reader: &mut StateReader) -> Option<State>
+        ensures { IfSome result (Tells (IsShownTo H.opening []) (MayShut K.faults) AreTallied) }
+    {
+        match self.hall.look(self.rt, reader) {
+            Ok(()) => reader.state(),
+            Err(_) => Some(state_of(Health::Shut, None, None)),
+        }
     }
 }
 
@@ -41,12 +85,13 @@ impl<'a, R: Wait, H: House, A: Allocator + Copy, Q: Drop, K: Keeper<A, Q> + Drop
     for HallView<'a, R, H, A, Q, K> {
     ghost use Rattle.hd_hall.specs.Looking.{IsShownTo};
     ghost use Rattle.hd_shown.specs.Seeing.{Shows};
+    ghost use Rattle.hd_shown.specs.Counting.{AreTallied};
     ghost use Rattle.hd_shown.specs.Standing.{MayShut, Tells};
 
     ghost shows = { λ _ asked sight.
         Shows H.opening.contents (IsShownTo H.opening []) (MayShut K.faults) asked sight };
 
-    ghost tells = { λ _ state. Tells (IsShownTo H.opening []) (MayShut K.faults) state };
+    ghost tells = { λ _ state. Tells (IsShownTo H.opening []) (MayShut K.faults) AreTallied state };
 
     fn write(&self, inquiry: &Inquiry<'_>, out: &mut Vec<u8>) -> Result<Outcome, ViewFault> {
         let catalogue = self.hall.catalogue();
@@ -67,10 +112,12 @@ impl<'a, R: Wait, H: House, A: Allocator + Copy, Q: Drop, K: Keeper<A, Q> + Drop
     }
 
     fn state(&self) -> State {
-        let mut reader = CountsReader { counts: None };
-        match self.hall.look(self.rt, &mut reader) {
-            Ok(()) => state_of(Health::Well),
-            Err(_) => state_of(Health::Shut),
+        let mut reader = self.reader.lock(self.rt);
+        for _ in self.rt.forever() {
+            if let Some(state) = self.look_once(&mut reader) {
+                return state;
+            }
         }
+        unreachable!()
     }
 }

@@ -6,11 +6,12 @@ use crate::sought::{Sought, sought_of};
 use crate::standing::state_of;
 use hd_desk::Meter;
 use hd_journal::{Journal, Look};
-use hd_looks::PageReader;
+use hd_looks::{CountsReader, PageReader};
 use hd_page::{Health, Inquiry, Outcome, State, View, ViewFault};
 use std::alloc::{Allocator, Global};
 
 /// A view of a journal alone, as of one that ended.
+#[derive(Drop)]
 pub struct JournalView<'a, A: Allocator = Global> {
     host: &'a HostRuntime,
     journal: &'a Journal<A>,
@@ -28,12 +29,12 @@ impl<'a, A: Allocator> JournalView<'a, A> {
 impl<'a, A: Allocator + Copy> View for JournalView<'a, A> {
     ghost use Rattle.std.specs.Prelude.{◌≡◌};
     ghost use Rattle.hd_shown.specs.Seeing.{Shows};
-    ghost use Rattle.hd_shown.specs.Standing.{Tells};
+    ghost use Rattle.hd_shown.specs.Standing.{NoneTallied, Tells};
 
     ghost shows = { λ view asked sight.
         Shows view.journal.now.contents (λ book. book ≡ view.journal.now) ⊥ asked sight };
 
-    ghost tells = { λ view state. Tells (λ book. book ≡ view.journal.now) ⊥ state };
+    ghost tells = { λ view state. Tells (λ book. book ≡ view.journal.now) ⊥ NoneTallied state };
 
     fn write(&self, inquiry: &Inquiry<'_>, out: &mut Vec<u8>) -> Result<Outcome, ViewFault> {
         let desk = self.journal.desk();
@@ -53,6 +54,8 @@ impl<'a, A: Allocator + Copy> View for JournalView<'a, A> {
     }
 
     fn state(&self) -> State {
-        state_of(Health::Well)
+        let mut reader = CountsReader { counts: None };
+        reader.look(self.journal);
+        state_of(Health::Well, reader.counts, None)
     }
 }

@@ -1,9 +1,9 @@
-//! Where a copy is, and which copies a hold admits, part by part.
+//! Where a copy is, part by part.
 ghost use Rattle.std.specs.Prelude.{◌≡◌};
-ghost use Rattle.hd_shown.specs.Parts.{admits_word, bare_state, only_of, state_parts};
+ghost use Rattle.hd_shown.specs.Parts.{bare_state, state_parts};
 
 use crate::words::Word;
-use hd_rules::{BranchNo, CopyNo, CopyState, Day, HoldKind, PatronNo};
+use hd_rules::{BranchNo, CopyState, Day, PatronNo};
 
 /// Where a copy is, part by part: nothing where a part doesn't apply.
 #[derive(Clone, Copy)]
@@ -59,26 +59,5 @@ pub(crate) fn state_parts(state: &CopyState) -> StateParts
             patron: way.patron,
             ..bare_state(Word::InTransit)
         },
-    }
-}
-
-/// Which copies a hold admits.
-pub(crate) fn admits_word(kind: &HoldKind) -> Word
-    ensures { result ≡ admits_word kind.now }
-{
-    match kind {
-        HoldKind::Any => Word::Any,
-        HoldKind::One(_) => Word::Copy,
-        HoldKind::AtBranch => Word::Branch,
-    }
-}
-
-/// The copy that a hold admits, where it is one alone.
-pub(crate) fn only_of(kind: &HoldKind) -> Option<CopyNo>
-    ensures { result ≡ only_of kind.now }
-{
-    match kind {
-        HoldKind::One(copy) => Some(*copy),
-        HoldKind::Any | HoldKind::AtBranch => None,
     }
 }

@@ -2,12 +2,14 @@
 ghost use Rattle.std.specs.Prelude.{◌≡◌};
 ghost use Rattle.hd_shown.specs.Words.{heading_text, word_text};
 
+use hd_asked::{Act, Admits};
+
 /// A word of a row.
 #[derive(Clone, Copy)]
 pub(crate) enum Word {
-    /// A copy's row, or a hold that admits one copy alone.
+    /// A copy's row.
     Copy,
-    /// A hold's row, or the adding of a hold.
+    /// A hold's row.
     Hold,
     /// A turn's row.
     Turn,
@@ -25,36 +27,10 @@ pub(crate) enum Word {
     HoldShelf,
     /// Between two branches.
     InTransit,
-    /// A hold of any copy.
-    Any,
-    /// A hold of the copies whose home is its pickup branch.
-    Branch,
-    /// A checkout that may not renew.
-    Checkout,
-    /// A checkout that renews the loan where the patron has the copy.
-    CheckoutOrRenewal,
-    /// A loan that took place while the terminal was off line.
-    OffLine,
-    /// A return.
-    Checkin,
-    /// A renewal.
-    Renewal,
-    /// The deletion of a hold.
-    Delete,
-    /// The change of a hold.
-    Change,
-    /// The cancellation of a checkout.
-    CancelCheckout,
-    /// The cancellation of a return.
-    CancelCheckin,
-    /// The cancellation of a renewal.
-    CancelRenewal,
-    /// The cancellation of the adding of a hold.
-    CancelHold,
-    /// The cancellation of a deletion.
-    CancelDelete,
-    /// The cancellation of a change.
-    CancelChange,
+    /// Which copies a hold admits.
+    Admits(Admits),
+    /// What a command or a cancellation does.
+    Act(Act),
     /// A query of a copy.
     Item,
     /// A command was accepted.
@@ -81,21 +57,8 @@ impl Word {
             Word::OnLoan => b"on loan",
             Word::HoldShelf => b"hold shelf",
             Word::InTransit => b"in transit",
-            Word::Any => b"any",
-            Word::Branch => b"branch",
-            Word::Checkout => b"checkout",
-            Word::CheckoutOrRenewal => b"checkout or renewal",
-            Word::OffLine => b"checkout off line",
-            Word::Checkin => b"checkin",
-            Word::Renewal => b"renewal",
-            Word::Delete => b"delete hold",
-            Word::Change => b"change hold",
-            Word::CancelCheckout => b"cancel checkout",
-            Word::CancelCheckin => b"cancel checkin",
-            Word::CancelRenewal => b"cancel renewal",
-            Word::CancelHold => b"cancel hold",
-            Word::CancelDelete => b"cancel delete hold",
-            Word::CancelChange => b"cancel change hold",
+            Word::Admits(admits) => admits.word(),
+            Word::Act(act) => act.word(),
             Word::Item => b"item",
             Word::Done => b"done",
             Word::Refused => b"refused",

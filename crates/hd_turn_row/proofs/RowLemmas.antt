@@ -9,12 +9,13 @@ use Rattle.hd_rules.specs.Turns.{Message}
 use Rattle.hd_turn_row.specs.Columns.{asked_columns}
 use Rattle.hd_turn_row.specs.Faults.{IsFirstFault, IsFirstMisfit, IsRead, unread as unread_fault}
 use Rattle.hd_turn_row.specs.Grown.{OnlyGrew}
-use Rattle.hd_turn_row.specs.Parts.{asked_by, asked_parts}
+use Rattle.hd_asked.specs.Parts.{asked_parts}
+use Rattle.hd_turn_row.specs.Parts.{asked_by}
 use Rattle.hd_turn_row.specs.Rows.{IsRowOf}
 use Rattle.hd_turn_store.specs.Kept.{KeptTurn}
 use Rattle.hd_turn_row.specs.declared.fault.Column.TheVariants as columns
 use Rattle.hd_turn_row.specs.declared.fault.RowFault.{RowFault}
-use Rattle.hd_turn_row.specs.declared.parts.Parts.{Parts}
+use Rattle.hd_asked.specs.declared.parts.Parts.{Parts}
 use Rattle.hd_turn_row.proofs.ColumnLemmas.{OneDay, fits_self, none_first, parts_once, shown_grown}
 use Rattle.hd_turn_row.proofs.ColumnLemmas.{shown_known, shown_read_all}
 use Rattle.hd_turn_row.proofs.NumberLemmas.{number_kept, number_known}

@@ -1,11 +1,13 @@
 //! What is asked, as columns.
 ghost use Rattle.std.specs.Prelude.{◌≡◌};
 ghost use Rattle.std.specs.Option.{option_copied};
+ghost use Rattle.hd_day_text.specs.Days.{IsDayText};
+ghost use Rattle.hd_turn_row.specs.Columns.{IsShown};
 ghost use Rattle.hd_turn_row.specs.Rows.{text_or_empty};
 
-use crate::day::day_text;
-use crate::parts::{Parts, parts_of};
-use hd_rules::Asked;
+use hd_asked::{Parts, parts_of};
+use hd_day_text::day_text;
+use hd_rules::{Asked, Day};
 
 /// What is asked, column by column, with the texts of its days, which a row lends.
 #[derive(Clone, Copy)]
@@ -17,7 +19,7 @@ pub struct AskedColumns {
 
 impl AskedColumns {
     ghost use Rattle.std.specs.Prelude.{IfNone, IfSome, None};
-    ghost use Rattle.hd_turn_row.specs.Parts.{asked_parts};
+    ghost use Rattle.hd_asked.specs.Parts.{asked_parts};
     ghost use Rattle.hd_turn_row.specs.Rows.{AreAskedColumns};
 
     /// The columns of what is asked, or `None` of a query, which changes nothing and has no row. The days are
@@ -29,8 +31,8 @@ impl AskedColumns {
         let parts = parts_of(asked)?;
         Some(AskedColumns {
             parts,
-            day: parts.day.map(day_text),
-            until: parts.until.map(day_text),
+            day: text_if_any(parts.day),
+            until: text_if_any(parts.until),
         })
     }
 
@@ -49,5 +51,15 @@ impl AskedColumns {
         ensures { option_copied result ≡ self.now.until }
     {
         self.until.as_ref().map(|text| text.as_slice())
+    }
+}
+
+/// The text of a day, if there is one.
+fn text_if_any(day: Option<Day>) -> Option<[u8; 10]>
+    ensures { IsShown IsDayText day result }
+{
+    match day {
+        Some(day) => Some(day_text(day)),
+        None => None,
     }
 }

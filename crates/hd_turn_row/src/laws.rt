@@ -4,7 +4,6 @@ ghost use Rattle.hd_catalogue.specs.Contents.{Contents, facts_of};
 ghost use Rattle.hd_rules.specs.Messages.{IsKnownMessage};
 ghost use Rattle.hd_rules.specs.Turns.{Message};
 ghost use Rattle.hd_rules.specs.declared.replies.TurnReply.{TurnReply};
-ghost use Rattle.hd_turn_row.specs.Days.{IsDayText};
 ghost use Rattle.hd_turn_row.specs.Faults.{IsFirstFault};
 ghost use Rattle.hd_turn_row.specs.Grown.{OnlyGrew};
 ghost use Rattle.hd_turn_row.specs.Replies.{IsReplyColumn};
@@ -12,15 +11,7 @@ ghost use Rattle.hd_turn_row.specs.Rows.{IsRowOf};
 ghost use Rattle.hd_turn_store.specs.Kept.{KeptTurn};
 
 use crate::fault::RowFault;
-use hd_date::{prints_show_their_stamp, texts_show_one_stamp};
-
-/// A text is that of one day at most.
-pub(crate) fn a_text_is_of_one_day()
-    ensures { (text : List ℕ) (day other : ℕ) → IsDayText day text → IsDayText other text → day ≡ other }
-{
-    prints_show_their_stamp();
-    texts_show_one_stamp();
-}
+use hd_day_text::texts_are_of_one_day;
 
 /// A row is that of one message of one seat at most, and of none where it has a fault. What it asks is known
 /// to the catalogue.
@@ -33,7 +24,7 @@ pub fn a_row_is_of_one_message()
     ensures known { (k : Contents) (seat : ℕ) (message : Message) (row : KeptTurn)
         → IsRowOf k seat message row → IsKnownMessage (facts_of k) message }
 {
-    a_text_is_of_one_day();
+    texts_are_of_one_day();
 }
 
 /// A row asks the same of a catalogue that only grew.

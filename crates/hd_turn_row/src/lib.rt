@@ -6,14 +6,11 @@
 //! command, and a column that says all of the reply in numbers.
 #![tactic(auto)]
 
-mod act;
 mod asked;
 mod asked_columns;
-mod day;
 mod fault;
 mod laws;
 mod outcome;
-mod parts;
 mod reading;
 mod reply;
 mod row;

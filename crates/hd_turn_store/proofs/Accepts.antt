@@ -44,10 +44,11 @@ module _ (digest : List ℕ) (h : Head) where
       let same = cmp_equal 1 1 refl in
       rw (is, same, cast_null, cast_int 1, cast_int h.format)
 
-  does_accept : (ks : List KeptTurn) (indexes : List Index) → AreApart indexes → (s : State) (text : List ℕ) (tally : Tally) (after : Database)
+  does_accept : (ks : List KeptTurn) (indexes : List Index) → AreApart indexes
+      → (s : State) (text : List ℕ) (tally : Tally) (after : Database)
       → Stores h ks s.now.trees
-      → Does s.step_limit (mode_of s) (Blob digest ∷ []) (record s.now { schema = schema_with indexes }) text None
-      update_head (Ok (tally, after))
+      → Does s.step_limit (mode_of s) (Blob digest ∷ []) (record s.now { schema = schema_with indexes })
+      text None update_head (Ok (tally, after))
       → (after.schema ≡ schema_with indexes) × Stores other ks after.trees
   does_accept ks indexes apart s text tally after has does =
       let db = s.now.trees in

@@ -1,6 +1,6 @@
 -- What the three statements do that begin a journal, in a transaction.
-use Rattle.std.proofs.Common.{◌≡◌, ℕ, List, [], ◌∷◌, false, IsTrue, None, Ok, Err, Result, OnOk, refl, sym, ap}
-use Rattle.std.proofs.Common.{subst, ◌∙◌}
+use Rattle.std.proofs.Common.{◌≡◌, ℕ, List, [], ◌∷◌, false, IsTrue, None, Ok, Err, Result, OnOk, refl, sym}
+use Rattle.std.proofs.Common.{ap, subst, ◌∙◌}
 use Rattle.sqlite.specs.Order.{Row}
 use Rattle.sqlite.specs.Table.{Table}
 use Rattle.sqlite.specs.Schema.{Schema}
@@ -14,12 +14,13 @@ use Rattle.sqlite.specs.declared.error.Error.{Error}
 use Rattle.sqlite.specs.State.{State, mode_of, Writes, Executes}
 use Rattle.sqlite.proofs.Callers.{statement_of, runs_as}
 use Rattle.hd_turn_store.specs.Kept.{Head, head_cells}
-use Rattle.hd_turn_store.specs.Tables.{head_schema, journal_schema, no_schema, number_index, schema_with, turn_table}
+use Rattle.hd_turn_store.specs.Tables.{head_schema, journal_schema, no_schema, number_index, schema_with}
+use Rattle.hd_turn_store.specs.Tables.{turn_table}
 use Rattle.hd_turn_store.specs.Texts.{create_index_text, create_journal_text, create_turn_text}
 use Rattle.hd_turn_store.specs.Texts.{insert_journal_text}
 use Rattle.hd_turn_store.specs.Holds.{SeesTurns, HasNothing, HasFirst, HasTables}
-use Rattle.hd_turn_store.proofs.Texts.{Creates, creates_journal_table, creates_number_index, creates_turn_table}
-use Rattle.hd_turn_store.proofs.Texts.{insert_head, insert_journal_means}
+use Rattle.hd_turn_store.proofs.Texts.{Creates, creates_journal_table, creates_number_index}
+use Rattle.hd_turn_store.proofs.Texts.{creates_turn_table, insert_head, insert_journal_means}
 use Rattle.hd_turn_store.proofs.Steps.{went, same_value, does_begin}
 
 -- a table more, which is empty; the rows of the others stay
@@ -85,8 +86,8 @@ creates_index old new (Ok count) has h =
     let ran = runs_as create_index_text [] old new (schema_with []) has.schema (CreateIndex 1) it.means.is
     it.means.plain count h in
     let w = subst (λ t. Writes old new None (CreateIndex 1) t [] count) it.whole ran in
-    let does = subst (λ s. Does old.step_limit (mode_of old) [] (record old.now { schema = s }) create_index_text
-    None (CreateIndex 1) (Ok (w.tally, new.now))) has.schema w.changed in
+    let does = subst (λ s. Does old.step_limit (mode_of old) [] (record old.now { schema = s })
+    create_index_text None (CreateIndex 1) (Ok (w.tally, new.now))) has.schema w.changed in
     let all = went does in
     let made = all.1 in
     let both : Ok made.index ≡ Ok (record number_index { tree = 0 }) = sym made.defined ∙ it.defines in
@@ -102,13 +103,14 @@ creates_index old new (Ok count) has h =
     }
 
 pub puts_head : (old new : State) (h : Head) (given : Row) (r : Result ℕ Error) → given ≡ head_cells h
-    → HasTables (number_index ∷ []) old → Executes insert_journal_text given old new r → OnOk r (SeesTurns new h [])
+    → HasTables (number_index ∷ []) old → Executes insert_journal_text given old new r
+    → OnOk r (SeesTurns new h [])
 puts_head old new h given (Err e) is has ran = tt
 puts_head old new h given (Ok count) is has ran =
     let it = insert_journal_means in
     let params = head_cells h in
-    let w = runs_as insert_journal_text params old new journal_schema has.schema insert_head it.is it.plain count
-    (subst (λ row. Executes insert_journal_text row old new (Ok count)) is ran) in
+    let w = runs_as insert_journal_text params old new journal_schema has.schema insert_head it.is it.plain
+    count (subst (λ row. Executes insert_journal_text row old new (Ok count)) is ran) in
     let text = statement_of insert_journal_text (understood journal_schema insert_journal_text) in
     let done = does_begin old h text w.tally new.now has.head has.turns
     (subst (λ s. Does old.step_limit (mode_of old) params (record old.now { schema = s }) text None

@@ -1,5 +1,6 @@
 -- A database without a table holds no journal.
-use Rattle.std.proofs.Common.{◌≡◌, ◌∙◌, sym, ap, refl, ℕ, ◌+◌, Bool, true, false, not, ◌||◌, List, [], ◌∷◌, ◌++◌, filter}
+use Rattle.std.proofs.Common.{◌≡◌, ◌∙◌, sym, ap, refl, ℕ, ◌+◌, Bool, true, false, not, ◌||◌, List, [], ◌∷◌}
+use Rattle.std.proofs.Common.{◌++◌, filter}
 use Rattle.std.specs.List.{AllZip}
 use Rattle.sqlite.specs.Order.{Row}
 use Rattle.sqlite.specs.Tree.{Trees}
@@ -8,7 +9,8 @@ use Rattle.sqlite.specs.Files.{HoldsDatabase}
 use Rattle.sqlite_pages.specs.PageMap.{PageMap}
 use Rattle.sqlite_trees.specs.Objects.{catalog_tree}
 use Rattle.sqlite_trees.specs.declared.store.Shape.{Shape}
-use Rattle.sqlite_trees.specs.declared.store.Shape.TheVariants.{Absent, Table, Index, Pageless, FrozenTable, FrozenIndex}
+use Rattle.sqlite_trees.specs.declared.store.Shape.TheVariants.{Absent, Table, Index, Pageless, FrozenTable}
+use Rattle.sqlite_trees.specs.declared.store.Shape.TheVariants.{FrozenIndex}
 use Rattle.sqlite_store.specs.declared.catalog.Wanted.{Wanted}
 use Rattle.sqlite_store.specs.Catalog.{shape_at}
 use Rattle.sqlite_store.specs.Db.{trees_in}
@@ -18,8 +20,10 @@ use Rattle.hd_turn_store.specs.Kept.{KeptTurn, Head}
 use Rattle.hd_turn_store.specs.Tables.{no_schema, Stores}
 
 -- rows of which none passes either test, or fails both
-none_of_three : {A B C : Type 0} (p q : Row → Bool) (P : Row → A → Type 0) (Q : Row → B → Type 0) (R : Row → C → Type 0) (rows : List Row)
-    → AllZip P (filter p rows) [] → AllZip Q (filter q rows) [] → AllZip R (filter (λ r. not (p r || q r)) rows) [] → rows ≡ []
+none_of_three : {A B C : Type 0} (p q : Row → Bool) (P : Row → A → Type 0) (Q : Row → B → Type 0)
+    (R : Row → C → Type 0) (rows : List Row)
+    → AllZip P (filter p rows) [] → AllZip Q (filter q rows) []
+    → AllZip R (filter (λ r. not (p r || q r)) rows) [] → rows ≡ []
 none_of_three p q P Q R [] a b c = refl
 none_of_three p q P Q R (row ∷ rows) a b c = absurd (go (p row) (q row) refl refl)
   where
@@ -36,7 +40,8 @@ first_gap : (from : ℕ) (places : List Wanted) → listed_from from places ≡ 
 first_gap from [] none = refl
 first_gap from (place ∷ places) none = go place.shape refl none
   where
-    go : (shape : Shape) → place.shape ≡ shape → listed from place shape ++ listed_from (from + 1) places ≡ [] → place.shape ≡ Absent
+    go : (shape : Shape) → place.shape ≡ shape → listed from place shape ++ listed_from (from + 1) places ≡ []
+        → place.shape ≡ Absent
     go Absent is none = is
     go Table is none = absurd (cc)
     go (Index order) is none = absurd (cc)
@@ -44,19 +49,24 @@ first_gap from (place ∷ places) none = go place.shape refl none
     go FrozenTable is none = absurd (cc)
     go (FrozenIndex order) is none = absurd (cc)
 
-first_tree : (size : ℕ) (places : List Wanted) (pages : PageMap) → shape_at places 0 ≡ Absent → file_trees size places pages 0 ≡ []
+first_tree : (size : ℕ) (places : List Wanted) (pages : PageMap) → shape_at places 0 ≡ Absent
+    → file_trees size places pages 0 ≡ []
 unfolding all_trees trees_in
 first_tree size places pages gap = rw gap refl
 
-objects : (size : ℕ) (places : List Wanted) (pages : PageMap) → file_trees size places pages catalog_tree ≡ listed_from 0 places
+objects : (size : ℕ) (places : List Wanted) (pages : PageMap)
+    → file_trees size places pages catalog_tree ≡ listed_from 0 places
 unfolding all_trees
 objects size places pages = refl
 
-pub blank_holds_none : (image : Image) (head : Head) (ks : List KeptTurn) (db : Trees) → HoldsDatabase image db → Stores head ks db → IsSound no_schema db → ⊥
+pub blank_holds_none : (image : Image) (head : Head) (ks : List KeptTurn) (db : Trees)
+    → HoldsDatabase image db → Stores head ks db → IsSound no_schema db → ⊥
 blank_holds_none image head ks db holds stores sound =
     let it = holds.2 in
     let listed : listed_from 0 it.wanted ≡ [] =
-    sym (objects holds.0 it.wanted it.pages) ∙ ap (λ (t : Trees). t catalog_tree) (sym it.reads) ∙ none_listed (db catalog_tree) sound.lists.listed in
-    let first : db 0 ≡ [] = ap (λ (t : Trees). t 0) it.reads ∙ first_tree holds.0 it.wanted it.pages (first_gap 0 it.wanted listed) in
+    sym (objects holds.0 it.wanted it.pages) ∙ ap (λ (t : Trees). t catalog_tree) (sym it.reads)
+    ∙ none_listed (db catalog_tree) sound.lists.listed in
+    let first : db 0 ≡ [] = ap (λ (t : Trees). t 0) it.reads
+    ∙ first_tree holds.0 it.wanted it.pages (first_gap 0 it.wanted listed) in
     let row = stores.head in
     cc

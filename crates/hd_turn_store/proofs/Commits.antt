@@ -43,8 +43,8 @@ module _ (text : List ℕ) (command : Command)
       → Does old.step_limit (mode_of old) params old.now part None command (Ok (tally, after))
       → (after.schema ≡ old.now.schema) × Stores h' ks' after.trees
   does_so old part tally after holds =
-      in_any (λ schema. Does old.step_limit (mode_of old) params (record old.now { schema = schema }) part None
-      command (Ok (tally, after)) → (after.schema ≡ schema) × Stores h' ks' after.trees)
+      in_any (λ schema. Does old.step_limit (mode_of old) params (record old.now { schema = schema })
+      part None command (Ok (tally, after)) → (after.schema ≡ schema) × Stores h' ks' after.trees)
       (λ indexes apart. does indexes apart old part tally after holds.rows) old.now.schema holds.schema
 
   pub changes : (old new : State) (given : Row) (r : Result ℕ Error) → given ≡ params

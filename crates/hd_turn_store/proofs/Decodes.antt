@@ -24,7 +24,8 @@ read_back k = simp (text_back, bytes_back, number_back)
 
 pub all_back : (ks : List KeptTurn) → map read_cells (map cells ks) ≡ ks
 all_back [] = refl
-all_back (k ∷ ks) = ap (λ x. x ∷ map read_cells (map cells ks)) (read_back k) ∙ ap (λ xs. k ∷ xs) (all_back ks)
+all_back (k ∷ ks) = ap (λ x. x ∷ map read_cells (map cells ks)) (read_back k)
+    ∙ ap (λ xs. k ∷ xs) (all_back ks)
 
 -- what is read of values, each known by itself
 pub read_is : (row : Row) (seat : ℕ) (terminal day act : List ℕ)
@@ -52,5 +53,6 @@ pub read_is : (row : Row) (seat : ℕ) (terminal day act : List ℕ)
       reply = reply;
     }) (read_cells row)
 unfolding read_cells
-read_is row seat terminal day act patron copy title branch admits until line outcome number reply s t d a p c i b m u l o n r =
+read_is row seat terminal day act patron copy title branch admits until line outcome number reply s t d a p c
+    i b m u l o n r =
     rw (s, t, d, a, p, c, i, b, m, u, l, o, n, r)

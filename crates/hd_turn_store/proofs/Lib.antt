@@ -11,3 +11,5 @@ pub mod Queries
 pub mod Accepts
 pub mod Decodes
 pub mod Blank
+pub mod Marking
+pub mod Headers

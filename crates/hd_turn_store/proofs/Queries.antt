@@ -1,6 +1,6 @@
 -- What the two queries show of a journal, which stays as it was.
-use Rattle.std.proofs.Common.{◌≡◌, inl, inr, ℕ, ◌+◌, pos, List, [], ◌∷◌, length, map, take, drop, Ok, Err, Result}
-use Rattle.std.proofs.Common.{IfOk, OnOk, refl, sym, ap, subst, ◌∙◌}
+use Rattle.std.proofs.Common.{◌≡◌, inl, inr, ℕ, ◌+◌, pos, List, [], ◌∷◌, length, map, take, drop, Ok, Err}
+use Rattle.std.proofs.Common.{Result, IfOk, OnOk, refl, sym, ap, subst, ◌∙◌}
 use Rattle.std.proofs.lemmas.List.{drop-map, take-map}
 use Rattle.sqlite.specs.declared.types.Value.{Value}
 use Rattle.sqlite.specs.declared.types.Value.TheVariants.{Null, Int}
@@ -23,7 +23,8 @@ use Rattle.hd_turn_store.proofs.Texts.{ShowsIn, columns_from, select_head_shows,
 
 -- ---- a query leaves the journal as it was, and commits nothing
 
-module _ (text : List ℕ) (query : Query) (names : List (List ℕ)) (is : ShowsIn text query names) (params : Row)
+module _ (text : List ℕ) (query : Query) (names : List (List ℕ)) (is : ShowsIn text query names)
+    (params : Row)
     (old new : State) where
   plain : (h : Head) (ks : List KeptTurn) → Holds old h ks → IsPlain (understood old.now.schema text)
   plain h ks holds = (is old.now.schema holds.schema).means.plain
@@ -109,5 +110,6 @@ finds_head old new from to items (Ok v) first last shown = λ h ks holds.
     let it = select_head_shows old.now.schema holds.schema in
     let got = reads_as select_head_text params old new old.now.schema refl _ it.means.is it.means.plain
     it.unlisted (items v) (subst (λ (p : Row). Shown select_head_text p old new (items v)) given shown) in
-    piece_answer 0 (length head_columns) old.now.trees 0 1 1 (head_cells h ∷ []) (items v) refl holds.rows.head
+    piece_answer 0 (length head_columns) old.now.trees 0 1 1 (head_cells h ∷ [])
+    (items v) refl holds.rows.head
     (λ params at. refl, tt) (got.answer Null)

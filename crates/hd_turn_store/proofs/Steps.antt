@@ -1,7 +1,6 @@
 -- What the insertion of a row writes.
-use Rattle.std.proofs.Common.{◌≡◌, ◌≢◌, ◌⊎◌, inl, inr, ℕ, ◌+◌, pos, ◌+ℤ◌, List, [], ◌∷◌, ◌++◌, length, drop, map}
-use Rattle.std.proofs.Common.{fold, None, Ok, Err, Result, refl, sym, ap, subst, ◌∙◌, arith}
-use Rattle.std.proofs.Common.{append-nil}
+use Rattle.std.proofs.Common.{◌≡◌, ◌≢◌, ◌⊎◌, inl, inr, ℕ, ◌+◌, pos, ◌+ℤ◌, List, [], ◌∷◌, ◌++◌, length, drop}
+use Rattle.std.proofs.Common.{map, fold, None, Ok, Err, Result, refl, sym, ap, subst, ◌∙◌, arith, append-nil}
 use Rattle.std.proofs.lemmas.List.{map-append}
 use Rattle.sqlite.specs.declared.types.Value.TheVariants.{Null, Int}
 use Rattle.sqlite.specs.Order.{Row}
@@ -84,7 +83,8 @@ in_any P each =
 -- ---- the turns
 
 -- an insertion puts the turn at the end
-pub does_add : (indexes : List Index) (apart : AreApart indexes) (s : State) (h : Head) (k : KeptTurn) (ks : List KeptTurn) (text : List ℕ) (tally : Tally)
+pub does_add : (indexes : List Index) (apart : AreApart indexes) (s : State) (h : Head) (k : KeptTurn)
+    (ks : List KeptTurn) (text : List ℕ) (tally : Tally)
     (after : Database) → Stores h ks s.now.trees
     → Does s.step_limit (mode_of s) (cells k) (record s.now { schema = schema_with indexes }) text None
     insert_turn (Ok (tally, after))

@@ -53,7 +53,8 @@ creates_turn_table =
 
 pub record CreatesIndex : Type 0 where
   pub means : Means (schema_with []) create_index_text (CreateIndex 1)
-  pub whole : statement_of create_index_text (understood (schema_with []) create_index_text) ≡ create_index_text
+  pub whole : statement_of create_index_text (understood (schema_with []) create_index_text)
+      ≡ create_index_text
   pub defines : index_defined_by turn_table create_index_text ≡ Ok (record number_index { tree = 0 })
 
 pub creates_number_index : CreatesIndex

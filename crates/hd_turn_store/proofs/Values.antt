@@ -66,5 +66,5 @@ pub cells_are : (k : KeptTurn) (seat : Value) (terminal day act : List ℕ)
     → seat ∷ Words terminal ∷ Words day ∷ Words act ∷ patron ∷ copy ∷ title ∷ branch ∷ admits ∷ until ∷ line
     ∷ Words outcome ∷ number ∷ Bytes k.reply ∷ [] ≡ cells k
 unfolding cells
-cells_are k seat terminal day act patron copy title branch admits until line outcome number s t d a p c i b m u l
-    o n = rw (s, t, d, a, p, c, i, b, m, u, l, o, n)
+cells_are k seat terminal day act patron copy title branch admits until line outcome number s t d a p c i b m
+    u l o n = rw (s, t, d, a, p, c, i, b, m, u, l, o, n)

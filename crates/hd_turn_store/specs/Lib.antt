@@ -5,5 +5,6 @@ pub mod Columns  -- a column as the code lists it
 pub mod Texts  -- the texts of SQL
 pub mod Holds  -- what a connection to a journal sees
 pub mod Crashes  -- what the files hold, also after a crash
+pub mod Marks  -- the mark in its file
 pub mod Rows  -- a turn as it is handed in and given back
 pub mod Faults  -- which fault an error of the database is told as

@@ -1,10 +1,8 @@
 //! A journal in a file.
 
-ghost use Rattle.std.specs.Prelude.{◌≡◌, [], codes, false, List, IsErrAnd, IsTrue, IfErr, IfOk};
-ghost use Rattle.sqlite_wal.specs.Files.{outcomes};
-ghost use Rattle.sqlite_wal.specs.Reads.{AreClean};
+ghost use Rattle.std.specs.Prelude.{◌≡◌, [], codes, false, true, List, IsErrAnd, IsTrue, IfOk};
 ghost use Rattle.sqlite.specs.State.{HasCleanDisk};
-ghost use Rattle.sqlite.specs.Files.{file_state};
+ghost use Rattle.sqlite.specs.Files.{IsBlankAs, file_state};
 ghost use Rattle.sqlite.specs.Held.{state};
 ghost use Rattle.sqlite.specs.Tree.{Trees};
 ghost use Rattle.sqlite.specs.WalFiles.{image_at};
@@ -12,16 +10,15 @@ ghost use Rattle.sqlite.specs.Recovery.{Image};
 ghost use Rattle.sqlite_store.specs.FileStore.{state as store_state, view};
 ghost use Rattle.sqlite_trees.specs.View.{IsClean};
 ghost use Rattle.hd_turn_store.specs.Kept.{KeptTurn, Head, IsKnownFormat, new_head};
-ghost use Rattle.hd_turn_store.specs.Faults.{IsWritingFault};
 ghost use Rattle.hd_turn_store.specs.Tables.{IsJournal, no_schema};
 ghost use Rattle.hd_turn_store.specs.Holds.{Holds};
-ghost use Rattle.hd_turn_store.specs.Crashes.{HoldsTurns, HoldsTurnsAlone};
+ghost use Rattle.hd_turn_store.specs.Crashes.{HoldsTurns};
 
 use crate::fault::Fault;
 use crate::heading::check;
 use crate::storing::begin;
 use crate::table::is_blank;
-use sqlite::{Alter, Connection, FileFrom, FileStore, Files, Start};
+use sqlite::{Alter, Connection, FileFrom, FileStore, Start};
 use sqlite_disk::Disk;
 
 /// Lets a journal go, with what is in the log left there. Whatever a crash leaves of the files, then or
@@ -31,22 +28,6 @@ pub fn leave<D: Disk + Drop>(conn: Connection<FileStore<D>>) -> FileStore<D>
         → (left : Image) → (store_state result).may_leave left → HoldsTurns left head ks }
 {
     conn.into_store()
-}
-
-/// Ends a journal well: its turns are then in the database file alone, also after a crash.
-pub fn end<D: Disk + Drop>(conn: Connection<FileStore<D>>) -> Result<Files<D>, Fault>
-    ensures copied { IfOk result (λ files. AreClean D.Disk files.log files.db
-        → (head : Head) (ks : List KeptTurn) → Holds (file_state conn) head ks
-        → (left : Image) → outcomes D.Disk files.log files.db left → HoldsTurnsAlone left head ks) }
-    ensures fault { IfErr result IsWritingFault }
-{
-    match conn.close_files() {
-        Ok(files) => Ok(files),
-        Err((error, store)) => {
-            drop(store.close());
-            Err(Fault::of_writing(error))
-        }
-    }
 }
 
 /// A connection to the database in the file of this path.
@@ -62,9 +43,12 @@ fn connect<S: Start>(
     // Files that hold a journal show its tables.
     ensures blank { IfOk result (λ c. HasCleanDisk (file_state c) → (file_state c).now.schema ≡ no_schema
         → (head : Head) (ks : List KeptTurn) → ¬ HoldsTurns (image_at S.Start) head ks) }
+    // The pages of a new file have sums, by which the next open tells what somebody else changed.
+    ensures sums { IfOk result (λ c. HasCleanDisk (file_state c) → IsBlankAs true (image_at S.Start)
+        → (view c.store).has_sums ≡ true) }
     ensures outside { IfOk result (λ c. (file_state c).in_transaction ≡ false) }
 {
-    match Connection::open_from(rt, path, false, start) {
+    match Connection::open_from(rt, path, true, start) {
         Ok(conn) => Ok(conn),
         Err((error, _)) => Err(Fault::of_opening(error)),
     }

@@ -29,7 +29,8 @@ fn create_journal<S: Alter>(tx: &mut Transaction<'_, S>) -> Result<(), Error>
 fn create_turn<S: Alter>(tx: &mut Transaction<'_, S>) -> Result<(), Error>
     ensures same_reference { tx.new.conn.ghost_name ≡ tx.old.conn.ghost_name }
     ensures ok { HasCleanDisk (state S.Store tx.new.conn.now)
-        → OnOk result (HasFirst (state S.Store tx.old.conn.now) → HasTables [] (state S.Store tx.new.conn.now)) }
+        → OnOk result (HasFirst (state S.Store tx.old.conn.now)
+        → HasTables [] (state S.Store tx.new.conn.now)) }
     ensures survives { Survives (state S.Store tx.old.conn.now) (state S.Store tx.new.conn.now) (λ _. ⊥) }
 {
     tx.execute(CREATE_TURN, &[])?;
@@ -52,8 +53,8 @@ fn create_index<S: Alter>(tx: &mut Transaction<'_, S>) -> Result<(), Error>
 fn put_head<S: Alter>(tx: &mut Transaction<'_, S>, digest: &[u8; 32]) -> Result<(), Error>
     ensures same_reference { tx.new.conn.ghost_name ≡ tx.old.conn.ghost_name }
     ensures ok { HasCleanDisk (state S.Store tx.new.conn.now)
-        → OnOk result (HasTables (number_index ∷ []) (state S.Store tx.old.conn.now) → SeesTurns (state S.Store tx.new.conn.now)
-        (new_head digest.now) []) }
+        → OnOk result (HasTables (number_index ∷ []) (state S.Store tx.old.conn.now)
+        → SeesTurns (state S.Store tx.new.conn.now) (new_head digest.now) []) }
     ensures survives { Survives (state S.Store tx.old.conn.now) (state S.Store tx.new.conn.now) (λ _. ⊥) }
 {
     tx.execute(

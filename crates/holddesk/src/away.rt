@@ -26,14 +26,20 @@ impl Away {
         let catalogue: &Catalogue = desk.catalogue();
         for number in 0..catalogue.copies() {
             let copy = CopyNo::new(number as u32).unwrap();
-            let count = match desk.copy(copy) {
-                CopyState::Shelf(_) => continue,
-                CopyState::OnLoan(_) => &mut away.on_loan,
-                CopyState::OnHoldShelf(_) => &mut away.on_hold_shelves,
-                CopyState::InTransit(_) => &mut away.in_transit,
-            };
-            *count = count.saturating_add(1);
+            away.add(&desk.copy(copy));
         }
         away
+    }
+
+    /// Counts a copy of this state.
+    fn add(&mut self, state: &CopyState) {
+        match state {
+            CopyState::Shelf(_) => {}
+            CopyState::OnLoan(_) => self.on_loan = self.on_loan.saturating_add(1),
+            CopyState::OnHoldShelf(_) => {
+                self.on_hold_shelves = self.on_hold_shelves.saturating_add(1);
+            }
+            CopyState::InTransit(_) => self.in_transit = self.in_transit.saturating_add(1),
+        }
     }
 }

@@ -3,11 +3,12 @@
 use crate::fault::Fault;
 use crate::folder::{Paths, last_period};
 use crate::keeping::end_kept;
-use crate::library::{Library, read_file};
+use crate::library::Library;
 use crate::presence::see_nothing;
-use crate::writing::write_whole;
+use crate::reading::read_file;
+use crate::writing::{own_file, write_whole};
 use hd_command_line::{JournalBegin, LibraryFiles};
-use hd_turn_store::{Unknown, open};
+use hd_turn_store::{Fault as StoreFault, Unknown, open};
 
 /// Begins a journal's file where there is none, or the first period of a folder that has none.
 pub(crate) fn begin_journal(rt: &HostRuntime, order: &JournalBegin<'_>) -> Result<(), Fault> {
@@ -25,7 +26,7 @@ fn begin_folder(rt: &HostRuntime, library: &LibraryFiles<'_>, folder: &str) -> R
     }
     let first = Paths::of_period(alloc, folder, 1)?;
     let files = first.files();
-    let catalogue = read_file(rt, library.catalogue)?;
+    let catalogue = read_file(rt, "catalogue", library.catalogue)?;
     drop(Library::of_catalogue(rt, catalogue.as_slice())?.with_text()?);
     write_whole(rt, files.catalogue, catalogue.as_slice())?;
     begin_file(rt, &files)
@@ -56,8 +57,12 @@ fn digest_of_fit(
     Ok(digest)
 }
 
-/// Begins the journal of a library with this digest at a path. All of it is then in the database file.
+/// Begins the journal of a library with this digest at a path. All of it is then in the database file, which
+/// its owner alone may read and write.
 pub(crate) fn begin_at(rt: &HostRuntime, path: &str, digest: &[u8; 32]) -> Result<(), Fault> {
+    if own_file(rt, path).is_err() {
+        return Err(Fault::from(StoreFault::CannotOpen));
+    }
     let (conn, _) = open(rt, path, Unknown, digest)?;
     end_kept(conn)
 }

@@ -6,8 +6,9 @@ use crate::ending::end_journal;
 use crate::fault::Fault;
 use crate::folder::{Paths, last_period};
 use crate::keeping::{Keeping, open_over};
-use crate::library::{Library, read_file};
+use crate::library::Library;
 use crate::presence::{remove_journal, see_no_file};
+use crate::reading::read_file;
 use crate::writing::{name_part, part_path, write_whole};
 use hd_command_line::{Carry, LibraryFiles, Place};
 use hd_turn_store::Unknown;
@@ -16,7 +17,7 @@ use hd_turn_store::Unknown;
 pub(crate) fn carry_over(rt: &HostRuntime, order: &Carry<'_>) -> Result<(), Fault> {
     match &order.library {
         Place::Files(files) => {
-            let catalogue = read_file(rt, order.to)?;
+            let catalogue = read_file(rt, "catalogue", order.to)?;
             let way = way_of(order, catalogue.as_slice(), order.into.unwrap_or(""));
             let carried = carry_files(rt, files, &way)?;
             name_opening(rt, &way, &carried)
@@ -45,7 +46,7 @@ fn carry_period(
     new: &LibraryFiles<'_>,
     order: &Carry<'_>,
 ) -> Result<(), Fault> {
-    let catalogue = read_file(rt, order.to)?;
+    let catalogue = read_file(rt, "catalogue", order.to)?;
     let way = way_of(order, catalogue.as_slice(), new.opening.unwrap_or(""));
     let carried = carry_files(rt, old, &way)?;
     write_whole(rt, new.catalogue, catalogue.as_slice())?;
@@ -82,6 +83,7 @@ fn carry_files(
     let keeping = Keeping {
         library: *files,
         is_other_accepted: false,
+        is_for_turns: false,
     };
     let library = Library::read_text(rt, files)?;
     let before = library.digest;

@@ -3,8 +3,9 @@
 use crate::away::Away;
 use crate::fault::Fault;
 use crate::folder::Paths;
-use crate::library::{Library, read_file};
+use crate::library::Library;
 use crate::mending::{tell_faults, tell_warnings};
+use crate::reading::read_file;
 use crate::told::Told;
 use hd_catalogue::{Catalogue, TitleNo};
 use hd_command_line::{Check, LibraryFiles};
@@ -51,7 +52,7 @@ fn check_files(
 /// The version of a catalogue file, and its library. A terminal is told before a long file is read, and
 /// standard error what is wrong with a file, or odd about one that is accepted.
 fn library_of(rt: &HostRuntime, path: &str) -> Result<(u8, Library), Fault> {
-    let file = read_file(rt, path)?;
+    let file = read_file(rt, "catalogue", path)?;
     if file.len() > LONG_FILE && rt.stderr().is_terminal() {
         eprintln!(rt; "checking {} MB", file.len() / 1_000_000)?;
     }

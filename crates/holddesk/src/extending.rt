@@ -2,10 +2,10 @@
 ghost use Rattle.std.specs.Prelude.{◌≡◌, ◌||◌, IfOk, is_some, option_and_then, true};
 
 use crate::fault::Fault;
+use crate::reading::read_file;
 use hd_catalogue::Catalogue;
 use hd_command_line::Extended;
 use hd_session::{Extensions, Patrons, Profile};
-use std::fs;
 
 /// Whether anything extends the standard messages.
 pub(crate) fn is_extended(order: &Extended<'_>) -> bool
@@ -70,9 +70,7 @@ pub(crate) fn read_patrons(
 ) -> Result<Patrons, Fault>
     ensures { IfOk result (λ patrons. is_some patrons ≡ true) }
 {
-    let Ok(file) = fs::read(rt, path) else {
-        return Err(Fault::CannotReadPatrons);
-    };
+    let file = read_file(rt, "patrons", path)?;
     match Patrons::read(rt.alloc(), catalogue, file.as_slice()) {
         Ok(patrons) => Ok(patrons),
         Err(fault) => Err(Fault::Patrons(fault)),

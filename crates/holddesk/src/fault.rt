@@ -8,6 +8,7 @@ use hd_patrons::PatronsFault;
 use hd_replay::ReplayFault;
 use hd_serve::ServeFault;
 use hd_server::ServerFault;
+use hd_zone::ReadFault;
 use std::alloc::{AllocError, AllocFailed};
 use std::{fmt, io};
 use thiserror::Error;
@@ -15,9 +16,19 @@ use thiserror::Error;
 /// Why the program stops before its end, printed as one line on standard error.
 #[derive(Drop, Error)]
 pub(crate) enum Fault {
-    /// The catalogue file can't be read.
-    #[error("cannot read the catalogue")]
-    CannotReadCatalogue,
+    /// A file of a library can't be read.
+    #[error("cannot read the {kind} {path}: {why}")]
+    CannotRead {
+        /// What it is, as `catalogue`.
+        kind: &'static str,
+        /// Its path.
+        path: String,
+        /// The system's reason.
+        why: String,
+    },
+    /// The same in a line that is one for all paths.
+    #[error("cannot read the {0}")]
+    Unread(&'static str),
     /// The catalogue file is refused.
     #[error("catalogue {0}")]
     Catalogue(CatFault),
@@ -45,9 +56,6 @@ pub(crate) enum Fault {
     /// A file is at this path, where one was to be written.
     #[error("there is a file at {0}")]
     FileIsThere(String),
-    /// The opening file can't be read.
-    #[error("cannot read the opening")]
-    CannotReadOpening,
     /// The opening file is refused.
     #[error("{0}")]
     Opening(OpeningFault),
@@ -69,22 +77,27 @@ pub(crate) enum Fault {
         /// Its line, from 1.
         line: usize,
     },
-    /// The patrons' file can't be read.
-    #[error("cannot read the patrons")]
-    CannotReadPatrons,
+    /// A zone's file at this path can't be read, or has no offset, for this reason.
+    #[error("cannot read the zone {0}")]
+    CannotReadZone(String),
+    /// A catalogue file with another offset isn't read as that.
+    #[error("the offset is not taken")]
+    OffsetNotTaken,
     /// The patrons' file is refused.
     #[error("{0}")]
     Patrons(PatronsFault),
-    /// No title of the library has this name.
-    #[error("there is no title {0}")]
-    NoTitle(String),
-    /// No branch of the library has this name.
-    #[error("there is no branch {0}")]
-    NoBranch(String),
+    /// Nothing of a kind has this name.
+    #[error("there is no {kind} {name}")]
+    NotThere {
+        /// What has no such name, as `title`.
+        kind: &'static str,
+        /// The name.
+        name: String,
+    },
     /// This is no day of the form 2026-03-01.
     #[error("{0} is no day")]
     NoDay(String),
-    /// This file can't be read.
+    /// Another file can't be read: its path, and the system's reason.
     #[error("cannot read {0}")]
     CannotReadFile(String),
     /// What is in the way of a library that is to be carried over, a line for each thing.
@@ -111,9 +124,41 @@ pub(crate) enum Fault {
     /// A journal's file can't be opened or ended.
     #[error("{0}")]
     Journal(OpenFault),
+    /// There can be no door at the path, for this reason.
+    #[error("{0}")]
+    NoDoor(String),
+    /// Nobody listens at a door.
+    #[error("no server listens at {0}")]
+    NoServer(String),
+    /// A door is another user's.
+    #[error("the door {0} is another user's")]
+    ForbiddenDoor(String),
+    /// Who listens at a door can't be asked.
+    #[error("no server can be asked at {0}")]
+    DeafDoor(String),
+    /// What comes from a door isn't one whole answer.
+    #[error("the server at {0} gave no whole answer")]
+    NoAnswer(String),
+    /// A server says why it doesn't do what it was asked.
+    #[error("the server says: {0}")]
+    Told(String),
     /// A replay or a server stopped.
     #[error("{0}")]
     Server(ServerFault),
+}
+
+impl Fault {
+    /// The fault as `replay` tells it: of a file that can't be read in a line that is one for all paths.
+    pub(crate) fn without_path(self) -> Fault {
+        match self {
+            Fault::CannotRead {
+                kind,
+                path: _path,
+                why: _why,
+            } => Fault::Unread(kind),
+            other => other,
+        }
+    }
 }
 
 // Written out, since the proof of the derived one takes as long as that of thirty functions.
@@ -126,6 +171,16 @@ impl fmt::Debug for Fault {
 impl From<CatFault> for Fault {
     fn from(fault: CatFault) -> Fault {
         Fault::Catalogue(fault)
+    }
+}
+
+impl From<ReadFault> for Fault {
+    fn from(fault: ReadFault) -> Fault {
+        match fault {
+            ReadFault::Catalogue(fault) => Fault::Catalogue(fault),
+            ReadFault::Memory => Fault::Memory,
+            ReadFault::NotMoved => Fault::OffsetNotTaken,
+        }
     }
 }
 

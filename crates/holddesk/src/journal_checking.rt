@@ -19,6 +19,7 @@ pub(crate) fn check_journal(rt: &HostRuntime, order: &JournalCheck<'_>) -> Resul
     let keeping = Keeping {
         library: paths.files(),
         is_other_accepted: false,
+        is_for_turns: false,
     };
     let kept = match open_kept(rt, Unknown, &keeping) {
         Err(Fault::Journal(OpenFault::OtherCatalogue)) if order.is_other_accepted => {
@@ -43,6 +44,7 @@ fn open_with_other(rt: &HostRuntime, keeping: &Keeping<'_>) -> Result<KeptJourna
         &Keeping {
             library,
             is_other_accepted: true,
+            is_for_turns: false,
         },
     )?;
     let journal = keeping.journal();

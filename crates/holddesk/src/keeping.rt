@@ -22,6 +22,8 @@ pub(crate) struct Keeping<'a> {
     /// Whether a journal that was written with another catalogue is accepted, where each of its turns is
     /// answered the same with this one.
     pub(crate) is_other_accepted: bool,
+    /// Whether turns are taken: the file then says that a server has it open.
+    pub(crate) is_for_turns: bool,
 }
 
 impl<'a> Keeping<'a> {
@@ -77,6 +79,7 @@ fn take_again<S: Start>(
         keeping.journal(),
         start,
         &wanted,
+        keeping.is_for_turns,
         journal,
         &mut retaking,
     );
@@ -88,6 +91,9 @@ fn take_again<S: Start>(
 pub(crate) fn end_kept<D: Disk + Drop>(conn: Connection<FileStore<D>>) -> Result<(), Fault> {
     match end(conn) {
         Ok(_) => Ok(()),
-        Err(fault) => Err(Fault::from(fault)),
+        Err((fault, store)) => {
+            drop(store.close());
+            Err(Fault::from(fault))
+        }
     }
 }

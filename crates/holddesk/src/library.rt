@@ -1,14 +1,18 @@
 //! A library, by its files.
-ghost use Rattle.std.specs.Prelude.{◌≡◌, [], IfOk};
+ghost use Rattle.std.specs.Prelude.{◌≡◌, [], IfNone, IfOk, IfSome};
+ghost use Rattle.hd_catalogue.specs.Files.{IsAccepted, lines_of};
+ghost use Rattle.hd_zone.specs.Moved.{IsReadAt};
 
 use crate::fault::Fault;
-use hd_catalogue::Catalogue;
+use crate::reading::read_file;
+use hd_catalogue::{Catalogue, OffsetMinutes};
 use hd_command_line::LibraryFiles;
 use hd_desk::Meter;
 use hd_journal::Journal;
 use hd_opening::Opening;
+use hd_zone::read_at;
 use sha2::{Digest, Sha256};
-use std::fs;
+use std::alloc::Global;
 
 /// What a library's files say.
 #[derive(Drop)]
@@ -27,8 +31,21 @@ impl Library {
     /// # Errors
     /// A file can't be read, or is refused.
     pub(crate) fn read(rt: &HostRuntime, files: &LibraryFiles<'_>) -> Result<Library, Fault> {
-        let file = read_file(rt, files.catalogue)?;
-        let library = Library::of_catalogue(rt, file.as_slice())?;
+        Library::read_at(rt, files, None)
+    }
+
+    /// Reads a library that goes by this offset, where there is one, in place of its own. The digest is the
+    /// same.
+    ///
+    /// # Errors
+    /// Those of `read`.
+    pub(crate) fn read_at(
+        rt: &HostRuntime,
+        files: &LibraryFiles<'_>,
+        offset: Option<OffsetMinutes>,
+    ) -> Result<Library, Fault> {
+        let file = read_file(rt, "catalogue", files.catalogue)?;
+        let library = Library::of_file(rt, file.as_slice(), offset)?;
         drop(file);
         match files.opening {
             Some(path) => library.opened(rt, path),
@@ -49,8 +66,20 @@ impl Library {
     /// # Errors
     /// It is refused.
     pub(crate) fn of_catalogue(rt: &HostRuntime, file: &[u8]) -> Result<Library, Fault> {
+        Library::of_file(rt, file, None)
+    }
+
+    /// The same, where it goes by this offset, if there is one.
+    ///
+    /// # Errors
+    /// It is refused.
+    fn of_file(
+        rt: &HostRuntime,
+        file: &[u8],
+        offset: Option<OffsetMinutes>,
+    ) -> Result<Library, Fault> {
         Ok(Library {
-            catalogue: Catalogue::read(rt.alloc(), file)?,
+            catalogue: catalogue_of(rt.alloc(), file, offset)?,
             digest: Sha256::digest(file),
             is_text: str::from_utf8(file).is_ok(),
         })
@@ -78,9 +107,7 @@ impl Library {
             digest,
             is_text,
         } = self;
-        let Ok(file) = fs::read(rt, path) else {
-            return Err(Fault::CannotReadOpening);
-        };
+        let file = read_file(rt, "opening", path)?;
         let opening = hd_opening::read(rt.alloc(), &catalogue, &digest, file.as_slice())?;
         let Opening { rows, last } = opening;
         Ok(Library {
@@ -103,12 +130,20 @@ impl Library {
     }
 }
 
-/// The bytes of a catalogue file.
+/// What a catalogue file says; where there is an offset, with that in place of its own.
 ///
-/// An error is that it can't be read.
-pub(crate) fn read_file(rt: &HostRuntime, path: &str) -> Result<Vec<u8>, Fault> {
-    match fs::read(rt, path) {
-        Ok(file) => Ok(file),
-        Err(_) => Err(Fault::CannotReadCatalogue),
+/// # Errors
+/// It is refused.
+fn catalogue_of(
+    alloc: Global,
+    file: &[u8],
+    offset: Option<OffsetMinutes>,
+) -> Result<Catalogue, Fault>
+    ensures own { IfNone offset (IfOk result (λ k. IsAccepted (lines_of file.now) k)) }
+    ensures other { IfSome offset (λ offset. IfOk result (IsReadAt (lines_of file.now) offset)) }
+{
+    match offset {
+        Some(offset) => Ok(read_at(alloc, file, offset)?),
+        None => Ok(Catalogue::read(alloc, file)?),
     }
 }

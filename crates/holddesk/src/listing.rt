@@ -4,6 +4,7 @@ use crate::days::{day_of, day_text};
 use crate::fault::Fault;
 use crate::names::{branch_name, copy_name, patron_name, title_name_of};
 use crate::table::Table;
+use crate::topics::not_there;
 use hd_catalogue::Catalogue;
 use hd_date::Day;
 use hd_desk::Desk;
@@ -126,7 +127,7 @@ pub(crate) fn queue(
 ) -> Result<(), Fault> {
     let catalogue: &Catalogue = desk.catalogue();
     let Some(title) = catalogue.title(name.as_bytes()) else {
-        return Err(Fault::NoTitle(String::from_str(alloc, name)?));
+        return Err(not_there(alloc, "title", name)?);
     };
     for hold in desk.queue(title).holds() {
         push_hold(alloc, catalogue, table, hold)?;
@@ -187,7 +188,7 @@ pub(crate) fn shelf(
 ) -> Result<(), Fault> {
     let catalogue: &Catalogue = desk.catalogue();
     let Some(branch) = catalogue.branch(name.as_bytes()) else {
-        return Err(Fault::NoBranch(String::from_str(alloc, name)?));
+        return Err(not_there(alloc, "branch", name)?);
     };
     for number in 0..catalogue.copies() {
         let copy = CopyNo::new(number as u32).unwrap();

@@ -1,6 +1,7 @@
 //! holddesk: a hold desk for the self-service terminals of a library, over SIP2 2.00.
 #![tactic(auto)]
 
+mod answering;
 mod away;
 mod beginning;
 mod carried;
@@ -9,6 +10,7 @@ mod checking;
 mod comparing;
 mod counted;
 mod days;
+mod door;
 mod ending;
 mod extending;
 mod fault;
@@ -20,17 +22,23 @@ mod library;
 mod listing;
 mod mending;
 mod names;
+mod observing;
 mod presence;
+mod reading;
 mod replaying;
 mod retaking;
+mod seeing;
 mod serving;
 mod serving_kept;
 mod showing;
+mod standing;
 mod table;
 mod told;
+mod topics;
 mod views;
 mod writing;
 mod written_off;
+mod zone;
 
 use crate::beginning::begin_journal;
 use crate::carrying::carry_over;
@@ -40,8 +48,10 @@ use crate::importing::import_sheets;
 use crate::journal_checking::check_journal;
 use crate::mending::tell_option;
 use crate::replaying::answer;
+use crate::seeing::show;
 use crate::serving_kept::serve;
 use crate::showing::show_journal;
+use crate::standing::{stop, tell_status};
 use crate::views::print_views;
 use hd_command_line::{Order, parse};
 use std::io;
@@ -80,6 +90,9 @@ fn main(rt: HostRuntime) -> io::Result<ExitCode> {
         Order::JournalCheck(order) => check_journal(&rt, &order),
         Order::JournalShow(order) => show_journal(&rt, &order),
         Order::JournalViews(order) => print_views(&rt, &order),
+        Order::Show(order) => show(&rt, &order),
+        Order::Status(order) => tell_status(&rt, &order),
+        Order::Stop(order) => stop(&rt, &order),
     };
     match ended {
         Ok(()) => Ok(ExitCode::SUCCESS),

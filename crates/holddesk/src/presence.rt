@@ -2,10 +2,10 @@
 
 use crate::fault::Fault;
 use hd_journal_file::OpenFault;
-use hd_turn_store::Fault as StoreFault;
+use hd_turn_store::{Fault as StoreFault, HEAD, is_ended};
 use std::alloc::Global;
-use std::fs;
-use std::io::ErrorKind;
+use std::fs::{self, File};
+use std::io::{self, ErrorKind, Read};
 
 /// How many bytes a log without a commit has at most: its heading.
 const LOG_HEADING: u64 = 32;
@@ -23,7 +23,7 @@ enum Presence {
     LogAlone,
 }
 
-/// Sees that a journal with its log lies at a path.
+/// Sees that a journal lies at a path, with its log, or ended well.
 ///
 /// # Errors
 /// There is none, or one of its two files is missing.
@@ -32,9 +32,28 @@ pub(crate) fn see_journal(rt: &HostRuntime, path: &str) -> Result<(), Fault> {
     match look(rt, path, log.as_str())? {
         Presence::Journal => Ok(()),
         Presence::Nothing => Err(Fault::NoJournal(String::from_str(rt.alloc(), path)?)),
+        Presence::JournalAlone if is_ended_at(rt, path) => Ok(()),
         Presence::JournalAlone => Err(Fault::NoLog),
         Presence::LogAlone => Err(Fault::LogAlone(log)),
     }
+}
+
+/// Whether the file at a path says that it was ended well, so that it has all of the journal without a log.
+fn is_ended_at(rt: &HostRuntime, path: &str) -> bool {
+    match read_head(rt, path) {
+        Ok(head) => is_ended(&head),
+        Err(_) => false,
+    }
+}
+
+/// The first bytes of a file.
+///
+/// # Errors
+/// It can't be read, or has fewer.
+fn read_head(rt: &HostRuntime, path: &str) -> io::Result<[u8; HEAD]> {
+    let mut head = [0; HEAD];
+    File::open(rt, path)?.read_exact(&mut head)?;
+    Ok(head)
 }
 
 /// Sees that nothing lies at a path, so that a journal may be begun there.
@@ -83,7 +102,7 @@ fn remove(rt: &HostRuntime, path: &str) -> Result<(), Fault> {
 }
 
 /// The path of a journal's log.
-fn log_path(alloc: Global, path: &str) -> Result<String, Fault> {
+pub(crate) fn log_path(alloc: Global, path: &str) -> Result<String, Fault> {
     Ok(format!(in alloc; "{path}-wal")?)
 }
 

@@ -2,7 +2,8 @@
 
 use crate::extending::{extensions_of, is_extended};
 use crate::fault::Fault;
-use crate::library::{Library, read_file};
+use crate::library::Library;
+use crate::reading::read_file;
 use hd_command_line::{LibraryFiles, Replay};
 use hd_connection::Fallible;
 use hd_replay::{ReplayFault, replay_over};
@@ -10,13 +11,21 @@ use hd_server::replay;
 
 /// Answers the messages of the standard input.
 pub(crate) fn answer(rt: &HostRuntime, order: &Replay<'_>) -> Result<(), Fault> {
+    match answer_all(rt, order) {
+        Ok(()) => Ok(()),
+        Err(fault) => Err(fault.without_path()),
+    }
+}
+
+/// The same, where a file that can't be read is told with its path.
+fn answer_all(rt: &HostRuntime, order: &Replay<'_>) -> Result<(), Fault> {
     if order.library.opening.is_some() {
         see_opening(rt, &order.library)?;
     }
     if order.library.opening.is_some() || is_extended(&order.extended) {
         return answer_over(rt, Library::read(rt, &order.library)?, order);
     }
-    let file = read_file(rt, order.library.catalogue)?;
+    let file = read_file(rt, "catalogue", order.library.catalogue)?;
     let now = order.now.as_bytes();
     let mut from = Fallible(rt.stdin());
     let mut to = Fallible(rt.stdout());

@@ -5,12 +5,18 @@ use crate::counted::Counted;
 use crate::extending::extensions_of;
 use crate::fault::Fault;
 use crate::library::Library;
+use crate::observing::Teller;
+use crate::zone::zone_offset;
 use hd_catalogue::Catalogue;
-use hd_command_line::{LibraryFiles, Serve};
+use hd_command_line::{Beyond, LibraryFiles, Serve};
+use hd_door::Door;
+use hd_durable::LastCommit;
 use hd_hall::Keeper;
 use hd_journal::Journal;
-use hd_serve::{Gate, ServeFault};
-use hd_server::{Options, Summary};
+use hd_log::Event;
+use hd_page_html::page;
+use hd_serve::{Observer, ServeFault, serve_observed};
+use hd_server::{Options, ServerFault, Sight, Summary, serve_seen, summary_of};
 use hd_session::Extensions;
 use std::alloc::Global;
 use std::io;
@@ -19,58 +25,86 @@ use std::sync::Wait;
 use std::thread::Threads;
 use std::time::Clock;
 
-/// A gate that holds nobody.
-struct OpenGate;
-
-impl Gate for OpenGate {
-    fn before(&self, _session: usize, _turn: usize) {}
-}
-
-/// How terminals are to be served, by the words of the command line, and what extends their messages.
+/// How terminals are to be served, by the words of the command line, what extends their messages, and the
+/// door at which the server is seen, if there is one.
 #[derive(Clone, Copy)]
 pub(crate) struct Serving<'a> {
     pub(crate) order: &'a Serve<'a>,
     pub(crate) extensions: &'a Extensions,
+    pub(crate) door: Option<&'a Door>,
+    /// The paths of the files in which the journal is kept, if it is.
+    pub(crate) files: &'a [&'a str],
+    /// How long the last commit to them took.
+    pub(crate) last_commit: &'a LastCommit,
 }
 
-/// A server that has its port, a journal without turns, and what extends the messages of its terminals.
-#[derive(Drop)]
-pub(crate) struct OpenServer {
-    listener: TcpListener,
-    journal: Journal,
-    extensions: Extensions,
-}
-
-/// Reads the catalogue and what extends the messages, takes the port, and says on standard error where the
-/// server listens.
-pub(crate) fn start(
-    rt: &HostRuntime,
+/// Serves terminals over a library whose journal is in memory, and tells how it ended.
+pub(crate) fn serve_in_memory<R: Threads + Wait + Clock + Sync + Print>(
+    rt: &R,
+    host: &HostRuntime,
     files: &LibraryFiles<'_>,
     order: &Serve<'_>,
-) -> Result<OpenServer, Fault>
-    ensures { IfOk result (λ server. server.journal.turns ≡ []) }
-{
-    let library = Library::read(rt, files)?;
-    let extensions = extensions_of(rt, &order.extended, &library.catalogue)?;
-    let listener = listen(rt, order, &library.catalogue)?;
-    let journal = library.journal(rt)?;
-    Ok(OpenServer {
-        listener,
-        journal,
-        extensions,
-    })
+    door: Option<&Door>,
+) -> Result<(), Fault> {
+    let library = Library::read_at(host, files, zone_offset(rt, host, order)?)?;
+    let extensions = extensions_of(host, &order.extended, &library.catalogue)?;
+    let listener = listen(host, order, &library.catalogue)?;
+    let journal = library.journal(host)?;
+    let serving = Serving {
+        order,
+        extensions: &extensions,
+        door,
+        files: &[],
+        last_commit: &LastCommit::new(),
+    };
+    let closed: Journal = serve_by(rt, host, listener, journal, &serving)?;
+    tell_end(rt, &summary_of(&closed))?;
+    Ok(())
 }
 
-/// Says on standard error how many turns the journal has, and takes the port.
-fn listen_at(
-    rt: &HostRuntime,
-    order: &Serve<'_>,
+/// Says on standard error how many turns the journal has, takes the port, and says where the server listens
+/// and what its catalogue has.
+pub(crate) fn listen_with_turns(
+    host: &HostRuntime,
     turns: usize,
     catalogue: &Catalogue,
+    order: &Serve<'_>,
 ) -> Result<TcpListener, Fault> {
     let turns = Counted::of(turns, "turn", "turns");
-    eprintln!(rt; "the journal has {turns}")?;
-    listen(rt, order, catalogue)
+    eprintln!(host; "the journal has {turns}")?;
+    listen(host, order, catalogue)
+}
+
+/// Serves terminals that connect at a port, and, where there is a door, whoever looks in.
+pub(crate) fn serve_by<
+    R: Threads + Wait + Clock + Sync,
+    Q: Drop + Send,
+    K: Keeper<Global, Q> + Drop + Send,
+>(
+    rt: &R,
+    host: &HostRuntime,
+    listener: TcpListener,
+    keeper: K,
+    serving: &Serving<'_>,
+) -> Result<K, ServerFault>
+    requires { K.turns keeper ≡ [] }
+{
+    let options = options_of(serving);
+    let observer = &Teller::new(host, serving.order.log);
+    match serving.door {
+        None => Ok(serve_observed(rt, host.alloc(), listener, keeper, &options, observer)?),
+        Some(door) => {
+            let page = page();
+            let sight = Sight {
+                observer,
+                door,
+                page,
+                files: serving.files,
+                last_commit: serving.last_commit,
+            };
+            Ok(serve_seen(rt, host, listener, keeper, &options, &sight)?)
+        }
+    }
 }
 
 /// Takes the port, and says on standard error where the server listens and what its catalogue has.
@@ -79,26 +113,67 @@ fn listen(
     order: &Serve<'_>,
     catalogue: &Catalogue,
 ) -> Result<TcpListener, Fault> {
+    let teller = Teller::new(rt, order.log);
     let Ok(address) = order.listen.parse::<SocketAddr>() else {
+        tell_deaf(&teller, order.listen, "it is no IP address and port");
         return Err(Fault::from(ServeFault::CannotListen));
     };
-    let Ok(listener) = TcpListener::bind(rt, address) else {
-        return Err(Fault::from(ServeFault::CannotListen));
-    };
-    tell_start(rt, &listener, order.workers, catalogue)?;
-    Ok(listener)
+    match TcpListener::bind(rt, address) {
+        Ok(listener) => {
+            tell_start(rt, &listener, places_of(order), catalogue)?;
+            tell_listening(rt, &teller, &listener, order.workers)?;
+            Ok(listener)
+        }
+        Err(error) => {
+            let why = format!(in rt.alloc(); "{error}")?;
+            tell_deaf(&teller, order.listen, why.as_str());
+            Err(Fault::from(ServeFault::CannotListen))
+        }
+    }
+}
+
+/// Tells the observer where the server listens.
+fn tell_listening(
+    rt: &HostRuntime,
+    teller: &Teller<'_>,
+    listener: &TcpListener,
+    workers: u32,
+) -> Result<(), Fault> {
+    let address = listener.local_addr()?;
+    let address = format!(in rt.alloc(); "{address}")?;
+    teller.tell(&Event::Listening {
+        address: address.as_bytes(),
+        workers: u64::from(workers),
+    });
+    Ok(())
+}
+
+/// Tells the observer why the server doesn't listen.
+fn tell_deaf(teller: &Teller<'_>, address: &str, why: &str) {
+    teller.tell(&Event::CannotListen {
+        address: address.as_bytes(),
+        why: why.as_bytes(),
+    });
+}
+
+/// How many connections are served at once, as it is told.
+fn places_of(order: &Serve<'_>) -> Counted<'static> {
+    let number = order.workers as usize;
+    match order.beyond {
+        Beyond::Wait => Counted::of(number, "worker", "workers"),
+        Beyond::TurnAway => Counted::of(number, "terminal", "terminals"),
+    }
 }
 
 /// Says on standard error where the server listens and what its catalogue has.
 fn tell_start<R: Eprint>(
     rt: &R,
     listener: &TcpListener,
-    workers: u32,
+    places: Counted<'_>,
     catalogue: &Catalogue,
 ) -> io::Result<()> {
     let address = listener.local_addr()?;
-    let workers = Counted::of(workers as usize, "worker", "workers");
-    eprintln!(rt; "listening on {address}, {workers}")?;
+    eprintln!(rt; "listening on {address}, {places}")?;
     eprintln!(rt;
         "the catalogue has {}, {}, {}, {}, {}",
         Counted::of(catalogue.branches(), "branch", "branches"),
@@ -109,55 +184,24 @@ fn tell_start<R: Eprint>(
     )
 }
 
-/// Serves terminals as the words of the command line say, and tells how it ended. The journal is in memory.
-pub(crate) fn run<R: Threads + Wait + Clock + Sync + Print>(
-    rt: &R,
-    alloc: Global,
-    server: OpenServer,
-    order: &Serve<'_>,
-) -> Result<(), Fault>
-    requires { server.journal.turns ≡ [] }
-{
-    let OpenServer {
-        listener,
-        journal,
-        extensions,
-    } = server;
-    let options = options_of(&Serving {
-        order,
-        extensions: &extensions,
-    });
-    let summary = hd_server::serve(rt, alloc, listener, journal, &options, &OpenGate)?;
-    tell_end(rt, &summary)?;
-    Ok(())
-}
-
-/// Says how many turns the journal has, takes the port, and serves terminals.
-pub(crate) fn serve_at<
-    R: Threads + Wait + Clock + Sync,
-    Q: Drop + Send,
-    K: Keeper<Global, Q> + Drop + Send,
->(rt: &R, host: &HostRuntime, turns: usize, keeper: K, serving: &Serving<'_>) -> Result<K, Fault>
-    requires { K.turns keeper ≡ [] }
-{
-    let listener = listen_at(host, serving.order, turns, keeper.catalogue())?;
-    let options = options_of(serving);
-    let alloc = host.alloc();
-    Ok(hd_serve::serve(rt, alloc, listener, keeper, &options, &OpenGate)?)
-}
-
 /// How terminals are to be served, as the words of the command line say.
 fn options_of<'a>(serving: &Serving<'a>) -> Options<'a>
-    ensures workers { (1 ≤ result.workers) × (result.workers ≤ 64) }
+    ensures workers { (1 ≤ result.workers) × (result.workers ≤ 9999) }
     ensures extensions { result.extensions ≡ Some serving.now.extensions }
     ensures line_feeds { result.has_line_feeds ≡ serving.now.order.now.has_line_feeds }
+    ensures days { result.days_off ≡ serving.now.order.now.days_off }
 {
     Options {
-        workers: serving.order.workers.clamp(1, 64),
+        workers: serving.order.workers.clamp(1, 9_999),
+        beyond: match serving.order.beyond {
+            Beyond::Wait => hd_serve::Beyond::Wait,
+            Beyond::TurnAway => hd_serve::Beyond::TurnAway,
+        },
         connections: serving.order.connections,
         idle: serving.order.idle,
         extensions: Some(serving.extensions),
         has_line_feeds: serving.order.has_line_feeds,
+        days_off: serving.order.days_off,
     }
 }
 

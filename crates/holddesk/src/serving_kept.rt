@@ -1,14 +1,23 @@
 //! Serving terminals with a journal that is kept in a file.
 
+use crate::door::open_door;
 use crate::extending::extensions_of;
 use crate::fault::Fault;
 use crate::folder::Paths;
 use crate::keeping::{Keeping, end_kept, open_over};
 use crate::library::Library;
-use crate::serving::{Serving, run, serve_at, start, tell_end};
+use crate::observing::Teller;
+use crate::presence::log_path;
+use crate::serving::{Serving, listen_with_turns, serve_by, serve_in_memory, tell_end};
+use crate::writing::try_page;
+use crate::zone::zone_offset;
 use hd_command_line::Serve;
-use hd_durable::{DurableJournal, DurableKeeper, TurnTable};
+use hd_door::Door;
+use hd_durable::{DurableJournal, DurableKeeper, LastCommit, TurnTable};
+use hd_hall::Keeper;
 use hd_journal_file::JournalFile;
+use hd_log::Event;
+use hd_serve::Observer;
 use hd_server::{Summary, summary_of};
 use hd_turn_store::{Alter, Connection, FileStore, Start, Unknown, Wary};
 use sqlite_disk::Disk;
@@ -16,44 +25,87 @@ use std::sync::Wait;
 use std::thread::Threads;
 use std::time::Clock;
 
-/// Serves terminals over a library as the words of the command line say, with its journal in memory or in a
-/// file.
+/// Serves terminals over a library as the words of the command line say, and, where there is to be one, opens
+/// a door at which the server is seen. Whoever asks it there to end hears when it has. Of a file that can't be
+/// read the log has path and reason, and the fault is one line for all paths.
 pub(crate) fn serve<R: Threads + Wait + Clock + Sync + Print>(
     rt: &R,
     host: &HostRuntime,
     order: &Serve<'_>,
 ) -> Result<(), Fault> {
+    match serve_at_door(rt, host, order) {
+        Err(Fault::CannotRead { kind, path, why }) => {
+            Teller::new(host, order.log).tell(&Event::CannotRead {
+                file: path.as_bytes(),
+                why: why.as_bytes(),
+            });
+            Err(Fault::Unread(kind))
+        }
+        served => served,
+    }
+}
+
+/// Serves terminals over a library, with a door or without.
+fn serve_at_door<R: Threads + Wait + Clock + Sync + Print>(
+    rt: &R,
+    host: &HostRuntime,
+    order: &Serve<'_>,
+) -> Result<(), Fault> {
+    let Some(path) = order.door else {
+        return serve_library(rt, host, order, None);
+    };
+    let door = open_door(host, path)?;
+    let served = serve_library(rt, host, order, Some(&door));
+    let _ = door.remove(host, path);
+    served
+}
+
+/// Serves terminals over a library, with its journal in memory or in a file.
+fn serve_library<R: Threads + Wait + Clock + Sync + Print>(
+    rt: &R,
+    host: &HostRuntime,
+    order: &Serve<'_>,
+    door: Option<&Door>,
+) -> Result<(), Fault> {
     let paths = Paths::of(host, &order.library)?;
     let library = paths.files();
     if library.journal.is_none() {
-        return run(rt, host.alloc(), start(host, &library, order)?, order);
+        return serve_in_memory(rt, host, &library, order, door);
     }
     let keeping = Keeping {
         library,
         is_other_accepted: order.is_other_accepted,
+        is_for_turns: true,
     };
     if order.is_wary {
-        run_kept(rt, host, Wary, &keeping, order)
+        run_kept(rt, host, Wary, &keeping, order, door)
     } else {
-        run_kept(rt, host, Unknown, &keeping, order)
+        run_kept(rt, host, Unknown, &keeping, order, door)
     }
 }
 
-/// Opens a journal's file, serves terminals as the words of the command line say, and tells how it ended. The
-/// turns in the file are told first.
+/// Opens a journal's file, sees that the disk takes a write, serves terminals as the words of the command
+/// line say, and tells how it ended. The turns in the file are told first.
 fn run_kept<R: Threads + Wait + Clock + Sync + Print, S: Start + Send>(
     rt: &R,
     host: &HostRuntime,
     start: S,
     keeping: &Keeping<'_>,
     order: &Serve<'_>,
+    door: Option<&Door>,
 ) -> Result<(), Fault> {
-    let library = Library::read_text(host, &keeping.library)?;
+    let offset = zone_offset(rt, host, order)?;
+    let library = Library::read_at(host, &keeping.library, offset)?.with_text()?;
     let extensions = extensions_of(host, &order.extended, &library.catalogue)?;
+    let log = log_path(host.alloc(), keeping.journal())?;
     let opened = open_over(host, start, keeping, library)?;
+    try_page(host, keeping.journal())?;
     let serving = Serving {
         order,
         extensions: &extensions,
+        door,
+        files: &[keeping.journal(), log.as_str()],
+        last_commit: &LastCommit::new(),
     };
     let summary = serve_from_disks(rt, host, opened, &serving)?;
     tell_end(rt, &summary)?;
@@ -86,7 +138,8 @@ fn serve_from_file<R: Threads + Wait + Clock + Sync, S: Alter + Drop + Send, F: 
     Ok((summary, file.into_connection()))
 }
 
-/// Serves terminals with a journal that commits its turns to a table: what it has then, and the table.
+/// Serves terminals with a journal that commits its turns to a table, and notes how long each commit takes:
+/// what it has then, and the table.
 fn serve_durable<R: Threads + Wait + Clock + Sync, T: TurnTable + Drop + Send>(
     rt: &R,
     host: &HostRuntime,
@@ -94,8 +147,9 @@ fn serve_durable<R: Threads + Wait + Clock + Sync, T: TurnTable + Drop + Send>(
     serving: &Serving<'_>,
 ) -> Result<(Summary, T), Fault> {
     let turns = journal.front();
-    let keeper = serve_at(rt, host, turns, DurableKeeper::new(journal), serving)?;
-    let served = keeper.into_journal();
+    let timed = DurableKeeper::new(journal.timed(rt, serving.last_commit));
+    let listener = listen_with_turns(host, turns, timed.catalogue(), serving.order)?;
+    let served = serve_by(rt, host, listener, timed, serving)?.into_journal();
     let summary = summary_of(served.journal());
-    Ok((summary, served.into_table()))
+    Ok((summary, served.into_table().into_table()))
 }

@@ -20,6 +20,7 @@ pub(crate) fn show_journal(rt: &HostRuntime, order: &JournalShow<'_>) -> Result<
     let keeping = Keeping {
         library: paths.files(),
         is_other_accepted: false,
+        is_for_turns: false,
     };
     let kept = open_kept(rt, Unknown, &keeping)?;
     let mut table = Table::new(rt.alloc(), heads_of(&order.listing));

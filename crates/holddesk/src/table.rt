@@ -1,6 +1,7 @@
 //! Lists, printed as tables that a person reads, or as JSON.
 
 use crate::fault::Fault;
+use hd_ask::cell;
 use serde_json::Value;
 use std::alloc::Global;
 use std::io::Write;
@@ -30,6 +31,17 @@ impl Table {
             return Err(Fault::CatalogueIsNoText);
         };
         self.cells.push(String::from_str(alloc, text)?)?;
+        Ok(())
+    }
+
+    /// Adds a line: what a row has under each heading.
+    ///
+    /// # Errors
+    /// Out of memory.
+    pub(crate) fn push_row(&mut self, alloc: Global, row: &Value) -> Result<(), Fault> {
+        for head in self.heads {
+            self.cells.push(cell(alloc, row, head)?)?;
+        }
         Ok(())
     }
 

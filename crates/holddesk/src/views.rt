@@ -1,9 +1,9 @@
 //! What `journal views` prints.
 
 use crate::fault::Fault;
+use crate::reading::read_file;
 use hd_command_line::{JournalViews, VIEWS};
 use std::alloc::{AllocError, Global};
-use std::fs;
 use std::io::Write;
 
 /// The table of the loans that a journal began with.
@@ -13,17 +13,26 @@ CREATE TEMP TABLE opened (copy TEXT NOT NULL, patron TEXT NOT NULL, until TEXT N
 
 /// Prints the views of a journal's file, and the loans of its opening file, if it has one.
 pub(crate) fn print_views(rt: &HostRuntime, order: &JournalViews<'_>) -> Result<(), Fault> {
-    rt.stdout().write_all(OPENED)?;
+    rt.stdout().write_all(opened())?;
     if let Some(path) = order.opening {
-        let Ok(file) = fs::read(rt, path) else {
-            return Err(Fault::CannotReadOpening);
-        };
+        let file = read_file(rt, "opening", path)?;
         let loans = loans_of(rt.alloc(), file.as_slice())?;
         rt.stdout().write_all(loans.as_slice())?;
     }
     rt.stdout().write_all(b"\n")?;
-    rt.stdout().write_all(VIEWS.as_bytes())?;
+    rt.stdout().write_all(views())?;
     Ok(())
+}
+
+/// The views. The proof of a function that calls this has one name for them, and that of one that names the
+/// constant all their bytes.
+fn views() -> &'static [u8] {
+    VIEWS.as_bytes()
+}
+
+/// The statement of the table of loans, by a call too.
+fn opened() -> &'static [u8] {
+    OPENED
 }
 
 /// The statements that insert the loans of an opening file.

@@ -1,9 +1,18 @@
 //! Files that are written whole, or not at all.
 
 use crate::fault::Fault;
+use hd_turn_store::Fault as StoreFault;
 use std::alloc::Global;
-use std::fs::File;
+use std::fs::{File, OpenOptions, Permissions};
+use std::io::{ErrorKind, Write};
+use std::os::unix::fs::{OpenOptionsExt, PermissionsExt};
 use std::{fs, io};
+
+/// The mode of a file that is made: its owner alone may read and write it.
+const OWNERS: u32 = 0o600;
+
+/// How many bytes are written to see whether the disk takes them: a page of a journal's file.
+const PAGE: usize = 4_096;
 
 /// Writes a file beside its path, has the disk keep it, and gives it its name: at each moment there is the
 /// whole file at the path, or what was there before.
@@ -46,10 +55,50 @@ pub(crate) fn name_part(rt: &HostRuntime, part: &str, path: &str) -> Result<(), 
     }
 }
 
+/// Opens a file that its owner alone may read and write, whatever the umask. Where there is none, it is made,
+/// and is empty.
+///
+/// # Errors
+/// The system refuses it.
+pub(crate) fn own_file(rt: &HostRuntime, path: &str) -> io::Result<File> {
+    let file = OpenOptions::new()
+        .write(true)
+        .create(true)
+        .mode(OWNERS)
+        .open(rt, path)?;
+    file.set_permissions(Permissions::from_mode(OWNERS))?;
+    Ok(file)
+}
+
+/// Writes a page beside a file, waits until the disk has it, and takes it away again.
+///
+/// # Errors
+/// The system refuses it.
+pub(crate) fn try_page(rt: &HostRuntime, path: &str) -> Result<(), Fault> {
+    let trial = format!(in rt.alloc(); "{path}.trial")?;
+    let written = write_synced(rt, trial.as_str(), &[0; PAGE]);
+    let removed = fs::remove_file(rt, trial.as_str());
+    match (written, removed) {
+        (Ok(()), Ok(())) => Ok(()),
+        (Err(error), _) if is_full(&error) => { Err(Fault::from(StoreFault::DiskFull)) }
+        _ => Err(Fault::from(StoreFault::CannotWrite)),
+    }
+}
+
+/// Whether a disk, or what a user may have of it, is full.
+fn is_full(error: &io::Error) -> bool {
+    matches!(
+        error.kind(),
+        ErrorKind::StorageFull | ErrorKind::QuotaExceeded
+    )
+}
+
 /// Writes a file, and waits until the disk has it.
 fn write_synced(rt: &HostRuntime, path: &str, bytes: &[u8]) -> io::Result<()> {
-    fs::write(rt, path, bytes)?;
-    File::open(rt, path)?.sync_all()
+    let mut file = own_file(rt, path)?;
+    file.set_len(0)?;
+    file.write_all(bytes)?;
+    file.sync_all()
 }
 
 /// Renames a file, and waits until its folder has that.

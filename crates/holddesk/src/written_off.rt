@@ -2,11 +2,11 @@
 
 use crate::fault::Fault;
 use crate::names::{copy_name, patron_name};
+use crate::reading::read_list;
 use hd_catalogue::Catalogue;
 use hd_desk::Desk;
 use hd_rules::{CopyNo, CopyState, PatronNo};
 use std::alloc::AllocError;
-use std::fs;
 use std::io::Write;
 
 /// The copies whose names stand in a file, one a line. What is no copy's name is passed over.
@@ -22,9 +22,7 @@ pub(crate) fn listed_copies(
     let Some(path) = path else {
         return Ok(copies);
     };
-    let Ok(file) = fs::read(rt, path) else {
-        return Err(Fault::CannotReadFile(String::from_str(rt.alloc(), path)?));
-    };
+    let file = read_list(rt, path)?;
     for line in file.as_slice().split(|byte| *byte == b'\n') {
         let name = line.strip_suffix(b"\r").unwrap_or(line);
         if let Some(copy) = catalogue.copy(name) {

@@ -34,12 +34,26 @@ pub(crate) fn crash(disks: &mut Disks) {
     disks.db.crash();
 }
 
-/// Opens the database in them. Where it can't be opened, the disks come back.
+/// The same database without its log.
+pub(crate) fn without_log(alloc: Global, disks: Disks) -> Disks {
+    Files {
+        log: Fuse::new(Memory::new(alloc), u64::MAX),
+        db: disks.db,
+    }
+}
+
+/// The database file's bytes.
+pub(crate) fn database(disks: &Disks) -> &[u8] {
+    disks.db.inner().bytes()
+}
+
+/// Opens the database in them, in which each page of a new one has a sum, as in a file of the program. Where it
+/// can't be opened, the disks come back.
 pub(crate) fn open(alloc: Global, disks: Disks) -> Result<OnDisks, Disks> {
     if !disks.may_be_used() {
         return Err(disks);
     }
-    match Connection::open_files(alloc, disks, OPTIONS) {
+    match Connection::open_files_with(alloc, disks, OPTIONS, true) {
         Ok(conn) => Ok(conn),
         Err((_, left)) => Err(left.into_files()),
     }

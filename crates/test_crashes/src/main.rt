@@ -1,28 +1,31 @@
 //! Stops a journal's file at each call of its disks, and says of each row whether all that was answered came
 //! back.
 //!
-//! A row's turns are taken by a journal that is kept in a file in memory. The disk of its log, or that of its
-//! database, stops after so many calls: before the first, before the second, and so on until a run ends
-//! without a stop. Then the machine crashes and loses what wasn't synced; the file is opened again, and its
-//! turns are taken again. They have to be the first changing turns of the row, with all that were answered.
+//! A row's turns are taken by a journal that is kept in a file in memory. It is begun, opened for turns and
+//! ended, and then opened for turns and ended again. The disk of its log, or that of its database, stops
+//! after so many calls: before the first, before the second, and so on until a run ends without a stop. Then
+//! the machine crashes and loses what wasn't synced; the file is opened again, and its turns are taken again.
+//! They have to be the first changing turns of the row, with all that were answered; where the file says that
+//! it was ended, also without its log. Once it was opened for turns it says that, or that it is open.
 #![tactic(auto)]
 
 mod disks;
 mod library;
+mod marks;
 mod row;
 mod step;
 mod stopping;
 mod whole;
 
-use crate::row::{OFF_LINE_CHECKOUTS, REPEATS_AND_GAPS, Row};
+use crate::row::{Row, rows};
 use crate::stopping::{Disk, calls, is_read_in_the_old_format};
 use std::io;
 
 fn main(rt: HostRuntime) -> io::Result<()> {
-    for row in [REPEATS_AND_GAPS, OFF_LINE_CHECKOUTS] {
-        print_calls(&rt, &row, Disk::Log)?;
-        print_calls(&rt, &row, Disk::Database)?;
-        print_old_format(&rt, &row)?;
+    for row in rows() {
+        print_calls(&rt, row, Disk::Log)?;
+        print_calls(&rt, row, Disk::Database)?;
+        print_old_format(&rt, row)?;
     }
     Ok(())
 }

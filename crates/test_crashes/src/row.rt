@@ -10,6 +10,13 @@ pub(crate) struct Row {
     pub(crate) steps: &'static [Step],
 }
 
+/// The rows.
+pub(crate) fn rows() -> &'static [Row] {
+    &ROWS
+}
+
+static ROWS: [Row; 2] = [REPEATS_AND_GAPS, OFF_LINE_CHECKOUTS];
+
 /// A checkout with a sequence digit.
 const CHECKOUT_3: Step = Step {
     act: Act::Checkout(b"p1"),
@@ -36,7 +43,7 @@ const NO_CHECKOUT: Step = Step {
 
 /// Messages that are sent again: the second checkout and its cancellation, each with its sequence digit. The
 /// first checkout is then to be cancelled without one, and the return depends on it.
-pub(crate) const REPEATS_AND_GAPS: Row = Row {
+const REPEATS_AND_GAPS: Row = Row {
     name: "repeats and gaps",
     steps: &[
         Step {
@@ -54,7 +61,7 @@ pub(crate) const REPEATS_AND_GAPS: Row = Row {
 
 /// A copy that stands on the hold shelf for one patron was lent to another while the terminal was off line.
 /// That is reported, and cancelled.
-pub(crate) const OFF_LINE_CHECKOUTS: Row = Row {
+const OFF_LINE_CHECKOUTS: Row = Row {
     name: "off-line checkouts",
     steps: &[
         Step {

@@ -6,15 +6,18 @@ ghost use Rattle.sqlite.specs.Held.{state};
 ghost use Rattle.hd_turn_store.specs.Holds.{Holds};
 ghost use Rattle.hd_turn_store.specs.Kept.{Head, KeptTurn};
 
-use crate::disks::{Disks, OnDisks, crash, empty, open};
+use crate::disks::{Disks, OnDisks, crash, empty, open, without_log};
 use crate::library::new_journal;
+use crate::marks::{Mark, mark_of};
 use crate::row::Row;
 use crate::step::Step;
 use crate::whole::Whole;
 use hd_durable::{DurableJournal, TurnTable};
 use hd_journal::{Ask, Journal, OwnedAsk, SeatNo};
-use hd_journal_file::{Wanted, open_over, restore_turns};
-use hd_turn_store::{Alter, Connection, Unknown, begin, catalogue, is_blank, leave};
+use hd_journal_file::{JournalFile, Wanted, open_over, restore_turns};
+use hd_turn_store::{
+    Alter, Connection, Unknown, begin, catalogue, end, is_blank, leave, open_for_turns,
+};
 use std::alloc::Global;
 
 /// One of the two disks.
@@ -46,9 +49,23 @@ impl Disk {
 struct Played {
     /// How many turns were answered.
     answered: usize,
-    /// Whether the file was ended well.
-    is_ended: bool,
+    /// Whether the file was opened for turns.
+    is_marked: bool,
+    /// Whether nothing stopped: the file was ended well, opened for turns again, and ended again.
+    is_whole: bool,
     disks: Disks,
+}
+
+impl Played {
+    /// What is left where a disk stopped.
+    fn stopped(answered: usize, is_marked: bool, disks: Disks) -> Played {
+        Played {
+            answered,
+            is_marked,
+            is_whole: false,
+            disks,
+        }
+    }
 }
 
 /// The SHA-256 of a catalogue file, as the journal has it.
@@ -70,43 +87,62 @@ pub(crate) fn is_read_in_the_old_format(rt: &HostRuntime, row: &Row) -> Option<b
     let whole_disks = Disk::Log.stopped_after(rt.alloc(), u64::MAX);
     let Played {
         answered: _,
-        is_ended: _,
+        is_marked: _,
+        is_whole: _,
         disks,
     } = play(rt, row.steps, whole_disks)?;
-    let mut conn = open(rt.alloc(), disks).ok()?;
-    conn.execute("UPDATE journal SET format = 1", &[]).ok()?;
-    conn.execute("UPDATE turn SET reply = x'6e6f7465'", &[])
-        .ok()?;
-    let journal = restore_from(rt, &mut conn)?;
+    let journal = restore_from_the_old_format(rt, disks)?;
     Some(journal.front() == whole.changing_in(row.steps.len()) && whole.begins_with(&journal))
+}
+
+/// The journal of the turns in a file that is put into the format before.
+fn restore_from_the_old_format(rt: &HostRuntime, disks: Disks) -> Option<Journal> {
+    match open(rt.alloc(), disks) {
+        Ok(mut conn) => {
+            put_back(&mut conn)?;
+            restore_from(rt, &mut conn)
+        }
+        Err(_) => None,
+    }
+}
+
+/// Puts a file into the format before. None where that fails.
+fn put_back(conn: &mut OnDisks) -> Option<()> {
+    change(conn, "UPDATE journal SET format = 1")?;
+    change(conn, "UPDATE turn SET reply = x'6e6f7465'")
+}
+
+/// Changes a file by a statement of SQL. None where that fails.
+fn change(conn: &mut OnDisks, statement: &str) -> Option<()> {
+    match conn.execute(statement, &[]) {
+        Ok(_) => Some(()),
+        Err(_) => None,
+    }
 }
 
 /// The same beside the row whose turns are all taken.
 fn calls_beside(rt: &HostRuntime, whole: &Whole, row: &Row, disk: Disk) -> Option<u64> {
     for calls in 0..MOST_CALLS {
         let played = play(rt, row.steps, disk.stopped_after(rt.alloc(), calls))?;
-        let is_ended = played.is_ended;
+        let is_whole = played.is_whole;
         if !outlives(rt, whole, played) {
             return None;
         }
-        if is_ended {
+        if is_whole {
             return Some(calls);
         }
     }
     None
 }
 
-/// Begins a journal's file on these disks, and takes the turns of a row. None where there is no memory.
+/// Begins a journal's file on these disks, opens it for turns, takes those of a row, and ends it; then opens
+/// it for turns and ends it again. None where there is no memory.
 fn play(rt: &HostRuntime, steps: &[Step], disks: Disks) -> Option<Played> {
     let journal = new_journal(rt)?;
     let alloc = rt.alloc();
     match open(alloc, disks) {
         Ok(conn) => play_on(alloc, conn, journal, steps),
-        Err(disks) => Some(Played {
-            answered: 0,
-            is_ended: false,
-            disks,
-        }),
+        Err(disks) => Some(Played::stopped(0, false, disks)),
     }
 }
 
@@ -116,35 +152,63 @@ fn play_on(alloc: Global, mut conn: OnDisks, journal: Journal, steps: &[Step]) -
 {
     match begin(&mut conn, &DIGEST) {
         Ok(()) => play_begun(alloc, conn, journal, steps),
-        Err(_) => Some(Played {
-            answered: 0,
-            is_ended: false,
-            disks: leave(conn).close(),
-        }),
+        Err(_) => Some(Played::stopped(0, false, leave(conn).close())),
     }
 }
 
-/// The same where the journal was begun, and ends the file.
+/// The same where the journal was begun.
 fn play_begun(alloc: Global, conn: OnDisks, journal: Journal, steps: &[Step]) -> Option<Played>
     requires empty { journal.turns ≡ [] }
     requires begun { HasCleanDisk (file_state conn) → (head : Head) × Holds (file_state conn) head [] }
 {
-    let (answered, conn) = answered_over(alloc, conn, journal, steps)?;
-    match conn.close_files() {
-        Ok(disks) => Some(Played {
-            answered,
-            is_ended: answered == steps.len(),
-            disks,
-        }),
-        Err((_, store)) => Some(Played {
-            answered,
-            is_ended: false,
-            disks: store.close(),
-        }),
+    match open_for_turns(alloc, conn) {
+        Ok(conn) => play_marked(alloc, conn, journal, steps),
+        Err((_, store)) => Some(Played::stopped(0, false, store.close())),
     }
 }
 
-/// Takes the turns of a row until one isn't answered: how many were.
+/// The same where it was opened for turns.
+fn play_marked(alloc: Global, conn: OnDisks, journal: Journal, steps: &[Step]) -> Option<Played>
+    requires empty { journal.turns ≡ [] }
+    requires begun { HasCleanDisk (file_state conn) → (head : Head) × Holds (file_state conn) head [] }
+{
+    let (answered, conn) = answered_over(alloc, conn, journal, steps)?;
+    match ended_twice(alloc, conn) {
+        Ok(disks) => Some(Played {
+            answered,
+            is_marked: true,
+            is_whole: answered == steps.len(),
+            disks,
+        }),
+        Err(disks) => Some(Played::stopped(answered, true, disks)),
+    }
+}
+
+/// Ends a file, opens it for turns again, and ends it again.
+///
+/// # Errors
+/// A disk stopped: what is left.
+fn ended_twice(alloc: Global, conn: OnDisks) -> Result<Disks, Disks> {
+    let disks = ended(conn)?;
+    let conn = open(alloc, disks)?;
+    match open_for_turns(alloc, conn) {
+        Ok(conn) => ended(conn),
+        Err((_, store)) => Err(store.close()),
+    }
+}
+
+/// Ends a file.
+///
+/// # Errors
+/// A disk stopped: what is left.
+fn ended(conn: OnDisks) -> Result<Disks, Disks> {
+    match end(conn) {
+        Ok(disks) => Ok(disks),
+        Err((_, store)) => Err(store.close()),
+    }
+}
+
+/// The same over any store: how many turns were answered, and the connection.
 fn answered_over<S: Alter + Drop>(
     alloc: Global,
     conn: Connection<S>,
@@ -154,18 +218,38 @@ fn answered_over<S: Alter + Drop>(
     requires empty { journal.turns ≡ [] }
     requires begun { HasCleanDisk (state S.Store conn) → (head : Head) × Holds (state S.Store conn) head [] }
 {
+    let mut kept = keep(alloc, conn, journal)?;
+    let answered = take_all(alloc, &mut kept, steps);
+    Some((answered, kept.into_table().into_connection()))
+}
+
+/// A journal that was begun, kept in its file. None where that fails.
+fn keep<S: Alter + Drop>(
+    alloc: Global,
+    conn: Connection<S>,
+    journal: Journal,
+) -> Option<DurableJournal<JournalFile<S, Unknown>>>
+    requires empty { journal.turns ≡ [] }
+    requires begun { HasCleanDisk (state S.Store conn) → (head : Head) × Holds (state S.Store conn) head [] }
+{
     let wanted = Wanted {
         digest: &DIGEST,
         is_other_accepted: false,
     };
-    let mut kept = open_over::<S, Unknown, ()>(alloc, conn, true, &wanted, journal, &mut ()).ok()?;
+    match open_over::<S, Unknown, ()>(alloc, conn, true, &wanted, journal, &mut ()) {
+        Ok(kept) => Some(kept),
+        Err(_) => None,
+    }
+}
+
+/// Takes the turns of a row until one isn't answered: how many were.
+fn take_all<T: TurnTable>(alloc: Global, kept: &mut DurableJournal<T>, steps: &[Step]) -> usize {
     for step in steps {
-        if take(alloc, &mut kept, step).is_none() {
+        if take(alloc, kept, step).is_none() {
             break;
         }
     }
-    let answered = kept.front();
-    Some((answered, kept.into_table().into_connection()))
+    kept.front()
 }
 
 /// Takes the turn of a step.
@@ -179,25 +263,53 @@ fn take<T: TurnTable>(alloc: Global, kept: &mut DurableJournal<T>, step: &Step) 
     }
 }
 
-/// Whether the turns that a crash leaves are the first changing ones of a row, with all that were answered.
+/// Whether the turns that a crash leaves are the first changing ones of a row, with all that were answered;
+/// where the file says that it was ended, also without its log. One that was opened for turns says that, or
+/// that it is open, so that it isn't opened without its log.
 fn outlives(rt: &HostRuntime, whole: &Whole, played: Played) -> bool {
     let Played {
         answered,
-        is_ended: _,
+        is_marked,
+        is_whole: _,
         mut disks,
     } = played;
     crash(&mut disks);
+    match mark_of(&disks) {
+        Mark::Ended => is_left_alone(rt, whole, answered, disks),
+        Mark::Open => is_left(rt, whole, answered, disks),
+        Mark::None => !is_marked && is_left(rt, whole, answered, disks),
+    }
+}
+
+/// Whether a file has the first changing turns of a row, with those that were answered.
+fn is_left(rt: &HostRuntime, whole: &Whole, answered: usize, disks: Disks) -> bool {
     match restore_journal(rt, disks) {
-        Some(journal) => journal.front() >= whole.changing_in(answered)
-            && whole.begins_with(&journal),
+        Some((journal, _)) => has_answered(whole, answered, &journal),
         None => false,
     }
 }
 
-/// The journal of the turns in a file. None where they can't be taken again.
-fn restore_journal(rt: &HostRuntime, disks: Disks) -> Option<Journal> {
+/// The same with its log and without.
+fn is_left_alone(rt: &HostRuntime, whole: &Whole, answered: usize, disks: Disks) -> bool {
+    match restore_journal(rt, disks) {
+        Some((journal, disks)) => has_answered(whole, answered, &journal)
+            && is_left(rt, whole, answered, without_log(rt.alloc(), disks)),
+        None => false,
+    }
+}
+
+/// Whether a journal has the first changing turns of a row, with those that were answered.
+fn has_answered(whole: &Whole, answered: usize, journal: &Journal) -> bool {
+    journal.front() >= whole.changing_in(answered) && whole.begins_with(journal)
+}
+
+/// The journal of the turns in a file, and its disks. None where they can't be taken again.
+fn restore_journal(rt: &HostRuntime, disks: Disks) -> Option<(Journal, Disks)> {
     match open(rt.alloc(), disks) {
-        Ok(mut conn) => restore_from(rt, &mut conn),
+        Ok(mut conn) => {
+            let journal = restore_from(rt, &mut conn)?;
+            Some((journal, leave(conn).close()))
+        }
         Err(_) => None,
     }
 }
@@ -222,9 +334,17 @@ fn take_again<S: Alter>(
     if is_blank(conn.schema()) {
         return Some(());
     }
-    let format = catalogue(conn).ok()?.format;
+    let format = format_of(conn)?;
     match restore_turns(conn, format, alloc, journal, alloc, &mut ()) {
         Ok(_) => Some(()),
+        Err(_) => None,
+    }
+}
+
+/// The format of a file. None where it doesn't tell.
+fn format_of<S: Alter>(conn: &mut Connection<S>) -> Option<u32> {
+    match catalogue(conn) {
+        Ok(heading) => Some(heading.format),
         Err(_) => None,
     }
 }

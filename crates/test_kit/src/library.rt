@@ -19,6 +19,12 @@ C|b1|tb|north
 C|b2|tb|north
 ";
 
+/// Its catalogue file. The proof of a function that calls this has one name for the file, and that of one
+/// that names the constant has all its bytes.
+pub fn catalogue() -> &'static [u8] {
+    CATALOGUE
+}
+
 /// Its copies.
 pub const COPIES: [&[u8]; 5] = [b"a1", b"a2", b"a3", b"b1", b"b2"];
 

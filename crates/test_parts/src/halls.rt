@@ -19,7 +19,7 @@ use crate::halls::clash::two_terminals_clash;
 use crate::halls::closing::{close, seats};
 use crate::halls::freshness::is_as_fresh;
 use crate::halls::looks::are_looks_well;
-use crate::halls::row::{ROWS, Row};
+use crate::halls::row::{Row, rows};
 use crate::library::{Memory, new_journal};
 use hd_hall::{Hall, House};
 use hd_journal::Journal;
@@ -58,8 +58,8 @@ impl<A: Allocator> Drop for Tried<A> {
 
 /// Plays each row, and says whether it went as it is to. The threads are started by a handle of its own.
 pub(crate) fn play<R: Threads + Wait + Sync>(rt: &R, host: &HostRuntime) -> io::Result<()> {
-    for row in ROWS {
-        tell(host, row.name, is_row_well(rt, host, row))?;
+    for row in rows() {
+        tell(host, row.name, is_row_well(rt, host, *row))?;
     }
     for (name, is_well) in [
         ("two terminals clash", is_clash_well(rt, host)),

@@ -5,7 +5,7 @@ use hd_catalogue::Catalogue;
 use hd_desk::Meter;
 use hd_journal::Journal;
 use std::alloc::{Allocator, Global};
-use test_kit::{CATALOGUE, Refusing};
+use test_kit::Refusing;
 
 /// Memory of which a request may be refused.
 pub(crate) type Memory<'m> = &'m Refusing<Global>;
@@ -14,7 +14,7 @@ pub(crate) type Memory<'m> = &'m Refusing<Global>;
 pub(crate) fn new_journal<A: Allocator + Copy>(rt: &HostRuntime, alloc: A) -> Option<Journal<A>>
     ensures { IfSome result (λ journal. journal.turns ≡ []) }
 {
-    let catalogue = Catalogue::read(alloc, CATALOGUE).ok()?;
+    let catalogue = Catalogue::read(alloc, test_kit::catalogue()).ok()?;
     match hd_journal::open(alloc, rt.alloc(), Meter::new(rt), catalogue) {
         Ok(journal) => Some(journal),
         Err(_) => None,

@@ -23,7 +23,7 @@ use std::io;
 use std::sync::Wait;
 
 /// What is tried, with the names that are printed.
-const TRIALS: [(&str, Trial); 13] = [
+static TRIALS: [(&str, Trial); 13] = [
     ("a catalogue read", Trial::Catalogue),
     ("a desk opened", Trial::Desk),
     (
@@ -68,10 +68,15 @@ const TRIALS: [(&str, Trial); 13] = [
 
 /// Tries each, a hall by a handle that waits.
 pub(crate) fn play<R: Wait>(rt: &R, host: &HostRuntime) -> io::Result<()> {
-    for (name, trial) in TRIALS {
+    for (name, trial) in trials() {
         print_requests(host, name, trial.requests(host, rt))?;
     }
     Ok(())
+}
+
+/// All that is tried.
+fn trials() -> &'static [(&'static str, Trial)] {
+    &TRIALS
 }
 
 /// Prints a trial's name, how many requests for memory it makes, and whether each refusal was borne.

@@ -9,7 +9,7 @@ mod long;
 mod watching;
 
 use crate::replaying::calls::{is_each_interruption_borne, is_each_read_told, is_each_write_told};
-use crate::replaying::examples::{EXAMPLES, are_lines_without_a_session_told, is_answered};
+use crate::replaying::examples::{are_lines_without_a_session_told, examples, is_answered};
 use crate::replaying::long::{has_an_input_a_longest_length, is_a_long_line_ended};
 use crate::replaying::watching::are_replies_written_in_time;
 use hd_connection::{Input, Output};
@@ -19,7 +19,7 @@ use test_kit::{NOW, tell};
 
 /// Plays each, and says whether it went as it is to.
 pub(crate) fn play(rt: &HostRuntime) -> io::Result<()> {
-    for example in &EXAMPLES {
+    for example in examples() {
         tell(rt, example.name, is_answered(rt, example))?;
     }
     for (name, is_well) in played(rt) {

@@ -8,6 +8,11 @@ use test_kit::Count;
 /// What a file begins with where a line of the table is `*`.
 const BEGINNING: &[u8] = b"H|1|lib|60|100\nB|north\nT|ta|21|1\nC|a1|ta|north\n";
 
+/// That beginning.
+fn beginning() -> &'static [u8] {
+    BEGINNING
+}
+
 /// Reads each catalogue file of the stored table, and compares what is told of it with what stands under it.
 ///
 /// A line of the table that begins with `>` is a line of a file, with `!` one without its end. `= TEXT` ends
@@ -32,7 +37,7 @@ pub(crate) fn read_catalogues(rt: &HostRuntime) -> io::Result<()> {
 /// Adds what a line of the table gives to the file.
 fn add_line(line: &[u8], file: &mut Vec<u8>) -> Result<(), AllocError> {
     match line {
-        [b'*'] => file.extend_from_slice(BEGINNING),
+        [b'*'] => file.extend_from_slice(beginning()),
         [b'!', text @ ..] => file.extend_from_slice(text),
         [b'>', text @ ..] => {
             file.extend_from_slice(text)?;

@@ -9,7 +9,6 @@ use hd_session::{Extensions, Session};
 use std::alloc::{AllocError, Allocator};
 
 /// A terminal in a session, alone at a journal, over memory of an allocator.
-#[derive(Drop)]
 pub(crate) struct Lone<'e, A: Allocator> {
     journal: Journal<A>,
     now: Stamp18,
@@ -17,6 +16,18 @@ pub(crate) struct Lone<'e, A: Allocator> {
     /// What it was answered to the last line.
     out: Vec<u8, A>,
     ghost known: { IsKnownTo journal.contents session.state },
+}
+
+// Written out, so that a caller's proof sees one call and not the drop of each field.
+impl<'e, A: Allocator> Drop for Lone<'e, A> {
+    fn drop(self) {
+        let Lone {
+            journal: _journal,
+            now: _now,
+            session: _session,
+            out: _out,
+        } = self;
+    }
 }
 
 impl<'e, A: Allocator + Copy> Lone<'e, A> {

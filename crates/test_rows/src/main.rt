@@ -29,7 +29,7 @@ mod ways;
 use crate::catalogues::read_catalogues;
 use crate::lists::cut_lists;
 use crate::memory::cancel_with_little_memory;
-use crate::names::ROWS;
+use crate::names::names;
 use crate::replaying::is_replayed;
 use crate::row::Row;
 use crate::ways::hear_rows;
@@ -38,8 +38,8 @@ use test_kit::tell;
 
 fn main(rt: HostRuntime) -> io::Result<()> {
     let mut rows = Vec::new(rt.alloc());
-    for name in ROWS {
-        rows.push(Row::read(&rt, name)?)?;
+    for name in names() {
+        rows.push(Row::read(&rt, *name)?)?;
     }
     read_catalogues(&rt)?;
     replay_rows(&rt, rows.as_slice())?;

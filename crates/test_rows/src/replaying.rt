@@ -7,9 +7,9 @@ use crate::script::input_of;
 use hd_catalogue::Catalogue;
 use hd_date::Stamp18;
 use hd_replay::replay_over;
-use hd_server::replay;
+use hd_server::{ServerFault, replay};
 use hd_session::Extensions;
-use std::alloc::AllocError;
+use std::alloc::{AllocError, Global};
 
 /// Whether a row's input, given to `replay`, is answered as the row says, and ends so.
 pub(crate) fn is_replayed(rt: &HostRuntime, row: &Row) -> Result<bool, AllocError> {
@@ -33,9 +33,17 @@ fn replay_row(
     if row.is_extended() {
         return replay_extended(rt, row, input, out);
     }
-    match replay(rt, row.catalogue(), row.now(), &mut input, out) {
+    told(
+        rt.alloc(),
+        replay(rt, row.catalogue(), row.now(), &mut input, out),
+    )
+}
+
+/// How `replay` ended, where it didn't end well: what is told of its fault.
+fn told(alloc: Global, end: Result<(), ServerFault>) -> Result<Option<String>, AllocError> {
+    match end {
         Ok(()) => Ok(None),
-        Err(fault) => Ok(Some(format!(in rt.alloc(); "{fault}")?)),
+        Err(fault) => Ok(Some(format!(in alloc; "{fault}")?)),
     }
 }
 
@@ -75,16 +83,9 @@ fn replay_in_library(
     mut input: &[u8],
     out: &mut Vec<u8>,
 ) -> Result<Option<String>, AllocError> {
-    match replay_over(
-        rt,
-        rt.alloc(),
-        catalogue,
-        now,
-        Some(extensions),
-        &mut input,
-        out,
-    ) {
+    let alloc = rt.alloc();
+    match replay_over(rt, alloc, catalogue, now, Some(extensions), &mut input, out) {
         Ok(()) => Ok(None),
-        Err(fault) => Ok(Some(format!(in rt.alloc(); "{fault}")?)),
+        Err(fault) => told(alloc, Err(ServerFault::Replay(fault))),
     }
 }

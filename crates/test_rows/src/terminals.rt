@@ -17,7 +17,6 @@ use std::alloc::{AllocError, Global};
 pub(crate) const TERMINALS: usize = 9;
 
 /// Terminals, each in a session, over one journal. Sessions are counted from 0.
-#[derive(Drop)]
 pub(crate) struct Terminals<'e> {
     journal: Journal,
     now: Stamp18,
@@ -26,6 +25,18 @@ pub(crate) struct Terminals<'e> {
     outs: Vec<Vec<u8>>,
     ghost as_many: { vec_len outs ≡ vec_len sessions },
     ghost known: { AreKnownTo journal.contents sessions.items },
+}
+
+// Written out, so that a caller's proof sees one call and not the drop of each field.
+impl<'e> Drop for Terminals<'e> {
+    fn drop(self) {
+        let Terminals {
+            journal: _journal,
+            now: _now,
+            sessions: _sessions,
+            outs: _outs,
+        } = self;
+    }
 }
 
 impl<'e> Terminals<'e> {

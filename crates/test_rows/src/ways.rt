@@ -15,7 +15,7 @@ const PLAIN: Way = Way {
 };
 
 /// The ways in which all rows come, with their names.
-const WAYS: [(&str, Way); 4] = [
+static WAYS: [(&str, Way); 4] = [
     ("rows, CR at the ends of lines", PLAIN),
     (
         "rows, CR LF at the ends of lines",
@@ -40,13 +40,18 @@ const WAYS: [(&str, Way); 4] = [
     ),
 ];
 
+/// Those ways.
+fn ways() -> &'static [(&'static str, Way)] {
+    &WAYS
+}
+
 /// The rows whose lines are cut in two at each byte.
 const CUT_IN_TWO: [&str; 2] = ["hold-and-cancellation", "repeats-and-gaps"];
 
 /// Plays the rows that end well through sessions, in each way.
 pub(crate) fn hear_rows(rt: &HostRuntime, rows: &[Row]) -> io::Result<()> {
-    for (name, way) in WAYS {
-        heard_in_a_way(rt, rows, way)?.print(rt, name)?;
+    for (name, way) in ways() {
+        heard_in_a_way(rt, rows, *way)?.print(rt, name)?;
     }
     heard_with_gaps(rt, rows)?.print(rt, "rows, gaps counted")?;
     for row in rows {

@@ -19,7 +19,7 @@ mod unwritten_reply;
 mod unwritten_turn;
 mod waiting;
 
-use crate::script::{SCRIPTS, is_played};
+use crate::script::{is_played, scripts};
 use std::io;
 use std::sync::Wait;
 use std::thread::Threads;
@@ -59,8 +59,8 @@ fn main(rt: HostRuntime) -> io::Result<()> {
     for (name, row) in ROWS {
         tell(&rt, name, row.goes(&rt, &rt) == Some(true))?;
     }
-    for (name, script) in SCRIPTS {
-        tell(&rt, name, is_played(&rt, &rt, &script) == Some(true))?;
+    for (name, script) in scripts() {
+        tell(&rt, name, is_played(&rt, &rt, script) == Some(true))?;
     }
     Ok(())
 }

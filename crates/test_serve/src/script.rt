@@ -177,7 +177,11 @@ const A_LONG_LINE: Script = Script {
 
 /// What two terminals do at a desk that can write one turn: the session whose turn can't be written ends
 /// without a reply, as every other does at its next turn.
-pub(crate) const AN_UNWRITTEN_TURN: &[Step] = &[
+pub(crate) fn unwritten_turn() -> &'static [Step] {
+    AN_UNWRITTEN_TURN
+}
+
+const AN_UNWRITTEN_TURN: &[Step] = &[
     Step::At(0, Deed::Asks(LOGIN_1, LOGGED_IN)),
     Step::At(1, Deed::Asks(LOGIN_2, LOGGED_IN)),
     Step::At(0, Deed::Asks(HOLD_1, HELD_1_FIRST)),
@@ -188,7 +192,11 @@ pub(crate) const AN_UNWRITTEN_TURN: &[Step] = &[
 ];
 
 /// The scripts that are played from a journal in memory, with the names that are printed.
-pub(crate) const SCRIPTS: [(&str, Script); 6] = [
+pub(crate) fn scripts() -> &'static [(&'static str, Script)] {
+    &SCRIPTS
+}
+
+static SCRIPTS: [(&str, Script); 6] = [
     ("a connection reset", A_RESET),
     ("byte by byte", BYTE_BY_BYTE),
     ("a rest without its carriage return", A_REST),

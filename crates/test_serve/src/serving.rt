@@ -6,7 +6,7 @@ use crate::library::new_journal;
 use crate::terminal::Terminal;
 use hd_hall::Keeper;
 use hd_serve::{Gate, ServeFault};
-use hd_server::{Options, ServerFault, Summary};
+use hd_server::{Beyond, Options, ServerFault, Summary};
 use std::alloc::Global;
 use std::net::{SocketAddr, TcpListener};
 use std::sync::Wait;
@@ -130,7 +130,9 @@ fn options_of<'a>(scale: Scale) -> Options<'a>
         connections: scale.connections,
         idle: scale.idle,
         extensions: None,
+        beyond: Beyond::Wait,
         has_line_feeds: false,
+        days_off: None,
     }
 }
 

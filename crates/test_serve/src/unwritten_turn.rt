@@ -2,7 +2,7 @@
 
 use crate::full_disk::FullDisk;
 use crate::library::new_journal;
-use crate::script::{AN_UNWRITTEN_TURN, Playing};
+use crate::script::{Playing, unwritten_turn};
 use crate::serving::{Scale, open, play_kept};
 use hd_journal::WriteFault;
 use hd_serve::ServeFault;
@@ -39,7 +39,7 @@ fn is_told<R: Threads + Wait + Clock + Sync>(
     let keeper = FullDisk::new(new_journal(host)?, 1);
     let row = Playing {
         host,
-        steps: AN_UNWRITTEN_TURN,
+        steps: unwritten_turn(),
     };
     let (ended, is_played) = play_kept(rt, host.alloc(), opened, keeper, scale, &row);
     let is_told = match ended {

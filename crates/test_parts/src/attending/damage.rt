@@ -2,7 +2,7 @@
 
 use crate::attending::alone::feed_alone;
 use crate::attending::hall::play;
-use crate::attending::lines::{LINES, RETURN};
+use crate::attending::lines::{RETURN, lines};
 use crate::attending::wire::{Then, Wire};
 use std::alloc::{AllocError, Global};
 use std::io;
@@ -33,18 +33,28 @@ const ROWS: [(&str, &[Damage]); 2] = [
 
 /// Plays the lines with damage at each of their bytes.
 pub(crate) fn play_damaged<R: Wait>(rt: &R, host: &HostRuntime) -> io::Result<()> {
-    for (what, damages) in ROWS {
-        let mut count = Count::NONE;
-        for damage in damages {
-            for (at, byte) in LINES.iter().enumerate() {
-                if *byte != RETURN {
-                    count.add(is_borne(rt, host, *damage, at) == Some(true));
-                }
-            }
-        }
-        count.print(host, what)?;
+    for (what, damages) in rows() {
+        played(rt, host, damages).print(host, what)?;
     }
     Ok(())
+}
+
+/// The rows.
+fn rows() -> &'static [(&'static str, &'static [Damage])] {
+    &ROWS
+}
+
+/// Plays the lines with each of these damages at each of their bytes.
+fn played<R: Wait>(rt: &R, host: &HostRuntime, damages: &[Damage]) -> Count {
+    let mut count = Count::NONE;
+    for damage in damages {
+        for (at, byte) in lines().iter().enumerate() {
+            if *byte != RETURN {
+                count.add(is_borne(rt, host, *damage, at) == Some(true));
+            }
+        }
+    }
+    count
 }
 
 /// Whether a connection whose line comes with damage there ends well, with the replies and the turns of a
@@ -64,7 +74,8 @@ fn is_borne<R: Wait>(rt: &R, host: &HostRuntime, damage: Damage, at: usize) -> O
 
 /// The lines, of which one comes with damage there.
 fn damaged_lines(alloc: Global, damage: Damage, at: usize) -> Result<Vec<u8>, AllocError> {
-    let (before, rest) = LINES.split_at(at.min(LINES.len()));
+    let lines = lines();
+    let (before, rest) = lines.split_at(at.min(lines.len()));
     let mut bytes = Vec::from_slice(alloc, before)?;
     let lost = match damage {
         Damage::CutOff => rest.iter().position(|byte| *byte == RETURN).unwrap_or(0),

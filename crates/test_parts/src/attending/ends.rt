@@ -111,7 +111,7 @@ const ROWS: [Row; 7] = [
 
 /// Plays each connection to its end.
 pub(crate) fn play_ends<R: Wait>(rt: &R, host: &HostRuntime) -> io::Result<()> {
-    for row in ROWS {
+    for row in rows() {
         let mut count = Count::NONE;
         count.add(is_ended(rt, host, row) == Some(true));
         count.print(host, row.what)?;
@@ -119,8 +119,13 @@ pub(crate) fn play_ends<R: Wait>(rt: &R, host: &HostRuntime) -> io::Result<()> {
     Ok(())
 }
 
+/// The rows.
+fn rows() -> &'static [Row] {
+    &ROWS
+}
+
 /// Whether a connection ends so, with this written and so many turns.
-fn is_ended<R: Wait>(rt: &R, host: &HostRuntime, row: Row) -> Option<bool> {
+fn is_ended<R: Wait>(rt: &R, host: &HostRuntime, row: &Row) -> Option<bool> {
     let bytes = bytes_of(host.alloc(), row).ok()?;
     let outcome = play(rt, host, &Wire::new(bytes.as_slice(), row.then))?;
     Some(
@@ -131,7 +136,7 @@ fn is_ended<R: Wait>(rt: &R, host: &HostRuntime, row: Row) -> Option<bool> {
 }
 
 /// All that a peer sends.
-fn bytes_of(alloc: Global, row: Row) -> Result<Vec<u8>, AllocError> {
+fn bytes_of(alloc: Global, row: &Row) -> Result<Vec<u8>, AllocError> {
     let mut bytes = Vec::from_slice(alloc, row.bytes)?;
     for _ in 0..row.more {
         bytes.push(b'x')?;

@@ -2,7 +2,7 @@
 
 use crate::attending::alone::feed_alone;
 use crate::attending::hall::play;
-use crate::attending::lines::{REPLIES, RETURN, first_lines, lines};
+use crate::attending::lines::{RETURN, first_lines, lines, replies};
 use crate::attending::outcome::Outcome;
 use crate::attending::wire::{PIECE, TAKEN, Then, Wire};
 use hd_attend::AttendFault;
@@ -95,7 +95,7 @@ const ROWS: [Row; 6] = [
 
 /// Plays the lines with each of their calls failing in turn, in each way.
 pub(crate) fn play_failing<R: Wait>(rt: &R, host: &HostRuntime) -> io::Result<()> {
-    for row in ROWS {
+    for row in rows() {
         let mut count = Count::NONE;
         for call in 0..calls(row.side) {
             count.add(is_told(rt, host, row, call) == Some(true));
@@ -105,13 +105,18 @@ pub(crate) fn play_failing<R: Wait>(rt: &R, host: &HostRuntime) -> io::Result<()
     Ok(())
 }
 
+/// The rows.
+fn rows() -> &'static [Row] {
+    &ROWS
+}
+
 /// How many calls there are where none fails: reads up to the one that gives nothing, writes for each reply.
 fn calls(side: Side) -> usize {
     match side {
         Side::Reads => lines().len().div_ceil(PIECE).saturating_add(1),
         Side::Writes => {
             let mut writes = 0usize;
-            for reply in REPLIES.split_inclusive(|byte| *byte == RETURN) {
+            for reply in replies().split_inclusive(|byte| *byte == RETURN) {
                 writes = writes.saturating_add(reply.len().div_ceil(TAKEN));
             }
             writes
@@ -121,7 +126,7 @@ fn calls(side: Side) -> usize {
 
 /// Whether a connection whose call of this number fails ends so, with the turns of a session alone that is
 /// given what came before the fault, and with its replies, or where a write failed a beginning of them.
-fn is_told<R: Wait>(rt: &R, host: &HostRuntime, row: Row, call: usize) -> Option<bool> {
+fn is_told<R: Wait>(rt: &R, host: &HostRuntime, row: &Row, call: usize) -> Option<bool> {
     let (reads, writes) = row.side.faults(row.how.at(call));
     let wire = Wire {
         bytes: lines(),
@@ -139,13 +144,13 @@ fn is_told<R: Wait>(rt: &R, host: &HostRuntime, row: Row, call: usize) -> Option
 fn bytes_before(outcome: &Outcome, call: usize) -> &'static [u8] {
     match outcome.end {
         Err(AttendFault::Read) => lines().get(..call.saturating_mul(PIECE)).unwrap_or(lines()),
-        Err(AttendFault::Write) => first_lines(replies(outcome).saturating_add(1)),
+        Err(AttendFault::Write) => first_lines(replies_in(outcome).saturating_add(1)),
         _ => lines(),
     }
 }
 
 /// How many whole replies were written.
-fn replies(outcome: &Outcome) -> usize {
+fn replies_in(outcome: &Outcome) -> usize {
     outcome.text.iter().filter(|byte| **byte == RETURN).count()
 }
 

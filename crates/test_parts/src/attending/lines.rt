@@ -26,21 +26,27 @@ pub(crate) const REPLIES: &[u8] = b"941\r\
     101YNN20260301    100000AOlib|ABa1|AQnorth|AJta|AFCANCELLED 3|AY4AZED27\r\
     100NNN20260301    100000AOlib|ABa1|AQ|AFDEPENDS 2|\r";
 
-/// All of them.
+/// The lines. A proof that has this call has one name for them, and one with the constant all their bytes.
 pub(crate) fn lines() -> &'static [u8] {
     LINES
 }
 
+/// The replies, by a call too.
+pub(crate) fn replies() -> &'static [u8] {
+    REPLIES
+}
+
 /// The first so many lines.
 pub(crate) fn first_lines(count: usize) -> &'static [u8] {
-    let mut lines = 0usize;
-    for (at, byte) in LINES.iter().enumerate() {
-        if lines == count {
-            return LINES.get(..at).unwrap_or(LINES);
+    let text = lines();
+    let mut ended = 0usize;
+    for (at, byte) in text.iter().enumerate() {
+        if ended == count {
+            return text.get(..at).unwrap_or(text);
         }
         if *byte == RETURN {
-            lines = lines.saturating_add(1);
+            ended = ended.saturating_add(1);
         }
     }
-    LINES
+    text
 }

@@ -52,8 +52,22 @@ fn close_with_both<H: House, A: Allocator + Copy>(
     requires last { last.parts ≡ 1 }
 {
     match both(alloc, first, last) {
-        Some(seats) => hall.close(seats).ok(),
+        Some(seats) => closed(hall, seats),
         None => None,
+    }
+}
+
+/// The journal of a hall that closes with these seats. None where it doesn't close.
+fn closed<H: House, A: Allocator + Copy>(
+    hall: Hall<H, A>,
+    seats: Vec<Seat<H, A>, A>,
+) -> Option<Journal<A>>
+    requires parts { H.parts ≡ 4294967296 }
+    requires seats { EachSeat seats.items (λ s. s.parts ≡ 1) }
+{
+    match hall.close(seats) {
+        Ok(journal) => Some(journal),
+        Err(_) => None,
     }
 }
 
@@ -70,7 +84,7 @@ fn close_with_one<H: House, A: Allocator + Copy>(
 {
     match one_is_missing(alloc, hall, first) {
         Some((hall, mut seats)) => match add(&mut seats, last) {
-            Ok(()) => hall.close(seats).ok(),
+            Ok(()) => closed(hall, seats),
             Err(_) => None,
         },
         None => None,

@@ -66,7 +66,11 @@ const HELD_ALREADY: Step = Step {
 };
 
 /// The rows.
-pub(crate) const ROWS: [Row; 3] = [
+pub(crate) fn rows() -> &'static [Row] {
+    &ROWS
+}
+
+static ROWS: [Row; 3] = [
     Row {
         name: "two seats",
         first: HELD_BY_1,

@@ -4,7 +4,7 @@ use hd_catalogue::{CatFault, Catalogue, Cause};
 use hd_desk::{Desk, OpenFault};
 use std::alloc::Allocator;
 use std::sync::Arc;
-use test_kit::{CATALOGUE, Refusing};
+use test_kit::{Refusing, catalogue};
 
 /// The library of the rows in version 2 of the file, whose titles have priorities.
 const VERSION_2: &[u8] = b"H|2|lib|60|100
@@ -24,6 +24,11 @@ C|b1|tb|north
 C|b2|tb|north
 ";
 
+/// That file.
+fn version_2() -> &'static [u8] {
+    VERSION_2
+}
+
 /// How many lines it has.
 const LINES: usize = 15;
 
@@ -31,7 +36,8 @@ const LINES: usize = 15;
 /// were. None where something else comes of it than the catalogue or, where a request is refused, this fault.
 pub(crate) fn read_catalogue(rt: &HostRuntime, passed: u64) -> Option<u64> {
     let memory = Refusing::after(rt.alloc(), passed);
-    let read = Catalogue::read(&memory, VERSION_2);
+    let file = version_2();
+    let read = Catalogue::read(&memory, file);
     let requests = memory.requests();
     let is_well = match read {
         Ok(catalogue) => requests <= passed && catalogue.copies() == 5,
@@ -40,7 +46,7 @@ pub(crate) fn read_catalogue(rt: &HostRuntime, passed: u64) -> Option<u64> {
                 line: 1..=LINES,
                 cause: Cause::Memory,
             },
-        ) => requests > passed && Catalogue::read(&memory, VERSION_2).is_ok(),
+        ) => requests > passed && Catalogue::read(&memory, file).is_ok(),
         Err(_) => false,
     };
     is_well.then_some(requests)
@@ -64,7 +70,7 @@ pub(crate) fn open_desk(rt: &HostRuntime, passed: u64) -> Option<u64> {
 
 /// The catalogue, for desks to share.
 fn shared_catalogue<A: Allocator + Copy>(alloc: A) -> Option<Arc<Catalogue<A>, A>> {
-    let catalogue = Catalogue::read(alloc, CATALOGUE).ok()?;
+    let catalogue = Catalogue::read(alloc, catalogue()).ok()?;
     hd_journal::share(alloc, catalogue).ok()
 }
 

@@ -1,9 +1,10 @@
 //! Rows through `replay`.
 
+use crate::library::Memory;
 use crate::refusals::row::{Row, replay_lines};
 use hd_catalogue::{CatFault, Cause};
 use hd_replay::{ReplayFault, replay_in};
-use test_kit::{CATALOGUE, NOW, Refusing};
+use test_kit::{NOW, Refusing, catalogue};
 
 /// Gives a row to `replay` and refuses the request for memory before which so many are passed on: how many
 /// there were. None where it doesn't end well with all that is written without a refusal or, where a request
@@ -17,15 +18,25 @@ pub(crate) fn replay_row(rt: &HostRuntime, row: &Row, passed: u64) -> Option<u64
 /// The same with the row's lines as `replay` is given them, and all that it writes.
 fn replay_text(rt: &HostRuntime, input: &[u8], whole: &[u8], passed: u64) -> Option<u64> {
     let memory = Refusing::after(rt.alloc(), passed);
-    let mut from = input;
     let mut written = Vec::new(rt.alloc());
-    let end = replay_in(rt, &memory, CATALOGUE, NOW, &mut from, &mut written);
+    let end = end_of(rt, &memory, input, &mut written);
     let requests = memory.requests();
     let is_well = match end {
         Ok(()) => requests <= passed && written.as_slice() == whole,
         Err(fault) => requests > passed && is_borne(fault, written.as_slice(), whole),
     };
     is_well.then_some(requests)
+}
+
+/// How `replay` ends over this memory.
+fn end_of(
+    rt: &HostRuntime,
+    memory: Memory<'_>,
+    input: &[u8],
+    written: &mut Vec<u8>,
+) -> Result<(), ReplayFault> {
+    let mut from = input;
+    replay_in(rt, memory, catalogue(), NOW, &mut from, written)
 }
 
 /// Whether the fault is out of memory, and a beginning was written of all that there is to write. The

@@ -1,20 +1,30 @@
 //! Reads and writes that fail or are interrupted, each in turn.
 use crate::replaying::{read_from, write_to};
 use hd_replay::ReplayFault;
-use test_kit::{CATALOGUE, FailingReader, FailingWriter, Fault};
+use test_kit::{FailingReader, FailingWriter, Fault, catalogue};
 
 /// Lines of two sessions, the last of which nothing ends.
-pub(crate) const INPUT: &[u8] = b"1 9300CNt1|COpw|
+const INPUT: &[u8] = b"1 9300CNt1|COpw|
 1 15+20260301    100000AAp1|AJta|
 2 97
 1 15-20260301    100000AAp1|AJta|BIY|";
 
 /// What the lines are answered, one reply each.
-pub(crate) const ANSWERED: &[u8] = b"1 941
+const ANSWERED: &[u8] = b"1 941
 1 161Y20260301    100000BR1|BSnorth|AOlib|AAp1|AJta|
 2 96
 1 161N20260301    100000AOlib|AAp1|AJta|AFCANCELLED 1|
 ";
+
+/// The lines. A proof that has this call has one name for them, and one with the constant all their bytes.
+pub(crate) fn input() -> &'static [u8] {
+    INPUT
+}
+
+/// What they are answered, by a call too.
+pub(crate) fn answered() -> &'static [u8] {
+    ANSWERED
+}
 
 /// How many bytes a reader of few bytes gives at a call.
 const GIVEN: usize = 7;
@@ -24,37 +34,42 @@ const TAKEN: usize = 5;
 
 /// What is written, and how it ends, where these reads fail.
 fn replayed_reading(rt: &HostRuntime, fault: Fault) -> (Vec<u8>, Result<(), ReplayFault>) {
-    read_from(rt, CATALOGUE, &mut FailingReader::new(INPUT, GIVEN, fault))
+    read_from(
+        rt,
+        catalogue(),
+        &mut FailingReader::new(input(), GIVEN, fault),
+    )
 }
 
 /// What is written, and how it ends, where these writes fail.
 fn replayed_writing(rt: &HostRuntime, fault: Fault) -> (FailingWriter, Result<(), ReplayFault>) {
     let mut to = FailingWriter::in_pieces(TAKEN, fault);
-    let end = write_to(rt, CATALOGUE, INPUT, &mut to);
+    let end = write_to(rt, catalogue(), input(), &mut to);
     (to, end)
 }
 
 /// The replies to the lines that end among the first so many bytes of the input.
 pub(crate) fn answered_among(bytes: usize) -> &'static [u8] {
-    let given = INPUT.get(..bytes).unwrap_or(INPUT);
+    let (input, answered) = (input(), answered());
+    let given = input.get(..bytes).unwrap_or(input);
     let lines = given.iter().filter(|byte| **byte == b'\n').count();
     let mut length = 0usize;
-    for reply in ANSWERED.split_inclusive(|byte| *byte == b'\n').take(lines) {
+    for reply in answered.split_inclusive(|byte| *byte == b'\n').take(lines) {
         length = length.saturating_add(reply.len());
     }
-    ANSWERED.get(..length).unwrap_or(ANSWERED)
+    answered.get(..length).unwrap_or(answered)
 }
 
 /// How many reads come to the end of the input: those that give bytes, and one that gives none.
 fn reads() -> usize {
-    INPUT.len().div_ceil(GIVEN).saturating_add(1)
+    input().len().div_ceil(GIVEN).saturating_add(1)
 }
 
 /// How many writes take all that is answered. The reply to the last line is written after the read that gives
 /// nothing.
 fn writes() -> usize {
-    let first = answered_among(INPUT.len());
-    let last = ANSWERED.get(first.len()..).unwrap_or(b"");
+    let first = answered_among(input().len());
+    let last = answered().get(first.len()..).unwrap_or(b"");
     first
         .len()
         .div_ceil(TAKEN)
@@ -71,7 +86,7 @@ pub(crate) fn is_each_read_told(rt: &HostRuntime) -> bool {
         }
     }
     let (out, end) = replayed_reading(rt, Fault::FailsAt(reads()));
-    end == Ok(()) && out.as_slice() == ANSWERED
+    end == Ok(()) && out.as_slice() == answered()
 }
 
 /// Whether each write that fails is told, with a beginning of the replies written.
@@ -83,12 +98,12 @@ pub(crate) fn is_each_write_told(rt: &HostRuntime) -> bool {
         }
     }
     let (to, end) = replayed_writing(rt, Fault::FailsAt(writes()));
-    end == Ok(()) && to.bytes() == ANSWERED
+    end == Ok(()) && to.bytes() == answered()
 }
 
 /// Whether these are the first bytes of the replies, as many as so many writes can take.
 fn is_beginning(written: &[u8], writes: usize) -> bool {
-    ANSWERED.starts_with(written)
+    answered().starts_with(written)
         && writes <= written.len()
         && written.len() <= writes.saturating_mul(TAKEN)
 }
@@ -113,12 +128,12 @@ pub(crate) fn is_each_interruption_borne(rt: &HostRuntime) -> bool {
 fn is_interrupted_read_told(rt: &HostRuntime, call: usize) -> bool {
     let (out, end) = replayed_reading(rt, Fault::InterruptedAt { call, times: 16 });
     let (_, told) = replayed_reading(rt, Fault::InterruptedAt { call, times: 17 });
-    end == Ok(()) && out.as_slice() == ANSWERED && told == Err(ReplayFault::Read)
+    end == Ok(()) && out.as_slice() == answered() && told == Err(ReplayFault::Read)
 }
 
 /// Whether an interrupted write is borne 16 times in a row, and no more.
 fn is_interrupted_write_told(rt: &HostRuntime, call: usize) -> bool {
     let (to, end) = replayed_writing(rt, Fault::InterruptedAt { call, times: 16 });
     let (_, told) = replayed_writing(rt, Fault::InterruptedAt { call, times: 17 });
-    end == Ok(()) && to.bytes() == ANSWERED && told == Err(ReplayFault::Write)
+    end == Ok(()) && to.bytes() == answered() && told == Err(ReplayFault::Write)
 }

@@ -27,7 +27,11 @@ enum Streams {
 }
 
 /// The inputs.
-pub(crate) const EXAMPLES: [Example; 4] = [
+pub(crate) fn examples() -> &'static [Example] {
+    &EXAMPLES
+}
+
+const EXAMPLES: [Example; 4] = [
     Example {
         name: "without a terminal nobody is logged in",
         catalogue: b"H|1|lib|60|100\nP|p1|3\nT|ta|21|1\n",
@@ -112,7 +116,7 @@ pub(crate) fn are_lines_without_a_session_told(rt: &HostRuntime) -> Result<bool,
 /// Whether a line of no session, between two others, stops the input there.
 fn is_line_without_a_session_told(rt: &HostRuntime, line: &[u8]) -> Result<bool, AllocError> {
     let input = between_two(rt.alloc(), line)?;
-    let (out, end) = run(rt, CATALOGUE, input.as_slice());
+    let (out, end) = run(rt, test_kit::catalogue(), input.as_slice());
     Ok(end == Err(ReplayFault::NoSession { line: 2 }) && out.as_slice() == b"1 96\n".as_slice())
 }
 

@@ -4,7 +4,7 @@ use hd_connection::Fallible;
 use hd_replay::ReplayFault;
 use std::alloc::{AllocError, Global};
 use std::io::{self, Read};
-use test_kit::CATALOGUE;
+use test_kit::catalogue;
 
 /// What the long lines are answered.
 const ANSWERED: &[u8] = b"7 941
@@ -15,11 +15,16 @@ const ANSWERED: &[u8] = b"7 941
 64 ENDED
 ";
 
+/// That text.
+fn answered() -> &'static [u8] {
+    ANSWERED
+}
+
 /// Whether a line of 1,024 bytes is answered, and one of a byte more ends its session, and no other.
 pub(crate) fn is_a_long_line_ended(rt: &HostRuntime) -> Result<bool, AllocError> {
     let input = long_lines(rt.alloc())?;
-    let (out, end) = run(rt, CATALOGUE, input.as_slice());
-    Ok(end == Ok(()) && out.as_slice() == ANSWERED)
+    let (out, end) = run(rt, catalogue(), input.as_slice());
+    Ok(end == Ok(()) && out.as_slice() == answered())
 }
 
 /// The longest line in one session, one of a byte more in another, and lines that follow in both.
@@ -67,6 +72,6 @@ pub(crate) fn has_an_input_a_longest_length(rt: &HostRuntime) -> bool {
 /// Whether an input of so many bytes, none of which ends a line, ends so, and nothing is written.
 fn ends_so(rt: &HostRuntime, length: usize, wanted: ReplayFault) -> bool {
     let mut from = Fallible(EndlessLine { left: length });
-    let (out, end) = read_from(rt, CATALOGUE, &mut from);
+    let (out, end) = read_from(rt, catalogue(), &mut from);
     end == Err(wanted) && out.is_empty()
 }

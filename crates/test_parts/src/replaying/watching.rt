@@ -1,10 +1,10 @@
 //! When replies are written.
-use crate::replaying::calls::{ANSWERED, INPUT, answered_among};
+use crate::replaying::calls::{answered, answered_among, input};
 use hd_connection::Fallible;
 use hd_replay::replay;
 use std::cell::Cell;
 use std::io::{self, Read, Write};
-use test_kit::{CATALOGUE, NOW};
+use test_kit::{NOW, catalogue};
 
 /// Gives one line of a text at each call, and looks at how many bytes have been written by then.
 #[derive(Drop)]
@@ -53,12 +53,12 @@ impl Write for CountingWriter<'_> {
 pub(crate) fn are_replies_written_in_time(rt: &HostRuntime) -> bool {
     let written = Cell::new(0);
     let mut from = Fallible(WatchingReader {
-        rest: INPUT,
+        rest: input(),
         given: 0,
         written: &written,
         missed: false,
     });
     let mut to = Fallible(CountingWriter { written: &written });
-    let end = replay(rt, CATALOGUE, NOW, &mut from, &mut to);
-    end == Ok(()) && !from.0.missed && written.get() == ANSWERED.len()
+    let end = replay(rt, catalogue(), NOW, &mut from, &mut to);
+    end == Ok(()) && !from.0.missed && written.get() == answered().len()
 }

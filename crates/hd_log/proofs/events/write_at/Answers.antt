@@ -19,3 +19,13 @@ returns-in-NotLoggedIn c =
       c.word-in-NotLoggedIn-2.ensures,
       c.word-in-NotLoggedIn.ensures,
     ) at c.write_line-in-NotLoggedIn.ensures)
+
+pub returns-in-ClockOff : goal.returns-in-ClockOff
+returns-in-ClockOff c =
+    rw c.in-ClockOff.is
+    (rw (
+      c.named-in-ClockOff.ensures,
+      c.text-in-ClockOff.ensures,
+      c.text-in-ClockOff-2.ensures,
+      c.number-in-ClockOff.ensures,
+    ) at c.write_line-in-ClockOff.ensures)

@@ -5,6 +5,7 @@ use Rattle.hd_page.proofs.laws.whole_reply.Goals as goal
 
 pub returns : goal.returns
 returns c = let P : ℕ → Type 0 = λ n. n < 2 ^ 64 in (
-  whole_head c.args.page.now.policy.now c.args.status c.args.media _ c.args.page.now.readable (subst P c.length_of.ensures.value c.length_of.ensures.within),
+  whole_head c.args.page.now.policy.now c.args.status c.args.media _ c.args.page.now.readable
+      (subst P c.length_of.ensures.value c.length_of.ensures.within),
   whole_text c.args.page.now.policy.now c.args.method c.args.status c.args.media c.args.body.now,
 )

@@ -1,4 +1,3 @@
-use Rattle.std.proofs.Common.{codes}
 use Rattle.hd_page.specs.Metrics.{all_turns_text}
 use Rattle.hd_page.proofs.Appends.{two_pieces}
 use Rattle.hd_page.proofs.metrics.write_all_turns.Goals as goal

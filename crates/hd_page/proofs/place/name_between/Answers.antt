@@ -1,4 +1,4 @@
-use Rattle.std.proofs.Common.{◌≡◌, Bool, true, false, arith, ap, sym, ◌∙◌}
+use Rattle.std.proofs.Common.{◌≡◌, true, false, ap, sym, ◌∙◌}
 use Rattle.std.specs.List.{list_all}
 use Rattle.hd_page.specs.Places.{is_name_byte}
 use Rattle.hd_page.proofs.Placing.{no_suffix, one_name}
@@ -6,7 +6,8 @@ use Rattle.hd_page.proofs.place.name_between.Goals as goal
 
 pub returns-in_default-before : goal.returns-in_default-before
 returns-in_default-before c = λ name proper same.
-    no_suffix _ c.args.prefix.now c.in-Some.rest.now c.args.suffix.now c.in-Some.ensures.cases (c.in_default-before.ensures) name same
+    no_suffix _ c.args.prefix.now c.in-Some.rest.now c.args.suffix.now c.in-Some.ensures.cases
+    (c.in_default-before.ensures) name same
 
 pub returns-else-is_name : goal.returns-else-is_name
 returns-else-is_name c = λ name proper same.

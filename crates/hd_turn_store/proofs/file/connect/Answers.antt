@@ -16,8 +16,10 @@ returns-in-Ok-clause-found g c clean head ks held schema =
     record {
       schema = schema;
       rows = record {
-        head = ap (λ (d : Database). d.trees 0) o.clean ∙ ∥∥₁_elim held (rows_set _ _) (λ x. ap (λ (t : Trees). t 0) (found.holds x.0 x.1) ∙ x.2.head);
-        turns = ap (λ (d : Database). d.trees 1) o.clean ∙ ∥∥₁_elim held (rows_set _ _) (λ x. ap (λ (t : Trees). t 1) (found.holds x.0 x.1) ∙ x.2.turns);
+        head = ap (λ (d : Database). d.trees 0) o.clean
+            ∙ ∥∥₁_elim held (rows_set _ _) (λ x. ap (λ (t : Trees). t 0) (found.holds x.0 x.1) ∙ x.2.head);
+        turns = ap (λ (d : Database). d.trees 1) o.clean
+            ∙ ∥∥₁_elim held (rows_set _ _) (λ x. ap (λ (t : Trees). t 1) (found.holds x.0 x.1) ∙ x.2.turns);
       };
       settled = sym o.clean;
       outside = o.autocommit;
@@ -32,4 +34,5 @@ returns-in-Ok-clause-blank g c clean schema head ks held =
     ∥∥₁_elim held (λ x y. absurd x) (λ x.
     let trees = ap (λ (d : Database). d.trees) o.clean ∙ (c.in-Ok.ensures.found clean).holds x.0 x.1 in
     blank_holds_none _ head ks x.0 x.1 x.2
-    (subst (λ (s : Schema). IsSound s x.0) schema (subst (λ (t : Trees). IsSound now.now.schema t) trees sound)))
+    (subst (λ (s : Schema). IsSound s x.0) schema
+    (subst (λ (t : Trees). IsSound now.now.schema t) trees sound)))

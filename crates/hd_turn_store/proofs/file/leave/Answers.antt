@@ -11,8 +11,10 @@ pub returns : goal.returns
 returns g c clean head ks holds left may =
     let last = c.into_store.result in
     let e = c.into_store.ensures in
-    ∥∥₁_map (opens_again last (e.numbered clean) (e.sound clean) left may) (λ x. let r : (db : Trees) × HoldsDatabase left db × Stores head ks db = (
+    ∥∥₁_map (opens_again last (e.numbered clean) (e.sound clean) left may)
+    (λ x. let r : (db : Trees) × HoldsDatabase left db × Stores head ks db = (
       x.0,
       x.2,
-      lasting (file_state c.args.conn) head ks x.0 holds (settled_at c.args.conn.store g.met.D.Disk.seen_may_stay _ holds.is_open (e.quiet.outcomes _ x.1)),
+      lasting (file_state c.args.conn) head ks x.0 holds
+          (settled_at c.args.conn.store g.met.D.Disk.seen_may_stay _ holds.is_open (e.quiet.outcomes _ x.1)),
     ) in r)

@@ -10,9 +10,11 @@ returns-clause-new g c clean new head ks held =
 pub returns-clause-restored : goal.returns-clause-restored
 returns-clause-restored g c clean old head ks held =
     let early : HasCleanDisk (file_state c.in_ok-conn.conn) = c.begin_or_check.ensures.clean clean in
-    c.in_ok-is_new.ensures.same clean old head ks (c.in_ok-conn.ensures.found early head ks held (c.in_ok-is_new.ensures.journal old))
+    c.in_ok-is_new.ensures.same clean old head ks
+    (c.in_ok-conn.ensures.found early head ks held (c.in_ok-is_new.ensures.journal old))
 
 pub returns-clause-known : goal.returns-clause-known
 returns-clause-known g c clean old head ks held =
     let early : HasCleanDisk (file_state c.in_ok-conn.conn) = c.begin_or_check.ensures.clean clean in
-    c.in_ok-is_new.ensures.known clean old head ks (c.in_ok-conn.ensures.found early head ks held (c.in_ok-is_new.ensures.journal old))
+    c.in_ok-is_new.ensures.known clean old head ks
+    (c.in_ok-conn.ensures.found early head ks held (c.in_ok-is_new.ensures.journal old))

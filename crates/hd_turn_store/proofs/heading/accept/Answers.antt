@@ -31,4 +31,5 @@ returns-in-Err-clause-crash g c clean head ks holds db may =
     ]
 
 pub returns-in-Err-clause-told : goal.returns-in-Err-clause-told
-returns-in-Err-clause-told g c clean = (c.in-Err.error, c.in-Err.ensures.runs clean, c.of_writing.ensures.value)
+returns-in-Err-clause-told g c clean =
+    (c.in-Err.error, c.in-Err.ensures.runs clean, c.of_writing.ensures.value)

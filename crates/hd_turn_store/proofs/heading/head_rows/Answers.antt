@@ -5,7 +5,8 @@ use Rattle.hd_turn_store.proofs.heading.head_rows.Goals as goal
 
 pub returns-clause-ok : goal.returns-clause-ok
 returns-clause-ok g c clean =
-    finds_head (state g.S.Store c.args.conn.now) (state g.S.Store c.query_all.new.self) _ _ (λ rows. rows.items)
+    finds_head (state g.S.Store c.args.conn.now) (state g.S.Store c.query_all.new.self) _ _
+    (λ rows. rows.items)
     c.query_all.result c.number_value.ensures c.number_value-2.ensures (c.query_all.ensures.ok clean)
 
 pub returns-clause-same : goal.returns-clause-same

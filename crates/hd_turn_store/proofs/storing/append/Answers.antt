@@ -27,8 +27,8 @@ returns-in-Ok-clause-crash g c clean head ks holds db may =
 pub returns-in-Ok-clause-durable : goal.returns-in-Ok-clause-durable
 unfolding digits
 returns-in-Ok-clause-durable g c clean head ks holds db may =
-    let now = adds (state g.S.Store c.args.conn.now) (kept c.args.row.now) _ c.cells-values.ensures head ks holds
-    (state g.S.Store c.execute.new.self) _ (c.in-Ok.ensures.runs clean) in
+    let now = adds (state g.S.Store c.args.conn.now) (kept c.args.row.now) _ c.cells-values.ensures head ks
+    holds (state g.S.Store c.execute.new.self) _ (c.in-Ok.ensures.runs clean) in
     lasting (state g.S.Store c.execute.new.self) head _ db now
     (g.met.S.Store.settled c.execute.new.self.store db now.is_open may)
 

@@ -1,0 +1,2 @@
+pub mod Acts  -- what is done, and what a hold admits, with their words
+pub mod Parts  -- what is asked, part by part

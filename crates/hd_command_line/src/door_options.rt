@@ -1,0 +1,99 @@
+//! The options of the commands that ask a server at its door.
+
+use crate::options::PLAIN;
+use crate::words::{Form, Need, Number, OptionWords, Value};
+
+/// The door of the server that is asked.
+pub(crate) const DOOR_ASKED: OptionWords = OptionWords {
+    name: "door",
+    value: Value::Text("PATH"),
+    help: "The Unix socket of the server, which its own --door names",
+    need: Need::Always,
+    ..PLAIN
+};
+
+/// What is asked for, of which those below say what it is.
+const ASKED: OptionWords = OptionWords {
+    form: Form::Placed,
+    need: Need::Always,
+    ..PLAIN
+};
+
+/// A copy.
+pub(crate) const COPY_ASKED: OptionWords = OptionWords {
+    name: "copy",
+    value: Value::Text("COPY"),
+    help: "The copy, by its name",
+    ..ASKED
+};
+
+/// A title.
+pub(crate) const TITLE_ASKED: OptionWords = OptionWords {
+    name: "title",
+    value: Value::Text("TITLE"),
+    help: "The title, by its name",
+    ..ASKED
+};
+
+/// A patron.
+pub(crate) const PATRON_ASKED: OptionWords = OptionWords {
+    name: "patron",
+    value: Value::Text("PATRON"),
+    help: "The patron, by the name that their card has",
+    ..ASKED
+};
+
+/// A branch.
+pub(crate) const BRANCH_ASKED: OptionWords = OptionWords {
+    name: "branch",
+    value: Value::Text("BRANCH"),
+    help: "The branch, by its name",
+    ..ASKED
+};
+
+/// A day.
+pub(crate) const DAY_ASKED: OptionWords = OptionWords {
+    name: "day",
+    value: Value::Text("DAY"),
+    help: "The day, as 2026-03-01",
+    ..ASKED
+};
+
+/// A command's number.
+pub(crate) const NUMBER_ASKED: OptionWords = OptionWords {
+    name: "number",
+    value: Value::Number(Number {
+        name: "NUMBER",
+        least: 1,
+        most: u32::MAX,
+        default: None,
+    }),
+    help: "The command, by its number",
+    ..ASKED
+};
+
+/// Behind which turn to begin.
+pub(crate) const AFTER: OptionWords = OptionWords {
+    name: "after",
+    value: Value::Number(Number {
+        name: "N",
+        least: 0,
+        most: u32::MAX,
+        default: None,
+    }),
+    help: "Begin behind this turn; without it the last ones are shown",
+    ..PLAIN
+};
+
+/// How many turns are shown.
+pub(crate) const LIMIT: OptionWords = OptionWords {
+    name: "limit",
+    value: Value::Number(Number {
+        name: "M",
+        least: 1,
+        most: 1_000_000,
+        default: Some("20"),
+    }),
+    help: "How many turns to show at most, 1 to 1000000",
+    ..PLAIN
+};

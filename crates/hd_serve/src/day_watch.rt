@@ -1,0 +1,164 @@
+//! Terminals whose clock is off: seeing whether the day of a message is the server's.
+ghost use Rattle.std.specs.Prelude.{◌≡◌, ◌≢◌, ◌↔◌, IfNone, IfSome, IsTrue, None, Some};
+ghost use Rattle.std.specs.Option.{option_copied};
+ghost use Rattle.hd_serve.specs.Days.{IsNear, IsOff, card_date, date_read, days_apart, patron_date};
+ghost use Rattle.hd_serve.specs.Days.{request_date, standard_date, unreadable_date};
+
+use crate::clock::present;
+use hd_date::{Day, OffsetMinutes, texts_show_one_stamp};
+use hd_exchange::Extensions;
+use hd_message::{
+    PatronRequest, Profile, Reading, Request, Unreadable, UnreadablePatron, read_with,
+};
+use std::time::Clock;
+
+/// A message whose day is off.
+#[derive(Clone, Copy)]
+pub(crate) struct OffDay<'a> {
+    /// The message's transaction date.
+    pub(crate) date: &'a [u8],
+    /// How many days lie between its day and the server's.
+    pub(crate) days: u64,
+}
+
+/// What sees the days of a connection's messages, where it is to. Of one whose clock is off it tells once a
+/// day.
+#[derive(Clone, Copy)]
+pub(crate) struct DayWatch {
+    pub(crate) offset: OffsetMinutes,
+    /// Which messages are read.
+    pub(crate) profile: Profile,
+    /// How many days a message may lie from the server's day, if that is looked at.
+    pub(crate) most: Option<u32>,
+    /// The day on which it told of it last.
+    pub(crate) told: Option<Day>,
+}
+
+impl DayWatch {
+    /// What is to be told of the body of a message: nothing where its day isn't off, or where it was told of
+    /// an earlier one today. The clock is asked where days are looked at, and the message has a date.
+    pub(crate) fn see<'l, R: Clock>(&mut self, clock: &R, body: &'l [u8]) -> Option<OffDay<'l>> {
+        let most = self.most?;
+        let date = date_read(&read_with(self.profile, body))?;
+        let today = present(&|| clock.since_1970(), self.offset).day();
+        let days = days_off(most, self.offset, today, date)?;
+        if self.is_news(today) {
+            Some(OffDay { date, days })
+        } else {
+            None
+        }
+    }
+
+    /// Whether nothing has been told today. Then it counts as told.
+    fn is_news(&mut self, today: Day) -> bool
+        ensures news { IsTrue result ↔ (self.old.told ≢ Some today) }
+        ensures told { self.new.told ≡ Some today }
+    {
+        let is_news = self.told != Some(today);
+        self.told = Some(today);
+        is_news
+    }
+}
+
+/// Which messages are read, where some extensions are on, or none.
+pub(crate) fn profile_of(extensions: Option<&Extensions>) -> Profile {
+    match extensions {
+        Some(extensions) => extensions.profile(),
+        None => Profile {
+            patron_messages: false,
+            sorter_fields: false,
+        },
+    }
+}
+
+/// How many days lie between today and the day that a date is of, where they are more than may be.
+fn days_off(most: u32, offset: OffsetMinutes, today: Day, date: &[u8]) -> Option<u64>
+    ensures off { IfSome result (IsOff most offset today date.now) }
+    ensures near { IfNone result (IsNear most offset today date.now) }
+{
+    texts_show_one_stamp();
+    let Ok(stamp) = hd_date::read(date, offset) else {
+        return None;
+    };
+    let days = days_apart(today, stamp.day());
+    if days > most {
+        Some(u64::from(days))
+    } else {
+        None
+    }
+}
+
+/// How many days lie between two.
+fn days_apart(one: Day, other: Day) -> u32
+    ensures { result ≡ days_apart one other }
+{
+    one.number().abs_diff(other.number())
+}
+
+/// The transaction date of a message, as it is read.
+fn date_read<'a>(reading: &Reading<'a>) -> Option<&'a [u8]>
+    ensures { option_copied result ≡ date_read reading.now }
+{
+    match *reading {
+        Reading::Standard(answer) => standard_date(&answer),
+        Reading::Patron(answer) => card_date(&answer),
+    }
+}
+
+/// The date of a message of the standard profile.
+fn standard_date<'a>(answer: &Result<Request<'a>, Unreadable<'a>>) -> Option<&'a [u8]>
+    ensures { option_copied result ≡ standard_date answer.now }
+{
+    match *answer {
+        Ok(request) => request_date(&request),
+        Err(message) => unreadable_date(&message),
+    }
+}
+
+/// The date of a patron message.
+fn card_date<'a>(answer: &Result<PatronRequest<'a>, UnreadablePatron<'a>>) -> Option<&'a [u8]>
+    ensures { option_copied result ≡ card_date answer.now }
+{
+    match *answer {
+        Ok(request) => Some(patron_date(&request)),
+        Err(message) => message.date,
+    }
+}
+
+/// The date of a request, if it has one.
+fn request_date<'a>(request: &Request<'a>) -> Option<&'a [u8]>
+    ensures { option_copied result ≡ request_date request.now }
+{
+    match *request {
+        Request::Checkout(request) => Some(request.date),
+        Request::Checkin(request) => Some(request.date),
+        Request::Hold(request) => Some(request.date),
+        Request::Renew(request) => Some(request.date),
+        Request::Item(request) => Some(request.date),
+        Request::Login(_) | Request::Status | Request::Resend | Request::Unsupported => None,
+    }
+}
+
+/// The date of a patron message that can be read.
+fn patron_date<'a>(request: &PatronRequest<'a>) -> &'a [u8]
+    ensures { result.now ≡ patron_date request.now }
+{
+    match *request {
+        PatronRequest::Status(request) => request.date,
+        PatronRequest::Information(request) => request.date,
+        PatronRequest::EndSession(request)
+        | PatronRequest::Block(request)
+        | PatronRequest::FeePaid(request)
+        | PatronRequest::RenewAll(request) => request.date,
+    }
+}
+
+/// The date of a message that can't be read, where it is long enough for it.
+fn unreadable_date<'a>(message: &Unreadable<'a>) -> Option<&'a [u8]>
+    ensures { option_copied result ≡ unreadable_date message.now }
+{
+    match *message {
+        Unreadable::Login => None,
+        Unreadable::Desk(message) => message.date,
+    }
+}

@@ -1,0 +1,166 @@
+//! What of a server changes as it goes: whether it is to stop, which connections are open, and whether seats
+//! are left.
+ghost use Rattle.std.specs.Prelude.{◌≡◌, Some, slice_get, IfSome};
+ghost use Rattle.hd_serve.specs.Ends.{first_reason};
+
+use hd_journal::WriteFault;
+use std::alloc::Global;
+use std::io;
+use std::net::{Shutdown, TcpListener, TcpStream};
+use std::os::fd::OwnedFd;
+use std::sync::{Mutex, Wait};
+
+/// Whether a server is to go on.
+#[derive(Clone, Copy)]
+pub(crate) struct Course {
+    /// Why its journal can't be written, if so.
+    pub(crate) unwritten: Option<WriteFault>,
+    /// Whether it was asked to end.
+    pub(crate) is_asked: bool,
+}
+
+/// What changes.
+#[derive(Drop)]
+struct Now {
+    course: Course,
+    /// A second handle of each connection that is open, at the place that it has.
+    open: Vec<Option<TcpStream>>,
+    /// Whether it was told that few numbers are left.
+    is_told: bool,
+    /// Whether a connection has found no seat.
+    is_full: bool,
+}
+
+/// What of a server changes as it goes, and a second handle of the port that its connections come by.
+#[derive(Drop)]
+pub struct Standing {
+    now: Mutex<Now>,
+    port: TcpStream,
+}
+
+impl Standing {
+    /// Of a server that begins, at a port that is to be listened at.
+    ///
+    /// # Errors
+    /// Where the system gives no second handle.
+    pub fn of(alloc: Global, listener: &TcpListener) -> io::Result<Standing> {
+        let port = TcpStream::from(OwnedFd::from(listener.try_clone()?));
+        let course = Course {
+            unwritten: None,
+            is_asked: false,
+        };
+        let open = Vec::new(alloc);
+        Ok(Standing {
+            now: Mutex::new(Now {
+                course,
+                open,
+                is_told: false,
+                is_full: false,
+            }),
+            port,
+        })
+    }
+
+    /// Has the server end: no more connections are accepted, a turn that is under way is answered, and each
+    /// session ends at its next read.
+    pub fn ask_to_end<R: Wait>(&self, rt: &R) {
+        self.note_and_hang_up(rt);
+        let _ = self.port.shutdown(Shutdown::Both);
+    }
+
+    /// How many connections are open: those that are served, and those that wait for a worker.
+    pub fn connections<R: Wait>(&self, rt: &R) -> usize {
+        self.now.lock(rt).open.iter().flatten().count()
+    }
+
+    /// Whether a connection has found no seat: as many were opened as may be, so no other can be had.
+    pub fn is_full<R: Wait>(&self, rt: &R) -> bool {
+        self.now.lock(rt).is_full
+    }
+
+    /// Notes that a connection has found no seat.
+    pub(crate) fn note_full<R: Wait>(&self, rt: &R) {
+        self.now.lock(rt).is_full = true;
+    }
+
+    /// Has no more connections served, since the journal can't be written for this reason, unless there was
+    /// one before. Whoever waits for one at the port is woken.
+    pub(crate) fn end_unwritten<R: Wait>(&self, rt: &R, why: WriteFault) {
+        self.note(rt, why);
+        let _ = self.port.shutdown(Shutdown::Both);
+    }
+
+    /// Whether the server is to go on.
+    pub(crate) fn course<R: Wait>(&self, rt: &R) -> Course {
+        self.now.lock(rt).course
+    }
+
+    /// Notes that a connection is open: the place that it has; nothing where the server has been asked to
+    /// end, or where no second handle can be had, or no memory.
+    pub(crate) fn enter<R: Wait>(&self, rt: &R, connection: &TcpStream) -> Option<usize> {
+        let handle = connection.try_clone().ok()?;
+        self.now.lock(rt).enter(handle)
+    }
+
+    /// Notes that the connection at this place has ended.
+    pub(crate) fn leave<R: Wait>(&self, rt: &R, place: usize) {
+        if let Some(handle) = self.now.lock(rt).open.get_mut(place) {
+            *handle = None;
+        }
+    }
+
+    /// Whether nobody has been told before that few numbers are left. Then it counts as told.
+    pub(crate) fn is_news<R: Wait>(&self, rt: &R) -> bool {
+        let mut now = self.now.lock(rt);
+        let is_news = !now.is_told;
+        now.is_told = true;
+        is_news
+    }
+
+    /// Notes that the server was asked to end, and has nothing more read of any connection.
+    fn note_and_hang_up<R: Wait>(&self, rt: &R) {
+        let mut now = self.now.lock(rt);
+        now.course.is_asked = true;
+        for handle in now.open.iter().flatten() {
+            let _ = handle.shutdown(Shutdown::Read);
+        }
+    }
+
+    /// Notes the reason, unless there was one before.
+    fn note<R: Wait>(&self, rt: &R, why: WriteFault) {
+        let mut now = self.now.lock(rt);
+        now.course.unwritten = Some(first_reason(now.course.unwritten, why));
+    }
+}
+
+impl Now {
+    /// Puts a handle at the first free place, unless the server has been asked to end: the place.
+    fn enter(&mut self, handle: TcpStream) -> Option<usize>
+        ensures place { IfSome result (λ place. slice_get self.new.open.items place ≡ Some (Some handle)) }
+        ensures course { self.new.course ≡ self.old.course }
+    {
+        if self.course.is_asked {
+            return None;
+        }
+        match self.open.iter().position(Option::is_none) {
+            Some(place) => {
+                self.open[place] = Some(handle);
+                Some(place)
+            }
+            None => {
+                self.open.push(Some(handle)).ok()?;
+                Some(self.open.len() - 1)
+            }
+        }
+    }
+}
+
+/// Of a reason that was noted before, if one was, and another the one that is reported.
+fn first_reason(before: Option<WriteFault>, why: WriteFault) -> WriteFault
+    ensures { result ≡ first_reason before why }
+{
+    match before {
+        Some(before) => before,
+        None => why,
+    }
+}

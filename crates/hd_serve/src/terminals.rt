@@ -1,0 +1,160 @@
+//! Serving terminals in a hall.
+ghost use Rattle.std.specs.Prelude.{◌≡◌, ◌≤◌, IfOk, Ok};
+ghost use Rattle.hd_hall.specs.Seats.{EachSeat};
+ghost use Rattle.hd_journal.specs.Openings.{IsLegalSince};
+ghost use Rattle.hd_serve.specs.Ends.{answered};
+
+use crate::accepting::{Connection, Reception};
+use crate::fault::ServeFault;
+use crate::gate::{Gate, Observer};
+use crate::options::Options;
+use crate::places::Places;
+use crate::standing::Standing;
+use crate::worker::Service;
+use crossbeam_channel::{Sender, bounded};
+use hd_hall::{Hall, House, Keeper, Seat};
+use hd_journal::WriteFault;
+use std::alloc::Global;
+use std::net::TcpListener;
+use std::sync::{Mutex, Wait};
+use std::thread;
+use std::thread::Threads;
+use std::time::Clock;
+
+/// What is left when no more terminals are served: how accepting ended, and the seats of all connections.
+#[derive(Drop)]
+pub struct Served<H: House> {
+    accepted: Result<(), ServeFault>,
+    unwritten: Option<WriteFault>,
+    seats: Vec<Seat<H>>,
+    ghost parts: { EachSeat seats.items (λ s. s.parts ≡ 1) },
+}
+
+impl<H: House> Served<H> {
+    /// Closes the hall in which they were served: what keeps its journal, whose turns since it was opened are
+    /// legal.
+    ///
+    /// # Errors
+    /// `NotClosed` where the hall doesn't close; the fault of the accepting, if it ended with one;
+    /// `Unwritten` where a turn couldn't be written.
+    pub fn close<Q: Drop, K: Keeper<Global, Q> + Drop>(
+        self,
+        hall: Hall<H, Global, Q, K>,
+    ) -> Result<K, ServeFault>
+        requires parts { H.parts ≡ 4294967296 }
+        ensures opening { IfOk result (λ closed. K.opening closed ≡ H.opening) }
+        ensures legal { IfOk result (λ closed. IsLegalSince H.opening (K.turns closed)) }
+    {
+        let Served {
+            accepted,
+            unwritten,
+            seats,
+        } = self;
+        let Ok(keeper) = hall.close(seats) else {
+            return Err(ServeFault::NotClosed);
+        };
+        answer(accepted, unwritten, keeper)
+    }
+}
+
+/// What a server answers whose hall has closed, where its accepting ended so, and, if its journal couldn't be
+/// written, why.
+fn answer<K: Drop>(
+    accepted: Result<(), ServeFault>,
+    unwritten: Option<WriteFault>,
+    keeper: K,
+) -> Result<K, ServeFault>
+    ensures answer { result ≡ answered accepted unwritten keeper }
+    ensures keeper { IfOk result (λ closed. closed ≡ keeper) }
+{
+    if let Err(fault) = accepted {
+        return Err(fault);
+    }
+    match unwritten {
+        Some(why) => Err(ServeFault::Unwritten(why)),
+        None => Ok(keeper),
+    }
+}
+
+/// Serves terminals over TCP in a hall, each connection as a session at a seat of its own, until so many
+/// connections have been served, or the server is asked to end (`Standing`).
+///
+/// All is as at `serve`, which closes the hall too. The observer is told what happens, as far as it wants to
+/// know.
+///
+/// # Errors
+/// `Memory` where the start is out of memory. Nothing was served then.
+pub fn serve_terminals<
+    H: House + Send + Sync,
+    R: Threads + Wait + Clock + Sync,
+    O: Gate + Observer,
+    Q: Drop + Send,
+    K: Keeper<Global, Q> + Drop + Send,
+>(
+    rt: &R,
+    alloc: Global,
+    hall: &Hall<H, Global, Q, K>,
+    listener: &TcpListener,
+    standing: &Standing,
+    options: &Options<'_>,
+    observer: &O,
+) -> Result<Served<H>, ServeFault>
+    requires workers { (1 ≤ options.now.workers) × (options.now.workers ≤ 9999) }
+{
+    let places = Mutex::new(Places::new(alloc));
+    let (to, from) = bounded(alloc, options.workers as usize)?;
+    let service = Service {
+        alloc,
+        hall,
+        places: &places,
+        from: &from,
+        standing,
+        options: *options,
+    };
+    let accepted = serve_by(rt, &service, listener, to, observer);
+    let seats = places.into_inner().into_seats()?;
+    let unwritten = standing.course(rt).unwritten;
+    Ok(Served {
+        accepted,
+        unwritten,
+        seats,
+    })
+}
+
+/// Starts the workers, hands them the connections, and returns when all are served.
+fn serve_by<
+    H: House + Send + Sync,
+    R: Threads + Wait + Clock + Sync,
+    O: Gate + Observer,
+    Q: Drop + Send,
+    K: Keeper<Global, Q> + Drop + Send,
+>(
+    rt: &R,
+    service: &Service<'_, H, Q, K>,
+    listener: &TcpListener,
+    to: Sender<Connection>,
+    observer: &O,
+) -> Result<(), ServeFault> {
+    thread::scope(thread::scope_env(), rt, |scope| {
+        let mut has_worker = false;
+        for _ in 0..service.options.workers {
+            if scope.spawn(|| service.work(rt, observer)).is_err() {
+                break;
+            }
+            has_worker = true;
+        }
+        if !has_worker {
+            return Err(ServeFault::Memory);
+        }
+        let reception = Reception {
+            rt,
+            alloc: service.alloc,
+            standing: service.standing,
+            options: service.options,
+            observer,
+            to,
+            session: 0,
+        };
+        reception.accept(listener)
+    })
+}

@@ -1,0 +1,23 @@
+use Rattle.std.proofs.Common.{arith, ◌≡◌, Some}
+use Rattle.hd_server.proofs.server_view.ServerViewView.state.Goals as goal
+
+pub returns : goal.returns
+returns g c = (
+  c.state-hall.result,
+  c.state-hall.ensures,
+  record {
+    full = c.is_full.result;
+    connections = c.connections-connections.result;
+    busy = c.min.result;
+    bytes = c.bytes_of.result;
+    micros = c.micros.result;
+  },
+  omega (arith, c.min.ensures),
+  (λ j. record c.state-hall.result {
+    health = c.health_of.ensures j;
+    connections = Some c.connections-connections.result;
+    workers_busy = Some c.min.result;
+    journal_bytes = c.bytes_of.result;
+    commit_micros = c.micros.result;
+  }),
+)

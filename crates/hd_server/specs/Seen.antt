@@ -1,0 +1,38 @@
+-- What is seen of a server.
+use Rattle.std.specs.Prelude.{◌≡◌, ◌≤◌, ℕ, Bool, true, false, Option, Some}
+use Rattle.hd_page.specs.declared.state.Health.{Health}
+use Rattle.hd_page.specs.declared.state.Health.TheVariants.{Well, Shut, Full}
+use Rattle.hd_page.specs.declared.state.State.{State}
+
+-- whether a server can do its work, by whether a connection has found no seat, and its journal's health
+abbrev pub health_of : Bool → Health → Health
+health_of true Well = Full
+health_of true Shut = Shut
+health_of true Full = Full
+health_of false health = health
+
+-- what is told of a server beside its journal: whether a connection has found no seat, its connections, the
+-- workers that have one in hand, the bytes of its journal's files, and how long the last commit took
+pub record Service : Type 0 where
+  pub full : Bool
+  pub connections : ℕ
+  pub busy : ℕ
+  pub bytes : Option ℕ
+  pub micros : Option ℕ
+
+-- a state with that
+abbrev pub with_service : State → Service → State
+with_service state s = record state {
+  health = health_of s.full state.health;
+  connections = Some s.connections;
+  workers_busy = Some s.busy;
+  journal_bytes = s.bytes;
+  commit_micros = s.micros;
+}
+
+-- Its state is its hall's, with what is told of the service; each of its connections is in the hands of one
+-- worker or waits for one.
+abbrev pub Tells : (State → Type 0) → State → Type 0
+Tells OfHall state =
+    (hall : State) × OfHall hall × (service : Service) × (service.busy ≤ service.connections)
+    × (state ≡ with_service hall service)

@@ -1,0 +1,207 @@
+//! Serving terminals over TCP, with a door at which the server is seen.
+ghost use Rattle.std.specs.Prelude.{◌≡◌, ◌≤◌, ◌++◌, [], IfErr, IfOk, None, length};
+ghost use Rattle.hd_journal.specs.Openings.{IsLegalSince};
+ghost use Rattle.hd_server.specs.Ends.{IsOfServe};
+
+use crate::ending::AskToEnd;
+use crate::fault::ServerFault;
+use crate::server_view::ServerView;
+use hd_door::{Door, OnStop, Service};
+use hd_durable::LastCommit;
+use hd_hall::{Hall, House, Keeper};
+use hd_page::{Page, View};
+use hd_serve::{Gate, Observer, Options, ServeFault, Served, Standing, serve_terminals};
+use hd_shown::HallView;
+use std::alloc::Global;
+use std::marker::Brand;
+use std::net::TcpListener;
+use std::sync::Wait;
+use std::sync::ledger::Blank;
+use std::thread::{self, Threads};
+use std::time::Clock;
+
+/// How a server is seen: by whom what happens is told, at which door, and with which page at its front.
+#[derive(Drop)]
+pub struct Sight<'a, O: Observer> {
+    /// Who is told what happens.
+    pub observer: &'a O,
+    /// The door, which is open.
+    pub door: &'a Door,
+    /// What is shown at its front.
+    pub page: Page<'a>,
+    /// The paths of the files in which the journal is kept, if it is.
+    pub files: &'a [&'a str],
+    /// How long the last commit to them took, as far as that is noted.
+    pub last_commit: &'a LastCommit,
+}
+
+/// Serves terminals over TCP, as `hd_serve::serve` does, and beside them a door: each answer there is of one
+/// look at the hall, and `POST /stop` has the server end as where the last of its connections has been
+/// served. The door is closed at the end, and stays at its path.
+///
+/// # Errors
+/// `Serve`, with each of the faults of `hd_serve::serve`; also `Memory` where no thread can be had for the
+/// door.
+pub fn serve_seen<
+    'x,
+    R: Threads + Wait + Clock + Sync,
+    O: Gate + Observer,
+    Q: Drop + Send,
+    K: Keeper<Global, Q> + Drop + Send,
+>(
+    rt: &'x R,
+    host: &'x HostRuntime,
+    listener: TcpListener,
+    keeper: K,
+    options: &Options<'_>,
+    sight: &'x Sight<'x, O>,
+) -> Result<K, ServerFault>
+    requires turns { K.turns keeper ≡ [] }
+    requires workers { (1 ≤ options.now.workers) × (options.now.workers ≤ 9999) }
+    ensures opening { IfOk result (λ closed. K.opening closed ≡ K.opening keeper) }
+    ensures legal { IfOk result (λ closed. IsLegalSince (K.opening closed) (K.turns closed)) }
+    ensures fault { IfErr result IsOfServe }
+{
+    let blank = Blank::new(4_294_967_296);
+    let closed = serve_in::<Brand, R, O, Q, K>(rt, host, &listener, keeper, blank, options, sight)?;
+    Ok(closed)
+}
+
+/// The same in a hall of a house.
+fn serve_in<
+    'x,
+    H: House + Send + Sync,
+    R: Threads + Wait + Clock + Sync,
+    O: Gate + Observer,
+    Q: Drop + Send,
+    K: Keeper<Global, Q> + Drop + Send,
+>(
+    rt: &'x R,
+    host: &'x HostRuntime,
+    listener: &TcpListener,
+    keeper: K,
+    blank: Blank,
+    options: &Options<'_>,
+    sight: &'x Sight<'x, O>,
+) -> Result<K, ServeFault>
+    requires turns { K.turns keeper ≡ [] }
+    requires opening { K.opening keeper ≡ H.opening }
+    requires name { blank.name ≡ H.name }
+    requires parts { (blank.parts ≡ H.parts) × (H.parts ≡ 4294967296) }
+    requires workers { (1 ≤ options.now.workers) × (options.now.workers ≤ 9999) }
+    ensures opening { IfOk result (λ closed. K.opening closed ≡ K.opening keeper) }
+    ensures legal { IfOk result (λ closed. IsLegalSince (K.opening closed) (K.turns closed)) }
+{
+    let alloc = host.alloc();
+    let Ok(standing) = Standing::of(alloc, listener) else {
+        return Err(ServeFault::CannotListen);
+    };
+    let begun = turns_of(&keeper);
+    let Ok(hall) = Hall::<H, Global, Q, K>::new(alloc, keeper, blank) else {
+        return Err(ServeFault::Memory);
+    };
+    let seen = Seen {
+        door: sight.door,
+        page: sight.page,
+        files: sight.files,
+        last_commit: sight.last_commit,
+        standing: &standing,
+        workers: options.workers,
+    };
+    let view = HallView::new(rt, host, &hall, begun)?;
+    let observer = sight.observer;
+    let served = beside_door(
+        rt,
+        host,
+        &seen,
+        view,
+        || -> Result<Served<H>, ServeFault>
+            requires workers { (1 ≤ options.now.workers) × (options.now.workers ≤ 9999) }
+        { serve_terminals(rt, alloc, &hall, listener, &standing, options, observer) },
+    )??;
+    served.close(hall)
+}
+
+/// How many turns a journal has, if it is shown.
+fn turns_of<Q: Drop, K: Keeper<Global, Q>>(keeper: &K) -> usize
+    ensures { K.shut keeper.now ≡ None
+        → result ≡ length ((K.opening keeper.now).begun ++ K.turns keeper.now) }
+{
+    match keeper.journal() {
+        Ok(journal) => journal.front(),
+        Err(_) => 0,
+    }
+}
+
+/// What of a server is seen at a door.
+#[derive(Clone, Copy)]
+struct Seen<'a> {
+    door: &'a Door,
+    page: Page<'a>,
+    files: &'a [&'a str],
+    last_commit: &'a LastCommit,
+    standing: &'a Standing,
+    workers: u32,
+}
+
+/// Does something, and meanwhile answers at a door, in a thread of its own, of a view of the journal and of
+/// the connections. The door is closed then.
+///
+/// # Errors
+/// `Memory` where there is no thread for the door. Nothing is done then.
+fn beside_door<
+    'x,
+    R: Threads + Wait + Clock + Sync,
+    V: View + Sync + Drop,
+    T,
+    F: FnOnce() -> T + Drop,
+>(
+    rt: &'x R,
+    host: &'x HostRuntime,
+    seen: &'x Seen<'x>,
+    journal: V,
+    work: F,
+) -> Result<T, ServeFault>
+    requires { F.pre work }
+{
+    let view = ServerView {
+        journal,
+        rt,
+        host,
+        standing: seen.standing,
+        workers: seen.workers,
+        files: seen.files,
+        last_commit: seen.last_commit,
+    };
+    let service = Service {
+        alloc: host.alloc(),
+        page: seen.page,
+        view: &view,
+        on_stop: AskToEnd {
+            rt,
+            standing: seen.standing,
+            is_called: false,
+        },
+    };
+    beside(rt, seen.door, &service, work)
+}
+
+/// The same, with all that is served at the door.
+fn beside<
+    R: Threads + Wait + Clock + Sync,
+    V: View + Sync,
+    S: OnStop + Copy + Sync,
+    T,
+    F: FnOnce() -> T + Drop,
+>(rt: &R, door: &Door, service: &Service<'_, V, S>, work: F) -> Result<T, ServeFault>
+    requires { F.pre work }
+{
+    thread::scope(thread::scope_env(), rt, |scope| {
+        if scope.spawn(|| hd_door::serve(rt, door, service)).is_err() {
+            return Err(ServeFault::Memory);
+        }
+        let done = work();
+        door.close();
+        Ok(done)
+    })
+}

@@ -1,0 +1,72 @@
+//! A view of a server: of its journal, and of its service.
+ghost use Rattle.std.specs.Prelude.{◌≡◌};
+ghost use Rattle.hd_server.specs.Seen.{health_of};
+
+use hd_durable::LastCommit;
+use hd_page::{Health, Inquiry, Outcome, State, View, ViewFault};
+use hd_serve::Standing;
+use std::fs;
+use std::sync::Wait;
+
+/// A view of a server: what is shown is its journal's, and its state has besides what is told of the service.
+#[derive(Drop)]
+pub(crate) struct ServerView<'a, R, V> {
+    pub(crate) journal: V,
+    pub(crate) rt: &'a R,
+    pub(crate) host: &'a HostRuntime,
+    pub(crate) standing: &'a Standing,
+    pub(crate) workers: u32,
+    /// The paths of the files in which the journal is kept.
+    pub(crate) files: &'a [&'a str],
+    /// How long the last commit to them took.
+    pub(crate) last_commit: &'a LastCommit,
+}
+
+impl<'a, R: Wait, V: View> View for ServerView<'a, R, V> {
+    ghost use Rattle.hd_server.specs.Seen.{Tells};
+
+    ghost shows = { λ view. V.shows view.journal };
+
+    ghost tells = { λ view. Tells (V.tells view.journal) };
+
+    fn write(&self, inquiry: &Inquiry<'_>, out: &mut Vec<u8>) -> Result<Outcome, ViewFault> {
+        self.journal.write(inquiry, out)
+    }
+
+    fn state(&self) -> State {
+        let hall = self.journal.state();
+        let connections = self.standing.connections(self.rt) as u64;
+        State {
+            health: health_of(self.standing.is_full(self.rt), hall.health),
+            connections: Some(connections),
+            workers_busy: Some(connections.min(u64::from(self.workers))),
+            journal_bytes: bytes_of(self.host, self.files),
+            commit_micros: self.last_commit.micros(self.rt),
+            ..hall
+        }
+    }
+}
+
+/// Whether a server can do its work, by whether a connection has found no seat, and its journal's health.
+fn health_of(is_full: bool, journal: Health) -> Health
+    ensures { result ≡ health_of is_full journal }
+{
+    match journal {
+        Health::Well if is_full => Health::Full,
+        health => health,
+    }
+}
+
+/// How many bytes files have, as far as they are there; nothing of no files.
+fn bytes_of(host: &HostRuntime, files: &[&str]) -> Option<u64> {
+    if files.is_empty() {
+        return None;
+    }
+    let mut bytes = 0u64;
+    for file in files {
+        if let Ok(found) = fs::metadata(host, *file) {
+            bytes = bytes.saturating_add(found.len());
+        }
+    }
+    Some(bytes)
+}

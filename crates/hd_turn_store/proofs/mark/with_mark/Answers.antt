@@ -1,0 +1,72 @@
+use Rattle.std.proofs.Common.{◌≡◌, ◌≢◌, ◌∙◌, ℕ, ap, arith, subst, sym}
+use Rattle.sqlite.specs.Effect.{Database}
+use Rattle.sqlite.specs.Files.{file_state}
+use Rattle.sqlite.specs.Tree.{Trees}
+use Rattle.sqlite.proofs.Theorems.{copied as lies_alone}
+use Rattle.sqlite_catalog.specs.Listing.{IsSound}
+use Rattle.sqlite_store.specs.FileStore.{view}
+use Rattle.sqlite_store.specs.Laws.{settled_at}
+use Rattle.sqlite_trees.specs.Objects.{version_tree}
+use Rattle.sqlite_trees.specs.View.{IsClean}
+use Rattle.hd_turn_store.proofs.Commits.{lasting}
+use Rattle.hd_turn_store.proofs.Marking.{keeps_marked, sound_beside, stores_beside}
+use Rattle.hd_turn_store.proofs.mark.with_mark.Goals as goal
+
+pub returns-in-Ok-clause-marked : goal.returns-in-Ok-clause-marked
+returns-in-Ok-clause-marked g c none =
+    let conn = c.args.conn in
+    let back = c.store_of-store.result.0 in
+    let last = c.put_mark.new.store in
+    let stays = g.met.D.Disk.seen_may_stay in
+    let early : IsClean (view back) = omega (arith, c.put_mark.ensures.clean) in
+    let b_open = c.in-Ok.ensures.open none in
+    let was = c.store_of-store.ensures.undone.undone b_open in
+    let kept = c.store_of-store.ensures.undone.kept early in
+    let puts = c.in-Ok.ensures.ok none (was.0 ∙ sym (kept.committed b_open)) in
+    let fresh = puts.fresh (c.store_of-store.ensures.numbered early) in
+    let rows : (db : Trees) → (view conn.store).committed ≡ db → (tree : ℕ) → tree ≢ version_tree
+    → (view last).committed tree ≡ db tree =
+    λ db is tree other. puts.others tree other ∙ ap (λ (t : Trees). t tree) (was.0 ∙ is) in
+    record {
+      was_clean = omega (arith, c.store_of-store.ensures.quiet.clean);
+      fresh = fresh;
+      mark_is = puts.mark_is;
+      kept = λ head ks holds.
+          stores_beside _ (view last).committed head ks
+          (rows _ (ap (λ (d : Database). d.trees) holds.settled)) holds.rows;
+      copied = λ head ks holds left may.
+          let now = (file_state conn).now in
+          let same = rows _ (ap (λ (d : Database). d.trees) holds.settled) in
+          let live : IsSound now.schema now.trees = (c.store_of-store.ensures.live holds.is_open).0 in
+          let sound = sound_beside now.trees (view last).committed same now.schema holds.schema live in
+          lies_alone last stays puts.is_open fresh.numbered
+          (λ db found. (
+            now.schema,
+            subst (IsSound now.schema) (sym (settled_at last stays db puts.is_open found)) sound,
+          ))
+          puts.emptied left may;
+    }
+
+pub returns-then-not-is_ours-clause-left : goal.returns-then-not-is_ours-clause-left
+returns-then-not-is_ours-clause-left g c head ks holds db may =
+    lasting (file_state c.args.conn) head ks db holds
+    (settled_at c.args.conn.store g.met.D.Disk.seen_may_stay _ holds.is_open
+    (c.store_of-store.ensures.quiet.outcomes _ may))
+
+pub returns-in-Ok-clause-kept : goal.returns-in-Ok-clause-kept
+returns-in-Ok-clause-kept g c =
+    keeps_marked c.args.conn c.store_of-store.result.0 c.put_mark.new.store
+    (λ b_open. (c.store_of-store.ensures.undone.undone b_open).0)
+    (λ head ks holds db may. lasting (file_state c.args.conn) head ks db holds
+    (settled_at c.args.conn.store g.met.D.Disk.seen_may_stay _ holds.is_open
+    (c.store_of-store.ensures.quiet.outcomes _ may)))
+    c.put_mark.ensures.crash
+
+pub returns-in-Err-clause-left : goal.returns-in-Err-clause-left
+returns-in-Err-clause-left g c =
+    keeps_marked c.args.conn c.store_of-store.result.0 c.put_mark.new.store
+    (λ b_open. (c.store_of-store.ensures.undone.undone b_open).0)
+    (λ head ks holds db may. lasting (file_state c.args.conn) head ks db holds
+    (settled_at c.args.conn.store g.met.D.Disk.seen_may_stay _ holds.is_open
+    (c.store_of-store.ensures.quiet.outcomes _ may)))
+    c.put_mark.ensures.crash

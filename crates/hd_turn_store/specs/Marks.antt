@@ -1,0 +1,98 @@
+-- The mark in a journal's file.
+use Rattle.std.specs.Prelude.{◌≡◌, ◌≢◌, ◌⊎◌, ◌++◌, ◌∷◌, ℕ, List, [], IsTrue, codes, take}
+use Rattle.sqlite_disk.specs.declared.Disk.{Ghosts}
+use Rattle.sqlite.specs.Closing.{HoldsAlone}
+use Rattle.sqlite.specs.Files.{HoldsDatabase, file_state}
+use Rattle.sqlite.specs.Held.{Held}
+use Rattle.sqlite.specs.Recovery.{Image}
+use Rattle.sqlite.specs.State.{HasCleanDisk, Opens, State}
+use Rattle.sqlite.specs.Steps.{IsFresh}
+use Rattle.sqlite.specs.Tree.{Trees}
+use Rattle.sqlite_pool.specs.Header.{user_version}
+use Rattle.sqlite_store.specs.FileStore.{log_frames, recovers, state, view}
+use Rattle.sqlite_store.specs.declared.store.FileStore.{FileStore}
+use Rattle.sqlite_trees.specs.Objects.{version_rows, version_tree}
+use Rattle.sqlite_trees.specs.View.{IsClean, View}
+use Rattle.hd_turn_store.specs.Holds.{Holds}
+use Rattle.hd_turn_store.specs.Kept.{Head, KeptTurn}
+use Rattle.hd_turn_store.specs.Tables.{IsJournal, Stores}
+
+-- a server has it open, so that its last turns may lie in the log alone
+abbrev pub open_mark : ℕ
+open_mark = 1
+
+-- it was ended well, so that all of it lies in the database file
+abbrev pub ended_mark : ℕ
+ended_mark = 2
+
+-- SQLite keeps the mark as a database's user version, which is a tree of one row.
+abbrev pub HasMark : ℕ → Trees → Type 0
+HasMark mark db = db version_tree ≡ version_rows mark
+
+-- It stands in SQLite's header, the first 100 bytes of a database file, which begins with the format's name.
+pub record SaysMark (head : List ℕ) (mark : ℕ) : Type 0 where
+  pub magic : take 16 head ≡ codes "SQLite format 3" ++ 0 ∷ []
+  pub version : user_version head ≡ mark
+
+-- the two files hold a database with this mark
+abbrev pub HoldsMark : Image → ℕ → Type 0
+HoldsMark left mark = ∥ ((db : Trees) × HoldsDatabase left db × HasMark mark db) ∥₁
+
+-- and so does the database file with no log
+pub record HoldsMarkAlone (left : Image) (mark : ℕ) : Type 0 where
+  pub both : HoldsMark left mark
+  pub alone : HoldsMark (record left { log = [] }) mark
+
+-- a store has this mark, and is otherwise as it was
+pub record GetsMark (mark : ℕ) (old new : View) : Type 0 where
+  pub mark_is : HasMark mark new.trees
+  pub others : (tree : ℕ) → tree ≢ version_tree → new.trees tree ≡ old.trees tree
+  pub settled : old.trees ≡ old.committed → new.trees ≡ new.committed
+  pub numbered : new.is_numbered ≡ old.is_numbered
+  pub is_open : new.is_open ≡ old.is_open
+
+-- two databases are the same but for their marks
+abbrev pub SameButMark : Trees → Trees → Type 0
+SameButMark one two = (tree : ℕ) → tree ≢ version_tree → two tree ≡ one tree
+
+-- what a store sees, with any mark, where it is open
+abbrev pub MayHaveMark : View → Trees → Type 0
+MayHaveMark v db = IsTrue v.is_open × SameButMark v.trees db
+
+-- a crash leaves what it could leave of the store, or what the store sees, with any mark
+abbrev pub MayGetMark : {D : Type 0} {g : Ghosts D} → FileStore D g → Trees → Type 0
+MayGetMark store db = MayHaveMark (view store) db ⊎ recovers store db
+
+-- The store of a database that is committed gets this mark, with which all of it is committed, and its log is
+-- empty.
+pub record PutsMark {D : Type 0} {g : Ghosts D} (mark : ℕ) (old new : FileStore D g) : Type 0 where
+  pub is_open : IsTrue (view new).is_open
+  pub fresh : IsTrue (view old).is_numbered → IsFresh (view new)
+  pub mark_is : HasMark mark (view new).committed
+  pub others : SameButMark (view old).trees (view new).committed
+  pub emptied : log_frames new ≡ 0
+
+-- a connection that was opened over a store shows a journal, with what the store had
+pub record ShowsJournal (v : View) (s : State) : Type 0 where
+  pub was_clean : IsClean v
+  pub opens : Opens s
+  pub schema : IsJournal s.now.schema
+  pub trees : s.now.trees ≡ v.trees
+
+-- whatever a crash leaves of the store has the journal's head and just its turns
+abbrev pub KeepsTurns : {D : Type 0} {g : Ghosts D} → Held (FileStore D g) → FileStore D g → Type 0
+KeepsTurns c store =
+    (head : Head) (ks : List KeptTurn) → Holds (file_state c) head ks
+    → (db : Trees) → recovers store db → Stores head ks db
+
+-- The store has what the connection had committed, and this mark. Whatever a crash leaves, the database file
+-- has all of it without a log.
+pub record IsMarked {D : Type 0} {g : Ghosts D} (c : Held (FileStore D g)) (mark : ℕ) (store : FileStore D g)
+    : Type 0 where
+  pub was_clean : HasCleanDisk (file_state c)
+  pub fresh : IsFresh (view store)
+  pub mark_is : HasMark mark (view store).committed
+  pub kept : (head : Head) (ks : List KeptTurn) → Holds (file_state c) head ks
+      → Stores head ks (view store).committed
+  pub copied : (head : Head) (ks : List KeptTurn) → Holds (file_state c) head ks → (left : Image)
+      → (state store).may_leave left → HoldsAlone left (view store).committed

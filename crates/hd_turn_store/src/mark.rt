@@ -1,0 +1,223 @@
+//! The mark in a journal's file: whether a server has it open, or it was ended well.
+
+ghost use Rattle.std.specs.Prelude.{◌≡◌, ◌≤◌, ◌↔◌, List, [], IfErr, IfOk, IsTrue, OnOk, take};
+ghost use Rattle.sqlite.specs.Files.{HoldsDatabase, file_state};
+ghost use Rattle.sqlite.specs.Held.{state};
+ghost use Rattle.sqlite.specs.Recovery.{Image};
+ghost use Rattle.sqlite.specs.State.{HasCleanDisk, IsLive};
+ghost use Rattle.sqlite.specs.Steps.{IsFresh};
+ghost use Rattle.sqlite.specs.Tree.{Trees};
+ghost use Rattle.sqlite_pool.specs.Header.{user_version};
+ghost use Rattle.sqlite_store.specs.FileStore.{recovers, view};
+ghost use Rattle.sqlite_trees.specs.View.{IsClean, IsQuiet, IsRolledBack, doubt};
+ghost use Rattle.sqlite_wal.specs.Files.{outcomes};
+ghost use Rattle.sqlite_wal.specs.Reads.{AreClean};
+ghost use Rattle.hd_turn_store.specs.Crashes.{HoldsTurnsAlone};
+ghost use Rattle.hd_turn_store.specs.Faults.{IsWritingFault};
+ghost use Rattle.hd_turn_store.specs.Holds.{Holds};
+ghost use Rattle.hd_turn_store.specs.Kept.{Head, KeptTurn};
+ghost use Rattle.hd_turn_store.specs.Marks.{GetsMark, HasMark, HoldsMarkAlone, IsMarked, KeepsTurns};
+ghost use Rattle.hd_turn_store.specs.Marks.{MayGetMark, PutsMark, SaysMark, ShowsJournal, ended_mark};
+ghost use Rattle.hd_turn_store.specs.Marks.{open_mark};
+
+use crate::fault::Fault;
+use crate::table::is_journal;
+use sqlite::{Connection, FileStore, Files};
+use sqlite_disk::Disk;
+use sqlite_trees::error::StoreError;
+use sqlite_trees::store::{Alter, Store};
+use std::alloc::Global;
+
+/// The mark of a file that a server has open. Its last turns may lie in the log alone.
+const OPEN: u32 = 1;
+
+/// The mark of a file that was ended well. All of it lies in the database file.
+const ENDED: u32 = 2;
+
+/// How long SQLite's header is, with which a database file begins.
+pub const HEAD: usize = 100;
+
+/// What it begins with.
+const MAGIC: [u8; 16] = *b"SQLite format 3\0";
+
+/// Whether a database file with this header was ended well. It then has all of its journal without a log.
+pub fn is_ended(head: &[u8; HEAD]) -> bool
+    ensures said { IsTrue result ↔ SaysMark head.now ended_mark }
+    // The database that such a file holds without a log has the mark, or hasn't.
+    ensures tied { (left : Image) (db : Trees) → head.now ≡ take 100 left.db
+        → HoldsDatabase (record left { log = [] }) db → IsTrue result ↔ HasMark ended_mark db }
+{
+    says_end(head)
+}
+
+/// Whether a header has the format's name, and the mark of an end.
+fn says_end(head: &[u8; HEAD]) -> bool
+    ensures { IsTrue result ↔ SaysMark head.now ended_mark }
+{
+    head[..16] == MAGIC[..] && has_mark_of_end(head)
+}
+
+/// Whether a header's user version, four bytes of which the highest is first, is the mark of an end.
+fn has_mark_of_end(head: &[u8; HEAD]) -> bool
+    ensures { IsTrue result ↔ (user_version head.now ≡ ended_mark) }
+{
+    head[60] == 0 && head[61] == 0 && head[62] == 0 && head[63] == 2
+}
+
+/// Commits a mark, where the file hasn't got it yet.
+fn commit_mark<D: Disk>(store: &mut FileStore<D>, mark: u32) -> Result<(), StoreError>
+    ensures clean { doubt (view store.old).is_clean ≤ doubt (view store.new).is_clean }
+    ensures ok { IsClean (view store.new) → OnOk result (IsTrue (view store.new).is_open
+        → GetsMark mark (view store.old) (view store.new)) }
+    ensures crash { (db : Trees) → recovers store.new db → MayGetMark store.old db }
+{
+    if store.version() == mark {
+        return Ok(());
+    }
+    match store.set_version(mark) {
+        Ok(()) => {}
+        Err(error) => return Err(error),
+    }
+    match store.commit() {
+        Ok(()) => Ok(()),
+        Err(error) => Err(error),
+    }
+}
+
+/// Copies the log into the database file, commits a mark, and copies that. So the database file has no mark
+/// of an end before it has all else, and the log has room for the mark where the disk has none.
+fn put_mark<D: Disk>(store: &mut FileStore<D>, mark: u32) -> Result<(), StoreError>
+    ensures clean { doubt (view store.old).is_clean ≤ doubt (view store.new).is_clean }
+    ensures open { IsClean (view store.new) → OnOk result (IsTrue (view store.old).is_open) }
+    ensures ok { IsClean (view store.new) → (view store.old).trees ≡ (view store.old).committed
+        → OnOk result (PutsMark mark store.old store.new) }
+    ensures crash { (db : Trees) → recovers store.new db → MayGetMark store.old db }
+{
+    match store.checkpoint() {
+        Ok(()) => {}
+        Err(error) => return Err(error),
+    }
+    match commit_mark(store, mark) {
+        Ok(()) => {}
+        Err(error) => return Err(error),
+    }
+    store.rollback();
+    match store.checkpoint() {
+        Ok(()) => Ok(()),
+        Err(error) => Err(error),
+    }
+}
+
+/// The store of a journal's file, with a mark. All that the journal has lies in the database file then, also
+/// after a crash, and the log is empty.
+///
+/// # Errors
+/// The mark can't be written, or the tables aren't those of a journal. With the fault comes the store.
+fn with_mark<D: Disk + Drop>(
+    conn: Connection<FileStore<D>>,
+    mark: u32,
+) -> Result<FileStore<D>, (Fault, FileStore<D>)>
+    ensures marked { IfOk result (λ store. IsClean (view store) → IsMarked conn mark store) }
+    ensures fault { IfErr result (λ e. IsWritingFault e.0) }
+    ensures kept { IfOk result (KeepsTurns conn) }
+    ensures left { IfErr result (λ e. KeepsTurns conn e.1) }
+{
+    let (mut store, is_ours) = store_of(conn);
+    if !is_ours {
+        return Err((Fault::CannotWrite, store));
+    }
+    match put_mark(&mut store, mark) {
+        Ok(()) => Ok(store),
+        Err(error) => Err((unmarked(error), store)),
+    }
+}
+
+/// The store of a connection, in which nothing is under way any more, and whether its tables are a journal's.
+fn store_of<S: Alter + Drop>(conn: Connection<S>) -> (S, bool)
+    ensures live { IsLive (state S.Store conn) }
+    ensures numbered { IsClean (S.Store.view result.0) → IsTrue (S.Store.view result.0).is_numbered }
+    ensures undone { IsRolledBack (S.Store.view conn.store) (S.Store.view result.0) }
+    ensures quiet { IsQuiet S.Store.view S.Store.faults S.Store.recovers S.Store.is_shielded
+        conn.store result.0 }
+{
+    let is_ours = is_journal(conn.schema());
+    (conn.into_store(), is_ours)
+}
+
+/// What is told where a mark can't be written.
+fn unmarked(error: StoreError) -> Fault
+    ensures { IsWritingFault result }
+{
+    match error {
+        StoreError::OutOfMemory => Fault::Memory,
+        StoreError::Full => Fault::DiskFull,
+        _ => Fault::CannotWrite,
+    }
+}
+
+/// Opens a journal's file for turns: the database file says from now on, also after a crash, that its log
+/// belongs to it. The journal is as it was.
+///
+/// # Errors
+/// The mark can't be written, or the file can't be read again. With the fault comes the store, of which a
+/// crash leaves all that the journal held.
+pub fn open_for_turns<D: Disk + Drop>(
+    alloc: Global,
+    conn: Connection<FileStore<D>>,
+) -> Result<Connection<FileStore<D>>, (Fault, FileStore<D>)>
+    ensures clean { IfOk result (λ c. HasCleanDisk (file_state c) → HasCleanDisk (file_state conn)) }
+    ensures same { IfOk result (λ c. HasCleanDisk (file_state c) → (head : Head) (ks : List KeptTurn)
+        → Holds (file_state conn) head ks → Holds (file_state c) head ks) }
+    ensures marked { IfOk result (λ c. HasCleanDisk (file_state c)
+        → HasMark open_mark (file_state c).now.trees) }
+    ensures left { IfErr result (λ e. IsClean (view e.1) → KeepsTurns conn e.1) }
+{
+    let store = with_mark(conn, OPEN)?;
+    opened_again(alloc, store)
+}
+
+/// A connection to the journal of a store in which nothing is under way.
+///
+/// # Errors
+/// It can't be read, or shows no journal. With the fault comes the store, of which a crash leaves no more
+/// than before.
+fn opened_again<S: Alter + Drop>(alloc: Global, store: S) -> Result<Connection<S>, (Fault, S)>
+    requires { IsClean (S.Store.view store) → IsFresh (S.Store.view store) }
+    ensures found { IfOk result (λ c. HasCleanDisk (state S.Store c)
+        → ShowsJournal (S.Store.view store) (state S.Store c)) }
+    ensures left { IfErr result (λ e. IsClean (S.Store.view e.1) → (db : Trees) → S.Store.recovers e.1 db
+        → S.Store.recovers store db) }
+{
+    let again = match Connection::over(alloc, store) {
+        Ok(again) => again,
+        Err((error, store)) => return Err((Fault::of_opening(error), store)),
+    };
+    if !is_journal(again.schema()) {
+        return Err((Fault::Damaged, again.into_store()));
+    }
+    Ok(again)
+}
+
+/// Ends a journal's file well: the log is copied into the database file, which then says so.
+///
+/// # Errors
+/// The file can't be written. With the fault comes the store, of which a crash leaves all that the journal
+/// held.
+pub fn end<D: Disk + Drop>(
+    conn: Connection<FileStore<D>>,
+) -> Result<Files<D>, (Fault, FileStore<D>)>
+    ensures copied { IfOk result (λ files. AreClean D.Disk files.log files.db
+        → (head : Head) (ks : List KeptTurn) → Holds (file_state conn) head ks
+        → (left : Image) → outcomes D.Disk files.log files.db left → HoldsTurnsAlone left head ks) }
+    // The mark of a server that has it open is away.
+    ensures ended { IfOk result (λ files. AreClean D.Disk files.log files.db
+        → (head : Head) (ks : List KeptTurn) → Holds (file_state conn) head ks
+        → (left : Image) → outcomes D.Disk files.log files.db left → HoldsMarkAlone left ended_mark) }
+    ensures fault { IfErr result (λ e. IsWritingFault e.0) }
+    ensures left { IfErr result (λ e. KeepsTurns conn e.1) }
+{
+    match with_mark(conn, ENDED) {
+        Ok(store) => Ok(store.close()),
+        Err(unended) => Err(unended),
+    }
+}

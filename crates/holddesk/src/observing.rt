@@ -1,0 +1,46 @@
+//! What is told while the program serves.
+
+use hd_command_line::Log;
+use hd_log::{Event, Level, write_event};
+use hd_serve::{Gate, Observer};
+use std::io::Write;
+
+/// A gate that holds nobody, and tells what happens on standard error, a line for each event.
+#[derive(Drop)]
+pub(crate) struct Teller<'a> {
+    host: &'a HostRuntime,
+    level: Level,
+}
+
+impl<'a> Teller<'a> {
+    /// Tells as much as the words of the command line say.
+    pub(crate) fn new(host: &'a HostRuntime, log: Log) -> Teller<'a> {
+        let level = match log {
+            Log::Quiet => Level::Quiet,
+            Log::Events => Level::Events,
+            Log::Messages => Level::Messages,
+        };
+        Teller { host, level }
+    }
+}
+
+impl<'a> Gate for Teller<'a> {
+    fn before(&self, _session: usize, _turn: usize) {}
+}
+
+impl<'a> Observer for Teller<'a> {
+    fn level(&self) -> Level {
+        self.level
+    }
+
+    // A line that can't be written, or for which there is no memory, is left out: nobody waits for it.
+    fn tell(&self, event: &Event<'_>) {
+        if event.level() > self.level {
+            return;
+        }
+        let mut line = Vec::new(self.host.alloc());
+        if write_event(self.host.alloc(), &mut line, event).is_ok() {
+            let _ = self.host.stderr().write_all(line.as_slice());
+        }
+    }
+}

@@ -1,0 +1,142 @@
+//! What a server can show, and how it is asked for and told.
+ghost use Rattle.std.specs.Prelude.{◌≡◌};
+ghost use Rattle.hd_page.specs.Sights.{NameAsked, asked_of};
+ghost use Rattle.holddesk.specs.Topics.{topic_asked};
+
+use crate::answering::refusal;
+use crate::fault::Fault;
+use hd_ask::Answer;
+use hd_command_line::SeenTopic;
+use hd_page::{Inquiry, Named};
+use std::alloc::{AllocError, Global};
+
+/// The headings of a copy.
+const COPY: [&str; 8] = [
+    "copy", "title", "state", "branch", "to", "place", "patron", "due",
+];
+
+/// The headings of a title's queue.
+const TITLE: [&str; 8] = [
+    "position", "patron", "stamp", "admits", "only", "pickup", "until", "copy",
+];
+
+/// The headings of a patron's loans and holds.
+const PATRON: [&str; 8] = [
+    "row", "copy", "title", "due", "renewals", "position", "pickup", "until",
+];
+
+/// The headings of a hold shelf.
+const SHELF: [&str; 4] = ["place", "copy", "title", "patron"];
+
+/// The headings of what is on its way to a branch.
+const TRANSIT: [&str; 5] = ["copy", "title", "branch", "to", "patron"];
+
+/// The headings of what is overdue.
+const OVERDUE: [&str; 5] = ["copy", "title", "patron", "due", "renewals"];
+
+/// The headings of turns.
+const TURNS: [&str; 10] = [
+    "turn", "terminal", "asked", "day", "patron", "copy", "title", "outcome", "number", "why",
+];
+
+/// The headings of a command and of what it changed.
+const COMMAND: [&str; 11] = [
+    "row",
+    "asked",
+    "day",
+    "patron",
+    "copy",
+    "title",
+    "state",
+    "branch",
+    "due",
+    "pickup",
+    "dependent",
+];
+
+/// The headings of a topic: those of the members of its rows that people are told.
+pub(crate) fn heads_of(topic: &SeenTopic<'_>) -> &'static [&'static str] {
+    match topic {
+        SeenTopic::Copy(_) => &COPY,
+        SeenTopic::Title(_) => &TITLE,
+        SeenTopic::Patron(_) => &PATRON,
+        SeenTopic::Shelf(_) => &SHELF,
+        SeenTopic::Transit(_) => &TRANSIT,
+        SeenTopic::Overdue(_) => &OVERDUE,
+        SeenTopic::Turns { .. } => &TURNS,
+        SeenTopic::Command(_) => &COMMAND,
+    }
+}
+
+/// What is asked for a page of a topic that begins behind so much, and of turns has so many at most.
+pub(crate) fn inquiry_of<'a>(topic: &SeenTopic<'a>, after: u64, limit: u64) -> Inquiry<'a>
+    ensures { asked_of result ≡ topic_asked topic.now after limit }
+{
+    match *topic {
+        SeenTopic::Copy(name) => by_name(Named::Copy, name, after),
+        SeenTopic::Title(name) => by_name(Named::Queue, name, after),
+        SeenTopic::Patron(name) => by_name(Named::Patron, name, after),
+        SeenTopic::Shelf(name) => by_name(Named::Shelf, name, after),
+        SeenTopic::Transit(name) => by_name(Named::Transit, name, after),
+        SeenTopic::Overdue(day) => Inquiry::Overdue {
+            day: day.as_bytes(),
+            after,
+        },
+        SeenTopic::Turns { .. } => Inquiry::Turns { after, limit },
+        SeenTopic::Command(number) => Inquiry::Command {
+            number: u64::from(number),
+        },
+    }
+}
+
+/// What is asked for what there is under a name.
+fn by_name<'a>(kind: Named, name: &'a str, after: u64) -> Inquiry<'a>
+    ensures { asked_of result ≡ NameAsked kind name.now after }
+{
+    Inquiry::ByName {
+        kind,
+        name: name.as_bytes(),
+        after,
+    }
+}
+
+/// Why a server doesn't show a topic, where it answers so: it has nothing of the name, or there is no such
+/// day.
+///
+/// # Errors
+/// Out of memory.
+pub(crate) fn unseen(
+    alloc: Global,
+    topic: &SeenTopic<'_>,
+    answer: &Answer,
+) -> Result<Fault, AllocError> {
+    match (*topic, answer.status) {
+        (SeenTopic::Overdue(day), 400) => Ok(Fault::NoDay(String::from_str(alloc, day)?)),
+        (SeenTopic::Command(number), 404) => Ok(Fault::NotThere {
+            kind: "command",
+            name: format!(in alloc; "{number}")?,
+        }),
+        (SeenTopic::Copy(name), 404) => not_there(alloc, "copy", name),
+        (SeenTopic::Title(name), 404) => not_there(alloc, "title", name),
+        (SeenTopic::Patron(name), 404) => not_there(alloc, "patron", name),
+        (SeenTopic::Shelf(name) | SeenTopic::Transit(name), 404) => {
+            not_there(alloc, "branch", name)
+        }
+        _ => refusal(alloc, answer),
+    }
+}
+
+/// That there is nothing of a kind that has this name.
+///
+/// # Errors
+/// Out of memory.
+pub(crate) fn not_there(
+    alloc: Global,
+    kind: &'static str,
+    name: &str,
+) -> Result<Fault, AllocError> {
+    Ok(Fault::NotThere {
+        kind,
+        name: String::from_str(alloc, name)?,
+    })
+}
