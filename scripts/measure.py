@@ -24,9 +24,9 @@ LOGIN = f"1 9300CN{terminal(1)}|CO{password(1)}|\n"
 CANCELS = "BIY|"
 
 
-def hold(p, t, mode="+", expiry="", day=DAY, pickup=1):
+def hold(p, t, mode="+", expiry="", day=DAY, pickup=1, kind=2):
     expiry = expiry and f"BW{expiry}|"
-    return f"1 15{mode}{day}{expiry}BS{branch(pickup)}|BY2|AOlib|AA{patron(p)}|AJ{title(t)}|\n"
+    return f"1 15{mode}{day}{expiry}BS{branch(pickup)}|BY{kind}|AOlib|AA{patron(p)}|AJ{title(t)}|\n"
 
 
 def checkout(p, c, cancels=""):
@@ -81,11 +81,13 @@ def rows(size):
     one = library(1, of(5_000), of(110_000))
     for count in (of(10_000), of(20_000), of(40_000), of(80_000)):
         yield (f"a hold of a title that has up to {count}", one, [], [hold(p, 1) for p in range(1, count + 1)], count)
-    queue = [hold(p, 1) for p in range(1, of(40_000) + 1)]
-    some = random.Random(2).sample(range(1, of(40_000) + 1), of(4_000))
-    yield (f"a change of one of {len(queue)} holds of a title", one, queue, [hold(p, 1, "*") for p in some], len(some))
-    yield (f"the deletion of one of {len(queue)} holds of a title", one, queue, [hold(p, 1, "-") for p in some],
-           len(some))
+    for count in (of(20_000), of(40_000), of(80_000)):
+        queue = [hold(p, 1) for p in range(1, count + 1)]
+        some = random.Random(2).sample(range(1, count + 1), of(20_000))
+        for what, other in (("expiry", {"expiry": LATER}), ("pickup", {"pickup": 2}), ("kind", {"kind": 4})):
+            yield (f"a change of the {what} of one of {count} holds of a title", one, queue,
+                   [hold(p, 1, "*", **other) for p in some], len(some))
+        yield f"the deletion of one of {count} holds of a title", one, queue, [hold(p, 1, "-") for p in some], len(some)
     lent = [checkout(p, p) for p in range(1, of(5_000) + 1)]
     waiting = [hold(p, 1, expiry="20260315    100000" if p % 10 == 0 else "")
                for p in range(of(5_000) + 1, of(105_000) + 1)]

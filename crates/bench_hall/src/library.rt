@@ -47,5 +47,5 @@ pub(crate) fn journal(rt: &HostRuntime) -> Option<Journal>
 {
     let alloc = rt.alloc();
     let catalogue = Catalogue::read(alloc, text()).ok()?;
-    hd_journal::open(alloc, alloc, Meter::new(rt), catalogue).ok()
+    hd_journal::open(alloc, Meter::new(rt), catalogue).ok()
 }

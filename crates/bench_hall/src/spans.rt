@@ -21,7 +21,7 @@ impl Spans {
     /// None.
     ///
     /// # Errors
-    /// An error is want of memory.
+    /// An error is that memory is out.
     pub(crate) fn new(alloc: Global) -> Result<Spans, AllocError> {
         let mut counts = Vec::new(alloc);
         for _ in 0..STEPS {

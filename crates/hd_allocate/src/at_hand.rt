@@ -21,7 +21,7 @@ use std::alloc::Allocator;
 /// The queue is that of the copy's title, the places are those of the branch's hold shelf. A tied copy whose
 /// hold isn't in the queue is settled as one that nobody is to have.
 pub fn settle<A: Allocator>(
-    queue: &QueueView<'_>,
+    queue: &QueueView<'_, A>,
     places: &Places<A>,
     copy: &CopyFacts,
     at: BranchNo,
@@ -42,16 +42,16 @@ pub fn settle<A: Allocator>(
 
 /// What is at hand where one copy is settled.
 #[derive(Drop)]
-struct AtHand<'a, 'q> {
+struct AtHand<'a, 'q, A: Allocator> {
     /// The queue of the copy's title.
-    queue: &'a QueueView<'q>,
+    queue: &'a QueueView<'q, A>,
     copy: &'a CopyFacts,
     branch: BranchNo,
     /// The least free place of the branch's hold shelf.
     place: u32,
 }
 
-impl<'a, 'q> Informant for AtHand<'a, 'q> {
+impl<'a, 'q, A: Allocator> Informant for AtHand<'a, 'q, A> {
     ghost use Rattle.std.specs.Prelude.{◌≡◌, []};
     ghost use Rattle.hd_rules.specs.Ask.{outcome};
     ghost use Rattle.hd_allocate.specs.Settling.{AtHand, IsSo};

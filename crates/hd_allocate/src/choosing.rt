@@ -11,6 +11,7 @@ use crate::facts::CopyFacts;
 use hd_date::Day;
 use hd_queue::{QueueView, Waiting};
 use hd_rules::{BranchNo, Hold, choice_is_the_first_candidate};
+use std::alloc::Allocator;
 
 /// The hold that a copy is for, at a branch on a day (docs/desk-rules.md, "Choice"): of the holds of its
 /// title that have no copy, admit this one and haven't expired, the first. They come by stamp; where the
@@ -18,8 +19,8 @@ use hd_rules::{BranchNo, Hold, choice_is_the_first_candidate};
 ///
 /// The queue is that of the copy's title. Of its three lists of holds without a copy, each is gone over until
 /// a hold is found that hasn't expired and, where the title has local priority, is picked up at the branch.
-pub fn choice<'a>(
-    queue: &QueueView<'a>,
+pub fn choice<'a, A: Allocator>(
+    queue: &QueueView<'a, A>,
     copy: &CopyFacts,
     at: BranchNo,
     day: Day,
@@ -37,7 +38,12 @@ pub fn choice<'a>(
 }
 
 /// The first hold of one list.
-fn front<'a>(waiting: Waiting<'a>, priority: bool, at: BranchNo, day: Day) -> Option<&'a Hold>
+fn front<'a, A: Allocator>(
+    waiting: Waiting<'a, A>,
+    priority: bool,
+    at: BranchNo,
+    day: Day,
+) -> Option<&'a Hold>
     ensures { option_copied result ≡ front priority at day waiting.entry }
 {
     let mut first = None;

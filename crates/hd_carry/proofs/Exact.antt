@@ -1,6 +1,7 @@
 -- The obstacles that are told are those that are in the way.
 use Rattle.std.proofs.Common.{◌≡◌, refl, sym, ◌∙◌, subst, ℕ, zero, suc, ◌<◌, ◌≤◌, ◌==◌, ◌⊎◌, ◌↔◌, inl, inr, Bool, true, false, Option}
 use Rattle.std.proofs.Common.{◌+◌, nat_lt, eqb-true, ltb-true, lt-ltb, Some, None, List, [], ◌∷◌, ◌++◌, cond, find, flat_map, arith}
+use Rattle.std.proofs.lemmas.Bool.{cases_lt}
 use Rattle.hd_rules.specs.declared.holds.Hold.{Hold}
 use Rattle.hd_rules.specs.declared.holds.HoldKind.{HoldKind}
 use Rattle.hd_rules.specs.declared.holds.HoldKind.TheVariants.{Any, One, AtBranch}
@@ -23,7 +24,7 @@ use Rattle.hd_carry.specs.declared.obstacle.Obstacle.TheVariants.{MissingOnlyCop
 use Rattle.hd_carry.specs.Obstacles.{number_obstacles, where_lacking, shelf_obstacles, arrival_obstacles, copy_obstacles, kind_obstacles}
 use Rattle.hd_carry.specs.Obstacles.{hold_obstacles, copies_obstacles, titles_obstacles, obstacles}
 use Rattle.hd_carry.specs.InTheWay.{IsLentTo, IsBranchOf, IsOnWay, IsInTheWay}
-use Rattle.hd_carry.proofs.Numbers.{none_hold, below_or_not, below_or_this}
+use Rattle.hd_carry.proofs.Numbers.{none_hold, below_or_this}
 use Rattle.hd_carry.proofs.Queues.{find_first, of_rest_at}
 
 -- of two lists, the first or the second
@@ -276,7 +277,7 @@ module _ (k j : Facts) (r : Renumbering) (d : Desk) (last : ℕ) where
         (of_copy x c k.copies in_c (subst (λ (w : CopyState). IsAmong x (copy_obstacles r c w)) (sym is) told))
 
     by_hold_told : (x : Obstacle) (t p : ℕ) (g : Hold) → d.hold t p ≡ Some g → IsAmong x (hold_obstacles r t g) → IsAmong x every
-    by_hold_told x t p g is told = by_case (below_or_not t k.titles)
+    by_hold_told x t p g is told = by_case (cases_lt t k.titles)
       where
         by_case : (t < k.titles) ⊎ (k.titles ≤ t) → IsAmong x every
         by_case (inl in_t) =

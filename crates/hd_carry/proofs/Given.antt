@@ -1,5 +1,6 @@
 -- A copy that is tied to a hold goes there, and the hold gets it.
 use Rattle.std.proofs.Common.{◌≡◌, refl, sym, ◌∙◌, ap, subst, ℕ, suc, ◌⊎◌, inl, inr, Option, Some, None}
+use Rattle.std.proofs.lemmas.Option.{same_Some}
 use Rattle.hd_rules.specs.declared.holds.Hold.{Hold}
 use Rattle.hd_rules.specs.declared.copies.CopyState.{CopyState}
 use Rattle.hd_rules.specs.declared.copies.CopyState.TheVariants.{Shelf, OnLoan, OnHoldShelf, InTransit}
@@ -11,8 +12,9 @@ use Rattle.hd_rules.specs.Settle.{with_copy}
 use Rattle.hd_rules.specs.Sound.{Has, Tied, Tie}
 use Rattle.hd_rules.specs.Carry.{Renumbering, IsByNames, IsSamePlace, IsSameHold}
 use Rattle.hd_rules.specs.Rows.{Waits, given}
-use Rattle.hd_carry.proofs.Numbers.{one_new, some_hold, same_or_apart, hold_cases, hold_here, hold_there, copy_here, copy_there}
+use Rattle.hd_carry.proofs.Numbers.{one_new, same_or_apart, hold_cases, hold_here, hold_there, copy_here}
 use Rattle.hd_carry.proofs.Numbers.{copy_below, below_other, below_this, below_next_this}
+use Rattle.hd_lemmas.proofs.Rules.{copy_there}
 use Rattle.hd_carry.proofs.Gone.{Came, Went, Gone, hold_below, same_with, copy_as, no_copy}
 use Rattle.hd_carry.proofs.Places.{Each, Placed, present}
 
@@ -107,7 +109,7 @@ module _ (k j : Facts) (r : Renumbering) (d : Desk) (names : IsByNames k j r) (t
       is = to.was;
       same_title = names.title_of n x same ∙ ap (λ (m : ℕ). Some m) one;
       same_patron = to.same_patron ∙ ap (λ (m : ℕ). Some m) two;
-      same = subst (λ (h : Hold). IsSameHold r (hold_below (suc n) to.old) h) (some_hold (with_copy (Some x) to.hold) y is) same_now;
+      same = subst (λ (h : Hold). IsSameHold r (hold_below (suc n) to.old) h) (same_Some (with_copy (Some x) to.hold) y is) same_now;
     }
 
     came_before : (u q : ℕ) (y : Hold) → (j.title_of x ≡ u → to.patron ≡ q → ⊥) → Came r d Each n u q y → Came r d Each (suc n) u q y
@@ -175,7 +177,7 @@ module _ (k j : Facts) (r : Renumbering) (d : Desk) (names : IsByNames k j r) (t
         let patron : p ≡ q =
         names.patrons p q went.patron (to.same_patron ∙ ap (λ (m : ℕ). Some m) one.1) went.same_patron in
         let hold : to.old ≡ g =
-        some_hold to.old g
+        same_Some to.old g
         (sym to.was ∙ subst (λ (m : ℕ). d.hold m p ≡ Some g) (sym title) (subst (λ (m : ℕ). d.hold t m ≡ Some g) (sym patron) is)) in
         subst (λ (m : ℕ). Went r now (suc n) m q g) title
         (subst (λ (m : ℕ). Went r now (suc n) (k.title_of n) m g) patron

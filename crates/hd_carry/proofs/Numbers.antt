@@ -1,16 +1,13 @@
 -- Cells after a write, and numbers.
-use Rattle.std.proofs.Common.{◌≡◌, refl, sym, ◌∙◌, ap, ℕ, suc, ◌<◌, ◌≤◌, ◌⊎◌, inl, inr, Bool, true, false, ◌==◌, ◌&&◌, cond, Option}
+use Rattle.std.proofs.Common.{◌≡◌, refl, sym, ◌∙◌, ap, ℕ, suc, ◌<◌, ◌⊎◌, inl, inr, Bool, true, false, ◌==◌, ◌&&◌, cond, Option}
 use Rattle.std.proofs.Common.{Some, None, nat_lt, eq-eqb, eqb-true, arith}
 use Rattle.std.proofs.lemmas.Bool.{cases_Bool}
 use Rattle.std.proofs.lemmas.Bool.Decides.{nat_tests}
+use Rattle.std.proofs.lemmas.Option.{same_Some}
 use Rattle.hd_rules.specs.declared.holds.Hold.{Hold}
 use Rattle.hd_rules.specs.declared.copies.CopyState.{CopyState}
-
-pub some_number : (x y : ℕ) → Some x ≡ Some y → x ≡ y
-some_number x y e = cc
-
-pub some_hold : (x y : Hold) → Some x ≡ Some y → x ≡ y
-some_hold x y e = cc
+use Rattle.hd_lemmas.proofs.Rules.{copy_cases}
+use Rattle.hd_lemmas.proofs.Tests.{number_not, and_left, and_right, both_true}
 
 pub none_hold : (x : Hold) (o : Option Hold) → o ≡ None → o ≡ Some x → ⊥
 none_hold x o e f = let never : Some x ≡ None = sym f ∙ e in cc
@@ -20,7 +17,7 @@ none_number x o e f = let never : Some x ≡ None = sym f ∙ e in cc
 
 -- one number of a name
 pub one_new : (to : ℕ → Option ℕ) (x y z : ℕ) → to x ≡ Some y → to x ≡ Some z → y ≡ z
-one_new to x y z e f = some_number y z (sym e ∙ f)
+one_new to x y z e f = same_Some y z (sym e ∙ f)
 
 pub is_none_by : (o : Option Hold) → ((h : Hold) → o ≡ Some h → ⊥) → o ≡ None
 is_none_by None never = refl
@@ -44,37 +41,6 @@ below_or_this c n l = elim (cases_Bool (c == n)) [
     differ : {b : Bool} → b ≡ true → b ≡ false → ⊥
     differ t f = cc
 
-pub below_or_not : (a b : ℕ) → (a < b) ⊎ (b ≤ a)
-below_or_not a b = elim (cases_Bool (nat_lt a b)) [
-  | inl t ↦ inl (grind (arith, nat_tests, t))
-  | inr f ↦ inr (grind (arith, nat_tests, f))
-]
-
-pub equal_self : (n : ℕ) → (n == n) ≡ true
-equal_self n = eq-eqb n n refl
-
-pub apart_not : (m n : ℕ) → (m == n) ≡ false → m ≡ n → ⊥
-apart_not m n is e = let t : (m == n) ≡ true = eq-eqb m n e in cc
-
-and_left : (a b : Bool) → (a && b) ≡ true → a ≡ true
-and_left true b h = refl
-and_left false b h = h
-
-and_right : (a b : Bool) → (a && b) ≡ true → b ≡ true
-and_right true b h = h
-and_right false b h = cc
-
-both : (a b : Bool) → a ≡ true → b ≡ true → (a && b) ≡ true
-both a b h g = rw h g
-
--- what the copy c, or another, has after c gets the value s
-pub copy_cases : (P : CopyState → Type 0) (c x : ℕ) (s v : CopyState) → (c ≡ x → P s) → ((c == x) ≡ false → P v) → P (cond (c == x) s v)
-copy_cases P c x s v here there = by_test (c == x) refl
-  where
-    by_test : (b : Bool) → (c == x) ≡ b → P (cond b s v)
-    by_test true is = here (eqb-true c x is)
-    by_test false is = there is
-
 -- what the hold of t and p, or another, is after that one becomes o
 pub hold_cases : (P : Option Hold → Type 0) (t u : ℕ) (p q : ℕ) (o v : Option Hold) → (t ≡ u → p ≡ q → P o)
     → ((t ≡ u → p ≡ q → ⊥) → P v) → P (cond ((t == u) && (p == q)) o v)
@@ -82,13 +48,10 @@ hold_cases P t u p q o v here there = by_test ((t == u) && (p == q)) refl
   where
     by_test : (b : Bool) → ((t == u) && (p == q)) ≡ b → P (cond b o v)
     by_test true is = here (eqb-true t u (and_left _ _ is)) (eqb-true p q (and_right _ _ is))
-    by_test false is = there (λ e f. let yes : ((t == u) && (p == q)) ≡ true = both _ _ (eq-eqb t u e) (eq-eqb p q f) in cc)
+    by_test false is = there (λ e f. let yes : ((t == u) && (p == q)) ≡ true = both_true _ _ (eq-eqb t u e) (eq-eqb p q f) in cc)
 
 pub copy_here : (c x : ℕ) (s v : CopyState) → c ≡ x → cond (c == x) s v ≡ s
-copy_here c x s v e = copy_cases (λ w. w ≡ s) c x s v (λ is. refl) (λ apart. absurd (apart_not c x apart e))
-
-pub copy_there : (c x : ℕ) (s v : CopyState) → (c == x) ≡ false → cond (c == x) s v ≡ v
-copy_there c x s v apart = copy_cases (λ w. w ≡ v) c x s v (λ is. absurd (apart_not c x apart is)) (λ is. refl)
+copy_here c x s v e = copy_cases (λ w. w ≡ s) c x s v (λ is. refl) (λ apart. absurd (number_not c x apart e))
 
 pub hold_here : (t u : ℕ) (p q : ℕ) (o v : Option Hold) → t ≡ u → p ≡ q → cond ((t == u) && (p == q)) o v ≡ o
 hold_here t u p q o v e f = hold_cases (λ w. w ≡ o) t u p q o v (λ i j. refl) (λ apart. absurd (apart e f))
@@ -115,11 +78,11 @@ below_other n (Some c) other = let apart : (c ≡ n → ⊥) = λ e. other (ap (
 
 pub below_this : (n : ℕ) (o : Option ℕ) → o ≡ Some n → copy_below n o ≡ None
 below_this n None is = refl
-below_this n (Some c) is = let same : c ≡ n = some_number c n is in grind (arith, nat_tests, same)
+below_this n (Some c) is = let same : c ≡ n = same_Some c n is in grind (arith, nat_tests, same)
 
 pub below_next_this : (n : ℕ) (o : Option ℕ) → o ≡ Some n → copy_below (suc n) o ≡ Some n
 below_next_this n None is = is
-below_next_this n (Some c) is = let same : c ≡ n = some_number c n is in grind (arith, nat_tests, same)
+below_next_this n (Some c) is = let same : c ≡ n = same_Some c n is in grind (arith, nat_tests, same)
 
 -- one pair of numbers, or two
 pub same_or_apart : (t u p q : ℕ) → ((t ≡ u) × (p ≡ q)) ⊎ (t ≡ u → p ≡ q → ⊥)
@@ -127,5 +90,5 @@ same_or_apart t u p q = by_test (t == u) refl (p == q) refl
   where
     by_test : (a : Bool) → (t == u) ≡ a → (b : Bool) → (p == q) ≡ b → ((t ≡ u) × (p ≡ q)) ⊎ (t ≡ u → p ≡ q → ⊥)
     by_test true one true two = inl (eqb-true t u one, eqb-true p q two)
-    by_test true one false two = inr (λ e f. apart_not p q two f)
-    by_test false one b two = inr (λ e f. apart_not t u one e)
+    by_test true one false two = inr (λ e f. number_not p q two f)
+    by_test false one b two = inr (λ e f. number_not t u one e)

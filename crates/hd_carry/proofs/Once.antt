@@ -20,7 +20,8 @@ use Rattle.hd_carry.specs.Faults.{IsEachOnce}
 use Rattle.hd_carry.specs.Obstacles.{number_obstacles, where_lacking, shelf_obstacles, copy_obstacles}
 use Rattle.hd_carry.specs.Obstacles.{kind_obstacles, hold_obstacles, copies_obstacles, titles_obstacles, obstacles}
 use Rattle.hd_carry.proofs.Exact.{among_two, lacked}
-use Rattle.hd_carry.proofs.Numbers.{none_hold, apart_not}
+use Rattle.hd_carry.proofs.Numbers.{none_hold}
+use Rattle.hd_lemmas.proofs.Tests.{number_not}
 
 -- each of these is so
 abbrev Each : (Obstacle → Type 0) → List Obstacle → Type 0
@@ -161,7 +162,7 @@ module _ (r : Renumbering) where
             each_two (λ x. x ≡ MissingWayEnd t.to c → ⊥) (gone (InTransit t)) (sender t.from)
             (each_lacking (λ x. x ≡ MissingWayEnd t.to c → ⊥) (r.copy c) (MissingCopy c (InTransit t)) (λ e. cc))
             (each_lacking (λ x. x ≡ MissingWayEnd t.to c → ⊥) (r.branch t.from) (MissingWayEnd t.from c)
-            (λ e. apart_not t.to t.from apart (let one : t.from ≡ t.to = cc in sym one)))
+            (λ e. number_not t.to t.from apart (let one : t.from ≡ t.to = cc in sym one)))
 
         by_ends : (same : Bool) → (t.to == t.from) ≡ same → IsEachOnce ((gone (InTransit t) ++ sender t.from) ++ arrival same t.to)
         by_ends true is = subst IsEachOnce (sym (append-nil (gone (InTransit t) ++ sender t.from))) two
@@ -258,7 +259,7 @@ module _ (r : Renumbering) where
         by_patron true same later =
             absurd (none_hold g (Some g) (subst (λ (b : Bool). cond b (Some g) (find (λ h. h.patron == p) queue) ≡ None) same none) refl)
         by_patron false apart later =
-            let other : g.patron ≡ p → ⊥ = apart_not g.patron p apart in
+            let other : g.patron ≡ p → ⊥ = number_not g.patron p apart in
             each_two (λ x. patron_in x ≡ p → ⊥) (hold_obstacles r t g) (flat_map (hold_obstacles r t) queue)
             (each_hold (λ x. patron_in x ≡ p → ⊥) g other other other (λ c. other))
             (later (subst (λ (b : Bool). cond b (Some g) (find (λ h. h.patron == p) queue) ≡ None) apart none))

@@ -1,6 +1,7 @@
 -- The rows of an old desk lead to that desk, carried over.
 use Rattle.std.proofs.Common.{◌≡◌, refl, sym, subst, ℕ, zero, suc, ◌<◌, ◌≤◌, ◌⊎◌, inl, inr, Option, Some, None, List, [], ◌∷◌, ◌++◌}
 use Rattle.std.proofs.Common.{map, filter_map, arith}
+use Rattle.std.proofs.lemmas.Bool.{cases_lt}
 use Rattle.hd_rules.specs.declared.holds.Hold.{Hold}
 use Rattle.hd_rules.specs.declared.holds.HoldKind.{HoldKind}
 use Rattle.hd_rules.specs.declared.holds.HoldKind.TheVariants.{Any, One, AtBranch}
@@ -16,7 +17,7 @@ use Rattle.hd_desk.specs.Asking.{AreQueuesOf}
 use Rattle.hd_carry.specs.CarriedRows.{hold_row, hold_rows, copy_rows, carried_rows}
 use Rattle.hd_carry.specs.Laws.{CarryOver}
 use Rattle.hd_carry.specs.Obstacles.{obstacles, copies_obstacles, titles_obstacles}
-use Rattle.hd_carry.proofs.Numbers.{one_new, none_hold, copy_below, below_all, below_or_not}
+use Rattle.hd_carry.proofs.Numbers.{one_new, none_hold, copy_below, below_all}
 use Rattle.hd_carry.proofs.Rows.{rows_from, rows_append, each_append, AreKnown, known_append, known_all, in_bounds}
 use Rattle.hd_carry.proofs.Gone.{Came, Went, hold_below, same_with, no_copy}
 use Rattle.hd_carry.proofs.Queues.{Numbered, to_row, AreNumbered, Told, holds_told}
@@ -29,7 +30,7 @@ module _ (k j : Facts) (r : Renumbering) (d : Desk) (names : IsByNames k j r) wh
   module _ (known : IsKnownDesk k d) (known_patron : (p q : ℕ) → r.patron p ≡ Some q → p < k.patrons)
       (past : (t p : ℕ) → k.titles ≤ t → d.hold t p ≡ None) where
     title_known : (t p : ℕ) (g : Hold) → d.hold t p ≡ Some g → t < k.titles
-    title_known t p g is = by_case (below_or_not t k.titles)
+    title_known t p g is = by_case (cases_lt t k.titles)
       where
         by_case : (t < k.titles) ⊎ (k.titles ≤ t) → t < k.titles
         by_case (inl l) = l

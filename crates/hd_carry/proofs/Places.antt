@@ -13,8 +13,10 @@ use Rattle.hd_rules.specs.Choose.{is_on_shelf}
 use Rattle.hd_rules.specs.Sound.{Has, Tied, Tie}
 use Rattle.hd_rules.specs.Carry.{Renumbering, IsByNames, IsSamePlace}
 use Rattle.hd_rules.specs.Rows.{EachMayStand}
-use Rattle.hd_carry.proofs.Numbers.{apart_not, not_less, below_or_this, below_next, this_below_next, one_new, none_number}
-use Rattle.hd_carry.proofs.Numbers.{copy_below, below_other, copy_here, copy_there}
+use Rattle.hd_carry.proofs.Numbers.{not_less, below_or_this, below_next, this_below_next, one_new, none_number}
+use Rattle.hd_carry.proofs.Numbers.{copy_below, below_other, copy_here}
+use Rattle.hd_lemmas.proofs.Rules.{copy_there}
+use Rattle.hd_lemmas.proofs.Tests.{number_not}
 use Rattle.hd_carry.proofs.Rows.{rows_from, AreKnown}
 use Rattle.hd_carry.proofs.Gone.{Came, Went, Gone, same_with}
 
@@ -160,7 +162,7 @@ module _ (k j : Facts) (r : Renumbering) (d : Desk) (names : IsByNames k j r) (t
             by_number : (c : ℕ) → r.copy c ≡ Some y → (c < n) ⊎ (c ≡ n) → ⊥
             by_number c at (inl l) = free.none c l at
             by_number c at (inr this) =
-                apart_not x y is (one_new r.copy n x y same (subst (λ (m : ℕ). r.copy m ≡ Some y) this at))
+                number_not x y is (one_new r.copy n x y same (subst (λ (m : ℕ). r.copy m ≡ Some y) this at))
 
         gone : (c : ℕ) → r.copy c ≡ None → (c < n) ⊎ (c ≡ n) → is_on_shelf (d.copy c) ≡ true
         gone c at (inl l) = state.gone c l at

@@ -1,6 +1,7 @@
 -- The rows of all holds, title by title.
 use Rattle.std.proofs.Common.{◌≡◌, refl, sym, ◌∙◌, ap, subst, ℕ, zero, suc, ◌<◌, ◌≤◌, ◌==◌, ◌⊎◌, inl, inr, Bool, true, false, cond}
 use Rattle.std.proofs.Common.{Some, None, List, [], ◌∷◌, ◌++◌, map, find, filter_map, eqb-true, arith}
+use Rattle.std.proofs.lemmas.Bool.{cases_lt}
 use Rattle.hd_rules.specs.declared.holds.Hold.{Hold}
 use Rattle.hd_rules.specs.declared.rows.OpeningRow.{OpeningRow}
 use Rattle.hd_rules.specs.declared.rows.OpeningRow.TheVariants as row
@@ -13,7 +14,8 @@ use Rattle.hd_rules.specs.Settle.{with_copy}
 use Rattle.hd_queue.specs.Holds.{HasPatronsOnce}
 use Rattle.hd_desk.specs.Asking.{IsQueueOf, AreQueuesOf}
 use Rattle.hd_carry.specs.CarriedRows.{hold_row, hold_rows}
-use Rattle.hd_carry.proofs.Numbers.{none_hold, not_less, below_or_not, below_or_this, below_next, this_below_next, equal_self}
+use Rattle.hd_carry.proofs.Numbers.{none_hold, not_less, below_or_this, below_next, this_below_next}
+use Rattle.hd_lemmas.proofs.Tests.{number_self}
 use Rattle.hd_carry.proofs.Rows.{rows_from, row_from, rows_append, each_append}
 use Rattle.hd_carry.proofs.Gone.{Gone, retold}
 use Rattle.hd_carry.proofs.Waiting.{Also, may_wait, more_gone}
@@ -43,7 +45,7 @@ pub record Told (j : Facts) (r : Renumbering) (d : Desk) (n : ℕ) (Which : ℕ 
   pub copies : (x : ℕ) → (rows_from j e rows).copy x ≡ e.copy x
 
 pub find_first : (g : Hold) (rest : List Hold) → find (λ h. h.patron == g.patron) (g ∷ rest) ≡ Some g
-find_first g rest = rw (equal_self g.patron) refl
+find_first g rest = rw (number_self g.patron) refl
 
 -- who has a hold in the rest of a queue has it of the title
 pub of_rest_at : (d : Desk) (t : ℕ) (g : Hold) (rest : List Hold) → find (λ h. h.patron == g.patron) rest ≡ None
@@ -179,7 +181,7 @@ module _ (k j : Facts) (r : Renumbering) (d : Desk) (n : ℕ) (names : IsByNames
         }
       where
         within : (t p : ℕ) (g : Hold) → d.hold t p ≡ Some g → t < k.titles
-        within t p g is = by_case (below_or_not t k.titles)
+        within t p g is = by_case (cases_lt t k.titles)
           where
             by_case : (t < k.titles) ⊎ (k.titles ≤ t) → t < k.titles
             by_case (inl l) = l

@@ -5,7 +5,7 @@ use Rattle.hd_rules.specs.Carry.{IsByNames}
 use Rattle.hd_catalogue.specs.Contents.{Contents, facts_of, branch_name, title_name, copy_name, patron_name}
 use Rattle.hd_catalogue.specs.Contents.{branch_number, title_number, copy_number, patron_number}
 use Rattle.hd_carry.specs.ByNames.{is_number, new_title, new_copy, by_names, HasDistinctNames, IsRenumbering}
-use Rattle.hd_carry.proofs.Numbers.{some_number}
+use Rattle.std.proofs.lemmas.Option.{same_Some}
 use Rattle.hd_carry.proofs.Found.{Renamed, renamed, one_to_one, in_range, never_some}
 
 number_is : (o : Option ℕ) (n : ℕ) → is_number o n ≡ true → o ≡ Some n
@@ -35,7 +35,7 @@ module _ (old new : Contents) (distinct : HasDistinctNames old) where
               → cond b (Some y) None ≡ Some x → IsThere c x
           by_title false other same = absurd (never_some x same)
           by_title true title same =
-              let one : y ≡ x = some_number y x same in
+              let one : y ≡ x = same_Some y x same in
               record {
                 copy = copy_there c x (at ∙ same);
                 title = subst (λ (z : ℕ). new_title old new ((facts_of old).title_of c) ≡ Some ((facts_of new).title_of z)) one

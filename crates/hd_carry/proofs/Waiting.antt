@@ -1,5 +1,6 @@
 -- A hold's row may stand, and puts the hold there.
 use Rattle.std.proofs.Common.{◌≡◌, refl, sym, ◌∙◌, ap, subst, ℕ, ◌<◌, ◌⊎◌, inl, inr, Some, None}
+use Rattle.std.proofs.lemmas.Option.{same_Some}
 use Rattle.hd_rules.specs.declared.holds.Hold.{Hold}
 use Rattle.hd_rules.specs.declared.cells.Cell.TheVariants.{Hold as HoldCell}
 use Rattle.hd_rules.specs.declared.cells.Value.TheVariants.{Hold as HoldHas}
@@ -9,7 +10,7 @@ use Rattle.hd_rules.specs.Sound.{HoldsFit}
 use Rattle.hd_rules.specs.Carry.{Renumbering, IsByNames, IsSameHold}
 use Rattle.hd_rules.specs.Rows.{MayWait}
 use Rattle.hd_rules.specs.Settle.{with_copy}
-use Rattle.hd_carry.proofs.Numbers.{copy_below, below_zero, some_hold, is_none_by, hold_cases, hold_here, hold_there}
+use Rattle.hd_carry.proofs.Numbers.{copy_below, below_zero, is_none_by, hold_cases, hold_here, hold_there}
 use Rattle.hd_carry.proofs.Gone.{hold_below, Came, Went, Gone, same_with, no_copy}
 
 -- this one too
@@ -59,7 +60,7 @@ module _ (k j : Facts) (r : Renumbering) (d : Desk) (n : ℕ) (names : IsByNames
     is = is;
     same_title = title ∙ ap (λ (y : ℕ). Some y) e;
     same_patron = patron_is ∙ ap (λ (y : ℕ). Some y) f;
-    same = subst (λ (y : Hold). IsSameHold r (hold_below 0 g) y) (some_hold h x is_x) same_so_far;
+    same = subst (λ (y : Hold). IsSameHold r (hold_below 0 g) y) (same_Some h x is_x) same_so_far;
   }
 
   came_before : (v q : ℕ) (x : Hold) → Came r d Told 0 v q x → Came r d (Also Told t p) 0 v q x
@@ -84,7 +85,7 @@ module _ (k j : Facts) (r : Renumbering) (d : Desk) (n : ℕ) (names : IsByNames
     same_patron = subst (λ (y : ℕ). r.patron y ≡ Some h.patron) (sym two) patron_is;
     is = hold_here u u h.patron h.patron (Some h) (e.hold u h.patron) refl refl;
     same = subst (λ (y : Hold). IsSameHold r (hold_below 0 y) h)
-        (some_hold g x (sym is ∙ subst (λ (y : ℕ). d.hold y p ≡ Some x) one (subst (λ (y : ℕ). d.hold v y ≡ Some x) two at)))
+        (same_Some g x (sym is ∙ subst (λ (y : ℕ). d.hold y p ≡ Some x) one (subst (λ (y : ℕ). d.hold v y ≡ Some x) two at)))
         same_so_far;
   }
 

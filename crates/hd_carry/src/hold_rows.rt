@@ -33,7 +33,7 @@ pub(crate) fn add_hold_rows<A: Allocator + Copy>(
 fn add_queue_rows<A: Allocator + Copy>(
     numbers: &NewNumbers<A>,
     title: TitleNo,
-    holds: HoldSlices<'_>,
+    holds: HoldSlices<'_, A>,
     rows: &mut Vec<OpeningRow, A>,
 ) -> Result<(), AllocError>
     ensures { OnOk result (rows.new.items

@@ -159,7 +159,7 @@ pub(crate) fn add_at_titles<A: Allocator + Copy>(
 fn add_at_queue<A: Allocator + Copy>(
     numbers: &NewNumbers<A>,
     title: TitleNo,
-    holds: HoldSlices<'_>,
+    holds: HoldSlices<'_, A>,
     obstacles: &mut Vec<Obstacle, A>,
 ) -> Result<(), AllocError>
     ensures { OnOk result (obstacles.new.items

@@ -1,54 +1,22 @@
 -- Desks that differ by some changes go on to do so where a command is answered alike at both.
-use Rattle.std.proofs.Common.{◌≡◌, refl, sym, ◌∙◌, ap, subst, Bool, true, false, List, [], ◌∷◌, inl, inr, Result, Ok, Err}
+use Rattle.std.proofs.Common.{◌≡◌, refl, sym, ◌∙◌, subst, List, [], ◌∷◌, inl, inr, Result, Ok, Err}
 use Rattle.hd_rules.specs.declared.cells.Change.{Change}
 use Rattle.hd_rules.specs.declared.commands.Survivor.{Survivor}
 use Rattle.hd_rules.specs.declared.replies.Refusal.{Refusal}
 use Rattle.hd_rules.specs.Facts.{Facts}
-use Rattle.hd_rules.specs.Desk.{Desk, value, same_cell, put, after}
+use Rattle.hd_rules.specs.Desk.{Desk, value, put, after}
 use Rattle.hd_rules.specs.Ask.{Done}
 use Rattle.hd_rules.specs.Step.{plan}
-use Rattle.hd_rules.specs.Run.{IsAmong, outcome_of, changed_by, step, AreChanges, Elsewhere}
+use Rattle.hd_rules.specs.Run.{IsAmong, outcome_of, changed_by, step, AreChanges}
 use Rattle.hd_rules.specs.Depends.{AnsweredAlike}
-use Rattle.hd_rules.specs.Differ.{DifferAt, DifferAtEach, DifferBy}
+use Rattle.hd_rules.specs.Differ.{DifferAtEach, DifferBy}
 use Rattle.hd_clash.specs.Rules.{Rules}
-use Rattle.hd_lemmas.proofs.Rules.{put_same, same_cell_is, same_cell_refl, after_alike, after_elsewhere}
+use Rattle.hd_lemmas.proofs.Rules.{EachSame, put_same, same_cell_refl, after_elsewhere, differ_after}
 
--- each of these changes is of a cell that is the same at both desks
-abbrev AreAlike : Desk → Desk → List Change → Type 0
-AreAlike d e gs = (g : Change) → IsAmong g gs → value d g.cell ≡ value e g.cell
-
--- so it is of none in which they differ
-two_cells : (d e : Desk) (c g : Change) → DifferAt d e c → value d g.cell ≡ value e g.cell → (b : Bool) → same_cell g.cell c.cell ≡ b
-    → b ≡ false
-two_cells d e c g kept same false is = refl
-two_cells d e c g kept same true is =
-    let at : g.cell ≡ c.cell = same_cell_is g.cell c.cell is in
-    absurd (kept.differ (sym kept.old ∙ ap (value e) (sym at) ∙ sym same ∙ ap (value d) at ∙ kept.new))
-
-elsewhere : (d e : Desk) (c : Change) (gs : List Change) → DifferAt d e c → AreAlike d e gs → Elsewhere c.cell gs
-elsewhere d e c [] kept same = tt
-elsewhere d e c (g ∷ gs) kept same = (
-  two_cells d e c g kept (same g (inl refl)) (same_cell g.cell c.cell) refl,
-  elsewhere d e c gs kept (λ x among. same x (inr among)),
-)
-
-each_differs : (d e : Desk) (cs gs : List Change) → DifferAtEach d e cs → AreAlike d e gs → DifferAtEach (after gs d) (after gs e) cs
-each_differs d e [] gs kept same = tt
-each_differs d e (c ∷ cs) gs kept same =
-    let apart : Elsewhere c.cell gs = elsewhere d e c gs kept.0 same in (
-      record {
-        new = after_elsewhere gs d c.cell apart ∙ kept.0.new;
-        old = after_elsewhere gs e c.cell apart ∙ kept.0.old;
-        differ = kept.0.differ;
-      },
-      each_differs d e cs gs kept.1 same,
-    )
-
-differ_after : (d e : Desk) (cs gs : List Change) → DifferBy cs d e → AreAlike d e gs → DifferBy cs (after gs d) (after gs e)
-differ_after d e cs gs h same = record {
-  elsewhere = λ y apart. after_alike gs d e y (h.elsewhere y apart);
-  each = each_differs d e cs gs h.each same;
-}
+-- what is the same at both desks for each of these changes
+each_same : (d e : Desk) (gs : List Change) → ((g : Change) → IsAmong g gs → value d g.cell ≡ value e g.cell) → EachSame d e gs
+each_same d e [] same = tt
+each_same d e (g ∷ gs) same = (same g (inl refl), each_same d e gs (λ x among. same x (inr among)))
 
 -- each has its new value once the changes are made
 each_made : (d e : Desk) (cs : List Change) → AreChanges cs → ((c : Change) → IsAmong c cs → value e c.cell ≡ c.old)
@@ -75,8 +43,8 @@ module _ (rules : Rules) (k : Facts) where
   differ_ended : (d e : Desk) (cs : List Change) (s : Survivor) → DifferBy cs d e → outcome_of k e s ≡ outcome_of k d s
       → (r : Result Done Refusal) → outcome_of k d s ≡ r → DifferBy cs (changed_by r d) (changed_by r e)
   differ_ended d e cs s h same (Err r) is = h
-  differ_ended d e cs s h same (Ok done) is = differ_after d e cs done.changes h (λ g among.
-      (rules.answers.written k d s.number s.command done is g among).1 ∙ sym (rules.answers.written k e s.number s.command done (same ∙ is) g among).1)
+  differ_ended d e cs s h same (Ok done) is = differ_after d e cs done.changes h (each_same d e done.changes (λ g among.
+      (rules.answers.written k d s.number s.command done is g among).1 ∙ sym (rules.answers.written k e s.number s.command done (same ∙ is) g among).1))
 
   -- after a command that is answered alike at two desks they differ as before
   pub differ_on : (d e : Desk) (cs : List Change) (s : Survivor) → DifferBy cs d e → AnsweredAlike k d e (plan k s.number s.command)

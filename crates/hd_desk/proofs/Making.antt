@@ -27,7 +27,8 @@ use Rattle.hd_inverse.specs.Cells.{AreApart, AreKnownChanges, HaveRoom, MayHave}
 use Rattle.hd_inverse.specs.Work.{after_writes}
 use Rattle.hd_desk.specs.Cells.{HasRoomFor}
 use Rattle.hd_desk.specs.Rooms.{fewer}
-use Rattle.hd_desk.proofs.Writing.{copy-welcome, hold-welcome, drop_at, two-cells}
+use Rattle.hd_desk.proofs.Writing.{copy-welcome, hold-welcome, drop_at}
+use Rattle.hd_lemmas.proofs.Rules.{apart_sym}
 
 -- what a desk's cells ask of a write
 pub put-copy : (d : DeskValue) (cell : Cell) (v : Value) (c : ℕ) (s : CopyState) → cell ≡ CopyCell c → v ≡ CopyHas s →
@@ -52,8 +53,8 @@ room-left : (d e : DeskValue) (n : ℕ) (y : Cell) (cs : List Change) →
     HaveRoom (HasRoomFor d) (n + 1) cs → HaveRoom (HasRoomFor e) n cs
 room-left d e n y [] goes there room = tt
 room-left d e n y (c ∷ cs) goes there room = (
-  goes c.cell c.old n (two-cells c.cell y there.0) room.0,
-  goes c.cell c.new n (two-cells c.cell y there.0) room.1,
+  goes c.cell c.old n (apart_sym c.cell y there.0) room.0,
+  goes c.cell c.new n (apart_sym c.cell y there.0) room.1,
   room-left d e n y cs goes there.1 room.2,
 )
 

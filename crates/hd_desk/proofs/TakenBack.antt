@@ -17,8 +17,8 @@ use Rattle.hd_rules.specs.Sound.{EachBackIsFit, EachOnIsFit, IsFit, Sound}
 use Rattle.hd_rules.specs.Step.{plan}
 use Rattle.hd_inverse.specs.Cells.{AreKnownChanges, CanBeUndone}
 use Rattle.hd_desk.specs.Laws.{CommandLaws}
-use Rattle.hd_desk.proofs.Writing.{are-apart, two-cells}
-use Rattle.hd_lemmas.proofs.Rules.{copy_inj, hold_inj, put_elsewhere}
+use Rattle.hd_desk.proofs.Writing.{are-apart}
+use Rattle.hd_lemmas.proofs.Rules.{apart_sym, copy_inj, hold_inj, put_elsewhere}
 
 -- what a cell had, put there again
 copy-again : (d : Desk) (c x : ℕ) (old new : CopyState) → d.copy c ≡ old → cond (c == x) old (cond (c == x) new (d.copy x)) ≡ d.copy x
@@ -65,7 +65,7 @@ are-from d (c ∷ cs) old = (old c (inl refl), are-from d cs (λ x among. old x 
 from-next : (d : Desk) (x : Cell) (v : Value) (cs : List Change) → Elsewhere x cs → AreFrom d cs → AreFrom (put d x v) cs
 from-next d x v [] apart from = tt
 from-next d x v (c ∷ cs) apart from =
-    (put_elsewhere d x v c.cell (two-cells c.cell x apart.0) ∙ from.0, from-next d x v cs apart.1 from.1)
+    (put_elsewhere d x v c.cell (apart_sym c.cell x apart.0) ∙ from.0, from-next d x v cs apart.1 from.1)
 
 -- made one after another and taken back, the last one first, they leave the desk as it was
 back-where : (d : Desk) (cs : List Change) → AreChanges cs → AreFrom d cs → take_back cs (after cs d) ≡ d

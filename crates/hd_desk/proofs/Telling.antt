@@ -17,7 +17,7 @@ use Rattle.hd_rules.specs.Known.{IsKnownDesk, IsKnownHold, IsKnownRow, IsKnownSt
 use Rattle.hd_rules.specs.Laws.{RowsTellASoundDesk}
 use Rattle.hd_rules.specs.Rows.{EachMayStand, IsInBounds, MayKeep, MayStand, given, kept_at, sent_from, with_row, with_rows}
 use Rattle.hd_rules.specs.Settle.{with_copy}
-use Rattle.hd_rules.specs.Sound.{IsFit, Sound}
+use Rattle.hd_rules.specs.Sound.{Sound}
 use Rattle.hd_catalogue.specs.Contents.{Contents, facts_of}
 use Rattle.hd_copies.specs.CopiesValue.{CopiesValue}
 use Rattle.hd_copies.specs.Standing.{IsFree, StandsAt, standing}
@@ -25,14 +25,7 @@ use Rattle.hd_inverse.specs.Cells.{IsFromOne}
 use Rattle.hd_desk.specs.Rows.{AreTold, CanBeGiven, IsPair}
 use Rattle.hd_desk.specs.DeskValue.{DeskValue}
 use Rattle.hd_desk.specs.Desks.{Opens, contents, desk_of, facts}
-use Rattle.hd_lemmas.proofs.Rules.{later_sound}
-
--- a sound desk is fit
-pub fit-of : (k : Facts) (n : ℕ) (d : Desk) → Sound k n d → IsFit k d
-fit-of k n d sound = record { named = sound.holds.named; stamps = sound.holds.apart; places = sound.places }
-
-one-hold : (g h : Hold) → Some g ≡ Some h → g ≡ h
-one-hold g h e = cc
+use Rattle.hd_lemmas.proofs.Rules.{later_sound, sound_is_fit}
 
 -- why a row may not stand
 
@@ -65,7 +58,7 @@ can-give k n d c p state h in_c in_t in_p known from hold sound both = record {
     from_one = tt;
   };
   first = record { named = sound.holds.named; stamps = sound.holds.apart; places = both.places };
-  both = fit-of k n _ both;
+  both = sound_is_fit k n _ both;
 }
 
 -- no copy stands at a place where none is found

@@ -12,7 +12,7 @@ use Rattle.hd_rules.specs.declared.cells.Value.{Value}
 use Rattle.hd_rules.specs.declared.cells.Value.TheVariants.{Copy as CopyHas, Hold as HoldHas}
 use Rattle.hd_rules.specs.declared.cells.Change.{Change}
 use Rattle.hd_rules.specs.Facts.{Facts}
-use Rattle.hd_rules.specs.Desk.{Desk, put, same_cell, value}
+use Rattle.hd_rules.specs.Desk.{Desk, put, value}
 use Rattle.hd_rules.specs.Choose.{stands_at}
 use Rattle.hd_rules.specs.Known.{IsKnownCell, IsKnownValue, IsKnownDesk}
 use Rattle.hd_rules.specs.Run.{IsAmong, AreChanges, Fits}
@@ -22,14 +22,11 @@ use Rattle.hd_rules.specs.Laws.{TestsAreExact}
 use Rattle.hd_copies.specs.Standing.{IsWelcome}
 use Rattle.hd_holds.specs.Held.{IsWelcome as IsWelcomeHold}
 use Rattle.hd_inverse.specs.Cells.{AreApart, AreKnownChanges, IsFromOne, MayHave}
-use Rattle.hd_lemmas.proofs.Tests.{turned}
+use Rattle.hd_lemmas.proofs.Rules.{copy_there}
 
 -- what is put in a copy's cell is there
 here : (c : ℕ) (s v : CopyState) → cond (c == c) s v ≡ s
 here c s v = rw (eq-eqb c c refl) refl
-
-there : (c x : ℕ) (s v : CopyState) → (c == x) ≡ false → cond (c == x) s v ≡ v
-there c x s v other = rw other refl
 
 pub at-place : (b place : ℕ) (v : CopyState) → stands_at b place v ≡ true → (r : HoldPlace) × (v ≡ OnHoldShelf r) × (b ≡ r.branch)
     × (place ≡ r.place)
@@ -60,7 +57,7 @@ copy-welcome k d c (OnHoldShelf s) below fit = record {
         at-place s.branch s.place (d.copy x) is in
         let same : c ≡ x =
         fit.places.apart c x s r.0 below in_x (here c (OnHoldShelf s) (d.copy c))
-        (there c x (OnHoldShelf s) (d.copy x) (not-same c x other) ∙ r.1) r.2 r.3 in
+        (copy_there c x (OnHoldShelf s) (d.copy x) (not-same c x other) ∙ r.1) r.2 r.3 in
         absurd (other (sym same))
 
 hold-here : (t p : ℕ) (o v : Option Hold) → cond ((t == t) && (p == p)) o v ≡ o
@@ -144,10 +141,3 @@ drop_at cs i c below is = drop_from cs i c below ∙ ap (λ (x : Change). x ∷ 
 -- values that the test tells apart
 pub are-two : TestsAreExact → (v w : Value) (r : Bool) → r ≡ same_value v w → r ≡ false → v ≢ w
 are-two exact v w r test is same = let yes : r ≡ true = test ∙ (exact.values v w).1 same in cc
-
--- cells that are two, whichever comes first
-pub two-cells : (x y : Cell) → same_cell x y ≡ false → same_cell y x ≡ false
-two-cells (CopyCell c) (CopyCell x) two = turned x c ∙ two
-two-cells (CopyCell c) (HoldCell u q) two = refl
-two-cells (HoldCell t p) (CopyCell x) two = refl
-two-cells (HoldCell t p) (HoldCell u q) two = (λ i. turned u t i && turned q p i) ∙ two

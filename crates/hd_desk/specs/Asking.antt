@@ -6,6 +6,7 @@ use Rattle.hd_rules.specs.declared.holds.Hold.{Hold}
 use Rattle.hd_rules.specs.declared.questions.Finding.{Finding}
 use Rattle.hd_rules.specs.declared.cells.Change.{Change}
 use Rattle.hd_rules.specs.declared.replies.Refusal.{Refusal}
+use Rattle.hd_rules.specs.declared.replies.Reply.{Reply}
 use Rattle.hd_rules.specs.Facts.{Facts}
 use Rattle.hd_rules.specs.Desk.{Desk}
 use Rattle.hd_rules.specs.Ask.{Plan, Ask, Refuse, Accept, Done, answer}
@@ -29,6 +30,11 @@ abbrev pub ending : Facts → Desk → Plan → List Question → Result Done Re
 ending k d (Ask q rest) asked = ending k d (rest (answer k d q)) (asked ++ q ∷ [])
 ending k d (Refuse r) asked = (Err r, asked)
 ending k d (Accept done) asked = (Ok done, asked)
+
+-- what is told of a command, with its changes where it is accepted
+abbrev pub told_with : List Change → Result Reply Refusal → Result Done Refusal
+told_with changes (Ok reply) = Ok (record { changes = changes; reply = reply })
+told_with changes (Err refusal) = Err refusal
 
 -- where it leads from here
 abbrev pub ending_of : InquiryValue → Plan → Result Done Refusal × List Question

@@ -57,7 +57,7 @@ impl<A: Allocator + Copy> Desk<A> {
     }
 
     /// The title's queue.
-    pub fn queue(&self, title: TitleNo) -> QueueView<'_>
+    pub fn queue(&self, title: TitleNo) -> QueueView<'_, A>
         requires { title < (facts self.now).titles }
         ensures queue { IsQueueOf (facts self.now) (desk_of self.now) title result }
         ensures value { result ≡ queues_of self.now title }

@@ -11,14 +11,13 @@ ghost use Rattle.hd_rules.specs.Step.{plan};
 ghost use Rattle.hd_footprint.specs.Meter.{with_one_more};
 ghost use Rattle.hd_footprint.specs.declared.count.Count.TheVariants.{Step};
 ghost use Rattle.hd_desk.specs.Accepting.{IsAccepted};
-ghost use Rattle.hd_desk.specs.Asking.{ending_of};
+ghost use Rattle.hd_desk.specs.Asking.{ending_of, told_with};
 ghost use Rattle.hd_inverse.specs.Cells.{CanBeUndone};
 ghost use Rattle.hd_inverse.specs.Work.{after_writes};
 ghost use Rattle.hd_desk.specs.Cells.{IsShortOfRoom};
 ghost use Rattle.hd_desk.specs.Desks.{contents, desk_of, facts, outcome_at};
 ghost use Rattle.hd_desk.specs.Telling.{IsItsOutcome};
 
-use crate::accepted::Accepted;
 use crate::desk::Desk;
 use crate::done::Done;
 use crate::holding::Wishes;
@@ -26,16 +25,16 @@ use crate::inquiry::Inquiry;
 use crate::laws::laws;
 use crate::lending::Lending;
 use crate::refused::Refused;
-use hd_footprint::{Count, Meter};
+use hd_footprint::{Count, Footprint, Meter};
 use hd_inverse::Cells;
-use hd_rules::{Action, Command, Hold, Refusal};
+use hd_rules::{Action, Command, Hold, Refusal, Reply};
 use std::alloc::Allocator;
 
 impl<A: Allocator + Copy> Desk<A> {
     /// Does a command. Its number is above every stamp of the desk, and what it names is of the desk's
     /// catalogue.
     ///
-    /// Want of memory comes after every refusal, and only where `ready` would lack room for the changes.
+    /// Out of memory comes after every refusal, and only where `ready` would lack room for the changes.
     /// Neither changes anything but the meter. That counts one command step, and one cell written per change.
     ///
     /// The changes can be taken back at once ([`undo`](hd_inverse::undo)), and then the desk is as before.
@@ -84,12 +83,12 @@ impl<A: Allocator + Copy> Desk<A> {
     {
         laws();
         let mut inquiry = Inquiry::new(self);
-        let accepted = inquiry.follow(number, command)?;
+        let mut footprint = Footprint::new();
+        let reply = inquiry.follow(number, command, &mut footprint)?;
         let findings = inquiry.into_findings();
-        let Accepted { changes, reply } = accepted;
         Ok(Done {
             reply,
-            changes,
+            changes: footprint,
             findings,
         })
     }
@@ -97,11 +96,17 @@ impl<A: Allocator + Copy> Desk<A> {
 
 impl<'a, A: Allocator + Copy> Inquiry<'a, A> {
     /// Follows the command, question by question, to its end. Nothing was asked before.
-    pub(crate) fn follow(&mut self, number: u64, command: &Command) -> Result<Accepted, Refusal>
+    pub(crate) fn follow(
+        &mut self,
+        number: u64,
+        command: &Command,
+        footprint: &mut Footprint,
+    ) -> Result<Reply, Refusal>
         requires known { IsKnownAction (facts self.old.desk) command.now.action }
         requires none { self.old.asked ≡ [] }
+        requires empty { footprint.old ≡ [] }
         ensures desk { self.new.desk ≡ self.old.desk }
-        ensures ends { (result, self.new.asked)
+        ensures ends { (told_with footprint.new result, self.new.asked)
             ≡ ending_of self.old (plan (facts self.old.desk) number command.now) }
     {
         let day = command.day;
@@ -118,10 +123,12 @@ impl<'a, A: Allocator + Copy> Inquiry<'a, A> {
                     day,
                 };
                 let old = self.copy(copy);
-                self.checkout(&message, may_renew, &old)
+                self.checkout(&message, may_renew, &old, footprint)
             }
-            Action::OffLine { patron, copy, due } => self.off_line(number, patron, copy, due),
-            Action::Checkin { copy, branch } => self.checkin(number, copy, branch, day),
+            Action::OffLine { patron, copy, due } => self.off_line(
+                number, patron, copy, due, footprint,
+            ),
+            Action::Checkin { copy, branch } => self.checkin(number, copy, branch, day, footprint),
             Action::Add {
                 patron,
                 title,
@@ -138,11 +145,11 @@ impl<'a, A: Allocator + Copy> Inquiry<'a, A> {
                     copy: None,
                 };
                 let held = self.hold(title, patron);
-                self.add(title, &hold, day, &held)
+                self.add(title, &hold, day, &held, footprint)
             }
             Action::Delete { patron, title } => {
                 let held = self.hold(title, patron);
-                self.delete(number, title, patron, day, &held)
+                self.delete(number, title, patron, day, &held, footprint)
             }
             Action::Change {
                 patron,
@@ -157,7 +164,7 @@ impl<'a, A: Allocator + Copy> Inquiry<'a, A> {
                     expiry,
                 };
                 let held = self.hold(title, patron);
-                self.change(number, title, patron, &wishes, day, &held)
+                self.change(number, title, patron, &wishes, day, &held, footprint)
             }
             Action::Renewal { patron, copy } => {
                 let message = Lending {
@@ -167,7 +174,7 @@ impl<'a, A: Allocator + Copy> Inquiry<'a, A> {
                     day,
                 };
                 let old = self.copy(copy);
-                self.renew(&message, &old)
+                self.renew(&message, &old, footprint)
             }
         }
     }

@@ -54,7 +54,7 @@ impl<A: Allocator + Copy> Cells for Desk<A> {
 }
 
 impl<A: Allocator + Copy> Desk<A> {
-    /// The cell gets this value, once there is room for it. Want of memory changes no cell.
+    /// The cell gets this value, once there is room for it. Out of memory, no cell changes.
     pub(crate) fn fill(&mut self, cell: Cell, value: Value) -> Result<(), AllocError>
         requires known { MayHave (facts self.old) cell value }
         requires fit { IsFit (facts self.old) (put (desk_of self.old) cell value) }

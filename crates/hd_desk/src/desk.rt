@@ -29,9 +29,6 @@ use std::sync::Arc;
 pub struct Desk<A: Allocator = Global> {
     pub(crate) copies: Copies<A>,
     pub(crate) holds: Holds<A>,
-    /// Stands in lists of at most four changes or questions, which are kept in place. It is never asked for
-    /// memory.
-    pub(crate) inline: Global,
 }
 
 // Written out, so that a caller's proof sees one call and not the drop of each field.
@@ -40,7 +37,6 @@ impl<A: Allocator> Drop for Desk<A> {
         let Desk {
             copies: _copies,
             holds: _holds,
-            inline: _inline,
         } = self;
     }
 }
@@ -64,17 +60,10 @@ impl<A: Allocator + Copy> Desk<A> {
     /// catalogue's opening rows say, one after another. It is sound, with the first number that a command is
     /// given or any above it.
     ///
-    /// `inline` is never asked for memory: it stands in lists of at most four changes, which are kept in
-    /// place.
-    ///
     /// # Errors
     /// `Row` for the first row that may not stand behind those before it, and why; `Memory`. Without rows it
     /// can only be `Memory`.
-    pub fn open(
-        alloc: A,
-        inline: Global,
-        catalogue: Arc<Catalogue<A>, A>,
-    ) -> Result<Desk<A>, OpenFault>
+    pub fn open(alloc: A, catalogue: Arc<Catalogue<A>, A>) -> Result<Desk<A>, OpenFault>
         ensures contents { IfOk result (λ desk. contents desk ≡ arc_value catalogue) }
         ensures opening { IfOk result (λ desk. desk_of desk ≡ (facts_of (arc_value catalogue)).opening.desk) }
         ensures opens { IfOk result (λ desk. Opens (facts desk)) }
@@ -85,27 +74,19 @@ impl<A: Allocator + Copy> Desk<A> {
         ensures fresh { (arc_value catalogue).opening.rows ≡ [] → IfErr result (λ fault. fault ≡ Memory) }
     {
         known_rows_tell_a_known_desk();
-        let mut desk = Desk::at_home(alloc, inline, Arc::try_clone(&catalogue)?)?;
+        let mut desk = Desk::at_home(alloc, Arc::try_clone(&catalogue)?)?;
         desk.put_rows(catalogue.opening())?;
         Ok(desk)
     }
 
     /// Each copy at home, and no holds.
-    fn at_home(
-        alloc: A,
-        inline: Global,
-        catalogue: Arc<Catalogue<A>, A>,
-    ) -> Result<Desk<A>, AllocError>
+    fn at_home(alloc: A, catalogue: Arc<Catalogue<A>, A>) -> Result<Desk<A>, AllocError>
         ensures contents { IfOk result (λ desk. contents desk ≡ arc_value catalogue) }
         ensures desk { IfOk result (λ desk. desk_of desk ≡ at_home (facts_of (arc_value catalogue)).home) }
     {
         let copies = Copies::open(alloc, Arc::try_clone(&catalogue)?)?;
         let holds = Holds::open(alloc, catalogue)?;
-        Ok(Desk {
-            copies,
-            holds,
-            inline,
-        })
+        Ok(Desk { copies, holds })
     }
 
     /// The catalogue.

@@ -1,7 +1,7 @@
 //! Holds added, deleted and changed (docs/desk-rules.md, "Hold add", "Hold delete" and "Hold change").
 #![tactic(auto)]
 
-ghost use Rattle.std.specs.Prelude.{◌≡◌, ◌<◌, ◌≤◌, ◌++◌, ℕ, Option, Some, None, List, length};
+ghost use Rattle.std.specs.Prelude.{◌≡◌, ◌<◌, ◌≤◌, ◌++◌, [], ℕ, Option, Some, None, List, length};
 ghost use Rattle.hd_rules.specs.declared.cells.Change.{Change};
 ghost use Rattle.hd_rules.specs.declared.replies.Reply.TheVariants.{Held};
 ghost use Rattle.hd_rules.specs.Ask.{Plan};
@@ -9,12 +9,13 @@ ghost use Rattle.hd_rules.specs.Known.{IsKnownHeld, IsKnownState};
 ghost use Rattle.hd_rules.specs.Step.{add, change, change_to, changed_hold as as_changed, delete};
 ghost use Rattle.hd_rules.specs.Step.{delete_with};
 ghost use Rattle.hd_rules.specs.Step.{release};
-ghost use Rattle.hd_desk.specs.Asking.{ending_of, as_list};
+ghost use Rattle.hd_desk.specs.Asking.{ending_of, as_list, told_with};
 ghost use Rattle.hd_desk.specs.Desks.{facts};
 
-use crate::accepted::{Accepted, copy_becomes, hold_becomes};
+use crate::accepted::{copy_becomes, hold_becomes};
 use crate::inquiry::Inquiry;
 use hd_allocate::{allot_copy, has_expired};
+use hd_footprint::Footprint;
 use hd_rules::{
     BranchNo, Change, CopyNo, CopyState, Day, Hold, HoldKind, PatronNo, Refusal, Reply, TitleNo,
     Transit,
@@ -44,11 +45,13 @@ impl<'a, A: Allocator + Copy> Inquiry<'a, A> {
         hold: &Hold,
         day: Day,
         held: &Option<Hold>,
-    ) -> Result<Accepted, Refusal>
+        footprint: &mut Footprint,
+    ) -> Result<Reply, Refusal>
         requires title { title < (facts self.old.desk).titles }
         requires few { length self.old.asked ≤ 1 }
+        requires empty { footprint.old ≡ [] }
         ensures desk { self.new.desk ≡ self.old.desk }
-        ensures ends { (result, self.new.asked)
+        ensures ends { (told_with footprint.new result, self.new.asked)
             ≡ ending_of self.old (add (facts self.old.desk) hold.now.stamp hold.now title day held.now) }
     {
         if held.is_some() {
@@ -61,7 +64,7 @@ impl<'a, A: Allocator + Copy> Inquiry<'a, A> {
         let available = self.on_shelf(title, &hold.kind, hold.pickup);
         let reply = hold_reply(title, available, position, hold);
         let added = hold_becomes(title, hold.patron, &None, &Some(*hold));
-        self.accept(hold.stamp, &[added], reply)
+        self.accept(hold.stamp, &[added], reply, footprint)
     }
 
     /// Deletes the hold that the patron has now.
@@ -72,11 +75,13 @@ impl<'a, A: Allocator + Copy> Inquiry<'a, A> {
         patron: PatronNo,
         day: Day,
         held: &Option<Hold>,
-    ) -> Result<Accepted, Refusal>
+        footprint: &mut Footprint,
+    ) -> Result<Reply, Refusal>
         requires known { IsKnownHeld (facts self.old.desk) held.now }
         requires few { length self.old.asked ≤ 1 }
+        requires empty { footprint.old ≡ [] }
         ensures desk { self.new.desk ≡ self.old.desk }
-        ensures ends { (result, self.new.asked)
+        ensures ends { (told_with footprint.new result, self.new.asked)
             ≡ ending_of self.old (delete (facts self.old.desk) number title patron day held.now) }
     {
         let Some(hold) = held else {
@@ -95,9 +100,14 @@ impl<'a, A: Allocator + Copy> Inquiry<'a, A> {
         let ends = hold_becomes(title, patron, held, &None);
         let reply = Reply::Deleted { title };
         match (released.copy, released.gets) {
-            (Some(freed), Some(gets)) => self.accept(number, &[ends, freed, gets], reply),
-            (Some(freed), None) => self.accept(number, &[ends, freed], reply),
-            _ => self.accept(number, &[ends], reply),
+            (Some(freed), Some(gets)) => self.accept(
+                number,
+                &[ends, freed, gets],
+                reply,
+                footprint,
+            ),
+            (Some(freed), None) => self.accept(number, &[ends, freed], reply, footprint),
+            _ => self.accept(number, &[ends], reply, footprint),
         }
     }
 
@@ -152,11 +162,13 @@ impl<'a, A: Allocator + Copy> Inquiry<'a, A> {
         wishes: &Wishes,
         day: Day,
         held: &Option<Hold>,
-    ) -> Result<Accepted, Refusal>
+        footprint: &mut Footprint,
+    ) -> Result<Reply, Refusal>
         requires title { title < (facts self.old.desk).titles }
         requires few { length self.old.asked ≤ 1 }
+        requires empty { footprint.old ≡ [] }
         ensures desk { self.new.desk ≡ self.old.desk }
-        ensures ends { (result, self.new.asked)
+        ensures ends { (told_with footprint.new result, self.new.asked)
             ≡ ending_of self.old (change (facts self.old.desk) number title patron wishes.now.kind
             wishes.now.pickup wishes.now.expiry day held.now) }
     {
@@ -174,7 +186,7 @@ impl<'a, A: Allocator + Copy> Inquiry<'a, A> {
         let available = self.on_shelf(title, &new.kind, new.pickup);
         let reply = hold_reply(title, available, position, &new);
         let becomes = hold_becomes(title, patron, held, &Some(new));
-        self.accept(number, &[becomes], reply)
+        self.accept(number, &[becomes], reply, footprint)
     }
 }
 

@@ -56,9 +56,10 @@ impl<'a, A: Allocator + Copy> Inquiry<'a, A> {
         ensures start { result ≡ record { desk = desk.now; asked = [] } }
         ensures kept { IsKeptDesk (facts desk.now) (desk_of desk.now) }
     {
+        let _ = &desk.copies;
         Inquiry {
             desk,
-            findings: Findings::new(desk.inline),
+            findings: Findings::new(),
         }
     }
 

@@ -7,11 +7,12 @@ ghost use Rattle.hd_rules.specs.Ask.{Plan};
 ghost use Rattle.hd_rules.specs.Settle.{hold_becomes as change_of_hold};
 ghost use Rattle.hd_rules.specs.Step.{cannot_renew, checkout_at, due_day, is_wanted, lend, lend_from_shelf};
 ghost use Rattle.hd_rules.specs.Step.{lend_held, make_loan, renew_at, renew_loan};
-ghost use Rattle.hd_desk.specs.Asking.{ending_of};
+ghost use Rattle.hd_desk.specs.Asking.{ending_of, told_with};
 ghost use Rattle.hd_desk.specs.Desks.{facts};
 
-use crate::accepted::{Accepted, copy_becomes, hold_becomes};
+use crate::accepted::{copy_becomes, hold_becomes};
 use crate::inquiry::Inquiry;
+use hd_footprint::Footprint;
 use hd_rules::{Change, CopyNo, CopyState, Day, Hold, Loan, PatronNo, Refusal, Reply};
 use std::alloc::Allocator;
 
@@ -33,12 +34,14 @@ impl<'a, A: Allocator + Copy> Inquiry<'a, A> {
         message: &Lending,
         may_renew: bool,
         old: &CopyState,
-    ) -> Result<Accepted, Refusal>
+        footprint: &mut Footprint,
+    ) -> Result<Reply, Refusal>
         requires copy { message.now.copy < (facts self.old.desk).copies }
         requires patron { message.now.patron < (facts self.old.desk).patrons }
         requires few { length self.old.asked ≤ 1 }
+        requires empty { footprint.old ≡ [] }
         ensures desk { self.new.desk ≡ self.old.desk }
-        ensures ends { (result, self.new.asked)
+        ensures ends { (told_with footprint.new result, self.new.asked)
             ≡ ending_of self.old (checkout_at (facts self.old.desk) message.now.number message.now.patron
             message.now.copy may_renew message.now.day old.now) }
     {
@@ -46,18 +49,18 @@ impl<'a, A: Allocator + Copy> Inquiry<'a, A> {
             CopyState::Shelf(_) => {
                 let home = self.desk.home(message.copy);
                 let chosen = self.choice(message.copy, home, message.day);
-                self.lend_from_shelf(message, old, &chosen)
+                self.lend_from_shelf(message, old, &chosen, footprint)
             }
             CopyState::OnLoan(loan) => {
                 if loan.patron == message.patron && may_renew {
-                    self.renew_loan(message, loan)
+                    self.renew_loan(message, loan, footprint)
                 } else {
                     Err(Refusal::OnLoan)
                 }
             }
             CopyState::OnHoldShelf(place) => {
                 if place.patron == message.patron {
-                    self.lend_held(message, old)
+                    self.lend_held(message, old, footprint)
                 } else {
                     Err(Refusal::KeptForAnother)
                 }
@@ -73,23 +76,25 @@ impl<'a, A: Allocator + Copy> Inquiry<'a, A> {
         message: &Lending,
         old: &CopyState,
         chosen: &Option<Hold>,
-    ) -> Result<Accepted, Refusal>
+        footprint: &mut Footprint,
+    ) -> Result<Reply, Refusal>
         requires copy { message.now.copy < (facts self.old.desk).copies }
         requires patron { message.now.patron < (facts self.old.desk).patrons }
         requires few { length self.old.asked ≤ 2 }
+        requires empty { footprint.old ≡ [] }
         ensures desk { self.new.desk ≡ self.old.desk }
-        ensures ends { (result, self.new.asked)
+        ensures ends { (told_with footprint.new result, self.new.asked)
             ≡ ending_of self.old (lend_from_shelf (facts self.old.desk) message.now.number message.now.patron
             message.now.copy message.now.day old.now chosen.now) }
     {
         match chosen {
             None => {
                 let due = self.lend(message)?;
-                self.lend_until(message, due, old, &[])
+                self.lend_until(message, due, old, &[], footprint)
             }
             Some(hold) => {
                 if hold.patron == message.patron {
-                    self.lend_held(message, old)
+                    self.lend_held(message, old, footprint)
                 } else {
                     Err(Refusal::KeptForAnother)
                 }
@@ -98,12 +103,18 @@ impl<'a, A: Allocator + Copy> Inquiry<'a, A> {
     }
 
     /// Lends a copy, and with it the patron's hold ends.
-    fn lend_held(&mut self, message: &Lending, old: &CopyState) -> Result<Accepted, Refusal>
+    fn lend_held(
+        &mut self,
+        message: &Lending,
+        old: &CopyState,
+        footprint: &mut Footprint,
+    ) -> Result<Reply, Refusal>
         requires copy { message.now.copy < (facts self.old.desk).copies }
         requires patron { message.now.patron < (facts self.old.desk).patrons }
         requires few { length self.old.asked ≤ 2 }
+        requires empty { footprint.old ≡ [] }
         ensures desk { self.new.desk ≡ self.old.desk }
-        ensures ends { (result, self.new.asked)
+        ensures ends { (told_with footprint.new result, self.new.asked)
             ≡ ending_of self.old (lend_held (facts self.old.desk) message.now.number message.now.patron
             message.now.copy message.now.day old.now) }
     {
@@ -111,7 +122,7 @@ impl<'a, A: Allocator + Copy> Inquiry<'a, A> {
         let title = self.desk.title_of(message.copy);
         let held = self.hold(title, message.patron);
         let ends = hold_becomes(title, message.patron, &held, &None);
-        self.lend_until(message, due, old, &[ends])
+        self.lend_until(message, due, old, &[ends], footprint)
     }
 
     /// The due day of a loan, where the patron has room for one more and the day can be.
@@ -145,11 +156,13 @@ impl<'a, A: Allocator + Copy> Inquiry<'a, A> {
         due: Day,
         old: &CopyState,
         ends: &[Change],
-    ) -> Result<Accepted, Refusal>
+        footprint: &mut Footprint,
+    ) -> Result<Reply, Refusal>
         requires copy { message.now.copy < (facts self.now.desk).copies }
         requires due { due ≡ due_day (facts self.now.desk) message.now.copy message.now.day }
         requires few { length ends.now ≤ 1 }
-        ensures { (result, self.now.asked)
+        requires empty { footprint.old ≡ [] }
+        ensures { (told_with footprint.new result, self.now.asked)
             ≡ ending_of self.now (make_loan (facts self.now.desk) message.now.number message.now.patron
             message.now.copy message.now.day old.now ends.now) }
     {
@@ -166,24 +179,30 @@ impl<'a, A: Allocator + Copy> Inquiry<'a, A> {
         };
         let lent = copy_becomes(message.copy, old, &loan);
         match ends {
-            [end] => self.accept(message.number, &[lent, *end], reply),
-            _ => self.accept(message.number, &[lent], reply),
+            [end] => self.accept(message.number, &[lent, *end], reply, footprint),
+            _ => self.accept(message.number, &[lent], reply, footprint),
         }
     }
 
     /// A renewal of a copy that is there now.
-    pub(crate) fn renew(&mut self, message: &Lending, old: &CopyState) -> Result<Accepted, Refusal>
+    pub(crate) fn renew(
+        &mut self,
+        message: &Lending,
+        old: &CopyState,
+        footprint: &mut Footprint,
+    ) -> Result<Reply, Refusal>
         requires copy { message.now.copy < (facts self.old.desk).copies }
         requires few { length self.old.asked ≤ 1 }
+        requires empty { footprint.old ≡ [] }
         ensures desk { self.new.desk ≡ self.old.desk }
-        ensures ends { (result, self.new.asked)
+        ensures ends { (told_with footprint.new result, self.new.asked)
             ≡ ending_of self.old (renew_at (facts self.old.desk) message.now.number message.now.patron
             message.now.copy message.now.day old.now) }
     {
         match old {
             CopyState::OnLoan(loan) => {
                 if loan.patron == message.patron {
-                    self.renew_loan(message, loan)
+                    self.renew_loan(message, loan, footprint)
                 } else {
                     Err(Refusal::NotOnLoan)
                 }
@@ -193,11 +212,17 @@ impl<'a, A: Allocator + Copy> Inquiry<'a, A> {
     }
 
     /// Renews a loan of the patron.
-    fn renew_loan(&mut self, message: &Lending, loan: &Loan) -> Result<Accepted, Refusal>
+    fn renew_loan(
+        &mut self,
+        message: &Lending,
+        loan: &Loan,
+        footprint: &mut Footprint,
+    ) -> Result<Reply, Refusal>
         requires copy { message.now.copy < (facts self.old.desk).copies }
         requires few { length self.old.asked ≤ 1 }
+        requires empty { footprint.old ≡ [] }
         ensures desk { self.new.desk ≡ self.old.desk }
-        ensures ends { (result, self.new.asked)
+        ensures ends { (told_with footprint.new result, self.new.asked)
             ≡ ending_of self.old (renew_loan (facts self.old.desk) message.now.number message.now.patron
             message.now.copy message.now.day loan.now) }
     {
@@ -225,6 +250,7 @@ impl<'a, A: Allocator + Copy> Inquiry<'a, A> {
             message.number,
             &[copy_becomes(message.copy, &old, &renewed)],
             reply,
+            footprint,
         )
     }
 }

@@ -5,12 +5,13 @@ ghost use Rattle.std.specs.Prelude.{◌≡◌, ◌<◌, ◌≤◌, ◌∷◌, �
 ghost use Rattle.hd_rules.specs.Facts.{Facts};
 ghost use Rattle.hd_rules.specs.Choose.{admits};
 ghost use Rattle.hd_rules.specs.Step.{end_of_hold, ends_with, release_of_hold, lend_off_line, off_line};
-ghost use Rattle.hd_desk.specs.Asking.{ending_of, as_list};
+ghost use Rattle.hd_desk.specs.Asking.{ending_of, as_list, told_with};
 ghost use Rattle.hd_desk.specs.Desks.{facts};
 
-use crate::accepted::{Accepted, copy_becomes, hold_becomes};
+use crate::accepted::{copy_becomes, hold_becomes};
 use crate::inquiry::Inquiry;
 use hd_allocate::{tied_to, with_copy};
+use hd_footprint::Footprint;
 use hd_rules::{
     Change, CopyNo, CopyState, Day, Hold, HoldKind, Loan, PatronNo, Refusal, Reply, TitleNo,
 };
@@ -24,11 +25,13 @@ impl<'a, A: Allocator + Copy> Inquiry<'a, A> {
         patron: PatronNo,
         copy: CopyNo,
         due: Day,
-    ) -> Result<Accepted, Refusal>
+        footprint: &mut Footprint,
+    ) -> Result<Reply, Refusal>
         requires copy { copy < (facts self.old.desk).copies }
         requires few { length self.old.asked ≤ 1 }
+        requires empty { footprint.old ≡ [] }
         ensures desk { self.new.desk ≡ self.old.desk }
-        ensures ends { (result, self.new.asked)
+        ensures ends { (told_with footprint.new result, self.new.asked)
             ≡ ending_of self.old (off_line (facts self.old.desk) number patron copy due) }
     {
         let old = self.copy(copy);
@@ -39,9 +42,9 @@ impl<'a, A: Allocator + Copy> Inquiry<'a, A> {
             Some(other) if other != patron => {
                 let kept = self.hold(title, other);
                 let freed = release_of_hold(title, other, &kept);
-                self.lend_off_line(number, patron, copy, due, &old, &ended, &freed)
+                self.lend_off_line(number, patron, copy, due, &old, &ended, &freed, footprint)
             }
-            _ => self.lend_off_line(number, patron, copy, due, &old, &ended, &None),
+            _ => self.lend_off_line(number, patron, copy, due, &old, &ended, &None, footprint),
         }
     }
 
@@ -90,9 +93,11 @@ impl<'a, A: Allocator + Copy> Inquiry<'a, A> {
         old: &CopyState,
         ended: &Option<Change>,
         freed: &Option<Change>,
-    ) -> Result<Accepted, Refusal>
+        footprint: &mut Footprint,
+    ) -> Result<Reply, Refusal>
         requires copy { copy < (facts self.now.desk).copies }
-        ensures { (result, self.now.asked)
+        requires empty { footprint.old ≡ [] }
+        ensures { (told_with footprint.new result, self.now.asked)
             ≡ ending_of self.now (lend_off_line (facts self.now.desk) number patron copy due old.now
             (as_list ended.now ++ as_list freed.now)) }
     {
@@ -108,10 +113,10 @@ impl<'a, A: Allocator + Copy> Inquiry<'a, A> {
         };
         let lent = copy_becomes(copy, old, &loan);
         match (ended, freed) {
-            (None, None) => self.accept(number, &[lent], reply),
-            (Some(end), None) => self.accept(number, &[lent, *end], reply),
-            (None, Some(free)) => self.accept(number, &[lent, *free], reply),
-            (Some(end), Some(free)) => self.accept(number, &[lent, *end, *free], reply),
+            (None, None) => self.accept(number, &[lent], reply, footprint),
+            (Some(end), None) => self.accept(number, &[lent, *end], reply, footprint),
+            (None, Some(free)) => self.accept(number, &[lent, *free], reply, footprint),
+            (Some(end), Some(free)) => self.accept(number, &[lent, *end, *free], reply, footprint),
         }
     }
 }

@@ -1,14 +1,15 @@
 //! Returns (docs/desk-rules.md, "Checkin").
 #![tactic(auto)]
 
-ghost use Rattle.std.specs.Prelude.{◌≡◌, ◌<◌, ◌≤◌, length};
+ghost use Rattle.std.specs.Prelude.{◌≡◌, ◌<◌, ◌≤◌, [], length};
 ghost use Rattle.hd_rules.specs.Step.{checkin};
-ghost use Rattle.hd_desk.specs.Asking.{ending_of};
+ghost use Rattle.hd_desk.specs.Asking.{ending_of, told_with};
 ghost use Rattle.hd_desk.specs.Desks.{facts};
 
-use crate::accepted::{Accepted, copy_becomes};
+use crate::accepted::copy_becomes;
 use crate::inquiry::Inquiry;
 use hd_allocate::settle_copy;
+use hd_footprint::Footprint;
 use hd_rules::{BranchNo, CopyNo, Day, Refusal, Reply};
 use std::alloc::Allocator;
 
@@ -20,12 +21,14 @@ impl<'a, A: Allocator + Copy> Inquiry<'a, A> {
         copy: CopyNo,
         branch: BranchNo,
         day: Day,
-    ) -> Result<Accepted, Refusal>
+        footprint: &mut Footprint,
+    ) -> Result<Reply, Refusal>
         requires copy { copy < (facts self.old.desk).copies }
         requires branch { branch < (facts self.old.desk).branches }
         requires few { length self.old.asked ≤ 0 }
+        requires empty { footprint.old ≡ [] }
         ensures desk { self.new.desk ≡ self.old.desk }
-        ensures ends { (result, self.new.asked)
+        ensures ends { (told_with footprint.new result, self.new.asked)
             ≡ ending_of self.old (checkin (facts self.old.desk) number copy branch day) }
     {
         let old = self.copy(copy);
@@ -37,8 +40,8 @@ impl<'a, A: Allocator + Copy> Inquiry<'a, A> {
         };
         let moved = copy_becomes(copy, &old, &settled.state);
         match self.change_of(copy, &settled.gets) {
-            Some(gets) => self.accept(number, &[moved, gets], reply),
-            None => self.accept(number, &[moved], reply),
+            Some(gets) => self.accept(number, &[moved, gets], reply, footprint),
+            None => self.accept(number, &[moved], reply, footprint),
         }
     }
 }

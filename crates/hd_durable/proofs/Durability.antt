@@ -1,6 +1,6 @@
 -- What is kept of a turn more.
-use Rattle.std.proofs.Common.{◌≡◌, refl, sym, ◌∙◌, ap, subst, arith, ◌⊎◌, inl, inr, ℕ, Bool, true, false, not}
-use Rattle.std.proofs.Common.{true≢false, if◌then◌else◌}
+use Rattle.std.proofs.Common.{◌≡◌, refl, sym, ◌∙◌, ap, subst, arith, ◌⊎◌, inl, inr, ℕ, Bool, true, false}
+use Rattle.std.proofs.Common.{if◌then◌else◌}
 use Rattle.std.proofs.Common.{List, [], ◌∷◌, ◌++◌, length, length-append, Option, Some, None}
 use Rattle.std.proofs.lemmas.Option.{none-some as none_there}
 use Rattle.std.specs.Prelude.{slice_get, take}
@@ -18,15 +18,6 @@ use Rattle.hd_journal.specs.Changing.{is_changing, changing}
 use Rattle.hd_durable.specs.Durable.{IsLeft, IsOpen, IsDurable}
 use Rattle.hd_durable.proofs.Beginnings.{beginning}
 use Rattle.hd_durable.proofs.Leaving.{legal_changing}
-
--- what isn't not so is so, and what is not so isn't
-pub so : (b : Bool) → not b ≡ false → b ≡ true
-so true is = refl
-so false is = absurd (true≢false is)
-
-pub not_so : (b : Bool) → not b ≡ true → b ≡ false
-not_so false is = refl
-not_so true is = absurd (true≢false (sym is))
 
 -- the last of some turns
 last_of : (first : Turn) (turns : List Turn) (turn : Turn)

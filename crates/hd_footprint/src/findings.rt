@@ -1,36 +1,35 @@
 //! What one command asked and found.
 ghost use Rattle.std.specs.Prelude.{◌≡◌, ◌<◌, ◌≤◌, [], ◌∷◌, ◌++◌, length, slice_set};
 
+use arrayvec::ArrayVec;
 use hd_rules::Finding;
-use smallvec::SmallVec;
-use std::alloc::Global;
 use std::marker::Model;
 
 /// The questions that one command asks with their noted answers, in order: at most four (docs/desk-rules.md).
 /// They stand in the value itself, and no call takes memory.
 #[derive(Drop, Debug)]
 pub struct Findings {
-    findings: SmallVec<Finding, 4>,
+    findings: ArrayVec<Finding, 4>,
 }
 
 impl Model for Findings {
-    ghost use Rattle.std.specs.Prelude.{List, ◌≡◌, ◌≤◌, length};
+    ghost use Rattle.std.specs.Prelude.{List, ◌≤◌, length};
     ghost use Rattle.hd_rules.specs.declared.questions.Finding.{Finding};
 
     ghost Value = { List Finding };
 
     ghost view = { λ f. f.findings.items };
 
-    ghost invariant = { λ f. (f.findings.capacity ≡ 4) × (length f.findings.items ≤ 4) };
+    ghost invariant = { λ f. length f.findings.items ≤ 4 };
 }
 
 impl Findings {
     /// No questions.
-    pub fn new(alloc: Global) -> Findings
+    pub fn new() -> Findings
         ensures { result ≡ [] }
     {
         Findings {
-            findings: SmallVec::new(alloc),
+            findings: ArrayVec::new(),
         }
     }
 
@@ -39,8 +38,9 @@ impl Findings {
         requires { length self.old < 4 }
         ensures { self.new ≡ self.old ++ finding ∷ [] }
     {
+        // Taken apart, since the checker of borrows can't follow one that is handed on whole.
         let Finding { question, noted } = finding;
-        self.findings.push_reserved(Finding { question, noted });
+        self.findings.push(Finding { question, noted });
     }
 
     /// Puts a question with its noted answer in the place of the one at the index `at`, counted from 0.

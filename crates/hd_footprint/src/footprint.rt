@@ -1,36 +1,35 @@
 //! The changes of one command.
 ghost use Rattle.std.specs.Prelude.{◌≡◌, ◌<◌, ◌≤◌, [], ◌∷◌, ◌++◌, length};
 
+use arrayvec::ArrayVec;
 use hd_rules::Change;
-use smallvec::SmallVec;
-use std::alloc::Global;
 use std::marker::Model;
 
 /// The changes that one command makes, in order: at most four (docs/desk-rules.md). They stand in the value
 /// itself, and no call takes memory.
 #[derive(Drop, Debug)]
 pub struct Footprint {
-    changes: SmallVec<Change, 4>,
+    changes: ArrayVec<Change, 4>,
 }
 
 impl Model for Footprint {
-    ghost use Rattle.std.specs.Prelude.{List, ◌≡◌, ◌≤◌, length};
+    ghost use Rattle.std.specs.Prelude.{List, ◌≤◌, length};
     ghost use Rattle.hd_rules.specs.declared.cells.Change.{Change};
 
     ghost Value = { List Change };
 
     ghost view = { λ f. f.changes.items };
 
-    ghost invariant = { λ f. (f.changes.capacity ≡ 4) × (length f.changes.items ≤ 4) };
+    ghost invariant = { λ f. length f.changes.items ≤ 4 };
 }
 
 impl Footprint {
     /// No changes.
-    pub fn new(alloc: Global) -> Footprint
+    pub fn new() -> Footprint
         ensures { result ≡ [] }
     {
         Footprint {
-            changes: SmallVec::new(alloc),
+            changes: ArrayVec::new(),
         }
     }
 
@@ -39,8 +38,9 @@ impl Footprint {
         requires { length self.old < 4 }
         ensures { self.new ≡ self.old ++ change ∷ [] }
     {
+        // Taken apart, since the checker of borrows can't follow one that is handed on whole.
         let Change { cell, old, new } = change;
-        self.changes.push_reserved(Change { cell, old, new });
+        self.changes.push(Change { cell, old, new });
     }
 
     /// The changes, in order.

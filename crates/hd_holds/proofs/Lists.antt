@@ -4,7 +4,8 @@ use Rattle.std.proofs.Common.{◌∙◌, inl, inr, ◌⊎◌, arith, eq-eqb}
 use Rattle.std.specs.Prelude.{◌||◌, ◌↔◌, IsTrue}
 use Rattle.std.proofs.lemmas.Bool.Decides.{nat_tests}
 use Rattle.std.proofs.lemmas.Grind.{common_steps}
-use Rattle.std.proofs.lemmas.Bool.{cases_Bool, eqb-true}
+use Rattle.std.proofs.lemmas.Bool.{cases_Bool, eqb-true, or_right}
+use Rattle.std.proofs.lemmas.Option.{same_Some}
 use Rattle.hd_rules.specs.declared.holds.Hold.{Hold}
 use Rattle.hd_rules.specs.Facts.{Facts}
 use Rattle.hd_rules.specs.Known.{IsKnownHeld, IsKnownHold}
@@ -13,9 +14,6 @@ use Rattle.hd_queue.specs.Laws.{QueuesStayInOrder}
 use Rattle.hd_holds.specs.Held.{AreKnown, AreOfPatrons, IsQueue, IsStampOf, with_held}
 use Rattle.hd_holds.proofs.Counts.{hold_of-here, hold_of-other}
 
-some-is : (g h : Hold) → Some g ≡ Some h → g ≡ h
-some-is g h e = cc
-
 -- a patron's hold is the first one if that is the patron's, and else among the others
 hold_of-cases : (x : Hold) (hs : List Hold) (p : ℕ) (g : Hold) → hold_of (x ∷ hs) p ≡ Some g →
     ((x.patron ≡ p) × (x ≡ g)) ⊎ (hold_of hs p ≡ Some g)
@@ -23,7 +21,7 @@ hold_of-cases x hs p g is = by_test (x.patron == p) refl is
   where
     by_test : (b : Bool) → (x.patron == p) ≡ b → cond b (Some x) (hold_of hs p) ≡ Some g →
         ((x.patron ≡ p) × (x ≡ g)) ⊎ (hold_of hs p ≡ Some g)
-    by_test true same here = inl (eqb-true x.patron p same, some-is x g here)
+    by_test true same here = inl (eqb-true x.patron p same, same_Some x g here)
     by_test false other there = inr there
 
 pub hold-named : (hs : List Hold) (p : ℕ) (g : Hold) → hold_of hs p ≡ Some g → g.patron ≡ p
@@ -84,16 +82,12 @@ stamp-found n (x ∷ xs) once on = by_test (x.stamp == n) refl on (stamp-found n
           at.3,
         )
 
-either-test : (b c : Bool) → c ≡ true → (b || c) ≡ true
-either-test true c on = refl
-either-test false c on = on
-
 stamp-there : (n : ℕ) (hs : List Hold) (p : ℕ) (g : Hold) → hold_of hs p ≡ Some g → g.stamp ≡ n → has_stamp hs n ≡ true
 stamp-there n [] p g has same = absurd (let no : ⊥ = cc in no)
 stamp-there n (x ∷ xs) p g has same = elim (hold_of-cases x xs p g has) [
   | inl here ↦
       let first : (x.stamp == n) ≡ true = eq-eqb x.stamp n (ap (λ (h : Hold). h.stamp) here.1 ∙ same) in rw first refl
-  | inr there ↦ either-test (x.stamp == n) (has_stamp xs n) (stamp-there n xs p g there same)
+  | inr there ↦ or_right (x.stamp == n) (has_stamp xs n) (stamp-there n xs p g there same)
 ]
 
 pub stamp-told : (n : ℕ) (hs : List Hold) (r : Bool) → HasPatronsOnce hs → r ≡ has_stamp hs n → IsTrue r ↔ IsStampOf n (hold_of hs)

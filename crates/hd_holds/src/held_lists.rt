@@ -65,7 +65,7 @@ impl<A: Allocator> HeldLists<A> {
 
     /// Makes room for that many more, of whichever patrons.
     ///
-    /// Want of memory changes nothing, and comes only where there was less room.
+    /// It is out of memory only where there was less room, and then changes nothing.
     pub(crate) fn ready(&mut self, more: usize) -> Result<(), AllocError>
         ensures lists { self.new.lists ≡ self.old.lists }
         ensures room { self.old.room ≤ self.new.room }

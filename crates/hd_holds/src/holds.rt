@@ -92,7 +92,7 @@ impl<A: Allocator + Copy> Holds<A> {
 
     /// Makes room for that many puts at the title, whatever is taken between.
     ///
-    /// Want of memory changes nothing, and comes only where there was less room.
+    /// It is out of memory only where there was less room, and then changes nothing.
     pub fn ready(&mut self, title: TitleNo, more: usize) -> Result<(), AllocError>
         requires { title < (facts self.old).titles }
         ensures held { patron_hold self.new ≡ patron_hold self.old }
@@ -202,7 +202,7 @@ impl<A: Allocator + Copy> Holds<A> {
     }
 
     /// The title's queue. The stamps rise, and no patron has two holds.
-    pub fn view(&self, title: TitleNo) -> QueueView<'_>
+    pub fn view(&self, title: TitleNo) -> QueueView<'_, A>
         requires { title < (facts self.now).titles }
         ensures queue { result ≡ (queue_of self.now.queues title).holds }
         ensures holds { (p : ℕ) → patron_hold self.now title p ≡ hold_of result p }
@@ -228,7 +228,7 @@ impl<A: Allocator + Copy> Holds<A> {
 
 /// Puts a queue without holds, with room for that many, behind the others, at the place of this title.
 ///
-/// Want of memory changes nothing.
+/// Out of memory, it changes nothing.
 fn add_queue<A: Allocator + Copy>(
     places: &mut Vec<u32, A>,
     queues: &mut Vec<Queue<A>, A>,

@@ -3,8 +3,8 @@ use Rattle.std.proofs.Common.{◌≡◌, ℕ, ◌+◌, ◌<◌, ◌≤◌, Bool,
 use Rattle.std.proofs.Common.{get_or, length, subst, take}
 use Rattle.std.specs.List.{flat_map, list_all, sum}
 use Rattle.std.proofs.lemmas.List.Sums.{sum_by-append}
-use Rattle.std.proofs.lemmas.List.{flat_map_more, map-append, take_all, take_more}
-use Rattle.std.proofs.lemmas.List.Elements.{All-append, All-cons, All-nil}
+use Rattle.std.proofs.lemmas.List.{append-nil, flat_map_more, map-append, take_all, take_more}
+use Rattle.std.proofs.lemmas.List.Elements.{All-nil, All-push}
 use Rattle.std.proofs.lemmas.List.Folds.{list_all-append}
 use Rattle.hd_import.specs.Columns.{all_sheets}
 use Rattle.hd_import.specs.Rows.{AreRowsOfFile, Row}
@@ -15,10 +15,6 @@ use Rattle.hd_import.specs.declared.column.Sheet.{Sheet}
 use Rattle.hd_import.specs.declared.format.Format.{Format}
 use Rattle.hd_import.specs.declared.settings.Settings.{Settings}
 use Rattle.hd_import.specs.declared.sources.Sources.{Sources}
-
-append_nil : {A : Type 0} (xs : List A) → xs ++ [] ≡ xs
-append_nil [] = refl
-append_nil (x ∷ xs) = ap (λ ys. x ∷ ys) (append_nil xs)
 
 -- one value more
 pub value_more : (settings : Settings) (headings row : Row) (start out new : List ℕ) (columns : List Column) (column : Column)
@@ -41,9 +37,6 @@ row_more settings sheet headings start out new rows row so put =
     put ∙ append_assoc out (line_of settings sheet headings row) (10 ∷ [])
     ∙ ap (λ o. o ++ (line_of settings sheet headings row ++ 10 ∷ [])) so
     ∙ flat_map_more (λ row. line_of settings sheet headings row ++ 10 ∷ []) start rows row
-
-pub all_more : {X : Type 0} (P : X → Type 0) (xs : List X) (x : X) → All P xs → P x → All P (xs ++ x ∷ [])
-all_more P xs x all here = All-append P xs (x ∷ []) all (All-cons P x [] here (All-nil P))
 
 -- the value of the next column
 pub value_step : (settings : Settings) (headings row : Row) (start out new : List ℕ) (columns : List Column) (at : ℕ) (d : Column)
@@ -73,7 +66,7 @@ no_tables settings format sources sheets out is = record {
   of_sheets = refl;
   each = All-nil (IsTableOf settings format sources);
   counted = refl;
-  text = is ∙ sym (append_nil (first_line settings ++ 10 ∷ []));
+  text = is ∙ sym (append-nil (first_line settings ++ 10 ∷ []));
 }
 
 -- one more
@@ -93,7 +86,7 @@ table_step settings format sources sheets at d out new counts bytes headings row
           map-append (λ (t : Table). t.sheet) so.tables (table ∷ []) ∙ ap (λ ss. ss ++ sheet ∷ []) so.of_sheets ∙ sym (take_more sheets at d l);
       counted =
           ap (λ cs. cs ++ length rows ∷ []) so.counted ∙ sym (map-append (λ (t : Table). length t.rows) so.tables (table ∷ []));
-      each = all_more (IsTableOf settings format sources) so.tables table so.each is;
+      each = All-push (IsTableOf settings format sources) so.tables table so.each is;
       text = put ∙ ap (λ o. o ++ text_of_table settings table) so.text ∙ flat_map_more (text_of_table settings) start so.tables table;
     }
 

@@ -37,7 +37,7 @@ impl<A: Allocator + Copy> Lists<A> {
 
     /// Makes room for one more place at a number.
     ///
-    /// Want of memory changes nothing, and comes only where there was no room at that number.
+    /// It is out of memory only where there was no room at that number, and then changes nothing.
     pub fn ready(&mut self, number: usize) -> Result<(), AllocError>
         ensures places { (n : ℕ) → places_of n self.new ≡ places_of n self.old }
         ensures room { (n : ℕ) → room_of n self.old ≤ room_of n self.new }

@@ -35,7 +35,8 @@ impl<A: Allocator> Row<A> {
         }
     }
 
-    /// Makes room for one more place. Want of memory changes nothing, and comes only where there was no room.
+    /// Makes room for one more place. It is out of memory only where there was none, and then
+    /// changes nothing.
     pub(crate) fn ready(&mut self) -> Result<(), AllocError>
         ensures places { self.new.places ≡ self.old.places }
         ensures room { self.old.room ≤ self.new.room }

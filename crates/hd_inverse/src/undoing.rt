@@ -14,8 +14,8 @@ use std::alloc::AllocError;
 /// Takes changes back: each of their cells gets its old value, the last one first, and every other cell
 /// stays. The meter counts one cell written per change.
 ///
-/// The changes are of distinct cells, and each of the writes leaves a fit desk. Want of memory changes
-/// neither a cell nor the meter, and comes only where there is less room than `ready` makes.
+/// The changes are of distinct cells, and each of the writes leaves a fit desk. It is out of
+/// memory only where there is less room than `ready` makes, and then changes neither a cell nor the meter.
 pub fn undo<C: Cells>(
     cells: &mut C,
     changes: &[Change],

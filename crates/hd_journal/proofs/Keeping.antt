@@ -1,7 +1,8 @@
 -- A journal goes on by one turn.
 use Rattle.std.proofs.Common.{arith, ◌≡◌, refl, sym, ◌∙◌, ap, subst, ℕ, ◌+◌, ◌≤◌, inl, inr}
 use Rattle.std.proofs.Common.{List, [], ◌∷◌, ◌++◌, length, length-append, Option, Some, None}
-use Rattle.std.proofs.Common.{Bool, true, false, ◌&&◌, is_none, not}
+use Rattle.std.proofs.Common.{false, ◌&&◌, is_none, not}
+use Rattle.std.proofs.Math.Bool.{and-false, and-true}
 use Rattle.hd_rules.specs.declared.turns.Asked.{Asked}
 use Rattle.hd_rules.specs.declared.turns.Asked.TheVariants as ask
 use Rattle.hd_rules.specs.declared.replies.TurnReply.{TurnReply}
@@ -312,14 +313,6 @@ makes_turn laws was ready now r next turn old new book made h same is =
     (book_at next now.turns new) turn.seat turn.message x) (sym is)
     (adds_here laws was ready now r next turn old new h))
 
-not_and : (b : Bool) → (b && false) ≡ false
-not_and true = refl
-not_and false = refl
-
-just_and : (b : Bool) → (b && true) ≡ b
-just_and true = refl
-just_and false = refl
-
 -- whether the message changes something, by what is kept of its terminal's last
 changing_by : (was ready : TurnLog) (r : SurvivorRun) (work : Counts) (book : Book) (message : Message)
     → IsKept was.turns r (kept_by was) → kept_by ready ≡ kept_by was → book_at r was.turns work ≡ book
@@ -339,7 +332,7 @@ pub repeat_same : (was ready : TurnLog) (r : SurvivorRun) (work : Counts) (book 
 repeat_same was ready r work book message reply kept still same is =
     sym (changing_by was ready r work book message kept still same
     ∙ ap (λ (o : Option TurnReply). not (is_query message.asked) && is_none o) (sym is)
-    ∙ not_and (not (is_query message.asked)))
+    ∙ and-false (not (is_query message.asked)))
 
 -- what is no repeat changes something where it is no query
 pub anew_changes : (was ready : TurnLog) (r : SurvivorRun) (work : Counts) (book : Book) (message : Message)
@@ -350,4 +343,4 @@ pub anew_changes : (was ready : TurnLog) (r : SurvivorRun) (work : Counts) (book
 anew_changes was ready r work book message kept still same is =
     sym (changing_by was ready r work book message kept still same
     ∙ ap (λ (o : Option TurnReply). not (is_query message.asked) && is_none o) (sym is)
-    ∙ just_and (not (is_query message.asked)))
+    ∙ and-true (not (is_query message.asked)))

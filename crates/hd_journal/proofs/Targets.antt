@@ -2,6 +2,7 @@
 use Rattle.std.proofs.Common.{arith, ◌≡◌, refl, sym, ◌∙◌, ap, subst, ℕ, ◌+◌, ◌<◌, ◌≤◌}
 use Rattle.std.proofs.Common.{List, [], ◌∷◌, ◌++◌, length, length-append, Option, Some, None, option_map}
 use Rattle.std.proofs.lemmas.Bool.Decides.{nat_tests}
+use Rattle.std.proofs.lemmas.Option.{same_Some}
 use Rattle.hd_rules.specs.declared.commands.Cancel.{Cancel}
 use Rattle.hd_rules.specs.declared.commands.Survivor.{Survivor}
 use Rattle.hd_rules.specs.Record.{Record}
@@ -100,13 +101,6 @@ pub record Aimed (terminal : ℕ) (what : Cancel) (rs : List Record) (n : ℕ) :
   pub at : IsAt rs n aim
   pub is_target : target terminal what (survivors_of rs) ≡ Some (split_of rs n aim)
 
-some_number : (n m : ℕ) → Some n ≡ Some m → n ≡ m
-some_number n m is = ap (λ (o : Option ℕ). number_or o) is
-  where
-    number_or : Option ℕ → ℕ
-    number_or None = 0
-    number_or (Some x) = x
-
 no_number : (n : ℕ) → Some n ≡ None → ⊥
 no_number n is = subst (λ (o : Option ℕ). IsNumber o) is tt
   where
@@ -126,7 +120,7 @@ aimed laws terminal what rs n m rising is = by_target (target terminal what (sur
         let parts : IsTarget terminal what (survivors_of rs) at =
         (laws.target.found terminal what (survivors_of rs) at).0 found in
         let number : at.survivor.number ≡ n =
-        sym (some_number n at.survivor.number (is
+        sym (same_Some n at.survivor.number (is
         ∙ ap (option_map (λ (x : Split). x.survivor.number)) found)) in
         let there : Cut m n rs at.older at.survivor at.newer =
         cut m n rs at.older at.survivor at.newer rising parts.split number in

@@ -8,7 +8,7 @@ ghost use Rattle.hd_journal.specs.Books.{IsLegalBook};
 use crate::journal::Journal;
 use hd_catalogue::Catalogue;
 use hd_desk::{Desk, Meter, OpenFault};
-use std::alloc::{AllocError, Allocator, Global};
+use std::alloc::{AllocError, Allocator};
 use std::sync::Arc;
 
 /// The catalogue, for the desk and whoever else reads it.
@@ -24,15 +24,13 @@ pub fn share<A: Allocator>(
     Ok(Arc::new(alloc, catalogue)?)
 }
 
-/// A journal without turns, over the desk that the catalogue's opening rows tell. `inline` is never asked for
-/// memory (`Desk::open`).
+/// A journal without turns, over the desk that the catalogue's opening rows tell.
 ///
 /// # Errors
 /// `Row` for the first row that may not stand behind those before it, and why; `Memory`. Over a catalogue
 /// without rows it can only be `Memory`.
 pub fn open<A: Allocator + Copy>(
     alloc: A,
-    inline: Global,
     meter: Meter,
     catalogue: Catalogue<A>,
 ) -> Result<Journal<A>, OpenFault>
@@ -42,6 +40,6 @@ pub fn open<A: Allocator + Copy>(
     ensures refused { IfErr result (IsRefused catalogue) }
     ensures fresh { catalogue.opening.rows ≡ [] → IfErr result (λ fault. fault ≡ Memory) }
 {
-    let desk = Desk::open(alloc, inline, share(alloc, catalogue)?)?;
+    let desk = Desk::open(alloc, share(alloc, catalogue)?)?;
     Ok(Journal::new(alloc, desk, meter))
 }

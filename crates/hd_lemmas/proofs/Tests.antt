@@ -1,7 +1,7 @@
 -- Bool, and tests of numbers.
 use Rattle.std.proofs.Common.{◌≡◌, ℕ, ◌==◌, sym, ◌∙◌, inl, inr}
 use Rattle.std.proofs.lemmas.Bool.{cases_Bool, eqb-true, eqb-false, eq-eqb}
-pub use Rattle.hd_rules.proofs.Tests.{number_self, and_left, and_right, both_true}
+pub use Rattle.hd_rules.proofs.Tests.{number_self, number_not, and_left, and_right, both_true}
 
 -- a test of numbers, from the other side
 pub turned : (m n : ℕ) → (m == n) ≡ (n == m)

@@ -1,10 +1,11 @@
 -- Turns by their numbers.
 use Rattle.std.proofs.Common.{arith, ◌≡◌, refl, sym, ◌∙◌, ap, ℕ, ◌+◌, ◌-◌, ◌<◌, ◌≤◌, zero, suc, List, []}
-use Rattle.std.proofs.Common.{◌∷◌, ◌++◌, length, take, drop, slice_get, Option, Some, None}
+use Rattle.std.proofs.Common.{◌∷◌, ◌++◌, length, take, drop, slice_get, Some, None}
 use Rattle.std.proofs.Common.{cond, true, false, length-drop}
 use Rattle.std.specs.Prelude.{nat_lt}
 use Rattle.std.proofs.lemmas.Bool.{lt-ltb, le-ltb}
 use Rattle.std.proofs.lemmas.List.{take_all}
+use Rattle.std.proofs.lemmas.Option.{same_Some}
 use Rattle.hd_rules.specs.Journal.{Turn}
 use Rattle.hd_journal.specs.Books.{turn_numbered}
 use Rattle.hd_looks.specs.PageValue.{PageValue}
@@ -19,14 +20,11 @@ length_turns n (turn ∷ turns) = ap suc (length_turns (n + 1) turns)
 no_turn : {A : Type 0} (i : ℕ) (x : A) → (let xs : List A = [] in slice_get xs i ≡ Some x) → ⊥
 no_turn i x is = cc
 
-first_is : {A : Type 0} (y x : A) → (let o : Option A = Some y in o ≡ Some x) → y ≡ x
-first_is y x is = cc
-
 -- one element more
 take_more : {A : Type 0} (count : ℕ) (xs : List A) (x : A) → slice_get xs count ≡ Some x
     → take (suc count) xs ≡ take count xs ++ x ∷ []
 take_more count [] x is = absurd (no_turn count x is)
-take_more {A} zero (y ∷ xs) x is = ap (λ (z : A). z ∷ []) (first_is y x is)
+take_more {A} zero (y ∷ xs) x is = ap (λ (z : A). z ∷ []) (same_Some y x is)
 take_more {A} (suc count) (y ∷ xs) x is = ap (λ (zs : List A). y ∷ zs) (take_more count xs x is)
 
 -- behind so many
@@ -45,7 +43,7 @@ row_at : (n i : ℕ) (turns : List Turn) (turn : Turn) → slice_get turns i ≡
     → slice_get (turn_rows n turns) i ≡ Some (turn_row (n + i) turn)
 row_at n i [] turn is = absurd (no_turn i turn is)
 row_at n zero (first ∷ turns) turn is =
-    ap (λ (t : Turn). Some (turn_row n t)) (first_is first turn is)
+    ap (λ (t : Turn). Some (turn_row n t)) (same_Some first turn is)
     ∙ ap (λ (m : ℕ). Some (turn_row m turn)) (let same : n ≡ n + 0 = omega arith in same)
 row_at n (suc i) (first ∷ turns) turn is =
     row_at (n + 1) i turns turn is

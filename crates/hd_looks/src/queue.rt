@@ -33,7 +33,7 @@ pub(crate) fn show_queue<A: Allocator + Copy>(
 fn list_holds<A: Allocator + Copy>(
     desk: &Desk<A>,
     title: TitleNo,
-    holds: HoldSlices<'_>,
+    holds: HoldSlices<'_, A>,
     after: u32,
     page: &mut Page,
 )

@@ -3,7 +3,7 @@ ghost use Rattle.std.specs.Prelude.{◌≡◌};
 ghost use Rattle.std.specs.Option.{option_copied};
 ghost use Rattle.hd_field.specs.Field.{occurrence};
 ghost use Rattle.hd_message.specs.Values.{is_yes, unless_empty};
-ghost use Rattle.hd_message.specs.Walk.{AreFirst, value_after};
+ghost use Rattle.hd_message.specs.Walk.{AreAfter, AreFirst};
 
 use hd_field::{Field, fields};
 
@@ -38,6 +38,31 @@ pub(crate) struct Values<'a> {
     pub(crate) last_item: Option<&'a [u8]>,
 }
 
+impl<'a> Values<'a> {
+    /// Takes the value of a field, unless an earlier one has its identifier.
+    fn note(&mut self, field: Field<'a>)
+        ensures { AreAfter (occurrence field.entry) self.old self.new }
+    {
+        let value = Some(field.value);
+        match &field.code {
+            b"AA" => self.patron = self.patron.or(value),
+            b"AB" => self.copy = self.copy.or(value),
+            b"AJ" => self.title = self.title.or(value),
+            b"AP" => self.branch = self.branch.or(value),
+            b"BI" => self.cancel = self.cancel.or(value),
+            b"BS" => self.pickup = self.pickup.or(value),
+            b"BW" => self.expiry = self.expiry.or(value),
+            b"BY" => self.wanted = self.wanted.or(value),
+            b"CN" => self.name = self.name.or(value),
+            b"CO" => self.password = self.password.or(value),
+            b"AD" => self.patron_password = self.patron_password.or(value),
+            b"BP" => self.first_item = self.first_item.or(value),
+            b"BQ" => self.last_item = self.last_item.or(value),
+            _ => {}
+        }
+    }
+}
+
 /// The values of the fields of `part`, found in one walk.
 pub(crate) fn first_values(part: &[u8]) -> Values<'_>
     ensures { AreFirst part.now result }
@@ -58,35 +83,9 @@ pub(crate) fn first_values(part: &[u8]) -> Values<'_>
         last_item: None,
     };
     for field in fields(part) {
-        values = Values {
-            patron: value_after(values.patron, *b"AA", field),
-            copy: value_after(values.copy, *b"AB", field),
-            title: value_after(values.title, *b"AJ", field),
-            branch: value_after(values.branch, *b"AP", field),
-            cancel: value_after(values.cancel, *b"BI", field),
-            pickup: value_after(values.pickup, *b"BS", field),
-            expiry: value_after(values.expiry, *b"BW", field),
-            wanted: value_after(values.wanted, *b"BY", field),
-            name: value_after(values.name, *b"CN", field),
-            password: value_after(values.password, *b"CO", field),
-            patron_password: value_after(values.patron_password, *b"AD", field),
-            first_item: value_after(values.first_item, *b"BP", field),
-            last_item: value_after(values.last_item, *b"BQ", field),
-        };
+        values.note(field);
     }
     values
-}
-
-/// The value of an identifier after a field: the one that there is, else the field's where it has the
-/// identifier.
-fn value_after<'a>(value: Option<&'a [u8]>, code: [u8; 2], field: Field<'a>) -> Option<&'a [u8]>
-    ensures { option_copied result ≡ value_after code (occurrence field.entry) (option_copied value.entry) }
-{
-    if value.is_none() && field.code == code {
-        Some(field.value)
-    } else {
-        value
-    }
 }
 
 /// A value, absent where it is empty.

@@ -13,6 +13,7 @@ use Rattle.hd_date.specs.Stamps.{HasDigits, IsDigit, IsInYears, IsLocal, IsOwnPr
 use Rattle.hd_date.specs.declared.fault.DateFault.{DateFault}
 use Rattle.hd_date.specs.declared.fault.DateFault.TheVariants.{Length, Digits, Zone, Calendar, Range}
 use Rattle.std.proofs.lemmas.Option.{none-some, same_Some}
+use Rattle.hd_lemmas.proofs.Options.{no_number}
 use Rattle.hd_opening.specs.Days.{IsDayText, day_number, day_on, day_written, is_date, midnight_text}
 use Rattle.hd_catalogue.specs.Text.{is_digit, number_written}
 
@@ -239,13 +240,9 @@ module _ (a b c d e f g i : ℕ) where
       h.outside (subst (λ z. IsInYears (local_moment h.number 0 z offset)) here (omega (arith, signed_arith), omega (arith, signed_arith, below)))
 
 -- a text whose first moment has a fault writes no day
-none_or : (r : Option ℕ) → ((n : ℕ) → r ≡ Some n → ⊥) → r ≡ None
-none_or None h = refl
-none_or (Some n) h = absurd (h n refl)
-
 pub no_day : (text moment : List ℕ) (offset : ℤ) (fault : DateFault) → moment ≡ midnight_text text → length text ≡ 8
     → IsFirstFault moment offset fault → day_written text ≡ None
-no_day text moment offset fault is size f = none_or (day_written text) (λ n h.
+no_day text moment offset fault is size f = no_number (day_written text) (λ n h.
     let all = eight text size in
     no_fault (slice_index text 0) (slice_index text 1) (slice_index text 2) (slice_index text 3) (slice_index text 4) (slice_index text 5)
     (slice_index text 6) (slice_index text 7) n offset fault

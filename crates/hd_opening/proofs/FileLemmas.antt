@@ -14,6 +14,7 @@ use Rattle.hd_rules.specs.declared.rows.OpeningRow.{OpeningRow}
 use Rattle.hd_catalogue.specs.Contents.{Contents, OpeningRows}
 use Rattle.hd_catalogue.specs.Files.{lines_of}
 use Rattle.hd_catalogue.specs.Text.{is_digit, is_long, number_to, values_of}
+use Rattle.hd_lemmas.proofs.Lists.{head_same, tail_same}
 use Rattle.hd_opening.specs.Files.{AreInLimits, IsDigest, IsFirstBad, IsOpeningText, Tells, heading_line}
 use Rattle.hd_opening.specs.Lines.{first_said, is_digest, is_lower_digit, row_said}
 use Rattle.hd_opening.specs.Pieces.{behind_bars}
@@ -91,12 +92,6 @@ written_told k digest told text is fits (more, are, whole) =
       last = first.0;
       rows = rows_again k told.last told.rows more are fits.1 fits.0;
     }
-
-head_same : {A : Type 0} {x y : A} {xs ys : List A} → x ∷ xs ≡ y ∷ ys → x ≡ y
-head_same e = cc
-
-tail_same : {A : Type 0} {x y : A} {xs ys : List A} → x ∷ xs ≡ y ∷ ys → xs ≡ ys
-tail_same e = cc
 
 nil_cons : {A : Type 0} {x : A} {xs : List A} → [] ≡ x ∷ xs → ⊥
 nil_cons e = cc

@@ -12,6 +12,7 @@ use Rattle.hd_rules.specs.declared.rows.OpeningRow.{OpeningRow}
 use Rattle.hd_rules.specs.declared.holds.HoldKind.{HoldKind}
 use Rattle.hd_catalogue.specs.Contents.{Contents, OpeningRows}
 use Rattle.hd_catalogue.specs.Text.{as_four, as_three, as_two, is_decimal, number_to, number_written, values_of}
+use Rattle.hd_lemmas.proofs.Lists.{head_same, tail_same}
 use Rattle.hd_opening.specs.Files.{AreInLimits, Tells}
 use Rattle.hd_opening.specs.Limits.{IsInLimits}
 use Rattle.hd_opening.specs.Lines.{HoldValues, as_hold, first_said, first_values_said, from_one, heading_said, hold_names, hold_said, is_digest, kept_said, last_said, loan_said, named, row_said, said, sent_said, shelf_said, transit_said, values_said}
@@ -19,12 +20,6 @@ use Rattle.hd_opening.specs.declared.limits.TheConstants.{MOST_PLACES}
 use Rattle.hd_opening.specs.declared.cause.OpeningCause.{OpeningCause}
 use Rattle.hd_opening.specs.declared.cause.OpeningCause.TheVariants.{Header, Kind, Other, Unknown}
 use Rattle.hd_opening.proofs.NumberLemmas.{both_true}
-
-head_same : {A : Type 0} {x y : A} {xs ys : List A} → x ∷ xs ≡ y ∷ ys → x ≡ y
-head_same e = cc
-
-tail_same : {A : Type 0} {x y : A} {xs ys : List A} → x ∷ xs ≡ y ∷ ys → xs ≡ ys
-tail_same e = cc
 
 nil_cons : {A : Type 0} {x : A} {xs : List A} → [] ≡ x ∷ xs → ⊥
 nil_cons e = cc

@@ -1,7 +1,7 @@
 -- Lines one after another.
 use Rattle.std.proofs.Common.{◌≡◌, ℕ, ◌+◌, List, [], ◌∷◌, ◌++◌, map, length, Ok, Err, inl, inr, refl, sym, ap, ◌∙◌, arith}
 use Rattle.std.proofs.Common.{append_assoc, length-append}
-use Rattle.std.proofs.lemmas.List.{length-map}
+use Rattle.std.proofs.lemmas.List.{append-nil, length-map, map_push}
 use Rattle.hd_rules.specs.declared.rows.OpeningRow.{OpeningRow}
 use Rattle.hd_catalogue.specs.Contents.{Contents, OpeningRows}
 use Rattle.hd_opening.specs.Files.{IsFirstBad, Names, SayRows, Tells}
@@ -16,14 +16,6 @@ pub record HasRead (k : Contents) (digest : List ℕ) (all : List (List ℕ)) (l
   pub heads : first_said digest first ≡ Ok last
   pub earlier : SayRows k last before rows
   pub counted : number ≡ length before + 1
-
-append_nil : {A : Type 0} (xs : List A) → xs ++ [] ≡ xs
-append_nil [] = refl
-append_nil (x ∷ xs) = ap (λ ys. x ∷ ys) (append_nil xs)
-
-map-push : {X Y : Type 0} (f : X → Y) (xs : List X) (x : X) → map f (xs ++ x ∷ []) ≡ map f xs ++ f x ∷ []
-map-push f [] x = refl
-map-push f (y ∷ xs) x = ap (λ ys. f y ∷ ys) (map-push f xs x)
 
 module _ (k : Contents) (digest : List ℕ) (all : List (List ℕ)) where
   pub begun : (first : List ℕ) (left : List (List ℕ)) (last : ℕ) → all ≡ first ∷ left → first_said digest first ≡ Ok last
@@ -50,8 +42,8 @@ module _ (k : Contents) (digest : List ℕ) (all : List (List ℕ)) where
     whole = h.whole ∙ ap (λ ls. h.first ∷ ls) (sym (append_assoc h.before (line ∷ []) left));
     heads = h.heads;
     earlier =
-        map-push (row_said k last) h.before line ∙ ap (λ rs. rs ++ row_said k last line ∷ []) h.earlier
-        ∙ ap (λ r. map Ok rows ++ r ∷ []) said ∙ sym (map-push Ok rows row);
+        map_push (row_said k last) h.before line ∙ ap (λ rs. rs ++ row_said k last line ∷ []) h.earlier
+        ∙ ap (λ r. map Ok rows ++ r ∷ []) said ∙ sym (map_push Ok rows row);
     counted = omega (arith, h.counted, length-append h.before (line ∷ []));
   }
 
@@ -77,7 +69,7 @@ module _ (k : Contents) (digest : List ℕ) (all : List (List ℕ)) where
   done last number rows h = record {
     first = h.first;
     more = h.before;
-    whole = h.whole ∙ ap (λ ls. h.first ∷ ls) (append_nil h.before);
+    whole = h.whole ∙ ap (λ ls. h.first ∷ ls) (append-nil h.before);
     last = h.heads;
     rows = h.earlier;
   }

@@ -5,6 +5,7 @@ use Rattle.std.specs.Prelude.{nat_le, not, ◌&&◌, ◌==◌}
 use Rattle.std.specs.List.{list_all, slice_split}
 use Rattle.std.specs.Str.Lines.{lines, lines_of_parts, strip_carriage_return}
 use Rattle.std.proofs.lemmas.Bool.Decides.{nat_tests}
+use Rattle.std.proofs.lemmas.List.{append-nil}
 use Rattle.std.proofs.lemmas.List.Folds.{list_all-append}
 use Rattle.std.proofs.lemmas.List.Sums.{AllPass-from_list_all}
 use Rattle.std.proofs.lemmas.List.Splits.{length-slice_split, slice_split_at, slice_split_none}
@@ -51,14 +52,10 @@ abbrev pub AreClean : List (List ℕ) → Type 0
 AreClean [] = Unit {0}
 AreClean (text ∷ texts) = IsClean text × AreClean texts
 
-append_nil : {A : Type 0} (xs : List A) → xs ++ [] ≡ xs
-append_nil [] = refl
-append_nil (x ∷ xs) = ap (λ ys. x ∷ ys) (append_nil xs)
-
 -- the values of a line are those that were written
 pub values_again : (text : List ℕ) (texts : List (List ℕ)) → list_all is_plain text ≡ true → AreClean texts
     → values_of (text ++ behind_bars texts) ≡ text ∷ texts
-values_again text [] h hs = ap values_of (append_nil text) ∙ slice_split_none (λ b. b == 124) text (no_bar text h)
+values_again text [] h hs = ap values_of (append-nil text) ∙ slice_split_none (λ b. b == 124) text (no_bar text h)
 values_again text (next ∷ texts) h hs =
     slice_split_at (λ b. b == 124) text 124 (next ++ behind_bars texts) (no_bar text h) refl
     ∙ ap (λ vs. text ∷ vs) (values_again next texts hs.0.plain hs.1)

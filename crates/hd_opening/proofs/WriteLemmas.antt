@@ -1,5 +1,6 @@
 -- What is appended to a text.
 use Rattle.std.proofs.Common.{◌≡◌, ℕ, codes, decimal, List, [], ◌∷◌, ◌++◌, refl, sym, ap, subst, ◌∙◌, append_assoc}
+use Rattle.std.proofs.lemmas.List.{append-nil}
 use Rattle.hd_rules.specs.declared.rows.OpeningRow.{OpeningRow}
 use Rattle.hd_catalogue.specs.Contents.{Contents}
 use Rattle.hd_opening.specs.Pieces.{AreLines, ArePieceTexts, IsLine, IsPieceText, admits_piece, behind_bars, copy_piece, day_piece}
@@ -7,10 +8,6 @@ use Rattle.hd_opening.specs.declared.piece.Piece.{Piece}
 use Rattle.hd_opening.specs.declared.piece.Piece.TheVariants as piece
 use Rattle.hd_rules.specs.declared.holds.Hold.{Hold}
 use Rattle.hd_rules.specs.declared.rows.OpeningRow.TheVariants as row
-
-append_nil : {A : Type 0} (xs : List A) → xs ++ [] ≡ xs
-append_nil [] = refl
-append_nil (x ∷ xs) = ap (λ ys. x ∷ ys) (append_nil xs)
 
 -- one value more
 pub texts_push : (k : Contents) (ps : List Piece) (texts : List (List ℕ)) (p : Piece) (text : List ℕ) → ArePieceTexts k ps texts
@@ -20,7 +17,7 @@ texts_push k (q ∷ ps) texts p text (t, more, isq, are, whole) is =
     (t, more ++ text ∷ [], isq, texts_push k ps more p text are is, ap (λ ts. ts ++ text ∷ []) whole)
 
 pub bars_push : (texts : List (List ℕ)) (text : List ℕ) → behind_bars (texts ++ text ∷ []) ≡ behind_bars texts ++ 124 ∷ text
-bars_push [] text = append_nil (124 ∷ text)
+bars_push [] text = append-nil (124 ∷ text)
 bars_push (t ∷ texts) text = ap (λ rest. 124 ∷ t ++ rest) (bars_push texts text) ∙ sym (append_assoc (124 ∷ t) (behind_bars texts) (124 ∷ text))
 
 -- one line more
@@ -80,7 +77,7 @@ first_put old last hex number digest a b c d e ea eb ec ed ee en eh =
     let third : c ≡ ((old ++ codes "H|opening|1|") ++ decimal last) ++ 124 ∷ [] =
     ec ∙ ap (λ o. o ++ 124 ∷ []) (eb ∙ ap (λ o. o ++ number) ea ∙ ap (λ n. (old ++ codes "H|opening|1|") ++ n) en) in
     let whole : d ≡ old ++ (codes "H|opening|1|" ++ (decimal last ++ 124 ∷ (hex ++ []))) =
-    ed ∙ ap (λ o. o ++ digest) third ∙ ap (λ t. (((old ++ codes "H|opening|1|") ++ decimal last) ++ 124 ∷ []) ++ t) (eh ∙ sym (append_nil hex))
+    ed ∙ ap (λ o. o ++ digest) third ∙ ap (λ t. (((old ++ codes "H|opening|1|") ++ decimal last) ++ 124 ∷ []) ++ t) (eh ∙ sym (append-nil hex))
     ∙ append_assoc ((old ++ codes "H|opening|1|") ++ decimal last) (124 ∷ []) (hex ++ [])
     ∙ append_assoc (old ++ codes "H|opening|1|") (decimal last) (124 ∷ (hex ++ []))
     ∙ append_assoc old (codes "H|opening|1|") (decimal last ++ 124 ∷ (hex ++ [])) in

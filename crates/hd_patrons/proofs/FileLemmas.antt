@@ -5,15 +5,10 @@ use Rattle.hd_catalogue.specs.Contents.{Contents}
 use Rattle.hd_catalogue.specs.Reading.{Names}
 use Rattle.hd_catalogue.specs.declared.cause.Cause.{Cause}
 use Rattle.hd_catalogue.specs.declared.cause.Cause.TheVariants.{Memory}
+use Rattle.hd_lemmas.proofs.Lists.{head_same, tail_same}
 use Rattle.hd_patrons.specs.Files.{EachPasses, IsAccepted, IsFirstBad, cause_of, said_of}
 use Rattle.hd_patrons.specs.Stored.{Stored, texts_of}
 use Rattle.hd_patrons.specs.declared.fault.PatronsFault.{PatronsFault}
-
-head_same : {A : Type 0} {x y : A} {xs ys : List A} → x ∷ xs ≡ y ∷ ys → x ≡ y
-head_same e = cc
-
-tail_same : {A : Type 0} {x y : A} {xs ys : List A} → x ∷ xs ≡ y ∷ ys → xs ≡ ys
-tail_same e = cc
 
 nil_split : {A : Type 0} (before : List A) (x : A) (after : List A) → [] ≡ before ++ x ∷ after → ⊥
 nil_split [] x after e = cc

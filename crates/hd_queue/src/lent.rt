@@ -1,43 +1,52 @@
 //! A list of holds, lent.
-ghost use Rattle.std.specs.Prelude.{◌≡◌, ◌++◌};
+ghost use Rattle.std.specs.Prelude.{◌≡◌, ◌++◌, All};
 ghost use Rattle.std.specs.Option.{option_copied};
 ghost use Rattle.std.specs.Iterator.{YieldsFirstRef, item_count};
+ghost use Rattle.hd_blocks.specs.Blocks.{all_items};
+ghost use Rattle.hd_pieces.specs.Pieces.{has_some};
 ghost use Rattle.hd_queue.specs.Holds.{hold_of};
 
+use hd_pieces::Piece;
 use hd_rules::{Hold, PatronNo};
+use std::alloc::{Allocator, Global};
 use std::marker::Model;
 
-/// The holds of a list, lent, from first to last. They stand in a ring, so they come as two slices.
+/// The holds of a list, lent, from first to last. They stand in pieces, so they come slice by slice.
 #[derive(Drop)]
-pub struct HoldSlices<'a> {
+pub struct HoldSlices<'a, A: Allocator = Global> {
     front: &'a [Hold],
-    back: &'a [Hold],
+    pieces: &'a [Piece<Hold, A>],
 }
 
-impl<'a> Model for HoldSlices<'a> {
-    ghost use Rattle.std.specs.Prelude.{List, ◌++◌};
+impl<'a, A: Allocator> Model for HoldSlices<'a, A> {
+    ghost use Rattle.std.specs.Prelude.{◌++◌, All, List};
+    ghost use Rattle.hd_blocks.specs.Blocks.{all_items};
+    ghost use Rattle.hd_pieces.specs.Pieces.{has_some};
     ghost use Rattle.hd_rules.specs.declared.holds.Hold.{Hold};
 
     ghost Value = { List Hold };
 
-    ghost view = { λ s. s.front.now ++ s.back.now };
+    ghost view = { λ s. s.front.now ++ all_items s.pieces.now };
+
+    ghost invariant = { λ s. All has_some s.pieces.now };
 }
 
-impl<'a> HoldSlices<'a> {
-    /// The list of these two parts.
-    pub(crate) fn new(front: &'a [Hold], back: &'a [Hold]) -> HoldSlices<'a>
-        ensures { result ≡ front.now ++ back.now }
+impl<'a, A: Allocator> HoldSlices<'a, A> {
+    /// The list of these holds, and then of those of the pieces.
+    pub(crate) fn new(front: &'a [Hold], pieces: &'a [Piece<Hold, A>]) -> HoldSlices<'a, A>
+        requires { All has_some pieces.now }
+        ensures { result ≡ front.now ++ all_items pieces.now }
     {
-        HoldSlices { front, back }
+        HoldSlices { front, pieces }
     }
 
     /// The same holds once more.
-    pub(crate) fn again(&self) -> HoldSlices<'a>
+    pub(crate) fn again(&self) -> HoldSlices<'a, A>
         ensures { result ≡ self.now }
     {
         HoldSlices {
             front: self.front,
-            back: self.back,
+            pieces: self.pieces,
         }
     }
 
@@ -45,14 +54,16 @@ impl<'a> HoldSlices<'a> {
     pub(crate) fn hold_of(&self, patron: PatronNo) -> Option<&'a Hold>
         ensures { option_copied result ≡ hold_of self.now patron }
     {
-        match hold_in(self.front, patron) {
-            Some(hold) => Some(hold),
-            None => hold_in(self.back, patron),
+        for hold in self.again() {
+            if hold.patron == patron {
+                return Some(hold);
+            }
         }
+        None
     }
 }
 
-impl<'a> Iterator for HoldSlices<'a> {
+impl<'a, A: Allocator> Iterator for HoldSlices<'a, A> {
     type Item = &'a Hold;
 
     ghost next_gives = { YieldsFirstRef (λ holds. holds) };
@@ -60,19 +71,14 @@ impl<'a> Iterator for HoldSlices<'a> {
     ghost remaining = { item_count (λ holds. holds) };
 
     fn next(&mut self) -> Option<&'a Hold> {
-        if self.front.is_empty() {
-            self.front = self.back;
-            self.back = &[];
+        if let Some((first, others)) = self.front.split_first() {
+            self.front = others;
+            return Some(first);
         }
-        let (first, others) = self.front.split_first()?;
+        let (piece, pieces) = self.pieces.split_first()?;
+        let (first, others) = piece.items().split_first()?;
         self.front = others;
+        self.pieces = pieces;
         Some(first)
     }
-}
-
-/// A patron's hold.
-fn hold_in(holds: &[Hold], patron: PatronNo) -> Option<&Hold>
-    ensures { option_copied result ≡ hold_of holds.now patron }
-{
-    holds.iter().find(|h| h.patron == patron)
 }

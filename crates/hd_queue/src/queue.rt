@@ -47,11 +47,9 @@ impl<A: Allocator + Copy> Queue<A> {
             room: 0,
         }
     }
-}
 
-impl<A: Allocator> Queue<A> {
-    /// Makes room for that many more holds. Want of memory changes nothing, and comes only where there was
-    /// less room.
+    /// Makes room for that many more holds. It is out of memory only where there was less room, and
+    /// then changes nothing.
     pub fn ready(&mut self, more: usize) -> Result<(), AllocError>
         ensures holds { self.new.holds ≡ self.old.holds }
         ensures ok { OnOk result (more ≤ self.new.room) }
@@ -65,7 +63,9 @@ impl<A: Allocator> Queue<A> {
         self.room = self.room.max(more);
         Ok(())
     }
+}
 
+impl<A: Allocator> Queue<A> {
     /// Puts a hold at the place of its stamp. It takes no memory.
     ///
     /// There must be room, and neither the patron nor the stamp may be there.
@@ -146,7 +146,7 @@ impl<A: Allocator> Queue<A> {
 
     /// The holds, lent, with those that wait by what they wait for. The stamps rise, and no patron has two
     /// holds. It takes no memory.
-    pub fn view(&self) -> QueueView<'_>
+    pub fn view(&self) -> QueueView<'_, A>
         ensures holds { result ≡ self.now.holds }
         ensures ordered { IsInOrder result }
         ensures once { HasPatronsOnce result }

@@ -37,8 +37,8 @@ impl<A: Allocator + Copy> Stamps<A> {
 }
 
 impl<A: Allocator> Stamps<A> {
-    /// Makes room for that many more stamps. Want of memory keeps the stamps, and comes only where there was
-    /// less room.
+    /// Makes room for that many more stamps. It is out of memory only where there was less room, and
+    /// the stamps stay.
     pub(crate) fn ready(&mut self, more: usize) -> Result<(), AllocError>
         ensures stamps { (patron : ℕ) → stamp_of self.new patron ≡ stamp_of self.old patron }
         ensures ok { OnOk result (more ≤ self.new.room) }

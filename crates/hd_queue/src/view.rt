@@ -9,18 +9,19 @@ ghost use Rattle.hd_queue.specs.Wanted.{wants_hold};
 use crate::lent::HoldSlices;
 use crate::wanted::Wanted;
 use hd_rules::{BranchNo, CopyNo, Hold, PatronNo};
+use std::alloc::{Allocator, Global};
 use std::marker::Model;
 
 /// The holds of one title, lent, in order of stamp. Its calls take no memory.
 #[derive(Drop)]
-pub struct QueueView<'a> {
-    holds: HoldSlices<'a>,
-    for_any: HoldSlices<'a>,
-    for_one: HoldSlices<'a>,
-    at_branch: HoldSlices<'a>,
+pub struct QueueView<'a, A: Allocator = Global> {
+    holds: HoldSlices<'a, A>,
+    for_any: HoldSlices<'a, A>,
+    for_one: HoldSlices<'a, A>,
+    at_branch: HoldSlices<'a, A>,
 }
 
-impl<'a> Model for QueueView<'a> {
+impl<'a, A: Allocator> Model for QueueView<'a, A> {
     ghost use Rattle.std.specs.Prelude.{List};
     ghost use Rattle.hd_rules.specs.declared.holds.Hold.{Hold};
     ghost use Rattle.hd_queue.specs.Holds.{HasPatronsOnce, IsInOrder};
@@ -34,14 +35,14 @@ impl<'a> Model for QueueView<'a> {
         × AreWaiting v.holds v.for_any v.for_one v.at_branch };
 }
 
-impl<'a> QueueView<'a> {
+impl<'a, A: Allocator> QueueView<'a, A> {
     /// The view of these lists.
     pub(crate) fn new(
-        holds: HoldSlices<'a>,
-        for_any: HoldSlices<'a>,
-        for_one: HoldSlices<'a>,
-        at_branch: HoldSlices<'a>,
-    ) -> QueueView<'a>
+        holds: HoldSlices<'a, A>,
+        for_any: HoldSlices<'a, A>,
+        for_one: HoldSlices<'a, A>,
+        at_branch: HoldSlices<'a, A>,
+    ) -> QueueView<'a, A>
         requires ordered { IsInOrder holds }
         requires once { HasPatronsOnce holds }
         requires waiting { AreWaiting holds for_any for_one at_branch }
@@ -56,7 +57,7 @@ impl<'a> QueueView<'a> {
     }
 
     /// All holds, in order of stamp.
-    pub fn holds(&self) -> HoldSlices<'a>
+    pub fn holds(&self) -> HoldSlices<'a, A>
         ensures { result ≡ self.now }
     {
         self.holds.again()
@@ -71,7 +72,7 @@ impl<'a> QueueView<'a> {
 
     /// The holds that wait for any copy, in order of stamp. In a queue the stamps rise, and no patron has two
     /// holds.
-    pub fn any(&self) -> Waiting<'a>
+    pub fn any(&self) -> Waiting<'a, A>
         ensures waiting { result ≡ filter waits_for_any self.now }
         ensures ordered { IsInOrder self.now }
         ensures once { HasPatronsOnce self.now }
@@ -80,14 +81,14 @@ impl<'a> QueueView<'a> {
     }
 
     /// The holds that wait for this copy alone, in order of stamp.
-    pub fn for_copy(&self, copy: CopyNo) -> Waiting<'a>
+    pub fn for_copy(&self, copy: CopyNo) -> Waiting<'a, A>
         ensures { result ≡ filter (waits_for copy) self.now }
     {
         Waiting::new(&self.for_one, Wanted::Naming(copy))
     }
 
     /// The holds that wait for a copy whose home is this branch, their pickup, in order of stamp.
-    pub fn at_branch(&self, branch: BranchNo) -> Waiting<'a>
+    pub fn at_branch(&self, branch: BranchNo) -> Waiting<'a, A>
         ensures { result ≡ filter (waits_at branch) self.now }
     {
         Waiting::new(&self.at_branch, Wanted::PickedUpAt(branch))
@@ -96,12 +97,12 @@ impl<'a> QueueView<'a> {
 
 /// Holds that wait, in order of stamp. It takes no memory.
 #[derive(Drop)]
-pub struct Waiting<'a> {
-    rest: HoldSlices<'a>,
+pub struct Waiting<'a, A: Allocator = Global> {
+    rest: HoldSlices<'a, A>,
     wanted: Wanted,
 }
 
-impl<'a> Model for Waiting<'a> {
+impl<'a, A: Allocator> Model for Waiting<'a, A> {
     ghost use Rattle.std.specs.Prelude.{List, filter};
     ghost use Rattle.hd_rules.specs.declared.holds.Hold.{Hold};
     ghost use Rattle.hd_queue.specs.Wanted.{wants_hold};
@@ -111,9 +112,9 @@ impl<'a> Model for Waiting<'a> {
     ghost view = { λ w. filter (wants_hold w.wanted) w.rest };
 }
 
-impl<'a> Waiting<'a> {
+impl<'a, A: Allocator> Waiting<'a, A> {
     /// Those of the list that are wanted.
-    fn new(list: &HoldSlices<'a>, wanted: Wanted) -> Waiting<'a>
+    fn new(list: &HoldSlices<'a, A>, wanted: Wanted) -> Waiting<'a, A>
         ensures { result ≡ filter (wants_hold wanted) list.now }
     {
         Waiting {
@@ -123,7 +124,7 @@ impl<'a> Waiting<'a> {
     }
 }
 
-impl<'a> Iterator for Waiting<'a> {
+impl<'a, A: Allocator> Iterator for Waiting<'a, A> {
     type Item = &'a Hold;
 
     ghost next_gives = { YieldsFirstRef (λ holds. holds) };

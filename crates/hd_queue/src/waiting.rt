@@ -48,12 +48,10 @@ impl<A: Allocator + Copy> WaitingLists<A> {
             at_branch: HoldList::new(alloc),
         }
     }
-}
 
-impl<A: Allocator> WaitingLists<A> {
     /// Makes room for that many more holds in each list.
     ///
-    /// Want of memory keeps the holds, and comes only where a list had less room.
+    /// It is out of memory only where a list had less room, and the holds stay.
     pub(crate) fn ready(&mut self, more: usize) -> Result<(), AllocError>
         ensures for_any { self.new.for_any ≡ self.old.for_any }
         ensures for_one { self.new.for_one ≡ self.old.for_one }
@@ -66,7 +64,9 @@ impl<A: Allocator> WaitingLists<A> {
         self.for_one.ready(more)?;
         self.at_branch.ready(more)
     }
+}
 
+impl<A: Allocator> WaitingLists<A> {
     /// Puts a hold into the list of its kind, unless it has a copy. It takes no memory.
     pub(crate) fn put(&mut self, hold: &Hold)
         requires room { 0 < self.old.room }
@@ -118,21 +118,21 @@ impl<A: Allocator> WaitingLists<A> {
     }
 
     /// The holds of any copy, lent.
-    pub(crate) fn for_any(&self) -> HoldSlices<'_>
+    pub(crate) fn for_any(&self) -> HoldSlices<'_, A>
         ensures { result ≡ self.now.for_any }
     {
         self.for_any.lend()
     }
 
     /// The holds of one copy, lent.
-    pub(crate) fn for_one(&self) -> HoldSlices<'_>
+    pub(crate) fn for_one(&self) -> HoldSlices<'_, A>
         ensures { result ≡ self.now.for_one }
     {
         self.for_one.lend()
     }
 
     /// The holds of the copies of their pickup, lent.
-    pub(crate) fn at_branch(&self) -> HoldSlices<'_>
+    pub(crate) fn at_branch(&self) -> HoldSlices<'_, A>
         ensures { result ≡ self.now.at_branch }
     {
         self.at_branch.lend()

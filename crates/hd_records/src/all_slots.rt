@@ -53,8 +53,8 @@ impl<A: Allocator + Copy> AllSlots<A> {
 }
 
 impl<A: Allocator> AllSlots<A> {
-    /// Makes room for one more slot and the findings and changes of its record. Want of memory changes no
-    /// slot, and comes only where there was no room.
+    /// Makes room for one more slot and the findings and changes of its record. It is out of memory
+    /// only where there was no room, and then changes no slot.
     pub(crate) fn ready(&mut self) -> Result<(), AllocError>
         ensures items { self.new.items ≡ self.old.items }
         ensures ok { OnOk result (0 < self.new.room) }

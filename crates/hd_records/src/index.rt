@@ -54,8 +54,8 @@ impl<A: Allocator + Copy> Index<A> {
         }
     }
 
-    /// Makes room for one more number under the keys. Want of memory changes no list, and comes only where
-    /// there was no room under one of them.
+    /// Makes room for one more number under the keys. It is out of memory only where there was no
+    /// room under one of them, and then changes no list.
     pub(crate) fn ready(&mut self, keys: CommandKeys) -> Result<(), AllocError>
         ensures listed { (x : Key) → listed_under x self.new ≡ listed_under x self.old }
         ensures ok { OnOk result (HasRoomUnder keys self.new) }

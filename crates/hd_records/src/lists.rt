@@ -11,8 +11,8 @@ use std::alloc::{AllocError, Allocator};
 /// A place in a list has 32 bits.
 const MOST_VALUES: usize = 4_294_967_295;
 
-/// Makes room for the values of one more record. Want of memory changes no list, and comes only where there
-/// was no room.
+/// Makes room for the values of one more record. It is out of memory only where there was no room, and
+/// then changes no list.
 pub(crate) fn ready_for_four<T, A: Allocator>(list: &mut Vec<T, A>) -> Result<(), AllocError>
     ensures items { list.new.items ≡ list.old.items }
     ensures len { vec_len list.new ≡ vec_len list.old }

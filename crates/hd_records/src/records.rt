@@ -80,8 +80,8 @@ impl<A: Allocator + Copy> Records<A> {
         }
     }
 
-    /// Makes room for the record of one more command, before it is carried out. Want of memory changes no
-    /// record, and comes only where there was no room.
+    /// Makes room for the record of one more command, before it is carried out. It is out of memory
+    /// only where there was no room, and then changes no record.
     pub fn ready(&mut self, catalogue: &Catalogue<A>, command: &Command) -> Result<(), AllocError>
         requires { IsKnownAction (facts_of catalogue.now) command.now.action }
         ensures records { self.new.records ≡ self.old.records }

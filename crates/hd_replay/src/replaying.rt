@@ -106,7 +106,7 @@ pub fn replay_over<A: Allocator + Copy, R: Input, W: Output>(
         result }
     ensures why { IfErr result (HasReason (R.fails from.new) (W.fails to.new)) }
 {
-    match hd_journal::open(alloc, rt.alloc(), Meter::new(rt), catalogue) {
+    match hd_journal::open(alloc, Meter::new(rt), catalogue) {
         Ok(journal) => replay_at(alloc, journal, now, extensions, from, to),
         Err(_) => Err(ReplayFault::Memory),
     }
@@ -198,7 +198,9 @@ fn take_front<A: Allocator>(input: &mut Vec<u8, A>, count: usize)
     requires { count ≤ vec_len input.old }
     ensures { input.new.items ≡ drop count input.old.items }
 {
-    input.drain(..count);
+    let left = input.len() - count;
+    input.copy_within(count.., 0);
+    input.truncate(left);
 }
 
 /// Answers a last line that nothing ends, where there is one: the end of input ends it.

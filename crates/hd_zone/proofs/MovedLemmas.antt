@@ -1,6 +1,6 @@
 -- A catalogue whose first line has another offset says the same but for that.
 use Rattle.std.proofs.Common.{◌≡◌, ℕ, ℤ, Bool, true, false, List, [], ◌∷◌, Option, None, Some, refl, sym, ap, subst}
-use Rattle.std.specs.Prelude.{codes, drop, fold, not, if◌then◌else◌, option_map, slice_get}
+use Rattle.std.specs.Prelude.{codes, drop, fold, if◌then◌else◌, option_map, slice_get}
 use Rattle.std.proofs.lemmas.Option.{none-some, same_Some}
 use Rattle.std.specs.Str.{bytes_eq}
 use Rattle.hd_catalogue.specs.Contents.{Contents}
@@ -8,14 +8,11 @@ use Rattle.hd_catalogue.specs.Files.{IsAccepted, contents_of}
 use Rattle.hd_catalogue.specs.Lines.{begun_by, first_contents, heading_of, version_of, with_branch, with_copy_line, with_line, with_patron, with_terminal, with_title, title_values, with_values}
 use Rattle.hd_catalogue.specs.Text.{as_four, as_one, as_two, as_three, values_of}
 use Rattle.hd_catalogue.specs.declared.facts.Version.{Version}
+use Rattle.hd_lemmas.proofs.Lists.{head_same, tail_same}
 use Rattle.hd_zone.specs.Moved.{IsMoved, SaysSame, with_offset}
 
 pub trans : {A : Type 0} {x y z : A} → x ≡ y → y ≡ z → x ≡ z
 trans e f = cc
-
-pub not_false : (b : Bool) → not b ≡ false → b ≡ true
-not_false true h = refl
-not_false false h = cc
 
 branch_moved : (k : Contents) (o : ℤ) (v : Option (List ℕ)) → with_branch (with_offset k o) v ≡ with_offset (with_branch k v) o
 branch_moved k o None = refl
@@ -95,12 +92,6 @@ whole_moved one other more same =
     trans (ap (λ j. fold with_line j more) (first_moved one other same)) (more_moved (first_contents one) o more) in
     let at : (contents_of other more).settings.offset ≡ o = ap (λ k. k.settings.offset) all in
     subst (λ n. contents_of other more ≡ with_offset (contents_of one more) n) (sym at) all
-
-head_same : {A : Type 0} {x y : A} {xs ys : List A} → x ∷ xs ≡ y ∷ ys → x ≡ y
-head_same e = cc
-
-tail_same : {A : Type 0} {x y : A} {xs ys : List A} → x ∷ xs ≡ y ∷ ys → xs ≡ ys
-tail_same e = cc
 
 -- a catalogue with its own offset is itself
 pub own_offset : (k : Contents) (o : ℤ) → k.settings.offset ≡ o → k ≡ with_offset k o

@@ -72,7 +72,7 @@ fn take_again<S: Start>(
         is_other_accepted: keeping.is_other_accepted,
     };
     let alloc = rt.alloc();
-    let journal = hd_journal::open(alloc, alloc, Meter::new(rt), catalogue)?;
+    let journal = hd_journal::open(alloc, Meter::new(rt), catalogue)?;
     let mut retaking = Retaking::begin(rt)?;
     let opened = open(
         rt,

@@ -126,7 +126,7 @@ impl Library {
     {
         let Library { catalogue, .. } = self;
         let alloc = rt.alloc();
-        Ok(hd_journal::open(alloc, alloc, Meter::new(rt), catalogue)?)
+        Ok(hd_journal::open(alloc, Meter::new(rt), catalogue)?)
     }
 }
 

@@ -26,8 +26,8 @@ use std::thread::Threads;
 use std::time::Clock;
 
 /// Serves terminals over a library as the words of the command line say, and, where there is to be one, opens
-/// a door at which the server is seen. Whoever asks it there to end hears when it has. Of a file that can't be
-/// read the log has path and reason, and the fault is one line for all paths.
+/// a door at which the server is seen. Whoever asks it there to end hears when it has. Of a file that
+/// can't be read the log has path and reason, and the fault is one line for all paths.
 pub(crate) fn serve<R: Threads + Wait + Clock + Sync + Print>(
     rt: &R,
     host: &HostRuntime,

@@ -47,8 +47,8 @@ pub(crate) fn database(disks: &Disks) -> &[u8] {
     disks.db.inner().bytes()
 }
 
-/// Opens the database in them, in which each page of a new one has a sum, as in a file of the program. Where it
-/// can't be opened, the disks come back.
+/// Opens the database in them, in which each page of a new one has a sum, as in a file of the program. Where
+/// it can't be opened, the disks come back.
 pub(crate) fn open(alloc: Global, disks: Disks) -> Result<OnDisks, Disks> {
     if !disks.may_be_used() {
         return Err(disks);

@@ -15,7 +15,7 @@ pub(crate) fn new_journal<A: Allocator + Copy>(rt: &HostRuntime, alloc: A) -> Op
     ensures { IfSome result (λ journal. journal.turns ≡ []) }
 {
     let catalogue = Catalogue::read(alloc, test_kit::catalogue()).ok()?;
-    match hd_journal::open(alloc, rt.alloc(), Meter::new(rt), catalogue) {
+    match hd_journal::open(alloc, Meter::new(rt), catalogue) {
         Ok(journal) => Some(journal),
         Err(_) => None,
     }

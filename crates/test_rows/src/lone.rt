@@ -44,7 +44,7 @@ impl<'e, A: Allocator + Copy> Lone<'e, A> {
         let Some((catalogue, now)) = library_of(alloc, catalogue, now) else {
             return Ok(None);
         };
-        let Ok(journal) = hd_journal::open(alloc, rt.alloc(), Meter::new(rt), catalogue) else {
+        let Ok(journal) = hd_journal::open(alloc, Meter::new(rt), catalogue) else {
             return Err(AllocError);
         };
         Ok(Some(Lone {

@@ -53,7 +53,7 @@ impl<'e> Terminals<'e> {
         let Some((catalogue, now)) = library_of(alloc, row.catalogue(), row.now()) else {
             return Ok(None);
         };
-        let Ok(journal) = hd_journal::open(alloc, alloc, Meter::new(rt), catalogue) else {
+        let Ok(journal) = hd_journal::open(alloc, Meter::new(rt), catalogue) else {
             return Err(AllocError);
         };
         Ok(Some(Terminals {

@@ -12,5 +12,5 @@ pub(crate) fn new_journal(rt: &HostRuntime) -> Option<Journal>
 {
     let alloc = rt.alloc();
     let catalogue = Catalogue::read(alloc, catalogue()).ok()?;
-    hd_journal::open(alloc, alloc, Meter::new(rt), catalogue).ok()
+    hd_journal::open(alloc, Meter::new(rt), catalogue).ok()
 }

@@ -51,7 +51,7 @@ fn fresh_desk<A: Allocator + Copy>(
     let Ok(catalogue) = Arc::try_clone(journal.desk().catalogue()) else {
         return None;
     };
-    match Desk::open(alloc, rt.alloc(), catalogue) {
+    match Desk::open(alloc, catalogue) {
         Ok(desk) => Some(desk),
         Err(_) => None,
     }

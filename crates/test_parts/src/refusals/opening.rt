@@ -81,7 +81,7 @@ fn is_desk_refused<A: Allocator + Copy>(
     catalogue: &Arc<Catalogue<A>, A>,
 ) -> Option<bool> {
     let own = Arc::try_clone(catalogue).ok()?;
-    match Desk::open(alloc, rt.alloc(), own) {
+    match Desk::open(alloc, own) {
         Ok(_) => Some(false),
         Err(OpenFault::Memory) => Some(true),
         Err(OpenFault::Row { .. }) => None,

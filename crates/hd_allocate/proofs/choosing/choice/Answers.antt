@@ -1,12 +1,13 @@
 use Rattle.std.specs.Option.{option_copied}
 use Rattle.hd_allocate.proofs.FrontLemmas.{IsFirst}
 use Rattle.hd_allocate.proofs.ChoosingLemmas.{wants, Found, found_first, first_is_choice, first_waits}
+use Rattle.hd_allocate.proofs.choosing.choice.Given.{Over}
 use Rattle.hd_allocate.proofs.choosing.choice.Goals as goal
 
 -- the hold that is found is the first that wants the copy
-first : (c : goal.After-earlier) → IsFirst c.args.copy.now.priority c.args.at (wants c.args.copy.now.copy c.args.copy.now.home c.args.day)
+first : (g : Over) (c : goal.After-earlier g) → IsFirst c.args.copy.now.priority c.args.at (wants c.args.copy.now.copy c.args.copy.now.home c.args.day)
     c.args.queue.now (option_copied c.earlier.result)
-first c =
+first g c =
     let f : Found c.args.copy.now c.args.at c.args.day c.args.queue.now c.any.result c.for_copy.result c.at_branch.result
     (option_copied c.front-any.result) (option_copied c.front-named.result) (option_copied c.front-home.result)
     (option_copied c.earlier-either.result) (option_copied c.earlier.result) = record {
@@ -24,11 +25,11 @@ first c =
     (option_copied c.earlier-either.result) (option_copied c.earlier.result) c.any.ensures.ordered c.any.ensures.once f
 
 pub returns-clause-chosen : goal.returns-clause-chosen
-returns-clause-chosen c = λ k d at.
+returns-clause-chosen g c = λ k d at.
     first_is_choice c.choice_is_the_first_candidate.ensures k d c.args.queue.now c.args.copy.now c.args.at c.args.day
-    (option_copied c.earlier.result) c.any.ensures.ordered at (first c)
+    (option_copied c.earlier.result) c.any.ensures.ordered at (first g c)
 
 pub returns-clause-waits : goal.returns-clause-waits
-returns-clause-waits c =
+returns-clause-waits g c =
     first_waits c.args.copy.now.priority c.args.copy.now.copy c.args.copy.now.home c.args.at c.args.day c.args.queue.now c.earlier.result
-    (first c)
+    (first g c)

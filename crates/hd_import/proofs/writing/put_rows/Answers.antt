@@ -1,8 +1,9 @@
 use Rattle.std.proofs.Common.{◌≡◌, ◌∷◌, ◌++◌, [], ◌∙◌, map, sym, ap, string_bytes, take, true}
 use Rattle.std.proofs.lemmas.List.{map-append, take_more}
+use Rattle.std.proofs.lemmas.List.Elements.{All-push}
 use Rattle.csv.specs.Records.{Row as Record, fields_of}
 use Rattle.hd_import.specs.Texts.{is_fit_row, text_of_rows}
-use Rattle.hd_import.proofs.WriteLemmas.{all_more, row_more}
+use Rattle.hd_import.proofs.WriteLemmas.{row_more}
 use Rattle.hd_import.proofs.writing.put_rows.Goals as goal
 
 pub loop-index-preserved : goal.loop-index-preserved
@@ -21,6 +22,6 @@ loop-index-preserved c =
           (map fields_of (take at rows)) (fields_of row) c.loop-index.invariant.text c.in_default.ensures.line
           ∙ ap (λ rs. start ++ text_of_rows settings sheet headings rs) (sym (map-append fields_of (take at rows) (row ∷ [])));
       fit =
-          all_more (λ (row : Record). is_fit_row settings sheet headings (fields_of row) ≡ true) (take at rows) row c.loop-index.invariant.fit
+          All-push (λ (row : Record). is_fit_row settings sheet headings (fields_of row) ≡ true) (take at rows) row c.loop-index.invariant.fit
           c.in_default.ensures.fit;
     }

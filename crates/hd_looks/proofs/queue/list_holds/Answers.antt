@@ -4,8 +4,8 @@ use Rattle.hd_desk.specs.Desks.{desk_of, facts}
 use Rattle.hd_looks.specs.declared.row.Row.{Row}
 use Rattle.hd_looks.specs.Making.{with_rest}
 use Rattle.hd_looks.specs.PageValue.{PageValue}
-use Rattle.hd_looks.specs.Rows.{queue_rows}
-use Rattle.hd_looks.proofs.Making.{put_behind}
+use Rattle.hd_looks.specs.Rows.{hold_row, queue_rows}
+use Rattle.hd_looks.proofs.Making.{passed_over, put_behind}
 use Rattle.hd_looks.proofs.queue.list_holds.Goals as goal
 
 pub loop-hold-preserved : goal.loop-hold-preserved
@@ -21,4 +21,14 @@ loop-hold-preserved g c =
     ∙ ap (λ (r : Row). with_rest c.loop-hold.page c.loop-hold.others (r ∷ rows)) c.hold_row.ensures
     ∙ ap (λ (hs : List Hold). with_rest c.loop-hold.page c.loop-hold.others (queue_rows k d c.args.title hs))
     (sym step)
+    ∙ c.loop-hold.invariant
+
+pub loop-hold-preserved-then-others-gt0 : goal.loop-hold-preserved-then-others-gt0
+loop-hold-preserved-then-others-gt0 g c =
+    let k = facts c.args.desk.now in
+    let d = desk_of c.args.desk.now in
+    let rows : List Row = queue_rows k d c.args.title c.next.new.self in
+    let step : c.loop-hold.hold-iterator ≡ c.in-Some.hold.now ∷ c.next.new.self = search rules in
+    passed_over c.loop-hold.page c.loop-hold.others (hold_row k d c.args.title c.in-Some.hold.now) rows c.if-others-gt0.true
+    ∙ ap (λ (hs : List Hold). with_rest c.loop-hold.page c.loop-hold.others (queue_rows k d c.args.title hs)) (sym step)
     ∙ c.loop-hold.invariant

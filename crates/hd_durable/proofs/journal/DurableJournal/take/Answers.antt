@@ -1,11 +1,12 @@
 use Rattle.std.proofs.Common.{refl, sym, subst, ap, ◌∙◌, inl, inr, Option, None}
+use Rattle.std.proofs.lemmas.Bool.{not-false, not-true}
 use Rattle.std.proofs.lemmas.Result.{err_from_is_err_and}
 use Rattle.hd_catalogue.specs.Contents.{facts_of}
 use Rattle.hd_rules.specs.Messages.{IsKnownMessage}
 use Rattle.hd_journal.specs.declared.fault.WriteFault.{WriteFault}
 use Rattle.hd_durable.specs.Durable.{DurableValue, IsDurable, refuses_turn_of}
 use Rattle.hd_durable.proofs.Durability.{committed, durable_more, durable_same, durable_shut, last_known}
-use Rattle.hd_durable.proofs.Durability.{left_in_doubt, not_so, so}
+use Rattle.hd_durable.proofs.Durability.{left_in_doubt}
 use Rattle.hd_durable.proofs.Refusing.{out_of_memory, refused_one}
 use Rattle.hd_durable.proofs.journal.DurableJournal.take.Given.{Over}
 use Rattle.hd_durable.proofs.journal.DurableJournal.take.Goals.{In-Ok, Then-not-new}
@@ -28,7 +29,7 @@ same g c shut =
     c.in_ok-new.ensures.turn c.take_new.ensures.legal (g.T.TurnTable.contents c.self.inside.table)
     (g.T.TurnTable.holds c.self.inside.table)
     (g.T.TurnTable.leaves c.self.inside.table) c.self.inside.answered shut
-    c.self.invariant.same (sym c.in_ok-new.ensures.changing ∙ not_so _ c.if-not-new.true)
+    c.self.invariant.same (sym c.in_ok-new.ensures.changing ∙ not-true _ c.if-not-new.true)
     (c.self.invariant.opened c.in_default.is)
 
 pub invariant_of-self-then-not-new : goal.invariant_of-self-then-not-new
@@ -66,7 +67,7 @@ invariant_of-self-in-Err g c =
     (g.T.TurnTable.holds c.commit_last.new.table)
     (g.T.TurnTable.leaves c.commit_last.new.table) c.self.inside.answered c.in-Err.why
     c.self.invariant.same c.commit_last.ensures.contents
-    (sym c.in_ok-new.ensures.changing ∙ so _ c.if-not-new.false)
+    (sym c.in_ok-new.ensures.changing ∙ not-false _ c.if-not-new.false)
     c.self.invariant.legal (c.self.invariant.opened c.in_default.is) c.in-Err.ensures.err
 
 pub returns-in-Err-clause-left : goal.returns-in-Err-clause-left
@@ -76,7 +77,7 @@ returns-in-Err-clause-left g c =
     c.in_ok-new.ensures.turn c.take_new.ensures.legal
     (g.T.TurnTable.holds c.self.inside.table) (g.T.TurnTable.leaves c.self.inside.table)
     (g.T.TurnTable.leaves c.commit_last.new.table) c.self.inside.answered
-    (sym c.in_ok-new.ensures.changing ∙ so _ c.if-not-new.false) c.self.invariant.legal
+    (sym c.in_ok-new.ensures.changing ∙ not-false _ c.if-not-new.false) c.self.invariant.legal
     (c.self.invariant.opened c.in_default.is) c.in-Err.ensures.err
 
 -- nor does one that is committed
@@ -93,7 +94,7 @@ more g c shut =
     (g.T.TurnTable.holds c.commit_last.new.table)
     (g.T.TurnTable.leaves c.commit_last.new.table) c.self.inside.answered shut
     c.self.invariant.same c.commit_last.ensures.contents
-    (sym c.in_ok-new.ensures.changing ∙ so _ c.if-not-new.false)
+    (sym c.in_ok-new.ensures.changing ∙ not-false _ c.if-not-new.false)
     (c.self.invariant.opened c.in_default.is) c.in-Ok.ensures.ok c.in-Ok.ensures.settled
 
 pub invariant_of-self-in-Ok : goal.invariant_of-self-in-Ok

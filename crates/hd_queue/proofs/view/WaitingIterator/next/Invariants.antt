@@ -4,7 +4,7 @@ use Rattle.hd_queue.specs.Wanted.{wants_hold}
 use Rattle.hd_queue.proofs.view.WaitingIterator.next.Given as goal
 
 abbrev pub invariant-loop-hold : goal.invariant-loop-hold
-invariant-loop-hold l = filter (wants_hold l.self-inside.wanted) l.self-inside.rest ≡ l.fn.self
+invariant-loop-hold g l = filter (wants_hold l.self-inside.wanted) l.self-inside.rest ≡ l.fn.self
 
 abbrev pub decreases-loop-hold : goal.decreases-loop-hold
-decreases-loop-hold l = length l.self-inside.rest
+decreases-loop-hold g l = length l.self-inside.rest

@@ -1,5 +1,0 @@
-use Rattle.hd_desk.proofs.Making.{Picked}
-use Rattle.hd_desk.proofs.accepted.real_changes.Given as goal
-
-abbrev pub invariant-loop-change : goal.invariant-loop-change
-invariant-loop-change l = Picked l.changes l.change-index l.real
