@@ -125,6 +125,7 @@ test:
 	@python3 scripts/make_page.py --check
 	@folder=$$(mktemp -d) && trap 'rm -rf "$$folder"' EXIT && program=$$(python3 scripts/unproved.py "$$folder") && \
 	  python3 scripts/examples.py "$$program" && python3 scripts/import_sheets.py "$$program" && \
+	  python3 scripts/long_queue.py "$$program" && \
 	  python3 scripts/serve_smoke.py "$$program" && python3 scripts/serve_kiosk.py "$$program" && \
 	  python3 scripts/serve_hostile.py "$$program" && \
 	  python3 scripts/serve_many.py --terminals 100 --seconds 3 --latest 100 "$$program" && \

@@ -98,6 +98,8 @@ def rows(size):
     few = back[:max(20, len(back) // 20)]
     yield (f"the same with local priority, no hold of {len(elsewhere)} at the branch", local, lent + elsewhere, few,
            len(few))
+    behind = elsewhere[:-len(few)] + [hold(p, 1) for p in range(of(105_000) - len(few) + 1, of(105_000) + 1)]
+    yield (f"the same, the last of {len(behind)} at the branch", local, lent + behind, few, len(few))
 
     shelf, places = library(1, of(50_000), of(100_000)), of(50_000)
     stand = [checkout(p, p) for p in range(1, places + 1)] + [hold(places + p, 1) for p in range(1, places + 1)]

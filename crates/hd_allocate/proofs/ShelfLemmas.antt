@@ -11,9 +11,11 @@ use Rattle.hd_shelf.specs.Shelf.{LeastFree}
 use Rattle.hd_allocate.specs.Settling.{IsShelfOf}
 use Rattle.hd_lemmas.proofs.Options.{some_number}
 
-pub least_is_place : PlaceIsTheLeastFree → (k : Facts) (d : Desk) (b f : ℕ) (copies : FinMap nat_cmp ℕ) → IsShelfOf k d b copies
+pub least_is_place : PlaceIsTheLeastFree → (k : Facts) (d : Desk) (b f : ℕ) (copies : FinMap nat_cmp ℕ)
+    → IsShelfOf k d b copies
     → LeastFree copies f → place k d b ≡ f
-least_is_place law k d b f copies shelf is = sym ((law k d b f).0 (record { from_one = is.from_one; free = free; least = least }))
+least_is_place law k d b f copies shelf is =
+    sym ((law k d b f).0 (record { from_one = is.from_one; free = free; least = least }))
   where
     free : (c : ℕ) → c < k.copies → stands_at b f (d.copy c) ≡ false
     free c below = by_test (stands_at b f (d.copy c)) refl

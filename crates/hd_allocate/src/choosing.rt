@@ -1,11 +1,12 @@
 //! Which of the holds of a title a copy is for.
-ghost use Rattle.std.specs.Prelude.{◌≡◌, IfSome};
+ghost use Rattle.std.specs.Prelude.{◌≡◌, ℕ, filter, find, IfSome};
 ghost use Rattle.std.specs.Option.{option_copied};
 ghost use Rattle.hd_rules.specs.Facts.{Facts};
 ghost use Rattle.hd_rules.specs.Desk.{Desk};
 ghost use Rattle.hd_rules.specs.Find.{choice, earlier};
 ghost use Rattle.hd_rules.specs.Choose.{has_expired, is_local, precedes};
-ghost use Rattle.hd_allocate.specs.Choosing.{front, IsAt, Waits};
+ghost use Rattle.hd_queue.specs.Wanted.{is_picked_up_at};
+ghost use Rattle.hd_allocate.specs.Choosing.{front, is_open, IsAt, Waits};
 
 use crate::facts::CopyFacts;
 use hd_date::Day;
@@ -17,8 +18,9 @@ use std::alloc::Allocator;
 /// title that have no copy, admit this one and haven't expired, the first. They come by stamp; where the
 /// title has local priority, those that are picked up at the branch come before the others.
 ///
-/// The queue is that of the copy's title. Of its three lists of holds without a copy, each is gone over until
-/// a hold is found that hasn't expired and, where the title has local priority, is picked up at the branch.
+/// The queue is that of the copy's title. Each of its three lists of holds without a copy is gone over until
+/// a hold is found that hasn't expired; where the title has local priority, first those that are picked up
+/// at the branch. Those of the third all have one pickup, the copy's home, so it is gone over once.
 pub fn choice<'a, A: Allocator>(
     queue: &QueueView<'a, A>,
     copy: &CopyFacts,
@@ -30,33 +32,47 @@ pub fn choice<'a, A: Allocator>(
     ensures waits { IfSome result (λ h. Waits queue.now h.now) }
 {
     choice_is_the_first_candidate();
-    let any = front(queue.any(), copy.priority, at, day);
-    let named = front(queue.for_copy(copy.copy), copy.priority, at, day);
-    let home = front(queue.at_branch(copy.home), copy.priority, at, day);
+    let any = front(copy.priority, queue.any_at(at), queue.any(), day);
+    let named = front(
+        copy.priority,
+        queue.for_copy_at(copy.copy, at),
+        queue.for_copy(copy.copy),
+        day,
+    );
+    let home = first_open(queue.at_branch(copy.home), day);
     let either = earlier(copy.priority, at, any, named);
     earlier(copy.priority, at, either, home)
 }
 
-/// The first hold of one list.
+/// The first hold of a list that hasn't expired; where the title has priority, of the local ones, if there is
+/// one: those of the list that are picked up at the branch.
 fn front<'a, A: Allocator>(
-    waiting: Waiting<'a, A>,
     priority: bool,
-    at: BranchNo,
+    local: Waiting<'a, A>,
+    all: Waiting<'a, A>,
     day: Day,
 ) -> Option<&'a Hold>
-    ensures { option_copied result ≡ front priority at day waiting.entry }
+    ensures { (at : ℕ) → local.entry ≡ filter (is_picked_up_at at) all.entry
+        → option_copied result ≡ front priority at day all.entry }
 {
-    let mut first = None;
-    for hold in waiting {
-        if has_expired(hold.expiry, day) {
-            continue;
-        }
-        if !priority || hold.pickup == at {
+    if priority {
+        if let Some(hold) = first_open(local, day) {
             return Some(hold);
         }
-        first = first.or(Some(hold));
     }
-    first
+    first_open(all, day)
+}
+
+/// The first of these holds that hasn't expired.
+fn first_open<'a, A: Allocator>(waiting: Waiting<'a, A>, day: Day) -> Option<&'a Hold>
+    ensures { option_copied result ≡ find (is_open day) waiting.entry }
+{
+    for hold in waiting {
+        if !has_expired(hold.expiry, day) {
+            return Some(hold);
+        }
+    }
+    None
 }
 
 /// The one of two holds that comes first.

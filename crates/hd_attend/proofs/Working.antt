@@ -1,5 +1,6 @@
 -- An office that another stands before, which has the same turns and one borrow more.
-use Rattle.std.proofs.Common.{◌≡◌, ◌∙◌, ℕ, List, [], ◌∷◌, ◌++◌, ap, sym, refl, subst, append-nil, append_assoc}
+use Rattle.std.proofs.Common.{◌≡◌, ◌∙◌, ℕ, List, [], ◌∷◌, ◌++◌, ap, sym, refl, subst, append-nil}
+use Rattle.std.proofs.Common.{append_assoc}
 use Rattle.std.specs.Borrow.{GName}
 use Rattle.hd_rules.specs.Journal.{Turn}
 use Rattle.hd_exchange.specs.Deeds.{AreShown, Deed, Made, Looked, turns_in}
@@ -78,7 +79,8 @@ module _ {A O : Type 0} (office : Ghosts O A) where
         ∙ ap (λ (t : List Turn). office.turns old ++ t) (sym (turns_append did more));
     shown = shown_append (office.keeps old).contents office.shows (office.turns old) did more first.shown
         (subst (λ (t : List Turn). AreShown (office.keeps old).contents office.shows t more) first.turns
-        (subst (λ (x : Keeps). AreShown x.contents office.shows (office.turns between) more) first.same shown));
+        (subst (λ (x : Keeps). AreShown x.contents office.shows (office.turns between) more) first.same
+        shown));
     same = same ∙ first.same;
     holds = λ held. holds (first.holds held);
   }

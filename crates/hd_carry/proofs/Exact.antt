@@ -1,6 +1,8 @@
 -- The obstacles that are told are those that are in the way.
-use Rattle.std.proofs.Common.{◌≡◌, refl, sym, ◌∙◌, subst, ℕ, zero, suc, ◌<◌, ◌≤◌, ◌==◌, ◌⊎◌, ◌↔◌, inl, inr, Bool, true, false, Option}
-use Rattle.std.proofs.Common.{◌+◌, nat_lt, eqb-true, ltb-true, lt-ltb, Some, None, List, [], ◌∷◌, ◌++◌, cond, find, flat_map, arith}
+use Rattle.std.proofs.Common.{◌≡◌, refl, sym, ◌∙◌, subst, ℕ, zero, suc, ◌<◌, ◌≤◌, ◌==◌, ◌⊎◌, ◌↔◌, inl, inr}
+use Rattle.std.proofs.Common.{Bool, true, false, Option}
+use Rattle.std.proofs.Common.{◌+◌, nat_lt, eqb-true, ltb-true, lt-ltb, Some, None, List, [], ◌∷◌, ◌++◌, cond}
+use Rattle.std.proofs.Common.{find, flat_map, arith}
 use Rattle.std.proofs.lemmas.Bool.{cases_lt}
 use Rattle.hd_rules.specs.declared.holds.Hold.{Hold}
 use Rattle.hd_rules.specs.declared.holds.HoldKind.{HoldKind}
@@ -18,10 +20,12 @@ use Rattle.hd_rules.specs.Carry.{Renumbering}
 use Rattle.hd_queue.specs.Holds.{HasPatronsOnce}
 use Rattle.hd_desk.specs.Asking.{IsQueueOf, AreQueuesOf}
 use Rattle.hd_carry.specs.declared.obstacle.Obstacle.{Obstacle}
-use Rattle.hd_carry.specs.declared.obstacle.Obstacle.TheVariants.{MissingCopy, MissingBorrower, MissingHolder, MissingTitle}
+use Rattle.hd_carry.specs.declared.obstacle.Obstacle.TheVariants.{MissingCopy, MissingBorrower, MissingHolder}
+use Rattle.hd_carry.specs.declared.obstacle.Obstacle.TheVariants.{MissingTitle}
 use Rattle.hd_carry.specs.declared.obstacle.Obstacle.TheVariants.{MissingBranch, MissingWayEnd, MissingPickup}
 use Rattle.hd_carry.specs.declared.obstacle.Obstacle.TheVariants.{MissingOnlyCopy, NumbersUsedUp}
-use Rattle.hd_carry.specs.Obstacles.{number_obstacles, where_lacking, shelf_obstacles, arrival_obstacles, copy_obstacles, kind_obstacles}
+use Rattle.hd_carry.specs.Obstacles.{number_obstacles, where_lacking, shelf_obstacles, arrival_obstacles}
+use Rattle.hd_carry.specs.Obstacles.{copy_obstacles, kind_obstacles}
 use Rattle.hd_carry.specs.Obstacles.{hold_obstacles, copies_obstacles, titles_obstacles, obstacles}
 use Rattle.hd_carry.specs.InTheWay.{IsLentTo, IsBranchOf, IsOnWay, IsInTheWay}
 use Rattle.hd_carry.proofs.Numbers.{none_hold, below_or_this}
@@ -76,15 +80,18 @@ module _ (k j : Facts) (r : Renumbering) (d : Desk) (last : ℕ) where
         by_copy : (o : Option ℕ) → r.copy c ≡ o → IsAmong x (shelf_obstacles r c o b) → Way x
         by_copy None same told = absurd told
         by_copy (Some y) same told =
-            let this : (x ≡ MissingBranch b c) × (r.branch b ≡ None) = lacked x (MissingBranch b c) (r.branch b) told in
+            let this : (x ≡ MissingBranch b c) × (r.branch b ≡ None) =
+            lacked x (MissingBranch b c) (r.branch b) told in
             is_way x (MissingBranch b c) this.0 (
               in_c,
-              subst (λ (s : CopyState). IsBranchOf b (r.copy c) s) (sym is) (subst (λ (o : Option ℕ). IsBranchOf b o (Shelf b)) (sym same) refl),
+              subst (λ (s : CopyState). IsBranchOf b (r.copy c) s) (sym is)
+                  (subst (λ (o : Option ℕ). IsBranchOf b o (Shelf b)) (sym same) refl),
               this.1,
             )
     copy_way x (OnLoan l) is told =
         by_case
-        (among_two x (where_lacking (r.copy c) (MissingCopy c (OnLoan l))) (where_lacking (r.patron l.patron) (MissingBorrower c l.patron)) told)
+        (among_two x (where_lacking (r.copy c) (MissingCopy c (OnLoan l)))
+        (where_lacking (r.patron l.patron) (MissingBorrower c l.patron)) told)
       where
         by_case : IsAmong x (where_lacking (r.copy c) (MissingCopy c (OnLoan l)))
             ⊎ IsAmong x (where_lacking (r.patron l.patron) (MissingBorrower c l.patron)) → Way x
@@ -96,7 +103,8 @@ module _ (k j : Facts) (r : Renumbering) (d : Desk) (last : ℕ) where
             (in_c, subst (λ (s : CopyState). IsLentTo l.patron s) (sym is) refl, this.1)
     copy_way x (OnHoldShelf s) is told =
         by_case
-        (among_two x (where_lacking (r.copy c) (MissingCopy c (OnHoldShelf s))) (where_lacking (r.branch s.branch) (MissingBranch s.branch c))
+        (among_two x (where_lacking (r.copy c) (MissingCopy c (OnHoldShelf s)))
+        (where_lacking (r.branch s.branch) (MissingBranch s.branch c))
         told)
       where
         by_case : IsAmong x (where_lacking (r.copy c) (MissingCopy c (OnHoldShelf s)))
@@ -105,23 +113,31 @@ module _ (k j : Facts) (r : Renumbering) (d : Desk) (last : ℕ) where
         by_case (inr told) =
             let this : (x ≡ MissingBranch s.branch c) × (r.branch s.branch ≡ None) =
             lacked x (MissingBranch s.branch c) (r.branch s.branch) told in
-            is_way x (MissingBranch s.branch c) this.0
-            (in_c, subst (λ (w : CopyState). IsBranchOf s.branch (r.copy c) w) (sym is) (here (r.copy c)), this.1)
+            is_way x (MissingBranch s.branch c) this.0 (
+              in_c,
+              subst (λ (w : CopyState). IsBranchOf s.branch (r.copy c) w) (sym is) (here (r.copy c)),
+              this.1,
+            )
           where
             here : (o : Option ℕ) → IsBranchOf s.branch o (OnHoldShelf s)
             here None = refl
             here (Some y) = refl
     copy_way x (InTransit t) is told =
         by_last
-        (among_two x (where_lacking (r.copy c) (MissingCopy c (InTransit t)) ++ where_lacking (r.branch t.from) (MissingWayEnd t.from c))
+        (among_two x (where_lacking (r.copy c) (MissingCopy c (InTransit t)) ++ where_lacking
+        (r.branch t.from) (MissingWayEnd t.from c))
         (arrival_obstacles r c t.from t.to) told)
       where
-        on_way : (b : ℕ) → (t.from ≡ b) ⊎ (t.to ≡ b) → IsAmong x (where_lacking (r.branch b) (MissingWayEnd b c)) → Way x
+        on_way : (b : ℕ) → (t.from ≡ b) ⊎ (t.to ≡ b)
+            → IsAmong x (where_lacking (r.branch b) (MissingWayEnd b c)) → Way x
         on_way b which told =
-            let this : (x ≡ MissingWayEnd b c) × (r.branch b ≡ None) = lacked x (MissingWayEnd b c) (r.branch b) told in
-            is_way x (MissingWayEnd b c) this.0 (in_c, subst (λ (w : CopyState). IsOnWay b w) (sym is) which, this.1)
+            let this : (x ≡ MissingWayEnd b c) × (r.branch b ≡ None) =
+            lacked x (MissingWayEnd b c) (r.branch b) told in
+            is_way x (MissingWayEnd b c) this.0
+            (in_c, subst (λ (w : CopyState). IsOnWay b w) (sym is) which, this.1)
 
-        arrived : (same : Bool) → IsAmong x (cond same [] (where_lacking (r.branch t.to) (MissingWayEnd t.to c)))
+        arrived : (same : Bool)
+            → IsAmong x (cond same [] (where_lacking (r.branch t.to) (MissingWayEnd t.to c)))
             → IsAmong x (where_lacking (r.branch t.to) (MissingWayEnd t.to c))
         arrived true told = absurd told
         arrived false told = told
@@ -131,19 +147,23 @@ module _ (k j : Facts) (r : Renumbering) (d : Desk) (last : ℕ) where
         by_first (inl told) = gone_way x (InTransit t) is refl told
         by_first (inr told) = on_way t.from (inl refl) told
 
-        by_last : IsAmong x (where_lacking (r.copy c) (MissingCopy c (InTransit t)) ++ where_lacking (r.branch t.from) (MissingWayEnd t.from c))
+        by_last : IsAmong x (where_lacking (r.copy c) (MissingCopy c (InTransit t)) ++ where_lacking
+            (r.branch t.from) (MissingWayEnd t.from c))
             ⊎ IsAmong x (arrival_obstacles r c t.from t.to) → Way x
         by_last (inl told) =
             by_first
-            (among_two x (where_lacking (r.copy c) (MissingCopy c (InTransit t))) (where_lacking (r.branch t.from) (MissingWayEnd t.from c)) told)
+            (among_two x (where_lacking (r.copy c) (MissingCopy c (InTransit t)))
+            (where_lacking (r.branch t.from) (MissingWayEnd t.from c)) told)
         by_last (inr told) = on_way t.to (inr refl) (arrived (t.to == t.from) told)
 
   copies_way : (x : Obstacle) (n : ℕ) → n ≤ k.copies → IsAmong x (copies_obstacles r d n) → Way x
   copies_way x zero le told = absurd told
   copies_way x (suc c) le told =
-      by_case (among_two x (copies_obstacles r d c) (copy_obstacles r c (d.copy c)) told) (copies_way x c (omega (arith, le)))
+      by_case (among_two x (copies_obstacles r d c) (copy_obstacles r c (d.copy c)) told)
+      (copies_way x c (omega (arith, le)))
     where
-      by_case : IsAmong x (copies_obstacles r d c) ⊎ IsAmong x (copy_obstacles r c (d.copy c)) → (IsAmong x (copies_obstacles r d c) → Way x)
+      by_case : IsAmong x (copies_obstacles r d c) ⊎ IsAmong x (copy_obstacles r c (d.copy c))
+          → (IsAmong x (copies_obstacles r d c) → Way x)
           → Way x
       by_case (inl told) before = before told
       by_case (inr told) before = copy_way c (omega (arith, le)) x (d.copy c) refl told
@@ -161,12 +181,14 @@ module _ (k j : Facts) (r : Renumbering) (d : Desk) (last : ℕ) where
   abbrev kind : ℕ → Hold → List Obstacle
   kind t g = kind_obstacles r t g.patron g.kind
 
-  hold_way : (x : Obstacle) (t : ℕ) (g : Hold) → d.hold t g.patron ≡ Some g → IsAmong x (hold_obstacles r t g) → Way x
+  hold_way : (x : Obstacle) (t : ℕ) (g : Hold) → d.hold t g.patron ≡ Some g → IsAmong x (hold_obstacles r t g)
+      → Way x
   hold_way x t g is told = by_kind (among_two x (title t g ++ patron t g ++ pickup t g) (kind t g) told)
     where
       by_patron : IsAmong x (title t g) ⊎ IsAmong x (patron t g) → Way x
       by_patron (inl told) =
-          let this : (x ≡ MissingTitle t g.patron) × (r.title t ≡ None) = lacked x (MissingTitle t g.patron) (r.title t) told in
+          let this : (x ≡ MissingTitle t g.patron) × (r.title t ≡ None) =
+          lacked x (MissingTitle t g.patron) (r.title t) told in
           is_way x (MissingTitle t g.patron) this.0 ((g, is), this.1)
       by_patron (inr told) =
           let this : (x ≡ MissingHolder t g.patron) × (r.patron g.patron ≡ None) =
@@ -220,35 +242,44 @@ module _ (k j : Facts) (r : Renumbering) (d : Desk) (last : ℕ) where
           queue_way x t (queues t) queue.once (λ p h is. queue.each p ∙ is) told
 
   -- what is told is in the way
-  told_way : (queues : ℕ → List Hold) → AreQueuesOf k d queues → (x : Obstacle) → IsAmong x (obstacles r k d queues) → Way x
-  told_way queues its x told = by_case (among_two x (copies_obstacles r d k.copies) (titles_obstacles r queues k.titles) told)
+  told_way : (queues : ℕ → List Hold) → AreQueuesOf k d queues → (x : Obstacle)
+      → IsAmong x (obstacles r k d queues) → Way x
+  told_way queues its x told =
+      by_case (among_two x (copies_obstacles r d k.copies) (titles_obstacles r queues k.titles) told)
     where
-      by_case : IsAmong x (copies_obstacles r d k.copies) ⊎ IsAmong x (titles_obstacles r queues k.titles) → Way x
+      by_case : IsAmong x (copies_obstacles r d k.copies) ⊎ IsAmong x (titles_obstacles r queues k.titles)
+          → Way x
       by_case (inl told) = copies_way x k.copies (omega arith) told
       by_case (inr told) = titles_way queues its x k.titles (omega arith) told
 
   -- one of a copy is told
-  of_copy : (x : Obstacle) (c n : ℕ) → c < n → IsAmong x (copy_obstacles r c (d.copy c)) → IsAmong x (copies_obstacles r d n)
+  of_copy : (x : Obstacle) (c n : ℕ) → c < n → IsAmong x (copy_obstacles r c (d.copy c))
+      → IsAmong x (copies_obstacles r d n)
   of_copy x c zero l told = absurd (omega (arith, l))
   of_copy x c (suc n) l told = by_case (below_or_this c n l) (λ below. of_copy x c n below told)
     where
-      by_case : (c < n) ⊎ (c ≡ n) → (c < n → IsAmong x (copies_obstacles r d n)) → IsAmong x (copies_obstacles r d (suc n))
-      by_case (inl below) before = among_first x (copies_obstacles r d n) (copy_obstacles r n (d.copy n)) (before below)
+      by_case : (c < n) ⊎ (c ≡ n) → (c < n → IsAmong x (copies_obstacles r d n))
+          → IsAmong x (copies_obstacles r d (suc n))
+      by_case (inl below) before =
+          among_first x (copies_obstacles r d n) (copy_obstacles r n (d.copy n)) (before below)
       by_case (inr this) before =
           among_second x (copies_obstacles r d n) (copy_obstacles r n (d.copy n))
           (subst (λ (m : ℕ). IsAmong x (copy_obstacles r m (d.copy m))) this told)
 
   -- one of a hold is told
-  in_queue : (x : Obstacle) (t p : ℕ) (g : Hold) (queue : List Hold) → find (λ h. h.patron == p) queue ≡ Some g
+  in_queue : (x : Obstacle) (t p : ℕ) (g : Hold) (queue : List Hold) → find (λ h. h.patron == p) queue
+      ≡ Some g
       → IsAmong x (hold_obstacles r t g) → IsAmong x (flat_map (hold_obstacles r t) queue)
   in_queue x t p g [] is told = absurd (none_hold g None refl is)
-  in_queue x t p g (h ∷ queue) is told = by_test (h.patron == p) refl (λ later. in_queue x t p g queue later told)
+  in_queue x t p g (h ∷ queue) is told =
+      by_test (h.patron == p) refl (λ later. in_queue x t p g queue later told)
     where
       by_test : (b : Bool) → (h.patron == p) ≡ b
           → (find (λ y. y.patron == p) queue ≡ Some g → IsAmong x (flat_map (hold_obstacles r t) queue))
           → IsAmong x (flat_map (hold_obstacles r t) (h ∷ queue))
       by_test true same rest =
-          let first : Some h ≡ Some g = subst (λ (b : Bool). cond b (Some h) (find (λ y. y.patron == p) queue) ≡ Some g) same is in
+          let first : Some h ≡ Some g =
+          subst (λ (b : Bool). cond b (Some h) (find (λ y. y.patron == p) queue) ≡ Some g) same is in
           let one : h ≡ g = cc in
           among_first x (hold_obstacles r t h) (flat_map (hold_obstacles r t) queue)
           (subst (λ (y : Hold). IsAmong x (hold_obstacles r t y)) (sym one) told)
@@ -256,13 +287,18 @@ module _ (k j : Facts) (r : Renumbering) (d : Desk) (last : ℕ) where
           among_second x (hold_obstacles r t h) (flat_map (hold_obstacles r t) queue)
           (rest (subst (λ (b : Bool). cond b (Some h) (find (λ y. y.patron == p) queue) ≡ Some g) other is))
 
-  of_title : (x : Obstacle) (queues : ℕ → List Hold) (t n : ℕ) → t < n → IsAmong x (flat_map (hold_obstacles r t) (queues t))
+  of_title : (x : Obstacle) (queues : ℕ → List Hold) (t n : ℕ) → t < n
+      → IsAmong x (flat_map (hold_obstacles r t) (queues t))
       → IsAmong x (titles_obstacles r queues n)
   of_title x queues t zero l told = absurd (omega (arith, l))
-  of_title x queues t (suc n) l told = by_case (below_or_this t n l) (λ below. of_title x queues t n below told)
+  of_title x queues t (suc n) l told =
+      by_case (below_or_this t n l) (λ below. of_title x queues t n below told)
     where
-      by_case : (t < n) ⊎ (t ≡ n) → (t < n → IsAmong x (titles_obstacles r queues n)) → IsAmong x (titles_obstacles r queues (suc n))
-      by_case (inl below) before = among_first x (titles_obstacles r queues n) (flat_map (hold_obstacles r n) (queues n)) (before below)
+      by_case : (t < n) ⊎ (t ≡ n) → (t < n → IsAmong x (titles_obstacles r queues n))
+          → IsAmong x (titles_obstacles r queues (suc n))
+      by_case (inl below) before =
+          among_first x (titles_obstacles r queues n) (flat_map (hold_obstacles r n) (queues n))
+          (before below)
       by_case (inr this) before =
           among_second x (titles_obstacles r queues n) (flat_map (hold_obstacles r n) (queues n))
           (subst (λ (m : ℕ). IsAmong x (flat_map (hold_obstacles r m) (queues m))) this told)
@@ -271,12 +307,15 @@ module _ (k j : Facts) (r : Renumbering) (d : Desk) (last : ℕ) where
     abbrev every : List Obstacle
     every = obstacles r k d queues
 
-    by_copy_told : (x : Obstacle) (c : ℕ) → c < k.copies → (s : CopyState) → d.copy c ≡ s → IsAmong x (copy_obstacles r c s) → IsAmong x every
+    by_copy_told : (x : Obstacle) (c : ℕ) → c < k.copies → (s : CopyState) → d.copy c ≡ s
+        → IsAmong x (copy_obstacles r c s) → IsAmong x every
     by_copy_told x c in_c s is told =
         among_first x (copies_obstacles r d k.copies) (titles_obstacles r queues k.titles)
-        (of_copy x c k.copies in_c (subst (λ (w : CopyState). IsAmong x (copy_obstacles r c w)) (sym is) told))
+        (of_copy x c k.copies in_c
+        (subst (λ (w : CopyState). IsAmong x (copy_obstacles r c w)) (sym is) told))
 
-    by_hold_told : (x : Obstacle) (t p : ℕ) (g : Hold) → d.hold t p ≡ Some g → IsAmong x (hold_obstacles r t g) → IsAmong x every
+    by_hold_told : (x : Obstacle) (t p : ℕ) (g : Hold) → d.hold t p ≡ Some g
+        → IsAmong x (hold_obstacles r t g) → IsAmong x every
     by_hold_told x t p g is told = by_case (cases_lt t k.titles)
       where
         by_case : (t < k.titles) ⊎ (k.titles ≤ t) → IsAmong x every
@@ -287,7 +326,8 @@ module _ (k j : Facts) (r : Renumbering) (d : Desk) (last : ℕ) where
         by_case (inr past) = absurd (none_hold g (d.hold t p) (its.past t p past) is)
 
     -- a hold under its own patron
-    held : (x : Obstacle) (t p : ℕ) (g : Hold) → d.hold t p ≡ Some g → (g.patron ≡ p → IsAmong x (hold_obstacles r t g)) → IsAmong x every
+    held : (x : Obstacle) (t p : ℕ) (g : Hold) → d.hold t p ≡ Some g
+        → (g.patron ≡ p → IsAmong x (hold_obstacles r t g)) → IsAmong x every
     held x t p g is told = by_hold_told x t p g is (told (named t p g is))
 
     -- what is in the way is told
@@ -299,18 +339,24 @@ module _ (k j : Facts) (r : Renumbering) (d : Desk) (last : ℕ) where
         by_state (OnLoan l) is away =
             by_copy_told (MissingCopy c (OnLoan l)) c way.0 (OnLoan l) is
             (among_first (MissingCopy c (OnLoan l)) (where_lacking (r.copy c) (MissingCopy c (OnLoan l)))
-            (where_lacking (r.patron l.patron) (MissingBorrower c l.patron)) (lacking (MissingCopy c (OnLoan l)) (r.copy c) way.3))
+            (where_lacking (r.patron l.patron) (MissingBorrower c l.patron))
+            (lacking (MissingCopy c (OnLoan l)) (r.copy c) way.3))
         by_state (OnHoldShelf w) is away =
             by_copy_told (MissingCopy c (OnHoldShelf w)) c way.0 (OnHoldShelf w) is
-            (among_first (MissingCopy c (OnHoldShelf w)) (where_lacking (r.copy c) (MissingCopy c (OnHoldShelf w)))
-            (where_lacking (r.branch w.branch) (MissingBranch w.branch c)) (lacking (MissingCopy c (OnHoldShelf w)) (r.copy c) way.3))
+            (among_first (MissingCopy c (OnHoldShelf w))
+            (where_lacking (r.copy c) (MissingCopy c (OnHoldShelf w)))
+            (where_lacking (r.branch w.branch) (MissingBranch w.branch c))
+            (lacking (MissingCopy c (OnHoldShelf w)) (r.copy c) way.3))
         by_state (InTransit t) is away =
             by_copy_told (MissingCopy c (InTransit t)) c way.0 (InTransit t) is
             (among_first (MissingCopy c (InTransit t))
-            (where_lacking (r.copy c) (MissingCopy c (InTransit t)) ++ where_lacking (r.branch t.from) (MissingWayEnd t.from c))
+            (where_lacking (r.copy c) (MissingCopy c (InTransit t)) ++ where_lacking (r.branch t.from)
+            (MissingWayEnd t.from c))
             (arrival_obstacles r c t.from t.to)
-            (among_first (MissingCopy c (InTransit t)) (where_lacking (r.copy c) (MissingCopy c (InTransit t)))
-            (where_lacking (r.branch t.from) (MissingWayEnd t.from c)) (lacking (MissingCopy c (InTransit t)) (r.copy c) way.3)))
+            (among_first (MissingCopy c (InTransit t))
+            (where_lacking (r.copy c) (MissingCopy c (InTransit t)))
+            (where_lacking (r.branch t.from) (MissingWayEnd t.from c))
+            (lacking (MissingCopy c (InTransit t)) (r.copy c) way.3)))
     way_told (MissingBorrower c p) other way = by_state (d.copy c) refl way.1
       where
         by_state : (s : CopyState) → d.copy c ≡ s → IsLentTo p s → IsAmong (MissingBorrower c p) every
@@ -321,38 +367,47 @@ module _ (k j : Facts) (r : Renumbering) (d : Desk) (last : ℕ) where
             by_copy_told (MissingBorrower c p) c way.0 (OnLoan l) is
             (among_second (MissingBorrower c p) (where_lacking (r.copy c) (MissingCopy c (OnLoan l)))
             (where_lacking (r.patron l.patron) (MissingBorrower c l.patron))
-            (subst (λ (q : ℕ). IsAmong (MissingBorrower c p) (where_lacking (r.patron q) (MissingBorrower c q))) (sym lent)
+            (subst (λ (q : ℕ). IsAmong (MissingBorrower c p)
+            (where_lacking (r.patron q) (MissingBorrower c q))) (sym lent)
             (lacking (MissingBorrower c p) (r.patron p) way.2)))
     way_told (MissingBranch b c) other way = by_state (d.copy c) refl way.1
       where
-        on_shelf : (a : ℕ) (o : Option ℕ) → IsBranchOf b o (Shelf a) → IsAmong (MissingBranch b c) (shelf_obstacles r c o a)
+        on_shelf : (a : ℕ) (o : Option ℕ) → IsBranchOf b o (Shelf a)
+            → IsAmong (MissingBranch b c) (shelf_obstacles r c o a)
         on_shelf a None at = absurd at
         on_shelf a (Some x) at =
-            subst (λ (m : ℕ). IsAmong (MissingBranch b c) (where_lacking (r.branch m) (MissingBranch m c))) (sym at)
+            subst (λ (m : ℕ). IsAmong (MissingBranch b c) (where_lacking (r.branch m) (MissingBranch m c)))
+            (sym at)
             (lacking (MissingBranch b c) (r.branch b) way.2)
 
-        by_state : (s : CopyState) → d.copy c ≡ s → IsBranchOf b (r.copy c) s → IsAmong (MissingBranch b c) every
-        by_state (Shelf a) is at = by_copy_told (MissingBranch b c) c way.0 (Shelf a) is (on_shelf a (r.copy c) at)
+        by_state : (s : CopyState) → d.copy c ≡ s → IsBranchOf b (r.copy c) s
+            → IsAmong (MissingBranch b c) every
+        by_state (Shelf a) is at =
+            by_copy_told (MissingBranch b c) c way.0 (Shelf a) is (on_shelf a (r.copy c) at)
         by_state (OnHoldShelf w) is at =
             by_copy_told (MissingBranch b c) c way.0 (OnHoldShelf w) is
             (among_second (MissingBranch b c) (where_lacking (r.copy c) (MissingCopy c (OnHoldShelf w)))
             (where_lacking (r.branch w.branch) (MissingBranch w.branch c))
-            (subst (λ (m : ℕ). IsAmong (MissingBranch b c) (where_lacking (r.branch m) (MissingBranch m c))) (sym at)
+            (subst (λ (m : ℕ). IsAmong (MissingBranch b c) (where_lacking (r.branch m) (MissingBranch m c)))
+            (sym at)
             (lacking (MissingBranch b c) (r.branch b) way.2)))
         by_state (OnLoan l) is at = absurd at
         by_state (InTransit t) is at = absurd at
     way_told (MissingWayEnd b c) other way = by_state (d.copy c) refl way.1
       where
-        at_branch : (m : ℕ) → m ≡ b → IsAmong (MissingWayEnd b c) (where_lacking (r.branch m) (MissingWayEnd m c))
+        at_branch : (m : ℕ) → m ≡ b
+            → IsAmong (MissingWayEnd b c) (where_lacking (r.branch m) (MissingWayEnd m c))
         at_branch m same =
-            subst (λ (n : ℕ). IsAmong (MissingWayEnd b c) (where_lacking (r.branch n) (MissingWayEnd n c))) (sym same)
+            subst (λ (n : ℕ). IsAmong (MissingWayEnd b c) (where_lacking (r.branch n) (MissingWayEnd n c)))
+            (sym same)
             (lacking (MissingWayEnd b c) (r.branch b) way.2)
 
         sent : (t : Transit) → d.copy c ≡ InTransit t → t.from ≡ b → IsAmong (MissingWayEnd b c) every
         sent t is from =
             by_copy_told (MissingWayEnd b c) c way.0 (InTransit t) is
             (among_first (MissingWayEnd b c)
-            (where_lacking (r.copy c) (MissingCopy c (InTransit t)) ++ where_lacking (r.branch t.from) (MissingWayEnd t.from c))
+            (where_lacking (r.copy c) (MissingCopy c (InTransit t)) ++ where_lacking (r.branch t.from)
+            (MissingWayEnd t.from c))
             (arrival_obstacles r c t.from t.to)
             (among_second (MissingWayEnd b c) (where_lacking (r.copy c) (MissingCopy c (InTransit t)))
             (where_lacking (r.branch t.from) (MissingWayEnd t.from c)) (at_branch t.from from)))
@@ -364,9 +419,11 @@ module _ (k j : Facts) (r : Renumbering) (d : Desk) (last : ℕ) where
         got t is to false apart =
             by_copy_told (MissingWayEnd b c) c way.0 (InTransit t) is
             (among_second (MissingWayEnd b c)
-            (where_lacking (r.copy c) (MissingCopy c (InTransit t)) ++ where_lacking (r.branch t.from) (MissingWayEnd t.from c))
+            (where_lacking (r.copy c) (MissingCopy c (InTransit t)) ++ where_lacking (r.branch t.from)
+            (MissingWayEnd t.from c))
             (arrival_obstacles r c t.from t.to)
-            (subst (λ (same : Bool). IsAmong (MissingWayEnd b c) (cond same [] (where_lacking (r.branch t.to) (MissingWayEnd t.to c))))
+            (subst (λ (same : Bool). IsAmong (MissingWayEnd b c)
+            (cond same [] (where_lacking (r.branch t.to) (MissingWayEnd t.to c))))
             (sym apart) (at_branch t.to to)))
 
         by_state : (s : CopyState) → d.copy c ≡ s → IsOnWay b s → IsAmong (MissingWayEnd b c) every
@@ -429,7 +486,8 @@ module _ (k j : Facts) (r : Renumbering) (d : Desk) (last : ℕ) where
             (among_second (MissingOnlyCopy t g.patron c)
             (title t g ++ patron t g ++ pickup t g)
             (kind t g)
-            (subst (λ (kind : HoldKind). IsAmong (MissingOnlyCopy t g.patron c) (kind_obstacles r t g.patron kind)) (sym same)
+            (subst (λ (kind : HoldKind). IsAmong (MissingOnlyCopy t g.patron c)
+            (kind_obstacles r t g.patron kind)) (sym same)
             (lacking (MissingOnlyCopy t g.patron c) (r.copy c) way.3))))
     way_told NumbersUsedUp other way = absurd (other refl)
 
@@ -437,14 +495,17 @@ module _ (k j : Facts) (r : Renumbering) (d : Desk) (last : ℕ) where
     used_up : (x : Obstacle) → IsAmong x (number_obstacles last j) → Way x
     used_up x told = by_test (nat_lt MOST_GIVEN (last + j.command_limit)) refl told
       where
-        by_test : (b : Bool) → nat_lt MOST_GIVEN (last + j.command_limit) ≡ b → IsAmong x (cond b (NumbersUsedUp ∷ []) []) → Way x
+        by_test : (b : Bool) → nat_lt MOST_GIVEN (last + j.command_limit) ≡ b
+            → IsAmong x (cond b (NumbersUsedUp ∷ []) []) → Way x
         by_test false is told = absurd told
-        by_test true is (inl this) = is_way x NumbersUsedUp this (ltb-true MOST_GIVEN (last + j.command_limit) is)
+        by_test true is (inl this) =
+            is_way x NumbersUsedUp this (ltb-true MOST_GIVEN (last + j.command_limit) is)
         by_test true is (inr later) = absurd later
 
     numbers_told : Way NumbersUsedUp → IsAmong NumbersUsedUp (number_obstacles last j)
     numbers_told l =
-        subst (λ (b : Bool). IsAmong NumbersUsedUp (cond b (NumbersUsedUp ∷ []) [])) (sym (lt-ltb MOST_GIVEN (last + j.command_limit) l)) (inl refl)
+        subst (λ (b : Bool). IsAmong NumbersUsedUp (cond b (NumbersUsedUp ∷ []) []))
+        (sym (lt-ltb MOST_GIVEN (last + j.command_limit) l)) (inl refl)
 
     all_told : (x : Obstacle) → IsAmong x (every ++ number_obstacles last j) → Way x
     all_told x told = by_case (among_two x every (number_obstacles last j) told)
@@ -454,23 +515,32 @@ module _ (k j : Facts) (r : Renumbering) (d : Desk) (last : ℕ) where
         by_case (inr told) = used_up x told
 
     way_of_all : (x : Obstacle) → Way x → IsAmong x (every ++ number_obstacles last j)
-    way_of_all NumbersUsedUp way = among_second NumbersUsedUp every (number_obstacles last j) (numbers_told way)
+    way_of_all NumbersUsedUp way =
+        among_second NumbersUsedUp every (number_obstacles last j) (numbers_told way)
     way_of_all (MissingCopy c s) way =
-        among_first (MissingCopy c s) every (number_obstacles last j) (way_told (MissingCopy c s) (λ e. cc) way)
+        among_first (MissingCopy c s) every (number_obstacles last j)
+        (way_told (MissingCopy c s) (λ e. cc) way)
     way_of_all (MissingBorrower c p) way =
-        among_first (MissingBorrower c p) every (number_obstacles last j) (way_told (MissingBorrower c p) (λ e. cc) way)
+        among_first (MissingBorrower c p) every (number_obstacles last j)
+        (way_told (MissingBorrower c p) (λ e. cc) way)
     way_of_all (MissingHolder t p) way =
-        among_first (MissingHolder t p) every (number_obstacles last j) (way_told (MissingHolder t p) (λ e. cc) way)
+        among_first (MissingHolder t p) every (number_obstacles last j)
+        (way_told (MissingHolder t p) (λ e. cc) way)
     way_of_all (MissingTitle t p) way =
-        among_first (MissingTitle t p) every (number_obstacles last j) (way_told (MissingTitle t p) (λ e. cc) way)
+        among_first (MissingTitle t p) every (number_obstacles last j)
+        (way_told (MissingTitle t p) (λ e. cc) way)
     way_of_all (MissingBranch b c) way =
-        among_first (MissingBranch b c) every (number_obstacles last j) (way_told (MissingBranch b c) (λ e. cc) way)
+        among_first (MissingBranch b c) every (number_obstacles last j)
+        (way_told (MissingBranch b c) (λ e. cc) way)
     way_of_all (MissingWayEnd b c) way =
-        among_first (MissingWayEnd b c) every (number_obstacles last j) (way_told (MissingWayEnd b c) (λ e. cc) way)
+        among_first (MissingWayEnd b c) every (number_obstacles last j)
+        (way_told (MissingWayEnd b c) (λ e. cc) way)
     way_of_all (MissingPickup b t p) way =
-        among_first (MissingPickup b t p) every (number_obstacles last j) (way_told (MissingPickup b t p) (λ e. cc) way)
+        among_first (MissingPickup b t p) every (number_obstacles last j)
+        (way_told (MissingPickup b t p) (λ e. cc) way)
     way_of_all (MissingOnlyCopy t p c) way =
-        among_first (MissingOnlyCopy t p c) every (number_obstacles last j) (way_told (MissingOnlyCopy t p c) (λ e. cc) way)
+        among_first (MissingOnlyCopy t p c) every (number_obstacles last j)
+        (way_told (MissingOnlyCopy t p c) (λ e. cc) way)
 
     pub told_exactly : (x : Obstacle) → IsAmong x (every ++ number_obstacles last j) ↔ Way x
     told_exactly x = (all_told x, way_of_all x)

@@ -12,8 +12,9 @@ use Rattle.hd_rules.specs.Settle.{with_copy}
 use Rattle.hd_rules.specs.Sound.{Has, Tied, Tie}
 use Rattle.hd_rules.specs.Carry.{Renumbering, IsByNames, IsSamePlace, IsSameHold}
 use Rattle.hd_rules.specs.Rows.{Waits, given}
-use Rattle.hd_carry.proofs.Numbers.{one_new, same_or_apart, hold_cases, hold_here, hold_there, copy_here}
+use Rattle.hd_carry.proofs.Numbers.{same_or_apart, hold_cases, hold_here, hold_there, copy_here}
 use Rattle.hd_carry.proofs.Numbers.{copy_below, below_other, below_this, below_next_this}
+use Rattle.hd_lemmas.proofs.Options.{one_new}
 use Rattle.hd_lemmas.proofs.Rules.{copy_there}
 use Rattle.hd_carry.proofs.Gone.{Came, Went, Gone, hold_below, same_with, copy_as, no_copy}
 use Rattle.hd_carry.proofs.Places.{Each, Placed, present}
@@ -55,7 +56,8 @@ pub record Kept (k j : Facts) (r : Renumbering) (d : Desk) (n : ℕ) (e : Desk) 
   pub same : IsSameHold r (hold_below n old) hold
   pub pickup : r.branch b ≡ Some hold.pickup
 
-module _ (k j : Facts) (r : Renumbering) (d : Desk) (names : IsByNames k j r) (tie : Tie k d) (n : ℕ) (e : Desk) (state : Placed r j d n e)
+module _ (k j : Facts) (r : Renumbering) (d : Desk) (names : IsByNames k j r) (tie : Tie k d) (n : ℕ)
+    (e : Desk) (state : Placed r j d n e)
     (x : ℕ) (same : r.copy n ≡ Some x) (p b : ℕ) (tied : Tied (d.copy n) p b) where
   pub kept : Kept k j r d n e x p b
   kept =
@@ -72,7 +74,8 @@ module _ (k j : Facts) (r : Renumbering) (d : Desk) (names : IsByNames k j r) (t
         same_patron = went.same_patron;
         is = subst (λ (u : ℕ). e.hold u went.patron ≡ Some went.hold) title went.is;
         none = no_copy r went.hold.copy
-            (copy_as r (copy_below n was.hold.copy) None went.hold.copy (below_this n was.hold.copy was.copy) went.same.copy);
+            (copy_as r (copy_below n was.hold.copy) None went.hold.copy (below_this n was.hold.copy was.copy)
+            went.same.copy);
         same = went.same;
         pickup = subst (λ (a : ℕ). r.branch a ≡ Some went.hold.pickup) was.pickup went.same.pickup;
       }
@@ -96,10 +99,12 @@ module _ (k j : Facts) (r : Renumbering) (d : Desk) (names : IsByNames k j r) (t
       kind = to.same.kind;
       pickup = to.same.pickup;
       expiry = to.same.expiry;
-      copy = copy_as r (Some n) (copy_below (suc n) to.old.copy) (Some x) (sym (below_next_this n to.old.copy to.copy)) same;
+      copy = copy_as r (Some n) (copy_below (suc n) to.old.copy) (Some x)
+          (sym (below_next_this n to.old.copy to.copy)) same;
     }
 
-    came_now : (u q : ℕ) (y : Hold) → j.title_of x ≡ u → to.patron ≡ q → Some (with_copy (Some x) to.hold) ≡ Some y
+    came_now : (u q : ℕ) (y : Hold) → j.title_of x ≡ u → to.patron ≡ q → Some (with_copy (Some x) to.hold)
+        ≡ Some y
         → Came r d Each (suc n) u q y
     came_now u q y one two is = record {
       title = k.title_of n;
@@ -109,10 +114,12 @@ module _ (k j : Facts) (r : Renumbering) (d : Desk) (names : IsByNames k j r) (t
       is = to.was;
       same_title = names.title_of n x same ∙ ap (λ (m : ℕ). Some m) one;
       same_patron = to.same_patron ∙ ap (λ (m : ℕ). Some m) two;
-      same = subst (λ (h : Hold). IsSameHold r (hold_below (suc n) to.old) h) (same_Some (with_copy (Some x) to.hold) y is) same_now;
+      same = subst (λ (h : Hold). IsSameHold r (hold_below (suc n) to.old) h)
+          (same_Some (with_copy (Some x) to.hold) y is) same_now;
     }
 
-    came_before : (u q : ℕ) (y : Hold) → (j.title_of x ≡ u → to.patron ≡ q → ⊥) → Came r d Each n u q y → Came r d Each (suc n) u q y
+    came_before : (u q : ℕ) (y : Hold) → (j.title_of x ≡ u → to.patron ≡ q → ⊥) → Came r d Each n u q y
+        → Came r d Each (suc n) u q y
     came_before u q y apart came = record {
       title = came.title;
       patron = came.patron;
@@ -127,10 +134,12 @@ module _ (k j : Facts) (r : Renumbering) (d : Desk) (names : IsByNames k j r) (t
       where
         other : came.hold.copy ≡ Some n → ⊥
         other has =
-            let this : (k.title_of n ≡ came.title) × (p ≡ came.patron) = only came.title came.patron came.hold came.is has in
+            let this : (k.title_of n ≡ came.title) × (p ≡ came.patron) =
+            only came.title came.patron came.hold came.is has in
             apart
             (one_new r.title came.title (j.title_of x) u
-            (subst (λ (t : ℕ). r.title t ≡ Some (j.title_of x)) this.0 (names.title_of n x same)) came.same_title)
+            (subst (λ (t : ℕ). r.title t ≡ Some (j.title_of x)) this.0 (names.title_of n x same))
+            came.same_title)
             (one_new r.patron came.patron to.patron q
             (subst (λ (m : ℕ). r.patron m ≡ Some to.patron) this.1 to.same_patron) came.same_patron)
 
@@ -156,7 +165,8 @@ module _ (k j : Facts) (r : Renumbering) (d : Desk) (names : IsByNames k j r) (t
       same_patron = went.same_patron;
       is = hold_there (j.title_of x) went.title to.patron went.patron (Some (with_copy (Some x) to.hold))
           (e.hold went.title went.patron) apart ∙ went.is;
-      same = same_with r g went.hold (copy_below n g.copy) (copy_below (suc n) g.copy) (sym (below_other n g.copy other)) went.same;
+      same = same_with r g went.hold (copy_below n g.copy) (copy_below (suc n) g.copy)
+          (sym (below_other n g.copy other)) went.same;
     }
       where
         other : g.copy ≡ Some n → ⊥
@@ -164,21 +174,25 @@ module _ (k j : Facts) (r : Renumbering) (d : Desk) (names : IsByNames k j r) (t
             let this : (k.title_of n ≡ t) × (p ≡ q) = only t q g is has in
             apart
             (one_new r.title t (j.title_of x) went.title
-            (subst (λ (m : ℕ). r.title m ≡ Some (j.title_of x)) this.0 (names.title_of n x same)) went.same_title)
+            (subst (λ (m : ℕ). r.title m ≡ Some (j.title_of x)) this.0 (names.title_of n x same))
+            went.same_title)
             (one_new r.patron q to.patron went.patron
             (subst (λ (m : ℕ). r.patron m ≡ Some to.patron) this.1 to.same_patron) went.same_patron)
 
     goes_now : (t q : ℕ) (g : Hold) → d.hold t q ≡ Some g → (went : Went r e n t q g)
-        → ((j.title_of x ≡ went.title) × (to.patron ≡ went.patron)) ⊎ (j.title_of x ≡ went.title → to.patron ≡ went.patron → ⊥)
+        → ((j.title_of x ≡ went.title) × (to.patron ≡ went.patron)) ⊎
+        (j.title_of x ≡ went.title → to.patron ≡ went.patron → ⊥)
         → Went r now (suc n) t q g
     goes_now t q g is went (inl one) =
         let title : k.title_of n ≡ t =
-        names.titles (k.title_of n) t went.title (names.title_of n x same ∙ ap (λ (m : ℕ). Some m) one.0) went.same_title in
+        names.titles (k.title_of n) t went.title (names.title_of n x same ∙ ap (λ (m : ℕ). Some m) one.0)
+        went.same_title in
         let patron : p ≡ q =
         names.patrons p q went.patron (to.same_patron ∙ ap (λ (m : ℕ). Some m) one.1) went.same_patron in
         let hold : to.old ≡ g =
         same_Some to.old g
-        (sym to.was ∙ subst (λ (m : ℕ). d.hold m p ≡ Some g) (sym title) (subst (λ (m : ℕ). d.hold t m ≡ Some g) (sym patron) is)) in
+        (sym to.was ∙ subst (λ (m : ℕ). d.hold m p ≡ Some g) (sym title)
+        (subst (λ (m : ℕ). d.hold t m ≡ Some g) (sym patron) is)) in
         subst (λ (m : ℕ). Went r now (suc n) m q g) title
         (subst (λ (m : ℕ). Went r now (suc n) (k.title_of n) m g) patron
         (subst (λ (h : Hold). Went r now (suc n) (k.title_of n) p h) hold went_now))
@@ -198,7 +212,8 @@ module _ (k j : Facts) (r : Renumbering) (d : Desk) (names : IsByNames k j r) (t
     placed_now : IsSamePlace r (d.copy n) place → Placed r j d (suc n) now
     placed_now is_same =
         present k j r d names tie n e state x same now holds_now
-        (subst (λ (s : CopyState). IsSamePlace r (d.copy n) s) (sym (copy_here x x place (e.copy x) refl)) is_same)
+        (subst (λ (s : CopyState). IsSamePlace r (d.copy n) s) (sym (copy_here x x place (e.copy x) refl))
+        is_same)
         (λ y apart. copy_there x y place (e.copy y) apart)
 
   -- the hold waits for the copy
@@ -206,7 +221,8 @@ module _ (k j : Facts) (r : Renumbering) (d : Desk) (names : IsByNames k j r) (t
   waits to = record { hold = to.hold; is = to.is; none = to.none }
 
   -- and gets it
-  pub placed_given : (to : Kept k j r d n e x p b) (goes : Hold → CopyState) → IsSamePlace r (d.copy n) (goes to.hold)
+  pub placed_given : (to : Kept k j r d n e x p b) (goes : Hold → CopyState)
+      → IsSamePlace r (d.copy n) (goes to.hold)
       → Placed r j d (suc n) (given j.title_of e x to.patron goes (e.hold (j.title_of x) to.patron))
   placed_given to goes is_same =
       subst (λ (o : Option Hold). Placed r j d (suc n) (given j.title_of e x to.patron goes o)) (sym to.is)

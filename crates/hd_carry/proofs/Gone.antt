@@ -61,7 +61,8 @@ pub copy_as : (r : Renumbering) (o m n : Option ℕ) → o ≡ m → IsSameCopy 
 copy_as r o m n e same = subst (λ (x : Option ℕ). IsSameCopy r x n) e same
 
 -- a hold is the same where its copy is
-pub same_with : (r : Renumbering) (g h : Hold) (a b : Option ℕ) → a ≡ b → IsSameHold r (with_copy a g) h → IsSameHold r (with_copy b g) h
+pub same_with : (r : Renumbering) (g h : Hold) (a b : Option ℕ) → a ≡ b → IsSameHold r (with_copy a g) h
+    → IsSameHold r (with_copy b g) h
 same_with r g h a b e same = subst (λ (x : Option ℕ). IsSameHold r (with_copy x g) h) e same
 
 pub no_copy : (r : Renumbering) (o : Option ℕ) → IsSameCopy r None o → o ≡ None

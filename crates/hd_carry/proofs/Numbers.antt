@@ -1,5 +1,6 @@
 -- Cells after a write, and numbers.
-use Rattle.std.proofs.Common.{◌≡◌, refl, sym, ◌∙◌, ap, ℕ, suc, ◌<◌, ◌⊎◌, inl, inr, Bool, true, false, ◌==◌, ◌&&◌, cond, Option}
+use Rattle.std.proofs.Common.{◌≡◌, refl, sym, ◌∙◌, ap, ℕ, suc, ◌<◌, ◌⊎◌, inl, inr, Bool, true, false, ◌==◌}
+use Rattle.std.proofs.Common.{◌&&◌, cond, Option}
 use Rattle.std.proofs.Common.{Some, None, nat_lt, eq-eqb, eqb-true, arith}
 use Rattle.std.proofs.lemmas.Bool.{cases_Bool}
 use Rattle.std.proofs.lemmas.Bool.Decides.{nat_tests}
@@ -14,10 +15,6 @@ none_hold x o e f = let never : Some x ≡ None = sym f ∙ e in cc
 
 pub none_number : (x : ℕ) (o : Option ℕ) → o ≡ None → o ≡ Some x → ⊥
 none_number x o e f = let never : Some x ≡ None = sym f ∙ e in cc
-
--- one number of a name
-pub one_new : (to : ℕ → Option ℕ) (x y z : ℕ) → to x ≡ Some y → to x ≡ Some z → y ≡ z
-one_new to x y z e f = same_Some y z (sym e ∙ f)
 
 pub is_none_by : (o : Option Hold) → ((h : Hold) → o ≡ Some h → ⊥) → o ≡ None
 is_none_by None never = refl
@@ -48,7 +45,8 @@ hold_cases P t u p q o v here there = by_test ((t == u) && (p == q)) refl
   where
     by_test : (b : Bool) → ((t == u) && (p == q)) ≡ b → P (cond b o v)
     by_test true is = here (eqb-true t u (and_left _ _ is)) (eqb-true p q (and_right _ _ is))
-    by_test false is = there (λ e f. let yes : ((t == u) && (p == q)) ≡ true = both_true _ _ (eq-eqb t u e) (eq-eqb p q f) in cc)
+    by_test false is = there
+        (λ e f. let yes : ((t == u) && (p == q)) ≡ true = both_true _ _ (eq-eqb t u e) (eq-eqb p q f) in cc)
 
 pub copy_here : (c x : ℕ) (s v : CopyState) → c ≡ x → cond (c == x) s v ≡ s
 copy_here c x s v e = copy_cases (λ w. w ≡ s) c x s v (λ is. refl) (λ apart. absurd (number_not c x apart e))
@@ -56,7 +54,8 @@ copy_here c x s v e = copy_cases (λ w. w ≡ s) c x s v (λ is. refl) (λ apart
 pub hold_here : (t u : ℕ) (p q : ℕ) (o v : Option Hold) → t ≡ u → p ≡ q → cond ((t == u) && (p == q)) o v ≡ o
 hold_here t u p q o v e f = hold_cases (λ w. w ≡ o) t u p q o v (λ i j. refl) (λ apart. absurd (apart e f))
 
-pub hold_there : (t u : ℕ) (p q : ℕ) (o v : Option Hold) → (t ≡ u → p ≡ q → ⊥) → cond ((t == u) && (p == q)) o v ≡ v
+pub hold_there : (t u : ℕ) (p q : ℕ) (o v : Option Hold) → (t ≡ u → p ≡ q → ⊥)
+    → cond ((t == u) && (p == q)) o v ≡ v
 hold_there t u p q o v apart = hold_cases (λ w. w ≡ v) t u p q o v (λ e f. absurd (apart e f)) (λ is. refl)
 
 -- a copy, where its number is below n
@@ -74,7 +73,8 @@ below_all n (Some c) all = let l : c < n = all c refl in grind (arith, nat_tests
 
 pub below_other : (n : ℕ) (o : Option ℕ) → (o ≡ Some n → ⊥) → copy_below (suc n) o ≡ copy_below n o
 below_other n None other = refl
-below_other n (Some c) other = let apart : (c ≡ n → ⊥) = λ e. other (ap (λ (m : ℕ). Some m) e) in grind (arith, nat_tests, apart)
+below_other n (Some c) other = let apart : (c ≡ n → ⊥) = λ e. other (ap (λ (m : ℕ). Some m) e) in
+    grind (arith, nat_tests, apart)
 
 pub below_this : (n : ℕ) (o : Option ℕ) → o ≡ Some n → copy_below n o ≡ None
 below_this n None is = refl
@@ -88,7 +88,8 @@ below_next_this n (Some c) is = let same : c ≡ n = same_Some c n is in grind (
 pub same_or_apart : (t u p q : ℕ) → ((t ≡ u) × (p ≡ q)) ⊎ (t ≡ u → p ≡ q → ⊥)
 same_or_apart t u p q = by_test (t == u) refl (p == q) refl
   where
-    by_test : (a : Bool) → (t == u) ≡ a → (b : Bool) → (p == q) ≡ b → ((t ≡ u) × (p ≡ q)) ⊎ (t ≡ u → p ≡ q → ⊥)
+    by_test : (a : Bool) → (t == u) ≡ a → (b : Bool) → (p == q) ≡ b
+        → ((t ≡ u) × (p ≡ q)) ⊎ (t ≡ u → p ≡ q → ⊥)
     by_test true one true two = inl (eqb-true t u one, eqb-true p q two)
     by_test true one false two = inr (λ e f. number_not p q two f)
     by_test false one b two = inr (λ e f. number_not t u one e)

@@ -1,5 +1,6 @@
 -- The rows of all holds, title by title.
-use Rattle.std.proofs.Common.{◌≡◌, refl, sym, ◌∙◌, ap, subst, ℕ, zero, suc, ◌<◌, ◌≤◌, ◌==◌, ◌⊎◌, inl, inr, Bool, true, false, cond}
+use Rattle.std.proofs.Common.{◌≡◌, refl, sym, ◌∙◌, ap, subst, ℕ, zero, suc, ◌<◌, ◌≤◌, ◌==◌, ◌⊎◌, inl, inr}
+use Rattle.std.proofs.Common.{Bool, true, false, cond}
 use Rattle.std.proofs.Common.{Some, None, List, [], ◌∷◌, ◌++◌, map, find, filter_map, eqb-true, arith}
 use Rattle.std.proofs.lemmas.Bool.{cases_lt}
 use Rattle.hd_rules.specs.declared.holds.Hold.{Hold}
@@ -30,7 +31,8 @@ to_row m = row.Hold m.0 m.1
 -- these are the holds of the title, by their new numbers and without their copies
 abbrev pub AreNumbered : Renumbering → ℕ → List Hold → List Numbered → Type 0
 AreNumbered r t [] [] = Unit {0}
-AreNumbered r t (g ∷ queue) (m ∷ made) = (r.title t ≡ Some m.0) × IsSameHold r (with_copy None g) m.1 × AreNumbered r t queue made
+AreNumbered r t (g ∷ queue) (m ∷ made) =
+    (r.title t ≡ Some m.0) × IsSameHold r (with_copy None g) m.1 × AreNumbered r t queue made
 AreNumbered r t [] (m ∷ made) = ⊥
 AreNumbered r t (g ∷ queue) [] = ⊥
 
@@ -39,7 +41,8 @@ abbrev pub ToldBut : ℕ → List Hold → ℕ → ℕ → Type 0
 ToldBut t rest u q = (u < t) ⊎ ((u ≡ t) × (find (λ h. h.patron == q) rest ≡ None))
 
 -- what is known once rows are told
-pub record Told (j : Facts) (r : Renumbering) (d : Desk) (n : ℕ) (Which : ℕ → ℕ → Type 0) (e : Desk) (rows : List OpeningRow) : Type 0 where
+pub record Told (j : Facts) (r : Renumbering) (d : Desk) (n : ℕ) (Which : ℕ → ℕ → Type 0) (e : Desk)
+    (rows : List OpeningRow) : Type 0 where
   pub each : EachMayStand j n e rows
   pub gone : Gone r d Which 0 (rows_from j e rows)
   pub copies : (x : ℕ) → (rows_from j e rows).copy x ≡ e.copy x
@@ -48,7 +51,8 @@ pub find_first : (g : Hold) (rest : List Hold) → find (λ h. h.patron == g.pat
 find_first g rest = rw (number_self g.patron) refl
 
 -- who has a hold in the rest of a queue has it of the title
-pub of_rest_at : (d : Desk) (t : ℕ) (g : Hold) (rest : List Hold) → find (λ h. h.patron == g.patron) rest ≡ None
+pub of_rest_at : (d : Desk) (t : ℕ) (g : Hold) (rest : List Hold) → find (λ h. h.patron == g.patron) rest
+    ≡ None
     → ((p : ℕ) (h : Hold) → find (λ x. x.patron == p) (g ∷ rest) ≡ Some h → d.hold t p ≡ Some h)
     → (p : ℕ) (h : Hold) → find (λ x. x.patron == p) rest ≡ Some h → d.hold t p ≡ Some h
 of_rest_at d t g rest once of p h is = by_patron (g.patron == p) refl
@@ -59,11 +63,13 @@ of_rest_at d t g rest once of p h is = by_patron (g.patron == p) refl
         (subst (λ (q : ℕ). find (λ x. x.patron == q) rest ≡ None) (eqb-true g.patron p same) once) is)
     by_patron false apart = of p h (rw apart is)
 
-module _ (k j : Facts) (r : Renumbering) (d : Desk) (n : ℕ) (names : IsByNames k j r) (fit : HoldsFit n d.hold) where
+module _ (k j : Facts) (r : Renumbering) (d : Desk) (n : ℕ) (names : IsByNames k j r)
+    (fit : HoldsFit n d.hold) where
   -- the first of the holds that are still to be told
   not_told : (t : ℕ) (g : Hold) (rest : List Hold) → ToldBut t (g ∷ rest) t g.patron → ⊥
   not_told t g rest (inl l) = not_less t l
-  not_told t g rest (inr this) = none_hold g (find (λ h. h.patron == g.patron) (g ∷ rest)) this.1 (find_first g rest)
+  not_told t g rest (inr this) =
+      none_hold g (find (λ h. h.patron == g.patron) (g ∷ rest)) this.1 (find_first g rest)
 
   on : (t : ℕ) (g : Hold) (rest : List Hold) → find (λ h. h.patron == g.patron) rest ≡ None → (u q : ℕ)
       → Also (ToldBut t (g ∷ rest)) t g.patron u q → ToldBut t rest u q
@@ -74,9 +80,11 @@ module _ (k j : Facts) (r : Renumbering) (d : Desk) (n : ℕ) (names : IsByNames
           → find (λ h. h.patron == q) rest ≡ None
       later true same none = absurd (none_hold g (Some g) none refl)
       later false apart none = none
-  on t g rest once u q (inr this) = inr (this.0, subst (λ (p : ℕ). find (λ h. h.patron == p) rest ≡ None) (sym this.1) once)
+  on t g rest once u q (inr this) =
+      inr (this.0, subst (λ (p : ℕ). find (λ h. h.patron == p) rest ≡ None) (sym this.1) once)
 
-  back : (t : ℕ) (g : Hold) (rest : List Hold) (u q : ℕ) → ToldBut t rest u q → Also (ToldBut t (g ∷ rest)) t g.patron u q
+  back : (t : ℕ) (g : Hold) (rest : List Hold) (u q : ℕ) → ToldBut t rest u q
+      → Also (ToldBut t (g ∷ rest)) t g.patron u q
   back t g rest u q (inl l) = inl (inl l)
   back t g rest u q (inr this) = by_patron (g.patron == q) refl
     where
@@ -84,7 +92,8 @@ module _ (k j : Facts) (r : Renumbering) (d : Desk) (n : ℕ) (names : IsByNames
       by_patron true same = inr (this.0, sym (eqb-true g.patron q same))
       by_patron false apart = inl (inr (this.0, rw apart this.1))
 
-  pub queue_told : (t : ℕ) (queue : List Hold) (made : List Numbered) → AreNumbered r t queue made → HasPatronsOnce queue
+  pub queue_told : (t : ℕ) (queue : List Hold) (made : List Numbered) → AreNumbered r t queue made
+      → HasPatronsOnce queue
       → ((p : ℕ) (h : Hold) → find (λ x. x.patron == p) queue ≡ Some h → d.hold t p ≡ Some h)
       → (e : Desk) → Gone r d (ToldBut t queue) 0 e → Told j r d n (ToldBut t []) e (map to_row made)
   queue_told t [] [] are once of e gone = record { each = tt; gone = gone; copies = λ x. refl }
@@ -93,14 +102,16 @@ module _ (k j : Facts) (r : Renumbering) (d : Desk) (n : ℕ) (names : IsByNames
   queue_told t (g ∷ queue) (m ∷ made) are once of e gone =
       let is : d.hold t g.patron ≡ Some g = of g.patron g (find_first g queue) in
       let more : Gone r d (Also (ToldBut t (g ∷ queue)) t g.patron) 0 (row_from j e (to_row m)) =
-      more_gone k j r d n names fit (ToldBut t (g ∷ queue)) e gone t g.patron g is (not_told t g queue) m.0 m.1 are.0 are.1 in
+      more_gone k j r d n names fit (ToldBut t (g ∷ queue)) e gone t g.patron g is (not_told t g queue) m.0
+      m.1 are.0 are.1 in
       let rest : Told j r d n (ToldBut t []) (row_from j e (to_row m)) (map to_row made) =
       queue_told t queue made are.2 once.1 (of_rest_at d t g queue once.0 of) (row_from j e (to_row m))
       (retold r d (Also (ToldBut t (g ∷ queue)) t g.patron) (ToldBut t queue) 0 (row_from j e (to_row m))
       (λ u q x at told. on t g queue once.0 u q told) (λ u q x at told. back t g queue u q told) more) in
       record {
         each = (
-          may_wait k j r d n names fit (ToldBut t (g ∷ queue)) e gone t g.patron g is (not_told t g queue) m.0 m.1 are.0 are.1,
+          may_wait k j r d n names fit (ToldBut t (g ∷ queue)) e gone t g.patron g is (not_told t g queue) m.0
+              m.1 are.0 are.1,
           rest.each,
         );
         gone = rest.gone;
@@ -112,7 +123,8 @@ module _ (k j : Facts) (r : Renumbering) (d : Desk) (n : ℕ) (names : IsByNames
   ToldBelow t u q = u < t
 
   module _ (queues : ℕ → List Hold) (its : AreQueuesOf k d queues)
-      (numbered : (t : ℕ) → t < k.titles → (made : List Numbered) × (filter_map (hold_row r t) (queues t) ≡ map to_row made)
+      (numbered : (t : ℕ) → t < k.titles
+      → (made : List Numbered) × (filter_map (hold_row r t) (queues t) ≡ map to_row made)
       × AreNumbered r t (queues t) made) (e : Desk) (empty : (u q : ℕ) → e.hold u q ≡ None) where
     none_gone : Gone r d (ToldBelow 0) 0 e
     none_gone = record {
@@ -138,10 +150,12 @@ module _ (k j : Facts) (r : Renumbering) (d : Desk) (n : ℕ) (names : IsByNames
         } in
         subst (λ (rows : List OpeningRow). Told j r d n (ToldBelow (suc t)) f rows) (sym made.1) all
       where
-        start : IsQueueOf k d t (queues t) → (u q : ℕ) (g : Hold) → d.hold u q ≡ Some g → ToldBut t (queues t) u q → u < t
+        start : IsQueueOf k d t (queues t) → (u q : ℕ) (g : Hold) → d.hold u q ≡ Some g
+            → ToldBut t (queues t) u q → u < t
         start queue u q g is (inl l) = l
         start queue u q g is (inr this) =
-            absurd (none_hold g (d.hold t q) (queue.each q ∙ this.1) (subst (λ (v : ℕ). d.hold v q ≡ Some g) this.0 is))
+            absurd (none_hold g (d.hold t q) (queue.each q ∙ this.1)
+            (subst (λ (v : ℕ). d.hold v q ≡ Some g) this.0 is))
 
         through : (u q : ℕ) → ToldBut t [] u q → u < suc t
         through u q (inl l) = below_next u t l
@@ -154,7 +168,8 @@ module _ (k j : Facts) (r : Renumbering) (d : Desk) (n : ℕ) (names : IsByNames
             by_case (inl l) = inl l
             by_case (inr this) = inr (this, refl)
 
-    joined : (A B : ℕ → ℕ → Type 0) (a b : List OpeningRow) → Told j r d n A e a → Told j r d n B (rows_from j e a) b
+    joined : (A B : ℕ → ℕ → Type 0) (a b : List OpeningRow) → Told j r d n A e a
+        → Told j r d n B (rows_from j e a) b
         → Told j r d n B e (a ++ b)
     joined A B a b one two = record {
       each = each_append j n e a b one.each two.each;
@@ -165,17 +180,21 @@ module _ (k j : Facts) (r : Renumbering) (d : Desk) (n : ℕ) (names : IsByNames
     pub titles_told : (t : ℕ) → t ≤ k.titles → Told j r d n (ToldBelow t) e (hold_rows r queues t)
     titles_told zero le = record { each = tt; gone = none_gone; copies = λ x. refl }
     titles_told (suc t) le =
-        let before : Told j r d n (ToldBelow t) e (hold_rows r queues t) = titles_told t (omega (arith, le)) in
-        joined (ToldBelow t) (ToldBelow (suc t)) (hold_rows r queues t) (filter_map (hold_row r t) (queues t)) before
+        let before : Told j r d n (ToldBelow t) e (hold_rows r queues t) =
+        titles_told t (omega (arith, le)) in
+        joined (ToldBelow t) (ToldBelow (suc t)) (hold_rows r queues t) (filter_map (hold_row r t) (queues t))
+        before
         (next t (omega (arith, le)) (rows_from j e (hold_rows r queues t)) before.gone)
 
     -- and so of all titles
     pub holds_told : Told j r d n (λ t p. Unit {0}) e (hold_rows r queues k.titles)
     holds_told =
-        let told : Told j r d n (ToldBelow k.titles) e (hold_rows r queues k.titles) = titles_told k.titles (omega arith) in
+        let told : Told j r d n (ToldBelow k.titles) e (hold_rows r queues k.titles) =
+        titles_told k.titles (omega arith) in
         record {
           each = told.each;
-          gone = retold r d (ToldBelow k.titles) (λ t p. Unit {0}) 0 (rows_from j e (hold_rows r queues k.titles))
+          gone = retold r d (ToldBelow k.titles) (λ t p. Unit {0}) 0
+              (rows_from j e (hold_rows r queues k.titles))
               (λ t p g is l. tt) (λ t p g is any. within t p g is) told.gone;
           copies = told.copies;
         }

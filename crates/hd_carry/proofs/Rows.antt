@@ -13,11 +13,13 @@ rows_from j e rows = with_rows j.title_of e rows
 abbrev pub row_from : Facts → Desk → OpeningRow → Desk
 row_from j e row = with_row j.title_of e row
 
-pub rows_append : (j : Facts) (e : Desk) (a b : List OpeningRow) → rows_from j e (a ++ b) ≡ rows_from j (rows_from j e a) b
+pub rows_append : (j : Facts) (e : Desk) (a b : List OpeningRow) → rows_from j e (a ++ b)
+    ≡ rows_from j (rows_from j e a) b
 rows_append j e [] b = refl
 rows_append j e (w ∷ a) b = rows_append j (row_from j e w) a b
 
-pub each_append : (j : Facts) (n : ℕ) (e : Desk) (a b : List OpeningRow) → EachMayStand j n e a → EachMayStand j n (rows_from j e a) b
+pub each_append : (j : Facts) (n : ℕ) (e : Desk) (a b : List OpeningRow) → EachMayStand j n e a
+    → EachMayStand j n (rows_from j e a) b
     → EachMayStand j n e (a ++ b)
 each_append j n e [] b one two = two
 each_append j n e (w ∷ a) b one two = (one.0, each_append j n (row_from j e w) a b one.1 two)
@@ -45,7 +47,9 @@ row_in_bounds j n e (row.HoldTransit c p from) may = tt
 row_in_bounds j n e (row.Transit c from to) may = tt
 
 -- rows that may stand keep to the bounds of their numbers
-pub in_bounds : (j : Facts) (n : ℕ) (e : Desk) (rows : List OpeningRow) → EachMayStand j n e rows → All (IsInBounds n) rows
+pub in_bounds : (j : Facts) (n : ℕ) (e : Desk) (rows : List OpeningRow) → EachMayStand j n e rows
+    → All (IsInBounds n) rows
 in_bounds j n e [] may i none l = absurd (omega (arith, l))
 in_bounds j n e (w ∷ rows) may zero none l = row_in_bounds j n e w may.0
-in_bounds j n e (w ∷ rows) may (suc i) none l = in_bounds j n (row_from j e w) rows may.1 i none (omega (arith, l))
+in_bounds j n e (w ∷ rows) may (suc i) none l =
+    in_bounds j n (row_from j e w) rows may.1 i none (omega (arith, l))

@@ -1,5 +1,6 @@
 -- Numbers past the last name of a kind, and whole tables.
-use Rattle.std.proofs.Common.{◌≡◌, ◌∙◌, ℕ, ◌<◌, ◌≤◌, List, [], Option, None, Some, length, ap, refl, sym, arith, nat_lt, inl, inr}
+use Rattle.std.proofs.Common.{◌≡◌, ◌∙◌, ℕ, ◌<◌, ◌≤◌, List, [], Option, None, Some, length, ap, refl, sym}
+use Rattle.std.proofs.Common.{arith, nat_lt, inl, inr}
 use Rattle.std.specs.Option.{option_and_then, option_map, unwrap_or}
 use Rattle.std.proofs.lemmas.List.{get_or_past}
 use Rattle.std.proofs.lemmas.Option.{slice_get_past}
@@ -34,7 +35,8 @@ whole : (to : ℕ → Option ℕ) (many : ℕ) (table : List (Option ℕ)) → I
     ((n : ℕ) → many ≤ n → to n ≡ None) → (n : ℕ) → in_table table n ≡ to n
 whole to many table is past n = elim (cases_Bool (nat_lt n many)) [
   | inl b ↦ is.each n (ltb-true n many b)
-  | inr b ↦ (let l : many ≤ n = ltb-false n many b in get_or_past table n None (omega (arith, is.count)) ∙ sym (past n l))
+  | inr b ↦ (let l : many ≤ n = ltb-false n many b in get_or_past table n None (omega (arith, is.count))
+      ∙ sym (past n l))
 ]
 
 no_new_copy : (old new : Contents) (n : ℕ) → length old.copies ≤ n → new_copy old new n ≡ None
@@ -42,7 +44,8 @@ unfolding copy_name
 no_new_copy old new n l = rw (nameless old.copies n l) refl
 
 -- the tables of all names
-pub tables-are : (old new : Contents) (t : NumberTables) → IsTable (by_names old new).branch (facts_of old).branches t.branches →
+pub tables-are : (old new : Contents) (t : NumberTables)
+    → IsTable (by_names old new).branch (facts_of old).branches t.branches →
     IsTable (by_names old new).title (facts_of old).titles t.titles →
     IsTable (by_names old new).copy (facts_of old).copies t.copies →
     IsTable (by_names old new).patron (facts_of old).patrons t.patrons → renumbering t ≡ by_names old new
@@ -60,7 +63,8 @@ pub found_again : {F : Type 0} (names : List (List ℕ × F)) (n : ℕ) (x : Lis
 found_again names n x named found = λ name is. cc
 
 -- no two names are equal, where each is found again
-pub distinct_all : {F : Type 0} (names : List (List ℕ × F)) → ((n : ℕ) → n < length names → IsFoundAgain names n) → AreDistinct names
+pub distinct_all : {F : Type 0} (names : List (List ℕ × F))
+    → ((n : ℕ) → n < length names → IsFoundAgain names n) → AreDistinct names
 distinct_all names found = λ n name is. elim (cases_Bool (nat_lt n (length names))) [
   | inl b ↦ found n (ltb-true n (length names) b) name is
   | inr b ↦ (let none = nameless names n (ltb-false n (length names) b) in cc)

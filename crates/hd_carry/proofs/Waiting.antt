@@ -17,9 +17,12 @@ use Rattle.hd_carry.proofs.Gone.{hold_below, Came, Went, Gone, same_with, no_cop
 abbrev pub Also : (ℕ → ℕ → Type 0) → ℕ → ℕ → ℕ → ℕ → Type 0
 Also Told t p u q = Told u q ⊎ ((u ≡ t) × (q ≡ p))
 
-module _ (k j : Facts) (r : Renumbering) (d : Desk) (n : ℕ) (names : IsByNames k j r) (fit : HoldsFit n d.hold)
-    (Told : ℕ → ℕ → Type 0) (e : Desk) (gone : Gone r d Told 0 e) (t p : ℕ) (g : Hold) (is : d.hold t p ≡ Some g)
-    (new : Told t p → ⊥) (u : ℕ) (h : Hold) (title : r.title t ≡ Some u) (same : IsSameHold r (with_copy None g) h) where
+module _ (k j : Facts) (r : Renumbering) (d : Desk) (n : ℕ) (names : IsByNames k j r)
+    (fit : HoldsFit n d.hold)
+    (Told : ℕ → ℕ → Type 0) (e : Desk) (gone : Gone r d Told 0 e) (t p : ℕ) (g : Hold)
+    (is : d.hold t p ≡ Some g)
+    (new : Told t p → ⊥) (u : ℕ) (h : Hold) (title : r.title t ≡ Some u)
+    (same : IsSameHold r (with_copy None g) h) where
   patron_is : r.patron p ≡ Some h.patron
   patron_is = subst (λ (x : ℕ). r.patron x ≡ Some h.patron) (fit.named t p g is) same.patron
 
@@ -36,7 +39,8 @@ module _ (k j : Facts) (r : Renumbering) (d : Desk) (n : ℕ) (names : IsByNames
       let came : Came r d Told 0 u q x = gone.from u q x at in
       let one : came.title ≡ t = names.titles came.title t u came.same_title title in
       let two : came.patron ≡ p =
-      fit.apart t came.patron p came.hold g (subst (λ (y : ℕ). d.hold y came.patron ≡ Some came.hold) one came.is) is
+      fit.apart t came.patron p came.hold g
+      (subst (λ (y : ℕ). d.hold y came.patron ≡ Some came.hold) one came.is) is
       (sym came.same.stamp ∙ stamp ∙ same.stamp) in
       untold came.title came.patron one two came.told
 
@@ -85,7 +89,8 @@ module _ (k j : Facts) (r : Renumbering) (d : Desk) (n : ℕ) (names : IsByNames
     same_patron = subst (λ (y : ℕ). r.patron y ≡ Some h.patron) (sym two) patron_is;
     is = hold_here u u h.patron h.patron (Some h) (e.hold u h.patron) refl refl;
     same = subst (λ (y : Hold). IsSameHold r (hold_below 0 y) h)
-        (same_Some g x (sym is ∙ subst (λ (y : ℕ). d.hold y p ≡ Some x) one (subst (λ (y : ℕ). d.hold v y ≡ Some x) two at)))
+        (same_Some g x (sym is
+        ∙ subst (λ (y : ℕ). d.hold y p ≡ Some x) one (subst (λ (y : ℕ). d.hold v y ≡ Some x) two at)))
         same_so_far;
   }
 
@@ -107,7 +112,8 @@ module _ (k j : Facts) (r : Renumbering) (d : Desk) (n : ℕ) (names : IsByNames
 
   pub more_gone : Gone r d (Also Told t p) 0 (put e (HoldCell u h.patron) (HoldHas (Some h)))
   more_gone = record {
-    from = λ v q x. hold_cases (λ o. o ≡ Some x → Came r d (Also Told t p) 0 v q x) u v h.patron q (Some h) (e.hold v q)
+    from = λ v q x. hold_cases (λ o. o ≡ Some x → Came r d (Also Told t p) 0 v q x) u v h.patron q (Some h)
+        (e.hold v q)
         (λ one two is_x. came_now v q x one two is_x)
         (λ apart at. came_before v q x (gone.from v q x at));
     to = λ v q x also at. by_told v q x at also;

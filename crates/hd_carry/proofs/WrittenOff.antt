@@ -11,7 +11,8 @@ use Rattle.hd_rules.specs.Sound.{AreNamed, Tied, Sound}
 use Rattle.hd_desk.specs.Asking.{IsQueueOf, AreQueuesOf}
 use Rattle.hd_carry.specs.WriteOffs.{written_state, without_loans}
 
-kept_was : (w : Bool) (home : ℕ) (s : CopyState) (z : HoldPlace) → written_state w home s ≡ OnHoldShelf z → s ≡ OnHoldShelf z
+kept_was : (w : Bool) (home : ℕ) (s : CopyState) (z : HoldPlace) → written_state w home s ≡ OnHoldShelf z → s
+    ≡ OnHoldShelf z
 kept_was true home (Shelf b) z is = is
 kept_was true home (OnLoan l) z is = let never : Shelf home ≡ OnHoldShelf z = is in cc
 kept_was true home (OnHoldShelf s) z is = is
@@ -41,7 +42,8 @@ tied_was false home (OnLoan l) p b tied = tied
 tied_was false home (OnHoldShelf s) p b tied = tied
 tied_was false home (InTransit t) p b tied = tied
 
-known_is : (k : Facts) (w : Bool) (home : ℕ) (s : CopyState) → home < k.branches → IsKnownState k s → IsKnownState k (written_state w home s)
+known_is : (k : Facts) (w : Bool) (home : ℕ) (s : CopyState) → home < k.branches → IsKnownState k s
+    → IsKnownState k (written_state w home s)
 known_is k true home (Shelf a) in_home known = known
 known_is k true home (OnLoan l) in_home known = in_home
 known_is k true home (OnHoldShelf s) in_home known = known
@@ -51,7 +53,8 @@ known_is k false home (OnLoan l) in_home known = known
 known_is k false home (OnHoldShelf s) in_home known = known
 known_is k false home (InTransit t) in_home known = known
 
-pub written_sound : (k : Facts) (n : ℕ) (listed : ℕ → Bool) (d : Desk) → Sound k n d → Sound k n (without_loans k listed d)
+pub written_sound : (k : Facts) (n : ℕ) (listed : ℕ → Bool) (d : Desk) → Sound k n d
+    → Sound k n (without_loans k listed d)
 unfolding without_loans
 written_sound k n listed d sound = record {
   holds = record { named = sound.holds.named; stamped = sound.holds.stamped; apart = sound.holds.apart };
@@ -68,14 +71,16 @@ written_sound k n listed d sound = record {
   };
 }
 
-pub written_known : (k : Facts) (listed : ℕ → Bool) (d : Desk) → AreInRange k → IsKnownDesk k d → IsKnownDesk k (without_loans k listed d)
+pub written_known : (k : Facts) (listed : ℕ → Bool) (d : Desk) → AreInRange k → IsKnownDesk k d
+    → IsKnownDesk k (without_loans k listed d)
 unfolding without_loans
 written_known k listed d range known = record {
   copies = λ c in_c. known_is k (listed c) (k.home c) (d.copy c) (range.home c in_c) (known.copies c in_c);
   holds = known.holds;
 }
 
-pub written_queues : (k : Facts) (listed : ℕ → Bool) (d : Desk) (queues : ℕ → List Hold) → AreQueuesOf k d queues
+pub written_queues : (k : Facts) (listed : ℕ → Bool) (d : Desk) (queues : ℕ → List Hold)
+    → AreQueuesOf k d queues
     → AreQueuesOf k (without_loans k listed d) queues
 unfolding without_loans
 written_queues k listed d queues are = record {
@@ -85,6 +90,7 @@ written_queues k listed d queues are = record {
   past = are.past;
 }
 
-pub written_named : (k : Facts) (listed : ℕ → Bool) (d : Desk) → AreNamed d.hold → AreNamed (without_loans k listed d).hold
+pub written_named : (k : Facts) (listed : ℕ → Bool) (d : Desk) → AreNamed d.hold
+    → AreNamed (without_loans k listed d).hold
 unfolding without_loans
 written_named k listed d named = named

@@ -12,6 +12,7 @@ use Rattle.hd_catalogue.specs.Reading.{Names}
 use Rattle.hd_catalogue.specs.declared.cause.CatFault.{CatFault}
 use Rattle.hd_catalogue.specs.declared.cause.Cause.{Cause}
 use Rattle.hd_catalogue.specs.declared.cause.Cause.TheVariants.{Memory}
+use Rattle.hd_lemmas.proofs.Lists.{head_same, last_or, nil_split, split_cases, tail_same}
 
 -- what follows from the lines that are left, the next of them with this number
 abbrev pub Follows : ℕ → List (List ℕ) → Contents → Result Contents CatFault → Type 0
@@ -24,30 +25,6 @@ Follows n (line ∷ more) k r =
 abbrev pub IsReading : List (List ℕ) → Result Contents CatFault → Type 0
 IsReading all (Ok k) = IsAccepted all k
 IsReading all (Err fault) = IsFirstBad all fault
-
-head_same : {A : Type 0} {x y : A} {xs ys : List A} → x ∷ xs ≡ y ∷ ys → x ≡ y
-head_same e = cc
-
-tail_same : {A : Type 0} {x y : A} {xs ys : List A} → x ∷ xs ≡ y ∷ ys → xs ≡ ys
-tail_same e = cc
-
-nil_split : {A : Type 0} (before : List A) (x : A) (after : List A) → [] ≡ before ++ x ∷ after → ⊥
-nil_split [] x after e = cc
-nil_split (b ∷ bs) x after e = cc
-
--- a line of a list with one more is one of the list, or the one more
-last_or : (all : List (List ℕ)) (line : List ℕ) (before : List (List ℕ)) (x : List ℕ) (after : List (List ℕ))
-    → all ++ line ∷ [] ≡ before ++ x ∷ after →
-    ((rest : List (List ℕ)) × (all ≡ before ++ x ∷ rest)) ⊎ ((all ≡ before) × (line ≡ x))
-last_or [] line [] x after e = inr (refl, head_same e)
-last_or [] line (b ∷ bs) x after e = absurd (nil_split bs x after (tail_same e))
-last_or (a ∷ rest) line [] x after e = inl (rest, ap (λ y. y ∷ rest) (head_same e))
-last_or (a ∷ rest) line (b ∷ bs) x after e =
-    let first : a ≡ b = head_same e in
-    elim (last_or rest line bs x after (tail_same e)) [
-      | inl more ↦ inl (more.0, rw first (ap (λ ys. b ∷ ys) more.1))
-      | inr last ↦ inr (rw first (ap (λ ys. b ∷ ys) last.0), last.1)
-    ]
 
 pub passes-none : EachPasses []
 passes-none before x after e = absurd (nil_split before x after e)
@@ -135,20 +112,6 @@ pub accepted_one : (all : List (List ℕ)) (k h : Contents) → IsAccepted all k
 accepted_one all k h a b =
     let same : a.first ∷ a.more ≡ b.first ∷ b.more = sym a.whole ∙ b.whole in
     a.says ∙ ap (λ f. contents_of f a.more) (head_same same) ∙ ap (contents_of b.first) (tail_same same) ∙ sym b.says
-
--- of two places in a list one is earlier, or they are one
-split_cases : (b c : List (List ℕ)) (x y : List ℕ) (d e : List (List ℕ)) → b ++ x ∷ d ≡ c ++ y ∷ e →
-    ((rest : List (List ℕ)) × (c ≡ b ++ x ∷ rest)) ⊎ (((rest : List (List ℕ)) × (b ≡ c ++ y ∷ rest)) ⊎ ((b ≡ c) × (x ≡ y)))
-split_cases [] [] x y d e h = inr (inr (refl, head_same h))
-split_cases [] (z ∷ c) x y d e h = inl (c, ap (λ w. w ∷ c) (sym (head_same h)))
-split_cases (z ∷ b) [] x y d e h = inr (inl (b, ap (λ w. w ∷ b) (head_same h)))
-split_cases (z ∷ b) (w ∷ c) x y d e h =
-    let same : z ≡ w = head_same h in
-    elim (split_cases b c x y d e (tail_same h)) [
-      | inl more ↦ inl (more.0, rw same (ap (λ l. w ∷ l) more.1))
-      | inr (inl more) ↦ inr (inl (more.0, rw same (ap (λ l. w ∷ l) more.1)))
-      | inr (inr is) ↦ inr (inr (rw same (ap (λ l. w ∷ l) is.0), is.1))
-    ]
 
 own_cause : (cause : Option Cause) (named : Cause) → Names cause named → ¬ (named ≡ Memory) → cause ≡ Some named
 own_cause cause named (inl is) h = is

@@ -1,6 +1,6 @@
 -- A catalogue stays sound with one more name.
 use Rattle.std.proofs.Common.{◌≡◌, ℕ, zero, suc, ◌+◌, ◌<◌, ◌≤◌, ◌⊎◌, List, [], ◌∷◌, ◌++◌, length, refl, sym, inl, inr, subst, arith}
-use Rattle.std.proofs.Common.{length-append, Result, Ok, Err, OnOk, is_err, false, Option, None, Some, IfSome, All, slice_index_or}
+use Rattle.std.proofs.Common.{length-append, Option, None, Some, IfSome, All, slice_index_or}
 use Rattle.hd_rules.specs.declared.limits.TheConstants.{MOST_BRANCHES, MOST_COMMANDS, MOST_COPIES, MOST_GIVEN, MOST_LOANS, MOST_LOAN_DAYS, MOST_PATRONS}
 use Rattle.hd_rules.specs.declared.limits.TheConstants.{MOST_RENEWALS, MOST_TERMINALS, MOST_TITLES}
 use Rattle.hd_rules.specs.declared.rows.OpeningRow.{OpeningRow}
@@ -247,11 +247,6 @@ sound-opening k rows last s fit most = record {
   rows = more-fit (facts_of k) (facts_of (record k { opening = told_by rows last })) (last + 1) rows (omega arith) (omega arith) (omega arith) (omega arith) fit;
   last = most;
 }
-
--- a fact of Ok, where the result is no Err
-pub when_ok : {T E : Type 0} (r : Result T E) (P : Type 0) → OnOk r P → is_err r ≡ false → P
-when_ok (Ok x) P h e = h
-when_ok (Err x) P h e = cc
 
 -- a fact of Some, where the option is that
 pub when_some : {T : Type 0} (o : Option T) (x : T) (P : T → Type 0) → IfSome o P → o ≡ Some x → P x

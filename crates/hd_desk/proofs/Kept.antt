@@ -33,13 +33,16 @@ kept-opening k range = record {
 pub sound-same : (d e : DeskValue) (n : ℕ) → contents e ≡ contents d → desk_of e ≡ desk_of d →
     Sound (facts d) n (desk_of d) → Sound (facts e) n (desk_of e)
 sound-same d e n same desk sound =
-    subst (λ (x : Desk). Sound (facts e) n x) (sym desk) (subst (λ (x : Contents). Sound (facts_of x) n (desk_of d)) (sym same) sound)
+    subst (λ (x : Desk). Sound (facts e) n x) (sym desk)
+    (subst (λ (x : Contents). Sound (facts_of x) n (desk_of d)) (sym same) sound)
 
-known-state : (k : Facts) (b : Bool) (new old : CopyState) → IsKnownState k new → IsKnownState k old → IsKnownState k (cond b new old)
+known-state : (k : Facts) (b : Bool) (new old : CopyState) → IsKnownState k new → IsKnownState k old
+    → IsKnownState k (cond b new old)
 known-state k true new old is was = is
 known-state k false new old is was = was
 
-known-held : (k : Facts) (b : Bool) (new old : Option Hold) → IsKnownHeld k new → IsKnownHeld k old → IsKnownHeld k (cond b new old)
+known-held : (k : Facts) (b : Bool) (new old : Option Hold) → IsKnownHeld k new → IsKnownHeld k old
+    → IsKnownHeld k (cond b new old)
 known-held k true new old is was = is
 known-held k false new old is was = was
 
@@ -57,7 +60,8 @@ unfolding desk_of
 put-hold-is d new t p o is = λ i. record { copy = standing d.copies; hold = is i }
 
 -- a cell gets a value that names things of the catalogue
-known-put : (k : Facts) (d : Desk) (cell : Cell) (v : Value) → IsKnownValue k v → IsKnownDesk k d → IsKnownDesk k (put d cell v)
+known-put : (k : Facts) (d : Desk) (cell : Cell) (v : Value) → IsKnownValue k v → IsKnownDesk k d
+    → IsKnownDesk k (put d cell v)
 known-put k d (CopyCell c) (CopyHas s) is known = record {
   copies = λ x in_x. known-state k (c == x) s (d.copy x) is (known.copies x in_x);
   holds = known.holds;
@@ -69,10 +73,17 @@ known-put k d (HoldCell t p) (HoldHas o) is known = record {
 known-put k d (CopyCell c) (HoldHas o) is known = known
 known-put k d (HoldCell t p) (CopyHas s) is known = known
 
-pub kept-put : (d e : DeskValue) (cell : Cell) (v : Value) → contents e ≡ contents d → desk_of e ≡ put (desk_of d) cell v →
-    IsKnownValue (facts d) v → IsFit (facts d) (put (desk_of d) cell v) → IsKeptDesk (facts d) (desk_of d) → IsKeptDesk (facts e) (desk_of e)
+pub kept-put : (d e : DeskValue) (cell : Cell) (v : Value) → contents e ≡ contents d → desk_of e
+    ≡ put (desk_of d) cell v →
+    IsKnownValue (facts d) v → IsFit (facts d) (put (desk_of d) cell v) → IsKeptDesk (facts d) (desk_of d)
+    → IsKeptDesk (facts e) (desk_of e)
 kept-put d e cell v same desk known fit kept =
     let here : IsKeptDesk (facts d) (put (desk_of d) cell v) =
-    record { range = kept.range; known = known-put (facts d) (desk_of d) cell v known kept.known; fit = fit } in
+    record {
+      range = kept.range;
+      known = known-put (facts d) (desk_of d) cell v known kept.known;
+      fit =
+          fit;
+    } in
     subst (λ (x : Desk). IsKeptDesk (facts e) x) (sym desk)
     (subst (λ (x : Contents). IsKeptDesk (facts_of x) (put (desk_of d) cell v)) (sym same) here)

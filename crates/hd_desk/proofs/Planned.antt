@@ -1,6 +1,7 @@
 -- A command at a desk, from its questions to its changes.
 use Rattle.std.proofs.Common.{arith, Bool, true, false, ◌≡◌, sym, ◌∙◌, ap, subst, ℕ, ◌+◌, ◌==◌}
-use Rattle.std.proofs.Common.{Bor, Option, Some, None, is_some, IfSome, List, [], ◌∷◌, ◌++◌, Result, Ok, Err, length}
+use Rattle.std.proofs.Common.{Bor, Option, Some, None, is_some, IfSome, List, [], ◌∷◌, ◌++◌, Result, Ok, Err}
+use Rattle.std.proofs.Common.{length}
 use Rattle.std.proofs.lemmas.Bool.{cond_both}
 use Rattle.std.specs.Option.{option_copied}
 use Rattle.std.specs.Prelude.{OnErr}
@@ -48,17 +49,20 @@ use Rattle.hd_desk.proofs.Writing.{are-known}
 use Rattle.hd_lemmas.proofs.Rules.{later_sound}
 
 -- where a plan led, from the start
-pub record Followed (k : Facts) (d : Desk) (p : Plan) (r : Result Done Refusal) (asked : List Question) : Type 0 where
+pub record Followed (k : Facts) (d : Desk) (p : Plan) (r : Result Done Refusal) (asked : List Question) : Type
+    0 where
   pub outcome : r ≡ outcome k d p
   pub asks : asked ≡ asks k d p
 
-pub followed : (d : DeskValue) (n : ℕ) (command : Command) (q : InquiryValue) (r : Result Done Refusal) (asked : List Question) →
+pub followed : (d : DeskValue) (n : ℕ) (command : Command) (q : InquiryValue) (r : Result Done Refusal)
+    (asked : List Question) →
     q ≡ record { desk = d; asked = [] } → (r, asked) ≡ ending_of q (plan (facts q.desk) n command) →
     Followed (facts d) (desk_of d) (plan (facts d) n command) r asked
 followed d n command q r asked start ends =
     let p : Plan = plan (facts d) n command in
     let all : (r, asked) ≡ (outcome (facts d) (desk_of d) p, asks (facts d) (desk_of d) p) =
-    ends ∙ ap (λ (x : InquiryValue). ending_of x (plan (facts x.desk) n command)) start ∙ ending_is (facts d) (desk_of d) p [] in
+    ends ∙ ap (λ (x : InquiryValue). ending_of x (plan (facts x.desk) n command)) start
+    ∙ ending_is (facts d) (desk_of d) p [] in
     record {
       outcome = ap (λ (x : Result Done Refusal × List Question). x.0) all;
       asks = ap (λ (x : Result Done Refusal × List Question). x.1) all;
@@ -66,17 +70,22 @@ followed d n command q r asked start ends =
 
 -- one more finding is kept
 pub keep-more : (k : Facts) (d : Desk) (fs : List Finding) (q : Question) (n : Noted) (new : List Finding) →
-    new ≡ fs ++ record { question = q; noted = n } ∷ [] → fs ≡ findings k d (asked_of fs) → AreKnownQuestions k (asked_of fs) →
-    IsKnownQuestion k q → n ≡ note k d q → (new ≡ findings k d (asked_of new)) × AreKnownQuestions k (asked_of new)
+    new ≡ fs ++ record { question = q; noted = n } ∷ [] → fs ≡ findings k d (asked_of fs)
+    → AreKnownQuestions k (asked_of fs) →
+    IsKnownQuestion k q → n ≡ note k d q
+    → (new ≡ findings k d (asked_of new)) × AreKnownQuestions k (asked_of new)
 keep-more k d fs q n new goes are known is noted =
-    let asked : asked_of new ≡ asked_of fs ++ q ∷ [] = ap asked_of goes ∙ asked_more fs (record { question = q; noted = n }) in (
-      goes ∙ (λ i. are i ++ record { question = q; noted = noted i } ∷ []) ∙ sym (findings_more k d (asked_of fs) q)
+    let asked : asked_of new ≡ asked_of fs ++ q ∷ [] = ap asked_of goes
+    ∙ asked_more fs (record { question = q; noted = n }) in (
+      goes ∙ (λ i. are i ++ record { question = q; noted = noted i } ∷ [])
+          ∙ sym (findings_more k d (asked_of fs) q)
           ∙ ap (findings k d) (sym asked),
       subst (AreKnownQuestions k) (sym asked) (known_more k (asked_of fs) q known is),
     )
 
 -- the opening desk
-pub desk-opening : (copies : CopiesValue) (holds : HoldsValue) (k : Facts) → standing copies ≡ (λ c. Shelf (k.home c)) →
+pub desk-opening : (copies : CopiesValue) (holds : HoldsValue) (k : Facts) → standing copies
+    ≡ (λ c. Shelf (k.home c)) →
     patron_hold holds ≡ (λ t p. None) → desk_of (record { copies = copies; holds = holds }) ≡ at_home k.home
 unfolding desk_of
 desk-opening copies holds k home none = λ i. record { copy = home i; hold = none i }
@@ -94,36 +103,45 @@ all-of-patrons n [] all = tt
 all-of-patrons n (h ∷ hs) all = (all.0, all-of-patrons n hs all.1)
 
 -- a queue as the one of a copy's title
-pub is-at : (d : DeskValue) (h : HoldsValue) (holds : List Hold) (copy : CopyFacts) (t : ℕ) → h ≡ d.holds → h.contents ≡ d.copies.contents →
-    t ≡ (facts d).title_of copy.copy → copy.home ≡ (facts d).home copy.copy → copy.priority ≡ (facts d).priority t →
-    ((p : ℕ) → patron_hold h t p ≡ hold_of holds p) → AreOfPatrons (facts_of h.contents).patrons holds → IsAt (facts d) (desk_of d) holds copy
+pub is-at : (d : DeskValue) (h : HoldsValue) (holds : List Hold) (copy : CopyFacts) (t : ℕ) → h ≡ d.holds
+    → h.contents ≡ d.copies.contents →
+    t ≡ (facts d).title_of copy.copy → copy.home ≡ (facts d).home copy.copy → copy.priority
+    ≡ (facts d).priority t →
+    ((p : ℕ) → patron_hold h t p ≡ hold_of holds p) → AreOfPatrons (facts_of h.contents).patrons holds
+    → IsAt (facts d) (desk_of d) holds copy
 unfolding desk_of
 is-at d h holds copy t same contents title home priority each patrons = record {
   home = sym home;
   priority = ap (facts d).priority (sym title) ∙ sym priority;
   queue = λ p. sym (λ i. patron_hold (same i) (title i) p) ∙ each p;
-  patrons = all-of-patrons (facts d).patrons holds (subst (λ x. AreOfPatrons (facts_of x).patrons holds) contents patrons);
+  patrons = all-of-patrons (facts d).patrons holds
+      (subst (λ x. AreOfPatrons (facts_of x).patrons holds) contents patrons);
 }
 
 -- a hold of a queue names things of the catalogue
 known-hold : (k : Facts) (holds : List Hold) (p : ℕ) → AreKnownHolds k holds → IsKnownHeld k (hold_of holds p)
 known-hold k [] p known = tt
 known-hold k (h ∷ holds) p known =
-    cond_both (h.patron == p) (Some h) (hold_of holds p) (IsKnownHeld k) (λ e. known.0) (λ e. known-hold k holds p known.1)
+    cond_both (h.patron == p) (Some h) (hold_of holds p) (IsKnownHeld k) (λ e. known.0)
+    (λ e. known-hold k holds p known.1)
 
 -- what was chosen names things of the catalogue
-pub chosen-known : (k : Facts) (holds : List Hold) (r : Option (Bor Hold)) (o : Option Hold) → o ≡ option_copied r →
+pub chosen-known : (k : Facts) (holds : List Hold) (r : Option (Bor Hold)) (o : Option Hold) → o
+    ≡ option_copied r →
     IfSome r (λ h. Waits holds h.now) → AreKnownHolds k holds → IsKnownHeld k o
 chosen-known k holds None o is waits known = subst (IsKnownHeld k) (sym is) tt
 chosen-known k holds (Some b) o is waits known =
     subst (IsKnownHeld k) (waits.queued ∙ sym is) (known-hold k holds b.now.patron known)
 
 -- an accepted command's changes can be made, and taken back
-can-be-made : CommandLaws → (k : Facts) (d : Desk) (n : ℕ) (command : Command) (done : Done) → IsKeptDesk k d →
-    IsKnownAction k command.action → Sound k n d → outcome k d (plan k n command) ≡ Ok done → CanBeMade k d n done.changes
+can-be-made : CommandLaws → (k : Facts) (d : Desk) (n : ℕ) (command : Command) (done : Done)
+    → IsKeptDesk k d →
+    IsKnownAction k command.action → Sound k n d → outcome k d (plan k n command) ≡ Ok done
+    → CanBeMade k d n done.changes
 can-be-made laws k d n command done kept action sound is =
     let fit : EachOnIsFit k done.changes d = laws.commands.fit k d n command done sound is in
-    let after_it : AreChanges done.changes × Sound k (n + 1) (after done.changes d) = laws.commands.sound k d n command done sound is in
+    let after_it : AreChanges done.changes × Sound k (n + 1) (after done.changes d) =
+    laws.commands.sound k d n command done sound is in
     let known : AreKnownChanges k done.changes =
     are-known k d d done.changes kept.known kept.fit after_it.0 (record {
       known = (laws.commands.known k d n command done kept.range kept.known action is).changes;
@@ -135,13 +153,19 @@ pub still-sound : (k : Facts) (n : ℕ) (d : Desk) → Sound k n d → Sound k (
 still-sound k n d sound = later_sound k n (n + 1) d (omega arith) sound
 
 -- a plan that was followed to a command's acceptance
-pub accepted : CommandLaws → (d : DeskValue) (n : ℕ) (command : Command) (q new : InquiryValue) (r : Result Done Refusal) (ok : Done)
-    (done : DoneValue) → q ≡ record { desk = d; asked = [] } → (r, new.asked) ≡ ending_of q (plan (facts q.desk) n command) →
-    new.desk ≡ q.desk → r ≡ Ok ok → done_of done ≡ ok → done.findings ≡ findings (facts new.desk) (desk_of new.desk) new.asked →
-    IsKeptDesk (facts d) (desk_of d) → IsKnownAction (facts d) command.action → Sound (facts d) n (desk_of d) → IsAccepted d n command done
+pub accepted : CommandLaws
+    → (d : DeskValue) (n : ℕ) (command : Command) (q new : InquiryValue) (r : Result Done Refusal) (ok : Done)
+    (done : DoneValue) → q ≡ record { desk = d; asked = [] } → (r, new.asked)
+    ≡ ending_of q (plan (facts q.desk) n command) →
+    new.desk ≡ q.desk → r ≡ Ok ok → done_of done ≡ ok → done.findings
+    ≡ findings (facts new.desk) (desk_of new.desk) new.asked →
+    IsKeptDesk (facts d) (desk_of d) → IsKnownAction (facts d) command.action → Sound (facts d) n (desk_of d)
+    → IsAccepted d n command done
 accepted laws d n command q new r ok done start ends same is told found kept action sound =
-    let f : Followed (facts d) (desk_of d) (plan (facts d) n command) r new.asked = followed d n command q r new.asked start ends in
-    let outcome : outcome_at d n command ≡ Ok (done_of done) = sym f.outcome ∙ is ∙ ap (λ (x : Done). Ok x) (sym told) in
+    let f : Followed (facts d) (desk_of d) (plan (facts d) n command) r new.asked =
+    followed d n command q r new.asked start ends in
+    let outcome : outcome_at d n command ≡ Ok (done_of done) = sym f.outcome ∙ is
+    ∙ ap (λ (x : Done). Ok x) (sym told) in
     let here : new.desk ≡ d = same ∙ ap (λ (x : InquiryValue). x.desk) start in
     record {
       outcome = outcome;
@@ -165,25 +189,31 @@ left-sound d e n cs can same made =
     (subst (λ (x : Contents). Sound (facts_of x) (n + 1) (after cs (desk_of d))) (sym same) can.sound)
 
 pub left-back : (d e : DeskValue) (n : ℕ) (cs : List Change) → CanBeMade (facts d) (desk_of d) n cs →
-    contents e ≡ contents d → desk_of e ≡ after cs (desk_of d) → CanBeUndone (facts e) (desk_of d) (desk_of e) cs
+    contents e ≡ contents d → desk_of e ≡ after cs (desk_of d)
+    → CanBeUndone (facts e) (desk_of d) (desk_of e) cs
 left-back d e n cs can same made =
     subst (λ (x : Desk). CanBeUndone (facts e) (desk_of d) x cs) (sym made)
-    (subst (λ (x : Contents). CanBeUndone (facts_of x) (desk_of d) (after cs (desk_of d)) cs) (sym same) can.back)
+    (subst (λ (x : Contents). CanBeUndone (facts_of x) (desk_of d) (after cs (desk_of d)) cs) (sym same)
+    can.back)
 
 -- a copy's view
-pub item-so : (d : DeskValue) (h : HoldsValue) (copy t : ℕ) (state : CopyState) (n : ℕ) → h ≡ d.holds → h.contents ≡ d.copies.contents →
+pub item-so : (d : DeskValue) (h : HoldsValue) (copy t : ℕ) (state : CopyState) (n : ℕ) → h ≡ d.holds
+    → h.contents ≡ d.copies.contents →
     state ≡ (desk_of d).copy copy → t ≡ (facts d).title_of copy →
     n ≡ count_below (λ p. is_some (patron_hold h t p)) (facts_of h.contents).patrons →
     record { state = state; holds = n } ≡ item_view (facts d) (desk_of d) copy
 unfolding desk_of
 item-so d h copy t state n same contents is title count = λ i. record {
   state = is i;
-  holds = (count ∙ (λ j. count_below (λ p. is_some (patron_hold (same j) (title j) p)) (facts_of (contents j)).patrons)) i;
+  holds = (count ∙ (λ j. count_below (λ p. is_some (patron_hold (same j) (title j) p))
+      (facts_of (contents j)).patrons)) i;
 }
 
 -- there was too little room
-pub was-short : {T E : Type 0} → (d : DeskValue) (o : Result Done Refusal) (done : Done) (cs : List Change) (r : Result T E) (b : Bool) →
-    o ≡ Ok done → cs ≡ done.changes → b ≡ is_err r → b ≡ true → OnErr r (HaveRoom (HasRoomFor d) (length cs) cs → ⊥) →
+pub was-short : {T E : Type 0}
+    → (d : DeskValue) (o : Result Done Refusal) (done : Done) (cs : List Change) (r : Result T E) (b : Bool) →
+    o ≡ Ok done → cs ≡ done.changes → b ≡ is_err r → b ≡ true
+    → OnErr r (HaveRoom (HasRoomFor d) (length cs) cs → ⊥) →
     IsShortOfRoom d o (Err Memory)
 was-short d o done cs (Ok x) b is are test on full = let t : true ≡ false = sym on ∙ test in cc
 was-short d o done cs (Err x) b is are test on full =

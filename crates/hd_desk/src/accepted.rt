@@ -1,7 +1,7 @@
 //! How a command ends.
 #![tactic(auto)]
 
-ghost use Rattle.std.specs.Prelude.{◌≡◌, ◌≤◌, [], ℕ, List, length, not};
+ghost use Rattle.std.specs.Prelude.{◌≡◌, ◌≤◌, [], ℕ, List, OnErr, length, not};
 ghost use Rattle.hd_rules.specs.declared.questions.Question.{Question};
 ghost use Rattle.hd_rules.specs.Same.{real_changes as real, same_value};
 ghost use Rattle.hd_rules.specs.Settle.{copy_becomes as change_of_copy, hold_becomes as change_of_hold};
@@ -17,7 +17,8 @@ use std::alloc::Allocator;
 
 impl<'a, A: Allocator + Copy> Inquiry<'a, A> {
     /// The command is accepted, unless all numbers are given: what it says, and its changes are put into the
-    /// footprint. A change to what is there already is no change.
+    /// footprint. A change to what is there already is no change. Where it is refused the footprint stays
+    /// empty.
     pub(crate) fn accept(
         &self,
         number: u64,
@@ -27,9 +28,10 @@ impl<'a, A: Allocator + Copy> Inquiry<'a, A> {
     ) -> Result<Reply, Refusal>
         requires few { length changes.now ≤ 4 }
         requires empty { footprint.old ≡ [] }
-        ensures { (asked : List Question)
+        ensures ends { (asked : List Question)
             → (told_with footprint.new result, asked) ≡ ending (facts self.now.desk) (desk_of self.now.desk)
             (accept (facts self.now.desk) number changes.now reply) asked }
+        ensures untouched { OnErr result (footprint.new ≡ footprint.old) }
     {
         if self.desk.last_number() < number {
             return Err(Refusal::JournalFull);

@@ -95,7 +95,8 @@ impl<A: Allocator + Copy> Desk<A> {
 }
 
 impl<'a, A: Allocator + Copy> Inquiry<'a, A> {
-    /// Follows the command, question by question, to its end. Nothing was asked before.
+    /// Follows the command, question by question, to its end. Nothing was asked before. Where it is refused
+    /// the footprint stays empty.
     pub(crate) fn follow(
         &mut self,
         number: u64,
@@ -108,6 +109,7 @@ impl<'a, A: Allocator + Copy> Inquiry<'a, A> {
         ensures desk { self.new.desk ≡ self.old.desk }
         ensures ends { (told_with footprint.new result, self.new.asked)
             ≡ ending_of self.old (plan (facts self.old.desk) number command.now) }
+        ensures untouched { OnErr result (footprint.new ≡ footprint.old) }
     {
         let day = command.day;
         match command.action {

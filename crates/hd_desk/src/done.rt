@@ -29,17 +29,12 @@ impl Done {
         self.reply
     }
 
-    /// The reply, the changes in order, and the questions in order with their noted answers. Nothing is
-    /// copied.
-    pub fn into_parts(self) -> (Reply, Footprint, Findings)
-        ensures { result ≡ (self.reply, self.changes, self.findings) }
+    /// The changes in order, and the questions in order with their noted answers, lent.
+    pub fn parts(&self) -> (&Footprint, &Findings)
+        ensures changes { result.0.now ≡ self.now.changes }
+        ensures findings { result.1.now ≡ self.now.findings }
     {
-        let Done {
-            reply,
-            changes,
-            findings,
-        } = self;
-        (reply, changes, findings)
+        (&self.changes, &self.findings)
     }
 
     /// The changed cells in order, each with the value before and after.

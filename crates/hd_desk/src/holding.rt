@@ -1,7 +1,7 @@
 //! Holds added, deleted and changed (docs/desk-rules.md, "Hold add", "Hold delete" and "Hold change").
 #![tactic(auto)]
 
-ghost use Rattle.std.specs.Prelude.{◌≡◌, ◌<◌, ◌≤◌, ◌++◌, [], ℕ, Option, Some, None, List, length};
+ghost use Rattle.std.specs.Prelude.{◌≡◌, ◌<◌, ◌≤◌, ◌++◌, [], ℕ, Option, Some, None, List, OnErr, length};
 ghost use Rattle.hd_rules.specs.declared.cells.Change.{Change};
 ghost use Rattle.hd_rules.specs.declared.replies.Reply.TheVariants.{Held};
 ghost use Rattle.hd_rules.specs.Ask.{Plan};
@@ -38,7 +38,8 @@ struct Released {
 }
 
 impl<'a, A: Allocator + Copy> Inquiry<'a, A> {
-    /// Adds a hold to a title, where the patron has this one now. Its stamp is the command's number.
+    /// Adds a hold to a title, where the patron has this one now. Its stamp is the command's number. Where it
+    /// is refused the footprint stays empty.
     pub(crate) fn add(
         &mut self,
         title: TitleNo,
@@ -53,6 +54,7 @@ impl<'a, A: Allocator + Copy> Inquiry<'a, A> {
         ensures desk { self.new.desk ≡ self.old.desk }
         ensures ends { (told_with footprint.new result, self.new.asked)
             ≡ ending_of self.old (add (facts self.old.desk) hold.now.stamp hold.now title day held.now) }
+        ensures untouched { OnErr result (footprint.new ≡ footprint.old) }
     {
         if held.is_some() {
             return Err(Refusal::HoldExists);
@@ -67,7 +69,7 @@ impl<'a, A: Allocator + Copy> Inquiry<'a, A> {
         self.accept(hold.stamp, &[added], reply, footprint)
     }
 
-    /// Deletes the hold that the patron has now.
+    /// Deletes the hold that the patron has now. Where it is refused the footprint stays empty.
     pub(crate) fn delete(
         &mut self,
         number: u64,
@@ -83,6 +85,7 @@ impl<'a, A: Allocator + Copy> Inquiry<'a, A> {
         ensures desk { self.new.desk ≡ self.old.desk }
         ensures ends { (told_with footprint.new result, self.new.asked)
             ≡ ending_of self.old (delete (facts self.old.desk) number title patron day held.now) }
+        ensures untouched { OnErr result (footprint.new ≡ footprint.old) }
     {
         let Some(hold) = held else {
             return Err(Refusal::NoSuchHold);
@@ -153,7 +156,7 @@ impl<'a, A: Allocator + Copy> Inquiry<'a, A> {
         }
     }
 
-    /// Changes the hold that the patron has now.
+    /// Changes the hold that the patron has now. Where it is refused the footprint stays empty.
     pub(crate) fn change(
         &mut self,
         number: u64,
@@ -171,6 +174,7 @@ impl<'a, A: Allocator + Copy> Inquiry<'a, A> {
         ensures ends { (told_with footprint.new result, self.new.asked)
             ≡ ending_of self.old (change (facts self.old.desk) number title patron wishes.now.kind
             wishes.now.pickup wishes.now.expiry day held.now) }
+        ensures untouched { OnErr result (footprint.new ≡ footprint.old) }
     {
         let Some(hold) = held else {
             return Err(Refusal::NoSuchHold);

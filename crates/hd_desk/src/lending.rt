@@ -1,7 +1,7 @@
 //! Checkouts and renewals (docs/desk-rules.md, "Checkout" and "Renew").
 #![tactic(auto)]
 
-ghost use Rattle.std.specs.Prelude.{◌≡◌, ◌<◌, ◌≤◌, ◌+◌, ◌∷◌, [], IfOk, IfErr, Err, length};
+ghost use Rattle.std.specs.Prelude.{◌≡◌, ◌<◌, ◌≤◌, ◌+◌, ◌∷◌, [], IfOk, IfErr, OnErr, Err, length};
 ghost use Rattle.hd_rules.specs.declared.copies.CopyState.TheVariants.{OnLoan as IsOnLoan};
 ghost use Rattle.hd_rules.specs.Ask.{Plan};
 ghost use Rattle.hd_rules.specs.Settle.{hold_becomes as change_of_hold};
@@ -28,7 +28,7 @@ pub(crate) struct Lending {
 }
 
 impl<'a, A: Allocator + Copy> Inquiry<'a, A> {
-    /// A checkout of a copy that is there now.
+    /// A checkout of a copy that is there now. Where it is refused the footprint stays empty.
     pub(crate) fn checkout(
         &mut self,
         message: &Lending,
@@ -44,6 +44,7 @@ impl<'a, A: Allocator + Copy> Inquiry<'a, A> {
         ensures ends { (told_with footprint.new result, self.new.asked)
             ≡ ending_of self.old (checkout_at (facts self.old.desk) message.now.number message.now.patron
             message.now.copy may_renew message.now.day old.now) }
+        ensures untouched { OnErr result (footprint.new ≡ footprint.old) }
     {
         match old {
             CopyState::Shelf(_) => {
@@ -70,7 +71,7 @@ impl<'a, A: Allocator + Copy> Inquiry<'a, A> {
     }
 
     /// Lends a copy from the open shelf, where nobody's hold comes first, or the patron's own, which then
-    /// ends.
+    /// ends. Where it is refused the footprint stays empty.
     fn lend_from_shelf(
         &mut self,
         message: &Lending,
@@ -86,6 +87,7 @@ impl<'a, A: Allocator + Copy> Inquiry<'a, A> {
         ensures ends { (told_with footprint.new result, self.new.asked)
             ≡ ending_of self.old (lend_from_shelf (facts self.old.desk) message.now.number message.now.patron
             message.now.copy message.now.day old.now chosen.now) }
+        ensures untouched { OnErr result (footprint.new ≡ footprint.old) }
     {
         match chosen {
             None => {
@@ -102,7 +104,7 @@ impl<'a, A: Allocator + Copy> Inquiry<'a, A> {
         }
     }
 
-    /// Lends a copy, and with it the patron's hold ends.
+    /// Lends a copy, and with it the patron's hold ends. Where it is refused the footprint stays empty.
     fn lend_held(
         &mut self,
         message: &Lending,
@@ -117,6 +119,7 @@ impl<'a, A: Allocator + Copy> Inquiry<'a, A> {
         ensures ends { (told_with footprint.new result, self.new.asked)
             ≡ ending_of self.old (lend_held (facts self.old.desk) message.now.number message.now.patron
             message.now.copy message.now.day old.now) }
+        ensures untouched { OnErr result (footprint.new ≡ footprint.old) }
     {
         let due = self.lend(message)?;
         let title = self.desk.title_of(message.copy);
@@ -149,7 +152,7 @@ impl<'a, A: Allocator + Copy> Inquiry<'a, A> {
             .ok_or(Refusal::DueRange)
     }
 
-    /// The copy is lent until that day, and these holds end.
+    /// The copy is lent until that day, and these holds end. Where it is refused the footprint stays empty.
     fn lend_until(
         &self,
         message: &Lending,
@@ -162,9 +165,10 @@ impl<'a, A: Allocator + Copy> Inquiry<'a, A> {
         requires due { due ≡ due_day (facts self.now.desk) message.now.copy message.now.day }
         requires few { length ends.now ≤ 1 }
         requires empty { footprint.old ≡ [] }
-        ensures { (told_with footprint.new result, self.now.asked)
+        ensures ends { (told_with footprint.new result, self.now.asked)
             ≡ ending_of self.now (make_loan (facts self.now.desk) message.now.number message.now.patron
             message.now.copy message.now.day old.now ends.now) }
+        ensures untouched { OnErr result (footprint.new ≡ footprint.old) }
     {
         let loan = CopyState::OnLoan(Loan {
             patron: message.patron,
@@ -184,7 +188,7 @@ impl<'a, A: Allocator + Copy> Inquiry<'a, A> {
         }
     }
 
-    /// A renewal of a copy that is there now.
+    /// A renewal of a copy that is there now. Where it is refused the footprint stays empty.
     pub(crate) fn renew(
         &mut self,
         message: &Lending,
@@ -198,6 +202,7 @@ impl<'a, A: Allocator + Copy> Inquiry<'a, A> {
         ensures ends { (told_with footprint.new result, self.new.asked)
             ≡ ending_of self.old (renew_at (facts self.old.desk) message.now.number message.now.patron
             message.now.copy message.now.day old.now) }
+        ensures untouched { OnErr result (footprint.new ≡ footprint.old) }
     {
         match old {
             CopyState::OnLoan(loan) => {
@@ -211,7 +216,7 @@ impl<'a, A: Allocator + Copy> Inquiry<'a, A> {
         }
     }
 
-    /// Renews a loan of the patron.
+    /// Renews a loan of the patron. Where it is refused the footprint stays empty.
     fn renew_loan(
         &mut self,
         message: &Lending,
@@ -225,6 +230,7 @@ impl<'a, A: Allocator + Copy> Inquiry<'a, A> {
         ensures ends { (told_with footprint.new result, self.new.asked)
             ≡ ending_of self.old (renew_loan (facts self.old.desk) message.now.number message.now.patron
             message.now.copy message.now.day loan.now) }
+        ensures untouched { OnErr result (footprint.new ≡ footprint.old) }
     {
         let home = self.desk.home(message.copy);
         let chosen = self.choice(message.copy, home, message.day);

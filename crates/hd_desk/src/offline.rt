@@ -1,7 +1,7 @@
 //! Loans that a terminal made while it was off line (docs/desk-rules.md, "Off-line checkout").
 #![tactic(auto)]
 
-ghost use Rattle.std.specs.Prelude.{◌≡◌, ◌<◌, ◌≤◌, ◌∷◌, ◌++◌, [], ℕ, length};
+ghost use Rattle.std.specs.Prelude.{◌≡◌, ◌<◌, ◌≤◌, ◌∷◌, ◌++◌, [], ℕ, OnErr, length};
 ghost use Rattle.hd_rules.specs.Facts.{Facts};
 ghost use Rattle.hd_rules.specs.Choose.{admits};
 ghost use Rattle.hd_rules.specs.Step.{end_of_hold, ends_with, release_of_hold, lend_off_line, off_line};
@@ -18,7 +18,8 @@ use hd_rules::{
 use std::alloc::Allocator;
 
 impl<'a, A: Allocator + Copy> Inquiry<'a, A> {
-    /// A loan of the copy to the patron that took place already.
+    /// A loan of the copy to the patron that took place already. Where it is refused the footprint stays
+    /// empty.
     pub(crate) fn off_line(
         &mut self,
         number: u64,
@@ -33,6 +34,7 @@ impl<'a, A: Allocator + Copy> Inquiry<'a, A> {
         ensures desk { self.new.desk ≡ self.old.desk }
         ensures ends { (told_with footprint.new result, self.new.asked)
             ≡ ending_of self.old (off_line (facts self.old.desk) number patron copy due) }
+        ensures untouched { OnErr result (footprint.new ≡ footprint.old) }
     {
         let old = self.copy(copy);
         let title = self.desk.title_of(copy);
@@ -83,7 +85,8 @@ impl<'a, A: Allocator + Copy> Inquiry<'a, A> {
         }
     }
 
-    /// The copy is on loan until the day that the message says.
+    /// The copy is on loan until the day that the message says. Where it is refused the footprint stays
+    /// empty.
     fn lend_off_line(
         &self,
         number: u64,
@@ -97,9 +100,10 @@ impl<'a, A: Allocator + Copy> Inquiry<'a, A> {
     ) -> Result<Reply, Refusal>
         requires copy { copy < (facts self.now.desk).copies }
         requires empty { footprint.old ≡ [] }
-        ensures { (told_with footprint.new result, self.now.asked)
+        ensures ends { (told_with footprint.new result, self.now.asked)
             ≡ ending_of self.now (lend_off_line (facts self.now.desk) number patron copy due old.now
             (as_list ended.now ++ as_list freed.now)) }
+        ensures untouched { OnErr result (footprint.new ≡ footprint.old) }
     {
         let loan = CopyState::OnLoan(Loan {
             patron,

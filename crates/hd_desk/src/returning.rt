@@ -1,7 +1,7 @@
 //! Returns (docs/desk-rules.md, "Checkin").
 #![tactic(auto)]
 
-ghost use Rattle.std.specs.Prelude.{◌≡◌, ◌<◌, ◌≤◌, [], length};
+ghost use Rattle.std.specs.Prelude.{◌≡◌, ◌<◌, ◌≤◌, [], OnErr, length};
 ghost use Rattle.hd_rules.specs.Step.{checkin};
 ghost use Rattle.hd_desk.specs.Asking.{ending_of, told_with};
 ghost use Rattle.hd_desk.specs.Desks.{facts};
@@ -14,7 +14,8 @@ use hd_rules::{BranchNo, CopyNo, Day, Refusal, Reply};
 use std::alloc::Allocator;
 
 impl<'a, A: Allocator + Copy> Inquiry<'a, A> {
-    /// A return of the copy at the branch: a loan of it ends, and the copy is settled there.
+    /// A return of the copy at the branch: a loan of it ends, and the copy is settled there. Where it is
+    /// refused the footprint stays empty.
     pub(crate) fn checkin(
         &mut self,
         number: u64,
@@ -30,6 +31,7 @@ impl<'a, A: Allocator + Copy> Inquiry<'a, A> {
         ensures desk { self.new.desk ≡ self.old.desk }
         ensures ends { (told_with footprint.new result, self.new.asked)
             ≡ ending_of self.old (checkin (facts self.old.desk) number copy branch day) }
+        ensures untouched { OnErr result (footprint.new ≡ footprint.old) }
     {
         let old = self.copy(copy);
         let settled = settle_copy(self, copy, branch, day, &old);

@@ -1,5 +1,6 @@
 -- What a message is answered.
-use Rattle.std.proofs.Common.{◌≡◌, ℕ, Bool, true, false, MatchBool, List, [], ◌∷◌, Option, None, Result, Ok, Err, refl, sym, subst}
+use Rattle.std.proofs.Common.{◌≡◌, ℕ, Bool, true, false, MatchBool, List, [], ◌∷◌, Option, None, Result, Ok}
+use Rattle.std.proofs.Common.{Err, refl, sym, subst}
 use Rattle.hd_date.specs.Stamps.{Stamp}
 use Rattle.hd_message.specs.Replies.{reply_text}
 use Rattle.hd_message.specs.declared.kind.DeskKind.{DeskKind}
@@ -16,7 +17,8 @@ use Rattle.hd_rules.specs.declared.turns.Asked.{Asked}
 use Rattle.hd_catalogue.specs.Contents.{Contents, facts_of}
 use Rattle.hd_rules.specs.Messages.{turn_with_reply, message_of}
 use Rattle.hd_rules.specs.declared.ask.Ask.{Ask}
-use Rattle.hd_exchange.specs.Answers.{IsAnswer, IsAnswerTo, IsDeskAnswer, IsAnsweredSo, IsPatronAnswer, IsReplyWith, asked_in}
+use Rattle.hd_exchange.specs.Answers.{IsAnswer, IsAnswerTo, IsDeskAnswer, IsAnsweredSo, IsPatronAnswer}
+use Rattle.hd_exchange.specs.Answers.{IsReplyWith, asked_in}
 use Rattle.hd_exchange.specs.Arrivals.{Arrival}
 use Rattle.hd_exchange.specs.Asks.{kind_of}
 use Rattle.hd_exchange.specs.Cards.{IsCardReply}
@@ -37,7 +39,8 @@ use Rattle.hd_exchange.specs.declared.repeated.RepeatedValues.{RepeatedValues}
 use Rattle.hd_exchange.specs.declared.reply_kind.ReplyKind.{ReplyKind}
 
 -- a refusal has no sorter fields
-refused_with : (k : Contents) (e : Extensions) (kind : DeskKind) (r : RepeatedValues) (asked : Result Asked Refusal)
+refused_with : (k : Contents) (e : Extensions) (kind : DeskKind) (r : RepeatedValues)
+    (asked : Result Asked Refusal)
     (refusal : Refusal) (reply : Reply) → IsReply k kind r asked (Refused refusal) reply
     → IsReplyWith k e kind r asked (Refused refusal) reply
 refused_with k e kind r asked refusal reply is = by_profile e.profile.sorter_fields
@@ -50,36 +53,44 @@ refused_with k e kind r asked refusal reply is = by_profile e.profile.sorter_fie
 module _ (k seen : Contents) (e : Extensions) (message : DeskMessage) (reply : Reply) (here : seen ≡ k) where
   -- by the reply to what it asked
   pub answered : (ask : Ask) (asked : Asked) (told : TurnReply) → asked ≡ ask.asked → message.asks ≡ Ok ask
-      → kind_of ask.asked ≡ message.kind → IsReplyWith seen e (kind_of asked) message.repeated (Ok asked) told reply
+      → kind_of ask.asked ≡ message.kind
+      → IsReplyWith seen e (kind_of asked) message.repeated (Ok asked) told reply
       → IsDeskAnswer k e message (reply_text reply) (Made (turn_with_reply (message_of ask) told) ∷ [])
   answered ask asked told same is kind says =
       let at : IsReplyWith k e (kind_of asked) message.repeated (Ok asked) told reply =
-      subst (λ (c : Contents). IsReplyWith c e (kind_of asked) message.repeated (Ok asked) told reply) here says in
+      subst (λ (c : Contents). IsReplyWith c e (kind_of asked) message.repeated (Ok asked) told reply) here
+      says in
       let of_ask : IsReplyWith k e (kind_of ask.asked) message.repeated (Ok ask.asked) told reply =
       subst (λ (a : Asked). IsReplyWith k e (kind_of a) message.repeated (Ok a) told reply) same at in
       let of_kind : IsReplyWith k e message.kind message.repeated (Ok ask.asked) told reply =
       subst (λ kind. IsReplyWith k e kind message.repeated (Ok ask.asked) told reply) kind of_ask in
       record {
         told = told;
-        turn = subst (λ (asks : Result Ask Refusal). IsAnsweredSo asks told (Made (turn_with_reply (message_of ask) told) ∷ [])) (sym is) refl;
+        turn = subst (λ (asks : Result Ask Refusal). IsAnsweredSo asks told
+            (Made (turn_with_reply (message_of ask) told) ∷ [])) (sym is) refl;
         reply = reply;
         says =
-            subst (λ (asks : Result Ask Refusal). IsReplyWith k e message.kind message.repeated (asked_in asks) told reply)
+            subst (λ (asks : Result Ask Refusal). IsReplyWith k e message.kind message.repeated
+            (asked_in asks) told reply)
             (sym is) of_kind;
         spelled = refl;
       }
 
   -- by its refusal beforehand
   pub refused : (refusal : Refusal) → message.asks ≡ Err refusal
-      → ((asked : Result Asked Refusal) → IsReply seen message.kind message.repeated asked (Refused refusal) reply)
+      → ((asked : Result Asked Refusal)
+      → IsReply seen message.kind message.repeated asked (Refused refusal) reply)
       → IsDeskAnswer k e message (reply_text reply) []
   refused refusal is says = record {
     told = Refused refusal;
-    turn = subst (λ (asks : Result Ask Refusal). IsAnsweredSo asks (Refused refusal) []) (sym is) (refl, refl);
+    turn = subst (λ (asks : Result Ask Refusal). IsAnsweredSo asks (Refused refusal) []) (sym is)
+        (refl, refl);
     reply = reply;
     says =
-        subst (λ (c : Contents). IsReplyWith c e message.kind message.repeated (asked_in message.asks) (Refused refusal) reply)
-        here (refused_with seen e message.kind message.repeated (asked_in message.asks) refusal reply (says (asked_in message.asks)));
+        subst (λ (c : Contents). IsReplyWith c e message.kind message.repeated (asked_in message.asks)
+        (Refused refusal) reply)
+        here (refused_with seen e message.kind message.repeated (asked_in message.asks) refusal reply
+        (says (asked_in message.asks)));
     spelled = refl;
   }
 
@@ -92,23 +103,27 @@ module _ (k seen : Contents) (e : Extensions) (message : PatronMessage) (here : 
   said_to asks did told is says = record {
     told = told;
     says =
-        subst (λ (x : Result PatronAsk Refusal). IsPatronReply k message.values e message.kind x did told) (sym is)
+        subst (λ (x : Result PatronAsk Refusal). IsPatronReply k message.values e message.kind x did told)
+        (sym is)
         (subst (λ (c : Contents). IsPatronReply c message.values e message.kind asks did told) here says);
     spelled = refl;
   }
 
   -- where a look was shown a journal
-  pub looked : (look : PatronLook) (shown : List Turn) (told : PatronReply) → message.asks ≡ Ok (ask.Look look)
+  pub looked : (look : PatronLook) (shown : List Turn) (told : PatronReply) → message.asks
+      ≡ Ok (ask.Look look)
       → IsReplyAt seen message.values e look (state_after (facts_of seen) shown).desk told
       → IsPatronAnswer k e message (reply_text (reply.Patron told)) (Looked shown ∷ [])
   looked look shown told is says = said_to (Ok (ask.Look look)) (Looked shown ∷ []) told is says
 
   -- at the end of a patron's session, and at a payment
-  pub ended : (told : CardReply) → message.asks ≡ Ok ask.EndSession → IsCardReply seen message.values None told
+  pub ended : (told : CardReply) → message.asks ≡ Ok ask.EndSession
+      → IsCardReply seen message.values None told
       → IsPatronAnswer k e message (reply_text (reply.Patron (SessionEnd told))) []
   ended told is says = said_to (Ok ask.EndSession) [] (SessionEnd told) is says
 
-  pub not_paid : (told : CardReply) → message.asks ≡ Ok ask.TakePayment → IsCardReply seen message.values None told
+  pub not_paid : (told : CardReply) → message.asks ≡ Ok ask.TakePayment
+      → IsCardReply seen message.values None told
       → IsPatronAnswer k e message (reply_text (reply.Patron (FeePaid told))) []
   not_paid told is says = said_to (Ok ask.TakePayment) [] (FeePaid told) is says
 
@@ -119,16 +134,21 @@ module _ (k seen : Contents) (e : Extensions) (message : PatronMessage) (here : 
   refused_patron refusal told is says = said_to (Err refusal) [] told is says
 
 -- the answer to a message is that to its body
-pub answer_of : (k seen : Contents) (e : Extensions) (seat at : ℕ) (now : Stamp) (login : Option Login) (line : Option (List ℕ))
+pub answer_of : (k seen : Contents) (e : Extensions) (seat at : ℕ) (now : Stamp) (login : Option Login)
+    (line : Option (List ℕ))
     (came : Arrival) (body : List ℕ) (message : Message) (says : ReplyKind) (text : List ℕ) (did : List Deed)
     (next : Option Login) → seen ≡ k → at ≡ seat
-    → came ≡ record { seat = at; present = now; login = login; line = line } → IsBodyOf seen e came body message
-    → IsAnswerTo k e now login message says text did next → IsAnswer k e seat now login line body says text did next
-answer_of k seen e seat at now login line came body message says text did next here there so reads answers = record {
-  message = message;
-  reads =
-      subst (λ (s : ℕ). IsBodyOf k e (record { seat = s; present = now; login = login; line = line }) body message) there
-      (subst (λ (arrival : Arrival). IsBodyOf k e arrival body message) so
-      (subst (λ (c : Contents). IsBodyOf c e came body message) here reads));
-  answers = answers;
-}
+    → came ≡ record { seat = at; present = now; login = login; line = line }
+    → IsBodyOf seen e came body message
+    → IsAnswerTo k e now login message says text did next
+    → IsAnswer k e seat now login line body says text did next
+answer_of k seen e seat at now login line came body message says text did next here there so reads answers =
+    record {
+      message = message;
+      reads =
+          subst (λ (s : ℕ). IsBodyOf k e (record { seat = s; present = now; login = login; line = line }) body
+          message) there
+          (subst (λ (arrival : Arrival). IsBodyOf k e arrival body message) so
+          (subst (λ (c : Contents). IsBodyOf c e came body message) here reads));
+      answers = answers;
+    }

@@ -1,14 +1,18 @@
 -- What is said to a patron message is spelled in one way.
-use Rattle.std.proofs.Common.{◌≡◌, ℕ, ◌-◌, Bool, true, false, List, [], ◌∷◌, ◌++◌, Option, Some, None, Result, Ok, Err}
+use Rattle.std.proofs.Common.{◌≡◌, ℕ, ◌-◌, Bool, true, false, List, [], ◌∷◌, ◌++◌, Option, Some, None, Result}
+use Rattle.std.proofs.Common.{Ok, Err}
 use Rattle.std.proofs.Common.{arith, refl, sym, ap, ◌∙◌, length, map, take, suc, nat_lt, if◌then◌else◌, codes}
 use Rattle.std.proofs.lemmas.Option.{same_Some}
 use Rattle.std.specs.Borrow.{Bor}
 use Rattle.std.specs.List.{concat, flat_map}
 use Rattle.std.specs.Option.{option_copied}
 use Rattle.hd_message.specs.Fields.{field_text, refusal_field}
-use Rattle.hd_message.specs.PatronReplies.{card_layout, fitting, information_layout, information_text, item_field, items_text}
-use Rattle.hd_message.specs.PatronReplies.{known_layout, list_given, list_text, list_told, patron_status_layout}
-use Rattle.hd_message.specs.PatronReplies.{patron_text, payment_layout, renew_all_layout, session_end_layout, with_list}
+use Rattle.hd_message.specs.PatronReplies.{card_layout, fitting, information_layout, information_text}
+use Rattle.hd_message.specs.PatronReplies.{item_field, items_text}
+use Rattle.hd_message.specs.PatronReplies.{known_layout, list_given, list_text, list_told}
+use Rattle.hd_message.specs.PatronReplies.{patron_status_layout}
+use Rattle.hd_message.specs.PatronReplies.{patron_text, payment_layout, renew_all_layout, session_end_layout}
+use Rattle.hd_message.specs.PatronReplies.{with_list}
 use Rattle.hd_message.specs.declared.patron_kind.PatronKind.{PatronKind}
 use Rattle.hd_message.specs.declared.patron_kind.PatronKind.TheVariants as Kinds
 use Rattle.hd_message.specs.declared.patron_reply.CardReply.{CardReply}
@@ -21,7 +25,8 @@ use Rattle.hd_message.specs.declared.patron_reply.PatronInformationOutcome.{Patr
 use Rattle.hd_message.specs.declared.patron_reply.PatronInformationOutcome.TheVariants as OfInformation
 use Rattle.hd_message.specs.declared.patron_reply.PatronInformationReply.{PatronInformationReply}
 use Rattle.hd_message.specs.declared.patron_reply.PatronReply.{PatronReply}
-use Rattle.hd_message.specs.declared.patron_reply.PatronReply.TheVariants.{Status, Information, SessionEnd, FeePaid, RenewAll}
+use Rattle.hd_message.specs.declared.patron_reply.PatronReply.TheVariants.{Status, Information, SessionEnd}
+use Rattle.hd_message.specs.declared.patron_reply.PatronReply.TheVariants.{FeePaid, RenewAll}
 use Rattle.hd_message.specs.declared.patron_reply.PatronStatusOutcome.{PatronStatusOutcome}
 use Rattle.hd_message.specs.declared.patron_reply.PatronStatusOutcome.TheVariants as OfStatus
 use Rattle.hd_message.specs.declared.patron_reply.PatronStatusReply.{PatronStatusReply}
@@ -72,14 +77,18 @@ items_alike : (code : List ℕ) (room : ℕ) (xs ys : List (Bor (List ℕ))) →
     → items_text code room xs ≡ items_text code room ys
 unfolding first_of rest_of
 items_alike code room [] [] same = refl
-items_alike code room [] (y ∷ ys) same = absurd (omega (arith, ap (λ (l : List (Option (List ℕ))). length l) same))
-items_alike code room (x ∷ xs) [] same = absurd (omega (arith, ap (λ (l : List (Option (List ℕ))). length l) same))
+items_alike code room [] (y ∷ ys) same =
+    absurd (omega (arith, ap (λ (l : List (Option (List ℕ))). length l) same))
+items_alike code room (x ∷ xs) [] same =
+    absurd (omega (arith, ap (λ (l : List (Option (List ℕ))). length l) same))
 items_alike code room (x ∷ xs) (y ∷ ys) same =
     let name : x.now ≡ y.now = same_Some _ _ (ap first_of same) in
     let item : item_field code x ≡ item_field code y = ap (λ (n : List ℕ). code ++ n ++ codes "|") name in
     let here = length (item_field code y) in
-    cut_text code (nat_lt room (length (item_field code x))) (fitting code (room - length (item_field code x)) xs) x xs
-    ∙ (ap (λ (i : List ℕ). if nat_lt room (length i) then [] else i ++ items_text code (room - length i) xs) item
+    cut_text code (nat_lt room (length (item_field code x)))
+    (fitting code (room - length (item_field code x)) xs) x xs
+    ∙ (ap (λ (i : List ℕ). if nat_lt room (length i) then [] else i ++ items_text code (room - length i) xs)
+    item
     ∙ (ap (λ (more : List ℕ). if nat_lt room here then [] else item_field code y ++ more)
     (items_alike code (room - here) xs ys (ap rest_of same))
     ∙ sym (cut_text code (nat_lt room here) (fitting code (room - here) ys) y ys)))
@@ -92,7 +101,8 @@ list_alike room Lists.ChargedItems xs ys same = items_alike (codes "AU") room xs
 list_alike room Lists.UnavailableHolds xs ys same = items_alike (codes "CD") room xs ys same
 list_alike room Lists.Empty xs ys same = refl
 
-given_alike : (k : Contents) (room : ℕ) (wanted : Option Wanted) (items : List ListItem) (l m : Option ItemList)
+given_alike : (k : Contents) (room : ℕ) (wanted : Option Wanted) (items : List ListItem)
+    (l m : Option ItemList)
     → IsListOfItems k wanted items l → IsListOfItems k wanted items m → list_given room l ≡ list_given room m
 given_alike k room None items None None p q = refl
 given_alike k room (Some wanted) items (Some l) (Some m) p q =
@@ -103,7 +113,8 @@ given_alike k room None items (Some l) m p q = absurd p
 given_alike k room (Some wanted) items None m p q = absurd p
 given_alike k room (Some wanted) items (Some l) None p q = absurd q
 
-told_alike : (k : Contents) (room : ℕ) (check : PasswordValidity) (wanted : Option Wanted) (items : List ListItem)
+told_alike : (k : Contents) (room : ℕ) (check : PasswordValidity) (wanted : Option Wanted)
+    (items : List ListItem)
     (l m : Option ItemList) → IsListOfItems k wanted items l → IsListOfItems k wanted items m
     → list_given room (list_told check l) ≡ list_given room (list_told check m)
 told_alike k room Unasked wanted items l m p q = given_alike k room wanted items l m p q
@@ -112,197 +123,249 @@ told_alike k room Wrong wanted items l m p q = refl
 
 -- Replies of the same values.
 
-status_same : (a b : PatronStatusReply) (o : PatronStatusOutcome) → a.language.now ≡ b.language.now → a.date.now ≡ b.date.now
+status_same : (a b : PatronStatusReply) (o : PatronStatusOutcome) → a.language.now ≡ b.language.now
+    → a.date.now ≡ b.date.now
     → a.institution.now ≡ b.institution.now → a.patron.now ≡ b.patron.now
     → concat (patron_status_layout a o) ≡ concat (patron_status_layout b o)
-status_same a b (OfStatus.Known known) language date institution patron = rw (language, date, institution, patron) refl
-status_same a b (OfStatus.NotBlocked known) language date institution patron = rw (language, date, institution, patron) refl
-status_same a b (OfStatus.Refused refusal) language date institution patron = rw (language, date, institution, patron) refl
+status_same a b (OfStatus.Known known) language date institution patron =
+    rw (language, date, institution, patron) refl
+status_same a b (OfStatus.NotBlocked known) language date institution patron =
+    rw (language, date, institution, patron) refl
+status_same a b (OfStatus.Refused refusal) language date institution patron =
+    rw (language, date, institution, patron) refl
 
-known_same : (a : PatronStatusReply) (x y : KnownPatron) (notice : List ℕ) → x.flags ≡ y.flags → x.name.now ≡ y.name.now
+known_same : (a : PatronStatusReply) (x y : KnownPatron) (notice : List ℕ) → x.flags ≡ y.flags → x.name.now
+    ≡ y.name.now
     → x.password ≡ y.password → concat (known_layout a x notice) ≡ concat (known_layout a y notice)
 known_same a x y notice flags name password = rw (flags, name, password) refl
 
-refused_same : (a b : PatronInformationReply) (refusal : Refusal) → a.language.now ≡ b.language.now → a.date.now ≡ b.date.now
+refused_same : (a b : PatronInformationReply) (refusal : Refusal) → a.language.now ≡ b.language.now
+    → a.date.now ≡ b.date.now
     → a.institution.now ≡ b.institution.now → a.patron.now ≡ b.patron.now
     → information_text a (OfInformation.Refused refusal) ≡ information_text b (OfInformation.Refused refusal)
 refused_same a b refusal language date institution patron = rw (language, date, institution, patron) refl
 
-front_same : (a b : PatronInformationReply) (x y : KnownPatron) (c d : Counts) (m n : ℕ) → a.language.now ≡ b.language.now
-    → a.date.now ≡ b.date.now → a.institution.now ≡ b.institution.now → a.patron.now ≡ b.patron.now → x.flags ≡ y.flags
+front_same : (a b : PatronInformationReply) (x y : KnownPatron) (c d : Counts) (m n : ℕ) → a.language.now
+    ≡ b.language.now
+    → a.date.now ≡ b.date.now → a.institution.now ≡ b.institution.now → a.patron.now ≡ b.patron.now → x.flags
+    ≡ y.flags
     → x.name.now ≡ y.name.now → x.password ≡ y.password → c ≡ d → m ≡ n
     → concat (information_layout a x c m) ≡ concat (information_layout b y d n)
 front_same a b x y c d m n language date institution patron flags name password counts limit =
     rw (language, date, institution, patron, flags, name, password, counts, limit) refl
 
-card_same : (front notice : List ℕ) (a b : CardReply) → a.date.now ≡ b.date.now → a.institution.now ≡ b.institution.now
+card_same : (front notice : List ℕ) (a b : CardReply) → a.date.now ≡ b.date.now → a.institution.now
+    ≡ b.institution.now
     → a.patron.now ≡ b.patron.now → concat (card_layout front a notice) ≡ concat (card_layout front b notice)
 card_same front notice a b date institution patron = rw (date, institution, patron) refl
 
-session_end_same : (a b : CardReply) (r : Option Refusal) → a.date.now ≡ b.date.now → a.institution.now ≡ b.institution.now
+session_end_same : (a b : CardReply) (r : Option Refusal) → a.date.now ≡ b.date.now → a.institution.now
+    ≡ b.institution.now
     → a.patron.now ≡ b.patron.now → concat (session_end_layout a r) ≡ concat (session_end_layout b r)
 session_end_same a b None date institution patron = card_same (codes "36Y") [] a b date institution patron
 session_end_same a b (Some refusal) date institution patron =
     card_same (codes "36N") (refusal_field refusal) a b date institution patron
 
-payment_same : (a b : CardReply) (r : Option Refusal) → a.date.now ≡ b.date.now → a.institution.now ≡ b.institution.now
+payment_same : (a b : CardReply) (r : Option Refusal) → a.date.now ≡ b.date.now → a.institution.now
+    ≡ b.institution.now
     → a.patron.now ≡ b.patron.now → concat (payment_layout a r) ≡ concat (payment_layout b r)
 payment_same a b None date institution patron =
     card_same (codes "38N") (field_text (codes "AF") (codes "NO FEES HERE")) a b date institution patron
 payment_same a b (Some refusal) date institution patron =
     card_same (codes "38N") (refusal_field refusal) a b date institution patron
 
-renew_same : (a b : RenewAllReply) (o : RenewAllOutcome) → a.date.now ≡ b.date.now → a.institution.now ≡ b.institution.now
+renew_same : (a b : RenewAllReply) (o : RenewAllOutcome) → a.date.now ≡ b.date.now → a.institution.now
+    ≡ b.institution.now
     → concat (renew_all_layout a o) ≡ concat (renew_all_layout b o)
 renew_same a b (OfRenewAll.NotRenewed loans) date institution = rw (date, institution) refl
 renew_same a b (OfRenewAll.Refused refusal) date institution = rw (date, institution) refl
 
 -- The replies to two messages of the same values.
-module _ (k : Contents) (v w : PatronValues) (date : v.date ≡ w.date) (language : v.language.now ≡ w.language.now)
-    (patron : v.patron.now ≡ w.patron.now) (password : option_copied v.password ≡ option_copied w.password) where
-  -- what is told of the patron
-  one_flags : (file : Option Stored) (p : ℕ) (view : PatronView) (x y : KnownPatron) → IsToldOf file p view v x
-      → IsToldOf file p view w y → x.flags ≡ y.flags
-  one_flags file p view x y is so = is.flags ∙ sym so.flags
+module _ (k : Contents) (v w : PatronValues) (date : v.date ≡ w.date)
+    (language : v.language.now ≡ w.language.now)
+    (patron : v.patron.now ≡ w.patron.now) (password : option_copied v.password ≡ option_copied w.password)
+  where
+    -- what is told of the patron
+    one_flags : (file : Option Stored) (p : ℕ) (view : PatronView) (x y : KnownPatron)
+        → IsToldOf file p view v x
+        → IsToldOf file p view w y → x.flags ≡ y.flags
+    one_flags file p view x y is so = is.flags ∙ sym so.flags
 
-  one_name : (file : Option Stored) (p : ℕ) (view : PatronView) (x y : KnownPatron) → IsToldOf file p view v x
-      → IsToldOf file p view w y → x.name.now ≡ y.name.now
-  one_name file p view x y is so = is.name ∙ (ap (λ (n : List ℕ). name_told file p n) patron ∙ sym so.name)
+    one_name : (file : Option Stored) (p : ℕ) (view : PatronView) (x y : KnownPatron)
+        → IsToldOf file p view v x
+        → IsToldOf file p view w y → x.name.now ≡ y.name.now
+    one_name file p view x y is so = is.name ∙ (ap (λ (n : List ℕ). name_told file p n) patron ∙ sym so.name)
 
-  one_check : (file : Option Stored) (p : ℕ) (view : PatronView) (x y : KnownPatron) → IsToldOf file p view v x
-      → IsToldOf file p view w y → x.password ≡ y.password
-  one_check file p view x y is so =
-      is.password ∙ (ap (λ (g : Option (List ℕ)). password_told file p g) password ∙ sym so.password)
+    one_check : (file : Option Stored) (p : ℕ) (view : PatronView) (x y : KnownPatron)
+        → IsToldOf file p view v x
+        → IsToldOf file p view w y → x.password ≡ y.password
+    one_check file p view x y is so =
+        is.password ∙ (ap (λ (g : Option (List ℕ)). password_told file p g) password ∙ sym so.password)
 
-  one_status : (a b : PatronStatusReply) (spoken heard : List ℕ) (o : PatronStatusOutcome) → spoken ≡ heard
-      → IsStatusReply k v spoken a → IsStatusReply k w heard b
-      → concat (patron_status_layout a o) ≡ concat (patron_status_layout b o)
-  one_status a b spoken heard o same is so =
-      status_same a b o (is.language ∙ (same ∙ sym so.language)) (is.date ∙ (date ∙ sym so.date))
-      (is.institution ∙ sym so.institution) (is.patron ∙ (patron ∙ sym so.patron))
+    one_status : (a b : PatronStatusReply) (spoken heard : List ℕ) (o : PatronStatusOutcome) → spoken ≡ heard
+        → IsStatusReply k v spoken a → IsStatusReply k w heard b
+        → concat (patron_status_layout a o) ≡ concat (patron_status_layout b o)
+    one_status a b spoken heard o same is so =
+        status_same a b o (is.language ∙ (same ∙ sym so.language)) (is.date ∙ (date ∙ sym so.date))
+        (is.institution ∙ sym so.institution) (is.patron ∙ (patron ∙ sym so.patron))
 
-  one_known : (a b : PatronStatusReply) (file : Option Stored) (p : ℕ) (view : PatronView) (o q : PatronStatusOutcome)
-      → IsStatusReply k v (language_told file p v.language.now) a → IsStatusReply k w (language_told file p w.language.now) b
-      → IsKnownStatus file p view v o → IsKnownStatus file p view w q
-      → concat (patron_status_layout a o) ≡ concat (patron_status_layout b q)
-  one_known a b file p view (OfStatus.Known x) (OfStatus.Known y) is so known there =
-      one_status a b _ _ (OfStatus.Known x) (ap (λ (l : List ℕ). language_told file p l) language) is so
-      ∙ known_same b x y [] (one_flags file p view x y known there) (one_name file p view x y known there)
-      (one_check file p view x y known there)
-  one_known a b file p view (OfStatus.Known x) (OfStatus.NotBlocked y) is so known there = absurd there
-  one_known a b file p view (OfStatus.Known x) (OfStatus.Refused y) is so known there = absurd there
-  one_known a b file p view (OfStatus.NotBlocked x) q is so known there = absurd known
-  one_known a b file p view (OfStatus.Refused x) q is so known there = absurd known
+    one_known : (a b : PatronStatusReply) (file : Option Stored) (p : ℕ) (view : PatronView)
+        (o q : PatronStatusOutcome)
+        → IsStatusReply k v (language_told file p v.language.now) a
+        → IsStatusReply k w (language_told file p w.language.now) b
+        → IsKnownStatus file p view v o → IsKnownStatus file p view w q
+        → concat (patron_status_layout a o) ≡ concat (patron_status_layout b q)
+    one_known a b file p view (OfStatus.Known x) (OfStatus.Known y) is so known there =
+        one_status a b _ _ (OfStatus.Known x) (ap (λ (l : List ℕ). language_told file p l) language) is so
+        ∙ known_same b x y [] (one_flags file p view x y known there) (one_name file p view x y known there)
+        (one_check file p view x y known there)
+    one_known a b file p view (OfStatus.Known x) (OfStatus.NotBlocked y) is so known there = absurd there
+    one_known a b file p view (OfStatus.Known x) (OfStatus.Refused y) is so known there = absurd there
+    one_known a b file p view (OfStatus.NotBlocked x) q is so known there = absurd known
+    one_known a b file p view (OfStatus.Refused x) q is so known there = absurd known
 
-  one_not_blocked : (a b : PatronStatusReply) (file : Option Stored) (p : ℕ) (view : PatronView) (o q : PatronStatusOutcome)
-      → IsStatusReply k v (language_told file p v.language.now) a → IsStatusReply k w (language_told file p w.language.now) b
-      → IsNotBlocked file p view v o → IsNotBlocked file p view w q
-      → concat (patron_status_layout a o) ≡ concat (patron_status_layout b q)
-  one_not_blocked a b file p view (OfStatus.NotBlocked x) (OfStatus.NotBlocked y) is so known there =
-      one_status a b _ _ (OfStatus.NotBlocked x) (ap (λ (l : List ℕ). language_told file p l) language) is so
-      ∙ known_same b x y (field_text (codes "AF") (codes "CARD NOT BLOCKED")) (one_flags file p view x y known there) (one_name file p view x y known there)
-      (one_check file p view x y known there)
-  one_not_blocked a b file p view (OfStatus.NotBlocked x) (OfStatus.Known y) is so known there = absurd there
-  one_not_blocked a b file p view (OfStatus.NotBlocked x) (OfStatus.Refused y) is so known there = absurd there
-  one_not_blocked a b file p view (OfStatus.Known x) q is so known there = absurd known
-  one_not_blocked a b file p view (OfStatus.Refused x) q is so known there = absurd known
+    one_not_blocked : (a b : PatronStatusReply) (file : Option Stored) (p : ℕ) (view : PatronView)
+        (o q : PatronStatusOutcome)
+        → IsStatusReply k v (language_told file p v.language.now) a
+        → IsStatusReply k w (language_told file p w.language.now) b
+        → IsNotBlocked file p view v o → IsNotBlocked file p view w q
+        → concat (patron_status_layout a o) ≡ concat (patron_status_layout b q)
+    one_not_blocked a b file p view (OfStatus.NotBlocked x) (OfStatus.NotBlocked y) is so known there =
+        one_status a b _ _ (OfStatus.NotBlocked x) (ap (λ (l : List ℕ). language_told file p l) language) is
+        so
+        ∙ known_same b x y (field_text (codes "AF") (codes "CARD NOT BLOCKED"))
+        (one_flags file p view x y known there) (one_name file p view x y known there)
+        (one_check file p view x y known there)
+    one_not_blocked a b file p view (OfStatus.NotBlocked x) (OfStatus.Known y) is so known there =
+        absurd there
+    one_not_blocked a b file p view (OfStatus.NotBlocked x) (OfStatus.Refused y) is so known there =
+        absurd there
+    one_not_blocked a b file p view (OfStatus.Known x) q is so known there = absurd known
+    one_not_blocked a b file p view (OfStatus.Refused x) q is so known there = absurd known
 
-  one_information : (a b : PatronInformationReply) (file : Option Stored) (p : ℕ) (view : PatronView) (items : List ListItem)
-      (wanted : Option Wanted) (o q : PatronInformationOutcome)
-      → IsInformationReply k v (language_told file p v.language.now) a
-      → IsInformationReply k w (language_told file p w.language.now) b
-      → IsKnownInformation k file p view items wanted v o → IsKnownInformation k file p view items wanted w q
-      → information_text a o ≡ information_text b q
-  one_information a b file p view items wanted (OfInformation.Known x c m l) (OfInformation.Known y d n i) is so known there =
-      let check = one_check file p view x y known.0 there.0 in
-      let front : concat (information_layout a x c m) ≡ concat (information_layout b y d n) =
-      front_same a b x y c d m n (is.language ∙ (ap (λ (l : List ℕ). language_told file p l) language ∙ sym so.language))
-      (is.date ∙ (date ∙ sym so.date)) (is.institution ∙ sym so.institution) (is.patron ∙ (patron ∙ sym so.patron))
-      (one_flags file p view x y known.0 there.0) (one_name file p view x y known.0 there.0) check
-      (known.1 ∙ sym there.1) (known.2 ∙ sym there.2) in
-      ap (λ (f : List ℕ). with_list f (list_told x.password l)) front
-      ∙ (ap (λ (c : PasswordValidity). with_list (concat (information_layout b y d n)) (list_told c l)) check
-      ∙ ap (λ (g : List ℕ). concat (information_layout b y d n) ++ g)
-      (told_alike k (2038 - length (concat (information_layout b y d n))) y.password wanted items l i known.3 there.3))
-  one_information a b file p view items wanted (OfInformation.Known x c m l) (OfInformation.Refused y) is so known there = absurd there
-  one_information a b file p view items wanted (OfInformation.Refused x) q is so known there = absurd known
+    one_information : (a b : PatronInformationReply) (file : Option Stored) (p : ℕ) (view : PatronView)
+        (items : List ListItem)
+        (wanted : Option Wanted) (o q : PatronInformationOutcome)
+        → IsInformationReply k v (language_told file p v.language.now) a
+        → IsInformationReply k w (language_told file p w.language.now) b
+        → IsKnownInformation k file p view items wanted v o
+        → IsKnownInformation k file p view items wanted w q
+        → information_text a o ≡ information_text b q
+    one_information a b file p view items wanted (OfInformation.Known x c m l) (OfInformation.Known y d n i) is so known there =
+        let check = one_check file p view x y known.0 there.0 in
+        let front : concat (information_layout a x c m) ≡ concat (information_layout b y d n) =
+        front_same a b x y c d m n
+        (is.language ∙ (ap (λ (l : List ℕ). language_told file p l) language ∙ sym so.language))
+        (is.date ∙ (date ∙ sym so.date)) (is.institution ∙ sym so.institution)
+        (is.patron ∙ (patron ∙ sym so.patron))
+        (one_flags file p view x y known.0 there.0) (one_name file p view x y known.0 there.0) check
+        (known.1 ∙ sym there.1) (known.2 ∙ sym there.2) in
+        ap (λ (f : List ℕ). with_list f (list_told x.password l)) front
+        ∙ (ap (λ (c : PasswordValidity). with_list (concat (information_layout b y d n)) (list_told c l))
+        check
+        ∙ ap (λ (g : List ℕ). concat (information_layout b y d n) ++ g)
+        (told_alike k (2038 - length (concat (information_layout b y d n))) y.password wanted items l i
+        known.3
+        there.3))
+    one_information a b file p view items wanted (OfInformation.Known x c m l) (OfInformation.Refused y) is so
+        known there = absurd there
+    one_information a b file p view items wanted (OfInformation.Refused x) q is so known there = absurd known
 
-  one_card : (a b : CardReply) (r : Option Refusal) → IsCardReply k v r a → IsCardReply k w r b
-      → (patron_text (SessionEnd a) ≡ patron_text (SessionEnd b)) × (patron_text (FeePaid a) ≡ patron_text (FeePaid b))
-  one_card a b r is so =
-      let same_date = is.date ∙ (date ∙ sym so.date) in
-      let same_institution = is.institution ∙ sym so.institution in
-      let same_patron = is.patron ∙ (patron ∙ sym so.patron) in (
-        ap (λ (r : Option Refusal). concat (session_end_layout a r)) is.refusal_is
-            ∙ (session_end_same a b r same_date same_institution same_patron
-            ∙ ap (λ (r : Option Refusal). concat (session_end_layout b r)) (sym so.refusal_is)),
-        ap (λ (r : Option Refusal). concat (payment_layout a r)) is.refusal_is
-            ∙ (payment_same a b r same_date same_institution same_patron
-            ∙ ap (λ (r : Option Refusal). concat (payment_layout b r)) (sym so.refusal_is)),
-      )
+    one_card : (a b : CardReply) (r : Option Refusal) → IsCardReply k v r a → IsCardReply k w r b
+        → (patron_text (SessionEnd a) ≡ patron_text (SessionEnd b))
+        × (patron_text (FeePaid a) ≡ patron_text (FeePaid b))
+    one_card a b r is so =
+        let same_date = is.date ∙ (date ∙ sym so.date) in
+        let same_institution = is.institution ∙ sym so.institution in
+        let same_patron = is.patron ∙ (patron ∙ sym so.patron) in (
+          ap (λ (r : Option Refusal). concat (session_end_layout a r)) is.refusal_is
+              ∙ (session_end_same a b r same_date same_institution same_patron
+              ∙ ap (λ (r : Option Refusal). concat (session_end_layout b r)) (sym so.refusal_is)),
+          ap (λ (r : Option Refusal). concat (payment_layout a r)) is.refusal_is
+              ∙ (payment_same a b r same_date same_institution same_patron
+              ∙ ap (λ (r : Option Refusal). concat (payment_layout b r)) (sym so.refusal_is)),
+        )
 
-  one_renewal : (a b : RenewAllReply) (o : RenewAllOutcome) → IsRenewAllReply k v o a → IsRenewAllReply k w o b
-      → patron_text (RenewAll a) ≡ patron_text (RenewAll b)
-  one_renewal a b o is so =
-      ap (λ (o : RenewAllOutcome). concat (renew_all_layout a o)) is.outcome_is
-      ∙ (renew_same a b o (is.date ∙ (date ∙ sym so.date)) (is.institution ∙ sym so.institution)
-      ∙ ap (λ (o : RenewAllOutcome). concat (renew_all_layout b o)) (sym so.outcome_is))
+    one_renewal : (a b : RenewAllReply) (o : RenewAllOutcome) → IsRenewAllReply k v o a
+        → IsRenewAllReply k w o b
+        → patron_text (RenewAll a) ≡ patron_text (RenewAll b)
+    one_renewal a b o is so =
+        ap (λ (o : RenewAllOutcome). concat (renew_all_layout a o)) is.outcome_is
+        ∙ (renew_same a b o (is.date ∙ (date ∙ sym so.date)) (is.institution ∙ sym so.institution)
+        ∙ ap (λ (o : RenewAllOutcome). concat (renew_all_layout b o)) (sym so.outcome_is))
 
-  -- two that are refused
-  refused_status : (refusal : Refusal) (a b : PatronStatusReply) → IsStatusReply k v v.language.now a
-      → a.outcome ≡ OfStatus.Refused refusal → IsStatusReply k w w.language.now b → b.outcome ≡ OfStatus.Refused refusal
-      → patron_text (Status a) ≡ patron_text (Status b)
-  refused_status refusal a b is out so there =
-      ap (λ (o : PatronStatusOutcome). concat (patron_status_layout a o)) out
-      ∙ (one_status a b _ _ (OfStatus.Refused refusal) language is so
-      ∙ ap (λ (o : PatronStatusOutcome). concat (patron_status_layout b o)) (sym there))
+    -- two that are refused
+    refused_status : (refusal : Refusal) (a b : PatronStatusReply) → IsStatusReply k v v.language.now a
+        → a.outcome ≡ OfStatus.Refused refusal → IsStatusReply k w w.language.now b → b.outcome
+        ≡ OfStatus.Refused refusal
+        → patron_text (Status a) ≡ patron_text (Status b)
+    refused_status refusal a b is out so there =
+        ap (λ (o : PatronStatusOutcome). concat (patron_status_layout a o)) out
+        ∙ (one_status a b _ _ (OfStatus.Refused refusal) language is so
+        ∙ ap (λ (o : PatronStatusOutcome). concat (patron_status_layout b o)) (sym there))
 
-  refused_information : (refusal : Refusal) (a b : PatronInformationReply) → IsInformationReply k v v.language.now a
-      → a.outcome ≡ OfInformation.Refused refusal → IsInformationReply k w w.language.now b
-      → b.outcome ≡ OfInformation.Refused refusal → patron_text (Information a) ≡ patron_text (Information b)
-  refused_information refusal a b is out so there =
-      ap (λ (o : PatronInformationOutcome). information_text a o) out
-      ∙ (refused_same a b refusal (is.language ∙ (language ∙ sym so.language)) (is.date ∙ (date ∙ sym so.date))
-      (is.institution ∙ sym so.institution) (is.patron ∙ (patron ∙ sym so.patron))
-      ∙ ap (λ (o : PatronInformationOutcome). information_text b o) (sym there))
+    refused_information : (refusal : Refusal) (a b : PatronInformationReply)
+        → IsInformationReply k v v.language.now a
+        → a.outcome ≡ OfInformation.Refused refusal → IsInformationReply k w w.language.now b
+        → b.outcome ≡ OfInformation.Refused refusal → patron_text (Information a)
+        ≡ patron_text (Information b)
+    refused_information refusal a b is out so there =
+        ap (λ (o : PatronInformationOutcome). information_text a o) out
+        ∙ (refused_same a b refusal (is.language ∙ (language ∙ sym so.language))
+        (is.date ∙ (date ∙ sym so.date))
+        (is.institution ∙ sym so.institution) (is.patron ∙ (patron ∙ sym so.patron))
+        ∙ ap (λ (o : PatronInformationOutcome). information_text b o) (sym there))
 
-  one_refused : (kind : PatronKind) (refusal : Refusal) (a b : PatronReply) → IsRefusedPatron k v kind refusal a
-      → IsRefusedPatron k w kind refusal b → patron_text a ≡ patron_text b
-  one_refused Kinds.Status refusal (Status a) (Status b) is so = refused_status refusal a b is.0 is.1 so.0 so.1
-  one_refused Kinds.Status refusal (Status a) _ is so = absurd so
-  one_refused Kinds.Information refusal (Information a) (Information b) is so = refused_information refusal a b is.0 is.1 so.0 so.1
-  one_refused Kinds.Information refusal (Information a) _ is so = absurd so
-  one_refused Kinds.EndSession refusal (SessionEnd a) (SessionEnd b) is so = (one_card a b (Some refusal) is so).0
-  one_refused Kinds.EndSession refusal (SessionEnd a) _ is so = absurd so
-  one_refused Kinds.Block refusal (Status a) (Status b) is so = refused_status refusal a b is.0 is.1 so.0 so.1
-  one_refused Kinds.Block refusal (Status a) _ is so = absurd so
-  one_refused Kinds.FeePaid refusal (FeePaid a) (FeePaid b) is so = (one_card a b (Some refusal) is so).1
-  one_refused Kinds.FeePaid refusal (FeePaid a) _ is so = absurd so
-  one_refused Kinds.RenewAll refusal (RenewAll a) (RenewAll b) is so = one_renewal a b (OfRenewAll.Refused refusal) is so
-  one_refused Kinds.RenewAll refusal (RenewAll a) _ is so = absurd so
-  one_refused _ refusal _ b is so = absurd is
+    one_refused : (kind : PatronKind) (refusal : Refusal) (a b : PatronReply)
+        → IsRefusedPatron k v kind refusal a
+        → IsRefusedPatron k w kind refusal b → patron_text a ≡ patron_text b
+    one_refused Kinds.Status refusal (Status a) (Status b) is so =
+        refused_status refusal a b is.0 is.1 so.0 so.1
+    one_refused Kinds.Status refusal (Status a) _ is so = absurd so
+    one_refused Kinds.Information refusal (Information a) (Information b) is so =
+        refused_information refusal a b is.0 is.1 so.0 so.1
+    one_refused Kinds.Information refusal (Information a) _ is so = absurd so
+    one_refused Kinds.EndSession refusal (SessionEnd a) (SessionEnd b) is so =
+        (one_card a b (Some refusal) is so).0
+    one_refused Kinds.EndSession refusal (SessionEnd a) _ is so = absurd so
+    one_refused Kinds.Block refusal (Status a) (Status b) is so =
+        refused_status refusal a b is.0 is.1 so.0 so.1
+    one_refused Kinds.Block refusal (Status a) _ is so = absurd so
+    one_refused Kinds.FeePaid refusal (FeePaid a) (FeePaid b) is so = (one_card a b (Some refusal) is so).1
+    one_refused Kinds.FeePaid refusal (FeePaid a) _ is so = absurd so
+    one_refused Kinds.RenewAll refusal (RenewAll a) (RenewAll b) is so =
+        one_renewal a b (OfRenewAll.Refused refusal) is so
+    one_refused Kinds.RenewAll refusal (RenewAll a) _ is so = absurd so
+    one_refused _ refusal _ b is so = absurd is
 
-  module _ (e : Extensions) (p : ℕ) (seen : PatronView) (items : List ListItem) where
-    one_look : (question : PatronQuestion) (a b : PatronReply) → IsLookReply k v e p seen items question a
-        → IsLookReply k w e p seen items question b → patron_text a ≡ patron_text b
-    one_look about.Status (Status a) (Status b) is so = one_known a b e.patrons p seen a.outcome b.outcome is.0 so.0 is.1 so.1
-    one_look about.Status (Status a) _ is so = absurd so
-    one_look about.Block (Status a) (Status b) is so = one_not_blocked a b e.patrons p seen a.outcome b.outcome is.0 so.0 is.1 so.1
-    one_look about.Block (Status a) _ is so = absurd so
-    one_look (about.Information wanted) (Information a) (Information b) is so =
-        one_information a b e.patrons p seen items wanted a.outcome b.outcome is.0 so.0 is.1 so.1
-    one_look (about.Information wanted) (Information a) _ is so = absurd so
-    one_look about.RenewAll (RenewAll a) (RenewAll b) is so = one_renewal a b (OfRenewAll.NotRenewed seen.charged) is so
-    one_look about.RenewAll (RenewAll a) _ is so = absurd so
-    one_look _ _ b is so = absurd is
+    module _ (e : Extensions) (p : ℕ) (seen : PatronView) (items : List ListItem) where
+      one_look : (question : PatronQuestion) (a b : PatronReply) → IsLookReply k v e p seen items question a
+          → IsLookReply k w e p seen items question b → patron_text a ≡ patron_text b
+      one_look about.Status (Status a) (Status b) is so =
+          one_known a b e.patrons p seen a.outcome b.outcome is.0 so.0 is.1 so.1
+      one_look about.Status (Status a) _ is so = absurd so
+      one_look about.Block (Status a) (Status b) is so =
+          one_not_blocked a b e.patrons p seen a.outcome b.outcome is.0 so.0 is.1 so.1
+      one_look about.Block (Status a) _ is so = absurd so
+      one_look (about.Information wanted) (Information a) (Information b) is so =
+          one_information a b e.patrons p seen items wanted a.outcome b.outcome is.0 so.0 is.1 so.1
+      one_look (about.Information wanted) (Information a) _ is so = absurd so
+      one_look about.RenewAll (RenewAll a) (RenewAll b) is so =
+          one_renewal a b (OfRenewAll.NotRenewed seen.charged) is so
+      one_look about.RenewAll (RenewAll a) _ is so = absurd so
+      one_look _ _ b is so = absurd is
 
-  -- have one text
-  pub one_patron_text : (e : Extensions) (kind : PatronKind) (asks : Result PatronAsk Refusal) (did : List Deed) (a b : PatronReply)
-      → IsPatronReply k v e kind asks did a → IsPatronReply k w e kind asks did b → patron_text a ≡ patron_text b
-  one_patron_text e kind (Err refusal) [] a b is so = one_refused kind refusal a b is so
-  one_patron_text e kind (Ok ask.EndSession) [] (SessionEnd a) (SessionEnd b) is so = (one_card a b None is so).0
-  one_patron_text e kind (Ok ask.EndSession) [] (SessionEnd a) _ is so = absurd so
-  one_patron_text e kind (Ok ask.TakePayment) [] (FeePaid a) (FeePaid b) is so = (one_card a b None is so).1
-  one_patron_text e kind (Ok ask.TakePayment) [] (FeePaid a) _ is so = absurd so
-  one_patron_text e kind (Ok (ask.Look look)) (Looked shown ∷ []) a b is so = one_look e _ _ _ look.question a b is so
-  one_patron_text e kind _ _ _ b is so = absurd is
+    -- have one text
+    pub one_patron_text : (e : Extensions) (kind : PatronKind) (asks : Result PatronAsk Refusal)
+        (did : List Deed) (a b : PatronReply)
+        → IsPatronReply k v e kind asks did a → IsPatronReply k w e kind asks did b → patron_text a
+        ≡ patron_text b
+    one_patron_text e kind (Err refusal) [] a b is so = one_refused kind refusal a b is so
+    one_patron_text e kind (Ok ask.EndSession) [] (SessionEnd a) (SessionEnd b) is so =
+        (one_card a b None is so).0
+    one_patron_text e kind (Ok ask.EndSession) [] (SessionEnd a) _ is so = absurd so
+    one_patron_text e kind (Ok ask.TakePayment) [] (FeePaid a) (FeePaid b) is so = (one_card a b None is so).1
+    one_patron_text e kind (Ok ask.TakePayment) [] (FeePaid a) _ is so = absurd so
+    one_patron_text e kind (Ok (ask.Look look)) (Looked shown ∷ []) a b is so =
+        one_look e _ _ _ look.question a b is so
+    one_patron_text e kind _ _ _ b is so = absurd is

@@ -1,12 +1,14 @@
 -- A body is read in one way.
-use Rattle.std.proofs.Common.{◌≡◌, ◌⊎◌, inl, inr, ℕ, Bool, true, false, List, Option, Some, None, Result, Ok, Err}
+use Rattle.std.proofs.Common.{◌≡◌, ◌⊎◌, inl, inr, ℕ, Bool, true, false, List, Option, Some, None, Result, Ok}
+use Rattle.std.proofs.Common.{Err}
 use Rattle.std.proofs.Common.{MatchBool, codes, if◌then◌else◌, take, drop, arith, refl, sym, ap, ◌∙◌, subst}
 use Rattle.std.specs.Prelude.{⊤}
 use Rattle.std.proofs.lemmas.Option.{same_Some}
 use Rattle.std.specs.Option.{option_copied}
 use Rattle.std.specs.Str.{bytes_eq}
 use Rattle.hd_message.specs.Hold.{AreWishes, AreWishesOf, has_wishes}
-use Rattle.hd_message.specs.PatronReading.{HasNoPatronCode, IsPatronMessage, IsReading, IsUnreadablePatron, StatesPatron}
+use Rattle.hd_message.specs.PatronReading.{HasNoPatronCode, IsPatronMessage, IsReading, IsUnreadablePatron}
+use Rattle.hd_message.specs.PatronReading.{StatesPatron}
 use Rattle.hd_message.specs.PatronTable.{patron_code, patron_fields, patron_fixed}
 use Rattle.hd_message.specs.Reading.{IsMessage, IsRequest, IsUnreadable, IsUnreadableMessage, StatesRequest}
 use Rattle.hd_message.specs.Table.{code_of, fields_part, fixed_part, fixed_width}
@@ -22,14 +24,16 @@ use Rattle.hd_message.specs.declared.patron_request.UnreadablePatron.{Unreadable
 use Rattle.hd_message.specs.declared.profile.Profile.{Profile}
 use Rattle.hd_message.specs.declared.request.Mode.{Mode}
 use Rattle.hd_message.specs.declared.request.Request.{Request}
-use Rattle.hd_message.specs.declared.request.Request.TheVariants.{Login, Status, Checkout, Checkin, Hold, Renew, Item, Resend, Unsupported}
+use Rattle.hd_message.specs.declared.request.Request.TheVariants.{Login, Status, Checkout, Checkin, Hold}
+use Rattle.hd_message.specs.declared.request.Request.TheVariants.{Renew, Item, Resend, Unsupported}
 use Rattle.hd_message.specs.declared.request.Wishes.{Wishes}
 use Rattle.hd_message.specs.declared.unreadable.Unreadable.{Unreadable}
 use Rattle.hd_message.specs.declared.unreadable.Unreadable.TheVariants as Unread
 use Rattle.hd_message.specs.declared.unreadable.UnreadableMessage.{UnreadableMessage}
 use Rattle.hd_catalogue.specs.Contents.{Contents}
 use Rattle.hd_exchange.specs.HoldAsks.{expiry_text, pickup_name, wanted_copies}
-use Rattle.hd_exchange.specs.Messages.{IsReadAs, Stated, checkin_states, checkout_states, hold_states, item_states}
+use Rattle.hd_exchange.specs.Messages.{IsReadAs, Stated, checkin_states, checkout_states, hold_states}
+use Rattle.hd_exchange.specs.Messages.{item_states}
 use Rattle.hd_exchange.specs.Messages.{login_made, renew_states, unreadable_states}
 use Rattle.hd_exchange.specs.PatronMessages.{PatronStated, patron_states, request_states, unread_states}
 use Rattle.hd_exchange.specs.declared.login.Login.{Login as LoggedIn}
@@ -72,7 +76,8 @@ number_of (Item request) = 6
 number_of Resend = 7
 number_of Unsupported = 8
 
-numbered : (code fixed part : List ℕ) (request : Request) → StatesRequest code fixed part request → number code ≡ number_of request
+numbered : (code fixed part : List ℕ) (request : Request) → StatesRequest code fixed part request
+    → number code ≡ number_of request
 unfolding number
 numbered code fixed part (Login request) h = ap number h.0
 numbered code fixed part Status h = ap number h
@@ -99,7 +104,8 @@ abbrev SameWishes : Option Wishes → Option Wishes → Type 0
 SameWishes a b =
     (expiry_text a ≡ expiry_text b) × (pickup_name a ≡ pickup_name b) × (wanted_copies a ≡ wanted_copies b)
 
-one_wishes : (some : Bool) (part : List ℕ) (a b : Option Wishes) → MatchBool some (AreWishesOf part a) (a ≡ None)
+one_wishes : (some : Bool) (part : List ℕ) (a b : Option Wishes)
+    → MatchBool some (AreWishesOf part a) (a ≡ None)
     → MatchBool some (AreWishesOf part b) (b ≡ None) → SameWishes a b
 one_wishes true part (Some a) (Some b) p q = (p.2 ∙ sym q.2, p.1 ∙ sym q.1, same_Some _ _ (sym p.0 ∙ q.0))
 one_wishes true part (Some a) None p q = absurd q
@@ -149,7 +155,8 @@ no_login body Desks.Renew p q = absurd (omega (arith, ap number (sym p ∙ q)))
 no_login body Desks.Item p q = absurd (omega (arith, ap number (sym p ∙ q)))
 
 -- and that of an unreadable one
-coded : (body : List ℕ) (kind : DeskKind) (m : UnreadableMessage) → IsUnreadableMessage body (record m { kind = kind })
+coded : (body : List ℕ) (kind : DeskKind) (m : UnreadableMessage)
+    → IsUnreadableMessage body (record m { kind = kind })
     → take 2 body ≡ desk_code kind
 unfolding desk_code
 coded body Desks.Checkout m p = p.code
@@ -158,7 +165,8 @@ coded body Desks.Hold m p = p.code
 coded body Desks.Renew m p = p.code
 coded body Desks.Item m p = p.code
 
-coded_so : (body : List ℕ) (m : UnreadableMessage) → IsUnreadableMessage body m → take 2 body ≡ desk_code m.kind
+coded_so : (body : List ℕ) (m : UnreadableMessage) → IsUnreadableMessage body m → take 2 body
+    ≡ desk_code m.kind
 coded_so body m p = coded body m.kind m p
 
 -- the kinds of patron messages as numbers, and those of their codes
@@ -200,7 +208,8 @@ patron_number_of (Of.Block request) = 3
 patron_number_of (Of.FeePaid request) = 4
 patron_number_of (Of.RenewAll request) = 5
 
-patron_numbered : (kind : PatronKind) (fixed part : List ℕ) (request : PatronRequest) → StatesPatron kind fixed part request
+patron_numbered : (kind : PatronKind) (fixed part : List ℕ) (request : PatronRequest)
+    → StatesPatron kind fixed part request
     → kind_number kind ≡ patron_number_of request
 unfolding kind_number
 patron_numbered kind fixed part (Of.Status request) h = ap kind_number h.0
@@ -212,8 +221,10 @@ patron_numbered kind fixed part (Of.RenewAll request) h = ap kind_number h.0
 
 module _ (k : Contents) where
   -- two patron messages that one text states
-  one_patron_stated : (kind : PatronKind) (fixed part : List ℕ) (a b : PatronRequest) → patron_number_of a ≡ patron_number_of b
-      → StatesPatron kind fixed part a → StatesPatron kind fixed part b → request_states k a ≡ request_states k b
+  one_patron_stated : (kind : PatronKind) (fixed part : List ℕ) (a b : PatronRequest) → patron_number_of a
+      ≡ patron_number_of b
+      → StatesPatron kind fixed part a → StatesPatron kind fixed part b → request_states k a
+      ≡ request_states k b
   one_patron_stated kind fixed part (Of.Status a) (Of.Status b) same (at, p) (there, q) =
       let language : a.language.now ≡ b.language.now = p.language ∙ sym q.language in
       let date : a.date.now ≡ b.date.now = p.date ∙ sym q.date in
@@ -252,13 +263,16 @@ module _ (k : Contents) where
   one_patron body a b p q =
       let kind : p.kind ≡ q.kind = one_patron_kind p.kind q.kind (sym p.code ∙ q.code) in
       let states : StatesPatron p.kind (patron_fixed p.kind body) (patron_fields p.kind body) b =
-      subst (λ (d : PatronKind). StatesPatron d (patron_fixed d body) (patron_fields d body) b) (sym kind) q.states in
+      subst (λ (d : PatronKind). StatesPatron d (patron_fixed d body) (patron_fields d body) b) (sym kind)
+      q.states in
       let here = patron_numbered p.kind (patron_fixed p.kind body) (patron_fields p.kind body) a p.states in
       let there = patron_numbered p.kind (patron_fixed p.kind body) (patron_fields p.kind body) b states in
-      one_patron_stated p.kind (patron_fixed p.kind body) (patron_fields p.kind body) a b (sym here ∙ there) p.states states
+      one_patron_stated p.kind (patron_fixed p.kind body) (patron_fields p.kind body) a b (sym here ∙ there)
+      p.states states
 
   -- two that can't be read
-  one_unread_patron : (body : List ℕ) (a b : UnreadablePatron) → IsUnreadablePatron body a → IsUnreadablePatron body b
+  one_unread_patron : (body : List ℕ) (a b : UnreadablePatron) → IsUnreadablePatron body a
+      → IsUnreadablePatron body b
       → unread_states a ≡ unread_states b
   one_unread_patron body a b p q =
       let kind : a.kind ≡ b.kind = one_patron_kind a.kind b.kind (sym p.code ∙ q.code) in
@@ -289,7 +303,8 @@ module _ (k : Contents) where
   gist_read (Err unreadable) = unread unreadable
 
   -- two requests that one text states
-  one_stated : (code fixed part : List ℕ) (a b : Request) → number_of a ≡ number_of b → StatesRequest code fixed part a → StatesRequest code fixed part b
+  one_stated : (code fixed part : List ℕ) (a b : Request) → number_of a ≡ number_of b
+      → StatesRequest code fixed part a → StatesRequest code fixed part b
       → gist a ≡ gist b
   one_stated code fixed part (Login a) (Login b) same (at, p) (there, q) =
       let clear : a.clear ≡ b.clear = p.clear ∙ sym q.clear in
@@ -321,7 +336,8 @@ module _ (k : Contents) where
       let theirs : AreWishes part a.mode a.cancels b.wishes =
       subst (λ (m : Mode). AreWishes part m a.cancels b.wishes) (sym mode)
       (subst (λ (c : Bool). AreWishes part b.mode c b.wishes) (sym cancels) q.wishes) in
-      let wishes : SameWishes a.wishes b.wishes = one_wishes (has_wishes a.mode a.cancels) part a.wishes b.wishes p.wishes theirs in
+      let wishes : SameWishes a.wishes b.wishes =
+      one_wishes (has_wishes a.mode a.cancels) part a.wishes b.wishes p.wishes theirs in
       rw (mode, date, cancels, patron, copy, title, wishes.0, wishes.1, wishes.2) refl
   one_stated code fixed part (Renew a) (Renew b) same (at, p) (there, q) =
       let date : a.date.now ≡ b.date.now = p.date ∙ sym q.date in
@@ -349,10 +365,12 @@ module _ (k : Contents) where
       let states : StatesRequest (code_of p.kind) (fixed_part p.kind body) (fields_part p.kind body) b =
       subst (λ (c : List ℕ). StatesRequest c (fixed_part p.kind body) (fields_part p.kind body) b) (sym code)
       (subst (λ (f : List ℕ). StatesRequest (code_of q.kind) f (fields_part p.kind body) b) (sym fixed)
-      (subst (λ (t : List ℕ). StatesRequest (code_of q.kind) (fixed_part q.kind body) t b) (sym part) q.states)) in
+      (subst (λ (t : List ℕ). StatesRequest (code_of q.kind) (fixed_part q.kind body) t b) (sym part)
+      q.states)) in
       let here = numbered (code_of p.kind) (fixed_part p.kind body) (fields_part p.kind body) a p.states in
       let there = numbered (code_of p.kind) (fixed_part p.kind body) (fields_part p.kind body) b states in
-      one_stated (code_of p.kind) (fixed_part p.kind body) (fields_part p.kind body) a b (sym here ∙ there) p.states states
+      one_stated (code_of p.kind) (fixed_part p.kind body) (fields_part p.kind body) a b (sym here ∙ there)
+      p.states states
 
   -- a request is a message, or not supported
   abbrev OfKind : List ℕ → Request → Type 0
@@ -376,12 +394,14 @@ module _ (k : Contents) where
   one_of_kind body a b (inr p) (inr q) = ap (λ (r : Request). gist r) (p.0 ∙ sym q.0)
 
   -- two that can't be read
-  one_unread : (body : List ℕ) (a b : Unreadable) → IsUnreadable body a → IsUnreadable body b → unread a ≡ unread b
+  one_unread : (body : List ℕ) (a b : Unreadable) → IsUnreadable body a → IsUnreadable body b → unread a
+      ≡ unread b
   one_unread body Unread.Login Unread.Login p q = refl
   one_unread body Unread.Login (Unread.Desk b) p q = absurd (no_login body b.kind p.0 (coded_so body b q))
   one_unread body (Unread.Desk a) Unread.Login p q = absurd (no_login body a.kind q.0 (coded_so body a p))
   one_unread body (Unread.Desk a) (Unread.Desk b) p q =
-      let kind : a.kind ≡ b.kind = one_desk_kind a.kind b.kind (sym (coded_so body a p) ∙ coded_so body b q) in
+      let kind : a.kind ≡ b.kind =
+      one_desk_kind a.kind b.kind (sym (coded_so body a p) ∙ coded_so body b q) in
       let there : IsUnreadableMessage body (record b { kind = a.kind }) =
       subst (λ (d : DeskKind). IsUnreadableMessage body (record b { kind = d })) (sym kind) q in
       let date : option_copied a.date ≡ option_copied b.date = p.date ∙ sym there.date in
@@ -396,7 +416,8 @@ module _ (k : Contents) where
   gist_of (Read.Patron read) = Tells (patron_states k read)
 
   -- a standard reading reads a body
-  pub read_as : (profile : Profile) (body : List ℕ) (read : Result Request Unreadable) → IsReading profile body (Read.Standard read)
+  pub read_as : (profile : Profile) (body : List ℕ) (read : Result Request Unreadable)
+      → IsReading profile body (Read.Standard read)
       → IsReadAs body read
   read_as profile body (Ok request) is = is.1
   read_as profile body (Err unreadable) is = is.2
@@ -411,32 +432,39 @@ module _ (k : Contents) where
   coded_patron profile body (Ok request) is = record { kind = is.1.kind; code = is.1.code }
   coded_patron profile body (Err message) is = record { kind = message.kind; code = is.2.code }
 
-  apart : (profile : Profile) (body : List ℕ) (a : Result Request Unreadable) (b : Result PatronRequest UnreadablePatron)
+  apart : (profile : Profile) (body : List ℕ) (a : Result Request Unreadable)
+      (b : Result PatronRequest UnreadablePatron)
       → IsReading profile body (Read.Standard a) → IsReading profile body (Read.Patron b) → ⊥
   apart profile body a b p q =
       let has = coded_patron profile body b q in
-      let none : HasNoPatronCode body = subst (λ (on : Bool). MatchBool on (HasNoPatronCode body) ⊤) q.0 p.0 in
+      let none : HasNoPatronCode body =
+      subst (λ (on : Bool). MatchBool on (HasNoPatronCode body) ⊤) q.0 p.0 in
       none has.kind has.code
 
-  module _ (readable : (body : List ℕ) (request : Request) (message : Unreadable) → IsRequest body request → IsUnreadable body message → ⊥)
-      (readable_patron : (body : List ℕ) (request : PatronRequest) (message : UnreadablePatron) → IsPatronMessage body request
+  module _ (readable : (body : List ℕ) (request : Request) (message : Unreadable) → IsRequest body request
+      → IsUnreadable body message → ⊥)
+      (readable_patron : (body : List ℕ) (request : PatronRequest) (message : UnreadablePatron)
+      → IsPatronMessage body request
       → IsUnreadablePatron body message → ⊥)
     where
       -- two readings of one body come to the same
-      one_standard : (body : List ℕ) (a b : Result Request Unreadable) → IsReadAs body a → IsReadAs body b → gist_read a ≡ gist_read b
+      one_standard : (body : List ℕ) (a b : Result Request Unreadable) → IsReadAs body a → IsReadAs body b
+          → gist_read a ≡ gist_read b
       one_standard body (Ok a) (Ok b) p q = one_of_kind body a b (of_kind body a p) (of_kind body b q)
       one_standard body (Ok a) (Err b) p q = absurd (readable body a b p q)
       one_standard body (Err a) (Ok b) p q = absurd (readable body b a q p)
       one_standard body (Err a) (Err b) p q = one_unread body a b p q
 
       one_told : (profile : Profile) (body : List ℕ) (a b : Result PatronRequest UnreadablePatron)
-          → IsReading profile body (Read.Patron a) → IsReading profile body (Read.Patron b) → patron_states k a ≡ patron_states k b
+          → IsReading profile body (Read.Patron a) → IsReading profile body (Read.Patron b)
+          → patron_states k a ≡ patron_states k b
       one_told profile body (Ok a) (Ok b) p q = one_patron body a b p.1 q.1
       one_told profile body (Ok a) (Err b) p q = absurd (readable_patron body a b p.1 q.2)
       one_told profile body (Err a) (Ok b) p q = absurd (readable_patron body b a q.1 p.2)
       one_told profile body (Err a) (Err b) p q = one_unread_patron body a b p.2 q.2
 
-      pub one_reading : (profile : Profile) (body : List ℕ) (a b : Reading) → IsReading profile body a → IsReading profile body b
+      pub one_reading : (profile : Profile) (body : List ℕ) (a b : Reading) → IsReading profile body a
+          → IsReading profile body b
           → gist_of a ≡ gist_of b
       one_reading profile body (Read.Standard a) (Read.Standard b) p q =
           one_standard body a b (read_as profile body a p) (read_as profile body b q)

@@ -1,11 +1,14 @@
 -- The texts of a patron message are as short as its body, and its language has three bytes.
-use Rattle.std.proofs.Common.{◌≡◌, ℕ, ◌≤◌, ◌||◌, Bool, true, false, List, Option, Some, None, Result, Ok, Err, codes}
-use Rattle.std.proofs.Common.{arith, refl, sym, ap, ◌∙◌, length, drop, nat_lt, slice_range, subst, if◌then◌else◌}
+use Rattle.std.proofs.Common.{◌≡◌, ℕ, ◌≤◌, ◌||◌, Bool, true, false, List, Option, Some, None, Result, Ok, Err}
+use Rattle.std.proofs.Common.{codes}
+use Rattle.std.proofs.Common.{arith, refl, sym, ap, ◌∙◌, length, drop, nat_lt, slice_range, subst}
+use Rattle.std.proofs.Common.{if◌then◌else◌}
 use Rattle.std.proofs.lemmas.List.{length-drop, length-take-le}
 use Rattle.std.proofs.lemmas.Option.{same_Some}
 use Rattle.std.specs.Option.{ForSome}
 use Rattle.hd_message.specs.Lengths.{bytes_of}
-use Rattle.hd_message.specs.PatronReading.{IsPatronMessage, IsReading, IsUnreadablePatron, StatesPatron, is_unreadable_patron}
+use Rattle.hd_message.specs.PatronReading.{IsPatronMessage, IsReading, IsUnreadablePatron, StatesPatron}
+use Rattle.hd_message.specs.PatronReading.{is_unreadable_patron}
 use Rattle.hd_message.specs.PatronTable.{has_language, language_in, patron_fields, patron_fixed, patron_width}
 use Rattle.hd_message.specs.Repeated.{patron_bytes, unreadable_patron_bytes}
 use Rattle.hd_message.specs.Values.{lacks}
@@ -27,10 +30,12 @@ for_some : (P : List ℕ → Type 0) (a : List ℕ) → P a → ForSome (Some a)
 for_some P a h = λ x same. subst P (same_Some _ _ same) h
 
 for_none : (P : List ℕ → Type 0) → ForSome None P
-for_none P = λ x same. absurd (let none : (let o : Option (List ℕ) = None in o ≡ Some x) = same in let never : ⊥ = cc in never)
+for_none P = λ x same. absurd
+    (let none : (let o : Option (List ℕ) = None in o ≡ Some x) = same in let never : ⊥ = cc in never)
 
 -- the fixed part of a message that can be read is whole
-whole : (kind : PatronKind) (body : List ℕ) → is_unreadable_patron kind body ≡ false → patron_width kind ≤ length body
+whole : (kind : PatronKind) (body : List ℕ) → is_unreadable_patron kind body ≡ false
+    → patron_width kind ≤ length body
 whole kind body readable = by_tests (nat_lt (length body) (patron_width kind)) refl readable
   where
     by_tests : (short : Bool) → nat_lt (length body) (patron_width kind) ≡ short
@@ -43,21 +48,28 @@ module _ (body : List ℕ) (kind : PatronKind) (readable : is_unreadable_patron 
       → language ≡ slice_range (patron_fixed kind body) 2 5 → length language ≡ 3
   language_of width is long language at =
       let here : patron_width kind ≤ length body = whole kind body readable in
-      let fixed : length (patron_fixed kind body) ≡ patron_width kind = length-take-le (patron_width kind) body here in
+      let fixed : length (patron_fixed kind body)
+      ≡ patron_width kind = length-take-le (patron_width kind) body here in
       ap (λ (l : List ℕ). length l) at ∙ three (patron_fixed kind body) (omega (arith, fixed, is, long))
 
-  request_language : (k : Contents) (request : PatronRequest) → StatesPatron kind (patron_fixed kind body) (patron_fields kind body) request
+  request_language : (k : Contents) (request : PatronRequest)
+      → StatesPatron kind (patron_fixed kind body) (patron_fields kind body) request
       → ForSome (request_states k request).language (λ language. length language ≡ 3)
   request_language k (Of.Status r) states =
-      for_some (λ language. length language ≡ 3) r.language.now (language_of 23 (ap (λ (d : PatronKind). patron_width d) states.0) (omega arith) r.language.now states.1.language)
+      for_some (λ language. length language ≡ 3) r.language.now
+      (language_of 23 (ap (λ (d : PatronKind). patron_width d) states.0) (omega arith) r.language.now
+      states.1.language)
   request_language k (Of.Information r) states =
-      for_some (λ language. length language ≡ 3) r.language.now (language_of 33 (ap (λ (d : PatronKind). patron_width d) states.0) (omega arith) r.language.now states.1.language)
+      for_some (λ language. length language ≡ 3) r.language.now
+      (language_of 33 (ap (λ (d : PatronKind). patron_width d) states.0) (omega arith) r.language.now
+      states.1.language)
   request_language k (Of.EndSession r) states = for_none (λ language. length language ≡ 3)
   request_language k (Of.Block r) states = for_none (λ language. length language ≡ 3)
   request_language k (Of.FeePaid r) states = for_none (λ language. length language ≡ 3)
   request_language k (Of.RenewAll r) states = for_none (λ language. length language ≡ 3)
 
-request_patron : (k : Contents) (request : PatronRequest) → patron_bytes request ≤ 1024 → bytes_of (request_states k request).patron ≤ 1024
+request_patron : (k : Contents) (request : PatronRequest) → patron_bytes request ≤ 1024
+    → bytes_of (request_states k request).patron ≤ 1024
 request_patron k (Of.Status r) few = few
 request_patron k (Of.Information r) few = few
 request_patron k (Of.EndSession r) few = few
@@ -65,20 +77,24 @@ request_patron k (Of.Block r) few = few
 request_patron k (Of.FeePaid r) few = few
 request_patron k (Of.RenewAll r) few = few
 
-unread_language : (kind : PatronKind) (body : List ℕ) → ForSome (language_in kind body) (λ language. length language ≡ 3)
+unread_language : (kind : PatronKind) (body : List ℕ)
+    → ForSome (language_in kind body) (λ language. length language ≡ 3)
 unread_language kind body = by_tests (has_language kind) (nat_lt (length body) 5) refl
   where
     by_tests : (has short : Bool) → nat_lt (length body) 5 ≡ short
-        → ForSome (if has then (if short then None else Some (slice_range body 2 5)) else None) (λ language. length language ≡ 3)
+        → ForSome (if has then (if short then None else Some (slice_range body 2 5)) else None)
+        (λ language. length language ≡ 3)
     by_tests false short is = for_none (λ language. length language ≡ 3)
     by_tests true true is = for_none (λ language. length language ≡ 3)
     by_tests true false is =
         let long : 5 ≤ length body = grind arith in
         for_some (λ language. length language ≡ 3) (slice_range body 2 5) (three body long)
 
-pub short_texts : (k : Contents) (profile : Profile) (body : List ℕ) (read : Result PatronRequest UnreadablePatron)
+pub short_texts : (k : Contents) (profile : Profile) (body : List ℕ)
+    (read : Result PatronRequest UnreadablePatron)
     → ((request : PatronRequest) → IsPatronMessage body request → patron_bytes request ≤ length body)
-    → ((message : UnreadablePatron) → IsUnreadablePatron body message → unreadable_patron_bytes message ≤ length body)
+    → ((message : UnreadablePatron) → IsUnreadablePatron body message
+    → unreadable_patron_bytes message ≤ length body)
     → length body ≤ 1024 → IsReading profile body (Read.Patron read) → AreShortTexts (patron_states k read)
 short_texts k profile body (Ok request) fits unread short is = record {
   language = request_language body is.1.kind is.1.readable k request is.1.states;

@@ -1,5 +1,6 @@
 -- Counts of numbers, and of the holds of a queue by patron.
-use Rattle.std.proofs.Common.{◌≡◌, ◌≢◌, ℕ, ◌+◌, ◌<◌, Bool, true, false, cond, List, [], ◌∷◌, Option, None, Some, refl, ap, sym, ◌∙◌}
+use Rattle.std.proofs.Common.{◌≡◌, ◌≢◌, ℕ, ◌+◌, ◌<◌, Bool, true, false, cond, List, [], ◌∷◌, Option, None}
+use Rattle.std.proofs.Common.{Some, refl, ap, sym, ◌∙◌}
 use Rattle.std.proofs.Common.{inl, inr, arith, length, zero, suc, eq-eqb}
 use Rattle.std.specs.List.{count_by}
 use Rattle.std.proofs.lemmas.Bool.Decides.{nat_tests}
@@ -13,7 +14,8 @@ use Rattle.hd_holds.specs.Held.{AreOfPatrons}
 
 pub count-same : (f g : ℕ → Bool) (m : ℕ) → ((n : ℕ) → n < m → f n ≡ g n) → count_below f m ≡ count_below g m
 count-same f g zero same = refl
-count-same f g (suc m) same = λ i. cond (same m (omega arith) i) 1 0 + count-same f g m (λ n l. same n (omega arith)) i
+count-same f g (suc m) same =
+    λ i. cond (same m (omega arith) i) 1 0 + count-same f g m (λ n l. same n (omega arith)) i
 
 pub count-none : (m : ℕ) → count_below (λ n. false) m ≡ 0
 count-none zero = refl
@@ -42,17 +44,20 @@ pub hold_of-here : (h : Hold) (hs : List Hold) → hold_of (h ∷ hs) h.patron �
 hold_of-here h hs = rw (eq-eqb h.patron h.patron refl) refl
 
 -- the holds of a queue that pass, counted by patron
-pub count-holds : (test : Option Hold → Bool) → test None ≡ false → (hs : List Hold) (m : ℕ) → HasPatronsOnce hs → AreOfPatrons m hs →
+pub count-holds : (test : Option Hold → Bool) → test None ≡ false → (hs : List Hold) (m : ℕ)
+    → HasPatronsOnce hs → AreOfPatrons m hs →
     count_below (λ n. test (hold_of hs n)) m ≡ count_by (λ h. test (Some h)) hs
 count-holds test none [] m once patrons = rw none (count-none m)
 count-holds test none (h ∷ hs) m once patrons =
     let off : test (hold_of hs h.patron) ≡ false = ap test once.0 ∙ none in
     let on : test (hold_of (h ∷ hs) h.patron) ≡ test (Some h) = ap test (hold_of-here h hs) in
-    let split : count_below (λ n. test (hold_of (h ∷ hs) n)) m ≡ cond (test (hold_of (h ∷ hs) h.patron)) 1 0 + count_below
+    let split : count_below (λ n. test (hold_of (h ∷ hs) n)) m
+    ≡ cond (test (hold_of (h ∷ hs) h.patron)) 1 0 + count_below
     (λ n. test (hold_of hs n)) m =
     count-differs (λ n. test (hold_of (h ∷ hs) n)) (λ n. test (hold_of hs n)) h.patron m off
     (λ n other. ap test (hold_of-other h hs n other)) patrons.0 in
-    let rest : count_below (λ n. test (hold_of hs n)) m ≡ count_by (λ k. test (Some k)) hs = count-holds test none hs m once.1 patrons.1 in
+    let rest : count_below (λ n. test (hold_of hs n)) m
+    ≡ count_by (λ k. test (Some k)) hs = count-holds test none hs m once.1 patrons.1 in
     split ∙ (λ i. cond (on i) 1 0 + rest i) ∙ sym (sum_by-cons (λ k. cond (test (Some k)) 1 0) h hs)
 
 -- all of a list are counted

@@ -13,15 +13,12 @@ use Rattle.hd_rules.specs.Machine.{answered_command}
 use Rattle.hd_catalogue.specs.Contents.{Contents, facts_of}
 use Rattle.hd_journal.specs.SurvivorRun.{SurvivorRun, LeadsTo, IsKnownSurvivor, Submitted, state_at}
 use Rattle.hd_journal.proofs.Runs.{run_more, may_run_last}
+use Rattle.hd_lemmas.proofs.Rules.{next_more}
 
 -- an accepted command is one step
 stepped : (k : Facts) (d e : Desk) (s : Survivor) (done : Done) → outcome_of k d s ≡ Ok done
     → e ≡ after done.changes d → e ≡ step k d s
 stepped k d e s done is goes = goes ∙ sym (ap (λ (r : Result Done Refusal). changed_by r d) is)
-
-next_last : (n : ℕ) (xs : List Survivor) (s : Survivor) → next_number n (xs ++ s ∷ []) ≡ s.number + 1
-next_last n [] s = refl
-next_last n (x ∷ xs) s = next_last (x.number + 1) xs s
 
 more : (r : SurvivorRun) (d e : Desk) (new : Survivor) (done : Done) → LeadsTo r d
     → IsKnownSurvivor (facts_of r.contents) new
@@ -31,7 +28,7 @@ more r d e new done is adds number accepted goes =
     let first : ℕ = first_number (facts_of r.contents) in
     let low : next_number first r.survivors ≤ r.last + 1 = is.last in
     let next : next_number first (r.survivors ++ new ∷ []) ≡ new.number + 1 =
-    next_last first r.survivors new in
+    next_more first r.survivors new in
     record {
       desk = run_more (facts_of r.contents) r.survivors new d e is.desk
           (stepped (facts_of r.contents) d e new done accepted goes);

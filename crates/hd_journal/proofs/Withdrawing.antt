@@ -32,7 +32,7 @@ use Rattle.hd_journal.proofs.Stored.{CanGo, can_go, changes_there, done_of_recor
 use Rattle.hd_journal.proofs.Stored.{stored_of}
 use Rattle.hd_journal.proofs.Targets.{Aimed, aimed}
 use Rattle.hd_journal.proofs.Working.{cells_are, in_words, takes_back}
-use Rattle.hd_lemmas.proofs.Rules.{rising_at}
+use Rattle.hd_lemmas.proofs.Rules.{next_up, rising_at}
 
 -- the record of a number that was found
 pub target_at : (laws : CancellationLaws) (k : Facts) (terminal : ℕ) (what : Cancel) (value : RecordsValue)
@@ -170,15 +170,10 @@ work_stands laws k terminal what value n old compared back new goes writes looks
     (cells_are k rs n aim goes.at.parts) all))
 
 -- no number of the others is above the last
-next_later : (n m : ℕ) (xs : List Survivor) → n ≤ m → next_number n xs ≤ next_number m xs
-next_later n m [] le = le
-next_later n m (x ∷ xs) le =
-    (let same : next_number (x.number + 1) xs ≤ next_number (x.number + 1) xs = omega arith in same)
-
 next_less : (n : ℕ) (older : List Survivor) (c : Survivor) (newer : List Survivor) → n ≤ c.number + 1
     → Rising n (older ++ c ∷ newer)
     → next_number n (older ++ newer) ≤ next_number n (older ++ c ∷ newer)
-next_less n [] c newer le rising = next_later n (c.number + 1) newer le
+next_less n [] c newer le rising = next_up n (c.number + 1) newer le
 next_less n (x ∷ xs) c newer le rising =
     let up : x.number + 1 ≤ c.number = rising_at (x.number + 1) xs c newer rising.1 in
     next_less (x.number + 1) xs c newer (omega arith) rising.1

@@ -19,7 +19,7 @@ use crate::deciding::{decide, first_dependent};
 use crate::laws::laws;
 use hd_desk::{Desk, Done, Meter, Refused};
 use hd_inverse::undo;
-use hd_records::{RecordRef, Records, StoredRecord, Survivors};
+use hd_records::{NewRecord, RecordRef, Records, Survivors};
 use hd_rules::{Asked, Cancel, Command, CopyNo, Survivor, TerminalNo, TurnReply};
 use std::alloc::{AllocError, Allocator};
 use std::marker::Model;
@@ -177,8 +177,8 @@ impl<A: Allocator + Copy> SurvivorRun<A> {
                     command: *command,
                 };
                 let reply = done.reply();
-                let record = record_of(survivor, done);
-                self.records.push(self.desk.catalogue(), record);
+                let record = record_of(survivor, &done);
+                self.records.push(self.desk.catalogue(), &record);
                 Ok(TurnReply::Done { number, reply })
             }
             Err(Refused::Rule(refusal)) => Ok(TurnReply::Refused(refusal)),
@@ -217,18 +217,18 @@ impl<A: Allocator + Copy> SurvivorRun<A> {
     }
 }
 
-/// The record of an accepted command. Its findings and changes aren't copied.
-fn record_of(survivor: Survivor, done: Done) -> StoredRecord
+/// The record of an accepted command, lent: its findings and changes stay where they are.
+fn record_of(survivor: Survivor, done: &Done) -> NewRecord<'_>
     ensures { result
         ≡ record {
           number = survivor.number;
           terminal = survivor.terminal;
           command = survivor.command;
-          reply = done.reply;
-          findings = done.findings;
-          changes = done.changes;
+          reply = done.now.reply;
+          findings = done.now.findings;
+          changes = done.now.changes;
         } }
 {
-    let (reply, changes, findings) = done.into_parts();
-    StoredRecord::new(survivor, reply, findings, changes)
+    let (changes, findings) = done.parts();
+    NewRecord::new(survivor, done.reply(), findings, changes)
 }

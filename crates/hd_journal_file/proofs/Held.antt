@@ -19,14 +19,16 @@ abbrev pub Settles : State → Type 0
 Settles s = (db : Trees) → IsTrue s.is_open → s.may_leave db → db ≡ s.committed.trees
 
 -- legal turns whose rows a database stores are those of any other such list
-stored_turns : (back : IsReadBack) (one : OneMessage) (k : Contents) (turns left : List Turn) (head head' : Head)
+stored_turns : (back : IsReadBack) (one : OneMessage) (k : Contents) (turns left : List Turn)
+    (head head' : Head)
     (rows rows' : List KeptTurn)
     (db : Trees) → IsLegal (facts_of k) turns → IsLegal (facts_of k) left → Stores head rows db
     → Stores head' rows' db
     → AreTurnRows k head.format turns rows → AreTurnRows k head'.format left rows' → left ≡ turns
 stored_turns back one k turns left head head' rows rows' db legal legal' stores stores' are are' =
     same_turns one k head.format head'.format (start (facts_of k)) turns left rows legal legal' are
-    (subst (AreTurnRows k head'.format left) (one_kept back (db 1) rows' rows stores'.turns stores.turns) are')
+    (subst (AreTurnRows k head'.format left) (one_kept back (db 1) rows' rows stores'.turns stores.turns)
+    are')
 
 pub left_is_held : (back : IsReadBack) (one : OneMessage) (s : State) (settles : Settles s) (k : Contents)
     (turns left : List Turn)
@@ -35,7 +37,8 @@ left_is_held back one s settles k turns left held leaves =
     let trees : s.now.trees ≡ leaves.database =
     sym (settles leaves.database held.keeps.is_open leaves.may
     ∙ ap (λ (d : Database). d.trees) held.keeps.settled)
-    in stored_turns back one k turns left held.head leaves.kept.head held.rows leaves.kept.rows leaves.database
+    in stored_turns back one k turns left held.head leaves.kept.head held.rows leaves.kept.rows
+    leaves.database
     held.legal
     leaves.kept.legal (subst (Stores held.head held.rows) trees held.keeps.rows) leaves.kept.keeps held.are
     leaves.kept.are
@@ -78,7 +81,8 @@ held_more old new row adds k turns turn is legal held =
       are = rows_more k held.head.format turns held.rows turn row held.are (is held.head.format);
     }
 
-pub left_either : (back : IsReadBack) (one : OneMessage) (old new : State) (row : KeptTurn) (settles : Settles old)
+pub left_either : (back : IsReadBack) (one : OneMessage) (old new : State) (row : KeptTurn)
+    (settles : Settles old)
     → MayAdd old new row
     → (k : Contents) (turns left : List Turn) (turn : Turn) → ((format : ℕ) → IsTurnRow k format turn row)
     → IsLegal (facts_of k) (turns ++ turn ∷ []) → HasTurns k old turns → LeavesTurns k new left
@@ -90,5 +94,6 @@ left_either back one old new row settles may_add k turns left turn is legal held
       | inr stores ↦ inr (stored_turns back one k (turns ++ turn ∷ []) left held.head leaves.kept.head
           (held.rows ++ row ∷ [])
           leaves.kept.rows leaves.database legal leaves.kept.legal stores leaves.kept.keeps
-          (rows_more k held.head.format turns held.rows turn row held.are (is held.head.format)) leaves.kept.are)
+          (rows_more k held.head.format turns held.rows turn row held.are (is held.head.format))
+          leaves.kept.are)
     ]

@@ -40,5 +40,6 @@ pub opened_is_kept : (one : OneMessage) (k : Contents) (s now : State) (left : I
     → AreFound left false wanted now k opened → IsLegal (facts_of k) opened → opened ≡ turns
 opened_is_kept one k s now left wanted turns opened held of clean found legal =
     let taken = found clean refl held.head held.rows (of held.head held.rows held.keeps) in
-    same_turns one k held.head.format held.head.format (start (facts_of k)) turns opened held.rows held.legal legal
+    same_turns one k held.head.format held.head.format (start (facts_of k)) turns opened held.rows held.legal
+    legal
     held.are taken.are

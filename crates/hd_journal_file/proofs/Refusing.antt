@@ -64,7 +64,8 @@ refuses_came f old new seat message made k row at fault adds same is (inr it) =
 -- rows round one of them
 rows_split : (rows : List Row) (i : ℕ) (item : Row) → i < length rows
     → item ≡ get_or rows i item
-    → map read_cells rows ≡ map read_cells (take i rows) ++ read_cells item ∷ map read_cells (drop (suc i) rows)
+    → map read_cells rows
+    ≡ map read_cells (take i rows) ++ read_cells item ∷ map read_cells (drop (suc i) rows)
 rows_split [] i item low is = absurd (omega arith)
 rows_split (row ∷ rows) zero item low is = ap (λ (t : Row). read_cells t ∷ map read_cells rows) (sym is)
 rows_split (row ∷ rows) (suc i) item low is =

@@ -19,7 +19,8 @@ use Rattle.hd_turn_store.specs.Rows.{read_cells}
 use Rattle.hd_journal_file.specs.Restored.{TakesPiece, TakesRow, TakesRows}
 use Rattle.hd_journal_file.proofs.Same.{rows_more}
 
-pub takes_row : (f : ℕ) (old new : Book) (seat : ℕ) (message : Message) (made : Made) (k : Contents) (row : KeptTurn)
+pub takes_row : (f : ℕ) (old new : Book) (seat : ℕ) (message : Message) (made : Made) (k : Contents)
+    (row : KeptTurn)
     → AddsTurn old new seat message made → k ≡ old.contents → IsRowOf k seat message row
     → is_changing (state old) message ≡ true → HasOutcome f made.reply row → TakesRow f old new row
 takes_row f old new seat message made k row adds same is changes came =
@@ -137,13 +138,15 @@ all_taken a xs is =
     sym (append-nil (take a xs)) ∙ ap (λ (l : List KeptTurn). take a xs ++ l) (sym (none_left (drop a xs) is))
     ∙ take-append-drop a xs
 
-pub piece_taken : (f : ℕ) (old mid new : Book) (rows : List KeptTurn) (at last : ℕ) → TakesRows f old mid (take at rows)
+pub piece_taken : (f : ℕ) (old mid new : Book) (rows : List KeptTurn) (at last : ℕ)
+    → TakesRows f old mid (take at rows)
     → TakesPiece f mid new (take piece (drop at rows)) at (Some last) → TakesRows f old new (take last rows)
 piece_taken f old mid new rows at last some next =
     subst (TakesRows f old new) (piece_joined at piece rows ∙ ap (λ (n : ℕ). take n rows) (sym next.0))
     (takes_then f old mid new (take at rows) (take piece (drop at rows)) some next.1)
 
-pub last_taken : (f : ℕ) (old mid new : Book) (rows : List KeptTurn) (at : ℕ) → TakesRows f old mid (take at rows)
+pub last_taken : (f : ℕ) (old mid new : Book) (rows : List KeptTurn) (at : ℕ)
+    → TakesRows f old mid (take at rows)
     → TakesPiece f mid new (take piece (drop at rows)) at None → TakesRows f old new rows
 last_taken f old mid new rows at some next =
     subst (TakesRows f old new)

@@ -31,7 +31,8 @@ same_turn one k f g s turn left row is is' told told' =
     ∙ ap (λ (m : Message). turn_with turn.seat m left.reply) both.1
     ∙ ap (λ (reply : TurnReply). turn_with turn.seat turn.message reply) reply
 
-pub same_turns : (one : OneMessage) (k : Contents) (f g : ℕ) (s : State) (turns left : List Turn) (rows : List KeptTurn)
+pub same_turns : (one : OneMessage) (k : Contents) (f g : ℕ) (s : State) (turns left : List Turn)
+    (rows : List KeptTurn)
     → IsLegalFrom (facts_of k) s turns → IsLegalFrom (facts_of k) s left
     → AreTurnRows k f turns rows → AreTurnRows k g left rows → left ≡ turns
 same_turns one k f g s [] [] rows legal legal' are are' = refl
@@ -49,8 +50,10 @@ same_turns one k f g s (t ∷ ts) (u ∷ us) (row ∷ rows) legal legal' are are
     in ap (λ (x : Turn). x ∷ us) first ∙ ap (λ (xs : List Turn). t ∷ xs) rest
 
 -- a row more
-pub rows_more : (k : Contents) (f : ℕ) (turns : List Turn) (rows : List KeptTurn) (turn : Turn) (row : KeptTurn)
-    → AreTurnRows k f turns rows → IsTurnRow k f turn row → AreTurnRows k f (turns ++ turn ∷ []) (rows ++ row ∷ [])
+pub rows_more : (k : Contents) (f : ℕ) (turns : List Turn) (rows : List KeptTurn) (turn : Turn)
+    (row : KeptTurn)
+    → AreTurnRows k f turns rows → IsTurnRow k f turn row
+    → AreTurnRows k f (turns ++ turn ∷ []) (rows ++ row ∷ [])
 rows_more k f [] [] turn row are is = (is, tt)
 rows_more k f [] (r ∷ rs) turn row are is = absurd are
 rows_more k f (t ∷ ts) [] turn row are is = absurd are

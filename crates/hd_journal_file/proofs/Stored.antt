@@ -13,7 +13,8 @@ IsReadBack = (k : KeptTurn) → read_cells (cells k) ≡ k
 abbrev unstored : Row → KeptTurn
 unstored row = read_cells (drop 2 row)
 
-all_back : (back : IsReadBack) (at : ℕ) (ks : List KeptTurn) → map unstored (numbered_from at (map cells ks)) ≡ ks
+all_back : (back : IsReadBack) (at : ℕ) (ks : List KeptTurn) → map unstored (numbered_from at (map cells ks))
+    ≡ ks
 all_back back at [] = refl
 all_back back at (k ∷ ks) =
     ap (λ (x : KeptTurn). x ∷ map unstored (numbered_from (at + 1) (map cells ks))) (back k)

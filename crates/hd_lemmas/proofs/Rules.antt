@@ -1,13 +1,12 @@
 -- The words of the rules. What the rules' own laws rest on is proved with them, and handed on here.
-use Rattle.std.proofs.Common.{◌≡◌, refl, sym, ◌∙◌, ap, ℕ, ◌==◌, Bool, true, false, cond, List, [], ◌∷◌, ◌++◌}
+use Rattle.std.proofs.Common.{◌≡◌, refl, ℕ, ◌==◌, true, false, cond, List, [], ◌∷◌, ◌++◌}
 use Rattle.std.proofs.lemmas.Bool.{and_parts, eqb-true}
 use Rattle.hd_rules.specs.declared.copies.CopyState.{CopyState}
 use Rattle.hd_rules.specs.declared.copies.CopyState.TheVariants.{Shelf, OnLoan, OnHoldShelf, InTransit}
 use Rattle.hd_rules.specs.declared.copies.HoldPlace.{HoldPlace}
-use Rattle.hd_rules.specs.declared.cells.Cell.{Cell}
 use Rattle.hd_rules.specs.declared.commands.Survivor.{Survivor}
 use Rattle.hd_rules.specs.Facts.{Facts}
-use Rattle.hd_rules.specs.Desk.{Desk, same_cell}
+use Rattle.hd_rules.specs.Desk.{Desk}
 use Rattle.hd_rules.specs.Choose.{stands_at}
 use Rattle.hd_rules.specs.Run.{run_from, step}
 use Rattle.hd_rules.specs.Sound.{IsFit, Sound}
@@ -15,15 +14,16 @@ use Rattle.hd_rules.proofs.Cancelling.{run_from-append}
 -- cells, and what one has after a write
 pub use Rattle.hd_rules.proofs.Undo.{same_cell_is, same_cell_refl, value_fits, copy_inj, hold_inj}
 pub use Rattle.hd_rules.proofs.Undo.{put_same, put_elsewhere, put_alike, after_alike, after_elsewhere}
+pub use Rattle.hd_rules.proofs.Leads.{apart_sym}
 pub use Rattle.hd_rules.proofs.Puts.{copy_cases}
 -- desks that differ by some changes, and go on to do so
 pub use Rattle.hd_rules.proofs.Undo.{EachSame, differ_after}
 -- sound desks, and those that know what they name
 pub use Rattle.hd_rules.proofs.Reach.{later_sound}
 pub use Rattle.hd_rules.proofs.FamiliarTurns.{after_known}
--- the numbers of survivors rise
+-- the numbers of survivors rise, and the next number with them
 pub use Rattle.hd_rules.proofs.Splits.{rising_at, rising_after, rising_later, rising_without}
-pub use Rattle.hd_rules.proofs.Journals.{rising_more}
+pub use Rattle.hd_rules.proofs.Journals.{rising_more, next_more, next_up}
 
 -- a run of one command more
 pub run_from_more : (k : Facts) (d : Desk) (xs : List Survivor) (s : Survivor) → run_from k d (xs ++ s ∷ []) ≡ step k (run_from k d xs) s
@@ -35,14 +35,6 @@ held_at b p (OnHoldShelf r) is = (r, refl, eqb-true r.branch b (and_parts _ _ is
 held_at b p (Shelf x) is = absurd (let no : ⊥ = cc in no)
 held_at b p (OnLoan l) is = absurd (let no : ⊥ = cc in no)
 held_at b p (InTransit t) is = absurd (let no : ⊥ = cc in no)
-
--- a cell is apart from another where that one is apart from it
-pub apart_sym : (x y : Cell) → same_cell x y ≡ false → same_cell y x ≡ false
-apart_sym x y apart = by_test (same_cell y x) refl
-  where
-    by_test : (b : Bool) → same_cell y x ≡ b → b ≡ false
-    by_test false is = refl
-    by_test true is = sym (same_cell_refl x) ∙ ap (same_cell x) (sym (same_cell_is y x is)) ∙ apart
 
 -- another copy has what it had after a write
 pub copy_there : (c x : ℕ) (s v : CopyState) → (c == x) ≡ false → cond (c == x) s v ≡ v

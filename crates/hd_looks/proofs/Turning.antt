@@ -65,7 +65,8 @@ pub one_turn : (turns : List Turn) (after place : ℕ) (turn : Turn) → after �
     ≡ take (place - after) (drop after (turn_rows 1 turns)) ++ turn_row (place + 1) turn ∷ []
 one_turn turns after place turn le is =
     let rows : List Row = drop after (turn_rows 1 turns) in
-    ap (λ (n : ℕ). take n rows) (let more : place + 1 - after ≡ suc (place - after) = omega (arith, le) in more)
+    ap (λ (n : ℕ). take n rows)
+    (let more : place + 1 - after ≡ suc (place - after) = omega (arith, le) in more)
     ∙ turns_more 1 after (place - after) turns turn
     (sym (is ∙ ap (turn_numbered turns)
     (let same : place + 1 ≡ suc (after + (place - after)) = omega (arith, le) in same)))

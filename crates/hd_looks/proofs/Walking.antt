@@ -1,17 +1,12 @@
 -- Copies by rising number.
-use Rattle.std.proofs.Common.{arith, ◌≡◌, ◌∙◌, ap, ℕ, ◌+◌, ◌-◌, ◌≤◌, zero, suc, List, [], ◌∷◌, ◌++◌}
+use Rattle.std.proofs.Common.{arith, ◌≡◌, ◌∙◌, ap, ℕ, ◌+◌, ◌-◌, ◌≤◌, suc, [], ◌∷◌, ◌++◌}
 use Rattle.std.proofs.Common.{filter_map}
 use Rattle.std.specs.List.{range_with_len}
 use Rattle.std.proofs.lemmas.List.Elements.{filter_map-append}
 use Rattle.hd_rules.specs.Desk.{Desk}
+use Rattle.hd_lemmas.proofs.Lists.{range_more}
 use Rattle.hd_looks.specs.declared.topic.CopyList.{CopyList}
 use Rattle.hd_looks.specs.Rows.{copies_on, row_on}
-
-range_more : (a n : ℕ) → range_with_len a (suc n) ≡ range_with_len a n ++ (a + n) ∷ []
-range_more a zero = ap (λ (m : ℕ). m ∷ []) (let same : a ≡ a + 0 = omega arith in same)
-range_more a (suc n) = ap (λ (ms : List ℕ). a ∷ ms) (range_more (a + 1) n
-    ∙ ap (λ (m : ℕ). range_with_len (a + 1) n ++ m ∷ [])
-    (let same : (a + 1) + n ≡ a + suc n = omega arith in same))
 
 -- no copy was looked at
 pub no_copies : (d : Desk) (which : CopyList) (first end : ℕ) → end ≤ first → copies_on d which first end ≡ []

@@ -1,6 +1,6 @@
 -- Days as eight digits.
 use Rattle.std.proofs.Common.{◌≡◌, ℕ, ◌+◌, ◌/◌, ◌%◌, ◌<◌, ◌≤◌, Bool, true, false, List, [], ◌∷◌, length, slice_index, codes}
-use Rattle.std.proofs.Common.{zero, suc, if◌then◌else◌, All, ℤ, pos, ◌-ℤ◌, unsigned_abs, Option, None, Some, refl, sym, ap, subst, ◌∙◌, arith}
+use Rattle.std.proofs.Common.{zero, suc, All, ℤ, pos, ◌-ℤ◌, unsigned_abs, None, Some, refl, sym, ap, subst, ◌∙◌, arith}
 use Rattle.std.specs.Prelude.{slice_range, nat_lt, ◌&&◌, ◌==◌}
 use Rattle.std.specs.List.{list_all}
 use Rattle.std.proofs.lemmas.Bool.Decides.{nat_tests}
@@ -12,8 +12,8 @@ use Rattle.hd_date.specs.Faults.{IsFirstFault}
 use Rattle.hd_date.specs.Stamps.{HasDigits, IsDigit, IsInYears, IsLocal, IsOwnPrint, IsStamp, Prints, Stamp, local_moment, numbers_in}
 use Rattle.hd_date.specs.declared.fault.DateFault.{DateFault}
 use Rattle.hd_date.specs.declared.fault.DateFault.TheVariants.{Length, Digits, Zone, Calendar, Range}
-use Rattle.std.proofs.lemmas.Option.{none-some, same_Some}
-use Rattle.hd_lemmas.proofs.Options.{no_number}
+use Rattle.std.proofs.lemmas.Option.{same_Some}
+use Rattle.hd_lemmas.proofs.Options.{no_number, some_if}
 use Rattle.hd_opening.specs.Days.{IsDayText, day_number, day_on, day_written, is_date, midnight_text}
 use Rattle.hd_catalogue.specs.Text.{is_digit, number_written}
 
@@ -131,15 +131,11 @@ day_shown own text moment offset stamp day is size shows same =
     let print = own (midnight_text text) (midnight_local text) offset stamp here in
     day_read stamp.day text (day_of_print text stamp size here.day print) ∙ ap Some (sym same)
 
--- what eight digits write is a day of the calendar
-some_if : {A : Type 0} (t : Bool) (x : Option A) (n : A) → (if t then x else None) ≡ Some n → (t ≡ true) × (x ≡ Some n)
-some_if true x n h = (refl, h)
-some_if false x n h = absurd (none-some n h)
-
 both_true : (a b : Bool) → (a && b) ≡ true → (a ≡ true) × (b ≡ true)
 both_true true b h = (refl, h)
 both_true false b h = cc
 
+-- what eight digits write is a day of the calendar
 pub record Writes (text : List ℕ) (number : ℕ) : Type 0 where
   pub digits : list_all is_digit text ≡ true
   pub date : is_date (number_written (slice_range text 0 4)) (number_written (slice_range text 4 6)) (number_written (slice_range text 6 8)) ≡ true

@@ -13,6 +13,7 @@ use Rattle.hd_rules.specs.declared.holds.HoldKind.{HoldKind}
 use Rattle.hd_catalogue.specs.Contents.{Contents, OpeningRows}
 use Rattle.hd_catalogue.specs.Text.{as_four, as_three, as_two, is_decimal, number_to, number_written, values_of}
 use Rattle.hd_lemmas.proofs.Lists.{head_same, tail_same}
+use Rattle.hd_lemmas.proofs.Options.{some_if}
 use Rattle.hd_opening.specs.Files.{AreInLimits, Tells}
 use Rattle.hd_opening.specs.Limits.{IsInLimits}
 use Rattle.hd_opening.specs.Lines.{HoldValues, as_hold, first_said, first_values_said, from_one, heading_said, hold_names, hold_said, is_digest, kept_said, last_said, loan_said, named, row_said, said, sent_said, shelf_said, transit_said, values_said}
@@ -32,10 +33,6 @@ fine x = Ok x
 
 ok_same : {A : Type 0} {x y : A} → fine x ≡ fine y → x ≡ y
 ok_same e = cc
-
-some_if : {A : Type 0} (t : Bool) (x : Option A) (n : A) → (if t then x else None) ≡ Some n → (t ≡ true) × (x ≡ Some n)
-some_if true x n h = (refl, h)
-some_if false x n h = absurd (none-some n h)
 
 -- of two ways one was gone
 if_in : {A P : Type 0} (t : Bool) (x y : Result A OpeningCause) (r : A) → (x ≡ Ok r → P) → (y ≡ Ok r → P) → (if t then x else y) ≡ Ok r → P

@@ -1,46 +1,14 @@
 -- Files and their lines.
-use Rattle.std.proofs.Common.{Option, ◌≡◌, ℕ, ◌+◌, ◌⊎◌, None, Some, List, [], ◌∷◌, ◌++◌, length, refl, sym, ap, subst, ◌∙◌}
+use Rattle.std.proofs.Common.{Option, ◌≡◌, ℕ, ◌+◌, None, Some, List, [], ◌∷◌, ◌++◌, length, refl, sym, ap, subst, ◌∙◌}
 use Rattle.std.proofs.Common.{inl, inr}
 use Rattle.hd_catalogue.specs.Contents.{Contents}
 use Rattle.hd_catalogue.specs.Reading.{Names}
 use Rattle.hd_catalogue.specs.declared.cause.Cause.{Cause}
 use Rattle.hd_catalogue.specs.declared.cause.Cause.TheVariants.{Memory}
-use Rattle.hd_lemmas.proofs.Lists.{head_same, tail_same}
+use Rattle.hd_lemmas.proofs.Lists.{last_or, nil_split, split_cases, tail_same}
 use Rattle.hd_patrons.specs.Files.{EachPasses, IsAccepted, IsFirstBad, cause_of, said_of}
 use Rattle.hd_patrons.specs.Stored.{Stored, texts_of}
 use Rattle.hd_patrons.specs.declared.fault.PatronsFault.{PatronsFault}
-
-nil_split : {A : Type 0} (before : List A) (x : A) (after : List A) → [] ≡ before ++ x ∷ after → ⊥
-nil_split [] x after e = cc
-nil_split (b ∷ bs) x after e = cc
-
--- a line of a list with one more is one of the list, or the one more
-last_or : (all : List (List ℕ)) (line : List ℕ) (before : List (List ℕ)) (x : List ℕ) (after : List (List ℕ))
-    → all ++ line ∷ [] ≡ before ++ x ∷ after →
-    ((rest : List (List ℕ)) × (all ≡ before ++ x ∷ rest)) ⊎ ((all ≡ before) × (line ≡ x))
-last_or [] line [] x after e = inr (refl, head_same e)
-last_or [] line (b ∷ bs) x after e = absurd (nil_split bs x after (tail_same e))
-last_or (a ∷ rest) line [] x after e = inl (rest, ap (λ y. y ∷ rest) (head_same e))
-last_or (a ∷ rest) line (b ∷ bs) x after e =
-    let first : a ≡ b = head_same e in
-    elim (last_or rest line bs x after (tail_same e)) [
-      | inl more ↦ inl (more.0, rw first (ap (λ ys. b ∷ ys) more.1))
-      | inr last ↦ inr (rw first (ap (λ ys. b ∷ ys) last.0), last.1)
-    ]
-
--- of two places in a list one is earlier, or they are one
-split_cases : (b c : List (List ℕ)) (x y : List ℕ) (d e : List (List ℕ)) → b ++ x ∷ d ≡ c ++ y ∷ e →
-    ((rest : List (List ℕ)) × (c ≡ b ++ x ∷ rest)) ⊎ (((rest : List (List ℕ)) × (b ≡ c ++ y ∷ rest)) ⊎ ((b ≡ c) × (x ≡ y)))
-split_cases [] [] x y d e h = inr (inr (refl, head_same h))
-split_cases [] (z ∷ c) x y d e h = inl (c, ap (λ w. w ∷ c) (sym (head_same h)))
-split_cases (z ∷ b) [] x y d e h = inr (inl (b, ap (λ w. w ∷ b) (head_same h)))
-split_cases (z ∷ b) (w ∷ c) x y d e h =
-    let same : z ≡ w = head_same h in
-    elim (split_cases b c x y d e (tail_same h)) [
-      | inl more ↦ inl (more.0, rw same (ap (λ l. w ∷ l) more.1))
-      | inr (inl more) ↦ inr (inl (more.0, rw same (ap (λ l. w ∷ l) more.1)))
-      | inr (inr is) ↦ inr (inr (rw same (ap (λ l. w ∷ l) is.0), is.1))
-    ]
 
 own_cause : (cause : Option Cause) (named : Cause) → Names cause named → ¬ (named ≡ Memory) → cause ≡ Some named
 own_cause cause named (inl is) h = is

@@ -1,6 +1,5 @@
 -- Lines one after another.
 use Rattle.std.proofs.Common.{◌≡◌, refl, sym, ◌∙◌, ap, subst, ℕ, ◌+◌, ◌==◌, Bool, true, false, not, ◌||◌, cond, is_some, is_none, Option, Some, None}
-use Rattle.std.proofs.Common.{Result, Ok, Err, OnOk, is_err}
 use Rattle.std.proofs.Common.{List, [], ◌∷◌, ◌++◌, length, append_assoc, append-nil, length-append, arith, eqb-true}
 use Rattle.hd_catalogue.specs.Contents.{Contents, patron_number}
 use Rattle.hd_catalogue.specs.Reading.{Names}
@@ -88,11 +87,6 @@ not_told stored p = by_texts (texts_of stored p)
     by_texts : (o : Option PatronTexts) → is_some o ≡ false → o ≡ None
     by_texts None is = refl
     by_texts (Some texts) is = cc
-
--- what is so of a success
-pub when_ok : {A B : Type 0} (r : Result A B) (P : Type 0) → OnOk r P → is_err r ≡ false → P
-when_ok (Ok x) P h is = h
-when_ok (Err x) P h is = cc
 
 pub no_heading : (line : List ℕ) → is_heading line ≡ false → heading_cause line ≡ Some Header
 no_heading line is = rw is refl

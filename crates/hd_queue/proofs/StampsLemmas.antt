@@ -1,16 +1,17 @@
 -- The stamps of the holds of a title, by patron, and the holds that stand at their places.
-use Rattle.std.proofs.Common.{◌≡◌, ℕ, ◌+◌, ◌<◌, Bool, true, false, cond, ◌==◌, List, [], ◌∷◌, Option, None, Some, IsSome, Bor}
-use Rattle.std.proofs.Common.{refl, ap, sym, subst, ◌∙◌, inl, inr, arith, length, get_or, true≢false}
-use Rattle.std.specs.Prelude.{◌≤◌, ◌||◌, IfSome, option_map, slice_get}
-use Rattle.std.specs.Option.{option_copied, option_map_or}
+use Rattle.std.proofs.Common.{◌≡◌, ℕ, ◌+◌, Bool, true, false, cond, ◌==◌, List, [], ◌∷◌, Option, None}
+use Rattle.std.proofs.Common.{Some}
+use Rattle.std.proofs.Common.{refl, ap, sym, subst, ◌∙◌, inl, inr, arith}
+use Rattle.std.specs.Prelude.{◌≤◌, ◌||◌, option_map, slice_get}
+use Rattle.std.specs.Option.{option_map_or}
 use Rattle.std.proofs.lemmas.Bool.Decides.{nat_tests}
 use Rattle.std.proofs.lemmas.Bool.{cases_Bool, cases_lt}
 use Rattle.std.proofs.lemmas.Grind.{common_steps}
-use Rattle.std.proofs.lemmas.Option.{get_or_from_slice_get, slice_get_past, slice_get_read, slice_get_within}
 use Rattle.hd_rules.specs.declared.holds.Hold.{Hold}
 use Rattle.hd_queue.specs.Holds.{AllAfter, IsInOrder, count_before, has_stamp, hold_of, with_hold, without}
 use Rattle.hd_queue.specs.StampsValue.{StampsValue, stamp_of}
-use Rattle.hd_queue.proofs.HoldsLemmas.{AllAfter-hold_of, count_before-after, count_before-first, count_before-less, hold_of-first, hold_of-later, hold_of-with_hold}
+use Rattle.hd_queue.proofs.HoldsLemmas.{AllAfter-hold_of, count_before-after, count_before-first}
+use Rattle.hd_queue.proofs.HoldsLemmas.{count_before-less, hold_of-first, hold_of-later, hold_of-with_hold}
 
 -- the hold that stands at the place of its stamp
 
@@ -36,55 +37,51 @@ at_stamp (h ∷ hs) patron x o e = elim (cases_Bool (h.patron == patron)) [
       in slice_get-later h hs _ _ at ∙ at_stamp hs patron x o.1 later
 ]
 
+-- a patron's hold has its stamp
+pub hold_has_stamp : (hs : List Hold) (patron : ℕ) (x : Hold) → hold_of hs patron ≡ Some x
+    → has_stamp hs x.stamp ≡ true
+hold_has_stamp [] patron x e = absurd (cc e)
+hold_has_stamp (h ∷ hs) patron x e = elim (cases_Bool (h.patron == patron)) [
+  | inl t ↦
+      let same : h ≡ x = hold_of-first h x hs patron t e in
+      subst (λ (k : Hold). has_stamp (h ∷ hs) k.stamp ≡ true) same (grind (arith, nat_tests))
+  | inr t ↦ grind (arith, nat_tests, hold_has_stamp hs patron x (hold_of-later h x hs patron t e))
+]
+
 -- whether a hold has a stamp is seen at the place of that stamp
 
-no_stamp-after : (s t : ℕ) (hs : List Hold) → AllAfter s hs → t ≤ s → has_stamp hs t ≡ false
+pub no_stamp-after : (s t : ℕ) (hs : List Hold) → AllAfter s hs → t ≤ s → has_stamp hs t ≡ false
 no_stamp-after s t [] a l = refl
 no_stamp-after s t (h ∷ hs) a l = grind (arith, nat_tests, no_stamp-after s t hs a.1 l, a.0)
 
 pub stamp_there : (hs : List Hold) (stamp : ℕ) → IsInOrder hs →
-    has_stamp hs stamp ≡ option_map_or (λ (h : Hold). h.stamp == stamp) (slice_get hs (count_before hs stamp)) false
+    has_stamp hs stamp ≡ option_map_or (λ (h : Hold). h.stamp == stamp) (slice_get hs (count_before hs stamp))
+    false
 stamp_there [] stamp o = refl
 stamp_there (h ∷ hs) stamp o = elim (cases_lt h.stamp stamp) [
   | inl l ↦
       let at : count_before (h ∷ hs) stamp ≡ count_before hs stamp + 1 = count_before-less h hs stamp l
       in let other : (h.stamp == stamp) ≡ false = grind (arith, nat_tests, l)
       in rw other (stamp_there hs stamp o.1
-      ∙ ap (λ (x : Option Hold). option_map_or (λ (y : Hold). y.stamp == stamp) x false) (sym (slice_get-later h hs _ _ at)))
+      ∙ ap (λ (x : Option Hold). option_map_or (λ (y : Hold). y.stamp == stamp) x false)
+      (sym (slice_get-later h hs _ _ at)))
   | inr l ↦
-      let none : count_before (h ∷ hs) stamp ≡ 0 = grind (arith, nat_tests, count_before-after h.stamp stamp hs o.0 l)
+      let none : count_before (h ∷ hs) stamp
+      ≡ 0 = grind (arith, nat_tests, count_before-after h.stamp stamp hs o.0 l)
       in let later : has_stamp hs stamp ≡ false = no_stamp-after h.stamp stamp hs o.0 l
       in rw later (or-false (h.stamp == stamp)
-      ∙ ap (λ (x : Option Hold). option_map_or (λ (y : Hold). y.stamp == stamp) x false) (sym (slice_get-first h hs _ none)))
+      ∙ ap (λ (x : Option Hold). option_map_or (λ (y : Hold). y.stamp == stamp) x false)
+      (sym (slice_get-first h hs _ none)))
 ]
   where
     or-false : (b : Bool) → (b || false) ≡ b
     or-false true = refl
     or-false false = refl
 
-pub told_here : (hs : List Hold) (stamp n i : ℕ) (h : Hold) → IsInOrder hs → i ≡ count_before hs stamp → n ≡ length hs → i < n →
-    h ≡ get_or hs i h → (h.stamp == stamp) ≡ has_stamp hs stamp
-told_here hs stamp n i h o place long within is =
-    ap (λ (x : Option Hold). option_map_or (λ (y : Hold). y.stamp == stamp) x false) (sym (slice_get_read hs n i h long within is)
-    ∙ ap (slice_get hs) place)
-    ∙ sym (stamp_there hs stamp o)
-
-pub told_past : (hs : List Hold) (stamp i : ℕ) → IsInOrder hs → i ≡ count_before hs stamp → (i < length hs → false ≡ true) →
-    false ≡ has_stamp hs stamp
-told_past hs stamp i o place never =
-    let past : length hs ≤ i = elim (cases_lt i (length hs)) [ inl l ↦ absurd (true≢false (sym (never l))) | inr l ↦ l ] in
-    ap (λ (x : Option Hold). option_map_or (λ (y : Hold). y.stamp == stamp) x false) (sym (slice_get_past hs i past) ∙ ap (slice_get hs) place)
-    ∙ sym (stamp_there hs stamp o)
-
--- what is read at a place is what stands there
-pub read_at : (hs : List Hold) (i : ℕ) (x : Hold) (r : Option (Bor Hold)) → slice_get hs i ≡ Some x → (i < length hs → IsSome r) →
-    IfSome r (λ (b : Bor Hold). b.now ≡ get_or hs i b.now) → option_copied r ≡ Some x
-read_at hs i x None e some is = absurd (true≢false (sym (some (slice_get_within hs i x e))))
-read_at hs i x (Some b) e some is = ap Some (is ∙ get_or_from_slice_get hs i x b.now e)
-
 -- the stamp of the patron's hold, in each of two cases
 option_map-stamp : (b : Bool) (o p : Option Hold) →
-    option_map (λ (h : Hold). h.stamp) (cond b o p) ≡ cond b (option_map (λ (h : Hold). h.stamp) o) (option_map (λ (h : Hold). h.stamp) p)
+    option_map (λ (h : Hold). h.stamp) (cond b o p)
+    ≡ cond b (option_map (λ (h : Hold). h.stamp) o) (option_map (λ (h : Hold). h.stamp) p)
 option_map-stamp true o p = refl
 option_map-stamp false o p = refl
 
@@ -94,11 +91,13 @@ pub stamped-with_hold : (old new : StampsValue) (hs : List Hold) (x : Hold) → 
     ((p : ℕ) → stamp_of new p ≡ cond (x.patron == p) (Some x.stamp) (stamp_of old p)) →
     (p : ℕ) → stamp_of new p ≡ option_map (λ h. h.stamp) (hold_of (with_hold hs x) p)
 stamped-with_hold old new hs x none was is p =
-    is p ∙ ap (cond (x.patron == p) (Some x.stamp)) (was p) ∙ sym (option_map-stamp (x.patron == p) (Some x) (hold_of hs p))
+    is p ∙ ap (cond (x.patron == p) (Some x.stamp)) (was p)
+    ∙ sym (option_map-stamp (x.patron == p) (Some x) (hold_of hs p))
     ∙ ap (option_map (λ (h : Hold). h.stamp)) (sym (hold_of-with_hold hs x p none))
 
 -- taking a hold out
-hold_of-without : (hs : List Hold) (patron p : ℕ) → hold_of (without hs patron) p ≡ cond (patron == p) None (hold_of hs p)
+hold_of-without : (hs : List Hold) (patron p : ℕ) → hold_of (without hs patron) p
+    ≡ cond (patron == p) None (hold_of hs p)
 hold_of-without [] patron p = elim (cases_Bool (patron == p)) [ inl t ↦ rw t | inr t ↦ rw t ]
 hold_of-without (h ∷ hs) patron p = grind (arith, nat_tests, common_steps, hold_of-without hs patron p)
 

@@ -1,5 +1,5 @@
 -- Lists of the holds of one title.
-use Rattle.std.specs.Prelude.{◌≡◌, ◌≢◌, ℕ, ◌<◌, Bool, true, false, not, ◌||◌, ◌==◌, nat_lt, if◌then◌else◌}
+use Rattle.std.specs.Prelude.{◌≡◌, ◌≢◌, ℕ, ◌<◌, Bool, false, not, ◌||◌, ◌==◌, nat_lt, if◌then◌else◌}
 use Rattle.std.specs.Prelude.{List, [], ◌∷◌, Option, None, find, filter, count_by}
 use Rattle.hd_rules.specs.declared.holds.Hold.{Hold}
 
@@ -15,11 +15,10 @@ without holds patron = filter (λ h. not (h.patron == patron)) holds
 abbrev pub count_before : List Hold → ℕ → ℕ
 count_before holds stamp = count_by (λ h. nat_lt h.stamp stamp) holds
 
--- whether the last hold has a smaller stamp, and in order so all
-abbrev pub ends_before : ℕ → List Hold → Bool
-ends_before stamp [] = true
-ends_before stamp (h ∷ []) = nat_lt h.stamp stamp
-ends_before stamp (h ∷ next ∷ hs) = ends_before stamp (next ∷ hs)
+-- whether the first hold has this stamp or a smaller one
+abbrev pub begins_by : ℕ → List Hold → Bool
+begins_by stamp [] = false
+begins_by stamp (h ∷ hs) = not (nat_lt stamp h.stamp)
 
 -- each hold has a greater stamp
 abbrev pub AllAfter : ℕ → List Hold → Type 0

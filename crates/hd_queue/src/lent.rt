@@ -1,43 +1,48 @@
 //! A list of holds, lent.
-ghost use Rattle.std.specs.Prelude.{◌≡◌, ◌++◌, All};
+ghost use Rattle.std.specs.Prelude.{◌≡◌, ◌≤◌, ◌++◌, All, filter, length};
 ghost use Rattle.std.specs.Option.{option_copied};
 ghost use Rattle.std.specs.Iterator.{YieldsFirstRef, item_count};
 ghost use Rattle.hd_blocks.specs.Blocks.{all_items};
-ghost use Rattle.hd_pieces.specs.Pieces.{has_some};
+ghost use Rattle.hd_chunks.specs.Chunks.{has_some};
 ghost use Rattle.hd_queue.specs.Holds.{hold_of};
+ghost use Rattle.hd_queue.specs.Wanted.{is_picked_up_at};
 
-use hd_pieces::Piece;
-use hd_rules::{Hold, PatronNo};
+use crate::pickup::ByPickup;
+use hd_chunks::Chunk;
+use hd_rules::{BranchNo, Hold, PatronNo};
 use std::alloc::{Allocator, Global};
 use std::marker::Model;
 
-/// The holds of a list, lent, from first to last. They stand in pieces, so they come slice by slice.
+/// The holds of a list, lent, from first to last. They stand in chunks, so they come slice by slice.
 #[derive(Drop)]
 pub struct HoldSlices<'a, A: Allocator = Global> {
     front: &'a [Hold],
-    pieces: &'a [Piece<Hold, A>],
+    chunks: &'a [Chunk<Hold, ByPickup, A>],
 }
 
 impl<'a, A: Allocator> Model for HoldSlices<'a, A> {
     ghost use Rattle.std.specs.Prelude.{◌++◌, All, List};
     ghost use Rattle.hd_blocks.specs.Blocks.{all_items};
-    ghost use Rattle.hd_pieces.specs.Pieces.{has_some};
+    ghost use Rattle.hd_chunks.specs.Chunks.{has_some};
     ghost use Rattle.hd_rules.specs.declared.holds.Hold.{Hold};
 
     ghost Value = { List Hold };
 
-    ghost view = { λ s. s.front.now ++ all_items s.pieces.now };
+    ghost view = { λ s. s.front.now ++ all_items s.chunks.now };
 
-    ghost invariant = { λ s. All has_some s.pieces.now };
+    ghost invariant = { λ s. All has_some s.chunks.now };
 }
 
 impl<'a, A: Allocator> HoldSlices<'a, A> {
-    /// The list of these holds, and then of those of the pieces.
-    pub(crate) fn new(front: &'a [Hold], pieces: &'a [Piece<Hold, A>]) -> HoldSlices<'a, A>
-        requires { All has_some pieces.now }
-        ensures { result ≡ front.now ++ all_items pieces.now }
+    /// The list of these holds, and then of those of the chunks.
+    pub(crate) fn new(
+        front: &'a [Hold],
+        chunks: &'a [Chunk<Hold, ByPickup, A>],
+    ) -> HoldSlices<'a, A>
+        requires { All has_some chunks.now }
+        ensures { result ≡ front.now ++ all_items chunks.now }
     {
-        HoldSlices { front, pieces }
+        HoldSlices { front, chunks }
     }
 
     /// The same holds once more.
@@ -46,7 +51,24 @@ impl<'a, A: Allocator> HoldSlices<'a, A> {
     {
         HoldSlices {
             front: self.front,
-            pieces: self.pieces,
+            chunks: self.chunks,
+        }
+    }
+
+    /// Leaves out the chunks to come, as far as one that may have a hold of this pickup, where no hold stands
+    /// before them.
+    pub(crate) fn pass_over(&mut self, pickup: BranchNo)
+        ensures kept { filter (is_picked_up_at pickup) self.new ≡ filter (is_picked_up_at pickup) self.old }
+        ensures shorter { length self.new ≤ length self.old }
+    {
+        if !self.front.is_empty() {
+            return;
+        }
+        while let Some((chunk, others)) = self.chunks.split_first() {
+            if chunk.may_have(ByPickup::mark_of(pickup)) {
+                return;
+            }
+            self.chunks = others;
         }
     }
 
@@ -75,10 +97,10 @@ impl<'a, A: Allocator> Iterator for HoldSlices<'a, A> {
             self.front = others;
             return Some(first);
         }
-        let (piece, pieces) = self.pieces.split_first()?;
-        let (first, others) = piece.items().split_first()?;
+        let (chunk, chunks) = self.chunks.split_first()?;
+        let (first, others) = chunk.items().split_first()?;
         self.front = others;
-        self.pieces = pieces;
+        self.chunks = chunks;
         Some(first)
     }
 }

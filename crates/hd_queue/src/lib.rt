@@ -4,6 +4,7 @@
 mod laws;
 mod lent;
 mod list;
+mod pickup;
 mod queue;
 mod stamps;
 mod view;

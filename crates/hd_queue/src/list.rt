@@ -1,35 +1,39 @@
 //! Holds as one list in order of stamp.
-ghost use Rattle.std.specs.Prelude.{◌≡◌, ℕ, ◌+◌, ◌<◌, ◌≤◌, ◌^◌, ◌++◌, [], All, None, Some, OnErr, OnOk};
-ghost use Rattle.std.specs.Prelude.{length};
+ghost use Rattle.std.specs.Prelude.{◌≡◌, ℕ, ◌+◌, ◌<◌, ◌≤◌, ◌^◌, [], All, None, Some, OnErr, OnOk};
+ghost use Rattle.std.specs.Prelude.{false, length, true};
+ghost use Rattle.std.specs.List.Sorted.{IsPartitionPoint};
 ghost use Rattle.hd_blocks.specs.Blocks.{all_items};
-ghost use Rattle.hd_pieces.specs.Pieces.{has_some};
+ghost use Rattle.hd_chunks.specs.Chunks.{has_some, items_of};
 ghost use Rattle.hd_rules.specs.declared.holds.Hold.{Hold};
-ghost use Rattle.hd_queue.specs.Holds.{HasNoStamp, HasPatronsOnce, IsInOrder, count_before, ends_before};
+ghost use Rattle.hd_queue.specs.Holds.{HasNoStamp, HasPatronsOnce, IsInOrder, begins_by, count_before};
 ghost use Rattle.hd_queue.specs.Holds.{has_stamp, hold_of, with_hold, without};
+ghost use Rattle.hd_queue.specs.Places.{IsPlaceOf};
 
 use crate::lent::HoldSlices;
-use hd_pieces::{Piece, PieceList, items_in};
+use crate::pickup::ByPickup;
+use hd_chunks::{Chunk, ChunkList, Place};
 use hd_rules::Hold;
 use std::alloc::{AllocError, Allocator};
 use std::marker::Model;
 
 /// Holds of one title, at most one a patron, in order of stamp.
 ///
-/// They stand in pieces, so that a hold is put or taken by moving only those of its own piece.
+/// They stand in chunks, so that a hold is put or taken by moving only those of its own chunk.
 #[derive(Drop)]
 pub(crate) struct HoldList<A: Allocator> {
-    list: PieceList<Hold, A>,
+    list: ChunkList<Hold, ByPickup, A>,
 }
 
 impl<A: Allocator> Model for HoldList<A> {
+    ghost use Rattle.hd_chunks.specs.Chunks.{items_of};
     ghost use Rattle.hd_queue.specs.QueueValue.{QueueValue};
     ghost use Rattle.hd_queue.specs.Holds.{IsInOrder, HasPatronsOnce};
 
     ghost Value = { QueueValue };
 
-    ghost view = { λ l. record { holds = l.list.items; room = l.list.room } };
+    ghost view = { λ l. record { holds = items_of l.list; room = l.list.room } };
 
-    ghost invariant = { λ l. IsInOrder l.list.items × HasPatronsOnce l.list.items };
+    ghost invariant = { λ l. IsInOrder (items_of l.list) × HasPatronsOnce (items_of l.list) };
 }
 
 impl<A: Allocator + Copy> HoldList<A> {
@@ -38,7 +42,7 @@ impl<A: Allocator + Copy> HoldList<A> {
         ensures { result.holds ≡ [] }
     {
         HoldList {
-            list: PieceList::new(alloc),
+            list: ChunkList::new(alloc),
         }
     }
 
@@ -64,7 +68,7 @@ impl<A: Allocator> HoldList<A> {
         ensures room { self.old.room ≤ self.new.room + 1 }
         ensures ordered { IsInOrder self.old.holds }
     {
-        let at = number_before(&self.list, hold.stamp);
+        let at = place_of(&self.list, hold.stamp);
         self.list.insert(at, hold);
     }
 
@@ -75,7 +79,7 @@ impl<A: Allocator> HoldList<A> {
         ensures room { self.old.room ≤ self.new.room }
         ensures once { HasPatronsOnce self.old.holds }
     {
-        let at = number_before(&self.list, hold.stamp);
+        let at = place_of(&self.list, hold.stamp);
         self.list.remove(at);
     }
 
@@ -84,7 +88,7 @@ impl<A: Allocator> HoldList<A> {
         ensures { (patron : ℕ) (hold : Hold) → hold_of self.now.holds patron ≡ Some hold
             → hold.stamp ≡ stamp → result ≡ Some hold }
     {
-        let at = number_before(&self.list, stamp);
+        let at = place_of(&self.list, stamp);
         self.list.get(at).copied()
     }
 
@@ -92,7 +96,7 @@ impl<A: Allocator> HoldList<A> {
     pub(crate) fn has_stamp(&self, stamp: u64) -> bool
         ensures { result ≡ has_stamp self.now.holds stamp }
     {
-        let at = number_before(&self.list, stamp);
+        let at = place_of(&self.list, stamp);
         match self.list.get(at) {
             Some(hold) => hold.stamp == stamp,
             None => false,
@@ -105,7 +109,7 @@ impl<A: Allocator> HoldList<A> {
         ensures within { result ≤ length self.now.holds }
         ensures fits { result < 2 ^ 63 }
     {
-        number_before(&self.list, stamp)
+        self.list.items_before(place_of(&self.list, stamp))
     }
 
     /// How many holds there are.
@@ -126,33 +130,27 @@ impl<A: Allocator> HoldList<A> {
     }
 }
 
-/// How many holds have a smaller stamp. They are found by halving.
-#[tactic(auto, using(crate::proofs::PiecesLemmas::count_over_both, crate::proofs::PiecesLemmas::first_in_order, crate::proofs::PiecesLemmas::others_in_order))]
-fn number_before<A: Allocator>(list: &PieceList<Hold, A>, stamp: u64) -> usize
-    requires { IsInOrder list.now.items }
-    ensures count { result ≡ count_before list.now.items stamp }
-    ensures within { result ≤ length list.now.items }
-    ensures fits { result < 2 ^ 63 }
+/// The place of a stamp, found by halving: behind all holds with a smaller one, in the chunk that has its
+/// hold, if there is one.
+fn place_of<A: Allocator>(list: &ChunkList<Hold, ByPickup, A>, stamp: u64) -> Place
+    requires { IsInOrder (items_of list.now) }
+    ensures { IsPlaceOf list.now.chunks stamp result }
 {
-    let (first, others) = list.parts();
-    before_in(first, stamp) + before_in_pieces(others, stamp)
+    let (_, others) = list.parts();
+    let chunk = chunk_of(others, stamp);
+    let offset = before_in(list.chunk(chunk), stamp);
+    Place { chunk, offset }
 }
 
-/// How many holds of the pieces have a smaller stamp: those of the pieces that end before it, and some of the
-/// next piece.
-fn before_in_pieces<A: Allocator>(pieces: &[Piece<Hold, A>], stamp: u64) -> usize
-    requires ordered { IsInOrder (all_items pieces.now) }
-    requires some { All has_some pieces.now }
-    requires fits { length (all_items pieces.now) < 2 ^ 63 }
-    ensures count { result ≡ count_before (all_items pieces.now) stamp }
-    ensures within { result ≤ length (all_items pieces.now) }
+/// How many of the chunks begin by the stamp. They stand before the others.
+fn chunk_of<A: Allocator>(chunks: &[Chunk<Hold, ByPickup, A>], stamp: u64) -> usize
+    requires ordered { IsInOrder (all_items chunks.now) }
+    requires some { All has_some chunks.now }
+    ensures within { result ≤ length chunks.now }
+    ensures point { IsPartitionPoint (λ chunk. begins_by stamp chunk ≡ true)
+        (λ chunk. begins_by stamp chunk ≡ false) chunks.now result }
 {
-    let number = pieces.partition_point(|piece| ends_before(piece.items(), stamp));
-    let (passed, rest) = pieces.split_at(number);
-    match rest.first() {
-        Some(piece) => items_in(passed) + before_in(piece.items(), stamp),
-        None => items_in(passed),
-    }
+    chunks.partition_point(|chunk| begins_by(chunk.items(), stamp))
 }
 
 /// How many holds of the slice have a smaller stamp.
@@ -164,12 +162,12 @@ fn before_in(holds: &[Hold], stamp: u64) -> usize
     holds.partition_point(|hold| hold.stamp < stamp)
 }
 
-/// Whether all holds of the slice, in order, have a smaller stamp: the last one has.
-fn ends_before(holds: &[Hold], stamp: u64) -> bool
-    ensures { result ≡ ends_before stamp holds.now }
+/// Whether the first hold of the slice has this stamp or a smaller one.
+fn begins_by(holds: &[Hold], stamp: u64) -> bool
+    ensures { result ≡ begins_by stamp holds.now }
 {
-    match holds.last() {
-        Some(hold) => hold.stamp < stamp,
-        None => true,
+    match holds.first() {
+        Some(hold) => hold.stamp <= stamp,
+        None => false,
     }
 }

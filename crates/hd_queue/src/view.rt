@@ -1,10 +1,11 @@
 //! The holds of a queue, lent, and going over those that wait.
-ghost use Rattle.std.specs.Prelude.{◌≡◌, filter};
+ghost use Rattle.std.specs.Prelude.{◌≡◌, ◌≤◌, filter, length};
 ghost use Rattle.std.specs.Iterator.{YieldsFirstRef, item_count};
 ghost use Rattle.std.specs.Option.{option_copied};
 ghost use Rattle.hd_queue.specs.Holds.{HasPatronsOnce, IsInOrder, hold_of};
 ghost use Rattle.hd_queue.specs.Waiting.{AreWaiting, waits_at, waits_for, waits_for_any};
-ghost use Rattle.hd_queue.specs.Wanted.{wants_hold};
+ghost use Rattle.hd_queue.specs.Wanted.{is_picked_up_at, wants_at};
+ghost use Rattle.hd_queue.specs.declared.wanted.Wanted.{Wanted};
 
 use crate::lent::HoldSlices;
 use crate::wanted::Wanted;
@@ -77,21 +78,35 @@ impl<'a, A: Allocator> QueueView<'a, A> {
         ensures ordered { IsInOrder self.now }
         ensures once { HasPatronsOnce self.now }
     {
-        Waiting::new(&self.for_any, Wanted::All)
+        Waiting::new(&self.for_any, Wanted::All, None)
+    }
+
+    /// The holds that wait for any copy and whose pickup is this branch, in order of stamp.
+    pub fn any_at(&self, branch: BranchNo) -> Waiting<'a, A>
+        ensures { result ≡ filter (is_picked_up_at branch) (filter waits_for_any self.now) }
+    {
+        Waiting::new(&self.for_any, Wanted::All, Some(branch))
     }
 
     /// The holds that wait for this copy alone, in order of stamp.
     pub fn for_copy(&self, copy: CopyNo) -> Waiting<'a, A>
         ensures { result ≡ filter (waits_for copy) self.now }
     {
-        Waiting::new(&self.for_one, Wanted::Naming(copy))
+        Waiting::new(&self.for_one, Wanted::Naming(copy), None)
+    }
+
+    /// The holds that wait for this copy alone and whose pickup is this branch, in order of stamp.
+    pub fn for_copy_at(&self, copy: CopyNo, branch: BranchNo) -> Waiting<'a, A>
+        ensures { result ≡ filter (is_picked_up_at branch) (filter (waits_for copy) self.now) }
+    {
+        Waiting::new(&self.for_one, Wanted::Naming(copy), Some(branch))
     }
 
     /// The holds that wait for a copy whose home is this branch, their pickup, in order of stamp.
     pub fn at_branch(&self, branch: BranchNo) -> Waiting<'a, A>
         ensures { result ≡ filter (waits_at branch) self.now }
     {
-        Waiting::new(&self.at_branch, Wanted::PickedUpAt(branch))
+        Waiting::new(&self.at_branch, Wanted::All, Some(branch))
     }
 }
 
@@ -100,26 +115,29 @@ impl<'a, A: Allocator> QueueView<'a, A> {
 pub struct Waiting<'a, A: Allocator = Global> {
     rest: HoldSlices<'a, A>,
     wanted: Wanted,
+    /// Of which pickup the holds are wanted, or `None`: of any.
+    pickup: Option<BranchNo>,
 }
 
 impl<'a, A: Allocator> Model for Waiting<'a, A> {
     ghost use Rattle.std.specs.Prelude.{List, filter};
     ghost use Rattle.hd_rules.specs.declared.holds.Hold.{Hold};
-    ghost use Rattle.hd_queue.specs.Wanted.{wants_hold};
+    ghost use Rattle.hd_queue.specs.Wanted.{wants_at};
 
     ghost Value = { List Hold };
 
-    ghost view = { λ w. filter (wants_hold w.wanted) w.rest };
+    ghost view = { λ w. filter (wants_at w.wanted w.pickup) w.rest };
 }
 
 impl<'a, A: Allocator> Waiting<'a, A> {
-    /// Those of the list that are wanted.
-    fn new(list: &HoldSlices<'a, A>, wanted: Wanted) -> Waiting<'a, A>
-        ensures { result ≡ filter (wants_hold wanted) list.now }
+    /// Those of the list that are wanted, of this pickup if one is given.
+    fn new(list: &HoldSlices<'a, A>, wanted: Wanted, pickup: Option<BranchNo>) -> Waiting<'a, A>
+        ensures { result ≡ filter (wants_at wanted pickup) list.now }
     {
         Waiting {
             rest: list.again(),
             wanted,
+            pickup,
         }
     }
 }
@@ -132,11 +150,24 @@ impl<'a, A: Allocator> Iterator for Waiting<'a, A> {
     ghost remaining = { item_count (λ holds. holds) };
 
     fn next(&mut self) -> Option<&'a Hold> {
+        pass_over(&mut self.rest, self.pickup);
         while let Some(hold) = self.rest.next() {
-            if self.wanted.admits(hold) {
+            if self.wanted.admits_at(self.pickup, hold) {
                 return Some(hold);
             }
+            pass_over(&mut self.rest, self.pickup);
         }
         None
+    }
+}
+
+/// Leaves out the chunks to come that have no hold of the pickup, if one is given.
+fn pass_over<A: Allocator>(rest: &mut HoldSlices<'_, A>, pickup: Option<BranchNo>)
+    ensures kept { (wanted : Wanted)
+        → filter (wants_at wanted pickup) rest.new ≡ filter (wants_at wanted pickup) rest.old }
+    ensures shorter { length rest.new ≤ length rest.old }
+{
+    if let Some(branch) = pickup {
+        rest.pass_over(branch);
     }
 }

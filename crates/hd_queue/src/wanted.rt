@@ -1,6 +1,6 @@
 //! Which holds of a list are wanted.
 ghost use Rattle.std.specs.Prelude.{◌≡◌};
-ghost use Rattle.hd_queue.specs.Wanted.{wants_hold};
+ghost use Rattle.hd_queue.specs.Wanted.{wants_at, wants_hold};
 
 use hd_rules::{BranchNo, CopyNo, Hold, HoldKind};
 
@@ -11,13 +11,11 @@ pub(crate) enum Wanted {
     All,
     /// Those of this copy alone.
     Naming(CopyNo),
-    /// Those of this pickup.
-    PickedUpAt(BranchNo),
 }
 
 impl Wanted {
     /// Whether the hold is wanted.
-    pub(crate) fn admits(&self, hold: &Hold) -> bool
+    fn admits(&self, hold: &Hold) -> bool
         ensures { result ≡ wants_hold self.now hold.now }
     {
         match *self {
@@ -26,7 +24,16 @@ impl Wanted {
                 HoldKind::One(named) => named == copy,
                 HoldKind::Any | HoldKind::AtBranch => false,
             },
-            Wanted::PickedUpAt(branch) => hold.pickup == branch,
+        }
+    }
+
+    /// Whether the hold is wanted, and its pickup is this branch, if one is given.
+    pub(crate) fn admits_at(&self, pickup: Option<BranchNo>, hold: &Hold) -> bool
+        ensures { result ≡ wants_at self.now pickup hold.now }
+    {
+        match pickup {
+            Some(branch) => self.admits(hold) && hold.pickup == branch,
+            None => self.admits(hold),
         }
     }
 }

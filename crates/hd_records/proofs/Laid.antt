@@ -1,9 +1,12 @@
 -- Slots, and the lists of what their records found and changed.
-use Rattle.std.proofs.Common.{arith, ◌≡◌, refl, sym, ◌∙◌, ap, subst, ℕ, zero, suc, ◌+◌, ◌<◌, ◌≤◌, Bool, true, false, ◌||◌}
-use Rattle.std.proofs.Common.{List, [], ◌∷◌, ◌++◌, length, take, drop, get_or, set, Option, None, Some, length-append, length-drop}
+use Rattle.std.proofs.Common.{arith, ◌≡◌, refl, sym, ◌∙◌, ap, subst, ℕ, zero, suc, ◌+◌, ◌<◌, ◌≤◌, Bool, true}
+use Rattle.std.proofs.Common.{false, ◌||◌}
+use Rattle.std.proofs.Common.{List, [], ◌∷◌, ◌++◌, length, take, drop, get_or, set, Option, None, Some}
+use Rattle.std.proofs.Common.{length-append, length-drop}
 use Rattle.std.proofs.Common.{take-add, length-take-le}
 use Rattle.std.proofs.lemmas.Bool.{false≢true}
-use Rattle.std.proofs.lemmas.List.{append_assoc, drop_all, drop-drop, drop-append-le, set-get_or, take_all, take-append-le}
+use Rattle.std.proofs.lemmas.List.{append_assoc, drop_all, drop-drop, drop-append-le, set-get_or, take_all}
+use Rattle.std.proofs.lemmas.List.{take-append-le}
 use Rattle.hd_rules.specs.declared.cells.Change.{Change}
 use Rattle.hd_rules.specs.declared.commands.Survivor.{Survivor}
 use Rattle.hd_rules.specs.declared.questions.Finding.{Finding}
@@ -20,7 +23,8 @@ use Rattle.hd_records.specs.Slots.{shift_slot, records_there}
 use Rattle.hd_records.specs.Survivors.{survivors_of}
 
 -- as many as there are slots
-pub length_stored : (ss : List Slot) (fs : List Finding) (cs : List Change) → length (records_in ss fs cs) ≡ length ss
+pub length_stored : (ss : List Slot) (fs : List Finding) (cs : List Change) → length (records_in ss fs cs)
+    ≡ length ss
 length_stored [] fs cs = refl
 length_stored (s ∷ ss) fs cs = ap suc (length_stored ss (drop s.findings.count fs) (drop s.changes.count cs))
 
@@ -28,10 +32,12 @@ length_stored (s ∷ ss) fs cs = ap suc (length_stored ss (drop s.findings.count
 pub survivors_stored : (ss : List Slot) (fs : List Finding) (cs : List Change)
     → survivors_of (records_there (records_in ss fs cs)) ≡ survivors_in ss
 survivors_stored [] fs cs = refl
-survivors_stored (s ∷ ss) fs cs = by_slot s.kept (survivors_stored ss (drop s.findings.count fs) (drop s.changes.count cs))
+survivors_stored (s ∷ ss) fs cs =
+    by_slot s.kept (survivors_stored ss (drop s.findings.count fs) (drop s.changes.count cs))
   where
     by_slot : (o : Option RecordHead)
-        → survivors_of (records_there (records_in ss (drop s.findings.count fs) (drop s.changes.count cs))) ≡ survivors_in ss
+        → survivors_of (records_there (records_in ss (drop s.findings.count fs) (drop s.changes.count cs)))
+        ≡ survivors_in ss
         → survivors_of (records_there (record_in o (take s.findings.count fs) (take s.changes.count cs)
         ∷ records_in ss (drop s.findings.count fs) (drop s.changes.count cs)))
         ≡ kept_first o (survivors_in ss)
@@ -39,19 +45,21 @@ survivors_stored (s ∷ ss) fs cs = by_slot s.kept (survivors_stored ss (drop s.
     by_slot (Some x) rest = ap (λ (xs : List Survivor). x.survivor ∷ xs) rest
 
 -- where the findings and changes of a slot stand
-pub record Stands (f c p : ℕ) (s : Slot) (ss : List Slot) (fs : List Finding) (cs : List Change) : Type 0 where
-  pub before : ℕ
-  pub ahead : ℕ
-  pub asked : s.findings.first ≡ f + before
-  pub changed : s.changes.first ≡ c + ahead
-  pub findings : before + s.findings.count ≤ length fs
-  pub changes : ahead + s.changes.count ≤ length cs
-  pub few : s.changes.count ≤ 4
-  pub counts : s.has_count ≡ have_count (take s.findings.count (drop before fs))
-  pub is : get_or (records_in ss fs cs) p None
-      ≡ record_in s.kept (take s.findings.count (drop before fs)) (take s.changes.count (drop ahead cs))
+pub record Stands (f c p : ℕ) (s : Slot) (ss : List Slot) (fs : List Finding) (cs : List Change) : Type 0
+  where
+    pub before : ℕ
+    pub ahead : ℕ
+    pub asked : s.findings.first ≡ f + before
+    pub changed : s.changes.first ≡ c + ahead
+    pub findings : before + s.findings.count ≤ length fs
+    pub changes : ahead + s.changes.count ≤ length cs
+    pub few : s.changes.count ≤ 4
+    pub counts : s.has_count ≡ have_count (take s.findings.count (drop before fs))
+    pub is : get_or (records_in ss fs cs) p None
+        ≡ record_in s.kept (take s.findings.count (drop before fs)) (take s.changes.count (drop ahead cs))
 
-pub stands : (f c p : ℕ) (d : Slot) (ss : List Slot) (fs : List Finding) (cs : List Change) → p < length ss → AreLaid f c ss fs cs
+pub stands : (f c p : ℕ) (d : Slot) (ss : List Slot) (fs : List Finding) (cs : List Change) → p < length ss
+    → AreLaid f c ss fs cs
     → Stands f c p (get_or ss p d) ss fs cs
 stands f c p d [] fs cs below laid = absurd (omega (arith, below))
 stands f c zero d (s ∷ ss) fs cs below laid = record {
@@ -82,11 +90,13 @@ stands f c (suc p) d (s ∷ ss) fs cs below laid =
       changes = omega (arith, rest.changes, laid.0.changes, length-drop b cs);
       few = rest.few;
       counts = rest.counts ∙ ap (λ (xs : List Finding). have_count (take t.findings.count xs)) found;
-      is = rest.is ∙ (λ j. record_in t.kept (take t.findings.count (found j)) (take t.changes.count (made j)));
+      is = rest.is ∙ (λ j. record_in t.kept (take t.findings.count (found j))
+          (take t.changes.count (made j)));
     }
 
 -- the same of a slot that was read
-pub stands_here : (p : ℕ) (s : Slot) (ss : List Slot) (fs : List Finding) (cs : List Change) → s ≡ get_or ss p s
+pub stands_here : (p : ℕ) (s : Slot) (ss : List Slot) (fs : List Finding) (cs : List Change) → s
+    ≡ get_or ss p s
     → p < length (records_in ss fs cs) → AreLaid 0 0 ss fs cs → Stands 0 0 p s ss fs cs
 stands_here p s ss fs cs value there laid =
     subst (λ (t : Slot). Stands 0 0 p t ss fs cs) (sym value)
@@ -96,15 +106,18 @@ stands_here p s ss fs cs value there laid =
 abbrev pub emptied_slot : Slot → Slot
 emptied_slot s = record { findings = s.findings; changes = s.changes; has_count = s.has_count; kept = None }
 
-pub stored_emptied : (p : ℕ) (d : Slot) (ss : List Slot) (fs : List Finding) (cs : List Change) → p < length ss
+pub stored_emptied : (p : ℕ) (d : Slot) (ss : List Slot) (fs : List Finding) (cs : List Change)
+    → p < length ss
     → records_in (set ss p (emptied_slot (get_or ss p d))) fs cs ≡ set (records_in ss fs cs) p None
 stored_emptied p d [] fs cs below = absurd (omega (arith, below))
 stored_emptied zero d (s ∷ ss) fs cs below = refl
 stored_emptied (suc p) d (s ∷ ss) fs cs below =
-    ap (λ (xs : List (Option Record)). record_in s.kept (take s.findings.count fs) (take s.changes.count cs) ∷ xs)
+    ap (λ (xs : List (Option Record)). record_in s.kept (take s.findings.count fs)
+    (take s.changes.count cs) ∷ xs)
     (stored_emptied p d ss (drop s.findings.count fs) (drop s.changes.count cs) (omega (arith, below)))
 
-pub laid_emptied : (f c p : ℕ) (d : Slot) (ss : List Slot) (fs : List Finding) (cs : List Change) → p < length ss
+pub laid_emptied : (f c p : ℕ) (d : Slot) (ss : List Slot) (fs : List Finding) (cs : List Change)
+    → p < length ss
     → AreLaid f c ss fs cs → AreLaid f c (set ss p (emptied_slot (get_or ss p d))) fs cs
 laid_emptied f c p d [] fs cs below laid = absurd (omega (arith, below))
 laid_emptied f c zero d (s ∷ ss) fs cs below laid = (
@@ -120,7 +133,8 @@ laid_emptied f c zero d (s ∷ ss) fs cs below laid = (
 )
 laid_emptied f c (suc p) d (s ∷ ss) fs cs below laid = (
   laid.0,
-  laid_emptied (f + s.findings.count) (c + s.changes.count) p d ss (drop s.findings.count fs) (drop s.changes.count cs)
+  laid_emptied (f + s.findings.count) (c + s.changes.count) p d ss (drop s.findings.count fs)
+      (drop s.changes.count cs)
       (omega (arith, below)) laid.1,
 )
 
@@ -131,25 +145,32 @@ pub record IsBehind (s : Slot) (xs : List Finding) (ys : List Change) : Type 0 w
   pub few : length ys ≤ 4
   pub counts : s.has_count ≡ have_count xs
 
-pub stored_more : (f c : ℕ) (ss : List Slot) (fs : List Finding) (cs : List Change) (s : Slot) (xs : List Finding) (ys : List Change)
+pub stored_more : (f c : ℕ) (ss : List Slot) (fs : List Finding) (cs : List Change) (s : Slot)
+    (xs : List Finding) (ys : List Change)
     → AreLaid f c ss fs cs → IsBehind s xs ys
     → records_in (ss ++ s ∷ []) (fs ++ xs) (cs ++ ys) ≡ records_in ss fs cs ++ record_in s.kept xs ys ∷ []
 stored_more f c [] fs cs s xs ys laid at =
     let found : take s.findings.count (fs ++ xs) ≡ xs =
-    ap (λ (zs : List Finding). take s.findings.count (zs ++ xs)) laid.0 ∙ take_all s.findings.count xs (omega (arith, at.findings)) in
+    ap (λ (zs : List Finding). take s.findings.count (zs ++ xs)) laid.0
+    ∙ take_all s.findings.count xs (omega (arith, at.findings)) in
     let made : take s.changes.count (cs ++ ys) ≡ ys =
-    ap (λ (zs : List Change). take s.changes.count (zs ++ ys)) laid.1 ∙ take_all s.changes.count ys (omega (arith, at.changes)) in
+    ap (λ (zs : List Change). take s.changes.count (zs ++ ys)) laid.1
+    ∙ take_all s.changes.count ys (omega (arith, at.changes)) in
     (λ j. record_in s.kept (found j) (made j) ∷ [])
 stored_more f c (t ∷ ts) fs cs s xs ys laid at =
     let a : ℕ = t.findings.count in
     let b : ℕ = t.changes.count in
-    (λ j. record_in t.kept (take-append-le a fs xs laid.0.findings j) (take-append-le b cs ys laid.0.changes j)
-    ∷ records_in (ts ++ s ∷ []) (drop-append-le a fs xs laid.0.findings j) (drop-append-le b cs ys laid.0.changes j))
+    (λ j. record_in t.kept (take-append-le a fs xs laid.0.findings j)
+    (take-append-le b cs ys laid.0.changes j)
+    ∷ records_in (ts ++ s ∷ []) (drop-append-le a fs xs laid.0.findings j)
+    (drop-append-le b cs ys laid.0.changes j))
     ∙ ap (λ (zs : List (Option Record)). record_in t.kept (take a fs) (take b cs) ∷ zs)
     (stored_more (f + a) (c + b) ts (drop a fs) (drop b cs) s xs ys laid.1 at)
 
-pub laid_more : (f c : ℕ) (ss : List Slot) (fs : List Finding) (cs : List Change) (s : Slot) (xs : List Finding) (ys : List Change)
-    → AreLaid f c ss fs cs → IsBehind s xs ys → s.findings.first ≡ f + length fs → s.changes.first ≡ c + length cs
+pub laid_more : (f c : ℕ) (ss : List Slot) (fs : List Finding) (cs : List Change) (s : Slot)
+    (xs : List Finding) (ys : List Change)
+    → AreLaid f c ss fs cs → IsBehind s xs ys → s.findings.first ≡ f + length fs → s.changes.first
+    ≡ c + length cs
     → AreLaid f c (ss ++ s ∷ []) (fs ++ xs) (cs ++ ys)
 laid_more f c [] fs cs s xs ys laid at asked changed =
     let n : ℕ = s.findings.count in
@@ -193,15 +214,18 @@ laid_more f c (t ∷ ts) fs cs s xs ys laid at asked changed =
     )
 
 -- findings shifted
-length_shifted : (k : Facts) (changes : List Change) (fs : List Finding) → length (shift_each k changes fs) ≡ length fs
+length_shifted : (k : Facts) (changes : List Change) (fs : List Finding) → length (shift_each k changes fs)
+    ≡ length fs
 length_shifted k changes [] = refl
 length_shifted k changes (x ∷ xs) = ap suc (length_shifted k changes xs)
 
-counts_stay : (k : Facts) (changes : List Change) (fs : List Finding) → have_count (shift_each k changes fs) ≡ have_count fs
+counts_stay : (k : Facts) (changes : List Change) (fs : List Finding) → have_count (shift_each k changes fs)
+    ≡ have_count fs
 counts_stay k changes [] = refl
 counts_stay k changes (x ∷ xs) = ap (λ (b : Bool). is_count x.question || b) (counts_stay k changes xs)
 
-no_count : (k : Facts) (changes : List Change) (q : Question) (a : Noted) → is_count q ≡ false → shift_of k q changes a ≡ a
+no_count : (k : Facts) (changes : List Change) (q : Question) (a : Noted) → is_count q ≡ false
+    → shift_of k q changes a ≡ a
 no_count k changes (question.Value x) a is = refl
 no_count k changes (question.Choice copy b day) a is = refl
 no_count k changes (question.Place b) a is = refl
@@ -213,28 +237,32 @@ neither : (a b : Bool) → (a || b) ≡ false → (a ≡ false) × (b ≡ false)
 neither true b is = absurd (false≢true (sym is))
 neither false b is = (refl, is)
 
-pub none_shifted : (k : Facts) (changes : List Change) (fs : List Finding) → have_count fs ≡ false → shift_each k changes fs ≡ fs
+pub none_shifted : (k : Facts) (changes : List Change) (fs : List Finding) → have_count fs ≡ false
+    → shift_each k changes fs ≡ fs
 none_shifted k changes [] is = refl
 none_shifted k changes (x ∷ xs) is =
     let parts = neither (is_count x.question) (have_count xs) is in
     (λ j. record { question = x.question; noted = no_count k changes x.question x.noted parts.0 j }
     ∷ none_shifted k changes xs parts.1 j)
 
-pub shifted_in : (k : Facts) (changes : List Change) (o : Option RecordHead) (fs : List Finding) (cs : List Change)
+pub shifted_in : (k : Facts) (changes : List Change) (o : Option RecordHead) (fs : List Finding)
+    (cs : List Change)
     → shift_slot k changes (record_in o fs cs) ≡ record_in o (shift_each k changes fs) cs
 shifted_in k changes None fs cs = refl
 shifted_in k changes (Some x) fs cs = refl
 
 -- the findings with those from a place on shifted, so many
 abbrev pub mended : Facts → List Change → ℕ → ℕ → List Finding → List Finding
-mended k changes before n fs = take before fs ++ (shift_each k changes (take n (drop before fs)) ++ drop n (drop before fs))
+mended k changes before n fs =
+    take before fs ++ (shift_each k changes (take n (drop before fs)) ++ drop n (drop before fs))
 
 take_first : {X : Type 0} → (n : ℕ) (xs ys : List X) → length xs ≡ n → take n (xs ++ ys) ≡ xs
 take_first n xs ys is = take-append-le n xs ys (omega (arith, is)) ∙ take_all n xs (omega (arith, is))
 
 drop_first : {X : Type 0} → (n : ℕ) (xs ys : List X) → length xs ≡ n → drop n (xs ++ ys) ≡ ys
 drop_first {X = X} n xs ys is =
-    drop-append-le n xs ys (omega (arith, is)) ∙ ap (λ (zs : List X). zs ++ ys) (drop_all n xs (omega (arith, is)))
+    drop-append-le n xs ys (omega (arith, is))
+    ∙ ap (λ (zs : List X). zs ++ ys) (drop_all n xs (omega (arith, is)))
 
 mended_at : (k : Facts) (changes : List Change) (b n : ℕ) (fs : List Finding) → b ≡ 0
     → mended k changes b n fs ≡ shift_each k changes (take n fs) ++ drop n fs
@@ -244,7 +272,8 @@ mended_past : (k : Facts) (changes : List Change) (a b e n : ℕ) (fs : List Fin
     → mended k changes b n fs ≡ take a fs ++ mended k changes e n (drop a fs)
 mended_past k changes a b e n fs is =
     ap (λ (i : ℕ). mended k changes i n fs) is
-    ∙ (λ j. take-add a e fs j ++ (shift_each k changes (take n (sym (drop-drop e a fs) j)) ++ drop n (sym (drop-drop e a fs) j)))
+    ∙ (λ j. take-add a e fs
+    j ++ (shift_each k changes (take n (sym (drop-drop e a fs) j)) ++ drop n (sym (drop-drop e a fs) j)))
     ∙ append_assoc (take a fs) (take e (drop a fs))
     (shift_each k changes (take n (drop e (drop a fs))) ++ drop n (drop e (drop a fs)))
 
@@ -280,7 +309,8 @@ cut_past k changes a b e n fs is le =
     }
 
 -- the record of a slot mended
-pub stored_mended : (k : Facts) (changes : List Change) (f c p b : ℕ) (d : Slot) (ss : List Slot) (fs : List Finding) (cs : List Change)
+pub stored_mended : (k : Facts) (changes : List Change) (f c p b : ℕ) (d : Slot) (ss : List Slot)
+    (fs : List Finding) (cs : List Change)
     → p < length ss → AreLaid f c ss fs cs → (get_or ss p d).findings.first ≡ f + b
     → records_in ss (mended k changes b (get_or ss p d).findings.count fs) cs
     ≡ set (records_in ss fs cs) p (shift_slot k changes (get_or (records_in ss fs cs) p None))
@@ -289,7 +319,8 @@ stored_mended k changes f c zero b d (s ∷ ss) fs cs below laid asked =
     let n : ℕ = s.findings.count in
     let cut : Cut n (mended k changes b n fs) (shift_each k changes (take n fs)) (drop n fs) =
     cut_at k changes b n fs (omega (arith, asked, laid.0.asked)) laid.0.findings in
-    (λ j. record_in s.kept (cut.taken j) (take s.changes.count cs) ∷ records_in ss (cut.left j) (drop s.changes.count cs))
+    (λ j. record_in s.kept (cut.taken j) (take s.changes.count cs) ∷ records_in ss (cut.left j)
+    (drop s.changes.count cs))
     ∙ ap (λ (o : Option Record). o ∷ records_in ss (drop n fs) (drop s.changes.count cs))
     (sym (shifted_in k changes s.kept (take n fs) (take s.changes.count cs)))
 stored_mended k changes f c (suc p) b d (s ∷ ss) fs cs below laid asked =
@@ -297,15 +328,19 @@ stored_mended k changes f c (suc p) b d (s ∷ ss) fs cs below laid asked =
     let t : Slot = get_or ss p d in
     let n : ℕ = t.findings.count in
     let at : Stands (f + a) (c + s.changes.count) p t ss (drop a fs) (drop s.changes.count cs) =
-    stands (f + a) (c + s.changes.count) p d ss (drop a fs) (drop s.changes.count cs) (omega (arith, below)) laid.1 in
+    stands (f + a) (c + s.changes.count) p d ss (drop a fs) (drop s.changes.count cs) (omega (arith, below))
+    laid.1 in
     let cut : Cut a (mended k changes b n fs) (take a fs) (mended k changes at.before n (drop a fs)) =
     cut_past k changes a b at.before n fs (omega (arith, asked, at.asked)) laid.0.findings in
-    (λ j. record_in s.kept (cut.taken j) (take s.changes.count cs) ∷ records_in ss (cut.left j) (drop s.changes.count cs))
+    (λ j. record_in s.kept (cut.taken j) (take s.changes.count cs) ∷ records_in ss (cut.left j)
+    (drop s.changes.count cs))
     ∙ ap (λ (xs : List (Option Record)). record_in s.kept (take a fs) (take s.changes.count cs) ∷ xs)
-    (stored_mended k changes (f + a) (c + s.changes.count) p at.before d ss (drop a fs) (drop s.changes.count cs)
+    (stored_mended k changes (f + a) (c + s.changes.count) p at.before d ss (drop a fs)
+    (drop s.changes.count cs)
     (omega (arith, below)) laid.1 at.asked)
 
-pub laid_mended : (k : Facts) (changes : List Change) (f c p b : ℕ) (d : Slot) (ss : List Slot) (fs : List Finding) (cs : List Change)
+pub laid_mended : (k : Facts) (changes : List Change) (f c p b : ℕ) (d : Slot) (ss : List Slot)
+    (fs : List Finding) (cs : List Change)
     → p < length ss → AreLaid f c ss fs cs → (get_or ss p d).findings.first ≡ f + b
     → AreLaid f c ss (mended k changes b (get_or ss p d).findings.count fs) cs
 laid_mended k changes f c p b d [] fs cs below laid asked = absurd (omega (arith, below))
@@ -314,7 +349,8 @@ laid_mended k changes f c zero b d (s ∷ ss) fs cs below laid asked =
     let start : b ≡ 0 = omega (arith, asked, laid.0.asked) in
     let cut : Cut n (mended k changes b n fs) (shift_each k changes (take n fs)) (drop n fs) =
     cut_at k changes b n fs start laid.0.findings in
-    let size : length (mended k changes b n fs) ≡ length (shift_each k changes (take n fs)) + length (drop n fs) =
+    let size : length (mended k changes b n fs)
+    ≡ length (shift_each k changes (take n fs)) + length (drop n fs) =
     ap (λ (zs : List Finding). length zs) (mended_at k changes b n fs start)
     ∙ length-append (shift_each k changes (take n fs)) (drop n fs) in
     let part : length (shift_each k changes (take n fs)) ≡ n =
@@ -327,18 +363,21 @@ laid_mended k changes f c zero b d (s ∷ ss) fs cs below laid asked =
         few = laid.0.few;
         counts = laid.0.counts ∙ sym (counts_stay k changes (take n fs)) ∙ ap have_count (sym cut.taken);
       },
-      subst (λ (zs : List Finding). AreLaid (f + n) (c + s.changes.count) ss zs (drop s.changes.count cs)) (sym cut.left) laid.1,
+      subst (λ (zs : List Finding). AreLaid (f + n) (c + s.changes.count) ss zs (drop s.changes.count cs))
+          (sym cut.left) laid.1,
     )
 laid_mended k changes f c (suc p) b d (s ∷ ss) fs cs below laid asked =
     let a : ℕ = s.findings.count in
     let t : Slot = get_or ss p d in
     let n : ℕ = t.findings.count in
     let at : Stands (f + a) (c + s.changes.count) p t ss (drop a fs) (drop s.changes.count cs) =
-    stands (f + a) (c + s.changes.count) p d ss (drop a fs) (drop s.changes.count cs) (omega (arith, below)) laid.1 in
+    stands (f + a) (c + s.changes.count) p d ss (drop a fs) (drop s.changes.count cs) (omega (arith, below))
+    laid.1 in
     let start : b ≡ a + at.before = omega (arith, asked, at.asked) in
     let cut : Cut a (mended k changes b n fs) (take a fs) (mended k changes at.before n (drop a fs)) =
     cut_past k changes a b at.before n fs start laid.0.findings in
-    let size : length (mended k changes b n fs) ≡ length (take a fs) + length (mended k changes at.before n (drop a fs)) =
+    let size : length (mended k changes b n fs)
+    ≡ length (take a fs) + length (mended k changes at.before n (drop a fs)) =
     ap (λ (zs : List Finding). length zs) (mended_past k changes a b at.before n fs start)
     ∙ length-append (take a fs) (mended k changes at.before n (drop a fs)) in
     let part : length (take a fs) ≡ a = length-take-le a fs laid.0.findings in (
@@ -350,13 +389,16 @@ laid_mended k changes f c (suc p) b d (s ∷ ss) fs cs below laid asked =
         few = laid.0.few;
         counts = laid.0.counts ∙ ap have_count (sym cut.taken);
       },
-      subst (λ (zs : List Finding). AreLaid (f + a) (c + s.changes.count) ss zs (drop s.changes.count cs)) (sym cut.left)
-          (laid_mended k changes (f + a) (c + s.changes.count) p at.before d ss (drop a fs) (drop s.changes.count cs)
+      subst (λ (zs : List Finding). AreLaid (f + a) (c + s.changes.count) ss zs (drop s.changes.count cs))
+          (sym cut.left)
+          (laid_mended k changes (f + a) (c + s.changes.count) p at.before d ss (drop a fs)
+          (drop s.changes.count cs)
           (omega (arith, below)) laid.1 at.asked),
     )
 
 -- a record that notes no count
-pub nothing_mended : (k : Facts) (changes : List Change) (p : ℕ) (items : List (Option Record)) (o : Option RecordHead) (fs : List Finding)
+pub nothing_mended : (k : Facts) (changes : List Change) (p : ℕ) (items : List (Option Record))
+    (o : Option RecordHead) (fs : List Finding)
     (cs : List Change) → get_or items p None ≡ record_in o fs cs → have_count fs ≡ false
     → items ≡ set items p (shift_slot k changes (get_or items p None))
 nothing_mended k changes p items o fs cs at none =
@@ -366,7 +408,8 @@ nothing_mended k changes p items o fs cs at none =
     sym (ap (set items p) same ∙ set-get_or items p None)
 
 -- an empty slot
-pub none_mended : (k : Facts) (changes : List Change) (p : ℕ) (items : List (Option Record)) → get_or items p None ≡ None
+pub none_mended : (k : Facts) (changes : List Change) (p : ℕ) (items : List (Option Record))
+    → get_or items p None ≡ None
     → items ≡ set items p (shift_slot k changes (get_or items p None))
 none_mended k changes p items at =
     sym (ap (set items p) (ap (shift_slot k changes) at ∙ sym at) ∙ set-get_or items p None)

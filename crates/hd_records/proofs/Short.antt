@@ -1,5 +1,6 @@
 -- Walks over records are short.
-use Rattle.std.proofs.Common.{arith, refl, ◌∙◌, ℕ, zero, suc, ◌+◌, ◌≤◌, Bool, true, false, cond, List, [], ◌∷◌}
+use Rattle.std.proofs.Common.{arith, refl, ◌∙◌, ℕ, zero, suc, ◌+◌, ◌≤◌, Bool, true, false, cond, List, []}
+use Rattle.std.proofs.Common.{◌∷◌}
 use Rattle.std.proofs.Common.{length}
 use Rattle.hd_rules.specs.declared.cells.Change.{Change}
 use Rattle.hd_rules.specs.Facts.{Facts}
@@ -16,7 +17,8 @@ one_more n = omega arith
 pub looks_short : (n : ℕ) (counts : Counts) → IsWalk n 0 counts (after_looks n counts)
 looks_short zero counts = record { looks = omega arith; compared = omega arith; steps = refl; written = refl }
 looks_short (suc n) counts =
-    let rest : IsWalk n 0 (with_one_more counts Look) (after_looks n (with_one_more counts Look)) = looks_short n (with_one_more counts Look) in
+    let rest : IsWalk n 0 (with_one_more counts Look) (after_looks n (with_one_more counts Look)) =
+    looks_short n (with_one_more counts Look) in
     let one : one_higher counts.looks ≤ counts.looks + 1 = one_more counts.looks in
     record {
       looks = omega (arith, rest.looks, one);
@@ -25,10 +27,13 @@ looks_short (suc n) counts =
       written = rest.written;
     }
 
-here : (k : Facts) (changes : List Change) (r : Record) (more rest : ℕ) (counts : Counts) → ComparisonsAreFew → length changes ≤ 4
-    → IsWalk (suc rest) (length r.findings + more) counts (clash_work k changes r.findings (with_one_more counts Look))
+here : (k : Facts) (changes : List Change) (r : Record) (more rest : ℕ) (counts : Counts) → ComparisonsAreFew
+    → length changes ≤ 4
+    → IsWalk (suc rest) (length r.findings + more) counts
+    (clash_work k changes r.findings (with_one_more counts Look))
 here k changes r more rest counts law few =
-    let work : AtMostFourEach (length r.findings) (with_one_more counts Look) (clash_work k changes r.findings (with_one_more counts Look)) =
+    let work : AtMostFourEach (length r.findings) (with_one_more counts Look)
+    (clash_work k changes r.findings (with_one_more counts Look)) =
     law k changes r.findings (with_one_more counts Look) few in
     let one : one_higher counts.looks ≤ counts.looks + 1 = one_more counts.looks in
     record {
@@ -38,20 +43,25 @@ here k changes r more rest counts law few =
       written = work.written;
     }
 
-pub walk_short : ComparisonsAreFew → (k : Facts) (changes : List Change) (records : List Record) (counts : Counts) → length changes ≤ 4
+pub walk_short : ComparisonsAreFew
+    → (k : Facts) (changes : List Change) (records : List Record) (counts : Counts) → length changes ≤ 4
     → IsWalk (length records) (questions_of records) counts (after_walk k changes records counts)
-walk_short law k changes [] counts few = record { looks = omega arith; compared = omega arith; steps = refl; written = refl }
+walk_short law k changes [] counts few =
+    record { looks = omega arith; compared = omega arith; steps = refl; written = refl }
 walk_short law k changes (r ∷ rs) counts few =
-    at (some_clash k changes r.findings) (walk_short law k changes rs (clash_work k changes r.findings (with_one_more counts Look)) few)
+    at (some_clash k changes r.findings)
+    (walk_short law k changes rs (clash_work k changes r.findings (with_one_more counts Look)) few)
   where
     first : Counts
     first = clash_work k changes r.findings (with_one_more counts Look)
 
     at : (b : Bool) → IsWalk (length rs) (questions_of rs) first (after_walk k changes rs first)
-        → IsWalk (suc (length rs)) (length r.findings + questions_of rs) counts (cond b first (after_walk k changes rs first))
+        → IsWalk (suc (length rs)) (length r.findings + questions_of rs) counts
+        (cond b first (after_walk k changes rs first))
     at true rest = here k changes r (questions_of rs) (length rs) counts law few
     at false rest =
-        let work : AtMostFourEach (length r.findings) (with_one_more counts Look) first = law k changes r.findings (with_one_more counts Look) few in
+        let work : AtMostFourEach (length r.findings) (with_one_more counts Look) first =
+        law k changes r.findings (with_one_more counts Look) few in
         let one : one_higher counts.looks ≤ counts.looks + 1 = one_more counts.looks in
         record {
           looks = omega (arith, rest.looks, work.looks, one);

@@ -17,7 +17,8 @@ use Rattle.hd_records.proofs.Numbered.{record_there}
 use Rattle.hd_records.proofs.Standing.{At, at_slot, command_known, known_one}
 
 -- what is known of it, of its changes, and of those after it
-pub record IsTarget (k : Facts) (n : ℕ) (slots : List (Option Record)) (index : IndexValue) (r : Record) (changes : List Change) : Type 0 where
+pub record IsTarget (k : Facts) (n : ℕ) (slots : List (Option Record)) (index : IndexValue) (r : Record)
+    (changes : List Change) : Type 0 where
   pub at : At n slots r
   pub command : IsKnownAction k r.command.action
   pub cells : EachCellIsKnown k changes
@@ -30,8 +31,10 @@ pub record IsTarget (k : Facts) (n : ℕ) (slots : List (Option Record)) (index 
 abbrev pub kept : List (Option Record) → ℕ → ℕ → IndexValue → RecordsValue
 kept slots last room index = record { records = records_there slots; last = last; room = room; index = index }
 
-pub is-target : (k : Facts) (n : ℕ) (slots : List (Option Record)) {last room : ℕ} {index : IndexValue} {w : RecordsValue} (r : Record)
-    (changes : List Change) → AreNumbered 0 slots → kept slots last room index ≡ w → AreOfCatalogue k w → Some r ≡ slot_of n slots
+pub is-target : (k : Facts) (n : ℕ) (slots : List (Option Record)) {last room : ℕ} {index : IndexValue}
+    {w : RecordsValue} (r : Record)
+    (changes : List Change) → AreNumbered 0 slots → kept slots last room index ≡ w → AreOfCatalogue k w
+    → Some r ≡ slot_of n slots
     → changes ≡ r.changes → IsTarget k n slots index r changes
 is-target k n slots {last} {room} {index} r changes numbered same all is read =
     let of : AreOfCatalogue k (kept slots last room index) = subst (AreOfCatalogue k) (sym same) all in
@@ -39,7 +42,8 @@ is-target k n slots {last} {room} {index} r changes numbered same all is read =
     record {
       at = at;
       command = command_known k (records_there slots) r of.commands at.among;
-      cells = subst (EachCellIsKnown k) (sym read) (known_one k (records_there slots) r of.known at.among).cells;
+      cells = subst (EachCellIsKnown k) (sym read)
+          (known_one k (records_there slots) r of.known at.among).cells;
       same = read ∙ ap changes_in (sym (record_there n slots numbered ∙ sym is));
       later = known_filter k (λ (x : Record). nat_lt n x.number) (records_there slots) of.known;
       about = of.about;

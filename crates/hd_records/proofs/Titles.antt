@@ -1,5 +1,6 @@
 -- A target is among the records of its title.
-use Rattle.std.proofs.Common.{arith, ◌≡◌, refl, sym, ◌∙◌, ap, ℕ, Bool, true, false, cond, ◌&&◌, ◌==◌, List, [], ◌∷◌, filter}
+use Rattle.std.proofs.Common.{arith, ◌≡◌, refl, sym, ◌∙◌, ap, ℕ, Bool, true, false, cond, ◌&&◌, ◌==◌, List}
+use Rattle.std.proofs.Common.{[], ◌∷◌, filter}
 use Rattle.std.proofs.Common.{Option, None, Some, option_map}
 use Rattle.std.proofs.lemmas.Bool.{false≢true}
 use Rattle.std.proofs.lemmas.Bool.Decides.{nat_tests}
@@ -27,11 +28,13 @@ abbrev number_at : Option Split → Option ℕ
 number_at o = option_map (λ at. at.survivor.number) o
 
 target_step : (terminal : ℕ) (what : Cancel) (r : Record) (rs : List Record)
-    → target_of terminal what (r ∷ rs) ≡ or_here (is_target terminal what (survivor_of r)) r.number (target_of terminal what rs)
+    → target_of terminal what (r ∷ rs)
+    ≡ or_here (is_target terminal what (survivor_of r)) r.number (target_of terminal what rs)
 target_step terminal what r rs = by_target (target terminal what (survivors_of rs))
   where
     by_test : (b : Bool)
-        → number_at (cond b (Some (record { older = []; survivor = survivor_of r; newer = survivors_of rs })) None)
+        → number_at (cond b (Some (record { older = []; survivor = survivor_of r; newer = survivors_of rs }))
+        None)
         ≡ cond b (Some r.number) None
     by_test true = refl
     by_test false = refl
@@ -56,7 +59,8 @@ target_among terminal what P (x ∷ xs) fits =
     ∙ by_tests (P x) (is_target terminal what (survivor_of x)) refl (fits x)
   where
     by_tests : (b c : Bool) → is_target terminal what (survivor_of x) ≡ c → (c ≡ true → b ≡ true)
-        → or_here c x.number (target_of terminal what (filter P xs)) ≡ target_of terminal what (cond b (x ∷ filter P xs) (filter P xs))
+        → or_here c x.number (target_of terminal what (filter P xs))
+        ≡ target_of terminal what (cond b (x ∷ filter P xs) (filter P xs))
     by_tests true c is passes =
         ap (λ (t : Bool). or_here t x.number (target_of terminal what (filter P xs))) (sym is)
         ∙ sym (target_step terminal what x (filter P xs))
@@ -120,13 +124,17 @@ kind_title k (cancel.Change p t) (action.Delete q u) is = absurd (false≢true i
 kind_title k (cancel.Change p t) (action.Change q u kind pickup expiry) is = named_title p t q u is
 kind_title k (cancel.Change p t) (action.Renewal q x) is = absurd (false≢true is)
 
-title_fits : (k : Facts) (terminal : ℕ) (what : Cancel) (r : Record) → is_target terminal what (survivor_of r) ≡ true
+title_fits : (k : Facts) (terminal : ℕ) (what : Cancel) (r : Record) → is_target terminal what (survivor_of r)
+    ≡ true
     → asks_about k (key.Title (title_of_cancel k what)) r ≡ true
 title_fits k terminal what r is =
-    kind_title k what r.command.action (and_right (r.terminal == terminal) (is_of_kind what r.command.action) is)
+    kind_title k what r.command.action
+    (and_right (r.terminal == terminal) (is_of_kind what r.command.action) is)
 
 -- so it is the target among all
 pub target_of_title : (k : Facts) (terminal : ℕ) (what : Cancel) (rs : List Record)
-    → target_of terminal what rs ≡ target_of terminal what (records_about k (key.Title (title_of_cancel k what)) rs)
+    → target_of terminal what rs
+    ≡ target_of terminal what (records_about k (key.Title (title_of_cancel k what)) rs)
 target_of_title k terminal what rs =
-    target_among terminal what (asks_about k (key.Title (title_of_cancel k what))) rs (title_fits k terminal what)
+    target_among terminal what (asks_about k (key.Title (title_of_cancel k what))) rs
+    (title_fits k terminal what)

@@ -10,7 +10,7 @@ ghost use Rattle.hd_records.specs.Behind.{behind};
 ghost use Rattle.hd_records.specs.Slots.{shift_slot, records_there};
 ghost use Rattle.hd_records.specs.Survivors.{survivors_of};
 
-use crate::record::StoredRecord;
+use crate::record::NewRecord;
 use crate::record_view::RecordView;
 use crate::slots::Slots;
 use crate::survivors::Survivors;
@@ -66,10 +66,10 @@ impl<A: Allocator> AllSlots<A> {
 
     /// Puts one more slot with a record behind the others. It takes no memory.
     #[tactic(auto, using(crate::proofs::Behind::more_behind, crate::proofs::Behind::length_behind, crate::proofs::Behind::length_pushed))]
-    pub(crate) fn push(&mut self, new: StoredRecord)
+    pub(crate) fn push(&mut self, new: &NewRecord<'_>)
         requires room { 0 < self.old.room }
         requires number { length self.old.items + 1 < 2 ^ 32 }
-        ensures items { self.new.items ≡ self.old.items ++ Some new ∷ [] }
+        ensures items { self.new.items ≡ self.old.items ++ Some new.now ∷ [] }
         ensures room { self.old.room ≤ self.new.room + 1 }
     {
         self.slots.push(new);

@@ -18,7 +18,7 @@ mod targets;
 mod walking;
 
 pub use crate::laws::walks_are_short;
-pub use crate::record::{RecordRef, StoredRecord};
+pub use crate::record::{NewRecord, RecordRef};
 pub use crate::records::Records;
 pub use crate::survivors::Survivors;
 pub use hd_catalogue::Catalogue;

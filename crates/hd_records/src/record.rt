@@ -3,23 +3,22 @@
 
 ghost use Rattle.std.specs.Prelude.{◌≡◌, ◌≤◌, length};
 ghost use Rattle.hd_records.specs.Survivors.{survivor_of};
-ghost use Rattle.hd_records.specs.Shown.{record_shown};
 
 use hd_footprint::{Findings, Footprint};
 use hd_rules::{Change, Finding, Reply, Survivor};
 use std::marker::Model;
 
-/// What is kept of an accepted command: who sent it with which number, what it replied, the questions that it
-/// asked with their noted answers, and its changes (docs/desk-rules.md).
+/// The record of a command that was just accepted, lent: who sent it with which number, what it replied, the
+/// questions that it asked with their noted answers, and its changes (docs/desk-rules.md).
 #[derive(Drop)]
-pub struct StoredRecord {
+pub struct NewRecord<'a> {
     survivor: Survivor,
     reply: Reply,
-    findings: Findings,
-    changes: Footprint,
+    findings: &'a Findings,
+    changes: &'a Footprint,
 }
 
-impl Model for StoredRecord {
+impl<'a> Model for NewRecord<'a> {
     ghost use Rattle.hd_rules.specs.Record.{Record};
 
     ghost Value = { Record };
@@ -29,31 +28,31 @@ impl Model for StoredRecord {
       terminal = r.survivor.terminal;
       command = r.survivor.command;
       reply = r.reply;
-      findings = r.findings;
-      changes = r.changes;
+      findings = r.findings.now;
+      changes = r.changes.now;
     } };
 }
 
-impl StoredRecord {
+impl<'a> NewRecord<'a> {
     /// The record of a command that was accepted with this number. Nothing is copied but the command and its
     /// reply.
     pub fn new(
         survivor: Survivor,
         reply: Reply,
-        findings: Findings,
-        changes: Footprint,
-    ) -> StoredRecord
+        findings: &'a Findings,
+        changes: &'a Footprint,
+    ) -> NewRecord<'a>
         ensures { result
             ≡ record {
               number = survivor.number;
               terminal = survivor.terminal;
               command = survivor.command;
               reply = reply;
-              findings = findings;
-              changes = changes;
+              findings = findings.now;
+              changes = changes.now;
             } }
     {
-        StoredRecord {
+        NewRecord {
             survivor,
             reply,
             findings,
@@ -62,14 +61,14 @@ impl StoredRecord {
     }
 
     /// The command, its number and its terminal.
-    pub fn survivor(&self) -> &Survivor
+    pub(crate) fn survivor(&self) -> &Survivor
         ensures { result.now ≡ survivor_of self.now }
     {
         &self.survivor
     }
 
     /// What it changed, in order.
-    pub fn changes(&self) -> &[Change]
+    pub(crate) fn changes(&self) -> &'a [Change]
         ensures changes { result.now ≡ self.now.changes }
         ensures few { length self.now.changes ≤ 4 }
     {
@@ -77,24 +76,11 @@ impl StoredRecord {
     }
 
     /// What it asked, in order, with the noted answers.
-    pub fn findings(&self) -> &[Finding]
+    pub(crate) fn findings(&self) -> &'a [Finding]
         ensures findings { result.now ≡ self.now.findings }
         ensures few { length self.now.findings ≤ 4 }
     {
         self.findings.findings()
-    }
-
-    /// The record, lent part by part.
-    pub fn show(&self) -> RecordRef<'_>
-        ensures shown { record_shown result ≡ self.now }
-        ensures few { length result.changes.now ≤ 4 }
-    {
-        RecordRef {
-            survivor: self.survivor,
-            reply: self.reply,
-            findings: self.findings.findings(),
-            changes: self.changes.changes(),
-        }
     }
 
     /// What it replied.

@@ -22,7 +22,7 @@ ghost use Rattle.hd_records.specs.Survivors.{target_of};
 
 use crate::all_slots::AllSlots;
 use crate::index::Index;
-use crate::record::{RecordRef, StoredRecord};
+use crate::record::{NewRecord, RecordRef};
 use crate::survivors::Survivors;
 use crate::targets::title_of;
 use crate::walking;
@@ -102,12 +102,12 @@ impl<A: Allocator + Copy> Records<A> {
 
     /// Puts one more record behind the others. Its number is the next one, and there is room for it. It takes
     /// no memory.
-    pub fn push(&mut self, catalogue: &Catalogue<A>, new: StoredRecord)
-        requires known { IsKnownAction (facts_of catalogue.now) new.command.action }
-        requires room { HasRoomFor (keys_of_command (facts_of catalogue.now) new.command) self.old }
-        requires number { new.number ≡ self.old.last + 1 }
+    pub fn push(&mut self, catalogue: &Catalogue<A>, new: &NewRecord<'_>)
+        requires known { IsKnownAction (facts_of catalogue.now) new.now.command.action }
+        requires room { HasRoomFor (keys_of_command (facts_of catalogue.now) new.now.command) self.old }
+        requires number { new.now.number ≡ self.old.last + 1 }
         requires listed { AreListed (facts_of catalogue.now) self.old }
-        ensures records { self.new.records ≡ self.old.records ++ new ∷ [] }
+        ensures records { self.new.records ≡ self.old.records ++ new.now ∷ [] }
         ensures last { self.new.last ≡ self.old.last + 1 }
         ensures room { self.old.room ≤ self.new.room + 1 }
         ensures listed { AreListed (facts_of catalogue.now) self.new }

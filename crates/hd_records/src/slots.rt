@@ -11,7 +11,7 @@ ghost use Rattle.hd_records.specs.Survivors.{survivors_of};
 
 use crate::lists::{append, place_behind, ready_for_four, values_at};
 use crate::mending::{has_count, mend_at};
-use crate::record::StoredRecord;
+use crate::record::NewRecord;
 use crate::record_view::RecordView;
 use crate::survivors::Survivors;
 use hd_catalogue::Catalogue;
@@ -101,9 +101,9 @@ impl<A: Allocator> Slots<A> {
     }
 
     /// Puts one more slot with a record behind the others. It takes no memory.
-    pub(crate) fn push(&mut self, new: StoredRecord)
+    pub(crate) fn push(&mut self, new: &NewRecord<'_>)
         requires { 0 < self.old.room }
-        ensures items { self.new.items ≡ self.old.items ++ Some new ∷ [] }
+        ensures items { self.new.items ≡ self.old.items ++ Some new.now ∷ [] }
         ensures room { self.old.room ≤ self.new.room + 1 }
     {
         let findings = new.findings();

@@ -33,7 +33,8 @@ shown_append k shows turns (Made turn ∷ did) more first next =
 shown_append k shows turns (Looked shown ∷ did) more first next =
     (first.0, shown_append k shows turns did more first.1 next)
 
-pub shown_of_append : (k : Contents) (shows : List Turn → Book → Type 0) (turns : List Turn) (es then : List Event)
+pub shown_of_append : (k : Contents) (shows : List Turn → Book → Type 0) (turns : List Turn)
+    (es then : List Event)
     → AreShown k shows turns (deeds_of es) → AreShown k shows (turns ++ turns_of es) (deeds_of then)
     → AreShown k shows turns (deeds_of (es ++ then))
 shown_of_append k shows turns es then first next =

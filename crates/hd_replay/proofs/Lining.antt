@@ -1,9 +1,12 @@
 -- Texts and their lines.
-use Rattle.std.proofs.Common.{◌≡◌, ◌==◌, ◌∙◌, ◌<◌, ◌≤◌, ℕ, zero, suc, true, false, List, [], ◌∷◌, ◌++◌, length, flat_map, Contains, arith}
-use Rattle.std.proofs.Common.{refl, sym, ap, ap₂, subst, append_assoc, append-nil, eqb-true, drop, set, take, get_or, slice_index}
+use Rattle.std.proofs.Common.{◌≡◌, ◌==◌, ◌∙◌, ◌<◌, ◌≤◌, ℕ, zero, suc, true, false, List, [], ◌∷◌, ◌++◌}
+use Rattle.std.proofs.Common.{length, flat_map, Contains, arith}
+use Rattle.std.proofs.Common.{refl, sym, ap, ap₂, subst, append_assoc, append-nil, eqb-true, drop, set, take}
+use Rattle.std.proofs.Common.{get_or, slice_index}
 use Rattle.std.proofs.Common.{take-append-drop, length-append, ◌-◌, ◌+◌}
 use Rattle.std.proofs.lemmas.Bool.{eq-eqb, eqb-false, true≢false}
-use Rattle.std.proofs.lemmas.List.{append_cancel_right, drop-drop, drop-set-add, drop-set-lt, drop_more, get_or-drop, get_or_default}
+use Rattle.std.proofs.lemmas.List.{append_cancel_right, drop-drop, drop-set-add, drop-set-lt, drop_more}
+use Rattle.std.proofs.lemmas.List.{get_or-drop, get_or_default}
 use Rattle.std.proofs.lemmas.List.{length-drop}
 use Rattle.std.proofs.lemmas.List.Concat.{flat_map-append}
 use Rattle.std.proofs.lemmas.List.Elements.{All-append, All-cons, All-nil}
@@ -19,7 +22,8 @@ pub all_none : {X : Type 0} (P : X → Type 0) → All P []
 all_none P i d within = absurd (omega (arith, within))
 
 -- a byte that isn't there before, and isn't this one
-pub not_there : (end byte : ℕ) (bytes : List ℕ) → (byte ≡ end → ⊥) → (Contains bytes end → ⊥) → Contains (byte ∷ bytes) end → ⊥
+pub not_there : (end byte : ℕ) (bytes : List ℕ) → (byte ≡ end → ⊥) → (Contains bytes end → ⊥)
+    → Contains (byte ∷ bytes) end → ⊥
 not_there end byte bytes other none (zero, within, is) = other is
 not_there end byte bytes other none (suc i, within, is) = none (i, omega (arith, within), is)
 
@@ -28,33 +32,39 @@ not_in_nothing end (i, within, is) = omega (arith, within)
 
 -- a text without what ends lines is a rest
 pub are_none : (end : ℕ) (text : List ℕ) → (Contains text end → ⊥) → AreLines end text [] text
-are_none end text none = record { whole = refl; plain = all_none (λ (line : List ℕ). Contains line end → ⊥); unended = none }
+are_none end text none =
+    record { whole = refl; plain = all_none (λ (line : List ℕ). Contains line end → ⊥); unended = none }
 
 -- some lines, and then those of the rest and more
-pub are_append : (end : ℕ) (text more rest rest' : List ℕ) (lines later : List (List ℕ)) → AreLines end text lines rest →
+pub are_append : (end : ℕ) (text more rest rest' : List ℕ) (lines later : List (List ℕ))
+    → AreLines end text lines rest →
     AreLines end (rest ++ more) later rest' → AreLines end (text ++ more) (lines ++ later) rest'
 are_append end text more rest rest' lines later first second = record {
   whole =
       ap (λ (t : List ℕ). t ++ more) first.whole ∙ (append_assoc (ended end lines) rest more
       ∙ (ap (λ (t : List ℕ). ended end lines ++ t) second.whole
       ∙ (sym (append_assoc (ended end lines) (ended end later) rest')
-      ∙ ap (λ (t : List ℕ). t ++ rest') (sym (flat_map-append (λ (line : List ℕ). line ++ end ∷ []) lines later)))));
+      ∙ ap (λ (t : List ℕ). t ++ rest')
+      (sym (flat_map-append (λ (line : List ℕ). line ++ end ∷ []) lines later)))));
   plain = All-append (λ (line : List ℕ). Contains line end → ⊥) lines later first.plain second.plain;
   unended = second.unended;
 }
 
 -- a line that is ended, and the lines behind it
-pub are_one_more : (end : ℕ) (first text rest : List ℕ) (lines : List (List ℕ)) → (Contains first end → ⊥) → AreLines end text lines rest →
+pub are_one_more : (end : ℕ) (first text rest : List ℕ) (lines : List (List ℕ)) → (Contains first end → ⊥)
+    → AreLines end text lines rest →
     AreLines end (first ++ end ∷ text) (first ∷ lines) rest
 are_one_more end first text rest lines none are = record {
   whole = ap (λ (t : List ℕ). first ++ end ∷ t) are.whole
-      ∙ (sym (append_assoc first (end ∷ []) (ended end lines ++ rest)) ∙ sym (append_assoc (first ++ end ∷ []) (ended end lines) rest));
+      ∙ (sym (append_assoc first (end ∷ []) (ended end lines ++ rest))
+      ∙ sym (append_assoc (first ++ end ∷ []) (ended end lines) rest));
   plain = All-cons (λ (line : List ℕ). Contains line end → ⊥) first lines none are.plain;
   unended = are.unended;
 }
 
 -- a byte before a text goes before its first line
-pub byte_before : (end byte : ℕ) (text rest : List ℕ) (lines : List (List ℕ)) → (byte ≡ end → ⊥) → AreLines end text lines rest →
+pub byte_before : (end byte : ℕ) (text rest : List ℕ) (lines : List (List ℕ)) → (byte ≡ end → ⊥)
+    → AreLines end text lines rest →
     (lines' : List (List ℕ)) × (rest' : List ℕ) × AreLines end (byte ∷ text) lines' rest'
 byte_before end byte text rest [] other are = (
   [],
@@ -71,17 +81,21 @@ byte_before end byte text rest (line ∷ lines) other are = (
   record {
     whole = ap (λ (t : List ℕ). byte ∷ t) are.whole;
     plain = All-cons (λ (l : List ℕ). Contains l end → ⊥) (byte ∷ line) lines
-        (not_there end byte line other (are.plain zero line (omega arith))) (λ i d within. are.plain (suc i) d (omega (arith, within)));
+        (not_there end byte line other (are.plain zero line (omega arith)))
+        (λ i d within. are.plain (suc i) d (omega (arith, within)));
     unended = are.unended;
   },
 )
 
 -- every text has its lines
-pub lines_exist : (end : ℕ) (text : List ℕ) → (lines : List (List ℕ)) × (rest : List ℕ) × AreLines end text lines rest
+pub lines_exist : (end : ℕ) (text : List ℕ)
+    → (lines : List (List ℕ)) × (rest : List ℕ) × AreLines end text lines rest
 lines_exist end [] = ([], [], are_none end [] (not_in_nothing end))
 lines_exist end (byte ∷ text) =
     let later = lines_exist end text in
-    elim (byte == end) as (λ t. (byte == end) ≡ t → (lines : List (List ℕ)) × (rest : List ℕ) × AreLines end (byte ∷ text) lines rest) [
+    elim (byte == end) as
+    (λ t. (byte == end) ≡ t
+    → (lines : List (List ℕ)) × (rest : List ℕ) × AreLines end (byte ∷ text) lines rest) [
       | true ↦ λ is. (
         [] ∷ later.0,
         later.1,
@@ -92,38 +106,48 @@ lines_exist end (byte ∷ text) =
     ] refl
 
 -- a last line that nothing ends, behind others
-pub rest_behind : (lines later : List (List ℕ)) (rest : List ℕ) → with_rest (lines ++ later) rest ≡ lines ++ with_rest later rest
+pub rest_behind : (lines later : List (List ℕ)) (rest : List ℕ) → with_rest (lines ++ later) rest
+    ≡ lines ++ with_rest later rest
 rest_behind lines later [] = refl
 rest_behind lines later (byte ∷ rest) = append_assoc lines later ((byte ∷ rest) ∷ [])
 
 -- one more line is done
-pub line_done : (end : ℕ) (text rest first after : List ℕ) (done : List (List ℕ)) → text ≡ ended end done ++ rest →
+pub line_done : (end : ℕ) (text rest first after : List ℕ) (done : List (List ℕ)) → text
+    ≡ ended end done ++ rest →
     rest ≡ first ++ end ∷ after → text ≡ ended end (done ++ first ∷ []) ++ after
 line_done end text rest first after done whole split =
     whole ∙ (ap (λ (t : List ℕ). ended end done ++ t)
-    (split ∙ (sym (append_assoc first (end ∷ []) after) ∙ ap (λ (t : List ℕ). t ++ after) (sym (append-nil (first ++ end ∷ [])))))
+    (split ∙ (sym (append_assoc first (end ∷ []) after)
+    ∙ ap (λ (t : List ℕ). t ++ after) (sym (append-nil (first ++ end ∷ [])))))
     ∙ (sym (append_assoc (ended end done) (ended end (first ∷ [])) after)
-    ∙ ap (λ (t : List ℕ). t ++ after) (sym (flat_map-append (λ (line : List ℕ). line ++ end ∷ []) done (first ∷ [])))))
+    ∙ ap (λ (t : List ℕ). t ++ after)
+    (sym (flat_map-append (λ (line : List ℕ). line ++ end ∷ []) done (first ∷ [])))))
 
-pub all_done : (end : ℕ) (first : List ℕ) (done : List (List ℕ)) → All (λ line. Contains line end → ⊥) done → (Contains first end → ⊥) →
+pub all_done : (end : ℕ) (first : List ℕ) (done : List (List ℕ)) → All (λ line. Contains line end → ⊥) done
+    → (Contains first end → ⊥) →
     All (λ line. Contains line end → ⊥) (done ++ first ∷ [])
 all_done end first done all none =
     All-append (λ (line : List ℕ). Contains line end → ⊥) done (first ∷ []) all
-    (All-cons (λ (line : List ℕ). Contains line end → ⊥) first [] none (All-nil (λ (line : List ℕ). Contains line end → ⊥)))
+    (All-cons (λ (line : List ℕ). Contains line end → ⊥) first [] none
+    (All-nil (λ (line : List ℕ). Contains line end → ⊥)))
 
 -- lines that are done, and those of the rest
-pub are_from : (end : ℕ) (text rest rest' : List ℕ) (done later : List (List ℕ)) → text ≡ ended end done ++ rest →
-    All (λ line. Contains line end → ⊥) done → AreLines end rest later rest' → AreLines end text (done ++ later) rest'
+pub are_from : (end : ℕ) (text rest rest' : List ℕ) (done later : List (List ℕ)) → text
+    ≡ ended end done ++ rest →
+    All (λ line. Contains line end → ⊥) done → AreLines end rest later rest'
+    → AreLines end text (done ++ later) rest'
 are_from end text rest rest' done later whole all are = record {
   whole = whole ∙ (ap (λ (t : List ℕ). ended end done ++ t) are.whole
       ∙ (sym (append_assoc (ended end done) (ended end later) rest')
-      ∙ ap (λ (t : List ℕ). t ++ rest') (sym (flat_map-append (λ (line : List ℕ). line ++ end ∷ []) done later))));
+      ∙ ap (λ (t : List ℕ). t ++ rest')
+      (sym (flat_map-append (λ (line : List ℕ). line ++ end ∷ []) done later))));
   plain = All-append (λ (line : List ℕ). Contains line end → ⊥) done later all are.plain;
   unended = are.unended;
 }
 
 -- the lines up to a byte that ends one, and a rest without any
-pub whole_up_to : (end : ℕ) (text front rest : List ℕ) → text ≡ front ++ end ∷ rest → (Contains rest end → ⊥) →
+pub whole_up_to : (end : ℕ) (text front rest : List ℕ) → text ≡ front ++ end ∷ rest
+    → (Contains rest end → ⊥) →
     (lines : List (List ℕ)) × AreLines end text lines rest
 whole_up_to end text front rest split none =
     let lines = lines_exist end front in
@@ -135,35 +159,44 @@ whole_up_to end text front rest split none =
     )
 
 -- a text that begins with a line
-pub line_first : (end : ℕ) (text first after rest : List ℕ) (lines : List (List ℕ)) → text ≡ first ++ end ∷ after →
+pub line_first : (end : ℕ) (text first after rest : List ℕ) (lines : List (List ℕ)) → text
+    ≡ first ++ end ∷ after →
     (Contains first end → ⊥) → AreLines end after lines rest → AreLines end text (first ∷ lines) rest
 line_first end text first after rest lines split none are =
-    subst (λ (t : List ℕ). AreLines end t (first ∷ lines) rest) (sym split) (are_one_more end first after rest lines none are)
+    subst (λ (t : List ℕ). AreLines end t (first ∷ lines) rest) (sym split)
+    (are_one_more end first after rest lines none are)
 
 -- a line first, and a last one that nothing ends
 pub rest_after : (done later : List (List ℕ)) (first rest : List ℕ) →
     with_rest (done ++ first ∷ later) rest ≡ done ++ first ∷ with_rest later rest
 rest_after done later first rest =
-    rest_behind done (first ∷ later) rest ∙ ap (λ (l : List (List ℕ)). done ++ l) (rest_behind (first ∷ []) later rest)
+    rest_behind done (first ∷ later) rest
+    ∙ ap (λ (l : List (List ℕ)). done ++ l) (rest_behind (first ∷ []) later rest)
 
-pub rest_is_line : (lines : List (List ℕ)) (rest : List ℕ) → (length rest == 0) ≡ false → with_rest lines rest ≡ lines ++ rest ∷ []
+pub rest_is_line : (lines : List (List ℕ)) (rest : List ℕ) → (length rest == 0) ≡ false → with_rest lines rest
+    ≡ lines ++ rest ∷ []
 rest_is_line lines [] some = absurd (true≢false some)
 rest_is_line lines (byte ∷ rest) some = refl
 
-pub no_rest : (lines : List (List ℕ)) (rest : List ℕ) → (length rest == 0) ≡ true → with_rest lines rest ≡ lines
+pub no_rest : (lines : List (List ℕ)) (rest : List ℕ) → (length rest == 0) ≡ true → with_rest lines rest
+    ≡ lines
 no_rest lines [] none = refl
-no_rest lines (byte ∷ rest) none = let no : suc (length rest) ≡ 0 = eqb-true _ _ none in absurd (omega (arith, no))
+no_rest lines (byte ∷ rest) none = let no : suc (length rest)
+    ≡ 0 = eqb-true _ _ none in absurd (omega (arith, no))
 
 -- no byte from a place on ends a line
-pub none_from : (end : ℕ) (text : List ℕ) (i : ℕ) → ((k : ℕ) → i ≤ k → k < length text → (slice_index text k == end) ≡ true → ⊥) →
+pub none_from : (end : ℕ) (text : List ℕ) (i : ℕ)
+    → ((k : ℕ) → i ≤ k → k < length text → (slice_index text k == end) ≡ true → ⊥) →
     Contains (drop i text) end → ⊥
 none_from end text i nowhere (k, within, is) =
     let long : k < length text - i = rw (length-drop i text) at within in
     let at : get_or text (i + k) end ≡ end = sym (get_or-drop i text k end) ∙ is in
-    nowhere (i + k) (omega arith) (omega (arith, long)) (eq-eqb _ _ (get_or_default text (i + k) 0 end (omega (arith, long)) ∙ at))
+    nowhere (i + k) (omega arith) (omega (arith, long))
+    (eq-eqb _ _ (get_or_default text (i + k) 0 end (omega (arith, long)) ∙ at))
 
 -- the last byte that ends one
-pub last_found : (end : ℕ) (text : List ℕ) (last : ℕ) → last < length text → (slice_index text last == end) ≡ true →
+pub last_found : (end : ℕ) (text : List ℕ) (last : ℕ) → last < length text → (slice_index text last == end)
+    ≡ true →
     ((k : ℕ) → last + 1 ≤ k → k < length text → (slice_index text k == end) ≡ true → ⊥)
     → (lines : List (List ℕ)) × AreLines end text lines (drop (last + 1) text)
 last_found end text last within is after =
@@ -182,69 +215,101 @@ pub not_behind : (end byte : ℕ) (bytes : List ℕ) → (Contains (byte ∷ byt
 not_behind end byte bytes none (k, within, is) = none (suc k, omega (arith, within), is)
 
 -- the first part of a text is one
-pub first_alone : (end : ℕ) (l m rest rest' : List ℕ) → (Contains l end → ⊥) → (Contains m end → ⊥) → l ++ end ∷ rest ≡ m ++ end ∷ rest' →
+pub first_alone : (end : ℕ) (l m rest rest' : List ℕ) → (Contains l end → ⊥) → (Contains m end → ⊥)
+    → l ++ end ∷ rest ≡ m ++ end ∷ rest' →
     (l ≡ m) × (rest ≡ rest')
 first_alone end [] [] rest rest' none none' same = (refl, ap (drop 1) same)
-first_alone end [] (byte ∷ m) rest rest' none none' same = absurd (none' (zero, omega arith, sym (ap (λ (t : List ℕ). get_or t 0 0) same)))
-first_alone end (byte ∷ l) [] rest rest' none none' same = absurd (none (zero, omega arith, ap (λ (t : List ℕ). get_or t 0 0) same))
+first_alone end [] (byte ∷ m) rest rest' none none' same =
+    absurd (none' (zero, omega arith, sym (ap (λ (t : List ℕ). get_or t 0 0) same)))
+first_alone end (byte ∷ l) [] rest rest' none none' same =
+    absurd (none (zero, omega arith, ap (λ (t : List ℕ). get_or t 0 0) same))
 first_alone end (byte ∷ l) (other ∷ m) rest rest' none none' same =
-    let tail = first_alone end l m rest rest' (not_behind end byte l none) (not_behind end other m none') (ap (drop 1) same) in
+    let tail = first_alone end l m rest rest' (not_behind end byte l none) (not_behind end other m none')
+    (ap (drop 1) same) in
     (ap₂ (λ (b : ℕ) (t : List ℕ). b ∷ t) (ap (λ (t : List ℕ). get_or t 0 0) same) tail.0, tail.1)
 
 -- a text has its lines in one way
-pub lines_alone : (end : ℕ) (text rest rest' : List ℕ) (lines lines' : List (List ℕ)) → AreLines end text lines rest →
+pub lines_alone : (end : ℕ) (text rest rest' : List ℕ) (lines lines' : List (List ℕ))
+    → AreLines end text lines rest →
     AreLines end text lines' rest' → (lines ≡ lines') × (rest ≡ rest')
 lines_alone end text rest rest' [] [] a b = (refl, sym a.whole ∙ b.whole)
 lines_alone end text rest rest' [] (l ∷ ls) a b =
     absurd (a.unended (subst (λ (t : List ℕ). Contains t end)
     (sym (sym a.whole
-    ∙ (b.whole ∙ (append_assoc (l ++ end ∷ []) (ended end ls) rest' ∙ append_assoc l (end ∷ []) (ended end ls ++ rest')))))
+    ∙ (b.whole ∙ (append_assoc (l ++ end ∷ []) (ended end ls) rest'
+    ∙ append_assoc l (end ∷ []) (ended end ls ++ rest')))))
     (stands_there end l (ended end ls ++ rest'))))
 lines_alone end text rest rest' (l ∷ ls) [] a b =
     absurd (b.unended (subst (λ (t : List ℕ). Contains t end)
     (sym (sym b.whole
-    ∙ (a.whole ∙ (append_assoc (l ++ end ∷ []) (ended end ls) rest ∙ append_assoc l (end ∷ []) (ended end ls ++ rest)))))
+    ∙ (a.whole ∙ (append_assoc (l ++ end ∷ []) (ended end ls) rest
+    ∙ append_assoc l (end ∷ []) (ended end ls ++ rest)))))
     (stands_there end l (ended end ls ++ rest))))
 lines_alone end text rest rest' (l ∷ ls) (m ∷ ms) a b =
-    let left = append_assoc (l ++ end ∷ []) (ended end ls) rest ∙ append_assoc l (end ∷ []) (ended end ls ++ rest) in
-    let right = append_assoc (m ++ end ∷ []) (ended end ms) rest' ∙ append_assoc m (end ∷ []) (ended end ms ++ rest') in
+    let left = append_assoc (l ++ end ∷ []) (ended end ls) rest
+    ∙ append_assoc l (end ∷ []) (ended end ls ++ rest) in
+    let right = append_assoc (m ++ end ∷ []) (ended end ms) rest'
+    ∙ append_assoc m (end ∷ []) (ended end ms ++ rest') in
     let first =
-    first_alone end l m (ended end ls ++ rest) (ended end ms ++ rest') (a.plain zero l (omega arith)) (b.plain zero m (omega arith))
+    first_alone end l m (ended end ls ++ rest) (ended end ms ++ rest') (a.plain zero l (omega arith))
+    (b.plain zero m (omega arith))
     (sym left ∙ (sym a.whole ∙ (b.whole ∙ right))) in
     let later : AreLines end (ended end ls ++ rest) ls rest =
-    record { whole = refl; plain = λ i d within. a.plain (suc i) d (omega (arith, within)); unended = a.unended } in
+    record {
+      whole = refl;
+      plain = λ i d within. a.plain (suc i) d (omega (arith, within));
+      unended =
+          a.unended;
+    } in
     let later' : AreLines end (ended end ls ++ rest) ms rest' =
-    record { whole = first.1; plain = λ i d within. b.plain (suc i) d (omega (arith, within)); unended = b.unended } in
+    record {
+      whole = first.1;
+      plain = λ i d within. b.plain (suc i) d (omega (arith, within));
+      unended =
+          b.unended;
+    } in
     let others = lines_alone end (ended end ls ++ rest) rest rest' ls ms later later' in
     (ap₂ (λ (x : List ℕ) (xs : List (List ℕ)). x ∷ xs) first.0 others.0, others.1)
 
 -- whole lines have no rest
-pub whole_lines_alone : (end : ℕ) (text front rest rest' : List ℕ) (lines lines' : List (List ℕ)) → text ≡ front ++ rest →
+pub whole_lines_alone : (end : ℕ) (text front rest rest' : List ℕ) (lines lines' : List (List ℕ)) → text
+    ≡ front ++ rest →
     AreLines end text lines rest → AreLines end front lines' rest' → (lines ≡ lines') × (rest' ≡ [])
 whole_lines_alone end text front rest rest' lines lines' split a b =
-    let front_is : front ≡ ended end lines = append_cancel_right front (ended end lines) rest (sym split ∙ a.whole) in
+    let front_is : front
+    ≡ ended end lines = append_cancel_right front (ended end lines) rest (sym split ∙ a.whole) in
     let all : AreLines end front lines [] =
-    record { whole = front_is ∙ sym (append-nil (ended end lines)); plain = a.plain; unended = not_in_nothing end } in
+    record {
+      whole = front_is ∙ sym (append-nil (ended end lines));
+      plain = a.plain;
+      unended =
+          not_in_nothing end;
+    } in
     let same = lines_alone end front [] rest' lines lines' all b in
     (same.0, sym same.1)
 
 -- lines take their bytes
-pub lines_fit : (end : ℕ) (lines : List (List ℕ)) (rest : List ℕ) → length lines + length rest ≤ length (ended end lines ++ rest)
+pub lines_fit : (end : ℕ) (lines : List (List ℕ)) (rest : List ℕ)
+    → length lines + length rest ≤ length (ended end lines ++ rest)
 lines_fit end [] rest = omega arith
 lines_fit end (line ∷ lines) rest =
     let fit = lines_fit end lines rest in
-    let whole : length (ended end (line ∷ lines) ++ rest) ≡ length line + suc (length (ended end lines ++ rest)) =
-    ap length (append_assoc (line ++ end ∷ []) (ended end lines) rest ∙ append_assoc line (end ∷ []) (ended end lines ++ rest))
+    let whole : length (ended end (line ∷ lines) ++ rest)
+    ≡ length line + suc (length (ended end lines ++ rest)) =
+    ap length (append_assoc (line ++ end ∷ []) (ended end lines) rest
+    ∙ append_assoc line (end ∷ []) (ended end lines ++ rest))
     ∙ length-append line (end ∷ ended end lines ++ rest) in
     omega (arith, fit, whole)
 
 pub fewer_lines : (end : ℕ) (text rest : List ℕ) (lines : List (List ℕ)) → AreLines end text lines rest →
     length lines + length rest ≤ length text
-fewer_lines end text rest lines are = let fit = lines_fit end lines rest in let whole : length text ≡ length (ended end lines ++ rest) =
+fewer_lines end text rest lines are = let fit = lines_fit end lines rest in let whole : length text
+    ≡ length (ended end lines ++ rest) =
     ap length are.whole in omega (arith, fit, whole)
 
 -- another byte in the place of the one that ends a line
-set_here : (first behind : List ℕ) (a b : ℕ) → set (first ++ a ∷ behind) (length first) b ≡ first ++ b ∷ behind
+set_here : (first behind : List ℕ) (a b : ℕ) → set (first ++ a ∷ behind) (length first) b
+    ≡ first ++ b ∷ behind
 set_here [] behind a b = refl
 set_here (x ∷ first) behind a b = ap (λ (t : List ℕ). x ∷ t) (set_here first behind a b)
 
@@ -261,22 +326,27 @@ line_and end other text changed from at ends same =
     let place = ends.place in
     let many : at + 1 - from ≡ length ends.first + 1 = omega (arith, place) in
     let line : drop from (set changed at other) ≡ ends.first ++ other ∷ drop (at + 1) text =
-    ap (λ (i : ℕ). drop from (set changed i other)) place ∙ (drop-set-add from changed (length ends.first) other
-    ∙ (ap (λ (t : List ℕ). set t (length ends.first) other) (same ∙ ends.split) ∙ set_here ends.first (drop (at + 1) text) end other)) in
+    ap (λ (i : ℕ). drop from (set changed i other)) place
+    ∙ (drop-set-add from changed (length ends.first) other
+    ∙ (ap (λ (t : List ℕ). set t (length ends.first) other) (same ∙ ends.split)
+    ∙ set_here ends.first (drop (at + 1) text) end other)) in
     rw (many, line) (take_here ends.first (drop (at + 1) text) other)
 
 -- what is behind it isn't changed
-pub behind_line : (end other : ℕ) (text changed : List ℕ) (from at : ℕ) → EndsFirst end text from at → drop from changed ≡ drop from text →
+pub behind_line : (end other : ℕ) (text changed : List ℕ) (from at : ℕ) → EndsFirst end text from at
+    → drop from changed ≡ drop from text →
     drop (at + 1) (set changed at other) ≡ drop (at + 1) text
 behind_line end other text changed from at ends same =
     let place = ends.place in
     let there : from + (length ends.first + 1) ≡ at + 1 = omega (arith, place) in
     drop-set-lt (at + 1) changed at other (omega arith)
     ∙ (ap (λ (n : ℕ). drop n changed) (sym there) ∙ (sym (drop-drop (length ends.first + 1) from changed)
-    ∙ (ap (drop (length ends.first + 1)) same ∙ (drop-drop (length ends.first + 1) from text ∙ ap (λ (n : ℕ). drop n text) there))))
+    ∙ (ap (drop (length ends.first + 1)) same
+    ∙ (drop-drop (length ends.first + 1) from text ∙ ap (λ (n : ℕ). drop n text) there))))
 
 -- and it is one line more
-pub line_more : (end : ℕ) (text : List ℕ) (from at : ℕ) (ends : EndsFirst end text from at) (lines : List (List ℕ)) →
+pub line_more : (end : ℕ) (text : List ℕ) (from at : ℕ) (ends : EndsFirst end text from at)
+    (lines : List (List ℕ)) →
     take from text ≡ ended end lines → take (at + 1) text ≡ ended end (lines ++ ends.first ∷ [])
 line_more end text from at ends lines done =
     let place = ends.place in
@@ -289,7 +359,8 @@ line_more end text from at ends lines done =
     ∙ sym (flat_map-append (λ (line : List ℕ). line ++ end ∷ []) lines (ends.first ∷ [])))))))
 
 -- a line that is found from a place on
-pub ends_first : (end : ℕ) (text first behind : List ℕ) (from : ℕ) → from ≤ length text → drop from text ≡ first ++ end ∷ behind →
+pub ends_first : (end : ℕ) (text first behind : List ℕ) (from : ℕ) → from ≤ length text → drop from text
+    ≡ first ++ end ∷ behind →
     (Contains first end → ⊥) → EndsFirst end text from (from + length first)
 ends_first end text first behind from within split plain = record {
   first = first;
@@ -305,7 +376,8 @@ ends_first end text first behind from within split plain = record {
   where
     after_first : (l : List ℕ) → drop (length l + 1) (l ++ end ∷ behind) ≡ behind
     after_first [] = refl
-    after_first (x ∷ l) = let more : suc (length l) + 1 ≡ suc (length l + 1) = omega arith in rw more (after_first l)
+    after_first (x ∷ l) = let more : suc (length l) + 1
+        ≡ suc (length l + 1) = omega arith in rw more (after_first l)
 
     behind_is : behind ≡ drop (from + length first + 1) text
     behind_is =
@@ -314,7 +386,8 @@ ends_first end text first behind from within split plain = record {
         ∙ (drop-drop (length first + 1) from text ∙ ap (λ (n : ℕ). drop n text) there))
 
 -- it is the same in a text that is the same from there on
-abbrev pub ends_same : (end : ℕ) (text changed : List ℕ) (from at : ℕ) → drop from changed ≡ drop from text → length changed ≡ length text →
+abbrev pub ends_same : (end : ℕ) (text changed : List ℕ) (from at : ℕ) → drop from changed ≡ drop from text
+    → length changed ≡ length text →
     EndsFirst end changed from at → EndsFirst end text from at
 ends_same end text changed from at same long ends =
     let place = ends.place in
@@ -322,7 +395,8 @@ ends_same end text changed from at same long ends =
     let there : from + (length ends.first + 1) ≡ at + 1 = omega (arith, place) in
     let behind : drop (at + 1) changed ≡ drop (at + 1) text =
     ap (λ (n : ℕ). drop n changed) (sym there) ∙ (sym (drop-drop (length ends.first + 1) from changed)
-    ∙ (ap (drop (length ends.first + 1)) same ∙ (drop-drop (length ends.first + 1) from text ∙ ap (λ (n : ℕ). drop n text) there))) in
+    ∙ (ap (drop (length ends.first + 1)) same
+    ∙ (drop-drop (length ends.first + 1) from text ∙ ap (λ (n : ℕ). drop n text) there))) in
     record {
       first = ends.first;
       split = sym same ∙ (ends.split ∙ ap (λ (t : List ℕ). ends.first ++ end ∷ t) behind);
@@ -336,7 +410,8 @@ pub no_rest_left : (rest : List ℕ) → length rest ≡ 0 → with_rest [] rest
 no_rest_left [] none = refl
 no_rest_left (byte ∷ rest) none = absurd (omega (arith, none))
 
-pub rest_ended : (rest : List ℕ) (whole : List (List ℕ)) (left : List ℕ) → (Contains rest 10 → ⊥) → 0 < length rest →
+pub rest_ended : (rest : List ℕ) (whole : List (List ℕ)) (left : List ℕ) → (Contains rest 10 → ⊥)
+    → 0 < length rest →
     AreLines 10 (rest ++ 10 ∷ []) whole left → with_rest [] rest ≡ whole
 rest_ended [] whole left plain some are = absurd (omega (arith, some))
 rest_ended (byte ∷ rest) whole left plain some are =

@@ -1,5 +1,6 @@
 -- The sessions before any input.
-use Rattle.std.proofs.Common.{◌≡◌, ◌∙◌, ◌+◌, ℕ, zero, suc, None, List, [], ◌∷◌, ◌++◌, replicate, arith, refl, sym, ap}
+use Rattle.std.proofs.Common.{◌≡◌, ◌∙◌, ◌+◌, ℕ, zero, suc, None, List, [], ◌∷◌, ◌++◌, replicate, arith, refl}
+use Rattle.std.proofs.Common.{sym, ap}
 use Rattle.std.proofs.lemmas.Option.{none-some}
 use Rattle.hd_catalogue.specs.Contents.{Contents}
 use Rattle.hd_exchange.specs.Extensions.{Extensions}

@@ -1,6 +1,8 @@
 -- The session's number at the beginning of a line.
-use Rattle.std.proofs.Common.{◌≡◌, ◌∙◌, ◌⊎◌, inl, inr, ⊎_elim, ◌+◌, ◌/◌, ◌%◌, ◌<◌, ◌≤◌, ℕ, zero, suc, List, [], ◌∷◌, ◌++◌, Contains}
-use Rattle.std.proofs.Common.{decimal, drop, get_or, length, length-append, ap, append_assoc, arith, refl, subst, sym}
+use Rattle.std.proofs.Common.{◌≡◌, ◌∙◌, ◌⊎◌, inl, inr, ⊎_elim, ◌+◌, ◌/◌, ◌%◌, ◌<◌, ◌≤◌, ℕ, zero, suc, List}
+use Rattle.std.proofs.Common.{[], ◌∷◌, ◌++◌, Contains}
+use Rattle.std.proofs.Common.{decimal, drop, get_or, length, length-append, ap, append_assoc, arith, refl}
+use Rattle.std.proofs.Common.{subst, sym}
 use Rattle.std.proofs.lemmas.Bool.{cases_lt}
 use Rattle.std.proofs.lemmas.Fmt.{decimal_digit, decimal_step}
 use Rattle.hd_replay.specs.Inputs.{IsLineOf, IsSessionNumber, InputMessage}
@@ -10,7 +12,8 @@ use Rattle.hd_replay.proofs.Lining.{first_alone, stands_there}
 decimal_two : (n : ℕ) → 10 ≤ n → n < 100 → decimal n ≡ (48 + n / 10) ∷ (48 + n % 10) ∷ []
 decimal_two n large small =
     let tens : n / 10 < 10 = omega (arith, large, small) in
-    decimal_step n large (omega (arith, small)) ∙ ap (λ (t : List ℕ). t ++ (48 + n % 10) ∷ []) (decimal_digit (n / 10) tens)
+    decimal_step n large (omega (arith, small))
+    ∙ ap (λ (t : List ℕ). t ++ (48 + n % 10) ∷ []) (decimal_digit (n / 10) tens)
 
 -- how a session's number is written: with one digit, or with two
 abbrev pub HasDigits : ℕ → List ℕ → Type 0
@@ -23,7 +26,8 @@ digits_of n digits is same =
     let few = is.1 in
     ⊎_elim
     (λ one. subst (HasDigits n) (sym (decimal_digit n one) ∙ same) (inl (one, refl, refl)))
-    (λ two. subst (HasDigits n) (sym (decimal_two n two (omega (arith, few))) ∙ same) (inr (two, refl, refl, refl)))
+    (λ two. subst (HasDigits n) (sym (decimal_two n two (omega (arith, few))) ∙ same)
+    (inr (two, refl, refl, refl)))
     (cases_lt n 10)
 
 -- and what is written so is the number
@@ -50,7 +54,8 @@ pub no_blank : (n : ℕ) → IsSessionNumber n → Contains (decimal n) 32 → �
 no_blank n is there =
     ⊎_elim
     (λ one. in_one n one (subst (λ (d : List ℕ). Contains d 32) (decimal_digit n one) there))
-    (λ two. in_two n (subst (λ (d : List ℕ). Contains d 32) (decimal_two n two (let few = is.1 in omega (arith, few))) there))
+    (λ two. in_two n (subst (λ (d : List ℕ). Contains d 32)
+    (decimal_two n two (let few = is.1 in omega (arith, few))) there))
     (cases_lt n 10)
   where
     in_one : (n : ℕ) → n < 10 → Contains ((48 + n) ∷ []) 32 → ⊥
@@ -63,24 +68,31 @@ no_blank n is there =
     in_two n (suc (suc i), within, same) = omega (arith, within)
 
 -- a line without a blank is no message's
-pub without_blank : (line : List ℕ) (message : InputMessage) → (Contains line 32 → ⊥) → IsLineOf line message → ⊥
+pub without_blank : (line : List ℕ) (message : InputMessage) → (Contains line 32 → ⊥) → IsLineOf line message
+    → ⊥
 without_blank line message none is =
-    none (subst (λ (l : List ℕ). Contains l 32) (sym is.1) (stands_there 32 (decimal message.session) message.text))
+    none (subst (λ (l : List ℕ). Contains l 32) (sym is.1)
+    (stands_there 32 (decimal message.session) message.text))
 
 -- nor is one whose first part is no session's number
-pub without_number : (line front behind : List ℕ) (message : InputMessage) → line ≡ front ++ 32 ∷ behind → (Contains front 32 → ⊥) →
+pub without_number : (line front behind : List ℕ) (message : InputMessage) → line ≡ front ++ 32 ∷ behind
+    → (Contains front 32 → ⊥) →
     ((n : ℕ) → IsSessionNumber n → decimal n ≡ front → ⊥) → IsLineOf line message → ⊥
 without_number line front behind message split first none is =
-    none message.session is.0 (first_alone 32 (decimal message.session) front message.text behind (no_blank message.session is.0) first
+    none message.session is.0
+    (first_alone 32 (decimal message.session) front message.text behind (no_blank message.session is.0) first
     (sym is.1 ∙ split)).0
 
 -- what a line has behind its blank, with the carriage return behind the line
 pub behind_blank : (front behind text : List ℕ) → front ++ 32 ∷ behind ≡ text ++ 13 ∷ [] →
     (message : List ℕ) × (behind ≡ message ++ 13 ∷ []) × (text ≡ front ++ 32 ∷ message)
-behind_blank [] behind [] same = let other : 32 ≡ 13 = ap (λ (t : List ℕ). get_or t 0 0) same in absurd (omega (arith, other))
-behind_blank [] behind (t ∷ text) same = (text, ap (drop 1) same, ap (λ (b : ℕ). b ∷ text) (sym (ap (λ (t : List ℕ). get_or t 0 0) same)))
+behind_blank [] behind [] same = let other : 32 ≡ 13 = ap (λ (t : List ℕ). get_or t 0 0) same in
+    absurd (omega (arith, other))
+behind_blank [] behind (t ∷ text) same =
+    (text, ap (drop 1) same, ap (λ (b : ℕ). b ∷ text) (sym (ap (λ (t : List ℕ). get_or t 0 0) same)))
 behind_blank (f ∷ front) behind [] same = let none : length (front ++ 32 ∷ behind) ≡ 0 =
-    ap (λ (t : List ℕ). length (drop 1 t)) same in let both = length-append front (32 ∷ behind) in absurd (omega (arith, none, both))
+    ap (λ (t : List ℕ). length (drop 1 t)) same in let both = length-append front (32 ∷ behind) in
+    absurd (omega (arith, none, both))
 behind_blank (f ∷ front) behind (t ∷ text) same =
     let later = behind_blank front behind text (ap (drop 1) same) in (
       later.0,
@@ -90,8 +102,12 @@ behind_blank (f ∷ front) behind (t ∷ text) same =
     )
 
 -- a line that isn't a message's with a carriage return isn't one without
-pub no_message : (line text : List ℕ) → line ≡ text ++ 13 ∷ [] → ((message : InputMessage) → IsLineOf line message → ⊥) → (message : InputMessage) →
+pub no_message : (line text : List ℕ) → line ≡ text ++ 13 ∷ []
+    → ((message : InputMessage) → IsLineOf line message → ⊥) → (message : InputMessage) →
     IsLineOf text message → ⊥
 no_message line text whole none message is =
-    none (record { session = message.session; text = message.text ++ 13 ∷ [] })
-    (is.0, whole ∙ (ap (λ (t : List ℕ). t ++ 13 ∷ []) is.1 ∙ append_assoc (decimal message.session) (32 ∷ message.text) (13 ∷ [])))
+    none (record { session = message.session; text = message.text ++ 13 ∷ [] }) (
+      is.0,
+      whole ∙ (ap (λ (t : List ℕ). t ++ 13 ∷ []) is.1
+          ∙ append_assoc (decimal message.session) (32 ∷ message.text) (13 ∷ [])),
+    )

@@ -8,7 +8,7 @@ use Rattle.hd_rules.specs.Sound.{HoldsFit, PlacesFit, IsFit, Sound, EachBackIsFi
 use Rattle.hd_rules.specs.Differ.{DifferAtEach, DifferBy}
 use Rattle.hd_rules.proofs.Undo.{hold_inj, put_elsewhere, undone_is}
 use Rattle.hd_rules.proofs.Puts.{hold_cases}
-use Rattle.hd_rules.proofs.Fits.{Follows, follows_itself, holds_follow}
+use Rattle.hd_rules.proofs.Fits.{Follows, follows_itself, fit_of, holds_follow}
 use Rattle.hd_rules.proofs.Gentle.{IsMild, AreMild, IsOfHold, AreOfHolds, OneCopyFirst, OneCopy, IsSingle, AreGentle, one_of_holds}
 
 undone_elsewhere : (cs : List Change) (d : Desk) (y : Cell) → Elsewhere y cs → value (take_back cs d) y ≡ value d y
@@ -60,9 +60,6 @@ places_back k d (c ∷ cs) one fit last = by_cell c.cell c.old one last (λ late
     by_cell (CopyCell n) v holds last more = (more (one_of_holds cs holds) (subst (PlacesFit k) (sym (holds_only cs d holds)) fit), last)
     by_cell (HoldCell t p) (HoldHas o) later last more = (more later last, last)
     by_cell (HoldCell t p) (CopyHas s) later last more = (more later last, last)
-
-fit_of : (k : Facts) (n : ℕ) (d : Desk) → HoldsFit n d.hold → PlacesFit k d.copy → IsFit k d
-fit_of k n d holds places = record { named = holds.named; stamps = holds.apart; places = places }
 
 both_back : (k : Facts) (n : ℕ) (d : Desk) (cs : List Change) → EachBack (λ x. HoldsFit n x.hold) cs d
     → EachBack (λ x. PlacesFit k x.copy) cs d → EachBackIsFit k cs d

@@ -15,7 +15,7 @@ number_some : (x y : ℕ) → Some x ≡ Some y → x ≡ y
 number_some x y e = cc
 
 -- one number of a name
-one_new : (to : ℕ → Option ℕ) (x y z : ℕ) → to x ≡ Some y → to x ≡ Some z → y ≡ z
+pub one_new : (to : ℕ → Option ℕ) (x y z : ℕ) → to x ≡ Some y → to x ≡ Some z → y ≡ z
 one_new to x y z e f = number_some y z (sym e ∙ f)
 
 -- an old hold that a new one is

@@ -4,9 +4,13 @@ use Rattle.hd_rules.specs.Words.{Hold, HoldPlace, CopyState, OnHoldShelf}
 use Rattle.hd_rules.specs.Facts.{Facts}
 use Rattle.hd_rules.specs.Desk.{Desk}
 use Rattle.hd_rules.specs.Settle.{with_copy}
-use Rattle.hd_rules.specs.Sound.{HoldsFit, PlacesFit}
+use Rattle.hd_rules.specs.Sound.{HoldsFit, PlacesFit, IsFit}
 use Rattle.hd_rules.proofs.Puts.{copy_cases, hold_cases}
 use Rattle.hd_rules.proofs.Tests.{number_not, some_is}
+
+-- a desk whose holds and places fit
+pub fit_of : (k : Facts) (n : ℕ) (d : Desk) → HoldsFit n d.hold → PlacesFit k d.copy → IsFit k d
+fit_of k n d holds places = record { named = holds.named; stamps = holds.apart; places = places }
 
 -- the hold was there before, with the same patron and stamp
 pub record Follows (v : Option Hold) (h : Hold) : Type 0 where

@@ -26,11 +26,11 @@ pub rising_more : (n : ℕ) (ss : List Survivor) (s : Survivor) → Rising n ss 
 rising_more n [] s rising le = (le, tt)
 rising_more n (x ∷ xs) s rising le = (rising.0, rising_more (x.number + 1) xs s rising.1 le)
 
-next_more : (n : ℕ) (ss : List Survivor) (s : Survivor) → next_number n (ss ++ s ∷ []) ≡ s.number + 1
+pub next_more : (n : ℕ) (ss : List Survivor) (s : Survivor) → next_number n (ss ++ s ∷ []) ≡ s.number + 1
 next_more n [] s = refl
 next_more n (x ∷ xs) s = next_more (x.number + 1) xs s
 
-next_up : (m n : ℕ) (ss : List Survivor) → m ≤ n → next_number m ss ≤ next_number n ss
+pub next_up : (m n : ℕ) (ss : List Survivor) → m ≤ n → next_number m ss ≤ next_number n ss
 next_up m n [] le = le
 next_up m n (s ∷ ss) le = next_self (s.number + 1) ss
   where

@@ -55,8 +55,9 @@ elsewhere_filter keep_it y (c ∷ cs) h = by_test (keep_it c) refl (elsewhere_fi
     by_test true is rest = rw is (h.0, rest)
     by_test false is rest = rw is rest
 
-other_way : (x y : Cell) → same_cell x y ≡ false → same_cell y x ≡ false
-other_way x y h = by_test (same_cell y x) refl
+-- a cell is apart from another where that one is apart from it
+pub apart_sym : (x y : Cell) → same_cell x y ≡ false → same_cell y x ≡ false
+apart_sym x y h = by_test (same_cell y x) refl
   where
     by_test : (b : Bool) → same_cell y x ≡ b → b ≡ false
     by_test false is = refl
@@ -74,7 +75,7 @@ put_own d x v fits has = same_desk (put d x v) d (λ y. by_test y (same_cell x y
 pub proper_put : (d : Desk) (x : Cell) (v : Value) (cs : List Change) → Elsewhere x cs → Proper d cs → Proper (put d x v) cs
 proper_put d x v [] apart proper = tt
 proper_put d x v (c ∷ cs) apart proper =
-    (put_elsewhere d x v c.cell (other_way c.cell x apart.0) ∙ proper.0, proper.1, proper.2, proper_put d x v cs apart.1 proper.3)
+    (put_elsewhere d x v c.cell (apart_sym c.cell x apart.0) ∙ proper.0, proper.1, proper.2, proper_put d x v cs apart.1 proper.3)
 
 abbrev is_real : Change → Bool
 is_real c = not (same_value c.old c.new)

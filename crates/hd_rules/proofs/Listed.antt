@@ -41,7 +41,7 @@ range_rises a zero = tt
 range_rises a (suc n) =
     (λ y h. let low : a + 1 ≤ y = (among_range (a + 1) n y h).0 in omega arith, range_rises (a + 1) n)
 
-range_more : (a n : ℕ) → range_with_len a (suc n) ≡ range_with_len a n ++ (a + n) ∷ []
+pub range_more : (a n : ℕ) → range_with_len a (suc n) ≡ range_with_len a n ++ (a + n) ∷ []
 range_more a zero = ap (λ (m : ℕ). m ∷ []) (let same : a ≡ a + 0 = omega arith in same)
 range_more a (suc n) = ap (λ (ms : List ℕ). a ∷ ms) (range_more (a + 1) n
     ∙ ap (λ (m : ℕ). range_with_len (a + 1) n ++ m ∷ []) (let same : (a + 1) + n ≡ a + suc n = omega arith in same))

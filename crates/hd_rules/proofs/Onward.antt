@@ -9,7 +9,7 @@ use Rattle.hd_rules.specs.Run.{IsAmong, AreChanges}
 use Rattle.hd_rules.specs.Sound.{HoldsFit, PlacesFit, IsFit, Sound, EachOnIsFit}
 use Rattle.hd_rules.proofs.Undo.{hold_inj}
 use Rattle.hd_rules.proofs.Puts.{hold_cases}
-use Rattle.hd_rules.proofs.Fits.{Follows, follows_itself, holds_follow}
+use Rattle.hd_rules.proofs.Fits.{Follows, follows_itself, fit_of, holds_follow}
 use Rattle.hd_rules.proofs.Gentle.{IsMild, AreMild, IsOfHold, AreOfHolds, OneCopyFirst, OneCopy, IsSingle, AreGentle, one_of_holds}
 use Rattle.hd_rules.proofs.Leads.{Proper, proper_put, Good, leads_to}
 use Rattle.hd_rules.proofs.Reach.{plan_leads}
@@ -61,9 +61,6 @@ places_on k d (c ∷ cs) one fit last = by_cell c.cell c.new one last (λ e late
         (here, more (put d (CopyCell n) v) (one_of_holds cs holds) here end)
     by_cell (HoldCell t p) (HoldHas o) later end more = (fit, more (put d (HoldCell t p) (HoldHas o)) later fit end)
     by_cell (HoldCell t p) (CopyHas s) later end more = (fit, more (put d (HoldCell t p) (CopyHas s)) later fit end)
-
-fit_of : (k : Facts) (n : ℕ) (d : Desk) → HoldsFit n d.hold → PlacesFit k d.copy → IsFit k d
-fit_of k n d holds places = record { named = holds.named; stamps = holds.apart; places = places }
 
 both_on : (k : Facts) (n : ℕ) (d : Desk) (cs : List Change) → EachOn (λ x. HoldsFit n x.hold) cs d → EachOn (λ x. PlacesFit k x.copy) cs d
     → EachOnIsFit k cs d

@@ -185,7 +185,8 @@ plain_ends (byte ∷ text) none =
 
 -- what is given of a part: some of what stands before its carriage return,
 plain_given : (text plain rest : List ℕ) (n : ℕ) (a b : Option (List ℕ)) → text ≡ plain ++ rest
-    → ¬ Contains plain 13 → n ≤ length plain → Appends a b (take n plain) → Gives false false a b (take n text)
+    → ¬ Contains plain 13 → n ≤ length plain → Appends a b (take n plain)
+    → Gives false false a b (take n text)
 plain_given text plain rest n a b split none few appends =
     let same : take n text ≡ take n plain =
     ap (λ (l : List ℕ). take n l) split ∙ take-append-le n plain rest few in
@@ -269,7 +270,8 @@ ended_given false false text plain rest n a b is less split none most appends =
 pub gives_part : (is_ended : Bool) (text plain : List ℕ) (n : ℕ) (a b : Option (List ℕ))
     → IsFirstPart text plain is_ended → n ≤ length (bytes_of plain is_ended ++ owed is_ended)
     → Appends a b (take n (bytes_of plain is_ended ++ owed is_ended))
-    → Gives false (is_ended && (n == length plain + 1)) a b (take (min n (length (bytes_of plain is_ended))) text)
+    → Gives false (is_ended && (n == length plain + 1)) a b
+    (take (min n (length (bytes_of plain is_ended))) text)
 gives_part true text plain n a b part most appends =
     ended_given (n == length plain + 1) (nat_lt n (length plain + 1)) text plain part.rest n a b refl refl
     part.split part.none most appends
@@ -294,7 +296,8 @@ pub all_given : (owes paid owes' left : Bool) (a b c d : Option (List ℕ)) (tex
 all_given owes paid owes' left a b c d text first none part last =
     subst (λ (l : List ℕ). Gives owes left a d l) (append-nil text)
     (gives_then owes owes' left a c d text []
-    (gives_then owes false owes' a b c [] text (subst (λ (o : Bool). Gives owes o a b []) none first) part) last)
+    (gives_then owes false owes' a b c [] text (subst (λ (o : Bool). Gives owes o a b []) none first) part)
+    last)
 
 -- where a line ends in the first bytes of a text, it is the part of it
 pub part_of_line : (text first behind line : List ℕ) (taken : ℕ) → text ≡ first ++ behind

@@ -19,16 +19,19 @@ are_turns_append (Looked shown ∷ xs) ys p q = absurd p
 
 module _ (k : Contents) (shows : List Turn → Book → Type 0) where
   -- each look of some deeds, and of some more
-  pub shown_append : (turns : List Turn) (xs ys : List Deed) → AreShown k shows turns xs → AreShown k shows (turns ++ turns_in xs) ys
+  pub shown_append : (turns : List Turn) (xs ys : List Deed) → AreShown k shows turns xs
+      → AreShown k shows (turns ++ turns_in xs) ys
       → AreShown k shows turns (xs ++ ys)
   shown_append turns [] ys p q = subst (λ (t : List Turn). AreShown k shows t ys) (append-nil turns) q
   shown_append turns (Made turn ∷ xs) ys p q =
       shown_append (turns ++ turn ∷ []) xs ys p
-      (subst (λ (t : List Turn). AreShown k shows t ys) (sym (append_assoc turns (turn ∷ []) (turns_in xs))) q)
+      (subst (λ (t : List Turn). AreShown k shows t ys) (sym (append_assoc turns (turn ∷ []) (turns_in xs)))
+      q)
   shown_append turns (Looked shown ∷ xs) ys p q = (p.0, shown_append turns xs ys p.1 q)
 
   -- of the first of them
-  pub shown_before : (turns : List Turn) (xs ys : List Deed) → AreShown k shows turns (xs ++ ys) → AreShown k shows turns xs
+  pub shown_before : (turns : List Turn) (xs ys : List Deed) → AreShown k shows turns (xs ++ ys)
+      → AreShown k shows turns xs
   shown_before turns [] ys p = tt
   shown_before turns (Made turn ∷ xs) ys p = shown_before (turns ++ turn ∷ []) xs ys p
   shown_before turns (Looked shown ∷ xs) ys p = (p.0, shown_before turns xs ys p.1)

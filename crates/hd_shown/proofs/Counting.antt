@@ -61,6 +61,7 @@ one_more turns old new turn n there next below begun place tallies room last of 
     (turn_numbered turns (count j))) in
     record {
       within = omega (arith, below, place, next);
-      room = λ m other found. subst (λ (k : ℕ). other.message.terminal < k) (sym room) (of.room m other found);
+      room = λ m other found. subst (λ (k : ℕ). other.message.terminal < k) (sym room)
+          (of.room m other found);
       is = step ∙ counts ∙ (λ j. counted (sym begun j) turns (sym (place ∙ count) j));
     }

@@ -15,7 +15,8 @@ use Rattle.hd_shown.specs.Standing.{Tells, state_of}
 same_counts : (x y : Counts) → (let o : Option Counts = Some x in o ≡ Some y) → x ≡ y
 same_counts x y is = cc
 
-pub ended : (book : Book) (old new : StateReader) (state : State) → HasCounted old book new → IsEnded new state
+pub ended : (book : Book) (old new : StateReader) (state : State) → HasCounted old book new
+    → IsEnded new state
     → (tallies : Option Turns) × AreTallied book.turns tallies
     × (state ≡ state_of Well (Some (counts_of book)) tallies)
 ended book old new state has ends =

@@ -1,6 +1,8 @@
 -- What is kept of a terminal is of its last turn that is no query.
-use Rattle.std.proofs.Common.{arith, ◌≡◌, refl, sym, ◌∙◌, ap, subst, ℕ, zero, suc, ◌+◌, ◌==◌, Bool, true, false}
-use Rattle.std.proofs.Common.{cond, ◌&&◌, List, [], ◌∷◌, ◌++◌, length, slice_get, Option, Some, None, Result, Ok, Err}
+use Rattle.std.proofs.Common.{arith, ◌≡◌, refl, sym, ◌∙◌, ap, subst, ℕ, zero, suc, ◌+◌, ◌==◌, Bool, true}
+use Rattle.std.proofs.Common.{false}
+use Rattle.std.proofs.Common.{cond, ◌&&◌, List, [], ◌∷◌, ◌++◌, length, slice_get, Option, Some, None, Result}
+use Rattle.std.proofs.Common.{Ok, Err}
 use Rattle.std.specs.Prelude.{is_some, nat_lt}
 use Rattle.std.proofs.lemmas.Bool.{eqb-true}
 use Rattle.hd_rules.specs.declared.commands.Survivor.{Survivor}
@@ -16,7 +18,8 @@ use Rattle.hd_rules.specs.Run.{outcome_of}
 use Rattle.hd_rules.specs.Target.{Split}
 use Rattle.hd_rules.specs.Searches.{target, first_dependent}
 use Rattle.hd_rules.specs.Turns.{Message, Kept, State, Answered, kept_of, next_survivor, start}
-use Rattle.hd_rules.specs.Machine.{kept_reply, reply_again, answered_command, answered_target, answered_cancel}
+use Rattle.hd_rules.specs.Machine.{kept_reply, reply_again, answered_command, answered_target}
+use Rattle.hd_rules.specs.Machine.{answered_cancel}
 use Rattle.hd_rules.specs.Machine.{answered_new, answered_unless, turn_of}
 use Rattle.hd_rules.specs.Messages.{is_query}
 use Rattle.hd_rules.specs.Journal.{Turn, IsLegal, IsLegalFrom, state_from, state_after}
@@ -149,7 +152,8 @@ module _ (exact : TestsAreExact) where
       → AreKept s (counted begun whole n).last
       → AreKept (state_from k s turns) (counted begun whole (n + length turns)).last
   part k begun whole later [] n s legal same are =
-      subst (λ (m : ℕ). AreKept s (counted begun whole m).last) (let more : n ≡ n + 0 = omega arith in more) are
+      subst (λ (m : ℕ). AreKept s (counted begun whole m).last) (let more : n ≡ n + 0 = omega arith in more)
+      are
   part k begun whole later (turn ∷ turns) n s legal same are =
       let here : turn_numbered whole (suc n) ≡ Some turn =
       ap (slice_get whole) (let first : n ≡ n + 0 = omega arith in first) ∙ same 0 in
@@ -160,7 +164,8 @@ module _ (exact : TestsAreExact) where
       subst (AreKept (turn_of k s turn.message).state) next
       (step k s (counted begun whole n).last turn are legal.0) in
       let all = part k begun whole later turns (suc n) (turn_of k s turn.message).state legal.1
-      (λ i. ap (slice_get whole) (let more : suc n + i ≡ n + suc i = omega arith in more) ∙ same (suc i)) then in
+      (λ i. ap (slice_get whole) (let more : suc n + i ≡ n + suc i = omega arith in more) ∙ same (suc i))
+      then in
       subst (λ (m : ℕ). AreKept (state_from k s (turn ∷ turns)) (counted begun whole m).last)
       (let more : suc n + length turns ≡ n + suc (length turns) = omega arith in more) all
 

@@ -1,11 +1,13 @@
 -- The titles that a patron holds, in their order, tell the list of their holds.
-use Rattle.std.proofs.Common.{arith, ◌≡◌, refl, sym, ◌∙◌, ap, subst, ℕ, ◌+◌, ◌<◌, ◌≤◌, ◌⊎◌, inl, inr, zero, suc}
+use Rattle.std.proofs.Common.{arith, ◌≡◌, refl, sym, ◌∙◌, ap, subst, ℕ, ◌+◌, ◌<◌, ◌≤◌, ◌⊎◌, inl, inr, zero}
+use Rattle.std.proofs.Common.{suc}
 use Rattle.std.proofs.Common.{Bool, true, false, cond, ◌==◌, Option, Some, None, List, [], ◌∷◌, length}
 use Rattle.std.proofs.Common.{All, filter_map, option_map}
 use Rattle.std.specs.Prelude.{nat_lt}
 use Rattle.std.specs.List.{AllByRecursion, Contains, cons_option}
 use Rattle.std.proofs.lemmas.Bool.{eqb-true, eqb-false, ltb-true}
-use Rattle.std.proofs.lemmas.List.Elements.{Contains-append_cases, Contains-append_left, Contains-append_right}
+use Rattle.std.proofs.lemmas.List.Elements.{Contains-append_cases, Contains-append_left}
+use Rattle.std.proofs.lemmas.List.Elements.{Contains-append_right}
 use Rattle.std.proofs.lemmas.List.Elements.{All-from_recursion, Contains-push, Contains-push_cases}
 use Rattle.hd_rules.specs.declared.holds.Hold.{Hold}
 use Rattle.hd_rules.specs.declared.views.TitleHold.{TitleHold}
@@ -49,7 +51,8 @@ record Source {A B : Type 0} (f : A → Option B) (y : B) (xs : List A) : Type 0
   among : IsAmong x xs
   is : f x ≡ Some y
 
-source_of : {A B : Type 0} (f : A → Option B) (y : B) (xs : List A) → IsAmong y (filter_map f xs) → Source f y xs
+source_of : {A B : Type 0} (f : A → Option B) (y : B) (xs : List A) → IsAmong y (filter_map f xs)
+    → Source f y xs
 source_of f y [] h = absurd h
 source_of {A} {B} f y (x ∷ xs) h = by_value (f x) refl h (source_of f y xs)
   where
@@ -174,7 +177,8 @@ held_holds k d p es held known past = record {
   members = λ h. (is_held h, is_listed h);
 }
   where
-    is_held : (h : TitleHold) → IsAmong h (held_by d p es) → (h.title < k.titles) × (d.hold h.title p ≡ Some h.hold)
+    is_held : (h : TitleHold) → IsAmong h (held_by d p es)
+        → (h.title < k.titles) × (d.hold h.title p ≡ Some h.hold)
     is_held h among =
         let s : Source (hold_at d p) h es = source_of (hold_at d p) h es among in
         let there : (h.title ≡ s.x.title) × (d.hold s.x.title p ≡ Some h.hold) = found d p s.x h s.is in (
@@ -193,7 +197,8 @@ pub all_held : (d : Desk) (p : ℕ) (es : List HeldTitle) → AreHeldBy d.hold p
     IsAmong e es → IsHeldBy d p e
 all_held d p es held e among = (held.each e).0 (contains_among e es among)
 
-pub known_titles : (k : Facts) (es : List HeldTitle) → AllByRecursion (λ (e : HeldTitle). e.title < k.titles) es →
+pub known_titles : (k : Facts) (es : List HeldTitle)
+    → AllByRecursion (λ (e : HeldTitle). e.title < k.titles) es →
     All (λ (e : HeldTitle). e.title < k.titles) es
 known_titles k es known = All-from_recursion (λ (e : HeldTitle). e.title < k.titles) es known
 

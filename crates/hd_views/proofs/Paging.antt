@@ -30,7 +30,8 @@ cut_before (suc skip) (suc last) (x ∷ xs) =
 -- nothing is left of the list
 pub filled_all : (room : ℕ) (cut : Cut) (items : List ListItem) → filled room cut items [] ≡ items
 filled_all room cut items =
-    ap (λ (xs : List ListItem). items ++ take (room - length items) (as_far_as cut.left xs)) (drop_nil cut.skip)
+    ap (λ (xs : List ListItem). items ++ take (room - length items) (as_far_as cut.left xs))
+    (drop_nil cut.skip)
     ∙ ap (λ (xs : List ListItem). items ++ take (room - length items) xs) (far_nil cut.left)
     ∙ ap (λ (xs : List ListItem). items ++ xs) (take_nil (room - length items)) ∙ append-nil items
   where
@@ -93,7 +94,8 @@ passed_over room skip left items x rest some =
     ap (λ (xs : List ListItem). topped_up room items (as_far_as left xs)) (sym (drop_more skip x rest some))
 
 -- an item is put, where there is room
-pub put_behind : (room : ℕ) (items : List ListItem) (x : ListItem) (ys : List ListItem) → length items < room →
+pub put_behind : (room : ℕ) (items : List ListItem) (x : ListItem) (ys : List ListItem)
+    → length items < room →
     topped_up room (items ++ x ∷ []) ys ≡ topped_up room items (x ∷ ys)
 put_behind room items x ys below =
     append_assoc items (x ∷ []) (take (room - length (items ++ x ∷ [])) ys)

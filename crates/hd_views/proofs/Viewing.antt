@@ -1,6 +1,7 @@
 -- What is listed of a patron's loans and holds, one after another.
 use Rattle.std.proofs.Common.{arith, ◌≡◌, refl, ap, ℕ, ◌+◌, ◌<◌, ◌≤◌, zero, suc, Bool, true, false, not}
-use Rattle.std.proofs.Common.{cond, is_some, All, filter, filter_map, length, map, List, [], ◌∷◌, Option, Some, None}
+use Rattle.std.proofs.Common.{cond, is_some, All, filter, filter_map, length, map, List, [], ◌∷◌, Option}
+use Rattle.std.proofs.Common.{Some, None}
 use Rattle.std.specs.Prelude.{option_and_then, option_map}
 use Rattle.std.specs.List.{cons_option, range_with_len}
 use Rattle.std.proofs.lemmas.List.Elements.{All-cons, All-nil}
@@ -16,7 +17,8 @@ use Rattle.hd_views.specs.Held.{held_by, kept_copy, overdue_copy, waiting_title}
 
 -- the holds of these titles, where the first is held, and where it isn't
 pub held_first : (d : Desk) (p : ℕ) (e : HeldTitle) (rest : List HeldTitle) (g : Hold) →
-    d.hold e.title p ≡ Some g → held_by d p (e ∷ rest) ≡ record { title = e.title; hold = g } ∷ held_by d p rest
+    d.hold e.title p ≡ Some g → held_by d p (e ∷ rest)
+    ≡ record { title = e.title; hold = g } ∷ held_by d p rest
 held_first d p e rest g is = rw is refl
 
 pub not_held_first : (d : Desk) (p : ℕ) (e : HeldTitle) (rest : List HeldTitle) →
@@ -46,7 +48,8 @@ kept_are d p (e ∷ es) = by_hold (d.hold e.title p) (kept_are d p es)
 
     by_hold : (o : Option Hold) →
         filter_map (kept_copy d p) es ≡ copies_of (filter (is_kept d) (held_by d p es)) →
-        cons_option (option_and_then (λ (h : Hold). cond (is_shelved d h.copy) (option_map CopyItem h.copy) None) o)
+        cons_option (option_and_then
+        (λ (h : Hold). cond (is_shelved d h.copy) (option_map CopyItem h.copy) None) o)
         (filter_map (kept_copy d p) es)
         ≡ copies_of (filter (is_kept d)
         (cons_option (option_map (λ (h : Hold). record { title = e.title; hold = h }) o) (held_by d p es)))
@@ -70,7 +73,8 @@ waiting_are d p (e ∷ es) = by_hold (d.hold e.title p) (waiting_are d p es)
 
     by_hold : (o : Option Hold) →
         filter_map (waiting_title d p) es ≡ titles_of (filter (λ g. not (is_kept d g)) (held_by d p es)) →
-        cons_option (option_and_then (λ (h : Hold). cond (is_shelved d h.copy) None (Some (TitleItem e.title))) o)
+        cons_option (option_and_then
+        (λ (h : Hold). cond (is_shelved d h.copy) None (Some (TitleItem e.title))) o)
         (filter_map (waiting_title d p) es)
         ≡ titles_of (filter (λ g. not (is_kept d g))
         (cons_option (option_map (λ (h : Hold). record { title = e.title; hold = h }) o) (held_by d p es)))
@@ -107,7 +111,8 @@ as_many_copies d (h ∷ hs) = by_test (is_shelved d h.hold.copy) refl (as_many_c
         length (copies_of (cond b (h ∷ filter (is_kept d) hs) (filter (is_kept d) hs)))
         ≡ length (cond b (h ∷ filter (is_kept d) hs) (filter (is_kept d) hs))
     by_test true is more =
-        let one : length (copies_of (h ∷ filter (is_kept d) hs)) ≡ suc (length (copies_of (filter (is_kept d) hs))) =
+        let one : length (copies_of (h ∷ filter (is_kept d) hs))
+        ≡ suc (length (copies_of (filter (is_kept d) hs))) =
         by_copy h.hold.copy is (copies_of (filter (is_kept d) hs)) in
         omega arith
     by_test false is more = more

@@ -26,14 +26,26 @@ module _ {M : Type 1} {𝓤 : Ura M} (𝓛 : Logic 𝓤) (at_mem : Memory → SP
   Tick = triple_of 𝓛 TK.signature (TK.spec 𝓛 at_mem run)
 
   abbrev pub at_tick : Lft → Share → ℕ × ℕ → Tick.Ghost
-  at_tick κ q c = (((κ, tt), (q, tt), tt, (record { ref_ptr = c; now = record { value = tt } }, tt), (vptr c.0 c.1 ∷ [], tt)), tt)
+  at_tick κ q c = (
+    (
+      (κ, tt),
+      (q, tt),
+      tt,
+      (record { ref_ptr = c; now = record { value = tt } }, tt),
+      (vptr c.0 c.1 ∷ [], tt),
+    ),
+    tt,
+  )
 
-module _ {M : Type 1} {𝓤 : Ura M} (𝓛 : Logic 𝓤) (at_mem : Memory → SProp 𝓤) (run : Routine → Fun 𝓤) (κ : Lft) (q : Share) (c : ℕ × ℕ) where
+module _ {M : Type 1} {𝓤 : Ura M} (𝓛 : Logic 𝓤) (at_mem : Memory → SProp 𝓤) (run : Routine → Fun 𝓤) (κ : Lft)
+    (q : Share) (c : ℕ × ℕ) where
   open 𝓛 use {H, A}
 
   pub Tick-goes : ent 𝓤 (sep 𝓤 (sem 𝓛 (hidden_shr Calls κ (record { value = tt }) c.0 c.1)) (A.lft κ q))
       ((Tick 𝓛 at_mem run).pre (at_tick 𝓛 at_mem run κ q c))
   Tick-goes =
-      qed 𝓛 (‵ (hidden_shr Calls κ (record { value = tt }) c.0 c.1) ∷ ‵ (flft κ q) ∷ []) ∵ feq_i ! (List Val) (vptr c.0 c.1 ∷ [])
+      qed 𝓛 (‵ (hidden_shr Calls κ (record { value = tt }) c.0 c.1) ∷ ‵ (flft κ q) ∷ []) ∵ feq_i ! (List Val)
+      (vptr c.0 c.1 ∷ [])
       (vptr c.0 c.1 ∷ []) refl $ fjoin ! $
-      nothing ! $ move ! (1 ∷ []) $ fjoin ! $ nothing ! $ move ! (2 ∷ []) $ join ! $ join ! $ nothing ! $ move ! (1 ∷ []) $ done !
+      nothing ! $ move ! (1 ∷ []) $ fjoin ! $ nothing ! $ move ! (2 ∷ []) $ join ! $ join ! $ nothing ! $ move
+      ! (1 ∷ []) $ done !

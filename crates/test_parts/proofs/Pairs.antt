@@ -3,9 +3,12 @@ use Rattle.std.proofs.Common.{◌≡◌, List, ◌∷◌, ◌++◌, [], zero, su
 use Rattle.std.proofs.lemmas.Option.{none-some, same_Some}
 use Rattle.hd_hall.specs.Seats.{EachSeat, SeatView}
 
-pub with_parts : (one two : SeatView) → one.parts ≡ 1 → two.parts ≡ 1 → EachSeat (one ∷ two ∷ []) (λ s. s.parts ≡ 1)
-with_parts one two first second zero s is = subst (λ (seat : SeatView). seat.parts ≡ 1) (same_Some one s is) first
-with_parts one two first second (suc zero) s is = subst (λ (seat : SeatView). seat.parts ≡ 1) (same_Some two s is) second
+pub with_parts : (one two : SeatView) → one.parts ≡ 1 → two.parts ≡ 1
+    → EachSeat (one ∷ two ∷ []) (λ s. s.parts ≡ 1)
+with_parts one two first second zero s is =
+    subst (λ (seat : SeatView). seat.parts ≡ 1) (same_Some one s is) first
+with_parts one two first second (suc zero) s is =
+    subst (λ (seat : SeatView). seat.parts ≡ 1) (same_Some two s is) second
 with_parts one two first second (suc (suc k)) s is = absurd (none-some s is)
 
 pub with_part : (one : SeatView) → one.parts ≡ 1 → EachSeat (one ∷ []) (λ s. s.parts ≡ 1)
@@ -16,4 +19,5 @@ pub with_more : (seats : List SeatView) (one : SeatView) → EachSeat seats (λ 
     → EachSeat (seats ++ one ∷ []) (λ s. s.parts ≡ 1)
 with_more [] one each has k s is = with_part one has k s is
 with_more (first ∷ seats) one each has zero s is = each zero s is
-with_more (first ∷ seats) one each has (suc k) s is = with_more seats one (λ n t at. each (suc n) t at) has k s is
+with_more (first ∷ seats) one each has (suc k) s is =
+    with_more seats one (λ n t at. each (suc n) t at) has k s is

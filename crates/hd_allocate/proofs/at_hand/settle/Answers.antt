@@ -7,6 +7,7 @@ use Rattle.hd_allocate.proofs.at_hand.settle.Goals as goal
 
 pub returns : goal.returns
 returns g c = λ k d at shelf rest.
-    let place = least_is_place c.place_is_the_least_free.ensures k d c.args.at c.least_free.result c.args.places.now.copies shelf
+    let place = least_is_place c.place_is_the_least_free.ensures k d c.args.at c.least_free.result
+    c.args.places.now.copies shelf
     c.least_free.ensures.least in
     ap (λ (x : Result Done Refusal × List Question). x.0) (c.settle_copy.ensures.settled k d (at, place) rest)

@@ -14,10 +14,13 @@ loop-number-preserved g c =
     let number = c.loop-number.number in
     let before = c.args.rows.now.items ++ hold_rows r queues number in
     let next : suc number ≡ number + 1 = omega arith in
-    let holds : c.holds.result ≡ queues number = c.holds.ensures ∙ c.queue.ensures.value ∙ ap queues c.title_at-title.ensures in
+    let holds : c.holds.result ≡ queues number = c.holds.ensures ∙ c.queue.ensures.value
+    ∙ ap queues c.title_at-title.ensures in
     c.in_ok-add_queue_rows.ensures
-    ∙ ap (λ (rows : List OpeningRow). rows ++ filter_map (hold_row r c.title_at-title.result) c.holds.result) c.loop-number.invariant
+    ∙ ap (λ (rows : List OpeningRow). rows ++ filter_map (hold_row r c.title_at-title.result) c.holds.result)
+    c.loop-number.invariant
     ∙ ap (λ t. before ++ filter_map (hold_row r t) c.holds.result) c.title_at-title.ensures
     ∙ ap (λ (hs : List Hold). before ++ filter_map (hold_row r number) hs) holds
-    ∙ append_assoc c.args.rows.now.items (hold_rows r queues number) (filter_map (hold_row r number) (queues number))
+    ∙ append_assoc c.args.rows.now.items (hold_rows r queues number)
+    (filter_map (hold_row r number) (queues number))
     ∙ ap (λ n. c.args.rows.now.items ++ hold_rows r queues n) next

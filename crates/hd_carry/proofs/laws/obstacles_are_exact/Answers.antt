@@ -9,5 +9,6 @@ use Rattle.hd_carry.proofs.laws.obstacles_are_exact.Goals as goal
 pub returns : goal.returns
 returns c old new last listed d queues named its obstacle =
     let k : Facts = facts_of old in
-    told_exactly k (facts_of new) (by_names old new) (without_loans k listed d) last queues (written_queues k listed d queues its)
+    told_exactly k (facts_of new) (by_names old new) (without_loans k listed d) last queues
+    (written_queues k listed d queues its)
     (written_named k listed d named) obstacle

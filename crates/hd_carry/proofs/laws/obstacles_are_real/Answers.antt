@@ -11,5 +11,6 @@ pub returns : goal.returns
 returns c old new listed d e queues distinct its over =
     let k : Facts = facts_of old in
     let names : IsRenumbering k (facts_of new) (by_names old new) = is_renumbering old new distinct in
-    nothing_is_in_the_way k (facts_of new) (by_names old new) (without_loans k listed d) e names.names over queues
+    nothing_is_in_the_way k (facts_of new) (by_names old new) (without_loans k listed d) e names.names over
+    queues
     (written_queues k listed d queues its)

@@ -11,5 +11,7 @@ pub returns : goal.returns
 returns c old new n listed d queues distinct range sound known its free =
     let k : Facts = facts_of old in
     let names : IsRenumbering k (facts_of new) (by_names old new) = is_renumbering old new distinct in
-    are_carried k (facts_of new) (by_names old new) n (without_loans k listed d) queues names.names names.known_patron names.new_title
-    (written_sound k n listed d sound) (written_known k listed d range known) (written_queues k listed d queues its) free
+    are_carried k (facts_of new) (by_names old new) n (without_loans k listed d) queues names.names
+    names.known_patron names.new_title
+    (written_sound k n listed d sound) (written_known k listed d range known)
+    (written_queues k listed d queues its) free

@@ -6,5 +6,6 @@ use Rattle.hd_carry.proofs.names.branch_numbers.Goals as goal
 pub returns-clause-distinct : goal.returns-clause-distinct
 unfolding facts_of
 returns-clause-distinct g c =
-    let many : c.branches-branches.result ≡ length c.args.old.now.branches = c.branches-branches.ensures.count in
+    let many : c.branches-branches.result
+    ≡ length c.args.old.now.branches = c.branches-branches.ensures.count in
     distinct_all c.args.old.now.branches (λ n l. c.loop-number.invariant.found n (omega arith))

@@ -5,4 +5,5 @@ use Rattle.hd_carry.proofs.names.copy_named.Goals as goal
 pub returns-clause-found : goal.returns-clause-found
 unfolding copy_name copy_number
 returns-clause-found g c =
-    found_again c.args.old.now.copies c.args.copy c.copy_name.result.now c.copy_name.ensures.name c.copy_name.ensures.found
+    found_again c.args.old.now.copies c.args.copy c.copy_name.result.now c.copy_name.ensures.name
+    c.copy_name.ensures.found

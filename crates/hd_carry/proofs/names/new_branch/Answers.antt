@@ -5,4 +5,5 @@ use Rattle.hd_carry.proofs.names.new_branch.Goals as goal
 pub returns-clause-found : goal.returns-clause-found
 unfolding branch_name branch_number
 returns-clause-found g c =
-    found_again c.args.old.now.branches c.args.branch c.branch_name.result.now c.branch_name.ensures.name c.branch_name.ensures.found
+    found_again c.args.old.now.branches c.args.branch c.branch_name.result.now c.branch_name.ensures.name
+    c.branch_name.ensures.found

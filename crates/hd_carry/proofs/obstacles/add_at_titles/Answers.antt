@@ -14,10 +14,13 @@ loop-number-preserved g c =
     let number = c.loop-number.number in
     let before = c.args.obstacles.now.items ++ titles_obstacles r queues number in
     let next : suc number ≡ number + 1 = omega arith in
-    let holds : c.holds.result ≡ queues number = c.holds.ensures ∙ c.queue.ensures.value ∙ ap queues c.title_at-title.ensures in
+    let holds : c.holds.result ≡ queues number = c.holds.ensures ∙ c.queue.ensures.value
+    ∙ ap queues c.title_at-title.ensures in
     c.in_ok-add_at_queue.ensures
-    ∙ ap (λ (found : List Obstacle). found ++ flat_map (hold_obstacles r c.title_at-title.result) c.holds.result) c.loop-number.invariant
+    ∙ ap (λ (found : List Obstacle). found ++ flat_map (hold_obstacles r c.title_at-title.result)
+    c.holds.result) c.loop-number.invariant
     ∙ ap (λ t. before ++ flat_map (hold_obstacles r t) c.holds.result) c.title_at-title.ensures
     ∙ ap (λ (hs : List Hold). before ++ flat_map (hold_obstacles r number) hs) holds
-    ∙ append_assoc c.args.obstacles.now.items (titles_obstacles r queues number) (flat_map (hold_obstacles r number) (queues number))
+    ∙ append_assoc c.args.obstacles.now.items (titles_obstacles r queues number)
+    (flat_map (hold_obstacles r number) (queues number))
     ∙ ap (λ n. c.args.obstacles.now.items ++ titles_obstacles r queues n) next

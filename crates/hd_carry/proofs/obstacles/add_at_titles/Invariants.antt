@@ -6,4 +6,5 @@ use Rattle.hd_carry.proofs.obstacles.add_at_titles.Given as goal
 
 abbrev pub invariant-loop-number : goal.invariant-loop-number
 invariant-loop-number g l =
-    l.obstacles.items ≡ l.fn.obstacles.items ++ titles_obstacles (renumbering l.numbers) (queues_of l.desk) l.number
+    l.obstacles.items ≡ l.fn.obstacles.items ++ titles_obstacles (renumbering l.numbers) (queues_of l.desk)
+    l.number

@@ -13,11 +13,16 @@ loop-change-init c = picked-start c.args.changes.now c.args.footprint.now c.requ
 
 pub loop-change-preserved : goal.loop-change-preserved
 loop-change-preserved c = elim c.if-is_real.branch [
-  | then-is_real w ↦ picked-one c.args.changes.now c.loop-change.change-index c.loop-change.footprint _ c.change-item.result _
-      c.loop-change.invariant c.loop-change-test.true c.change-item.is c.is_real.ensures w.if-is_real.true (w.footprint-is ∙ w.push.ensures)
-  | else-is_real w ↦ picked-none c.args.changes.now c.loop-change.change-index c.loop-change.footprint _ c.change-item.result _
-      c.loop-change.invariant c.loop-change-test.true c.change-item.is c.is_real.ensures w.if-is_real.false w.footprint-is
+  | then-is_real w ↦ picked-one c.args.changes.now c.loop-change.change-index c.loop-change.footprint _
+      c.change-item.result _
+      c.loop-change.invariant c.loop-change-test.true c.change-item.is c.is_real.ensures w.if-is_real.true
+      (w.footprint-is ∙ w.push.ensures)
+  | else-is_real w ↦ picked-none c.args.changes.now c.loop-change.change-index c.loop-change.footprint _
+      c.change-item.result _
+      c.loop-change.invariant c.loop-change-test.true c.change-item.is c.is_real.ensures w.if-is_real.false
+      w.footprint-is
 ]
 
 pub returns : goal.returns
-returns c = c.loop-change.invariant.are ∙ ap real_changes (take_all c.loop-change.change-index c.args.changes.now (omega arith))
+returns c = c.loop-change.invariant.are
+    ∙ ap real_changes (take_all c.loop-change.change-index c.args.changes.now (omega arith))

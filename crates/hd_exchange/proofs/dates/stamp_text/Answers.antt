@@ -7,4 +7,5 @@ returns-in-Some c =
     let stamp = c.args.stamp.now in
     let shows = c.requires in
     let same = sym c.in-Some.ensures.same in
-    c.in-Some.ensures.printed shows.0 stamp (subst (λ (text : List ℕ). IsStamp text shows.0 stamp) same shows.1)
+    c.in-Some.ensures.printed shows.0 stamp
+    (subst (λ (text : List ℕ). IsStamp text shows.0 stamp) same shows.1)

@@ -10,9 +10,16 @@ returns-in_ok-turn-in-Ok-clause-answer g c =
     let ask = rw c.in-Ok.is at c.requires.message.ask in (
       _,
       _,
-      answered _ _ _ c.args.message.now c.reply_with-reply.result here c.in-Ok.ask c.what_is_asked.result.now turn.turn.reply
+      answered _ _ _ c.args.message.now c.reply_with-reply.result here c.in-Ok.ask c.what_is_asked.result.now
+          turn.turn.reply
           c.what_is_asked.ensures c.in-Ok.is ask.of_kind c.reply_with-reply.ensures.reply,
-      record { turns = turn.ensures.turn; shown = tt; same = turn.ensures.same; holds = λ _. turn.ensures.holds },
+      record {
+        turns = turn.ensures.turn;
+        shown = tt;
+        same = turn.ensures.same;
+        holds =
+            λ _. turn.ensures.holds;
+      },
       c.write_reply.ensures.text,
       omega arith,
       c.write_reply.ensures.short,

@@ -1,4 +1,5 @@
-use Rattle.std.proofs.Common.{◌≡◌, ◌<◌, ℕ, List, [], ◌∷◌, Result, Ok, Some, IfOk, All, append-nil, arith, refl, sym, ap, ◌∙◌, subst}
+use Rattle.std.proofs.Common.{◌≡◌, ◌<◌, ℕ, List, [], ◌∷◌, Result, Ok, Some, IfOk, All, append-nil, arith}
+use Rattle.std.proofs.Common.{refl, sym, ap, ◌∙◌, subst}
 use Rattle.hd_rules.specs.declared.replies.Refusal.{Refusal}
 use Rattle.hd_catalogue.specs.Contents.{Contents, facts_of}
 use Rattle.hd_exchange.specs.Deeds.{Looked}
@@ -14,9 +15,11 @@ use Rattle.hd_exchange.proofs.Looking.{all_seen, few_seen, said_of}
 use Rattle.hd_exchange.proofs.patron_answers.answer_patron.Goals as goal
 
 -- a look is about a patron of the catalogue
-of_look : (k : Contents) (name : List ℕ) (asks : Result PatronAsk Refusal) (look : PatronLook) → asks ≡ Ok (ask.Look look)
+of_look : (k : Contents) (name : List ℕ) (asks : Result PatronAsk Refusal) (look : PatronLook) → asks
+    ≡ Ok (ask.Look look)
     → IfOk asks (IsAboutNamed k (Some name)) → look.patron < (facts_of k).patrons
-of_look k name asks look is known = (subst (λ (a : Result PatronAsk Refusal). IfOk a (IsAboutNamed k (Some name))) is known).0
+of_look k name asks look is known =
+    (subst (λ (a : Result PatronAsk Refusal). IfOk a (IsAboutNamed k (Some name))) is known).0
 
 pub write_look-requires-clause-items : goal.write_look-requires-clause-items
 write_look-requires-clause-items g c =
@@ -25,10 +28,12 @@ write_look-requires-clause-items g c =
     let asked : c.args.message.now.asks ≡ Ok (ask.Look c.in-Ok-Look.look) =
     c.in-Ok-Look.is ∙ ap (λ (a : PatronAsk). let r : Result PatronAsk Refusal = Ok a in r)
     (rw c.in-Ok-Look.is at c.in-Ok-Look.field-0-is) in
-    let patron = of_look k c.args.message.now.values.patron.now c.args.message.now.asks c.in-Ok-Look.look asked c.requires.message.ask in
+    let patron = of_look k c.args.message.now.values.patron.now c.args.message.now.asks c.in-Ok-Look.look
+    asked c.requires.message.ask in
     let there : c.new-reader.result.look.patron < (facts_of k).patrons =
     subst (λ (l : PatronLook). l.patron < (facts_of k).patrons) (sym c.new-reader.ensures) patron in
-    subst (λ (seen : Contents). All (IsItemOf (facts_of seen)) c.look.new.reader.items.items) (sym c.catalogue.ensures)
+    subst (λ (seen : Contents). All (IsItemOf (facts_of seen)) c.look.new.reader.items.items)
+    (sym c.catalogue.ensures)
     (all_seen k c.new-reader.result c.look.new.reader saw.0 saw.1 saw.3 there)
 
 pub write_look-requires-clause-few : goal.write_look-requires-clause-few
@@ -47,14 +52,17 @@ returns-in_ok-look-in-Ok-Look-clause-answer g c =
     c.in-Ok-Look.is ∙ ap (λ (a : PatronAsk). let r : Result PatronAsk Refusal = Ok a in r)
     (rw c.in-Ok-Look.is at c.in-Ok-Look.field-0-is) in
     let new = c.look.new.reader in
-    let says : IsLookReply k c.args.message.now.values e new.look.patron told.0 new.items.items new.look.question told.1 =
+    let says : IsLookReply k c.args.message.now.values e new.look.patron told.0 new.items.items
+    new.look.question told.1 =
     subst (λ (seen : Contents).
-    IsLookReply seen c.args.message.now.values e new.look.patron told.0 new.items.items new.look.question told.1)
+    IsLookReply seen c.args.message.now.values e new.look.patron told.0 new.items.items new.look.question
+    told.1)
     c.catalogue.ensures told.3 in (
       Looked saw.0.turns ∷ [],
       _,
       looked k k e c.args.message.now refl c.in-Ok-Look.look saw.0.turns told.1 asked
-          (said_of k c.new-reader.result new saw.0 saw.1 saw.3 c.args.message.now.values e told.0 told.1 c.in-Ok-Look.look
+          (said_of k c.new-reader.result new saw.0 saw.1 saw.3 c.args.message.now.values e told.0 told.1
+          c.in-Ok-Look.look
           c.new-reader.ensures told.2 says),
       record {
         turns = sym (append-nil _);
@@ -90,7 +98,8 @@ returns-in-Ok-TakePayment-clause-answer g c =
     (rw c.in-Ok-TakePayment.is at c.in-Ok-TakePayment.field-0-is) in (
       [],
       _,
-      not_paid _ _ _ c.args.message.now c.catalogue-in-Ok-TakePayment.ensures c.card_reply-reply-in-Ok-TakePayment.result asked
+      not_paid _ _ _ c.args.message.now c.catalogue-in-Ok-TakePayment.ensures
+          c.card_reply-reply-in-Ok-TakePayment.result asked
           c.card_reply-reply-in-Ok-TakePayment.ensures.reply,
       record { turns = sym (append-nil _); shown = tt; same = refl; holds = λ held. held },
       c.write_reply-in-Ok-TakePayment.ensures.text,
@@ -102,7 +111,8 @@ pub returns-in-Err-clause-answer : goal.returns-in-Err-clause-answer
 returns-in-Err-clause-answer g c = (
   [],
   _,
-  refused_patron _ _ _ c.args.message.now c.catalogue-in-Err.ensures c.in-Err.refusal c.refused_patron-reply.result c.in-Err.is
+  refused_patron _ _ _ c.args.message.now c.catalogue-in-Err.ensures c.in-Err.refusal
+      c.refused_patron-reply.result c.in-Err.is
       c.refused_patron-reply.ensures.reply,
   record { turns = sym (append-nil _); shown = tt; same = refl; holds = λ held. held },
   c.write_reply-in-Err.ensures.text,

@@ -11,10 +11,12 @@ returns-in-Session-clause-answer g c =
     let text = rw c.catalogue-in-Session.ensures at said.text in (
       [],
       text.0,
-      answer_of _ _ _ _ _ _ _ _ _ _ (OfMessage.Session c.in-Session.message) _ _ _ _ c.catalogue.ensures c.seat.ensures
+      answer_of _ _ _ _ _ _ _ _ _ _ (OfMessage.Session c.in-Session.message) _ _ _ _ c.catalogue.ensures
+          c.seat.ensures
           refl c.in-Session.ensures.message (
             said.said,
-            subst (λ (p : Profile). IsTextAlone (g.O.Office.keeps c.args.office.now).contents p c.args.now.now c.in-Session.message text.0) c.profile_of-profile.ensures text.1,
+            subst (λ (p : Profile). IsTextAlone (g.O.Office.keeps c.args.office.now).contents p c.args.now.now
+                c.in-Session.message text.0) c.profile_of-profile.ensures text.1,
             refl,
             said.next,
           ),

@@ -9,15 +9,19 @@ returns-clause-before c =
     let held = c.args.held.now in
     let titles = c.args.titles.now in
     let point =
-    IsPartitionPoint-from_clause (λ x. is_before x held) titles c.partition_point.result c.partition_point.ensures.partitioned
+    IsPartitionPoint-from_clause (λ x. is_before x held) titles c.partition_point.result
+    c.partition_point.ensures.partitioned
     (parted held titles c.requires) (λ a r q k. search rules) in
-    all_take (λ x. is_before x held ≡ true) titles c.partition_point.result c.partition_point.ensures.bound point.0
+    all_take (λ x. is_before x held ≡ true) titles c.partition_point.result c.partition_point.ensures.bound
+    point.0
 
 pub returns-clause-after : goal.returns-clause-after
 returns-clause-after c =
     let held = c.args.held.now in
     let titles = c.args.titles.now in
     let point =
-    IsPartitionPoint-from_clause (λ x. is_before x held) titles c.partition_point.result c.partition_point.ensures.partitioned
+    IsPartitionPoint-from_clause (λ x. is_before x held) titles c.partition_point.result
+    c.partition_point.ensures.partitioned
     (parted held titles c.requires) (λ a r q k. search rules) in
-    all_drop (λ x. is_before x held ≡ false) titles c.partition_point.result c.partition_point.ensures.bound point.1
+    all_drop (λ x. is_before x held ≡ false) titles c.partition_point.result c.partition_point.ensures.bound
+    point.1

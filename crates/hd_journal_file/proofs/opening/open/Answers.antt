@@ -12,7 +12,8 @@ durable-requires-clause-held g c reliable =
     record {
       head = head;
       rows = [];
-      holds = c.in_ok-begun.ensures.same reliable.clean head [] (c.in_ok-conn.ensures.begun early c.if-is_new.true);
+      holds = c.in_ok-begun.ensures.same reliable.clean head []
+          (c.in_ok-conn.ensures.begun early c.if-is_new.true);
       are = subst (λ (turns : List Turn). AreTurnRows c.args.journal.contents head.format turns [])
           (sym c.requires) tt;
     }
@@ -42,7 +43,8 @@ returns-then-is_new-clause-begun g c clean new =
     let late = rw c.in_ok-durable.ensures.file.0 at clean in
     let early = c.in_ok-begun.ensures.clean late in (
       c.in_ok-durable.ensures.turns ∙ c.requires,
-      rw c.in_ok-durable.ensures.file.0 (c.in_ok-begun.ensures.same late (new_head c.args.wanted.now.digest.now) []
+      rw c.in_ok-durable.ensures.file.0
+          (c.in_ok-begun.ensures.same late (new_head c.args.wanted.now.digest.now) []
           (c.in_ok-conn.ensures.begun early c.if-is_new.true)),
     )
 

@@ -5,6 +5,9 @@ use Rattle.hd_journal_file.specs.declared.open_fault.OpenFault.{OpenFault}
 use Rattle.hd_journal_file.specs.Restored.{RefusesRows}
 use Rattle.hd_journal_file.proofs.Keeping.{are_in}
 use Rattle.hd_journal_file.proofs.Results.{passed}
+use Rattle.hd_journal_file.proofs.opening.take_again.Goals.{}
+use Rattle.hd_journal_file.proofs.opening.take_again.Goals.{}
+use Rattle.hd_journal_file.proofs.opening.take_again.Goals.{}
 use Rattle.hd_journal_file.proofs.opening.take_again.Goals.{else-not-is_same-via-then-not-is_same+else-not-wanted}
 use Rattle.hd_journal_file.proofs.opening.take_again.Goals.{else-not-is_same-via-else-not-is_same}
 use Rattle.hd_journal_file.proofs.opening.take_again.Goals as goal
@@ -60,7 +63,12 @@ returns-in_err-accept-clause-left g c clean =
     elim (c.accept.ensures.crash clean head rows then.0 db may) [
       | inl was ↦ inl (c.head_of.ensures.crash early head rows holds db
           (c.restore_turns.ensures.crash late head rows first db was))
-      | inr stores ↦ inr (record { accepted = accepted; are = are_in _ _ _ _ _ (c.in_ok-found.ensures.format early head rows holds) then.1; stores = stores })
+      | inr stores ↦ inr (record {
+        accepted = accepted;
+        are =
+            are_in _ _ _ _ _ (c.in_ok-found.ensures.format early head rows holds) then.1;
+        stores = stores;
+      })
     ])
 
 -- where it is written

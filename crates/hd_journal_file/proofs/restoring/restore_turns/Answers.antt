@@ -29,7 +29,8 @@ loop-piece-preserved g c =
       clean = λ clean. some.clean (c.take_piece.ensures.clean clean);
       took = (
         some.took.0 ++ one.0,
-        takes_then c.args.format c.args.journal.now c.loop-piece.journal c.take_piece.new.journal some.took.0 one.0
+        takes_then c.args.format c.args.journal.now c.loop-piece.journal c.take_piece.new.journal some.took.0
+            one.0
             some.took.1 one.1,
       );
       rows = λ clean head rows holds.
@@ -41,7 +42,8 @@ loop-piece-preserved g c =
           (take piece (drop c.loop-piece.at rows)) c.loop-piece.at o)
           c.in-Some.is (c.in_ok-next.ensures.rows clean head rows before.0) in (
             c.in_ok-next.ensures.same clean head rows before.0,
-            piece_taken c.args.format c.args.journal.now c.loop-piece.journal c.take_piece.new.journal rows c.loop-piece.at
+            piece_taken c.args.format c.args.journal.now c.loop-piece.journal c.take_piece.new.journal rows
+                c.loop-piece.at
                 c.in-Some.last before.1 next,
             subst (λ (n : ℕ). length (take n rows) ≡ n) (sym next.0)
                 (counted c.loop-piece.at piece rows before.2),
@@ -62,7 +64,8 @@ returns-in_err-next-clause-why g c clean =
     passed c.from_residual.result _ _ c.from_residual.ensures.1 (λ fault is head rows holds.
     let before = c.loop-piece.invariant.rows (c.take_piece.ensures.clean clean) head rows holds in
     subst (λ (f : RestoreFault). RefusesRows c.args.format c.args.journal.now rows 0 f) (sym is)
-    (refuses_piece c.args.format c.args.journal.now c.loop-piece.journal rows c.loop-piece.at c.in_err-next.field-0.0
+    (refuses_piece c.args.format c.args.journal.now c.loop-piece.journal rows c.loop-piece.at
+    c.in_err-next.field-0.0
     before.2 before.1 (c.in_err-next.ensures.why clean head rows before.0)))
 
 pub returns-in_err-next-clause-crash : goal.returns-in_err-next-clause-crash
@@ -79,7 +82,8 @@ returns-in-None-clause-rows g c = λ clean head rows holds.
     let before = c.loop-piece.invariant.rows (c.take_piece.ensures.clean clean) head rows holds in (
       c.in_ok-next.ensures.same clean head rows before.0,
       all_rows c.args.format c.args.journal.now c.take_piece.new.journal rows c.requires
-          (last_taken c.args.format c.args.journal.now c.loop-piece.journal c.take_piece.new.journal rows c.loop-piece.at
+          (last_taken c.args.format c.args.journal.now c.loop-piece.journal c.take_piece.new.journal rows
+          c.loop-piece.at
           before.1 (subst
           (λ (o : Option ℕ). TakesPiece c.args.format c.loop-piece.journal c.take_piece.new.journal
           (take piece (drop c.loop-piece.at rows)) c.loop-piece.at o)
@@ -97,13 +101,15 @@ returns-in-None-clause-changing g c =
     let some = c.loop-piece.invariant.took in
     let one = c.in_ok-next.ensures.took in
     all_change c.args.format c.args.journal.now c.take_piece.new.journal (some.0 ++ one.0) c.requires
-    (takes_then c.args.format c.args.journal.now c.loop-piece.journal c.take_piece.new.journal some.0 one.0 some.1 one.1)
+    (takes_then c.args.format c.args.journal.now c.loop-piece.journal c.take_piece.new.journal some.0 one.0
+    some.1 one.1)
 
 pub returns-in-None-clause-contents : goal.returns-in-None-clause-contents
 returns-in-None-clause-contents g c =
     let some = c.loop-piece.invariant.took in
     let one = c.in_ok-next.ensures.took in
-    (takes_then c.args.format c.args.journal.now c.loop-piece.journal c.take_piece.new.journal some.0 one.0 some.1
+    (takes_then c.args.format c.args.journal.now c.loop-piece.journal c.take_piece.new.journal some.0 one.0
+    some.1
     one.1).contents
 
 pub returns-clause-clean : goal.returns-clause-clean

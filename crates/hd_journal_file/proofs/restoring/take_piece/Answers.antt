@@ -24,7 +24,8 @@ returns-then-is_empty-clause-rows g c clean head rows holds =
     let all : map read_cells c.as_slice.result.now ≡ take piece (drop c.args.after rows) =
     ap (map read_cells) c.as_slice.ensures.value ∙ read in (
       sym all ∙ ap (map read_cells) none,
-      subst (λ (ks : List KeptTurn). TakesRows c.args.format c.args.journal.now c.take_rows.new.journal ks) all
+      subst (λ (ks : List KeptTurn). TakesRows c.args.format c.args.journal.now c.take_rows.new.journal ks)
+          all
           c.in_ok-last.ensures.rows,
     )
 
@@ -37,7 +38,8 @@ returns-clause-rows g c clean head rows holds =
       c.in_ok-last.ensures.number
           ∙ ap (λ (n : ℕ). c.args.after + n)
           (sym (length-map c.as_slice.result.now read_cells) ∙ ap length all),
-      subst (λ (ks : List KeptTurn). TakesRows c.args.format c.args.journal.now c.take_rows.new.journal ks) all
+      subst (λ (ks : List KeptTurn). TakesRows c.args.format c.args.journal.now c.take_rows.new.journal ks)
+          all
           c.in_ok-last.ensures.rows,
     )
 
@@ -50,5 +52,6 @@ returns-in_err-last-clause-why g c clean =
     ap (map read_cells) c.as_slice.ensures.value ∙ read in
     subst (λ (f : RestoreFault). RefusesRows c.args.format c.args.journal.now
     (take piece (drop c.args.after rows)) c.args.after f) (sym is)
-    (subst (λ (ks : List KeptTurn). RefusesRows c.args.format c.args.journal.now ks c.args.after c.in_err-last.field-0.0)
+    (subst (λ (ks : List KeptTurn). RefusesRows c.args.format c.args.journal.now ks c.args.after
+    c.in_err-last.field-0.0)
     all c.in_err-last.ensures.why))

@@ -16,16 +16,19 @@ loop-row-init g c = record { number = omega arith; rows = takes_none c.args.form
 pub loop-row-preserved : goal.loop-row-preserved
 loop-row-preserved g c = record {
   number = omega (arith, c.loop-row.invariant.number);
-  rows = subst (λ (rows : List KeptTurn). TakesRows c.args.format c.args.journal.now c.take_row.new.journal rows)
+  rows = subst (λ (rows : List KeptTurn). TakesRows c.args.format c.args.journal.now c.take_row.new.journal
+      rows)
       (rows_front c.args.rows.now c.loop-row.row-index c.row-item.result c.loop-row-test.true c.row-item.is)
-      (takes_more c.args.format c.a_turn_more_is_kept_where_it_changes.ensures c.args.journal.now c.loop-row.journal
+      (takes_more c.args.format c.a_turn_more_is_kept_where_it_changes.ensures c.args.journal.now
+      c.loop-row.journal
       c.take_row.new.journal (map read_cells (take c.loop-row.row-index c.args.rows.now))
       (read_cells c.row-item.result) c.loop-row.invariant.rows c.in_ok-take_row.ensures.took);
 }
 
 pub returns-clause-rows : goal.returns-clause-rows
 returns-clause-rows g c =
-    subst (λ (rows : List Row). TakesRows c.args.format c.args.journal.now c.loop-row.journal (map read_cells rows))
+    subst (λ (rows : List Row). TakesRows c.args.format c.args.journal.now c.loop-row.journal
+    (map read_cells rows))
     (take_all c.loop-row.row-index c.args.rows.now c.loop-row-test.false) c.loop-row.invariant.rows
 
 pub returns-in_err-take_row-clause-why : goal.returns-in_err-take_row-clause-why
@@ -33,7 +36,8 @@ returns-in_err-take_row-clause-why g c =
     passed c.from_residual.result _ _ c.from_residual.ensures.1 (λ fault is.
     subst (λ (f : RestoreFault). RefusesRows c.args.format c.args.journal.now
     (map read_cells c.args.rows.now) c.args.after f) (sym is)
-    (stops c.args.format c.args.journal.now c.loop-row.journal c.args.rows.now c.loop-row.row-index c.row-item.result
+    (stops c.args.format c.args.journal.now c.loop-row.journal c.args.rows.now c.loop-row.row-index
+    c.row-item.result
     c.args.after c.in-Some.next c.in_err-take_row.field-0.0 c.loop-row-test.true c.row-item.is
     (omega (arith, c.loop-row.invariant.number))
     c.loop-row.invariant.rows c.in_err-take_row.ensures.why))

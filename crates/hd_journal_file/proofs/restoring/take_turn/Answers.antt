@@ -18,7 +18,8 @@ take_new-requires g c =
 pub returns-in_err-own-clause-why : goal.returns-in_err-own-clause-why
 returns-in_err-own-clause-why g c =
     passed c.from_residual.result _ _ c.from_residual.ensures.1 (λ fault is.
-    subst (λ (f : RestoreFault). RefusesRow c.args.format c.args.journal.now (kept c.args.row.now) c.args.at f) (sym is)
+    subst (λ (f : RestoreFault). RefusesRow c.args.format c.args.journal.now (kept c.args.row.now) c.args.at
+    f) (sym is)
     (refuses_ask c.args.format c.args.journal.now (kept c.args.row.now) c.args.at c.deref.result.now
     c.in_err-own.field-0.0 (c.deref.ensures ∙ c.catalogue.ensures ∙ c.desk.ensures.contents)
     c.in_err-own.ensures.why))
@@ -37,7 +38,8 @@ returns-then-not-new-clause-why g c = (
 pub returns-clause-took : goal.returns-clause-took
 returns-clause-took g c =
     on_ok_weaker c.compare.result
-    (takes_row c.args.format c.args.journal.now c.take_new.new.self c.in_ok-own.own.seat c.in_ok-own.own.message
+    (takes_row c.args.format c.args.journal.now c.take_new.new.self c.in_ok-own.own.seat
+    c.in_ok-own.own.message
     c.in-Ok.new.made c.deref.result.now (kept c.args.row.now) c.in-Ok.ensures.turn
     (c.deref.ensures ∙ c.catalogue.ensures ∙ c.desk.ensures.contents) c.in_ok-own.ensures.row
     (sym c.in-Ok.ensures.changing ∙ c.if-not-new.false))
@@ -46,7 +48,8 @@ returns-clause-took g c =
 pub returns-clause-why : goal.returns-clause-why
 returns-clause-why g c =
     IfErr-weaker c.compare.result _ _
-    (λ fault. refuses_came c.args.format c.args.journal.now c.take_new.new.self c.in_ok-own.own.seat c.in_ok-own.own.message
+    (λ fault. refuses_came c.args.format c.args.journal.now c.take_new.new.self c.in_ok-own.own.seat
+    c.in_ok-own.own.message
     c.in-Ok.new.made c.deref.result.now (kept c.args.row.now) c.args.at fault c.in-Ok.ensures.turn
     (c.deref.ensures ∙ c.catalogue.ensures ∙ c.desk.ensures.contents) c.in_ok-own.ensures.row)
     c.compare.ensures.why

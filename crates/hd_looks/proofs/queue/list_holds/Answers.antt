@@ -29,6 +29,8 @@ loop-hold-preserved-then-others-gt0 g c =
     let d = desk_of c.args.desk.now in
     let rows : List Row = queue_rows k d c.args.title c.next.new.self in
     let step : c.loop-hold.hold-iterator ≡ c.in-Some.hold.now ∷ c.next.new.self = search rules in
-    passed_over c.loop-hold.page c.loop-hold.others (hold_row k d c.args.title c.in-Some.hold.now) rows c.if-others-gt0.true
-    ∙ ap (λ (hs : List Hold). with_rest c.loop-hold.page c.loop-hold.others (queue_rows k d c.args.title hs)) (sym step)
+    passed_over c.loop-hold.page c.loop-hold.others (hold_row k d c.args.title c.in-Some.hold.now) rows
+    c.if-others-gt0.true
+    ∙ ap (λ (hs : List Hold). with_rest c.loop-hold.page c.loop-hold.others (queue_rows k d c.args.title hs))
+    (sym step)
     ∙ c.loop-hold.invariant

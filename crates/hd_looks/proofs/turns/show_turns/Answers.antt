@@ -25,7 +25,8 @@ loop-place-preserved g c =
 pub returns-then-end-front : goal.returns-then-end-front
 returns-then-end-front g c =
     let end = c.last_shown-end.result in
-    let far : end ≡ c.args.after + most_turns c.args.limit = c.last_shown-end.ensures.far c.if-end-front.true in
+    let far : end ≡ c.args.after + most_turns c.args.limit =
+    c.last_shown-end.ensures.far c.if-end-front.true in
     let high : c.loop-place.place ≤ end = c.loop-place.auto.place-end (omega (arith, far)) in
     page_before c.args.journal.now.turns c.args.after (most_turns c.args.limit) c.loop-place.place end
     c.go_on.new.self

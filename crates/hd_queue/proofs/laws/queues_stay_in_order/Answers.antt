@@ -1,4 +1,5 @@
-use Rattle.hd_queue.proofs.HoldsLemmas.{HasPatronsOnce-filter, HasPatronsOnce-with_hold, IsInOrder-filter, IsInOrder-with_hold}
+use Rattle.hd_queue.proofs.HoldsLemmas.{HasPatronsOnce-filter, HasPatronsOnce-with_hold, IsInOrder-filter}
+use Rattle.hd_queue.proofs.HoldsLemmas.{IsInOrder-with_hold}
 use Rattle.hd_queue.proofs.HoldsLemmas.{hold_of-with_hold}
 use Rattle.hd_queue.proofs.laws.queues_stay_in_order.Goals as goal
 

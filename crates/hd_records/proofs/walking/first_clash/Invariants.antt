@@ -12,6 +12,8 @@ invariant-loop-number g l = record {
   known : EachRecordIsKnown (facts_of l.catalogue) (records_at (union l.number-iterator) l.slots.items);
   rest : first_clash (facts_of l.catalogue) l.changes (records_at (union l.number-iterator) l.slots.items)
       ≡ first_clash (facts_of l.catalogue) l.changes (records_at (union l.fn.numbers) l.slots.items);
-  work : after_walk (facts_of l.catalogue) l.changes (records_at (union l.number-iterator) l.slots.items) l.meter
-      ≡ after_walk (facts_of l.catalogue) l.changes (records_at (union l.fn.numbers) l.slots.items) l.fn.meter;
+  work : after_walk (facts_of l.catalogue) l.changes (records_at (union l.number-iterator) l.slots.items)
+      l.meter
+      ≡ after_walk (facts_of l.catalogue) l.changes (records_at (union l.fn.numbers) l.slots.items)
+      l.fn.meter;
 }

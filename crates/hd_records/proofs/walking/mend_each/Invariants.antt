@@ -14,5 +14,6 @@ invariant-loop-number g l = record {
   rest : shift_at (facts_of l.catalogue) l.changes (union l.number-iterator) 0 l.slots.items
       ≡ shift_at (facts_of l.catalogue) l.changes (union l.fn.numbers) 0 l.fn.slots.items;
   room : l.slots.room ≡ l.fn.slots.room;
-  work : after_looks (length (union l.number-iterator)) l.meter ≡ after_looks (length (union l.fn.numbers)) l.fn.meter;
+  work : after_looks (length (union l.number-iterator)) l.meter
+      ≡ after_looks (length (union l.fn.numbers)) l.fn.meter;
 }

@@ -13,5 +13,10 @@ returns-in_err-print_replies-clause-printed g c =
 
 pub returns-in-Some-clause-printed : goal.returns-in-Some-clause-printed
 returns-in-Some-clause-printed g c =
-    let prints = c.in_ok-print_replies.ensures in
-    (prints.0, prints.1, prints.2, rw c.in-Some.is (prints_after _ _ _ _ _ _ prints.3 c.print_end.ensures.printed))
+    let prints = c.in_ok-print_replies.ensures in (
+      prints.0,
+      prints.1,
+      prints.2,
+      rw c.in-Some.is
+          (prints_after _ _ _ _ _ _ prints.3 c.print_end.ensures.printed),
+    )

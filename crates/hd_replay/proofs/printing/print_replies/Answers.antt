@@ -19,11 +19,13 @@ returns-in_err-print_line g c =
     let done = c.loop-reply.invariant in
     let found = c.in-Some.ensures.found in
     let later = lines_exist 13 (drop c.in-Some.reply.used c.loop-reply.rest.now) in
-    let rest = line_first 13 c.loop-reply.rest.now c.in-Some.reply.text.now _ later.1 later.0 found.split found.no_return later.2 in
+    let rest = line_first 13 c.loop-reply.rest.now c.in-Some.reply.text.now _ later.1 later.0 found.split
+    found.no_return later.2 in
     let some = c.in_err-print_line.ensures in (
       done.0 ++ c.in-Some.reply.text.now ∷ later.0,
       later.1,
       are_from 13 _ _ _ done.0 (c.in-Some.reply.text.now ∷ later.0) done.1 done.2 rest,
       printed_part _ _ _ (flat_map (printed_line c.args.session) done.0 ++ some.0) _ c.from_residual.ensures.0
-          (line_within c.args.session done.0 later.0 _ some.0 some.1) (some.2 ∙ rw done.3 (append_assoc _ _ some.0)),
+          (line_within c.args.session done.0 later.0 _ some.0 some.1)
+          (some.2 ∙ rw done.3 (append_assoc _ _ some.0)),
     )

@@ -3,7 +3,8 @@ use Rattle.std.proofs.KnownBytes.{Consumes-nil}
 use Rattle.std.proofs.lemmas.List.{length-take-le}
 use Rattle.hd_replay.specs.declared.fault.ReplayFault.TheVariants.{InputTooLong, Memory, Read}
 use Rattle.hd_replay.proofs.Lining.{fewer_lines}
-use Rattle.hd_replay.proofs.Reading.{filled, heard_so, read_further, read_none, reads_failed, reads_more, reads_passed, reads_rest}
+use Rattle.hd_replay.proofs.Reading.{filled, heard_so, read_further, read_none, reads_failed, reads_more}
+use Rattle.hd_replay.proofs.Reading.{reads_passed, reads_rest}
 use Rattle.hd_replay.proofs.Reading.{reads_wanting, time_of_stop}
 use Rattle.hd_replay.proofs.replaying.answer_input.Goals as goal
 
@@ -53,9 +54,11 @@ returns-in_err-extend_from_slice-clause-reads g c =
     let far = c.loop.invariant.far in
     let more = c.in_ok-count.ensures.read in
     let cut =
-    heard_so far.got c.read_some.new.piece c.in_ok-count.count c.min-taken.result c.loop.room far.short c.min-taken.ensures
+    heard_so far.got c.read_some.new.piece c.in_ok-count.count c.min-taken.result c.loop.room far.short
+    c.min-taken.ensures
     c.in_ok-count.ensures.count in
-    reads_passed _ _ _ _ Memory c.from_residual-in_err-extend_from_slice.ensures.0 c.from_residual-in_err-extend_from_slice.ensures.1
+    reads_passed _ _ _ _ Memory c.from_residual-in_err-extend_from_slice.ensures.0
+    c.from_residual-in_err-extend_from_slice.ensures.1
     (reads_wanting _ _ _ _ _ _ _ _ _ _ far _ _ more.0 cut)
 
 pub answer_whole-requires-clause-lines : goal.answer_whole-requires-clause-lines
@@ -75,7 +78,8 @@ returns-in_err-answer_whole-clause-reads g c =
     let far = c.loop.invariant.far in
     let more = c.in_ok-count.ensures.read in
     let cut =
-    heard_so far.got c.read_some.new.piece c.in_ok-count.count c.min-taken.result c.loop.room far.short c.min-taken.ensures
+    heard_so far.got c.read_some.new.piece c.in_ok-count.count c.min-taken.result c.loop.room far.short
+    c.min-taken.ensures
     c.in_ok-count.ensures.count in
     let told = c.in_err-answer_whole.ensures.replayed in
     let size = c.read_some.auto.piece ∙ c.as_mut_slice.ensures.len in
@@ -91,7 +95,8 @@ returns-then-taken-count-clause-reads g c =
     let far = c.loop.invariant.far in
     let more = c.in_ok-count.ensures.read in
     let cut =
-    heard_so far.got c.read_some.new.piece c.in_ok-count.count c.min-taken.result c.loop.room far.short c.min-taken.ensures
+    heard_so far.got c.read_some.new.piece c.in_ok-count.count c.min-taken.result c.loop.room far.short
+    c.min-taken.ensures
     c.in_ok-count.ensures.count in
     let told = c.in_ok-answer_whole.ensures.replayed in
     let size = c.read_some.auto.piece ∙ c.as_mut_slice.ensures.len in
@@ -116,9 +121,12 @@ loop-preserved g c =
     let whole = c.if-taken-count.false in
     let full = c.loop.invariant.piece in
     record {
-      far = read_further _ _ _ _ _ _ _ _ _ _ _ _ far c.read_some.new.piece c.in_ok-count.count c.min-taken.result told.0 told.1 told.2 _
+      far = read_further _ _ _ _ _ _ _ _ _ _ _ _ far c.read_some.new.piece c.in_ok-count.count
+          c.min-taken.result told.0 told.1 told.2 _
           whole c.min-taken.ensures c.in_ok-count.ensures.count
-          (omega (arith, some)) more.0 (rw (c.in_ok-extend_from_slice.ensures.items, c.deref.ensures.value, buffer) at told.3) told.4 told.5
+          (omega (arith, some)) more.0
+          (rw (c.in_ok-extend_from_slice.ensures.items, c.deref.ensures.value, buffer) at told.3) told.4
+          told.5
           told.6;
       piece = full;
       out = c.in_ok-answer_whole.ensures.out;

@@ -15,7 +15,8 @@ returns-in_err-write_all-clause-replayed g c =
       wrote.0,
       subst (λ (t : List ℕ). AreLines 10 t told.0 told.1) c.as_mut_slice.ensures.value told.2,
       passed_on _ Write _ _ _ _ c.from_residual.ensures.0 c.from_residual.ensures.1
-          (part_of_some c.answer_lines-answered.result _ _ told.0 told.3.0 wrote.0 (rw out at wrote.1) told.3.1),
+          (part_of_some c.answer_lines-answered.result _ _ told.0 told.3.0 wrote.0 (rw out at wrote.1)
+          told.3.1),
       wrote.2,
       no_ok _ _ c.from_residual.ensures.0,
     )
@@ -28,7 +29,8 @@ returns-in_err-used-clause-replayed g c =
       told.1,
       told.3.0,
       subst (λ (t : List ℕ). AreLines 10 t told.0 told.1) c.as_mut_slice.ensures.value told.2,
-      passed_on _ _ _ _ _ _ c.from_residual-in_err-used.ensures.0 c.from_residual-in_err-used.ensures.1 told.3.1,
+      passed_on _ _ _ _ _ _ c.from_residual-in_err-used.ensures.0 c.from_residual-in_err-used.ensures.1
+          told.3.1,
       rw out at c.in_ok-write_all.ensures.wrote,
       no_ok _ _ c.from_residual-in_err-used.ensures.0,
     )
@@ -37,7 +39,8 @@ pub returns-in_err-write_all-clause-stops : goal.returns-in_err-write_all-clause
 returns-in_err-write_all-clause-stops g c = stop_passed _ Write c.from_residual.ensures.1 tt
 
 pub returns-in_err-used-clause-stops : goal.returns-in_err-used-clause-stops
-returns-in_err-used-clause-stops g c = stop_passed _ _ c.from_residual-in_err-used.ensures.1 (stop_of_line _ c.in_err-used.ensures.stops)
+returns-in_err-used-clause-stops g c =
+    stop_passed _ _ c.from_residual-in_err-used.ensures.1 (stop_of_line _ c.in_err-used.ensures.stops)
 
 pub take_front-requires : goal.take_front-requires
 take_front-requires g c =

@@ -10,4 +10,5 @@ returns-clause-fed g c = λ k seat now room piece did h h' text.
     fed_turns c.only_patron_messages_look.ensures k seat g.O.Office.faults now room piece did h h' text
 
 pub returns-clause-script : goal.returns-clause-script
-returns-clause-script g c = λ k seat. script_turns c.only_patron_messages_look.ensures k seat g.O.Office.faults
+returns-clause-script g c =
+    λ k seat. script_turns c.only_patron_messages_look.ensures k seat g.O.Office.faults

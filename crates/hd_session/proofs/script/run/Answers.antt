@@ -9,15 +9,19 @@ pub play-requires : goal.play-requires
 play-requires g c =
     let played = c.loop-session.invariant in
     record {
-      outs = sym (length-map _ (λ out. out.items)) ∙ (played.sizes.1 ∙ (length-map _ (λ out. out.items) ∙ (c.requires.outs ∙ sym played.sizes.0)));
+      outs = sym (length-map _ (λ out. out.items))
+          ∙ (played.sizes.1 ∙ (length-map _ (λ out. out.items) ∙ (c.requires.outs ∙ sym played.sizes.0)));
       known = rw played.works.same (played.known c.requires.known);
       session = rw played.sizes.0
-          (one_known _ c.args.pieces.now c.loop-session.session-index _ c.loop-session-test.true c.in-None.ensures.known);
+          (one_known _ c.args.pieces.now c.loop-session.session-index _ c.loop-session-test.true
+          c.in-None.ensures.known);
     }
 
 pub loop-session-preserved : goal.loop-session-preserved
 loop-session-preserved g c =
-    rw (steps_more c.args.now.now c.args.pieces.now c.loop-session.session-index (0, record { ref_ptr = (0, 0); now = [] })
+    rw (steps_more c.args.now.now c.args.pieces.now c.loop-session.session-index
+    (0, record { ref_ptr = (0, 0); now = [] })
     c.loop-session-test.true)
-    (plays_append _ _ _ _ (take c.loop-session.session-index (steps_of c.args.now.now c.args.pieces.now)) _ _ _ _ _ _ _ c.loop-session.invariant
+    (plays_append _ _ _ _ (take c.loop-session.session-index (steps_of c.args.now.now c.args.pieces.now)) _ _
+    _ _ _ _ _ c.loop-session.invariant
     c.play.ensures)

@@ -10,7 +10,8 @@ use Rattle.hd_views.proofs.having.lent.Goals as goal
 pub returns-clause-known : goal.returns-clause-known
 returns-clause-known g c =
     subst (All (λ (copy : ℕ). copy < (facts c.args.desk.now).copies)) (sym c.lent_to.ensures)
-    (known_copies (facts c.args.desk.now) (λ (x : ℕ). is_lent_to c.args.patron ((desk_of c.args.desk.now).copy x)) 0
+    (known_copies (facts c.args.desk.now)
+    (λ (x : ℕ). is_lent_to c.args.patron ((desk_of c.args.desk.now).copy x)) 0
     (facts c.args.desk.now).copies (omega arith))
 
 pub returns-clause-few : goal.returns-clause-few

@@ -8,5 +8,6 @@ pub returns : goal.returns
 returns g c =
     let none : c.loop-copy.copy-iterator ≡ [] = search rules in
     sym (filled_all g.row.N c.loop-copy.cut c.loop-copy.items.items)
-    ∙ ap (λ (cs : List ℕ). filled g.row.N c.loop-copy.cut c.loop-copy.items.items (map CopyItem cs)) (sym none)
+    ∙ ap (λ (cs : List ℕ). filled g.row.N c.loop-copy.cut c.loop-copy.items.items (map CopyItem cs))
+    (sym none)
     ∙ c.loop-copy.invariant

@@ -1,6 +1,7 @@
 use Rattle.std.proofs.Common.{sym, ◌∙◌}
 use Rattle.hd_catalogue.proofs.ShortLemmas.{names-push}
-use Rattle.hd_catalogue.proofs.SoundLemmas.{sound-branch, when_ok}
+use Rattle.hd_lemmas.proofs.Results.{when_ok}
+use Rattle.hd_catalogue.proofs.SoundLemmas.{sound-branch}
 use Rattle.hd_catalogue.proofs.catalogue.Catalogue.read_branch.Goals as goal
 
 pub invariant_of-self-2 : goal.invariant_of-self-2

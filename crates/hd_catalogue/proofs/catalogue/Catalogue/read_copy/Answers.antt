@@ -1,6 +1,7 @@
 use Rattle.std.proofs.Common.{◌<◌, length, sym, ap, subst, ◌∙◌}
 use Rattle.hd_catalogue.proofs.ShortLemmas.{first-name, names-push}
-use Rattle.hd_catalogue.proofs.SoundLemmas.{sound-copy, when_ok, when_some}
+use Rattle.hd_lemmas.proofs.Results.{when_ok}
+use Rattle.hd_catalogue.proofs.SoundLemmas.{sound-copy, when_some}
 use Rattle.hd_catalogue.proofs.catalogue.Catalogue.read_copy.Goals as goal
 
 pub invariant_of-self-2 : goal.invariant_of-self-2

@@ -5,7 +5,8 @@ pub loop-change-init : goal.loop-change-init
 loop-change-init g c = readying-start _ _ c.requires
 
 pub ready_cell-requires : goal.ready_cell-requires
-ready_cell-requires g c = (readying-next _ _ _ _ _ c.loop-change.invariant c.loop-change-test.true c.change-item.is).old
+ready_cell-requires g c =
+    (readying-next _ _ _ _ _ c.loop-change.invariant c.loop-change-test.true c.change-item.is).old
 
 pub ready_cell-requires-in-loop-change : goal.ready_cell-requires-in-loop-change
 ready_cell-requires-in-loop-change g c =

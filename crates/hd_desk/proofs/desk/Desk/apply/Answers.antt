@@ -17,31 +17,38 @@ returns-in-Err-clause-sound g c = still-sound _ _ _ c.requires.sound
 
 pub returns-in-Err-clause-later : goal.returns-in-Err-clause-later
 returns-in-Err-clause-later g c = λ n above.
-    sound-later (facts c.args.self.now) c.args.number n (desk_of c.args.self.now) (omega arith) c.requires.sound
+    sound-later (facts c.args.self.now) c.args.number n (desk_of c.args.self.now) (omega arith)
+    c.requires.sound
 
 pub ready-requires : goal.ready-requires
 ready-requires g c =
-    subst (λ (xs : List Change). AreKnownChanges (facts c.args.self.now) xs) (sym c.changes.ensures) c.in-Ok.ensures.can.back.known
+    subst (λ (xs : List Change). AreKnownChanges (facts c.args.self.now) xs) (sym c.changes.ensures)
+    c.in-Ok.ensures.can.back.known
 
 pub returns-then-is_err-clause-sound : goal.returns-then-is_err-clause-sound
 returns-then-is_err-clause-sound g c =
-    still-sound _ _ _ (sound-same c.args.self.now c.ready.new.self c.args.number c.ready.ensures.contents c.ready.ensures.desk
+    still-sound _ _ _ (sound-same c.args.self.now c.ready.new.self c.args.number c.ready.ensures.contents
+    c.ready.ensures.desk
     c.requires.sound)
 
 pub returns-then-is_err-clause-later : goal.returns-then-is_err-clause-later
 returns-then-is_err-clause-later g c = λ n above.
     sound-later (facts c.ready.new.self) c.args.number n (desk_of c.ready.new.self) (omega arith)
-    (sound-same c.args.self.now c.ready.new.self c.args.number c.ready.ensures.contents c.ready.ensures.desk c.requires.sound)
+    (sound-same c.args.self.now c.ready.new.self c.args.number c.ready.ensures.contents c.ready.ensures.desk
+    c.requires.sound)
 
 pub returns-then-is_err-clause-full : goal.returns-then-is_err-clause-full
 returns-then-is_err-clause-full g c =
-    was-short c.args.self.now _ (done_of c.in-Ok.done) c.changes.result.now c.ready.result c.is_err.result c.in-Ok.ensures.outcome
+    was-short c.args.self.now _ (done_of c.in-Ok.done) c.changes.result.now c.ready.result c.is_err.result
+    c.in-Ok.ensures.outcome
     c.changes.ensures c.is_err.ensures.value c.if-is_err.true c.ready.ensures.full
 
 -- there is room for the changes, and they can still be made
-can : (g : Over) (c : After-changes-2 g) → CanBeMade (facts c.ready.new.self) (desk_of c.ready.new.self) c.args.number c.changes-2.result.now
+can : (g : Over) (c : After-changes-2 g)
+    → CanBeMade (facts c.ready.new.self) (desk_of c.ready.new.self) c.args.number c.changes-2.result.now
 can g c =
-    can-still c.args.self.now c.ready.new.self c.args.number c.in-Ok.done.changes c.changes-2.result.now c.in-Ok.ensures.can
+    can-still c.args.self.now c.ready.new.self c.args.number c.in-Ok.done.changes c.changes-2.result.now
+    c.in-Ok.ensures.can
     c.ready.ensures.contents c.ready.ensures.desk c.changes-2.ensures
 
 pub make-requires-clause-known : goal.make-requires-clause-known
@@ -60,7 +67,8 @@ returns-clause-sound g c =
 
 pub returns-clause-later : goal.returns-clause-later
 returns-clause-later g c = λ n above.
-    sound-later (facts c.make.new.self) (c.args.number + 1) n (desk_of c.make.new.self) (omega arith) (returns-clause-sound g c)
+    sound-later (facts c.make.new.self) (c.args.number + 1) n (desk_of c.make.new.self) (omega arith)
+    (returns-clause-sound g c)
 
 pub returns-clause-back : goal.returns-clause-back
 returns-clause-back g c =

@@ -20,5 +20,6 @@ invariant_of-result g c =
 pub returns-clause-desk : goal.returns-clause-desk
 returns-clause-desk g c =
     desk-opening c.in_ok-copies.copies c.in_ok-holds.holds (facts_of (arc_value c.args.catalogue))
-    (c.in_ok-copies.ensures.at_home ∙ ap (λ (x : Contents). λ n. Shelf ((facts_of x).home n)) c.in_ok-try_clone.ensures)
+    (c.in_ok-copies.ensures.at_home
+    ∙ ap (λ (x : Contents). λ n. Shelf ((facts_of x).home n)) c.in_ok-try_clone.ensures)
     c.in_ok-holds.ensures.none

@@ -13,10 +13,13 @@ returns-clause-choice g c =
     (is-at c.args.self.now c.self.inside.holds c.view-queue.result _ c.title_of-title.result
     (ap (λ (d : DeskValue). d.holds) c.self.view_is)
     (c.self.invariant.0 ∙ ap (λ (d : DeskValue). d.copies.contents) c.self.view_is)
-    c.title_of-title.ensures.title c.home.ensures.home c.has_priority.ensures c.view-queue.ensures.holds c.view-queue.ensures.patrons)
+    c.title_of-title.ensures.title c.home.ensures.home c.has_priority.ensures c.view-queue.ensures.holds
+    c.view-queue.ensures.patrons)
 
 pub returns-clause-known : goal.returns-clause-known
 returns-clause-known g c =
-    chosen-known (facts c.args.self.now) c.view-queue.result c.choice.result c.copied.result c.copied.ensures c.choice.ensures.waits
+    chosen-known (facts c.args.self.now) c.view-queue.result c.choice.result c.copied.result c.copied.ensures
+    c.choice.ensures.waits
     (subst (λ (x : Contents). AreKnown (facts_of x) c.view-queue.result)
-    (c.self.invariant.0 ∙ ap (λ (d : DeskValue). d.copies.contents) c.self.view_is) c.view-queue.ensures.known)
+    (c.self.invariant.0 ∙ ap (λ (d : DeskValue). d.copies.contents) c.self.view_is)
+    c.view-queue.ensures.known)

@@ -10,11 +10,13 @@ returns-in_err-reply g c =
     rw (p.1, p.2)
     (sym (followed c.args.self.now c.args.number c.args.command.now c.new-inquiry.result
     (told_with c.follow.new.footprint c.follow.result) c.follow.new.self.asked
-    c.new-inquiry.ensures.start c.follow.ensures.ends).outcome ∙ ap (told_with c.follow.new.footprint) c.in_err-reply.was)
+    c.new-inquiry.ensures.start c.follow.ensures.ends).outcome
+    ∙ ap (told_with c.follow.new.footprint) c.in_err-reply.was)
 
 pub returns : goal.returns
 returns g c =
-    accepted c.laws.ensures c.args.self.now c.args.number c.args.command.now c.new-inquiry.result c.follow.new.self
+    accepted c.laws.ensures c.args.self.now c.args.number c.args.command.now c.new-inquiry.result
+    c.follow.new.self
     (told_with c.follow.new.footprint c.follow.result)
     (record { changes = c.follow.new.footprint; reply = c.in_ok-reply.reply })
     (record {

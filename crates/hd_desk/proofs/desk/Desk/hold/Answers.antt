@@ -4,4 +4,5 @@ use Rattle.hd_desk.specs.Desks.{IsKeptDesk, desk_of, facts}
 use Rattle.hd_desk.proofs.desk.Desk.hold.Goals as goal
 
 pub returns-clause-kept : goal.returns-clause-kept
-returns-clause-kept g c = subst (λ (d : DeskValue). IsKeptDesk (facts d) (desk_of d)) c.self.view_is c.self.invariant.1
+returns-clause-kept g c =
+    subst (λ (d : DeskValue). IsKeptDesk (facts d) (desk_of d)) c.self.view_is c.self.invariant.1

@@ -10,9 +10,13 @@ pub returns-else-is_some-2-clause-ok : goal.returns-else-is_some-2-clause-ok
 returns-else-is_some-2-clause-ok g c =
     let k = facts c.args.self.now in
     let hold = c.in_ok-hold-in-HoldShelf.hold in
-    let from : 1 ≤ c.in-HoldShelf.place = subst (IsInBounds (first_number k)) c.in-HoldShelf.is c.requires.bounds in
+    let from : 1 ≤ c.in-HoldShelf.place =
+    subst (IsInBounds (first_number k)) c.in-HoldShelf.is c.requires.bounds in
     subst (MayStand k (desk_of c.args.self.now) (first_number k)) (sym c.in-HoldShelf.is)
-    (may-keep k (desk_of c.args.self.now) c.in-HoldShelf.copy c.in-HoldShelf.patron c.in-HoldShelf.place hold from
+    (may-keep k (desk_of c.args.self.now) c.in-HoldShelf.copy c.in-HoldShelf.patron c.in-HoldShelf.place hold
+    from
     c.in_ok-hold-in-HoldShelf.ensures.ok
-    (free-there c.args.self.now c.self.inside.copies hold.pickup c.in-HoldShelf.place c.at.result c.is_some-in-HoldShelf.result
-    (ap (λ (d : DeskValue). d.copies) c.self.view_is) c.at.ensures c.is_some-in-HoldShelf.ensures c.if-is_some-2.false))
+    (free-there c.args.self.now c.self.inside.copies hold.pickup c.in-HoldShelf.place c.at.result
+    c.is_some-in-HoldShelf.result
+    (ap (λ (d : DeskValue). d.copies) c.self.view_is) c.at.ensures c.is_some-in-HoldShelf.ensures
+    c.if-is_some-2.false))

@@ -1,4 +1,4 @@
-use Rattle.std.proofs.Common.{◌∙◌, ap, subst, refl, sym, arith}
+use Rattle.std.proofs.Common.{◌∙◌, ap, subst, refl, arith}
 use Rattle.std.proofs.lemmas.List.{get_or_past}
 use Rattle.hd_catalogue.specs.Contents.{Contents, facts_of}
 use Rattle.hd_queue.specs.Holds.{hold_of}
@@ -20,7 +20,8 @@ kept v all = record {
 pub returns-clause-count : goal.returns-clause-count
 returns-clause-count g c =
     c.titles.ensures.count
-    ∙ ap (λ (x : Contents). (facts_of x).titles) (c.self.invariant.0 ∙ ap (λ (d : DeskValue). d.copies.contents) c.self.view_is)
+    ∙ ap (λ (x : Contents). (facts_of x).titles)
+    (c.self.invariant.0 ∙ ap (λ (d : DeskValue). d.copies.contents) c.self.view_is)
 
 pub returns-clause-queues : goal.returns-clause-queues
 returns-clause-queues g c =

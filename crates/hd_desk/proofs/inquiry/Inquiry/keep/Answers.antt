@@ -8,9 +8,12 @@ use Rattle.hd_desk.proofs.inquiry.Inquiry.keep.Goals as goal
 
 pub invariant_of-self : goal.invariant_of-self
 invariant_of-self g c =
-    keep-more (facts c.self.inside.desk.now) (desk_of c.self.inside.desk.now) c.self.inside.findings c.args.question c.args.noted
+    keep-more (facts c.self.inside.desk.now) (desk_of c.self.inside.desk.now) c.self.inside.findings
+    c.args.question c.args.noted
     c.push.new.self c.push.ensures
     c.self.invariant.0 c.self.invariant.1
-    (subst (λ (x : InquiryValue). IsKnownQuestion (facts x.desk) c.args.question) (sym c.self.view_is) c.requires.known)
-    (subst (λ (x : InquiryValue). c.args.noted ≡ note (facts x.desk) (desk_of x.desk) c.args.question) (sym c.self.view_is)
+    (subst (λ (x : InquiryValue). IsKnownQuestion (facts x.desk) c.args.question) (sym c.self.view_is)
+    c.requires.known)
+    (subst (λ (x : InquiryValue). c.args.noted ≡ note (facts x.desk) (desk_of x.desk) c.args.question)
+    (sym c.self.view_is)
     c.requires.noted)

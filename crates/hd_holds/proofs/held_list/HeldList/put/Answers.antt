@@ -13,7 +13,8 @@ invariant_of-self g c =
     let xs = c.self.inside.titles.items in
     let at = c.number_before-at.result in
     let items : c.insert.new.self.items ≡ insert xs at c.args.held.now = grind (arith, common_steps) in
-    rw items (put_rises xs at c.args.held.now c.self.invariant (rw c.deref.ensures.value at c.number_before-at.ensures.before) c.stands_at.result
+    rw items (put_rises xs at c.args.held.now c.self.invariant
+    (rw c.deref.ensures.value at c.number_before-at.ensures.before) c.stands_at.result
     c.if-not-stands_at.true (rw c.deref-2.ensures.value at c.stands_at.ensures))
 
 pub returns-then-not-stands_at-clause-each : goal.returns-then-not-stands_at-clause-each
@@ -23,4 +24,5 @@ returns-then-not-stands_at-clause-each g c =
     let held = c.args.held.now in
     let items : c.insert.new.self.items ≡ insert xs at held = grind (arith, common_steps) in
     let same : xs ≡ c.args.self.now.titles = ap (λ (l : HeldListValue). l.titles) c.self.view_is in
-    λ x. rw (items, ← same) (put_there xs at held c.self.invariant (rw c.deref.ensures.value at c.number_before-at.ensures.before) x)
+    λ x. rw (items, ← same)
+    (put_there xs at held c.self.invariant (rw c.deref.ensures.value at c.number_before-at.ensures.before) x)

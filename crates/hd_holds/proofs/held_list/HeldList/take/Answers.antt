@@ -5,7 +5,8 @@ use Rattle.hd_holds.proofs.held_list.HeldList.take.Goals as goal
 
 pub invariant_of-self : goal.invariant_of-self
 invariant_of-self g c =
-    rw c.remove.ensures.items (taken_rises c.self.inside.titles.items c.number_before-at.result c.args.held.now c.self.invariant
+    rw c.remove.ensures.items
+    (taken_rises c.self.inside.titles.items c.number_before-at.result c.args.held.now c.self.invariant
     (rw c.deref.ensures.value at c.number_before-at.ensures.before) c.stands_at.result c.if-stands_at.true
     (rw c.deref-2.ensures.value at c.stands_at.ensures))
 
@@ -13,7 +14,8 @@ pub returns-then-stands_at-clause-each : goal.returns-then-stands_at-clause-each
 returns-then-stands_at-clause-each g c =
     let xs = c.self.inside.titles.items in
     let same : xs ≡ c.args.self.now.titles = ap (λ (l : HeldListValue). l.titles) c.self.view_is in
-    λ x. rw (c.remove.ensures.items, ← same) (taken xs c.number_before-at.result c.args.held.now c.self.invariant
+    λ x. rw (c.remove.ensures.items, ← same)
+    (taken xs c.number_before-at.result c.args.held.now c.self.invariant
     (rw c.deref.ensures.value at c.number_before-at.ensures.before) c.stands_at.result c.if-stands_at.true
     (rw c.deref-2.ensures.value at c.stands_at.ensures) x)
 

@@ -7,5 +7,7 @@ use Rattle.hd_holds.proofs.held_lists.HeldLists.put_of.Goals as goal
 
 pub returns-in-Some-clause-each : goal.returns-in-Some-clause-each
 returns-in-Some-clause-each g c =
-    λ x. subst (λ (o : Option Hold). IsListed c.put.new.self x ↔ (IsOf c.args.title o x ⊎ IsListed c.args.self.now x)) (sym c.in-Some.is)
-    (subst (λ (y : HeldTitle). IsListed c.put.new.self x ↔ ((x ≡ y) ⊎ IsListed c.args.self.now x)) c.of_hold.ensures (c.put.ensures.each x))
+    λ x. subst (λ (o : Option Hold). IsListed c.put.new.self x ↔
+    (IsOf c.args.title o x ⊎ IsListed c.args.self.now x)) (sym c.in-Some.is)
+    (subst (λ (y : HeldTitle). IsListed c.put.new.self x ↔ ((x ≡ y) ⊎ IsListed c.args.self.now x))
+    c.of_hold.ensures (c.put.ensures.each x))

@@ -17,19 +17,24 @@ returns-clause-titles g c =
     let listed = subst (AreListed c.self.inside.held) (ap patron_hold c.self.view_is) c.self.invariant.1 in
     record {
       each = λ x. (
-        λ has. (held_by c.self.inside.held (patron_hold c.args.self.now) c.args.patron x listed).0 ((c.of.ensures.each x).0 has),
-        λ held. (c.of.ensures.each x).1 ((held_by c.self.inside.held (patron_hold c.args.self.now) c.args.patron x listed).1 held),
+        λ has. (held_by c.self.inside.held (patron_hold c.args.self.now) c.args.patron x listed).0
+            ((c.of.ensures.each x).0 has),
+        λ held. (c.of.ensures.each x).1
+            ((held_by c.self.inside.held (patron_hold c.args.self.now) c.args.patron x listed).1 held),
       );
       rising = c.of.ensures.rising;
     }
 
 pub returns-clause-known : goal.returns-clause-known
 returns-clause-known g c =
-    let within = subst (λ (v : HoldsValue). (t p : ℕ) (h : Hold) → patron_hold v t p ≡ Some h → t < (facts v).titles) c.self.view_is
-    (held-within (kept (arc_value c.self.inside.catalogue) c.self.inside.places.items c.self.inside.queues.items c.self.inside.held.room)
+    let within = subst (λ (v : HoldsValue). (t p : ℕ) (h : Hold) → patron_hold v t p ≡ Some h
+    → t < (facts v).titles) c.self.view_is
+    (held-within (kept (arc_value c.self.inside.catalogue) c.self.inside.places.items
+    c.self.inside.queues.items c.self.inside.held.room)
     c.self.invariant.0.titles) in
     let titles = c.of.result.now in
     let all = returns-clause-titles g c in
     recursion_from_All (λ (x : HeldTitle). x.title < (facts c.args.self.now).titles) titles
     (All-weaker (Contains titles) (λ (x : HeldTitle). x.title < (facts c.args.self.now).titles)
-    (λ x has. let held = ((all.each x).0 has).1 in within x.title x.patron held.0 held.1) titles (All-contains_itself titles))
+    (λ x has. let held = ((all.each x).0 has).1 in within x.title x.patron held.0 held.1) titles
+    (All-contains_itself titles))

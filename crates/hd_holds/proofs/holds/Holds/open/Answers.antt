@@ -13,19 +13,25 @@ pub invariant_of-result : goal.invariant_of-result
 invariant_of-result g c =
     let titles : c.titles.result ≡ (facts_of (arc_value c.args.catalogue)).titles =
     c.titles.ensures.count ∙ ap (λ (k : Contents). (facts_of k).titles) c.deref.ensures in
-    let range : AreInRange (facts_of (arc_value c.args.catalogue)) = rw c.deref.ensures at c.titles.ensures.facts in
+    let range : AreInRange (facts_of (arc_value c.args.catalogue)) =
+    rw c.deref.ensures at c.titles.ensures.facts in
     let places : c.in_ok-places.places.items ≡ replicate (facts_of (arc_value c.args.catalogue)).titles 0 =
     c.in_ok-places.ensures.items_if_clones_equal (λ y e. e) ∙ ap (λ (n : ℕ). replicate n 0) titles in
     let queues : c.push.new.self.items ≡ c.new.result ∷ [] =
     rw c.new-queues.ensures.items at c.in_ok-push.ensures.items in
-    let made = kept (arc_value c.args.catalogue) c.in_ok-places.places.items c.push.new.self.items c.in_ok-held.held.room in (
-      rw (places, queues) (placed-first (facts_of (arc_value c.args.catalogue)) c.new.result range c.new.ensures),
+    let made = kept (arc_value c.args.catalogue) c.in_ok-places.places.items c.push.new.self.items
+    c.in_ok-held.held.room in (
+      rw (places, queues) (placed-first (facts_of (arc_value c.args.catalogue)) c.new.result range
+          c.new.ensures),
       listed_none c.in_ok-held.held (patron_hold made)
-          (held-empty made (λ t. rw (c.in_ok-places.ensures.items_if_clones_equal (λ y e. e)) (none-first c.push.new.self.items c.titles.result t)))
+          (held-empty made (λ t. rw (c.in_ok-places.ensures.items_if_clones_equal (λ y e. e))
+          (none-first c.push.new.self.items c.titles.result t)))
           c.in_ok-held.ensures,
     )
 
 pub returns-clause-none : goal.returns-clause-none
 returns-clause-none g c =
-    held-empty (kept (arc_value c.args.catalogue) c.in_ok-places.places.items c.push.new.self.items c.in_ok-held.held.room)
-    (λ t. rw (c.in_ok-places.ensures.items_if_clones_equal (λ y e. e)) (none-first c.push.new.self.items c.titles.result t))
+    held-empty (kept (arc_value c.args.catalogue) c.in_ok-places.places.items c.push.new.self.items
+    c.in_ok-held.held.room)
+    (λ t. rw (c.in_ok-places.ensures.items_if_clones_equal (λ y e. e))
+    (none-first c.push.new.self.items c.titles.result t))

@@ -5,4 +5,5 @@ use Rattle.hd_holds.proofs.holds.Holds.view.Goals as goal
 pub returns-clause-patrons : goal.returns-clause-patrons
 returns-clause-patrons g c =
     rw (c.view.ensures.holds, c.queue.ensures.holds)
-    (known-patrons (facts c.args.self.now) (queue_of c.args.self.now.queues c.args.title).holds c.queue.ensures.queue.known)
+    (known-patrons (facts c.args.self.now) (queue_of c.args.self.now.queues c.args.title).holds
+    c.queue.ensures.queue.known)

@@ -23,7 +23,8 @@ returns-in_default-of-clause-err g c turns left legal holds leaves =
 
 -- the row is the turn's
 told : (g : Over) (c : After-add g) (format : ℕ)
-    → IsTurnRow (arc_value c.args.self.now.catalogue) format (turn_shown c.args.turn.now) (kept c.turn_row-row.result)
+    → IsTurnRow (arc_value c.args.self.now.catalogue) format (turn_shown c.args.turn.now)
+    (kept c.turn_row-row.result)
 told g c format =
     subst (λ (k : Contents). IsTurnRow k format (turn_shown c.args.turn.now) (kept c.turn_row-row.result))
     c.deref.ensures

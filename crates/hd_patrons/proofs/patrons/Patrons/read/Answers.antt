@@ -2,8 +2,9 @@ use Rattle.std.proofs.Common.{◌≡◌, ◌<◌, ◌∷◌, ◌∙◌, ℕ, Lis
 use Rattle.std.specs.Str.Lines.{lines}
 use Rattle.std.proofs.lemmas.Grind.{common_steps}
 use Rattle.hd_catalogue.specs.Files.{lines_of}
+use Rattle.hd_lemmas.proofs.Results.{when_ok}
 use Rattle.hd_patrons.specs.Lines.{is_heading}
-use Rattle.hd_patrons.proofs.ReadLemmas.{HasRead, begun, first_bad, heading, line_bad, no_heading, not_told, one_more, when_ok}
+use Rattle.hd_patrons.proofs.ReadLemmas.{HasRead, begun, first_bad, heading, line_bad, no_heading, not_told, one_more}
 use Rattle.hd_patrons.proofs.patrons.Patrons.read.Goals as goal
 
 pub returns-then-not-is_heading-clause-refused : goal.returns-then-not-is_heading-clause-refused

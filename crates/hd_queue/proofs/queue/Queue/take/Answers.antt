@@ -10,4 +10,5 @@ pub remove-requires : goal.remove-requires
 remove-requires g c = hold_of-own _ c.args.patron c.in_ok-hold.hold (sym c.in_ok-hold.ensures)
 
 pub returns-clause-holds : goal.returns-clause-holds
-returns-clause-holds g c = rw (← hold_of-patron _ c.args.patron c.in_ok-hold.hold (sym c.in_ok-hold.ensures)) c.remove.ensures.holds
+returns-clause-holds g c =
+    rw (← hold_of-patron _ c.args.patron c.in_ok-hold.hold (sym c.in_ok-hold.ensures)) c.remove.ensures.holds

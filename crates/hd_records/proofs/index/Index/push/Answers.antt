@@ -7,7 +7,8 @@ use Rattle.hd_records.proofs.index.Index.push.Goals as goal
 
 pub push_at-requires-clause-above : goal.push_at-requires-clause-above
 push_at-requires-clause-above g c n =
-    subst (λ (x : IndexValue). AreBelow c.args.number (listed_under (key.Title n) x)) (sym c.self.view_is) (c.requires.above (key.Title n))
+    subst (λ (x : IndexValue). AreBelow c.args.number (listed_under (key.Title n) x)) (sym c.self.view_is)
+    (c.requires.above (key.Title n))
 
 pub push_at-requires-2-clause-above : goal.push_at-requires-2-clause-above
 push_at-requires-2-clause-above g c n =

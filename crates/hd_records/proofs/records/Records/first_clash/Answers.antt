@@ -28,15 +28,18 @@ unreachable-requires g c =
     ∙ ap (λ (x : RecordsValue). record_of n x.records) c.self.view_is ∙ r.1)
 
 -- the record of the number
-target : (g : Over) (c : After-changes-changes g) → IsTarget (facts_of c.args.catalogue.now) c.args.number c.self.inside.slots.items
+target : (g : Over) (c : After-changes-changes g)
+    → IsTarget (facts_of c.args.catalogue.now) c.args.number c.self.inside.slots.items
     c.self.inside.index c.in-Some.target c.changes-changes.result.now
 target g c =
-    is-target (facts_of c.args.catalogue.now) c.args.number c.self.inside.slots.items c.in-Some.target c.changes-changes.result.now
+    is-target (facts_of c.args.catalogue.now) c.args.number c.self.inside.slots.items c.in-Some.target
+    c.changes-changes.result.now
     c.self.invariant.0 c.self.view_is c.requires.of c.in-Some.ensures c.changes-changes.ensures.changes
 
 -- the later ones that its changes touch
 over : (g : Over) (c : After-touched-later g)
-    → Touching (facts_of c.args.catalogue.now) c.changes-changes.result.now c.args.number c.self.inside.slots.items c.touched-later.result
+    → Touching (facts_of c.args.catalogue.now) c.changes-changes.result.now c.args.number
+    c.self.inside.slots.items c.touched-later.result
 over g c =
     let k = facts_of c.args.catalogue.now in
     let slots = c.self.inside.slots.items in
@@ -45,17 +48,20 @@ over g c =
     (subst (AreListed k) (sym c.self.view_is) c.requires.of.listed))
 
 pub touched-later-requires-clause-known : goal.touched-later-requires-clause-known
-touched-later-requires-clause-known g c = (target g (goal.at.touched-later-requires-clause-known g c).After-changes-changes).cells
+touched-later-requires-clause-known g c =
+    (target g (goal.at.touched-later-requires-clause-known g c).After-changes-changes).cells
 
 pub first_clash-requires-clause-cells : goal.first_clash-requires-clause-cells
-first_clash-requires-clause-cells g c = (target g (goal.at.first_clash-requires-clause-cells g c).After-changes-changes).cells
+first_clash-requires-clause-cells g c =
+    (target g (goal.at.first_clash-requires-clause-cells g c).After-changes-changes).cells
 
 pub first_clash-requires-clause-known : goal.first_clash-requires-clause-known
 first_clash-requires-clause-known g c =
     let there = goal.at.first_clash-requires-clause-known g c in
     let k = facts_of c.args.catalogue.now in
     subst (EachRecordIsKnown k) (sym (over g there.After-touched-later).there)
-    (known_filter k (touches k c.changes-changes.result.now) (newer c.args.number (records_there c.self.inside.slots.items))
+    (known_filter k (touches k c.changes-changes.result.now)
+    (newer c.args.number (records_there c.self.inside.slots.items))
     (target g there.After-changes-changes).later)
 
 pub returns-clause-clash : goal.returns-clause-clash
@@ -78,8 +84,11 @@ returns-clause-work g c =
     let k = facts_of c.args.catalogue.now in
     let n : ℕ = c.args.number in
     c.first_clash.ensures.work
-    ∙ ap (λ (xs : List Record). after_walk k c.changes-changes.result.now xs c.args.meter.now) (over g there.After-touched-later).there
-    ∙ ap (λ (xs : List Change). after_walk k xs (filter (touches k xs) (newer n (records_there c.self.inside.slots.items))) c.args.meter.now)
+    ∙ ap (λ (xs : List Record). after_walk k c.changes-changes.result.now xs c.args.meter.now)
+    (over g there.After-touched-later).there
+    ∙ ap (λ (xs : List Change). after_walk k xs
+    (filter (touches k xs) (newer n (records_there c.self.inside.slots.items))) c.args.meter.now)
     (target g there.After-changes-changes).same
-    ∙ ap (λ (x : RecordsValue). after_walk k (changes_of n x.records) (filter (touches k (changes_of n x.records))
+    ∙ ap (λ (x : RecordsValue). after_walk k (changes_of n x.records)
+    (filter (touches k (changes_of n x.records))
     (newer n x.records)) c.args.meter.now) c.self.view_is

@@ -23,12 +23,14 @@ newest-requires g c =
     let t : ℕ = title_of_cancel k c.args.what.now in
     let listed = subst (AreListed k) (sym c.self.view_is) c.requires.listed in
     let numbers =
-    c.of_title-numbers.ensures ∙ ap (λ (n : ℕ). places_of n c.self.inside.index.titles) c.title_of.ensures ∙ listed (key.Title t) in
+    c.of_title-numbers.ensures ∙ ap (λ (n : ℕ). places_of n c.self.inside.index.titles) c.title_of.ensures
+    ∙ listed (key.Title t) in
     let there =
     about_there k (key.Title t) slots slots c.of_title-numbers.result.now c.self.invariant.0 refl
     numbers in
     subst (λ (rs : List Record). Rising 1 (survivors_of rs)) (sym there)
-    (rising_filter (asks_about k (key.Title t)) 1 (records_there slots) (slots_rise 0 1 slots (omega arith) c.self.invariant.0))
+    (rising_filter (asks_about k (key.Title t)) 1 (records_there slots)
+    (slots_rise 0 1 slots (omega arith) c.self.invariant.0))
 
 pub returns-clause-target : goal.returns-clause-target
 returns-clause-target g c =
@@ -37,7 +39,8 @@ returns-clause-target g c =
     let t : ℕ = title_of_cancel k c.args.what.now in
     let listed = subst (AreListed k) (sym c.self.view_is) c.requires.listed in
     let numbers =
-    c.of_title-numbers.ensures ∙ ap (λ (n : ℕ). places_of n c.self.inside.index.titles) c.title_of.ensures ∙ listed (key.Title t) in
+    c.of_title-numbers.ensures ∙ ap (λ (n : ℕ). places_of n c.self.inside.index.titles) c.title_of.ensures
+    ∙ listed (key.Title t) in
     let there =
     about_there k (key.Title t) slots slots c.of_title-numbers.result.now c.self.invariant.0 refl
     numbers in
@@ -52,9 +55,12 @@ returns-clause-work g c =
     let t : ℕ = title_of_cancel k c.args.what.now in
     let listed = subst (AreListed k) (sym c.self.view_is) c.requires.listed in
     let numbers =
-    c.of_title-numbers.ensures ∙ ap (λ (n : ℕ). places_of n c.self.inside.index.titles) c.title_of.ensures ∙ listed (key.Title t) in
+    c.of_title-numbers.ensures ∙ ap (λ (n : ℕ). places_of n c.self.inside.index.titles) c.title_of.ensures
+    ∙ listed (key.Title t) in
     let there =
     about_there k (key.Title t) slots slots c.of_title-numbers.result.now c.self.invariant.0 refl
     numbers in
-    c.newest.ensures.work ∙ ap (λ (rs : List Record). after_looks (looks_to c.newest.result rs) c.args.meter.now) there
-    ∙ ap (λ (x : RecordsValue). after_looks (looks_to c.newest.result (records_about k (key.Title t) x.records)) c.args.meter.now) c.self.view_is
+    c.newest.ensures.work
+    ∙ ap (λ (rs : List Record). after_looks (looks_to c.newest.result rs) c.args.meter.now) there
+    ∙ ap (λ (x : RecordsValue). after_looks
+    (looks_to c.newest.result (records_about k (key.Title t) x.records)) c.args.meter.now) c.self.view_is

@@ -21,9 +21,11 @@ invariant_of-self g c =
     let there = subst (λ (v : SlotsValue). c.args.place < length v.items) (sym c.self.view_is) c.requires in
     let below : c.args.place < length ss =
     omega (arith, there, length_stored ss c.self.inside.findings.items c.self.inside.changes.items) in
-    subst (λ (s : Slot). AreLaid 0 0 (set ss c.args.place (emptied_slot s)) c.self.inside.findings.items c.self.inside.changes.items)
+    subst (λ (s : Slot). AreLaid 0 0 (set ss c.args.place (emptied_slot s)) c.self.inside.findings.items
+    c.self.inside.changes.items)
     (sym c.index_mut.ensures.value)
-    (laid_emptied 0 0 c.args.place c.index_mut.result.now ss c.self.inside.findings.items c.self.inside.changes.items below
+    (laid_emptied 0 0 c.args.place c.index_mut.result.now ss c.self.inside.findings.items
+    c.self.inside.changes.items below
     c.self.invariant)
 
 pub returns-clause-items : goal.returns-clause-items
@@ -32,7 +34,9 @@ returns-clause-items g c =
     let there = subst (λ (v : SlotsValue). c.args.place < length v.items) (sym c.self.view_is) c.requires in
     let below : c.args.place < length ss =
     omega (arith, there, length_stored ss c.self.inside.findings.items c.self.inside.changes.items) in
-    ap (λ (s : Slot). records_in (set ss c.args.place (emptied_slot s)) c.self.inside.findings.items c.self.inside.changes.items)
+    ap (λ (s : Slot). records_in (set ss c.args.place (emptied_slot s)) c.self.inside.findings.items
+    c.self.inside.changes.items)
     c.index_mut.ensures.value
-    ∙ stored_emptied c.args.place c.index_mut.result.now ss c.self.inside.findings.items c.self.inside.changes.items below
+    ∙ stored_emptied c.args.place c.index_mut.result.now ss c.self.inside.findings.items
+    c.self.inside.changes.items below
     ∙ ap (λ (v : SlotsValue). set v.items c.args.place None) c.self.view_is

@@ -13,7 +13,8 @@ use Rattle.hd_records.proofs.slots.Slots.get.Goals as goal
 
 pub returns-then-place-len : goal.returns-then-place-len
 returns-then-place-len g c =
-    let items : List (Option Record) = records_in c.self.inside.slots.items c.self.inside.findings.items c.self.inside.changes.items in
+    let items : List (Option Record) =
+    records_in c.self.inside.slots.items c.self.inside.findings.items c.self.inside.changes.items in
     sym (get_or_past items c.args.place None
     (omega (
       arith,
@@ -25,14 +26,16 @@ returns-then-place-len g c =
     ∙ ap (λ (v : SlotsValue). get_or v.items c.args.place None) c.self.view_is
 
 -- where the slot's values stand
-at : (g : Over) (c : After-index-slot g) → Stands 0 0 c.args.place c.index-slot.result.now c.self.inside.slots.items
+at : (g : Over) (c : After-index-slot g)
+    → Stands 0 0 c.args.place c.index-slot.result.now c.self.inside.slots.items
     c.self.inside.findings.items c.self.inside.changes.items
 at g c =
     let ss = c.self.inside.slots.items in
     let fs : List Finding = c.self.inside.findings.items in
     let cs : List Change = c.self.inside.changes.items in
     stands_here c.args.place c.index-slot.result.now ss fs cs c.index-slot.ensures
-    (omega (arith, c.if-place-len.false, c.len.ensures, c.self.inside.slots.ok.0, length_stored ss fs cs)) c.self.invariant
+    (omega (arith, c.if-place-len.false, c.len.ensures, c.self.inside.slots.ok.0, length_stored ss fs cs))
+    c.self.invariant
 
 pub returns-in_err-kept : goal.returns-in_err-kept
 returns-in_err-kept g c =
@@ -40,7 +43,8 @@ returns-in_err-kept g c =
     let s = c.index-slot.result.now in
     c.from_residual.ensures
     ∙ ap
-    (λ (o : Option RecordHead). record_in o (take s.findings.count (drop is.before c.self.inside.findings.items))
+    (λ (o : Option RecordHead). record_in o
+    (take s.findings.count (drop is.before c.self.inside.findings.items))
     (take s.changes.count (drop is.ahead c.self.inside.changes.items)))
     c.in_err-kept.ensures.value
     ∙ sym is.is
@@ -69,10 +73,14 @@ returns g c =
     let s = c.index-slot.result.now in
     let first : s.findings.first ≡ is.before = omega (arith, is.asked) in
     let ahead : s.changes.first ≡ is.ahead = omega (arith, is.changed) in
-    let found : c.values_at-findings.result.now ≡ take s.findings.count (drop is.before c.self.inside.findings.items) =
-    c.values_at-findings.ensures ∙ (λ j. take s.findings.count (drop (first j) (c.as_slice.ensures.value j))) in
-    let made : c.values_at-changes.result.now ≡ take s.changes.count (drop is.ahead c.self.inside.changes.items) =
-    c.values_at-changes.ensures ∙ (λ j. take s.changes.count (drop (ahead j) (c.as_slice-2.ensures.value j))) in
+    let found : c.values_at-findings.result.now
+    ≡ take s.findings.count (drop is.before c.self.inside.findings.items) =
+    c.values_at-findings.ensures
+    ∙ (λ j. take s.findings.count (drop (first j) (c.as_slice.ensures.value j))) in
+    let made : c.values_at-changes.result.now
+    ≡ take s.changes.count (drop is.ahead c.self.inside.changes.items) =
+    c.values_at-changes.ensures
+    ∙ (λ j. take s.changes.count (drop (ahead j) (c.as_slice-2.ensures.value j))) in
     ap (λ (r : Record). Some r) c.new.ensures
     ∙ (λ j. record_in (c.in_ok-kept.ensures.value j) (found j) (made j))
     ∙ sym is.is

@@ -1,4 +1,5 @@
-use Rattle.std.proofs.Common.{arith, ◌≡◌, ◌<◌, ◌∙◌, ap, sym, subst, refl, ℕ, length, get_or, set, take, drop, List, ◌∷◌, [], Option, None, Some, false, true}
+use Rattle.std.proofs.Common.{arith, ◌≡◌, ◌<◌, ◌∙◌, ap, sym, subst, refl, ℕ, length, get_or, set, take, drop}
+use Rattle.std.proofs.Common.{List, ◌∷◌, [], Option, None, Some, false, true}
 use Rattle.std.proofs.lemmas.Bool.{false≢true}
 use Rattle.std.specs.Option.{is_some}
 use Rattle.hd_catalogue.specs.Contents.{facts_of}
@@ -13,9 +14,11 @@ use Rattle.hd_records.specs.declared.slots.Slot.{Slot}
 use Rattle.hd_records.specs.Laid.{AreLaid, record_in, records_in}
 use Rattle.hd_records.specs.Slots.{shift_slot, records_there}
 use Rattle.hd_records.specs.SlotsValue.{SlotsValue}
-use Rattle.hd_records.proofs.Laid.{Stands, laid_mended, length_stored, mended, none_mended, nothing_mended, stands_here, stored_mended}
+use Rattle.hd_records.proofs.Laid.{Stands, laid_mended, length_stored, mended, none_mended, nothing_mended}
+use Rattle.hd_records.proofs.Laid.{stands_here, stored_mended}
 use Rattle.hd_records.proofs.slots.Slots.mend.Given.{Over}
-use Rattle.hd_records.proofs.slots.Slots.mend.Goals.{After-index-slot, else-slot-via-then-slot+else-is_some, else-slot-via-else-slot}
+use Rattle.hd_records.proofs.slots.Slots.mend.Goals.{After-index-slot, else-slot-via-then-slot+else-is_some}
+use Rattle.hd_records.proofs.slots.Slots.mend.Goals.{else-slot-via-else-slot}
 use Rattle.hd_records.proofs.slots.Slots.mend.Goals as goal
 
 small_in : (k : Facts) (o : Option RecordHead) (fs : List Finding) (cs : List Change) → is_some o ≡ true
@@ -23,13 +26,15 @@ small_in : (k : Facts) (o : Option RecordHead) (fs : List Finding) (cs : List Ch
 small_in k None fs cs some known = absurd (false≢true some)
 small_in k (Some x) fs cs some known = known.0.counts
 
-none_in : (o : Option RecordHead) (fs : List Finding) (cs : List Change) → is_some o ≡ false → record_in o fs cs ≡ None
+none_in : (o : Option RecordHead) (fs : List Finding) (cs : List Change) → is_some o ≡ false
+    → record_in o fs cs ≡ None
 none_in None fs cs none = refl
 none_in (Some x) fs cs none = absurd (false≢true (sym none))
 
 pub index-slot-requires : goal.index-slot-requires
 index-slot-requires g c =
-    let there = subst (λ (v : SlotsValue). c.args.place < length v.items) (sym c.self.view_is) c.requires.there in
+    let there = subst (λ (v : SlotsValue). c.args.place < length v.items) (sym c.self.view_is)
+    c.requires.there in
     omega (
       arith,
       there,
@@ -38,11 +43,15 @@ index-slot-requires g c =
     )
 
 -- where the slot's values stand
-at : (g : Over) (c : After-index-slot g) → Stands 0 0 c.args.place c.index-slot.result.now c.self.inside.slots.items
+at : (g : Over) (c : After-index-slot g)
+    → Stands 0 0 c.args.place c.index-slot.result.now c.self.inside.slots.items
     c.self.inside.findings.items c.self.inside.changes.items
 at g c =
-    stands_here c.args.place c.index-slot.result.now c.self.inside.slots.items c.self.inside.findings.items c.self.inside.changes.items
-    c.index-slot.ensures (subst (λ (v : SlotsValue). c.args.place < length v.items) (sym c.self.view_is) c.requires.there) c.self.invariant
+    stands_here c.args.place c.index-slot.result.now c.self.inside.slots.items c.self.inside.findings.items
+    c.self.inside.changes.items
+    c.index-slot.ensures
+    (subst (λ (v : SlotsValue). c.args.place < length v.items) (sym c.self.view_is) c.requires.there)
+    c.self.invariant
 
 pub mend_at-requires-clause-there : goal.mend_at-requires-clause-there
 mend_at-requires-clause-there g c =
@@ -56,8 +65,10 @@ mend_at-requires-clause-small g c =
     let s : Slot = c.index-slot.result.now in
     let fs : List Finding = c.self.inside.findings.items in
     let cs : List Change = c.self.inside.changes.items in
-    let known : EachRecordIsKnown k (records_there (get_or (records_in c.self.inside.slots.items fs cs) c.args.place None ∷ [])) =
-    subst (λ (v : SlotsValue). EachRecordIsKnown k (records_there (get_or v.items c.args.place None ∷ []))) (sym c.self.view_is)
+    let known : EachRecordIsKnown k
+    (records_there (get_or (records_in c.self.inside.slots.items fs cs) c.args.place None ∷ [])) =
+    subst (λ (v : SlotsValue). EachRecordIsKnown k (records_there (get_or v.items c.args.place None ∷ [])))
+    (sym c.self.view_is)
     c.requires.known in
     let first : is.before ≡ s.findings.first = omega (arith, is.asked) in
     subst (λ (n : ℕ). EachIsSmall (take s.findings.count (drop n fs))) first
@@ -72,11 +83,14 @@ invariant_of-self g c =
     let ss : List Slot = c.self.inside.slots.items in
     let fs : List Finding = c.self.inside.findings.items in
     let cs : List Change = c.self.inside.changes.items in
-    let there = subst (λ (v : SlotsValue). c.args.place < length v.items) (sym c.self.view_is) c.requires.there in
+    let there = subst (λ (v : SlotsValue). c.args.place < length v.items) (sym c.self.view_is)
+    c.requires.there in
     let same : get_or ss c.args.place s ≡ s = sym c.index-slot.ensures in
-    let first : (get_or ss c.args.place s).findings.first ≡ s.findings.first = ap (λ (t : Slot). t.findings.first) same in
+    let first : (get_or ss c.args.place s).findings.first
+    ≡ s.findings.first = ap (λ (t : Slot). t.findings.first) same in
     subst (λ (xs : List Finding). AreLaid 0 0 ss xs cs) (sym c.mend_at.ensures.items)
-    (subst (λ (t : Slot). AreLaid 0 0 ss (mended k c.args.changes.now s.findings.first t.findings.count fs) cs) same
+    (subst (λ (t : Slot). AreLaid 0 0 ss (mended k c.args.changes.now s.findings.first t.findings.count fs)
+    cs) same
     (laid_mended k c.args.changes.now 0 0 c.args.place s.findings.first s ss fs cs
     (omega (arith, there, length_stored ss fs cs)) c.self.invariant (omega (arith, first))))
 
@@ -87,14 +101,18 @@ returns-then-is_some-clause-items g c =
     let ss : List Slot = c.self.inside.slots.items in
     let fs : List Finding = c.self.inside.findings.items in
     let cs : List Change = c.self.inside.changes.items in
-    let there = subst (λ (v : SlotsValue). c.args.place < length v.items) (sym c.self.view_is) c.requires.there in
+    let there = subst (λ (v : SlotsValue). c.args.place < length v.items) (sym c.self.view_is)
+    c.requires.there in
     let same : get_or ss c.args.place s ≡ s = sym c.index-slot.ensures in
-    let first : (get_or ss c.args.place s).findings.first ≡ s.findings.first = ap (λ (t : Slot). t.findings.first) same in
+    let first : (get_or ss c.args.place s).findings.first
+    ≡ s.findings.first = ap (λ (t : Slot). t.findings.first) same in
     ap (λ (xs : List Finding). records_in ss xs cs) c.mend_at.ensures.items
-    ∙ ap (λ (t : Slot). records_in ss (mended k c.args.changes.now s.findings.first t.findings.count fs) cs) c.index-slot.ensures
+    ∙ ap (λ (t : Slot). records_in ss (mended k c.args.changes.now s.findings.first t.findings.count fs) cs)
+    c.index-slot.ensures
     ∙ stored_mended k c.args.changes.now 0 0 c.args.place s.findings.first s ss fs cs
     (omega (arith, there, length_stored ss fs cs)) c.self.invariant (omega (arith, first))
-    ∙ ap (λ (v : SlotsValue). set v.items c.args.place (shift_slot k c.args.changes.now (get_or v.items c.args.place None)))
+    ∙ ap (λ (v : SlotsValue). set v.items c.args.place
+    (shift_slot k c.args.changes.now (get_or v.items c.args.place None)))
     c.self.view_is
 
 pub returns-else-slot-clause-items : goal.returns-else-slot-clause-items
@@ -102,11 +120,13 @@ returns-else-slot-clause-items g c =
     let is = at g (goal.at.returns-else-slot-clause-items g c).After-index-slot in
     let k : Facts = facts_of c.args.catalogue.now in
     let s : Slot = c.index-slot.result.now in
-    let rs : List (Option Record) = records_in c.self.inside.slots.items c.self.inside.findings.items c.self.inside.changes.items in
+    let rs : List (Option Record) =
+    records_in c.self.inside.slots.items c.self.inside.findings.items c.self.inside.changes.items in
     let xs : List Finding = take s.findings.count (drop is.before c.self.inside.findings.items) in
     let ys : List Change = take s.changes.count (drop is.ahead c.self.inside.changes.items) in
     subst
-    (λ (v : SlotsValue). v.items ≡ set v.items c.args.place (shift_slot k c.args.changes.now (get_or v.items c.args.place None)))
+    (λ (v : SlotsValue). v.items
+    ≡ set v.items c.args.place (shift_slot k c.args.changes.now (get_or v.items c.args.place None)))
     c.self.view_is
     (elim c.else-slot.branch [
       | else-slot-via-then-slot+else-is_some w ↦ none_mended k c.args.changes.now c.args.place rs

@@ -24,11 +24,13 @@ slot g c = record {
   kept = Some (kept g c);
 }
 
-behind : (g : Over) (c : After-push_reserved g) → IsBehind (slot g c) c.findings-findings.result.now c.changes-changes.result.now
+behind : (g : Over) (c : After-push_reserved g)
+    → IsBehind (slot g c) c.findings-findings.result.now c.changes-changes.result.now
 behind g c = record {
   findings = c.place_behind.ensures.count;
   changes = c.place_behind-2.ensures.count;
-  few = subst (λ (zs : List Change). length zs ≤ 4) (sym c.changes-changes.ensures.changes) c.changes-changes.ensures.few;
+  few = subst (λ (zs : List Change). length zs ≤ 4) (sym c.changes-changes.ensures.changes)
+      c.changes-changes.ensures.few;
   counts = c.has_count.ensures;
 }
 
@@ -45,20 +47,25 @@ invariant_of-self g c =
     laid_more 0 0 ss fs cs s xs ys c.self.invariant (behind g there)
     (omega (arith, c.place_behind.ensures.first, c.self.inside.findings.ok.0))
     (omega (arith, c.place_behind-2.ensures.first, c.self.inside.changes.ok.0)) in
-    subst (λ (zs : List Slot). AreLaid 0 0 zs c.append.new.list.items c.append-2.new.list.items) (sym c.push_reserved.ensures.items)
-    (subst (λ (zs : List Finding). AreLaid 0 0 (ss ++ s ∷ []) zs c.append-2.new.list.items) (sym c.append.ensures.items)
-    (subst (λ (zs : List Change). AreLaid 0 0 (ss ++ s ∷ []) (fs ++ xs) zs) (sym c.append-2.ensures.items) laid))
+    subst (λ (zs : List Slot). AreLaid 0 0 zs c.append.new.list.items c.append-2.new.list.items)
+    (sym c.push_reserved.ensures.items)
+    (subst (λ (zs : List Finding). AreLaid 0 0 (ss ++ s ∷ []) zs c.append-2.new.list.items)
+    (sym c.append.ensures.items)
+    (subst (λ (zs : List Change). AreLaid 0 0 (ss ++ s ∷ []) (fs ++ xs) zs) (sym c.append-2.ensures.items)
+    laid))
 
 pub returns-clause-items : goal.returns-clause-items
 returns-clause-items g c =
     let there = (goal.at.returns-clause-items g c).After-push_reserved in
     let xs : List Finding = c.findings-findings.result.now in
     let ys : List Change = c.changes-changes.result.now in
-    let whole : record_of_kept (kept g there) xs ys ≡ c.args.new =
+    let whole : record_of_kept (kept g there) xs ys ≡ c.args.new.now =
     (λ j. record_of_kept (record { survivor = c.survivor.ensures j; reply = c.reply.ensures j })
     (c.findings-findings.ensures.findings j) (c.changes-changes.ensures.changes j)) in
-    (λ j. records_in (c.push_reserved.ensures.items j) (c.append.ensures.items j) (c.append-2.ensures.items j))
-    ∙ stored_more 0 0 c.self.inside.slots.items c.self.inside.findings.items c.self.inside.changes.items (slot g there) xs ys
+    (λ j. records_in (c.push_reserved.ensures.items j) (c.append.ensures.items j)
+    (c.append-2.ensures.items j))
+    ∙ stored_more 0 0 c.self.inside.slots.items c.self.inside.findings.items c.self.inside.changes.items
+    (slot g there) xs ys
     c.self.invariant (behind g there)
     ∙ ap (λ (v : SlotsValue). v.items ++ record_in (slot g there).kept xs ys ∷ []) c.self.view_is
     ∙ ap (λ (r : Record). c.args.self.now.items ++ Some r ∷ []) whole

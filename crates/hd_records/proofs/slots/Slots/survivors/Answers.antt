@@ -9,5 +9,6 @@ use Rattle.hd_records.proofs.slots.Slots.survivors.Goals as goal
 pub returns : goal.returns
 returns g c =
     c.new.ensures ∙ ap survivors_in c.as_slice.ensures.value
-    ∙ sym (survivors_stored c.self.inside.slots.items c.self.inside.findings.items c.self.inside.changes.items)
+    ∙ sym (survivors_stored c.self.inside.slots.items c.self.inside.findings.items
+    c.self.inside.changes.items)
     ∙ ap (λ (v : SlotsValue). survivors_of (records_there v.items)) c.self.view_is

@@ -16,5 +16,6 @@ pub returns-in-Some-clause-replayed : goal.returns-in-Some-clause-replayed
 returns-in-Some-clause-replayed g c text is =
     let found = c.in-Some.ensures.found in
     let behind = behind_blank (decimal c.in-Some.number) c.in-Some.piece.now text (sym found.1 ∙ is) in
-    subst (λ (l : List ℕ). ReplayedOnto {X = Unit {0}} c.args.self.now c.feed.new.self (l ∷ []) c.feed.result c.args.out.now.items
+    subst (λ (l : List ℕ). ReplayedOnto {X = Unit {0}} c.args.self.now c.feed.new.self (l ∷ []) c.feed.result
+    c.args.out.now.items
     c.feed.new.out.items) (sym behind.2) (c.feed.ensures.replayed behind.0 behind.1)

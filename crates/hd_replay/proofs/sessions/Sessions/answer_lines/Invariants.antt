@@ -6,7 +6,8 @@ use Rattle.hd_replay.proofs.sessions.Sessions.answer_lines.Given as goal
 -- the lines so far are replayed, and nothing is changed behind them
 abbrev pub invariant-loop-end : goal.invariant-loop-end
 invariant-loop-end g l = record {
-  done : (lines : List (List ℕ)) × (text : List ℕ) × (take l.used l.fn.text ≡ ended 10 lines) × All (λ line. Contains line 10 → ⊥) lines
+  done : (lines : List (List ℕ)) × (text : List ℕ) × (take l.used l.fn.text ≡ ended 10 lines) × All
+      (λ line. Contains line 10 → ⊥) lines
       × AllReplayed l.fn.self l.self lines text × (l.out.items ≡ l.fn.out.items ++ text);
   behind : drop l.used l.text ≡ drop l.used l.fn.text;
   size : length l.text ≡ length l.fn.text;

@@ -7,14 +7,21 @@ use Rattle.hd_replay.proofs.Opening.{empty_more, new_known, new_more, new_of_off
 use Rattle.hd_replay.proofs.sessions.Sessions.new.Goals as goal
 
 pub loop-init : goal.loop-init
-loop-init g c = record { sessions = search rules; outs = search rules; new = search rules; empty = λ i. rw c.new-outs.ensures.items refl }
+loop-init g c = record {
+  sessions = search rules;
+  outs = search rules;
+  new = search rules;
+  empty =
+      λ i. rw c.new-outs.ensures.items refl;
+}
 
 pub loop-preserved : goal.loop-preserved
 loop-preserved g c = record {
   sessions = search rules;
   outs = search rules;
   new = c.in_ok-put_new.ensures.session
-      ∙ (ap (λ (l : List Hearing). l ++ new_session (extensions_lent c.args.extensions) ∷ []) c.loop.invariant.new
+      ∙ (ap (λ (l : List Hearing). l ++ new_session (extensions_lent c.args.extensions) ∷ [])
+      c.loop.invariant.new
       ∙ new_more (extensions_lent c.args.extensions) c.loop.counter);
   empty = rw c.in_ok-put_new.ensures.out (empty_more _ c.loop.invariant.empty);
 }
@@ -24,11 +31,13 @@ invariant_of-result g c =
     let end = c.loop.auto.counter-end in
     let past = c.loop-test.false in
     let all : c.loop.counter ≡ 64 = omega (arith, end, past) in
-    let items = c.loop.invariant.new ∙ ap (λ (n : ℕ). replicate n (new_session (extensions_lent c.args.extensions))) all in (
+    let items = c.loop.invariant.new
+    ∙ ap (λ (n : ℕ). replicate n (new_session (extensions_lent c.args.extensions))) all in (
       c.loop.invariant.sessions ∙ all,
       c.loop.invariant.outs ∙ all,
       c.loop.invariant.empty,
-      subst (AreKnownTo c.args.journal.contents) (sym items) (new_known c.args.journal.contents (extensions_lent c.args.extensions) 64),
+      subst (AreKnownTo c.args.journal.contents) (sym items)
+          (new_known c.args.journal.contents (extensions_lent c.args.extensions) 64),
       subst AreOfOffice (sym items) (new_of_office (extensions_lent c.args.extensions) 64),
     )
 
@@ -37,5 +46,6 @@ returns-clause-new g c =
     let end = c.loop.auto.counter-end in
     let past = c.loop-test.false in
     let all : c.loop.counter ≡ 64 = omega (arith, end, past) in
-    let items = c.loop.invariant.new ∙ ap (λ (n : ℕ). replicate n (new_session (extensions_lent c.args.extensions))) all in
+    let items = c.loop.invariant.new
+    ∙ ap (λ (n : ℕ). replicate n (new_session (extensions_lent c.args.extensions))) all in
     rw (items, c.requires.new) refl

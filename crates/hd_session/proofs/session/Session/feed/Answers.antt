@@ -5,4 +5,5 @@ use Rattle.hd_session.proofs.session.Session.feed.Goals as goal
 
 pub returns-in-Some-clause-fed : goal.returns-in-Some-clause-fed
 returns-in-Some-clause-fed g c =
-    feeds_ended _ _ _ _ _ c.args.self.now c.in-Some.why (sym (ap (λ (h : Hearing). h.ended) c.self.view_is) ∙ c.in-Some.is)
+    feeds_ended _ _ _ _ _ c.args.self.now c.in-Some.why
+    (sym (ap (λ (h : Hearing). h.ended) c.self.view_is) ∙ c.in-Some.is)

@@ -9,13 +9,16 @@ answer_line-answered-requires-clause-place g c =
     rw before.works.same (before.known c.requires.place)
 
 pub loop-used-init : goal.loop-used-init
-loop-used-init g c = rw (← c.self.view_is) (record { heard = ([], refl, answers_none _ _ _ _ _); begun = refl; ended = refl })
+loop-used-init g c =
+    rw (← c.self.view_is) (record { heard = ([], refl, answers_none _ _ _ _ _); begun = refl; ended = refl })
 
 pub returns-in-Err : goal.returns-in-Err
 returns-in-Err g c =
     let before = c.loop-used.invariant.heard in
-    feeds_until _ _ _ _ _ _ _ _ _ c.args.self.now _ _ before.0 _ c.line-line.result.now c.in-Err.why c.requires.open
-    (before.1 ∙ ap (λ (ls : List (List ℕ)). before.0 ++ ls) (rw (← c.line-line.ensures) at c.in-Some.ensures.line)) c.begin.ensures refl
+    feeds_until _ _ _ _ _ _ _ _ _ c.args.self.now _ _ before.0 _ c.line-line.result.now c.in-Err.why
+    c.requires.open
+    (before.1 ∙ ap (λ (ls : List (List ℕ)). before.0 ++ ls)
+    (rw (← c.line-line.ensures) at c.in-Some.ensures.line)) c.begin.ensures refl
     before.2 c.in-Err.ensures.err c.in-Err.ensures.cause
 
 pub loop-used-preserved : goal.loop-used-preserved
@@ -25,8 +28,10 @@ loop-used-preserved g c =
     record {
       heard = (
         before.0 ++ c.line-line.result.now ∷ [],
-        line_taken _ before.0 _ _ _ before.1 (rw (c.line-line.ensures, c.begin.ensures, c.split_at.ensures.back) c.in-Some.ensures.line),
-        answers_append _ _ _ _ _ _ _ _ before.0 (c.line-line.result.now ∷ []) _ _ _ before.2 c.in-Ok.ensures.heard,
+        line_taken _ before.0 _ _ _ before.1
+            (rw (c.line-line.ensures, c.begin.ensures, c.split_at.ensures.back) c.in-Some.ensures.line),
+        answers_append _ _ _ _ _ _ _ _ before.0 (c.line-line.result.now ∷ []) _ _ _ before.2
+            c.in-Ok.ensures.heard,
       );
       begun = rw (c.begin.ensures, c.split_at.ensures.back) (kept.begun ∙ c.in-Some.ensures.rest);
       ended = kept.ended;

@@ -6,8 +6,10 @@ use Rattle.hd_session.proofs.session.Session.hear.Given as goal
 -- the lines that are answered, and those that are left
 abbrev pub invariant-loop-used : goal.invariant-loop-used
 invariant-loop-used g l = record {
-  heard : (lines : List (List ℕ)) × (lines_in l.fn.self.begun l.piece ≡ lines ++ lines_in l.self-inside.stream l.rest)
-      × Answers g.O.Office l.fn.office l.office l.fn.out l.out l.now lines l.fn.self.state l.self-inside.state;
+  heard : (lines : List (List ℕ))
+      × (lines_in l.fn.self.begun l.piece ≡ lines ++ lines_in l.self-inside.stream l.rest)
+      × Answers g.O.Office l.fn.office l.office l.fn.out l.out l.now lines l.fn.self.state
+      l.self-inside.state;
   begun : begun_after l.fn.self.begun l.piece ≡ begun_after l.self-inside.stream l.rest;
   ended : l.self-inside.ended ≡ l.fn.self.ended;
 }

@@ -22,12 +22,15 @@ returns-clause-answered g c =
       record {
         says = c.in_ok-said.said;
         reply = said.1;
-        answer = answer_of _ _ _ _ _ _ _ _ _ _ _ _ _ _ _ (ap (λ (x : State). x.extensions) view) (ap (λ (x : State). x.place) view)
+        answer = answer_of _ _ _ _ _ _ _ _ _ _ _ _ _ _ _ (ap (λ (x : State). x.extensions) view)
+            (ap (λ (x : State). x.place) view)
             c.line_with-kept.ensures (sym (c.finish.ensures.rest.1 ∙ c.count.ensures.place)) said.2;
-        extensions_stay = c.finish.ensures.rest.0 ∙ (c.count.ensures.extensions ∙ ap (λ (x : State). x.extensions) view);
+        extensions_stay = c.finish.ensures.rest.0
+            ∙ (c.count.ensures.extensions ∙ ap (λ (x : State). x.extensions) view);
         spelled = refl;
         last = c.finish.ensures.last ∙ kept_so _ said.1 _ s.last _ _ _ _ _ said.4.items from last;
-        digit_is = c.finish.ensures.rest.2 ∙ (c.count.ensures.digit ∙ ap (λ (x : State). digit_after x.digit c.args.line.now.digit) view);
+        digit_is = c.finish.ensures.rest.2
+            ∙ (c.count.ensures.digit ∙ ap (λ (x : State). digit_after x.digit c.args.line.now.digit) view);
         gaps_are = c.finish.ensures.rest.3 ∙ (c.count.ensures.gaps
             ∙ ap (λ (x : State). gaps_after x.digit x.gaps c.args.line.now.digit) view);
       },

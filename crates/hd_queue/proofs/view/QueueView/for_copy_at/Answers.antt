@@ -1,0 +1,9 @@
+use Rattle.std.proofs.Common.{◌∙◌}
+use Rattle.hd_queue.proofs.WaitingLemmas.{copy-wanted-at}
+use Rattle.hd_queue.proofs.view.QueueView.for_copy_at.Goals as goal
+
+pub returns : goal.returns
+returns g c =
+    rw (← c.self.view_is)
+    (c.new.ensures ∙ rw c.self.invariant.2.for_one
+    (copy-wanted-at c.args.copy c.args.branch c.self.inside.holds))
