@@ -6,7 +6,7 @@ PREFIX ?= /usr/local
 # What there is to make.
 help:
 	@echo 'make try        answer the stored messages by a program that is built without proofs (two to four minutes)'
-	@echo 'make run        prove what changed (half an hour or more at first), build holddesk, and answer the stored messages'
+	@echo 'make run        prove what changed (about an hour at first), build holddesk, and answer the stored messages'
 	@echo 'make day        after make run: play stored messages, and kiosks, through connections of holddesk serve'
 	@echo 'make page       after make run: look at the page of a door by headless Chromium; pictures in PICTURES ($(PICTURES))'
 	@echo 'make hostile    after make run: hostile clients beside a terminal that has to be answered'
@@ -18,7 +18,7 @@ help:
 	@echo 'make uninstall  take them away again'
 	@echo 'make dist       after make run: a tar.gz with all of it, for machines without the Rattle kit'
 	@echo 'make wrong      put wrong bodies in, many in a check, and see that the prover refuses each'
-	@echo 'make test       the gate: serving over TCP, all proofs, wrong bodies, tests, stored runs (one to two hours at first)'
+	@echo 'make test       the gate: serving over TCP, all proofs, wrong bodies, tests, stored runs (two hours or more at first)'
 
 STORED = replay --catalogue data/demonstration.catalogue --now '20260301    120000' < stdin
 
@@ -117,9 +117,9 @@ wrong:
 # The gate: the picture of the crates; the documents' examples, stored messages, kiosks, hostile clients, a door and
 # stops by kill -9, played against a program that is built without proofs for them; a seat of one hall at another,
 # which the types refuse; then all proofs, the wrong bodies that stand for a promise, the tests and the stored runs;
-# then the wrong bodies that a script tries, many in a check, over the libraries that rt ci has proved and kept. Its
-# last word is rt ci's once more: nothing is left to prove then, and the tests and the stored runs are played again.
-# What was proved before and hasn't changed isn't proved again, and what was refused isn't tried again.
+# beside them and then alone the wrong bodies that a script tries, many in a check, over the libraries that rt ci has
+# proved and kept. Its last word is rt ci's once more: nothing is left to prove then, and the tests and the stored runs
+# are played again. What was proved before and hasn't changed isn't proved again, and what was refused isn't tried again.
 test:
 	@python3 scripts/draw_house.py --check
 	@python3 scripts/make_page.py --check
@@ -134,7 +134,7 @@ test:
 	  python3 scripts/file_faults.py "$$program" && python3 scripts/catalogue_faults.py "$$program" && \
 	  python3 scripts/two_years.py --days 8 "$$program"
 	@python3 scripts/foreign_seat_refused.py
-	@rt ci
+	@rt ci & proving=$$!; python3 scripts/wrong_beside.py $$proving; wait $$proving
 	@python3 scripts/wrong_bodies.py --self-test
 	@python3 scripts/wrong_bodies.py
 	@rt ci

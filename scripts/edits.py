@@ -8,6 +8,9 @@ from prove import TOP
 
 HEAD = re.compile(r' *(?:pub(?:\([^)]*\))? )?(?:const )?(?:unsafe )?(?:extern "C" )?fn (\w+)')
 BLOCK = re.compile(r" *(?:pub(?:\([^)]*\))? )?(?:unsafe )?(?:impl|trait)\b")
+TRAIT = re.compile(r" *(?:pub(?:\([^)]*\))? )?(?:unsafe )?trait (\w+)")
+GENERICS = re.compile(r"<(?:[^<>]|<(?:[^<>]|<[^<>]*>)*>)*>")
+SIGNS = {"&": "Ref", "&mut": "RefMut", "[": "Slice", "()": "Unit"}  # how types are told in a path
 DEFINED = re.compile(r"(?:abbrev )?(?:pub )?([^\s():{}]+) : ")
 
 
@@ -27,7 +30,9 @@ class Function:
         self.name, self.file = HEAD.match(lines[first])[1], file
         self.lines, self.head, self.told = range(first, last + 1), range(first, body), range(above, last + 1)
         self.text = "\n".join(lines[first : last + 1])
-        owner = owner_of(lines, first, indent)
+        head = head_of(lines, first, indent)
+        promised = TRAIT.match(head)
+        self.is_promised, owner = bool(promised), promised[1] if promised else owner_of(head)
         self.path = "::".join(it for it in (homes.get(owner, module_of(file)), owner, self.name) if it)
 
 
@@ -35,17 +40,39 @@ def module_of(file):
     return "::".join(it for it in file[len("src/") : -len(".rt")].split("/") if it not in ("lib", "main", "mod"))
 
 
-def owner_of(lines, first, indent):
-    """The type of the impl that a method stands in, with the trait's name behind it; of a trait its name."""
+def folder_of(path):
+    """Where the files of the function's proof stand."""
+    return f"proofs/{path.replace('::', '/')}"
+
+
+def head_of(lines, first, indent):
+    """The head of the impl or the trait that a method stands in."""
     blocks = (at for at in range(first, -1, -1) if BLOCK.match(lines[at]) and not lines[at].startswith(indent))
     begin = next(blocks, None)
-    if not indent or begin is None:
-        return ""
-    head = re.split(r"\{|\bwhere\b", " ".join(lines[begin:first]))[0].replace("->", "")
-    while re.search(r"<[^<>]*>", head):
-        head = re.sub(r"<[^<>]*>", "", head)
-    of = re.split(r"\bfor\b", re.sub(r"^.*?\b(impl|trait)\b", "", head).split(": ")[0])
-    return "".join(re.findall(r"\w+", it)[-1] for it in reversed(of) if re.search(r"\w", it))
+    return " ".join(lines[begin:first]) if indent and begin is not None else ""
+
+
+def owner_of(head):
+    """What stands for an impl in a path: its type, and behind it the trait, but for Drop, and the trait's types."""
+    head = re.sub(r"^.*?\bimpl\b", "", re.split(r"\{|\bwhere\b", head)[0].replace("->", "")).strip()
+    generics = GENERICS.match(head)[0] if head.startswith("<") else "<>"
+    parameters = set(re.findall(r"[<,]\s*(?:const )?(\w+)", "<" + without_generics(generics[1:-1])))
+    trait, _, owner = head.removeprefix(generics).rpartition(" for ")
+    name, _, types = trait.partition("<")
+    name = name.strip().rpartition("::")[2].replace("Drop", "")
+    return flat(owner, parameters) + name + flat(types, parameters)
+
+
+def without_generics(text):
+    while re.search(r"<[^<>]*>", text):
+        text = re.sub(r"<[^<>]*>", "", text)
+    return text
+
+
+def flat(types, parameters):
+    """The types in one word, without type parameters and lifetimes."""
+    words = [it for it in re.findall(r"'?\w+|&mut\b|&|\[|\(\)", types) if it not in parameters and it[0] != "'"]
+    return "".join(SIGNS.get(it, it[0].upper() + it[1:]) for it in words)
 
 
 def functions_of(file, text, homes):
@@ -61,6 +88,14 @@ def sources_of(crate):
     return {os.path.relpath(path, top): read(path) for path in paths if path.endswith(".rt")}
 
 
+def bodies_of(crate):
+    """The functions of the crate, but for those of traits."""
+    sources = sources_of(crate)
+    homes = homes_in(sources)
+    every = [function for file, text in sources.items() for function in functions_of(file, text, homes)]
+    return [function for function in every if not function.is_promised]
+
+
 def homes_in(sources):
     """Of each type of the crate the module that defines it."""
     type_head = re.compile(r"^(?:pub(?:\([^)]*\))? )?(?:struct|enum) (\w+)", re.M)
@@ -72,7 +107,7 @@ class Edit:
 
     def __init__(self, crate, name, pairs, homes):
         self.crate, self.name, self.pairs = crate, name, pairs
-        self.misfit, self.verdict, self.said, self.kept = None, None, "", None
+        self.misfit, self.verdict, self.said, self.kept, self.tries = None, None, "", None, 0
         self.functions, self.places, self.is_apart, self.pruned, self.misnamed = [], set(), False, {}, set()
         texts = dict(sources_of(crate))
         for file, old, new in pairs:
@@ -93,6 +128,11 @@ class Edit:
 
     def __str__(self):
         return f"{self.crate}/{self.name}: {self.verdict}: {self.said}"
+
+    def is_of(self, path):
+        """Whether a check has to look at this function."""
+        wanted = self.asks()
+        return path in wanted or not self.functions and any(path.startswith(f"{it}::" if it else "") for it in wanted)
 
     def asks(self):
         """What a check has to look at: the edited functions, or, where it is none's text, the modules."""
@@ -137,16 +177,14 @@ def fit_together(one, other):
     return not (one.is_apart or other.is_apart or one.places & other.places)
 
 
-def rounds_of(edits):
-    """The edits in rounds, in each of which they fit together."""
-    rounds = []
-    for edit in edits:
-        others = next((some for some in rounds if all(fit_together(edit, it) for it in some)), None)
-        if others is None:
-            rounds.append([edit])
-        else:
-            others.append(edit)
-    return rounds
+def round_of(edits):
+    """Those of the edits that are tried in the next check: as many as fit together, first those that fewest others go
+    with, so that there are few checks."""
+    some = []
+    for edit in sorted(edits, key=lambda one: -sum(not fit_together(one, other) for other in edits)):
+        if all(fit_together(edit, other) for other in some):
+            some.append(edit)
+    return some
 
 
 def without_answers(text, lines):

@@ -11,7 +11,8 @@ one line of standard error; status 1, and nothing is printed then. --only plays 
 catalogue, a journal and an opening are made under an umask that lets everyone read and write, and their owner alone
 has to be let; and serve is started where it may write no more than some bytes into a file: that has to be told before
 it listens. A journal whose server was killed is refused without its log, and one that was ended well opens without it;
-where sqlite3 changed one of its rows it is refused, and where that only read it, it isn't.
+where sqlite3 changed one of its rows it is refused, and where that only read it, it isn't. A library whose last number
+lacks a file is refused too.
 Needs nothing but Python 3. Status 0: all is as it is stored.
 """
 
@@ -186,6 +187,43 @@ def compare_changed(program):
                 raise Trouble(f"behind {work} of sqlite3: {told!r}")
 
 
+def said_of(program, *words):
+    """What a command says: its status and its standard error."""
+    done = subprocess.run([program, *words], capture_output=True, text=True, timeout=SECONDS, check=False)
+    return done.returncode, done.stderr
+
+
+def compare_lost_files(program):
+    """Looks that a library whose last number lacks a file isn't taken for what it was before, unless a carry was broken
+    off there; that an empty file isn't taken for a journal; and that a name is told that is no copy's."""
+    with tempfile.TemporaryDirectory() as room:
+        folder, listed = begun_folder(program, CATALOGUE, os.path.join(room, "library")), os.path.join(room, "listed")
+        with open(listed, "w", encoding="utf-8") as file:
+            file.write("a1\nb9\n")
+        said = said_of(program, "carry", "--library", folder, "--to", CATALOGUE, "--write-off", listed)
+        if said != (0, "no copy is named b9\n"):
+            raise Trouble(f"carry with a list that names a copy that isn't there: {said!r}")
+        for kind in ("catalogue", "opening", "journal"):
+            path = os.path.join(folder, f"0002.{kind}")
+            shutil.move(path, os.path.join(room, kind))
+            said = said_of(program, "journal", "check", "--library", folder)
+            if said != (1, f"the library lacks {path}\n"):
+                raise Trouble(f"a library without its {kind}: {said!r}")
+            shutil.move(os.path.join(room, kind), path)
+        os.rename(os.path.join(folder, "0002.opening"), os.path.join(folder, "0002.opening.part"))
+        if said_of(program, "journal", "check", "--library", folder)[0] != 0:
+            raise Trouble("a library whose carry was broken off isn't taken")
+        away = os.path.join(room, "away")
+        said = said_of(program, "journal", "begin", "--catalogue", CATALOGUE, "--library", away)
+        if said != (1, f"there is no folder {away}\n"):
+            raise Trouble(f"a library that is begun in no folder: {said!r}")
+        journal = begun(program, CATALOGUE, os.path.join(room, "journal"))
+        with open(journal, "wb"):
+            pass  # it is empty then, beside the log of a journal that was ended well
+        if told_of(program, journal, "journal", "check") != (1, "", f"there is no journal at {journal}\n"):
+            raise Trouble("an empty file is taken for a journal")
+
+
 def main():
     parser = parser_of(__doc__)
     parser.add_argument("--only", default="", metavar="OPTION",
@@ -198,8 +236,9 @@ def main():
         reported("file_faults", compare_narrow_start, asked.program)
         reported("file_faults", compare_missing_log, asked.program)
         reported("file_faults", compare_changed, asked.program)
-        print(f"file_faults: {made} files made for their owner alone; starts that can't write or lack a log say so, and "
-              "those of a journal that somebody else changed")
+        reported("file_faults", compare_lost_files, asked.program)
+        print(f"file_faults: {made} files made for their owner alone; starts that can't write, lack a file or a log, or "
+              "have a journal that somebody else changed, say so")
 
 
 if __name__ == "__main__":

@@ -57,23 +57,34 @@ def copy_of_sources(copy, uses):
     return copy
 
 
-def all_kept(copy, names):
-    """The folder of the libraries, as links to what rt ci keeps of the sources in the copy; None where one lacks."""
-    rt, here = text_of_rt(), os.getcwd()
-    os.chdir(copy)
-    try:
+class KeptLibraries:
+    """The folder of the libraries, as links to what rt ci keeps of the sources in the copy. The process goes there."""
+
+    def __init__(self, copy):
+        os.chdir(copy)
+        rt = text_of_rt()
         rt.Crate.allowed = rt.handles_of(copy)
-        crates = {crate.name: crate for crate in rt.crates_of(copy)}
-        kept, room = rt.Kept(list(crates.values())), os.path.join(copy, "libraries")
-        os.makedirs(room, exist_ok=True)
-        for name in names:
-            crate = crates[name]
-            if not kept.give(crate, False, kept.key(crate)):
-                return None
-            kept.is_built(crate)
-            if not os.path.exists(os.path.join(room, name + ".rlib")):
-                os.symlink(crate.rlib, os.path.join(room, name + ".rlib"))
-        return room
+        self.crates = {crate.name: crate for crate in rt.crates_of(copy)}
+        self.kept, self.room, self.found = rt.Kept(list(self.crates.values())), os.path.join(copy, "libraries"), set()
+        os.makedirs(self.room, exist_ok=True)
+
+    def has(self, name):
+        """Whether the library is kept; those below it have to be asked for before."""
+        crate = self.crates[name]
+        if name not in self.found and self.kept.give(crate, False, self.kept.key(crate)):
+            self.kept.is_built(crate)
+            if not os.path.exists(os.path.join(self.room, name + ".rlib")):
+                os.symlink(crate.rlib, os.path.join(self.room, name + ".rlib"))
+            self.found.add(name)
+        return name in self.found
+
+
+def all_kept(copy, names):
+    """The folder of the libraries, where all are kept."""
+    here = os.getcwd()
+    try:
+        libraries = KeptLibraries(copy)
+        return libraries.room if all(libraries.has(name) for name in names) else None
     finally:
         os.chdir(here)
 

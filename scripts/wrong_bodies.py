@@ -31,7 +31,8 @@ import sys
 import tempfile
 from concurrent.futures import ThreadPoolExecutor
 
-from edits import Edit, edits_of, homes_in, read, rounds_of, sources_of, without_answers, write
+from edits import Edit, bodies_of, edits_of, folder_of, homes_in, module_of, read, round_of, sources_of
+from edits import without_answers, write
 from prove import CORES, GIGABYTES, MEMORY, TOP, said_by_rt, sums_of, uses_of_all, with_all_below
 from proved_libraries import libraries_in
 
@@ -39,11 +40,23 @@ REFUSED, PROVED, NOT_TELLING, CANNOT = "refused", "PROVED", "NOT TELLING", "CAN'
 # goals that say only that a step is safe, and nothing of what the function does
 SAFETY = re.compile(r"(overflow|cast|index|bounds|slice|div|rem|shift|neg|unwrap|expect)(_\w+)?(-|$)")
 OPEN_GOAL = re.compile(r"(?:note: )?(?:\./)?(src/[^:]+):(\d+):\d+: it is not proved that (.*?) \(`([^`]+)`\)")
+# how a function's line goes on that isn't proved
+UNPROVED = re.compile(r": (not proved|no proof|could not tell)")
 # what is said of an answer that doesn't fit only because a step or a goal has another name, or is gone
 MISNAMED = re.compile(
     r"has no field|is not in scope|has no `|was not admitted|was not checked|needs a function type"
     r"|one has `c\.(?!args)([\w-]+)[.`].*the other has `c\.(?!args|\1[.`])[\w-]+[.`]"
 )
+# the files of a function's proof, and the proof of a function that isn't looked at
+OF_A_PROOF = ("Answers.antt", "Invariants.antt", "Proof.antt")
+HOLE = """use Rattle.{crate}.{module}.Statement.{{statement}}
+
+pub {name}_spec : {{M : Type 1}} → statement M
+{name}_spec = ?
+"""
+# a line that is refused, and behind which no answers are offered: to print them is a third of a small check
+OFFERED = "no_offers"
+NO_OFFERS = f"\n{OFFERED} : nothing\n"
 # how often edits are tried together; what is open then is tried alone
 ROUNDS = 3
 # what --self-test tries: edits of hd_day's src/day.rt, and what each must come to
@@ -60,7 +73,10 @@ SELF_TEST = [
 
 
 class Bench:
-    """A copy of a crate in which edits are checked, and the processor seconds that this took."""
+    """A copy of a crate in which edits are checked, and the processor seconds that this took.
+
+    A proof rests on what the functions that it calls promise, and not on their proofs. So only functions that are
+    edited have theirs here; the proof of each other one is a hole, which takes a third of the time or less."""
 
     def __init__(self, crate, uses, libraries, room):
         self.crate, self.top, self.room = crate, os.path.join(TOP, "crates", crate), room
@@ -68,6 +84,10 @@ class Bench:
         for part in ("src", "specs", "proofs"):
             if os.path.isdir(os.path.join(self.top, part)):
                 shutil.copytree(os.path.join(self.top, part), os.path.join(room, part))
+        self.modules = {"", *map(module_of, sources_of(crate))}
+        self.folders = {function.path: folder_of(function.path) for function in bodies_of(crate)}
+        for path in self.folders:
+            self.put_hole(path)
         kit = os.path.dirname(said_by_rt("doc"))
         root = "main" if os.path.isfile(os.path.join(room, "src", "main.rt")) else "lib"
         self.words = [f"{kit}/bin/rattle", "check", "--crate-name", crate, f"src/{root}.rt", "--jobs", "1"]
@@ -75,10 +95,39 @@ class Bench:
             self.words += ["--extern", f"{use}={libraries if use in uses else kit + '/rlibs'}/{use}.rlib"]
         self.words += ["-L", f"dependency={kit}/rlibs", "-L", f"dependency={libraries}", "--incremental", "out"]
         self.words += ["--antt-project", f"{kit}/rattle/logic/antt-project.json", "--logic-built", f"{kit}/logic_built"]
+        self.words += ["--allow-holes"]
 
-    def check(self, edits):
-        """Puts the edits in, and gives what a check of their functions says."""
-        texts = {file: text for edit in edits for file, text in edit.pruned.items()}
+    def put_hole(self, path):
+        """Puts a hole in the place of the function's proof."""
+        folder = self.folders[path]
+        hole = HOLE.format(module=folder.replace("/", "."), crate=self.crate, name=path.rpartition("::")[2])
+        self.put_files(folder, {"Proof.antt": hole})
+
+    def put_proof(self, path, pruned, is_short):
+        """Puts the function's own proof back, without what was pruned, and with a line that spares offers."""
+        folder = self.folders[path]
+        files = [(name, os.path.join(self.top, folder, name)) for name in OF_A_PROOF]
+        texts = {name: pruned.get(f"{folder}/{name}", read(file)) for name, file in files if os.path.isfile(file)}
+        if is_short and "Proof.antt" not in texts:
+            texts["Answers.antt"] = texts.get("Answers.antt", "") + NO_OFFERS
+        self.put_files(folder, texts)
+
+    def put_files(self, folder, texts):
+        os.makedirs(os.path.join(self.room, folder), exist_ok=True)
+        for name in OF_A_PROOF:
+            file = os.path.join(self.room, folder, name)
+            if name in texts:
+                write(file, texts[name])
+            elif os.path.isfile(file):
+                os.remove(file)
+
+    def check(self, edits, is_short=True):
+        """Puts the edits in, and gives what a check of their functions says; a short one offers no proofs."""
+        pruned = {file: text for edit in edits for file, text in edit.pruned.items()}
+        paths = [path for path in self.folders if any(edit.is_of(path) for edit in edits)]
+        for path in paths:
+            self.put_proof(path, pruned, is_short)
+        texts = {}
         for file, old, new in (pair for edit in edits for pair in edit.pairs):
             texts[file] = texts.get(file, read(os.path.join(self.top, file))).replace(old, new)
         for file, text in texts.items():
@@ -86,6 +135,8 @@ class Bench:
         said = self.rattle({it for edit in edits for it in edit.asks()})
         for file in texts:
             shutil.copy(os.path.join(self.top, file), os.path.join(self.room, file))
+        for path in paths:
+            self.put_hole(path)
         return said
 
     def rattle(self, paths):
@@ -100,12 +151,17 @@ class Bench:
             self.seconds += used.ru_utime + used.ru_stime
             log.seek(0)
             said = log.read()
-        unknown = {path for path in asked if f"`{path}`" in said and "::" in path}
+        unknown = {path for path in asked - self.modules if f"`{path}`" in said}
         if running.returncode != 2 or not unknown:
             return said
-        # (a method's path ends in its type and its name, a function's in its name)
-        self.instead |= {path: re.sub(r"(::[A-Z]\w*)?::\w+$", "", path) for path in unknown}
+        self.instead |= {path: self.module_above(path) for path in unknown}
         return self.rattle(paths)
+
+    def module_above(self, path):
+        """The module that the path begins with; the crate's own has no name."""
+        while path not in self.modules:
+            path = path.rpartition("::")[0]
+        return path
 
 
 def compiles(said):
@@ -121,23 +177,23 @@ def settle(edit, verdict, said):
         write(edit.kept, said)
 
 
-def judge(edit, said, crate):
+def judge(edit, said, bench):
     """Whether the log says what the edit comes to, and if so notes it."""
     goals = [it.groups() for it in map(OPEN_GOAL.match, said.split("\n")) if it]
     goals = [it for it in goals if edit.is_apart or (it[0], int(it[1]) - 1) in edit.places]
     telling = [it for it in goals if not is_of_safety(it) and it[3] not in edit.misnamed]
+    errors = re.findall(r"^(?:\./)?((?:src|proofs)/\S+: error.*)", said, re.M)
+    errors = [line for line in errors if line.startswith(tuple(folders_of(edit))) and OFFERED not in line]
     if telling:
         file, line, what, goal = telling[0]
         settle(edit, REFUSED, f"`{goal}`, {file}:{line}: {what}")
-    elif are_proved(edit, said, crate):
+    elif not goals and not errors and are_proved(edit, bench):
         settle(edit, PROVED, "it means the same as what it replaces, or the contract lets it through")
     elif goals:
         named = " (its answer names what the edit took away)" if goals[0][3] in edit.misnamed else ""
         edit.said = f"`{goals[0][3]}` alone{named}, {goals[0][0]}:{goals[0][1]}: {goals[0][2]}"
     else:
-        errors = re.findall(r"^(?:\./)?((?:src|proofs)/\S+: error.*)", said, re.M)
-        own = [line for line in errors if line.startswith(tuple(folders_of(edit)))]
-        edit.said = next(iter([*own, *errors]), said.rstrip().rpartition("\n")[2])[:200]
+        edit.said = next(iter([*errors, said.rstrip().rpartition("\n")[2]]))[:200]
     return edit.verdict is not None
 
 
@@ -146,28 +202,28 @@ def is_of_safety(goal):
     return bool(SAFETY.match(goal[3])) or goal[2].startswith("the loop ends")
 
 
-def are_proved(edit, said, crate):
-    """Whether the log says that all that was looked at is proved, or that the edited functions are."""
-    only = re.search(r"^only=(\d+) proved=(\d+)\n*\Z", said, re.M)
-    if only and only[1] == only[2] or re.search(r"^logic=proved.*\n*\Z", said, re.M):
-        return True
-    paths = [f"fn {crate}::{function.path}: " for function in edit.functions]
-    told = [line for line in said.split("\n") if line.startswith(tuple(paths))] if paths and not edit.is_apart else []
-    return told and len(told) == len(paths) and all(": proved" in line for line in told)
+def are_proved(edit, bench):
+    """Whether a check of the edit alone says that the edited functions are proved, as far as holes tell."""
+    said = bench.check([edit], is_short=False)
+    told = [line for line in said.split("\n") if line.startswith(f"fn {bench.crate}::")]
+    if not edit.is_apart:
+        paths = tuple(f"fn {bench.crate}::{function.path}: " for function in edit.functions)
+        told = [line for line in told if line.startswith(paths)]
+    is_told = edit.is_apart or len(told) == len(edit.functions) > 0
+    return compiles(said) and is_told and not any(UNPROVED.search(line) for line in told)
 
 
 def folders_of(edit):
     """The folders of proofs/ that are of the edited functions."""
-    if edit.is_apart:
-        return ["proofs/"]
-    return [f"proofs/{function.path.replace('::', '/')}/" for function in edit.functions]
+    return ["proofs/"] if edit.is_apart else [folder_of(function.path) + "/" for function in edit.functions]
 
 
 def prune(edit, said, bench):
     """Takes out of the edited functions' proof files the answers that the log refuses. Whether there were any more."""
     folders, before = folders_of(edit), dict(edit.pruned)
     errors = re.findall(r"^(?:\./)?(proofs/\S+/Answers\.antt):(\d+):\d+: error: (.*)", said, re.M)
-    for file in {file for file, _, _ in errors if file.startswith(tuple(folders))}:
+    errors = [it for it in errors if it[0].startswith(tuple(folders)) and OFFERED not in it[2]]
+    for file in {file for file, _, _ in errors}:
         text = edit.pruned[file] if file in edit.pruned else read(os.path.join(bench.top, file))
         own = [(int(line) - 1, what) for other, line, what in errors if other == file]
         edit.pruned[file], gone = without_answers(text, {line for line, _ in own})
@@ -177,9 +233,11 @@ def prune(edit, said, bench):
 
 def try_round(edits, bench):
     """Tries the edits in one check. Those that are still open, and can be tried otherwise."""
+    for edit in edits:
+        edit.tries += 1
     said = bench.check(edits)
     if compiles(said):
-        left = [edit for edit in edits if not judge(edit, said, bench.crate)]
+        left = [edit for edit in edits if not judge(edit, said, bench)]
         return [edit for edit in left if prune(edit, said, bench) or len(edits) > 1]
     if len(edits) == 1:
         told = next((line for line in said.split("\n") if "error" in line), said.rstrip().rpartition("\n")[2])
@@ -193,18 +251,14 @@ def try_round(edits, bench):
 
 
 def try_crate(edits, bench):
-    """Tries all edits of a crate, in rounds, and what these leave open alone."""
-    left = []
+    """Tries all edits of a crate, as many in a check as fit together, and what is then still open alone."""
     for edit in edits:
         if edit.misfit:
             settle(edit, CANNOT, edit.misfit)
-        else:
-            left.append(edit)
-    for _ in range(ROUNDS):
-        left = [edit for some in rounds_of(left) for edit in try_round(some, bench)]
-    for edit in left:
-        while try_round([edit], bench):
-            pass
+    left = [edit for edit in edits if not edit.misfit]
+    while left:
+        some = round_of([edit for edit in left if edit.tries < ROUNDS]) or left[:1]
+        left = [edit for edit in left if edit not in some] + try_round(some, bench)
     for edit in edits:
         if not edit.verdict:
             settle(edit, NOT_TELLING, edit.said)

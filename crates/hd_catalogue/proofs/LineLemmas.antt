@@ -1,5 +1,6 @@
 -- The first line of a text, and the first value of a line.
-use Rattle.std.proofs.Common.{◌≡◌, ℕ, zero, suc, add-one, ◌+◌, ◌<◌, ◌≤◌, Bool, false, None, Some, List, [], ◌∷◌, length, take, drop, refl}
+use Rattle.std.proofs.Common.{◌≡◌, ℕ, zero, suc, add-one, ◌+◌, ◌<◌, ◌≤◌, Bool, false, None, Some, List, []}
+use Rattle.std.proofs.Common.{◌∷◌, length, take, drop, refl}
 use Rattle.std.proofs.Common.{ap, ◌∙◌, arith}
 use Rattle.std.specs.Prelude.{◌==◌}
 use Rattle.std.specs.List.{position, position_or_len, before_first, after_first, slice_split, All}
@@ -15,14 +16,16 @@ lines_of_parts-cons : (x : List ℕ) (parts : List (List ℕ)) → 0 < length pa
 lines_of_parts-cons x [] l = absurd (omega arith)
 lines_of_parts-cons x (y ∷ more) l = refl
 
-lines_at : (bs : List ℕ) → position_or_len (λ b. b == 10) bs < length bs
-    → lines bs ≡ strip_carriage_return (before_first (λ b. b == 10) bs) ∷ lines (after_first (λ b. b == 10) bs)
+lines_at : (bs : List ℕ) → position_or_len (λ b. b == 10) bs < length bs → lines bs
+    ≡ strip_carriage_return (before_first (λ b. b == 10) bs) ∷ lines (after_first (λ b. b == 10) bs)
 lines_at bs l =
     ap lines_of_parts (slice_split_first (λ b. b == 10) bs 0 l)
-    ∙ lines_of_parts-cons (before_first (λ b. b == 10) bs) (slice_split (λ b. b == 10) (after_first (λ b. b == 10) bs))
+    ∙ lines_of_parts-cons (before_first (λ b. b == 10) bs)
+    (slice_split (λ b. b == 10) (after_first (λ b. b == 10) bs))
     (omega (arith, length-slice_split (λ b. b == 10) (after_first (λ b. b == 10) bs)))
 
-position_some : (p : ℕ → Bool) (bs : List ℕ) (n : ℕ) → Some n ≡ position p bs → (position_or_len p bs ≡ n) × (n < length bs)
+position_some : (p : ℕ → Bool) (bs : List ℕ) (n : ℕ) → Some n ≡ position p bs
+    → (position_or_len p bs ≡ n) × (n < length bs)
 position_some p bs n h = (grind (arith, nat_tests), grind (arith, nat_tests))
 
 position_none : (p : ℕ → Bool) (bs : List ℕ) → None ≡ position p bs → length bs ≤ position_or_len p bs
@@ -64,9 +67,11 @@ pub position-nonempty : (p : ℕ → Bool) (bs : List ℕ) (n : ℕ) → Some n 
 position-nonempty p bs n h = omega (arith, (position_some p bs n h).1)
 
 -- a value and its bar come off the front
-pub values-front : (bs : List ℕ) (n : ℕ) → Some n ≡ position (λ b. b == 124) bs → values_of bs ≡ take n bs ∷ values_of (drop 1 (drop n bs))
+pub values-front : (bs : List ℕ) (n : ℕ) → Some n ≡ position (λ b. b == 124) bs
+    → values_of bs ≡ take n bs ∷ values_of (drop 1 (drop n bs))
 values-front bs n h =
-    let s : (position_or_len (λ b. b == 124) bs ≡ n) × (n < length bs) = position_some (λ b. b == 124) bs n h in
+    let s : (position_or_len (λ b. b == 124) bs ≡ n) × (n < length bs) =
+    position_some (λ b. b == 124) bs n h in
     let past : drop 1 (drop n bs) ≡ drop (n + 1) bs = rw add-one (drop-past n bs) in
     rw (past, ← s.0) (slice_split_first (λ b. b == 124) bs 0 (omega (arith, s.0, s.1)))
 

@@ -17,18 +17,20 @@ unfolding are_names
 first-name a b c h = grind (arith, h)
 
 -- names, and one more
-pub names-push : {F : Type 0} (names : List (List ℕ × F)) (e : List ℕ × F) → AreNames names → is_name e.0 ≡ true
-    → AreNames (names ++ e ∷ [])
+pub names-push : {F : Type 0} (names : List (List ℕ × F)) (e : List ℕ × F) → AreNames names
+    → is_name e.0 ≡ true → AreNames (names ++ e ∷ [])
 names-push [] e all new zero name h = subst (λ n. is_name n ≡ true) (some_is h) new
   where
     some_is : {A : Type 0} {x y : A} → Some x ≡ Some y → x ≡ y
     some_is h = cc
 names-push [] e all new (suc i) name h = all i name h
 names-push (x ∷ xs) e all new zero name h = all 0 name h
-names-push (x ∷ xs) e all new (suc i) name h = names-push xs e (λ n other is. all (suc n) other is) new i name h
+names-push (x ∷ xs) e all new (suc i) name h =
+    names-push xs e (λ n other is. all (suc n) other is) new i name h
 
 -- a catalogue without names
-pub names-none : (settings : Settings) (institution : List ℕ) → is_name institution ≡ true → HasNames (without_names settings institution)
+pub names-none : (settings : Settings) (institution : List ℕ) → is_name institution ≡ true
+    → HasNames (without_names settings institution)
 names-none settings institution name = record {
   institution = name;
   branches = λ i name is. absurd (none-some _ is);

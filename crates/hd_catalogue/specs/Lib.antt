@@ -1,4 +1,5 @@
 pub mod Names
+pub mod Kept
 pub mod Text
 pub mod Values
 pub mod Terminal

@@ -10,6 +10,7 @@ mod kinds;
 mod law;
 mod lines;
 mod looking;
+mod name;
 mod names;
 mod naming;
 mod opening;

@@ -3,6 +3,7 @@ ghost use Rattle.std.specs.Prelude.{◌≡◌, ℕ, ◌<◌, [], ◌∷◌, ◌+
 ghost use Rattle.std.specs.Prelude.{length, option_map};
 ghost use Rattle.hd_catalogue.specs.Names.{facts_at, name_at, number_of};
 
+use crate::name::Name;
 use indexmap::IndexMap;
 use std::alloc::{AllocError, Allocator, Global};
 use std::hash::{BuildHasherDefault, FoldHasher};
@@ -14,11 +15,11 @@ use std::marker::Model;
 /// are only looked up, never kept.
 #[derive(Drop)]
 pub struct Names<F: Drop, A: Allocator = Global> {
-    table: IndexMap<Vec<u8, A>, F, BuildHasherDefault<FoldHasher>, A>,
+    table: IndexMap<Name<A>, F, BuildHasherDefault<FoldHasher>, A>,
 }
 
 impl<F: Drop, A: Allocator> Model for Names<F, A> {
-    ghost use Rattle.std.specs.Prelude.{ℕ, List, map};
+    ghost use Rattle.std.specs.Prelude.{ℕ, List};
     ghost use Rattle.std.specs.Coded.{coded_list, coded×, coded_ℕ};
     ghost use Rattle.hd_catalogue.specs.Names.{AreDistinct};
 
@@ -26,9 +27,9 @@ impl<F: Drop, A: Allocator> Model for Names<F, A> {
 
     ghost coded = { coded_list (coded× (coded_list coded_ℕ) F.code) };
 
-    ghost view = { λ n. map (λ e. (e.0.items, e.1)) n.table.entries };
+    ghost view = { λ n. n.table.entries };
 
-    ghost invariant = { λ n. AreDistinct (map (λ e. (e.0.items, e.1)) n.table.entries) };
+    ghost invariant = { λ n. AreDistinct n.table.entries };
 }
 
 impl<F: Drop, A: Allocator + Copy> Names<F, A> {
@@ -86,7 +87,7 @@ impl<F: Drop, A: Allocator + Copy> Names<F, A> {
         ensures ok { OnOk result (self.new ≡ self.old ++ (name.now, facts) ∷ []) }
         ensures err { OnErr result (self.new ≡ self.old) }
     {
-        let name = Vec::from_slice(alloc, name)?;
+        let name = Name::new(alloc, name)?;
         self.table.insert(name, facts)?;
         Ok(())
     }

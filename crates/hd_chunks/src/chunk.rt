@@ -157,7 +157,7 @@ impl<T, M: Marking<T>, A: Allocator> Chunk<T, M, A> {
 
 /// How many items the chunks have in all.
 #[tactic(auto, using(crate::proofs::ChunkLemmas::passed_one_more, crate::proofs::ChunkLemmas::passed_within))]
-pub fn items_in<T, M: Marking<T>, A: Allocator>(chunks: &[Chunk<T, M, A>]) -> usize
+pub(crate) fn items_in<T, M: Marking<T>, A: Allocator>(chunks: &[Chunk<T, M, A>]) -> usize
     requires { length (all_items chunks.now) < 2 ^ 64 }
     ensures { result ≡ length (all_items chunks.now) }
 {

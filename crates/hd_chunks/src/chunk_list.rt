@@ -173,7 +173,6 @@ impl<T, M: Marking<T>, A: Allocator> ChunkList<T, M, A> {
     pub fn parts(&self) -> (&[T], &[Chunk<T, M, A>])
         ensures chunks { self.now.chunks ≡ result.0.now ∷ result.1.now }
         ensures some { All has_some result.1.now }
-        ensures fits { length (items_of self.now) < 2 ^ 63 }
     {
         (self.first.as_slice(), self.others.lend())
     }

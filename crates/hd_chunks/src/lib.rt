@@ -7,7 +7,7 @@ mod chunks;
 mod marks;
 mod place;
 
-pub use crate::chunk::{Chunk, items_in};
+pub use crate::chunk::Chunk;
 pub use crate::chunk_list::ChunkList;
 pub use crate::marks::Marking;
 pub use crate::place::Place;

@@ -5,7 +5,7 @@ ghost use Rattle.hd_chunks.specs.Marks.{may_have};
 use std::marker::Model;
 
 /// How many marks are told apart.
-const MARKS: usize = 64;
+pub(crate) const MARKS: usize = 64;
 
 /// How the items of a list are marked: each by a number, as a hold by its branch.
 pub trait Marking<T> {

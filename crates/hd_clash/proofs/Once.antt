@@ -1,5 +1,6 @@
 -- Keys put into a list, each once.
-use Rattle.std.proofs.Common.{◌≡◌, refl, sym, ◌∙◌, subst, Bool, true, false, ◌||◌, cond, ◌⊎◌, ◌↔◌, inl, inr, List, [], ◌∷◌, ◌++◌}
+use Rattle.std.proofs.Common.{◌≡◌, refl, sym, ◌∙◌, subst, Bool, true, false, ◌||◌, cond, ◌⊎◌, ◌↔◌, inl, inr}
+use Rattle.std.proofs.Common.{List, [], ◌∷◌, ◌++◌}
 use Rattle.std.specs.List.{list_any}
 use Rattle.hd_rules.specs.Run.{IsAmong}
 use Rattle.hd_lemmas.proofs.Lists.{among_left, among_right, among_either}
@@ -85,7 +86,8 @@ same_keys xs z = (λ h. there ((among_all [] xs z).0 h), λ h. (among_all [] xs 
     there (inr h) = h
 
 -- and each stands once
-distinct_more : (keys : List Key) (x : Key) → AreDistinct keys → (IsAmong x keys → ⊥) → AreDistinct (keys ++ x ∷ [])
+distinct_more : (keys : List Key) (x : Key) → AreDistinct keys → (IsAmong x keys → ⊥)
+    → AreDistinct (keys ++ x ∷ [])
 distinct_more [] x apart never = (λ h. h, tt)
 distinct_more (y ∷ ys) x apart never =
     (λ h. neither (among_either y ys (x ∷ []) h), distinct_more ys x apart.1 (λ h. never (inr h)))
@@ -118,8 +120,8 @@ passing test (x ∷ xs) is = by_test (test x) refl is (passing test xs)
     later : Passing test xs → Passing test (x ∷ xs)
     later p = record { one = p.one; among = inr p.among; passes = p.passes }
 
-    by_test : (b : Bool) → test x ≡ b → (b || list_any test xs) ≡ true → (list_any test xs ≡ true → Passing test xs)
-        → Passing test (x ∷ xs)
+    by_test : (b : Bool) → test x ≡ b → (b || list_any test xs) ≡ true
+        → (list_any test xs ≡ true → Passing test xs) → Passing test (x ∷ xs)
     by_test true passes is more = record { one = x; among = inl refl; passes = passes }
     by_test false passes is more = later (more is)
 
@@ -127,10 +129,12 @@ pub alike : (test : Key → Bool) (xs ys : List Key) → HaveSameKeys xs ys → 
 alike test xs ys same = by_tests (list_any test xs) refl (list_any test ys) refl
   where
     there : list_any test xs ≡ true → list_any test ys ≡ true
-    there is = let p : Passing test xs = passing test xs is in any_passes test p.one ys ((same p.one).0 p.among) p.passes
+    there is = let p : Passing test xs = passing test xs is in
+        any_passes test p.one ys ((same p.one).0 p.among) p.passes
 
     back : list_any test ys ≡ true → list_any test xs ≡ true
-    back is = let p : Passing test ys = passing test ys is in any_passes test p.one xs ((same p.one).1 p.among) p.passes
+    back is = let p : Passing test ys = passing test ys is in
+        any_passes test p.one xs ((same p.one).1 p.among) p.passes
 
     by_tests : (a : Bool) → list_any test xs ≡ a → (b : Bool) → list_any test ys ≡ b → a ≡ b
     by_tests true is b other = sym (there is) ∙ other

@@ -18,8 +18,9 @@ use Rattle.hd_clash.specs.Rules.{Rules}
 use Rattle.hd_clash.proofs.Known.{known_asks}
 use Rattle.hd_clash.proofs.Untouched.{counts_small, done_known}
 
-pub split : (k : Facts) (d : Desk) (older newer : List Survivor) (rs ts : List Record) → length older ≡ length rs
-    → AreRecords k d (older ++ newer) (rs ++ ts) → AreRecords k d older rs × AreRecords k (run_from k d older) newer ts
+pub split : (k : Facts) (d : Desk) (older newer : List Survivor) (rs ts : List Record)
+    → length older ≡ length rs → AreRecords k d (older ++ newer) (rs ++ ts)
+    → AreRecords k d older rs × AreRecords k (run_from k d older) newer ts
 split k d [] newer [] ts same are = (tt, are)
 split k d [] newer (r ∷ rs) ts same are = absurd (omega (arith, same))
 split k d (s ∷ ss) newer [] ts same are = absurd (omega (arith, same))
@@ -29,35 +30,39 @@ split k d (s ∷ ss) newer (r ∷ rs) ts same are =
     ((are.0, parts.0), parts.1)
 
 pub join : (k : Facts) (d : Desk) (older newer : List Survivor) (rs ts : List Record)
-    → AreRecords k d older rs × AreRecords k (run_from k d older) newer ts → AreRecords k d (older ++ newer) (rs ++ ts)
+    → AreRecords k d older rs × AreRecords k (run_from k d older) newer ts
+    → AreRecords k d (older ++ newer) (rs ++ ts)
 join k d [] newer [] ts are = are.1
 join k d [] newer (r ∷ rs) ts are = absurd are.0
 join k d (s ∷ ss) newer [] ts are = absurd are.0
 join k d (s ∷ ss) newer (r ∷ rs) ts are = (are.0.0, join k (step k d s) ss newer rs ts (are.0.1, are.1))
 
 -- a known desk stays one
-step_known : Rules → (k : Facts) (d : Desk) (s : Survivor) → AreInRange k → IsKnownDesk k d → IsKnownAction k s.command.action
-    → IsKnownDesk k (step k d s)
+step_known : Rules → (k : Facts) (d : Desk) (s : Survivor) → AreInRange k → IsKnownDesk k d
+    → IsKnownAction k s.command.action → IsKnownDesk k (step k d s)
 step_known rules k d s range known fine = by_outcome (outcome_of k d s) refl
   where
     by_outcome : (r : Result Done Refusal) → outcome_of k d s ≡ r → IsKnownDesk k (changed_by r d)
-    by_outcome (Ok done) is = after_known k d done.changes known (rules.commands.known k d s.number s.command done range known fine is).changes
+    by_outcome (Ok done) is = after_known k d done.changes known
+        (rules.commands.known k d s.number s.command done range known fine is).changes
     by_outcome (Err r) is = known
 
 each_small : (k : Facts) (d : Desk) (qs : List Question) → AreInRange k → EachIsSmall (findings k d qs)
 each_small k d [] range = tt
 each_small k d (q ∷ qs) range = (counts_small k d q range, each_small k d qs range)
 
-record_known : Rules → (k : Facts) (d : Desk) (s : Survivor) (r : Record) → AreInRange k → IsKnownDesk k d → IsKnownAction k s.command.action
-    → IsRecordAt k d s r → IsKnownRecord k r
+record_known : Rules → (k : Facts) (d : Desk) (s : Survivor) (r : Record) → AreInRange k → IsKnownDesk k d
+    → IsKnownAction k s.command.action → IsRecordAt k d s r → IsKnownRecord k r
 record_known rules k d s r range desk known is = record {
-  cells = done_known k (record { changes = r.changes; reply = r.reply }) (rules.commands.known k d s.number s.command _ range desk known is.done);
-  questions = subst (EachQuestionIsKnown k) (sym is.findings) (known_asks k d s.number s.command range desk known);
+  cells = done_known k (record { changes = r.changes; reply = r.reply })
+      (rules.commands.known k d s.number s.command _ range desk known is.done);
+  questions =
+      subst (EachQuestionIsKnown k) (sym is.findings) (known_asks k d s.number s.command range desk known);
   counts = subst EachIsSmall (sym is.findings) (each_small k d (asks k d (plan k s.number s.command)) range);
 }
 
-pub records_known : Rules → (k : Facts) (d : Desk) (ss : List Survivor) (rs : List Record) → AreInRange k → IsKnownDesk k d
-    → EachCommandIsKnown k ss → AreRecords k d ss rs → EachRecordIsKnown k rs
+pub records_known : Rules → (k : Facts) (d : Desk) (ss : List Survivor) (rs : List Record) → AreInRange k
+    → IsKnownDesk k d → EachCommandIsKnown k ss → AreRecords k d ss rs → EachRecordIsKnown k rs
 records_known rules k d [] [] range desk known are = tt
 records_known rules k d [] (r ∷ rs) range desk known are = absurd are
 records_known rules k d (s ∷ ss) [] range desk known are = absurd are

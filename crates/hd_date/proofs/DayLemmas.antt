@@ -1,5 +1,6 @@
 -- The numbers of days.
-use Rattle.std.proofs.Common.{◌≡◌, ℕ, suc, zero, ◌+◌, ◌<◌, ◌≤◌, inl, inr, ⊎_elim, ℤ, pos, negsuc, neg_ℤ, unsigned_abs, ◌+ℤ◌, ◌<ℤ◌, ◌≤ℤ◌}
+use Rattle.std.proofs.Common.{◌≡◌, ℕ, suc, zero, ◌+◌, ◌<◌, ◌≤◌, inl, inr, ⊎_elim, ℤ, pos, negsuc, neg_ℤ}
+use Rattle.std.proofs.Common.{unsigned_abs, ◌+ℤ◌, ◌<ℤ◌, ◌≤ℤ◌}
 use Rattle.std.proofs.Common.{Option, None, Some, SomeIff, refl, sym, ap, subst, ◌∙◌, arith, rules}
 use Rattle.std.proofs.lemmas.Bool.{cases_lt}
 use Rattle.jiff_core.specs.Calendar.{IsCivilDate, day_count, days_from_civil, days_of_months, days_of_years}
@@ -13,7 +14,8 @@ use Rattle.hd_day.specs.Days.{end_of_days}
 use Rattle.hd_date.specs.Days.{IsCalendarDay}
 
 -- a number below the end of days is a day's
-pub day_there : {r : Option ℕ} {number : ℕ} → SomeIff r (number < end_of_days) number → number < end_of_days → r ≡ Some number
+pub day_there : {r : Option ℕ} {number : ℕ} → SomeIff r (number < end_of_days) number → number < end_of_days
+    → r ≡ Some number
 day_there {r = None} made below = absurd (made below)
 day_there {r = Some n} made below = ap Some made.1
 
@@ -23,7 +25,14 @@ unfolding days_from_civil day_count days_of_years days_of_months
 day_zero = refl
 
 zero_date : Date
-zero_date = record { year = pos 0; month = 1; day = 1; year_in = search rules; month_in = search rules; day_in = search rules }
+zero_date = record {
+  year = pos 0;
+  month = 1;
+  day = 1;
+  year_in = search rules;
+  month_in = search rules;
+  day_in = search rules;
+}
 
 -- a date of a year before 0 has a smaller number
 pub before_zero : (d : Date) → d.year <ℤ pos 0 → epoch_day d <ℤ neg_ℤ (pos 719_528)
@@ -34,7 +43,8 @@ before_zero d h = subst (λ z. epoch_day d <ℤ z) day_zero (epoch_day-lt d zero
 later : (d : Date) → IsEarlier zero_date d → neg_ℤ (pos 719_528) ≤ℤ epoch_day d
 unfolding zero_date
 later d h =
-    let after : neg_ℤ (pos 719_528) <ℤ epoch_day d = subst (λ z. z <ℤ epoch_day d) day_zero (epoch_day-lt zero_date d h) in
+    let after : neg_ℤ (pos 719_528) <ℤ epoch_day d =
+    subst (λ z. z <ℤ epoch_day d) day_zero (epoch_day-lt zero_date d h) in
     omega (arith, signed_arith)
 
 in_year_zero : (d : Date) → d.year ≡ pos 0 → neg_ℤ (pos 719_528) ≤ℤ epoch_day d
@@ -76,10 +86,12 @@ pub shown : (d : Date) (number : ℕ) → epoch_day d +ℤ pos 4_371_587 ≡ pos
 shown d number e =
     let year : pos (unsigned_abs d.year) ≡ d.year =
     size_of d.year (λ early. let low = before_zero d early in omega (arith, signed_arith)) in
-    let counted : epoch_day d ≡ days_from_civil (pos 0) 1 1 +ℤ pos number = omega (arith, signed_arith, day_zero) in
+    let counted : epoch_day d ≡ days_from_civil (pos 0) 1 1 +ℤ pos number =
+    omega (arith, signed_arith, day_zero) in
     record {
       real = subst (λ y. IsCivilDate y d.month d.day) (sym year) (civil d);
-      counted = subst (λ y. days_from_civil y d.month d.day ≡ days_from_civil (pos 0) 1 1 +ℤ pos number) (sym year) counted;
+      counted = subst (λ y. days_from_civil y d.month d.day ≡ days_from_civil (pos 0) 1 1 +ℤ pos number)
+          (sym year) counted;
     }
 
 -- the same of the date that was made from a year, a month and a day

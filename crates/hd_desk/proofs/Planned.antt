@@ -15,6 +15,7 @@ use Rattle.hd_rules.specs.declared.questions.Question.{Question}
 use Rattle.hd_rules.specs.declared.questions.Noted.{Noted}
 use Rattle.hd_rules.specs.declared.questions.Finding.{Finding}
 use Rattle.hd_rules.specs.declared.replies.Refusal.{Refusal}
+use Rattle.hd_rules.specs.declared.replies.Reply.{Reply}
 use Rattle.hd_rules.specs.declared.commands.Command.{Command}
 use Rattle.hd_rules.specs.Facts.{Facts}
 use Rattle.hd_rules.specs.Desk.{Desk, after, at_home}
@@ -154,23 +155,23 @@ still-sound k n d sound = later_sound k n (n + 1) d (omega arith) sound
 
 -- a plan that was followed to a command's acceptance
 pub accepted : CommandLaws
-    → (d : DeskValue) (n : ℕ) (command : Command) (q new : InquiryValue) (r : Result Done Refusal) (ok : Done)
-    (done : DoneValue) → q ≡ record { desk = d; asked = [] } → (r, new.asked)
-    ≡ ending_of q (plan (facts q.desk) n command) →
-    new.desk ≡ q.desk → r ≡ Ok ok → done_of done ≡ ok → done.findings
-    ≡ findings (facts new.desk) (desk_of new.desk) new.asked →
-    IsKeptDesk (facts d) (desk_of d) → IsKnownAction (facts d) command.action → Sound (facts d) n (desk_of d)
-    → IsAccepted d n command done
-accepted laws d n command q new r ok done start ends same is told found kept action sound =
+    → (d : DeskValue) (n : ℕ) (command : Command) (q new : InquiryValue) (r : Result Done Refusal)
+    (done : DoneValue) (reply : Reply) → q ≡ record { desk = d; asked = [] }
+    → (r, new.asked) ≡ ending_of q (plan (facts q.desk) n command)
+    → new.desk ≡ q.desk → r ≡ Ok (done_of done reply)
+    → done.findings ≡ findings (facts new.desk) (desk_of new.desk) new.asked
+    → IsKeptDesk (facts d) (desk_of d) → IsKnownAction (facts d) command.action
+    → Sound (facts d) n (desk_of d) → IsAccepted d n command done reply
+accepted laws d n command q new r done reply start ends same is found kept action sound =
     let f : Followed (facts d) (desk_of d) (plan (facts d) n command) r new.asked =
     followed d n command q r new.asked start ends in
-    let outcome : outcome_at d n command ≡ Ok (done_of done) = sym f.outcome ∙ is
-    ∙ ap (λ (x : Done). Ok x) (sym told) in
+    let outcome : outcome_at d n command ≡ Ok (done_of done reply) = sym f.outcome ∙ is in
     let here : new.desk ≡ d = same ∙ ap (λ (x : InquiryValue). x.desk) start in
     record {
       outcome = outcome;
       findings = found ∙ (λ i. findings (facts (here i)) (desk_of (here i)) (f.asks i));
-      can = can-be-made laws (facts d) (desk_of d) n command (done_of done) kept action sound outcome;
+      can =
+          can-be-made laws (facts d) (desk_of d) n command (done_of done reply) kept action sound outcome;
     }
 
 -- once there is room for them
@@ -211,10 +212,9 @@ item-so d h copy t state n same contents is title count = λ i. record {
 
 -- there was too little room
 pub was-short : {T E : Type 0}
-    → (d : DeskValue) (o : Result Done Refusal) (done : Done) (cs : List Change) (r : Result T E) (b : Bool) →
-    o ≡ Ok done → cs ≡ done.changes → b ≡ is_err r → b ≡ true
-    → OnErr r (HaveRoom (HasRoomFor d) (length cs) cs → ⊥) →
-    IsShortOfRoom d o (Err Memory)
+    → (d : DeskValue) (o : Result Done Refusal) (done : Done) (cs : List Change) (r : Result T E) (b : Bool)
+    → o ≡ Ok done → cs ≡ done.changes → b ≡ is_err r → b ≡ true
+    → OnErr r (HaveRoom (HasRoomFor d) (length cs) cs → ⊥) → IsShortOfRoom d o (Err Memory)
 was-short d o done cs (Ok x) b is are test on full = let t : true ≡ false = sym on ∙ test in cc
 was-short d o done cs (Err x) b is are test on full =
     subst (λ (x : Result Done Refusal). IsShortOfRoom d x (Err Memory)) (sym is)

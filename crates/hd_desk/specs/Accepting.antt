@@ -2,6 +2,7 @@
 use Rattle.std.specs.Prelude.{◌≡◌, ℕ, ◌+◌, List, Ok}
 use Rattle.hd_rules.specs.declared.cells.Change.{Change}
 use Rattle.hd_rules.specs.declared.commands.Command.{Command}
+use Rattle.hd_rules.specs.declared.replies.Reply.{Reply}
 use Rattle.hd_rules.specs.Facts.{Facts}
 use Rattle.hd_rules.specs.Desk.{Desk, after}
 use Rattle.hd_rules.specs.Ask.{asks}
@@ -20,9 +21,11 @@ pub record CanBeMade (k : Facts) (d : Desk) (number : ℕ) (changes : List Chang
   pub sound : Sound k (number + 1) (after changes d)
   pub back : CanBeUndone k d (after changes d) changes
 
--- The desk accepts the command: this is its outcome, and this is what it asks. Its changes can be made.
-pub record IsAccepted (d : DeskValue) (number : ℕ) (command : Command) (done : DoneValue) : Type 0 where
-  pub outcome : outcome_at d number command ≡ Ok (done_of done)
+-- The desk accepts the command: this is its outcome with this reply, and this is what it asks. Its changes
+-- can be made.
+pub record IsAccepted (d : DeskValue) (number : ℕ) (command : Command) (done : DoneValue) (reply : Reply)
+    : Type 0 where
+  pub outcome : outcome_at d number command ≡ Ok (done_of done reply)
   pub findings : done.findings
       ≡ findings (facts d) (desk_of d) (asks (facts d) (desk_of d) (plan (facts d) number command))
   pub can : CanBeMade (facts d) (desk_of d) number done.changes

@@ -1,7 +1,7 @@
 //! Commands.
 #![tactic(auto)]
 
-ghost use Rattle.std.specs.Prelude.{◌≡◌, ◌<◌, ◌+◌, ℕ, Err, IfOk, MatchResult, OnErr, [], length};
+ghost use Rattle.std.specs.Prelude.{◌≡◌, ◌<◌, ◌+◌, ℕ, Err, MatchResult, OnErr, OnOk, [], length};
 ghost use Rattle.hd_rules.specs.Ask.{asks};
 ghost use Rattle.hd_rules.specs.Desk.{after};
 ghost use Rattle.hd_rules.specs.Known.{IsKnownAction};
@@ -32,7 +32,8 @@ use std::alloc::Allocator;
 
 impl<A: Allocator + Copy> Desk<A> {
     /// Does a command. Its number is above every stamp of the desk, and what it names is of the desk's
-    /// catalogue.
+    /// catalogue. What it did is written into `done`, whatever that had before; where it isn't accepted, what
+    /// is there then means nothing.
     ///
     /// Out of memory comes after every refusal, and only where `ready` would lack room for the changes.
     /// Neither changes anything but the meter. That counts one command step, and one cell written per change.
@@ -43,54 +44,52 @@ impl<A: Allocator + Copy> Desk<A> {
         number: u64,
         command: &Command,
         meter: &mut Meter,
-    ) -> Result<Done, Refused>
+        done: &mut Done,
+    ) -> Result<Reply, Refused>
         requires known { IsKnownAction (facts self.old) command.now.action }
         requires sound { Sound (facts self.old) number (desk_of self.old) }
-        ensures outcome { IsItsOutcome (outcome_at self.old number command.now) result }
-        ensures findings { IfOk result (λ done. done.findings
+        ensures outcome { IsItsOutcome (outcome_at self.old number command.now) done.new result }
+        ensures findings { OnOk result (done.new.findings
             ≡ findings (facts self.old) (desk_of self.old)
             (asks (facts self.old) (desk_of self.old) (plan (facts self.old) number command.now))) }
-        ensures after { IfOk result (λ done. desk_of self.new ≡ after done.changes (desk_of self.old)) }
+        ensures after { OnOk result (desk_of self.new ≡ after done.new.changes (desk_of self.old)) }
         ensures full { IsShortOfRoom self.old (outcome_at self.old number command.now) result }
-        ensures back { IfOk result (λ done. CanBeUndone (facts self.new) (desk_of self.old)
-            (desk_of self.new) done.changes) }
+        ensures back { OnOk result (CanBeUndone (facts self.new) (desk_of self.old)
+            (desk_of self.new) done.new.changes) }
         ensures unchanged { OnErr result (desk_of self.new ≡ desk_of self.old) }
         ensures contents { contents self.new ≡ contents self.old }
         ensures sound { Sound (facts self.new) (number + 1) (desk_of self.new) }
         ensures later { (n : ℕ) → number < n → Sound (facts self.new) n (desk_of self.new) }
         ensures step { OnErr result (meter.new ≡ with_one_more meter.old Step) }
-        ensures written { IfOk result (λ done. meter.new
-            ≡ after_writes (length done.changes) (with_one_more meter.old Step)) }
+        ensures written { OnOk result (meter.new
+            ≡ after_writes (length done.new.changes) (with_one_more meter.old Step)) }
     {
         meter.add(Count::Step);
-        let done = match self.decide(number, command) {
-            Ok(done) => done,
+        let reply = match self.decide(number, command, done) {
+            Ok(reply) => reply,
             Err(refusal) => return Err(Refused::Rule(refusal)),
         };
         if self.ready(done.changes()).is_err() {
             return Err(Refused::Memory);
         }
         self.make(done.changes(), meter);
-        Ok(done)
+        Ok(reply)
     }
 
-    /// What the command does here, what it says and what it asks, or why it is refused. It changes nothing.
-    fn decide(&self, number: u64, command: &Command) -> Result<Done, Refusal>
+    /// What the command does here and what it asks, and what it says, or why it is refused. It changes no
+    /// cell.
+    fn decide(&self, number: u64, command: &Command, done: &mut Done) -> Result<Reply, Refusal>
         requires known { IsKnownAction (facts self.now) command.now.action }
         requires sound { Sound (facts self.now) number (desk_of self.now) }
-        ensures { MatchResult result (IsAccepted self.now number command.now)
+        ensures { MatchResult result (IsAccepted self.now number command.now done.new)
             (λ refusal. outcome_at self.now number command.now ≡ Err refusal) }
     {
         laws();
+        done.changes.clear();
         let mut inquiry = Inquiry::new(self);
-        let mut footprint = Footprint::new();
-        let reply = inquiry.follow(number, command, &mut footprint)?;
-        let findings = inquiry.into_findings();
-        Ok(Done {
-            reply,
-            changes: footprint,
-            findings,
-        })
+        let reply = inquiry.follow(number, command, &mut done.changes)?;
+        done.findings = inquiry.into_findings();
+        Ok(reply)
     }
 }
 

@@ -1,14 +1,14 @@
 //! What an accepted command did.
-ghost use Rattle.std.specs.Prelude.{◌≡◌};
+ghost use Rattle.std.specs.Prelude.{◌≡◌, []};
 
 use hd_footprint::{Findings, Footprint};
-use hd_rules::{Change, Finding, Reply};
+use hd_rules::{Change, Finding};
 use std::marker::Model;
 
-/// What an accepted command did, what it says, and what it asked.
+/// What an accepted command did, and what it asked. It stands where the desk's caller wants it, so that the
+/// next command is written into the same memory.
 #[derive(Drop, Debug)]
 pub struct Done {
-    pub(crate) reply: Reply,
     pub(crate) changes: Footprint,
     pub(crate) findings: Findings,
 }
@@ -18,15 +18,18 @@ impl Model for Done {
 
     ghost Value = { DoneValue };
 
-    ghost view = { λ done. record { changes = done.changes; reply = done.reply; findings = done.findings } };
+    ghost view = { λ done. record { changes = done.changes; findings = done.findings } };
 }
 
 impl Done {
-    /// What the reply says beside the message's own values, date and names.
-    pub fn reply(&self) -> Reply
-        ensures { result ≡ self.now.reply }
+    /// Nothing is done yet.
+    pub fn new() -> Done
+        ensures { result ≡ record { changes = []; findings = [] } }
     {
-        self.reply
+        Done {
+            changes: Footprint::new(),
+            findings: Findings::new(),
+        }
     }
 
     /// The changes in order, and the questions in order with their noted answers, lent.

@@ -20,7 +20,8 @@ entry items e = (items e.0, e.1)
 pub lookup-entry : {V : Type 0} (items : V → List ℕ) (name : List ℕ) (es : List (V × ℕ))
     → lookup (λ v. bytes_eq name (items v)) es ≡ line_of (map (entry items) es) name
 lookup-entry items name [] = refl
-lookup-entry items name (e ∷ es) = ap (cond (bytes_eq name (items e.0)) (Some e.1)) (lookup-entry items name es)
+lookup-entry items name (e ∷ es) =
+    ap (cond (bytes_eq name (items e.0)) (Some e.1)) (lookup-entry items name es)
 
 -- a name that isn't there goes last
 pub insert-new : {V : Type 0} (items : V → List ℕ) (es : List (V × ℕ)) (k : V) (line : ℕ)
@@ -43,11 +44,15 @@ has_number facts (e ∷ es) name = elim (cases_Bool (bytes_eq name e.0)) [
 ]
 
 -- it has as many
-pub count_named : {F : Type 0} (facts : F) (names : List (List ℕ × ℕ)) → length (named facts names) ≡ length names
+pub count_named : {F : Type 0} (facts : F) (names : List (List ℕ × ℕ))
+    → length (named facts names) ≡ length names
 count_named facts names = length-map names (λ e. (e.0, facts))
 
 -- and it refuses a name for the same cause
-pub same_cause : {F : Type 0} (facts : F) (names : List (List ℕ × ℕ)) (name : List ℕ) (known : Bool) (most : ℕ)
-    → name_cause (named facts names) name known most ≡ cause_of_name names name known most
+pub same_cause : {F : Type 0} (facts : F) (names : List (List ℕ × ℕ)) (name : List ℕ) (known : Bool)
+    (most : ℕ) → name_cause (named facts names) name known most ≡ cause_of_name names name known most
 same_cause facts names name known most =
     rw (has_number facts names name, count_named facts names) refl
+
+-- what a catalogue with the names defined so far says of a name
+pub ruleset names_defined = (same_cause, has_number, count_named)

@@ -101,7 +101,7 @@ impl Known {
     }
 
     /// Why a branch's line is refused.
-    #[tactic(auto, using(crate::proofs::NameLemmas::same_cause, crate::proofs::NameLemmas::has_number, crate::proofs::NameLemmas::count_named))]
+    #[tactic(auto, using(crate::proofs::NameLemmas::names_defined))]
     fn branch_cause(&self, long: bool, values: Values<'_>) -> Option<Cause>
         ensures { result ≡ branch_cause long (contents self.now) (as_one values.entry) }
     {
@@ -115,7 +115,7 @@ impl Known {
     }
 
     /// Why a terminal's line is refused.
-    #[tactic(auto, using(crate::proofs::NameLemmas::same_cause, crate::proofs::NameLemmas::has_number, crate::proofs::NameLemmas::count_named))]
+    #[tactic(auto, using(crate::proofs::NameLemmas::names_defined))]
     fn terminal_cause(&self, long: bool, values: Values<'_>) -> Option<Cause>
         ensures { result ≡ terminal_cause long (contents self.now) (as_three values.entry) }
     {
@@ -130,7 +130,7 @@ impl Known {
     }
 
     /// Why a patron's line is refused.
-    #[tactic(auto, using(crate::proofs::NameLemmas::same_cause, crate::proofs::NameLemmas::has_number, crate::proofs::NameLemmas::count_named))]
+    #[tactic(auto, using(crate::proofs::NameLemmas::names_defined))]
     fn patron_cause(&self, long: bool, values: Values<'_>) -> Option<Cause>
         ensures { result ≡ patron_cause long (contents self.now) (as_two values.entry) }
     {
@@ -147,7 +147,7 @@ impl Known {
     }
 
     /// Why a title's line is refused.
-    #[tactic(auto, using(crate::proofs::NameLemmas::same_cause, crate::proofs::NameLemmas::has_number, crate::proofs::NameLemmas::count_named))]
+    #[tactic(auto, using(crate::proofs::NameLemmas::names_defined))]
     fn title_cause(&self, long: bool, values: Values<'_>) -> Option<Cause>
         ensures { result ≡ title_cause long (contents self.now)
             (title_values (version_of self.now.has_priorities) values.entry) }
@@ -166,7 +166,7 @@ impl Known {
     }
 
     /// Why a copy's line is refused.
-    #[tactic(auto, using(crate::proofs::NameLemmas::same_cause, crate::proofs::NameLemmas::has_number, crate::proofs::NameLemmas::count_named))]
+    #[tactic(auto, using(crate::proofs::NameLemmas::names_defined))]
     fn copy_cause(&self, long: bool, values: Values<'_>) -> Option<Cause>
         ensures { result ≡ copy_cause long (contents self.now) (as_three values.entry) }
     {

@@ -121,6 +121,13 @@ committed holds leaves k turns n opened left found =
     let whole : take n turns ≡ turns = ap (λ (m : ℕ). take m turns) opened.all ∙ take-length turns
     in opened.settled left found ∙ ap (changing k) (sym whole)
 
+-- and its table has them
+pub held : (holds leaves : List Turn → Type 0) (k : Facts) (turns : List Turn) (n : ℕ)
+    → IsOpen holds leaves k turns n → holds (changing k (take n turns))
+held holds leaves k turns n opened =
+    let whole : take n turns ≡ turns = ap (λ (m : ℕ). take m turns) opened.all ∙ take-length turns
+    in subst (λ (ts : List Turn). holds (changing k ts)) (sym whole) opened.held
+
 module _ (old new : Book) (seat : ℕ) (message : Message) (made : Made)
     (adds : AddsTurn old new seat message made)
     (legal : IsLegalBook new.contents new.turns) where

@@ -97,6 +97,8 @@ impl<T: TurnTable, A: Allocator + Copy> DurableJournal<T, A> {
         ensures number { IfOk result (λ made. made.at ≡ length self.new.turns) }
         // Only an open journal answers, and it stays open.
         ensures open { OnOk result ((self.old.shut ≡ None) × (self.new.shut ≡ None)) }
+        ensures held { OnOk result (T.holds self.new.table
+            (changing (facts_of self.new.contents) self.new.turns)) }
         ensures committed { OnOk result ((left : List TurnValue) → T.leaves self.new.table left
             → left ≡ changing (facts_of self.new.contents) self.new.turns) }
         ensures left { (left : List TurnValue) → T.leaves self.new.table left
@@ -154,13 +156,19 @@ impl<T: TurnTable, A: Allocator + Copy> DurableJournal<T, A> {
         self.journal.turn_at(at)
     }
 
-    /// The journal in memory. It has the turns that were answered; where one couldn't be committed, that one
-    /// too.
-    pub fn journal(&self) -> &Journal<A>
-        ensures contents { result.now.contents ≡ self.now.contents }
-        ensures turns { (answered : ℕ) × (take answered result.now.turns ≡ self.now.turns) }
+    /// The table. While the journal is open it has the changing turns of all that were answered, each
+    /// committed, and a stop leaves no others; of a journal that is shut it may leave one more.
+    pub fn table(&self) -> &T
+        ensures table { result.now ≡ self.now.table }
+        ensures catalogue { T.contents self.now.table ≡ self.now.contents }
+        ensures held { self.now.shut ≡ None
+            → T.holds self.now.table (changing (facts_of self.now.contents) self.now.turns) }
+        ensures committed { self.now.shut ≡ None → (left : List TurnValue) → T.leaves self.now.table left
+            → left ≡ changing (facts_of self.now.contents) self.now.turns }
+        ensures left { (left : List TurnValue) → T.leaves self.now.table left
+            → IsLeft (facts_of self.now.contents) self.now.turns left }
     {
-        &self.journal
+        &self.table
     }
 
     /// The journal, with the turns that were answered and no others.

@@ -251,7 +251,8 @@ module _ (k : Contents) (v w : PatronValues) (date : v.date ≡ w.date)
         → IsKnownInformation k file p view items wanted v o
         → IsKnownInformation k file p view items wanted w q
         → information_text a o ≡ information_text b q
-    one_information a b file p view items wanted (OfInformation.Known x c m l) (OfInformation.Known y d n i) is so known there =
+    one_information a b file p view items wanted (OfInformation.Known x c m l) (OfInformation.Known y d n i)
+        is so known there =
         let check = one_check file p view x y known.0 there.0 in
         let front : concat (information_layout a x c m) ≡ concat (information_layout b y d n) =
         front_same a b x y c d m n

@@ -120,7 +120,8 @@ module _ (k : Contents) where
   loan_is : (asked : Result Asked Refusal) (told : TurnReply) (o : LoanOutcome) → IsLoanOutcome k asked told o
       → loan_plain o ≡ loan_told asked told
   loan_is asked (Refused refusal) (OfLoan.Refused given) is = rw is refl
-  loan_is (Ok (ask.Command command)) (Done n (LentOrRenewed t due renewal)) (OfLoan.Lent renewed title day) is =
+  loan_is (Ok (ask.Command command)) (Done n (LentOrRenewed t due renewal))
+      (OfLoan.Lent renewed title day) is =
       rw (is.0, is.1, is.2) refl
   loan_is (Ok (ask.Cancel (cancel.Checkin c))) (Cancelled n) (OfLoan.Cancelled title number) is =
       rw (is.0, is.1) refl
@@ -153,7 +154,8 @@ module _ (k : Contents) where
       → IsCheckinOutcome k asked told o
       → checkin_plain o ≡ checkin_told asked told
   checkin_is asked (Refused refusal) (OfCheckin.Refused given) is = rw is refl
-  checkin_is (Ok (ask.Command command)) (Done n (Returned t b now)) (OfCheckin.Returned home title whereabouts) is =
+  checkin_is (Ok (ask.Command command)) (Done n (Returned t b now))
+      (OfCheckin.Returned home title whereabouts) is =
       rw (is.0, is.1, where_is now whereabouts is.2) refl
   checkin_is (Ok (ask.Cancel (cancel.Checkout c))) (Cancelled n) (OfCheckin.Cancelled home title number) is =
       rw (is.0, is.1, is.2) refl
@@ -177,7 +179,8 @@ module _ (k : Contents) where
       → IsHoldOutcome k own asked told o
       → hold_plain o ≡ hold_told own asked told
   hold_is own asked (Refused refusal) (OfHold.Refused title given) is = rw (is.0, is.1) refl
-  hold_is own (Ok (ask.Command command)) (Done n (Held t stands at hold)) (OfHold.Held available expiry position pickup title) is =
+  hold_is own (Ok (ask.Command command)) (Done n (Held t stands at hold))
+      (OfHold.Held available expiry position pickup title) is =
       rw (is.0, is.1, is.2, is.3, is.4) refl
   hold_is own (Ok (ask.Command command)) (Done n (Deleted t)) (OfHold.Deleted title) is = rw is refl
   hold_is own (Ok (ask.Cancel (cancel.Add p t))) (Cancelled n) (OfHold.Cancelled title number) is =

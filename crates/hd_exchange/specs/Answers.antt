@@ -145,7 +145,7 @@ AsksSomething (Session message) = ⊥
 AsksSomething (Desk message) = IsOk message.asks
 AsksSomething (Patron message) = AsksForALook message.asks
 
--- The message of the body asks something of the office, of a session that is logged in so, whenever it comes.
+-- The message of the body asks something of the office, of a session that is logged in so, at some arrival.
 -- A login, a status message, a resend, the end of a patron's session, a payment, and what is refused
 -- beforehand ask nothing.
 pub record AsksTheOffice (k : Contents) (e : Extensions) (login : Option LoggedIn) (body : List ℕ)

@@ -50,7 +50,7 @@ impl<A: Allocator> Extensions<A> {
 }
 
 /// Which extensions are on, where some are lent; else none.
-pub(crate) fn profile_of<A: Allocator>(extensions: Option<&Extensions<A>>) -> Profile
+pub fn profile_of<A: Allocator>(extensions: Option<&Extensions<A>>) -> Profile
     ensures { result ≡ (extensions_lent extensions.entry).profile }
 {
     match extensions {

@@ -60,7 +60,7 @@ mod unreadable;
 mod values;
 mod writing;
 
-pub use crate::extensions::Extensions;
+pub use crate::extensions::{Extensions, profile_of};
 pub use crate::laws::{
     each_body_has_one_answer, looks_have_room_for_a_reply, only_patron_messages_look,
     standard_bodies_are_answered_as_before,

@@ -1,5 +1,5 @@
 //! What one command asked and found.
-ghost use Rattle.std.specs.Prelude.{◌≡◌, ◌<◌, ◌≤◌, [], ◌∷◌, ◌++◌, length, slice_set};
+ghost use Rattle.std.specs.Prelude.{◌≡◌, ◌<◌, ◌≤◌, [], ◌∷◌, ◌++◌, length};
 
 use arrayvec::ArrayVec;
 use hd_rules::Finding;
@@ -41,14 +41,6 @@ impl Findings {
         // Taken apart, since the checker of borrows can't follow one that is handed on whole.
         let Finding { question, noted } = finding;
         self.findings.push(Finding { question, noted });
-    }
-
-    /// Puts a question with its noted answer in the place of the one at the index `at`, counted from 0.
-    pub fn set(&mut self, at: usize, finding: Finding)
-        requires { at < length self.old }
-        ensures { self.new ≡ slice_set self.old at finding }
-    {
-        self.findings[at] = finding;
     }
 
     /// The questions with their noted answers, in order.

@@ -33,6 +33,13 @@ impl Footprint {
         }
     }
 
+    /// Takes all changes out.
+    pub fn clear(&mut self)
+        ensures { self.new ≡ [] }
+    {
+        self.changes.clear();
+    }
+
     /// Puts one more change behind the others.
     pub fn push(&mut self, change: Change)
         requires { length self.old < 4 }

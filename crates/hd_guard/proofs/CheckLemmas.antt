@@ -17,7 +17,8 @@ small_upper : (n : ℕ) → n < 16 → digit_value (upper_digit n) < 16
 small_upper n h = rw (value_of_upper n h) h
 
 -- what four digits write, by their values
-by_values : (a b c d w x y z : ℕ) → digit_value a ≡ w → digit_value b ≡ x → digit_value c ≡ y → digit_value d ≡ z →
+by_values : (a b c d w x y z : ℕ) → digit_value a ≡ w → digit_value b ≡ x → digit_value c ≡ y
+    → digit_value d ≡ z →
     digits_value 16 (a ∷ b ∷ c ∷ d ∷ []) ≡ ((w * 16 + x) * 16 + y) * 16 + z
 by_values a b c d w x y z ha hb hc hd = rw (ha, hb, hc, hd) (omega arith)
 
@@ -26,8 +27,10 @@ pub four_write : (n : ℕ) → n < 65536 → n ≡ digits_value 16 (four_hex_dig
 four_write n h =
     let high : n / 4096 < 16 = omega arith in
     let written =
-    by_values (upper_digit (n / 4096)) (upper_digit (n / 256 % 16)) (upper_digit (n / 16 % 16)) (upper_digit (n % 16)) (n / 4096)
-    (n / 256 % 16) (n / 16 % 16) (n % 16) (value_of_upper (n / 4096) high) (value_of_upper (n / 256 % 16) (omega arith))
+    by_values (upper_digit (n / 4096)) (upper_digit (n / 256 % 16)) (upper_digit (n / 16 % 16))
+    (upper_digit (n % 16)) (n / 4096)
+    (n / 256 % 16) (n / 16 % 16) (n % 16) (value_of_upper (n / 4096) high)
+    (value_of_upper (n / 256 % 16) (omega arith))
     (value_of_upper (n / 16 % 16) (omega arith)) (value_of_upper (n % 16) (omega arith)) in
     let number : n ≡ ((n / 4096 * 16 + n / 256 % 16) * 16 + n / 16 % 16) * 16 + n % 16 = omega arith in
     number ∙ sym written
@@ -36,5 +39,8 @@ four_write n h =
 pub four_are_digits : (n : ℕ) → n < 65536 → AllDigits 16 (four_hex_digits n)
 four_are_digits n h = (
   small_upper (n / 4096) (omega arith),
-  (small_upper (n / 256 % 16) (omega arith), (small_upper (n / 16 % 16) (omega arith), (small_upper (n % 16) (omega arith), tt))),
+  (
+    small_upper (n / 256 % 16) (omega arith),
+    (small_upper (n / 16 % 16) (omega arith), (small_upper (n % 16) (omega arith), tt)),
+  ),
 )

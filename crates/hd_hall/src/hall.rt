@@ -83,8 +83,8 @@ pub enum NotClosed<
 impl<H: House, A: Allocator + Copy, Q: Drop, K: Keeper<A, Q> + Drop> Hall<H, A, Q, K> {
     ghost use Rattle.hd_hall.specs.NotClosing.{Misses};
 
-    /// A hall round a journal without turns, with a new ledger, whose parts are one for each seat and one
-    /// more.
+    /// A hall round a journal without turns since its keeper was made, with a new ledger, whose parts are one
+    /// for each seat and one more.
     ///
     /// # Errors
     /// `Memory`, where the catalogue has as many owners as can be counted: no memory is asked for. The

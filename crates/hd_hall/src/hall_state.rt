@@ -43,7 +43,7 @@ pub(crate) struct HallState<H: House, A: Allocator, Q: Drop, K: Keeper<A, Q>> {
 }
 
 impl<H: House, A: Allocator + Copy, Q: Drop, K: Keeper<A, Q>> HallState<H, A, Q, K> {
-    /// A journal without turns, and all parts of the ledger.
+    /// A journal without turns since its keeper was made, and all parts of the ledger.
     pub(crate) fn new(keeper: K, blank: Blank) -> HallState<H, A, Q, K>
         requires turns { K.turns keeper ≡ [] }
         requires opening { K.opening keeper ≡ H.opening }

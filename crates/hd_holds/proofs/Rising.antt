@@ -352,7 +352,8 @@ module _ {xs rest : List HeldTitle} {p i n : ℕ} (part : IsPatronsPart xs rest 
 
   stays : (x : HeldTitle) → x.patron ≡ p → Contains xs x → Contains (take n rest) x
   stays x same has = elim
-      (Contains-append_cases (take i xs) (take n rest ++ drop n rest) x (subst (λ l. Contains l x) whole has)) [
+      (Contains-append_cases (take i xs) (take n rest ++ drop n rest) x
+      (subst (λ l. Contains l x) whole has)) [
         | inl left ↦ absurd (not_lower x same left)
         | inr right ↦ elim (Contains-append_cases (take n rest) (drop n rest) x right) [
           | inl here ↦ here

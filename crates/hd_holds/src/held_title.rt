@@ -7,10 +7,10 @@ use hd_rules::{Hold, PatronNo, TitleNo};
 /// A title of which a patron has a hold, with the hold's stamp.
 #[derive(Clone, Copy, PartialEq, Eq, Debug)]
 pub struct HeldTitle {
-    /// Whose hold it is.
-    pub patron: PatronNo,
     /// The number of the command that added the hold.
     pub stamp: u64,
+    /// Whose hold it is.
+    pub patron: PatronNo,
     /// The title that is held.
     pub title: TitleNo,
 }

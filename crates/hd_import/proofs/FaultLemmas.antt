@@ -17,29 +17,33 @@ use Rattle.hd_import.specs.declared.sources.Source.{Source}
 use Rattle.hd_import.specs.declared.sources.Sources.{Sources}
 
 -- a file without rows lacks its first column
-missing_first : (settings : Settings) (which : Sheet) (d : Column) → IsMissing settings which [] (get_or (columns_of which) 0 d)
+missing_first : (settings : Settings) (which : Sheet) (d : Column)
+    → IsMissing settings which [] (get_or (columns_of which) 0 d)
 missing_first settings sheet.Branches d = ((0, omega arith, refl), refl, refl)
 missing_first settings sheet.Terminals d = ((0, omega arith, refl), refl, refl)
 missing_first settings sheet.Patrons d = ((0, omega arith, refl), refl, refl)
 missing_first settings sheet.Titles d = ((0, omega arith, refl), refl, refl)
 missing_first settings sheet.Copies d = ((0, omega arith, refl), refl, refl)
 
-pub first_missing : (settings : Settings) (which : Sheet) (columns : List Column) (d : Column) → columns ≡ columns_of which
-    → IsMissing settings which [] (get_or columns 0 d)
+pub first_missing : (settings : Settings) (which : Sheet) (columns : List Column) (d : Column)
+    → columns ≡ columns_of which → IsMissing settings which [] (get_or columns 0 d)
 first_missing settings which columns d are = rw are (missing_first settings which d)
 
 -- a sheet by its place
-pub sheet_at : (sheets : List Sheet) (at : ℕ) (d : Sheet) → sheets ≡ all_sheets → at < length sheets → HoldsAt (λ s. s ≡ get_or sheets at d) all_sheets at
+pub sheet_at : (sheets : List Sheet) (at : ℕ) (d : Sheet) → sheets ≡ all_sheets → at < length sheets
+    → HoldsAt (λ s. s ≡ get_or sheets at d) all_sheets at
 sheet_at sheets at d are l = λ e. ap (λ ss. get_or ss at e) (sym are) ∙ get_or_default sheets at e d l
 
 -- the fault is of one of the sheets
-pub of_a_sheet : (settings : Settings) (format : Format) (sources : Sources) (sheets : List Sheet) (at : ℕ) (d : Sheet) (file : Source) (told : Fault)
-    → file ≡ file_of sources (get_or sheets at d) → IsSheetFault settings format (get_or sheets at d) file told →
-    (which : Sheet) × IsSheetFault settings format which (file_of sources which) told
+pub of_a_sheet : (settings : Settings) (format : Format) (sources : Sources) (sheets : List Sheet)
+    (at : ℕ) (d : Sheet) (file : Source) (told : Fault) → file ≡ file_of sources (get_or sheets at d)
+    → IsSheetFault settings format (get_or sheets at d) file told
+    → (which : Sheet) × IsSheetFault settings format which (file_of sources which) told
 of_a_sheet settings format sources sheets at d file told is fault =
     (get_or sheets at d, subst (λ f. IsSheetFault settings format (get_or sheets at d) f told) is fault)
 
 -- a fault that is handed on
-pub handed_on : {A E : Type 0} (r : Result A E) (P : E → Type 0) (x : E) → P x → IsErrAnd r (λ e. e ≡ x) → IfErr r P
+pub handed_on : {A E : Type 0} (r : Result A E) (P : E → Type 0) (x : E) → P x
+    → IsErrAnd r (λ e. e ≡ x) → IfErr r P
 handed_on (Ok a) P x h e = absurd e
 handed_on (Err y) P x h e = subst P (sym e) h

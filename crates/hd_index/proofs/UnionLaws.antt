@@ -1,10 +1,12 @@
 -- What a union is, whatever the lists.
-use Rattle.std.proofs.Common.{◌≡◌, ℕ, ◌<◌, ◌==◌, nat_lt, ◌||◌, Bool, true, false, inl, inr, List, [], ◌∷◌, map, refl, ap, ◌∙◌, arith}
+use Rattle.std.proofs.Common.{◌≡◌, ℕ, ◌<◌, ◌==◌, nat_lt, ◌||◌, Bool, true, false, inl, inr, List, [], ◌∷◌}
+use Rattle.std.proofs.Common.{map, refl, ap, ◌∙◌, arith}
 use Rattle.std.proofs.lemmas.Bool.{cases_Bool}
 use Rattle.std.proofs.lemmas.Bool.Decides.{nat_tests}
 use Rattle.std.specs.List.{filter, list_any}
 use Rattle.hd_index.specs.Rising.{IsRising, above}
-use Rattle.hd_index.specs.Union.{UnionsAboveAreFilters, UnionsAreFilters, has, put_in_place, union, union_with}
+use Rattle.hd_index.specs.Union.{UnionsAboveAreFilters, UnionsAreFilters, has, put_in_place, union}
+use Rattle.hd_index.specs.Union.{union_with}
 use Rattle.hd_index.proofs.RisingLemmas.{all_filter, rising_filter}
 use Rattle.hd_index.proofs.UnionLemmas.{front, joined_above, union_front, weaker}
 
@@ -12,7 +14,8 @@ two_filters : (p q : ℕ → Bool) (ns : List ℕ) → IsRising ns →
     union_with (filter p ns) (filter q ns) ≡ filter (λ n. p n || q n) ns
 two_filters p q [] up = refl
 two_filters p q (n ∷ ns) up =
-    union_front (p n) (q n) n (filter p ns) (filter q ns) (all_filter (λ m. n < m) p ns up.0) (all_filter (λ m. n < m) q ns up.0)
+    union_front (p n) (q n) n (filter p ns) (filter q ns) (all_filter (λ m. n < m) p ns up.0)
+    (all_filter (λ m. n < m) q ns up.0)
     ∙ ap (front (p n || q n) n) (two_filters p q ns up.1)
 
 filter_none : (ns : List ℕ) → [] ≡ filter (λ _. false) ns
@@ -23,7 +26,8 @@ filter_none (n ∷ ns) = filter_none ns
 pub are_filters : UnionsAreFilters
 are_filters ns [] up = filter_none ns
 are_filters ns (test ∷ tests) up =
-    ap (union_with (filter test ns)) (are_filters ns tests up) ∙ two_filters test (λ n. list_any (λ t. t n) tests) ns up
+    ap (union_with (filter test ns)) (are_filters ns tests up)
+    ∙ two_filters test (λ n. list_any (λ t. t n) tests) ns up
 
 swapped_tests : (p q : ℕ → Bool) (ns : List ℕ) → filter p (filter q ns) ≡ filter q (filter p ns)
 swapped_tests p q [] = refl
@@ -101,7 +105,8 @@ joined_has n k (m ∷ ms) = elim (cases_Bool (nat_lt k m)) [
 with_has : (n : ℕ) (ns ms : List ℕ) → has n (union_with ns ms) ≡ (has n ns || has n ms)
 with_has n [] ms = refl
 with_has n (k ∷ ns) ms =
-    joined_has n k (union_with ns ms) ∙ ap (λ b. (k == n) || b) (with_has n ns ms) ∙ grouped (k == n) (has n ns) (has n ms)
+    joined_has n k (union_with ns ms) ∙ ap (λ b. (k == n) || b) (with_has n ns ms)
+    ∙ grouped (k == n) (has n ns) (has n ms)
 
 -- and has the numbers of its lists
 pub union_has : (lists : List (List ℕ)) (n : ℕ) → has n (union lists) ≡ list_any (has n) lists

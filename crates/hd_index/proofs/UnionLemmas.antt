@@ -1,5 +1,6 @@
 -- What a union begins with.
-use Rattle.std.proofs.Common.{◌≡◌, ℕ, ◌<◌, ◌≤◌, ◌==◌, nat_lt, ◌||◌, Bool, true, false, cond, ◌⊎◌, inl, inr, Option, None, Some, min}
+use Rattle.std.proofs.Common.{◌≡◌, ℕ, ◌<◌, ◌≤◌, ◌==◌, nat_lt, ◌||◌, Bool, true, false, cond, ◌⊎◌, inl, inr}
+use Rattle.std.proofs.Common.{Option, None, Some, min}
 use Rattle.std.proofs.Common.{List, [], ◌∷◌, length, map, refl, sym, ap, ◌∙◌, arith}
 use Rattle.std.proofs.lemmas.Bool.{cases_Bool}
 use Rattle.std.proofs.lemmas.Bool.Decides.{nat_tests}
@@ -46,7 +47,8 @@ joined_behind h n ms l =
 
 union_behind : (h : ℕ) (ns ms : List ℕ) → AreAbove h ns → union_with ns (h ∷ ms) ≡ h ∷ union_with ns ms
 union_behind h [] ms low = refl
-union_behind h (n ∷ ns) ms low = ap (put_in_place n) (union_behind h ns ms low.1) ∙ joined_behind h n (union_with ns ms) low.0
+union_behind h (n ∷ ns) ms low = ap (put_in_place n) (union_behind h ns ms low.1)
+    ∙ joined_behind h n (union_with ns ms) low.0
 
 -- a list with a number before it, or without
 abbrev pub front : Bool → ℕ → List ℕ → List ℕ
@@ -58,7 +60,8 @@ pub union_front : (a b : Bool) (h : ℕ) (ns ms : List ℕ) → AreAbove h ns �
 union_front false false h ns ms low all = refl
 union_front false true h ns ms low all = union_behind h ns ms low
 union_front true false h ns ms low all = joined_first h (union_with ns ms) (union_above h ns ms low all)
-union_front true true h ns ms low all = ap (put_in_place h) (union_behind h ns ms low) ∙ joined_same h (union_with ns ms)
+union_front true true h ns ms low all = ap (put_in_place h) (union_behind h ns ms low)
+    ∙ joined_same h (union_with ns ms)
 
 -- the list begins with the number
 abbrev pub begins : ℕ → List ℕ → Bool
@@ -69,7 +72,8 @@ pub weaker : (h n : ℕ) (ns : List ℕ) → h ≤ n → AreAbove n ns → AreAb
 weaker h n [] l all = tt
 weaker h n (m ∷ ms) l all = (let less = all.0 in omega arith, weaker h n ms l all.1)
 
-list_is : (h : ℕ) (ns : List ℕ) → IsRising ns → IsNotBelow h ns → (ns ≡ front (begins h ns) h (past h ns)) × AreAbove h (past h ns)
+list_is : (h : ℕ) (ns : List ℕ) → IsRising ns → IsNotBelow h ns
+    → (ns ≡ front (begins h ns) h (past h ns)) × AreAbove h (past h ns)
 list_is h [] up low = (refl, tt)
 list_is h (n ∷ ns) up low = elim (cases_Bool (n == h)) [
   | inl e ↦
@@ -79,15 +83,19 @@ list_is h (n ∷ ns) up low = elim (cases_Bool (n == h)) [
 ]
 
 -- a number that no list begins below is in front of the union where a list begins with it
-lists_are : (h : ℕ) (lists : List (List ℕ)) → AllByRecursion IsRising lists → AllByRecursion (IsNotBelow h) lists →
-    (union lists ≡ front (list_any (begins h) lists) h (union (map (past h) lists))) × AreAbove h (union (map (past h) lists))
+lists_are : (h : ℕ) (lists : List (List ℕ)) → AllByRecursion IsRising lists
+    → AllByRecursion (IsNotBelow h) lists →
+    (union lists ≡ front (list_any (begins h) lists) h (union (map (past h) lists)))
+    × AreAbove h (union (map (past h) lists))
 lists_are h [] up low = (refl, tt)
 lists_are h (ns ∷ lists) up low =
     let here = list_is h ns up.0 low.0 in
     let rest = lists_are h lists up.1 low.1 in
     let rests = union (map (past h) lists) in
-    let is : union_with ns (union lists) ≡ union_with (front (begins h ns) h (past h ns)) (front (list_any (begins h) lists) h rests) =
-    ap (λ ms. union_with ms (union lists)) here.0 ∙ ap (union_with (front (begins h ns) h (past h ns))) rest.0 in (
+    let is : union_with ns (union lists)
+    ≡ union_with (front (begins h ns) h (past h ns)) (front (list_any (begins h) lists) h rests) =
+    ap (λ ms. union_with ms (union lists)) here.0
+    ∙ ap (union_with (front (begins h ns) h (past h ns))) rest.0 in (
       is ∙ union_front (begins h ns) (list_any (begins h) lists) h (past h ns) rests here.1 rest.1,
       union_above h (past h ns) rests here.1 rest.1,
     )
@@ -113,8 +121,13 @@ either : (a b : Bool) → b ≡ true → (a || b) ≡ true
 either false b e = e
 either true b e = refl
 
-pub least_is : (had : Option ℕ) (lists : List (List ℕ)) (h : ℕ) → least_first had lists ≡ Some h → IsLeast h had lists
-least_is had [] h e = record { low = tt; below = λ b f. let same : Some h ≡ Some b = sym e ∙ f in grind (arith, same); there = inl e }
+pub least_is : (had : Option ℕ) (lists : List (List ℕ)) (h : ℕ) → least_first had lists ≡ Some h
+    → IsLeast h had lists
+least_is had [] h e = record {
+  low = tt;
+  below = λ b f. let same : Some h ≡ Some b = sym e ∙ f in grind (arith, same);
+  there = inl e;
+}
 least_is had ([] ∷ lists) h e =
     let rest = least_is had lists h e in
     record { low = (tt, rest.low); below = rest.below; there = rest.there }
@@ -124,7 +137,8 @@ least_is None ((n ∷ ns) ∷ lists) h e =
       low = (rest.below n refl, rest.low);
       below = λ b f. absurd (let wrong : None ≡ Some b = f in cc);
       there = elim rest.there [
-        | inl f ↦ inr (let same : n ≡ h = cc in let test : (n == h) ≡ true = grind (arith, nat_tests) in rw test)
+        | inl f ↦ inr
+            (let same : n ≡ h = cc in let test : (n == h) ≡ true = grind (arith, nat_tests) in rw test)
         | inr f ↦ inr (either (n == h) (list_any (begins h) lists) f)
       ];
     }
@@ -144,7 +158,8 @@ least_is (Some b) ((n ∷ ns) ∷ lists) h e =
     }
 
 -- the least of the first numbers is in front, with the union of what is behind it
-pub least_front : (lists : List (List ℕ)) (h : ℕ) → AllByRecursion IsRising lists → least_first None lists ≡ Some h →
+pub least_front : (lists : List (List ℕ)) (h : ℕ) → AllByRecursion IsRising lists
+    → least_first None lists ≡ Some h →
     union lists ≡ h ∷ union (map (past h) lists)
 least_front lists h up e =
     let least = least_is None lists h e in
@@ -170,7 +185,8 @@ past_none n [] e = refl
 past_none n (m ∷ ns) e = absurd (omega arith)
 
 -- what is behind a number rises
-pub past_rising : (h : ℕ) (lists : List (List ℕ)) → AllByRecursion IsRising lists → AllByRecursion IsRising (map (past h) lists)
+pub past_rising : (h : ℕ) (lists : List (List ℕ)) → AllByRecursion IsRising lists
+    → AllByRecursion IsRising (map (past h) lists)
 past_rising h [] up = tt
 past_rising h ([] ∷ lists) up = (tt, past_rising h lists up.1)
 past_rising h ((n ∷ ns) ∷ lists) up = elim (cases_Bool (n == h)) [

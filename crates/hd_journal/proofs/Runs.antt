@@ -1,10 +1,10 @@
 -- Runs of lists in parts, and the stamps of their desks.
-use Rattle.std.proofs.Common.{◌≡◌, sym, ◌∙◌, ap, subst, ℕ, ◌+◌, ◌≤◌, List, [], ◌∷◌, ◌++◌}
+use Rattle.std.proofs.Common.{◌≡◌, sym, ◌∙◌, ap, subst, ℕ, ◌≤◌, List, [], ◌∷◌, ◌++◌}
 use Rattle.hd_rules.specs.declared.commands.Survivor.{Survivor}
 use Rattle.hd_rules.specs.Facts.{Facts, first_number}
 use Rattle.hd_rules.specs.Desk.{Desk}
 use Rattle.hd_rules.specs.Laws.{CommandsKeepDesksSound}
-use Rattle.hd_rules.specs.Run.{step, run, Rising, next_number}
+use Rattle.hd_rules.specs.Run.{step, run, next_number}
 use Rattle.hd_rules.specs.Sound.{Sound}
 use Rattle.hd_journal.specs.SurvivorRun.{IsKnownSurvivor, AllKnownSurvivors, MayRun}
 use Rattle.hd_lemmas.proofs.Rules.{later_sound, rising_without, rising_more, run_from_more}

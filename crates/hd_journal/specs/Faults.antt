@@ -26,4 +26,3 @@ abbrev pub write_fault_text : WriteFault → List ℕ
 write_fault_text write.Memory = codes "out of memory"
 write_fault_text write.DiskFull = codes "the disk is full"
 write_fault_text write.Refused = codes "the system refuses the write"
-write_fault_text write.NotText = codes "a name isn't UTF-8"

@@ -44,6 +44,4 @@ pub enum WriteFault {
     DiskFull,
     /// The system refused the write.
     Refused,
-    /// A name of the turn isn't UTF-8.
-    NotText,
 }

@@ -305,7 +305,7 @@ impl<A: Allocator + Copy> Journal<A> {
         self.run.desk()
     }
 
-    /// The work that was done: command steps, and cells written.
+    /// The work that was done: command steps, cells written, records looked at, and answers compared.
     pub fn meter(&self) -> &Meter
         ensures { result.now ≡ self.now.work }
     {

@@ -13,7 +13,6 @@ impl fmt::Display for WriteFault {
             WriteFault::Memory => write!(f, "out of memory"),
             WriteFault::DiskFull => write!(f, "the disk is full"),
             WriteFault::Refused => write!(f, "the system refuses the write"),
-            WriteFault::NotText => write!(f, "a name isn't UTF-8"),
         }
     }
 }

@@ -20,7 +20,7 @@ use crate::laws::laws;
 use hd_desk::{Desk, Done, Meter, Refused};
 use hd_inverse::undo;
 use hd_records::{NewRecord, RecordRef, Records, Survivors};
-use hd_rules::{Asked, Cancel, Command, CopyNo, Survivor, TerminalNo, TurnReply};
+use hd_rules::{Asked, Cancel, Command, CopyNo, Reply, Survivor, TerminalNo, TurnReply};
 use std::alloc::{AllocError, Allocator};
 use std::marker::Model;
 
@@ -29,6 +29,8 @@ use std::marker::Model;
 pub(crate) struct SurvivorRun<A: Allocator> {
     desk: Desk<A>,
     records: Records<A>,
+    /// The room for what a command does, until its record is kept.
+    done: Done,
 }
 
 impl<A: Allocator> Model for SurvivorRun<A> {
@@ -70,6 +72,7 @@ impl<A: Allocator + Copy> SurvivorRun<A> {
         SurvivorRun {
             desk,
             records: Records::new(alloc, before),
+            done: Done::new(),
         }
     }
 
@@ -169,15 +172,14 @@ impl<A: Allocator + Copy> SurvivorRun<A> {
         laws();
         self.records.ready(self.desk.catalogue(), command)?;
         let number = self.records.last() + 1;
-        match self.desk.apply(number, command, meter) {
-            Ok(done) => {
+        match self.desk.apply(number, command, meter, &mut self.done) {
+            Ok(reply) => {
                 let survivor = Survivor {
                     number,
                     terminal,
                     command: *command,
                 };
-                let reply = done.reply();
-                let record = record_of(survivor, &done);
+                let record = record_of(survivor, &reply, &self.done);
                 self.records.push(self.desk.catalogue(), &record);
                 Ok(TurnReply::Done { number, reply })
             }
@@ -218,17 +220,17 @@ impl<A: Allocator + Copy> SurvivorRun<A> {
 }
 
 /// The record of an accepted command, lent: its findings and changes stay where they are.
-fn record_of(survivor: Survivor, done: &Done) -> NewRecord<'_>
+fn record_of<'a>(survivor: Survivor, reply: &Reply, done: &'a Done) -> NewRecord<'a>
     ensures { result
         ≡ record {
           number = survivor.number;
           terminal = survivor.terminal;
           command = survivor.command;
-          reply = done.now.reply;
+          reply = reply.now;
           findings = done.now.findings;
           changes = done.now.changes;
         } }
 {
     let (changes, findings) = done.parts();
-    NewRecord::new(survivor, done.reply(), findings, changes)
+    NewRecord::new(survivor, *reply, findings, changes)
 }

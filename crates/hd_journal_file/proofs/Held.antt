@@ -19,34 +19,28 @@ abbrev pub Settles : State → Type 0
 Settles s = (db : Trees) → IsTrue s.is_open → s.may_leave db → db ≡ s.committed.trees
 
 -- legal turns whose rows a database stores are those of any other such list
-stored_turns : (back : IsReadBack) (one : OneMessage) (k : Contents) (turns left : List Turn)
-    (head head' : Head)
-    (rows rows' : List KeptTurn)
-    (db : Trees) → IsLegal (facts_of k) turns → IsLegal (facts_of k) left → Stores head rows db
-    → Stores head' rows' db
-    → AreTurnRows k head.format turns rows → AreTurnRows k head'.format left rows' → left ≡ turns
-stored_turns back one k turns left head head' rows rows' db legal legal' stores stores' are are' =
+stored_turns : IsReadBack → (one : OneMessage) (k : Contents) (turns left : List Turn) {head head' : Head}
+    {rows rows' : List KeptTurn} {db : Trees} → IsLegal (facts_of k) turns → IsLegal (facts_of k) left
+    → Stores head rows db → Stores head' rows' db → AreTurnRows k head.format turns rows
+    → AreTurnRows k head'.format left rows' → left ≡ turns
+stored_turns back one k turns left {head} {head'} {rows} {rows'} {db} legal legal' stores stores' are are' =
     same_turns one k head.format head'.format (start (facts_of k)) turns left rows legal legal' are
     (subst (AreTurnRows k head'.format left) (one_kept back (db 1) rows' rows stores'.turns stores.turns)
     are')
 
-pub left_is_held : (back : IsReadBack) (one : OneMessage) (s : State) (settles : Settles s) (k : Contents)
-    (turns left : List Turn)
+pub left_is_held : IsReadBack → OneMessage → (s : State) → Settles s → {k : Contents} {turns left : List Turn}
     → HasTurns k s turns → LeavesTurns k s left → left ≡ turns
-left_is_held back one s settles k turns left held leaves =
+left_is_held back one s settles {k} {turns} {left} held leaves =
     let trees : s.now.trees ≡ leaves.database =
     sym (settles leaves.database held.keeps.is_open leaves.may
     ∙ ap (λ (d : Database). d.trees) held.keeps.settled)
-    in stored_turns back one k turns left held.head leaves.kept.head held.rows leaves.kept.rows
-    leaves.database
-    held.legal
-    leaves.kept.legal (subst (Stores held.head held.rows) trees held.keeps.rows) leaves.kept.keeps held.are
-    leaves.kept.are
+    in stored_turns back one k turns left held.legal leaves.kept.legal
+    (subst (Stores held.head held.rows) trees held.keeps.rows) leaves.kept.keeps held.are leaves.kept.are
 
 -- and what is held is left
-pub held_is_left : (s : State) (k : Contents) (turns : List Turn) → s.may_leave s.committed.trees
+pub held_is_left : (s : State) {k : Contents} {turns : List Turn} → s.may_leave s.committed.trees
     → HasTurns k s turns → LeavesTurns k s turns
-held_is_left s k turns may held = record {
+held_is_left s may held = record {
   database = s.committed.trees;
   may = may;
   kept = record {
@@ -82,18 +76,16 @@ held_more old new row adds k turns turn is legal held =
     }
 
 pub left_either : (back : IsReadBack) (one : OneMessage) (old new : State) (row : KeptTurn)
-    (settles : Settles old)
-    → MayAdd old new row
+    (settles : Settles old) → MayAdd old new row
     → (k : Contents) (turns left : List Turn) (turn : Turn) → ((format : ℕ) → IsTurnRow k format turn row)
     → IsLegal (facts_of k) (turns ++ turn ∷ []) → HasTurns k old turns → LeavesTurns k new left
     → (left ≡ turns) ⊎ (left ≡ turns ++ turn ∷ [])
 left_either back one old new row settles may_add k turns left turn is legal held leaves =
     elim (may_add held.head held.rows held.keeps leaves.database leaves.may) [
-      | inl was ↦ inl (left_is_held back one old settles k turns left held
+      | inl was ↦ inl (left_is_held back one old settles held
           (record { database = leaves.database; may = was; kept = leaves.kept }))
-      | inr stores ↦ inr (stored_turns back one k (turns ++ turn ∷ []) left held.head leaves.kept.head
-          (held.rows ++ row ∷ [])
-          leaves.kept.rows leaves.database legal leaves.kept.legal stores leaves.kept.keeps
+      | inr stores ↦ inr (stored_turns back one k (turns ++ turn ∷ []) left legal leaves.kept.legal stores
+          leaves.kept.keeps
           (rows_more k held.head.format turns held.rows turn row held.are (is held.head.format))
           leaves.kept.are)
     ]

@@ -22,44 +22,37 @@ use Rattle.hd_journal_file.specs.declared.fault.RestoreFault.TheVariants.{TooMan
 use Rattle.hd_journal_file.proofs.Retaken.{takes_then}
 
 -- it asks nothing
-pub refuses_ask : (f : ℕ) (book : Book) (row : KeptTurn) (at : ℕ) (k : Contents) (fault : RestoreFault)
+pub refuses_ask : (f : ℕ) (book : Book) (row : KeptTurn) {at : ℕ} {k : Contents} (fault : RestoreFault)
     → k ≡ book.contents
-    → (fault ≡ Memory) ⊎ ((why : RowFault) × (fault ≡ NoTurn at why)
-    × IsFirstFault k row why)
+    → (fault ≡ Memory) ⊎ ((why : RowFault) × (fault ≡ NoTurn at why) × IsFirstFault k row why)
     → RefusesRow f book row at fault
-refuses_ask f book row at k fault same (inl memory) =
-    subst (λ (x : RestoreFault). RefusesRow f book row at x) (sym memory) tt
-refuses_ask f book row at k fault same (inr it) =
-    subst (λ (x : RestoreFault). RefusesRow f book row at x) (sym it.1)
+refuses_ask f book row {at} fault same (inl memory) =
+    subst (RefusesRow f book row at) (sym memory) tt
+refuses_ask f book row {at} fault same (inr it) =
+    subst (RefusesRow f book row at) (sym it.1)
     (refl, subst (λ (c : Contents). IsFirstFault c row it.0) same it.2)
 
 -- what it asks
-abbrev pub asks_of : (book : Book) (row : KeptTurn) (seat : ℕ) (message : Message) (k : Contents)
-    → k ≡ book.contents
-    → IsRowOf k seat message row → RowAsks book row
-asks_of book row seat message k same is = record {
+abbrev pub asks_of : {book : Book} {row : KeptTurn} {seat : ℕ} {message : Message} {k : Contents}
+    → k ≡ book.contents → IsRowOf k seat message row → RowAsks book row
+asks_of {row} {seat} {message} same is = record {
   seat = seat;
   message = message;
   is = subst (λ (c : Contents). IsRowOf c seat message row) same is;
 }
 
 -- it came to something else
-pub refuses_came : (f : ℕ) (old new : Book) (seat : ℕ) (message : Message) (made : Made) (k : Contents)
-    (row : KeptTurn) (at : ℕ) (fault : RestoreFault)
+pub refuses_came : {f : ℕ} {old new : Book} {seat : ℕ} {message : Message} {made : Made} {k : Contents}
+    {row : KeptTurn} {at : ℕ} (fault : RestoreFault)
     → AddsTurn old new seat message made → k ≡ old.contents → IsRowOf k seat message row
     → (fault ≡ Memory) ⊎ ((column : OutcomeColumn) × (fault ≡ Differs at column)
     × DiffersFirst f made.reply row column)
     → RefusesRow f old row at fault
-refuses_came f old new seat message made k row at fault adds same is (inl memory) =
-    subst (λ (x : RestoreFault). RefusesRow f old row at x) (sym memory) tt
-refuses_came f old new seat message made k row at fault adds same is (inr it) =
-    subst (λ (x : RestoreFault). RefusesRow f old row at x) (sym it.1) (
-      refl,
-      (
-        asks_of old row seat message k same is,
-        subst (λ (r : TurnReply). DiffersFirst f r row it.0) adds.reply it.2,
-      ),
-    )
+refuses_came {f} {old} {row} {at} fault adds same is (inl memory) =
+    subst (RefusesRow f old row at) (sym memory) tt
+refuses_came {f} {old} {row} {at} fault adds same is (inr it) =
+    subst (RefusesRow f old row at) (sym it.1)
+    (refl, (asks_of same is, subst (λ (r : TurnReply). DiffersFirst f r row it.0) adds.reply it.2))
 
 -- rows round one of them
 rows_split : (rows : List Row) (i : ℕ) (item : Row) → i < length rows
@@ -76,22 +69,21 @@ front_length [] i low = absurd (omega arith)
 front_length (row ∷ rows) zero low = refl
 front_length (row ∷ rows) (suc i) low = omega (arith, front_length rows i (omega arith))
 
-refuses_at : (f : ℕ) (old : Book) (rows : List KeptTurn) (after : ℕ) (fault : RestoreFault)
+refuses_at : {f : ℕ} {old : Book} {rows : List KeptTurn} {after : ℕ} (fault : RestoreFault)
     → StopsAt f old rows after fault → RefusesRows f old rows after fault
-refuses_at f old rows after (Unread why) stops = stops.refuses
-refuses_at f old rows after TooMany stops = absurd stops.refuses
-refuses_at f old rows after fault stops = stops
+refuses_at (Unread why) stops = stops.refuses
+refuses_at TooMany stops = absurd stops.refuses
+refuses_at fault stops = stops
 
 -- one of them isn't taken
-pub stops : (f : ℕ) (old mid : Book) (rows : List Row) (i : ℕ) (item : Row) (after number : ℕ)
-    (fault : RestoreFault)
-    → i < length rows → item ≡ get_or rows i item → number ≡ after + i + 1
+pub stops : {f : ℕ} {old mid : Book} (rows : List Row) (i : ℕ) (item : Row) (after number : ℕ)
+    (fault : RestoreFault) → i < length rows → item ≡ get_or rows i item → number ≡ after + i + 1
     → TakesRows f old mid (map read_cells (take i rows))
     → RefusesRow f mid (read_cells item) number fault → RefusesRows f old (map read_cells rows) after fault
-stops f old mid rows i item after number fault low is numbered took refuses =
+stops {f} {mid} rows i item after number fault low is numbered took refuses =
     let front : length (map read_cells (take i rows)) ≡ i = front_length rows i low in
     let same : number ≡ after + length (map read_cells (take i rows)) + 1 = omega (arith, front, numbered) in
-    refuses_at f old (map read_cells rows) after fault (record {
+    refuses_at fault (record {
       book = mid;
       before = map read_cells (take i rows);
       row = read_cells item;
@@ -102,11 +94,11 @@ stops f old mid rows i item after number fault low is numbered took refuses =
     })
 
 -- of the rows of a piece
-stops_later : (f : ℕ) (old mid : Book) (rows : List KeptTurn) (at : ℕ) (fault : RestoreFault)
+stops_later : {f : ℕ} {old mid : Book} (rows : List KeptTurn) (at : ℕ) {fault : RestoreFault}
     → length (take at rows) ≡ at
     → TakesRows f old mid (take at rows) → StopsAt f mid (take piece (drop at rows)) at fault
     → StopsAt f old rows 0 fault
-stops_later f old mid rows at fault count took stops =
+stops_later {f} rows at {fault} count took stops =
     let rest : List KeptTurn = drop piece (drop at rows) in
     let number : at + length stops.before + 1 ≡ 0 + length (take at rows ++ stops.before) + 1 =
     omega (arith, length-append (take at rows) stops.before, count) in
@@ -120,7 +112,7 @@ stops_later f old mid rows at fault count took stops =
           (sym (take-append-drop piece (drop at rows)) ∙ ap (λ (l : List KeptTurn). l ++ rest) stops.rows_are
           ∙ append_assoc stops.before (stops.row ∷ stops.later) rest)
           ∙ sym (append_assoc (take at rows) stops.before (stops.row ∷ (stops.later ++ rest)));
-      took = takes_then f old mid stops.book (take at rows) stops.before took stops.took;
+      took = takes_then took stops.took;
       refuses = subst (λ (n : ℕ). RefusesRow f stops.book stops.row n fault) number stops.refuses;
     }
 
@@ -135,11 +127,10 @@ counted a b xs count =
     let low = fits a b xs count in
     omega (arith, low, length-take (a + length (take b (drop a xs))) xs)
 
-pub refuses_piece : (f : ℕ) (old mid : Book) (rows : List KeptTurn) (at : ℕ) (fault : RestoreFault)
+pub refuses_piece : {f : ℕ} {old mid : Book} (rows : List KeptTurn) (at : ℕ) (fault : RestoreFault)
     → length (take at rows) ≡ at
     → TakesRows f old mid (take at rows) → RefusesRows f mid (take piece (drop at rows)) at fault
     → RefusesRows f old rows 0 fault
-refuses_piece f old mid rows at (Unread why) count took is = is
-refuses_piece f old mid rows at TooMany count took is = let low = fits at piece rows count in
-    omega (arith, low, is)
-refuses_piece f old mid rows at fault count took is = stops_later f old mid rows at fault count took is
+refuses_piece rows at (Unread why) count took is = is
+refuses_piece rows at TooMany count took is = let low = fits at piece rows count in omega (arith, low, is)
+refuses_piece rows at fault count took is = stops_later rows at count took is

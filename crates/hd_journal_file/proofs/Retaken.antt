@@ -9,7 +9,7 @@ use Rattle.hd_rules.specs.Journal.{Turn}
 use Rattle.hd_rules.specs.declared.replies.TurnReply.{TurnReply}
 use Rattle.hd_catalogue.specs.Contents.{Contents, facts_of}
 use Rattle.hd_journal.specs.declared.turn.Turn.{Turn as Made}
-use Rattle.hd_journal.specs.Books.{Book, AddsTurn, next_turn, machine_answer, facts, state}
+use Rattle.hd_journal.specs.Books.{Book, AddsTurn, next_turn, facts, state}
 use Rattle.hd_journal.specs.Changing.{is_changing, changing}
 use Rattle.hd_durable.specs.Laws.{ATurnMoreIsKeptWhereItChanges}
 use Rattle.hd_turn_row.specs.Rows.{AreTurnRows, HasOutcome, IsRowOf, IsTurnRow}
@@ -19,27 +19,23 @@ use Rattle.hd_turn_store.specs.Rows.{read_cells}
 use Rattle.hd_journal_file.specs.Restored.{TakesPiece, TakesRow, TakesRows}
 use Rattle.hd_journal_file.proofs.Same.{rows_more}
 
-pub takes_row : (f : ℕ) (old new : Book) (seat : ℕ) (message : Message) (made : Made) (k : Contents)
-    (row : KeptTurn)
-    → AddsTurn old new seat message made → k ≡ old.contents → IsRowOf k seat message row
+pub takes_row : {f : ℕ} {old new : Book} {seat : ℕ} {message : Message} {made : Made} {k : Contents}
+    {row : KeptTurn} → AddsTurn old new seat message made → k ≡ old.contents → IsRowOf k seat message row
     → is_changing (state old) message ≡ true → HasOutcome f made.reply row → TakesRow f old new row
-takes_row f old new seat message made k row adds same is changes came =
-    let said : HasOutcome f (machine_answer old message).reply row =
-    subst (λ (r : TurnReply). HasOutcome f r row) adds.reply came
-    in record {
-      contents = adds.contents;
-      turn = next_turn old seat message;
-      turns = adds.turns;
-      is = record {
-        asked = subst (λ (c : Contents). IsRowOf c seat message row) same is;
-        came = said;
-      };
-      changes = changes;
-    }
+takes_row {f} {old} {seat} {message} {row} adds same is changes came = record {
+  contents = adds.contents;
+  turn = next_turn old seat message;
+  turns = adds.turns;
+  is = record {
+    asked = subst (λ (c : Contents). IsRowOf c seat message row) same is;
+    came = subst (λ (r : TurnReply). HasOutcome f r row) adds.reply came;
+  };
+  changes = changes;
+}
 
 -- none
-pub takes_none : (f : ℕ) (old : Book) → TakesRows f old old []
-takes_none f old = record {
+pub takes_none : {f : ℕ} {old : Book} → TakesRows f old old []
+takes_none {old} = record {
   contents = refl;
   made = [];
   turns = sym (append-nil old.turns);
@@ -48,10 +44,10 @@ takes_none f old = record {
 }
 
 -- one more
-pub takes_more : (f : ℕ) (law : ATurnMoreIsKeptWhereItChanges) (old mid new : Book) (rows : List KeptTurn)
-    (row : KeptTurn)
-    → TakesRows f old mid rows → TakesRow f mid new row → TakesRows f old new (rows ++ row ∷ [])
-takes_more f law old mid new rows row some one =
+pub takes_more : ATurnMoreIsKeptWhereItChanges → {f : ℕ} {old mid new : Book} {rows : List KeptTurn}
+    {row : KeptTurn} → TakesRows f old mid rows → TakesRow f mid new row
+    → TakesRows f old new (rows ++ row ∷ [])
+takes_more law {f} {old} {mid} {new} {rows} {row} some one =
     let kept : changing (facts mid) (mid.turns ++ one.turn ∷ []) ≡ changing
     (facts mid) mid.turns ++ one.turn ∷ [] =
     law (facts mid) mid.turns one.turn
@@ -85,10 +81,9 @@ rows_join k f [] us (x ∷ xs) ys are are' = absurd are
 rows_join k f (t ∷ ts) us [] ys are are' = absurd are
 rows_join k f (t ∷ ts) us (x ∷ xs) ys are are' = (are.0, rows_join k f ts us xs ys are.1 are')
 
-pub takes_then : (f : ℕ) (old mid new : Book) (rows more : List KeptTurn) → TakesRows f old mid rows
-    → TakesRows f mid new more
-    → TakesRows f old new (rows ++ more)
-takes_then f old mid new rows more some next = record {
+pub takes_then : {f : ℕ} {old mid new : Book} {rows more : List KeptTurn} → TakesRows f old mid rows
+    → TakesRows f mid new more → TakesRows f old new (rows ++ more)
+takes_then {f} {old} {rows} {more} some next = record {
   contents = next.contents ∙ some.contents;
   made = some.made ++ next.made;
   turns = next.turns ∙ ap (λ (ts : List Turn). ts ++ next.made) some.turns
@@ -99,18 +94,17 @@ takes_then f old mid new rows more some next = record {
 }
 
 -- the rows of a journal that had no turn
-pub all_rows : (f : ℕ) (old new : Book) (rows : List KeptTurn) → old.turns ≡ [] → TakesRows f old new rows
+pub all_rows : {f : ℕ} {old new : Book} {rows : List KeptTurn} → old.turns ≡ [] → TakesRows f old new rows
     → AreTurnRows new.contents f new.turns rows
-all_rows f old new rows none took =
+all_rows {f} {old} {new} {rows} none took =
     subst (λ (c : Contents). AreTurnRows c f new.turns rows) (sym took.contents)
     (subst (λ (ts : List Turn). AreTurnRows old.contents f ts rows)
     (sym (took.turns ∙ ap (λ (ts : List Turn). ts ++ took.made) none)) took.are)
 
 -- all of them change something
-pub all_change : (f : ℕ) (old new : Book) (rows : List KeptTurn) → old.turns ≡ [] → TakesRows f old new rows
+pub all_change : {f : ℕ} {old new : Book} {rows : List KeptTurn} → old.turns ≡ [] → TakesRows f old new rows
     → changing (facts new) new.turns ≡ new.turns
-all_change f old new rows none took =
-    took.changes (ap (changing (facts old)) none ∙ sym none)
+all_change {old} none took = took.changes (ap (changing (facts old)) none ∙ sym none)
 
 -- a piece is joined to what was before
 pub piece_joined : (a b : ℕ) (xs : List KeptTurn)
@@ -138,18 +132,18 @@ all_taken a xs is =
     sym (append-nil (take a xs)) ∙ ap (λ (l : List KeptTurn). take a xs ++ l) (sym (none_left (drop a xs) is))
     ∙ take-append-drop a xs
 
-pub piece_taken : (f : ℕ) (old mid new : Book) (rows : List KeptTurn) (at last : ℕ)
+pub piece_taken : {f : ℕ} {old mid new : Book} (rows : List KeptTurn) (at last : ℕ)
     → TakesRows f old mid (take at rows)
     → TakesPiece f mid new (take piece (drop at rows)) at (Some last) → TakesRows f old new (take last rows)
-piece_taken f old mid new rows at last some next =
+piece_taken {f} {old} {new} rows at last some next =
     subst (TakesRows f old new) (piece_joined at piece rows ∙ ap (λ (n : ℕ). take n rows) (sym next.0))
-    (takes_then f old mid new (take at rows) (take piece (drop at rows)) some next.1)
+    (takes_then some next.1)
 
-pub last_taken : (f : ℕ) (old mid new : Book) (rows : List KeptTurn) (at : ℕ)
+pub last_taken : {f : ℕ} {old mid new : Book} (rows : List KeptTurn) (at : ℕ)
     → TakesRows f old mid (take at rows)
     → TakesPiece f mid new (take piece (drop at rows)) at None → TakesRows f old new rows
-last_taken f old mid new rows at some next =
+last_taken {f} {old} {new} rows at some next =
     subst (TakesRows f old new)
     (ap (λ (l : List KeptTurn). take at rows ++ l) next.0 ∙ append-nil (take at rows)
     ∙ all_taken at rows next.0)
-    (takes_then f old mid new (take at rows) (take piece (drop at rows)) some next.1)
+    (takes_then some next.1)

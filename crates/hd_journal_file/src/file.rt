@@ -77,6 +77,13 @@ impl<S: Alter, F: Start, A: Allocator + Copy> JournalFile<S, F, A> {
         }
     }
 
+    /// The connection.
+    pub(crate) fn connection(&self) -> &Connection<S>
+        ensures { result.now ≡ self.now.conn }
+    {
+        &self.conn
+    }
+
     /// The connection, to end it well.
     pub fn into_connection(self) -> Connection<S>
         ensures { result ≡ self.conn }

@@ -1,22 +1,52 @@
 //! What a crash leaves, and what is opened.
 
-ghost use Rattle.std.specs.Prelude.{◌≡◌, false, List};
+ghost use Rattle.std.specs.Prelude.{◌≡◌, false, List, None};
 ghost use Rattle.sqlite.specs.Held.{state};
 ghost use Rattle.sqlite.specs.Recovery.{Image};
+ghost use Rattle.sqlite.specs.WalFiles.{image_at};
 ghost use Rattle.sqlite.specs.State.{HasCleanDisk};
 ghost use Rattle.hd_catalogue.specs.Contents.{Contents, facts_of};
 ghost use Rattle.hd_rules.specs.Journal.{IsLegal, Turn};
-ghost use Rattle.hd_journal_file.specs.Held.{HasTurns};
+ghost use Rattle.hd_journal.specs.Changing.{changing};
+ghost use Rattle.hd_journal_file.specs.Held.{HasTurns, IsReliable, MayLeave};
 ghost use Rattle.hd_journal_file.specs.Opening.{AreFound, AreLeftOf};
 ghost use Rattle.hd_journal_file.specs.declared.opening.Wanted.{Wanted};
 
+use crate::adding::a_crash_leaves_what_is_seen;
+use crate::file::JournalFile;
+use hd_durable::DurableJournal;
 use hd_turn_row::a_row_is_of_one_message;
-use hd_turn_store::{Alter, Connection};
+use hd_turn_store::{Alter, Connection, Start};
 
-/// From the last turn that was committed over a crash to the next start: of files that a crash leaves
-/// (`leave` of `hd_turn_store`) a journal is opened with just the turns that were committed, where the
-/// catalogue says the same. What was committed are the changing turns of all that were answered
-/// (`DurableJournal::take`). `_conn` is the connection before the crash, and `_next` that after it.
+/// From the last answer over a crash to the next start. A journal is open, so that all its turns were
+/// answered. A crash leaves something of its file (`left`). Of files that a crash leaves (`leave` of
+/// `hd_turn_store`) a journal is opened with just the changing turns of those that were answered, where the
+/// catalogue says the same (`opened`). `_before` is the journal before the crash, and `_next` the connection
+/// after it.
+pub fn what_was_answered_is_opened<S: Alter, F: Start, T: Alter>(
+    _before: &DurableJournal<JournalFile<S, F>>,
+    _next: &Connection<T>,
+)
+    ensures opened { (left : Image) (wanted : Wanted) (opened : List Turn) → _before.now.shut ≡ None
+        → IsReliable (image_at F.Start) _before.now.table.is_new (state S.Store _before.now.table.conn)
+        → AreLeftOf (state S.Store _before.now.table.conn) left → HasCleanDisk (state T.Store _next.now)
+        → AreFound left false wanted (state T.Store _next.now) _before.now.contents opened
+        → IsLegal (facts_of _before.now.contents) opened
+        → opened ≡ changing (facts_of _before.now.contents) _before.now.turns }
+    ensures left { _before.now.shut ≡ None
+        → IsReliable (image_at F.Start) _before.now.table.is_new (state S.Store _before.now.table.conn)
+        → MayLeave (image_at F.Start) _before.now.table.is_new _before.now.contents
+        (state S.Store _before.now.table.conn)
+        (changing (facts_of _before.now.contents) _before.now.turns) }
+{
+    let conn = _before.table().connection();
+    a_crash_leaves_what_is_seen(conn);
+    a_row_is_of_one_message();
+}
+
+/// The same from the last turn that was committed: of files that a crash leaves (`leave` of `hd_turn_store`)
+/// a journal is opened with just the turns that were committed, where the catalogue says the same. `_conn` is
+/// the connection before the crash, and `_next` that after it.
 pub fn what_was_committed_is_opened<S: Alter, T: Alter>(
     _conn: &Connection<S>,
     _next: &Connection<T>,

@@ -56,8 +56,12 @@ impl fmt::Display for OpenFault {
                 write!(f, "the journal was written with another catalogue")
             }
             OpenFault::Turns(RestoreFault::NoTurn { at, why }) => write_no_turn(f, *at, *why),
-            OpenFault::Turns(RestoreFault::NoChange { at } | RestoreFault::Differs { at, .. }) =>
-                write!(f, "turn {at} is answered otherwise now"),
+            OpenFault::Turns(RestoreFault::NoChange { at }) => {
+                write!(f, "turn {at} repeats one before")
+            }
+            OpenFault::Turns(RestoreFault::Differs { at, .. }) => {
+                write!(f, "turn {at} is answered otherwise now")
+            }
             OpenFault::Turns(RestoreFault::TooMany) => write!(f, "the journal has too many turns"),
             OpenFault::Turns(RestoreFault::Memory) | OpenFault::Memory => {
                 write!(f, "out of memory")

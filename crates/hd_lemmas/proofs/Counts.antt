@@ -1,5 +1,6 @@
 -- The numbers below another that pass a test, counted.
-use Rattle.std.proofs.Common.{◌≡◌, ◌≢◌, ℕ, zero, suc, ◌+◌, ◌<◌, ◌≤◌, Bool, true, false, cond, refl, arith, inl, inr}
+use Rattle.std.proofs.Common.{◌≡◌, ◌≢◌, ℕ, zero, suc, ◌+◌, ◌<◌, ◌≤◌, Bool, true, false, cond, refl, arith}
+use Rattle.std.proofs.Common.{inl, inr}
 use Rattle.std.proofs.lemmas.Bool.{cases_lt}
 use Rattle.hd_rules.specs.Choose.{count_below}
 
@@ -8,7 +9,8 @@ abbrev pub one : Bool → ℕ
 one b = cond b 1 0
 
 -- tests that agree have one count
-pub count_below-same : (t u : ℕ → Bool) (n : ℕ) → ((k : ℕ) → k < n → u k ≡ t k) → count_below u n ≡ count_below t n
+pub count_below-same : (t u : ℕ → Bool) (n : ℕ) → ((k : ℕ) → k < n → u k ≡ t k)
+    → count_below u n ≡ count_below t n
 count_below-same t u zero h = refl
 count_below-same t u (suc n) h = rw (h n (omega arith), count_below-same t u n (λ k l. h k (omega arith)))
 

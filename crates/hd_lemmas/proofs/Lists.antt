@@ -17,7 +17,8 @@ nil_split [] x after e = cc
 nil_split (b ∷ bs) x after e = cc
 
 -- an element of a list with one more is one of the list, or the one more
-pub last_or : {A : Type 0} (all : List A) (last : A) (before : List A) (x : A) (after : List A) → all ++ last ∷ [] ≡ before ++ x ∷ after →
+pub last_or : {A : Type 0} (all : List A) (last : A) (before : List A) (x : A) (after : List A)
+    → all ++ last ∷ [] ≡ before ++ x ∷ after →
     ((rest : List A) × (all ≡ before ++ x ∷ rest)) ⊎ ((all ≡ before) × (last ≡ x))
 last_or [] last [] x after e = inr (refl, head_same e)
 last_or [] last (b ∷ bs) x after e = absurd (nil_split bs x after (tail_same e))

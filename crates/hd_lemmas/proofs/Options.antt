@@ -16,6 +16,7 @@ no_number None never = refl
 no_number (Some n) never = absurd (never n refl)
 
 -- what is there only where a test passes
-pub some_if : {A : Type 0} (t : Bool) (x : Option A) (n : A) → (if t then x else None) ≡ Some n → (t ≡ true) × (x ≡ Some n)
+pub some_if : {A : Type 0} (t : Bool) (x : Option A) (n : A) → (if t then x else None) ≡ Some n
+    → (t ≡ true) × (x ≡ Some n)
 some_if true x n h = (refl, h)
 some_if false x n h = absurd (none-some n h)

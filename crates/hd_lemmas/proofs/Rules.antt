@@ -26,12 +26,15 @@ pub use Rattle.hd_rules.proofs.Splits.{rising_at, rising_after, rising_later, ri
 pub use Rattle.hd_rules.proofs.Journals.{rising_more, next_more, next_up}
 
 -- a run of one command more
-pub run_from_more : (k : Facts) (d : Desk) (xs : List Survivor) (s : Survivor) → run_from k d (xs ++ s ∷ []) ≡ step k (run_from k d xs) s
+pub run_from_more : (k : Facts) (d : Desk) (xs : List Survivor) (s : Survivor)
+    → run_from k d (xs ++ s ∷ []) ≡ step k (run_from k d xs) s
 run_from_more k d xs s = run_from-append k d xs (s ∷ [])
 
 -- a copy that stands at a place stands on a hold shelf
-pub held_at : (b p : ℕ) (v : CopyState) → stands_at b p v ≡ true → (r : HoldPlace) × (v ≡ OnHoldShelf r) × (r.branch ≡ b) × (r.place ≡ p)
-held_at b p (OnHoldShelf r) is = (r, refl, eqb-true r.branch b (and_parts _ _ is).0, eqb-true r.place p (and_parts _ _ is).1)
+pub held_at : (b p : ℕ) (v : CopyState) → stands_at b p v ≡ true
+    → (r : HoldPlace) × (v ≡ OnHoldShelf r) × (r.branch ≡ b) × (r.place ≡ p)
+held_at b p (OnHoldShelf r) is =
+    (r, refl, eqb-true r.branch b (and_parts _ _ is).0, eqb-true r.place p (and_parts _ _ is).1)
 held_at b p (Shelf x) is = absurd (let no : ⊥ = cc in no)
 held_at b p (OnLoan l) is = absurd (let no : ⊥ = cc in no)
 held_at b p (InTransit t) is = absurd (let no : ⊥ = cc in no)
@@ -42,4 +45,5 @@ copy_there c x s v apart = rw apart refl
 
 -- a sound desk is fit
 pub sound_is_fit : (k : Facts) (n : ℕ) (d : Desk) → Sound k n d → IsFit k d
-sound_is_fit k n d sound = record { named = sound.holds.named; stamps = sound.holds.apart; places = sound.places }
+sound_is_fit k n d sound =
+    record { named = sound.holds.named; stamps = sound.holds.apart; places = sound.places }

@@ -1,5 +1,6 @@
 -- How the copies that are lent to a patron follow one another.
-use Rattle.std.proofs.Common.{◌≡◌, ℕ, zero, suc, ◌+◌, ◌-◌, ◌<◌, ◌≤◌, Bool, true, false, cond, List, [], ◌∷◌, length}
+use Rattle.std.proofs.Common.{◌≡◌, ℕ, zero, suc, ◌+◌, ◌-◌, ◌<◌, ◌≤◌, Bool, true, false, cond, List, [], ◌∷◌}
+use Rattle.std.proofs.Common.{length}
 use Rattle.std.proofs.Common.{ap, refl, arith, inl, inr, sym, ◌∙◌, add-one}
 use Rattle.std.specs.List.{filter, range_with_len}
 use Rattle.std.proofs.lemmas.Bool.{cases_lt, cases_Bool}
@@ -35,7 +36,8 @@ skip m n p zero from to e none = let same : from ≡ to = omega arith in ap (len
 skip m n p (suc d) from to e none = elim (cases_lt from n) [
   | inl small ↦
       let here : is_lent_to m p from ≡ false = none from (omega arith) (omega arith)
-      in lent_from-step m n p from small ∙ rw here (skip m n p d (from + 1) to (omega arith) (λ q a b. none q (omega arith) b))
+      in lent_from-step m n p from small
+      ∙ rw here (skip m n p d (from + 1) to (omega arith) (λ q a b. none q (omega arith) b))
   | inr past ↦ lent_from-past m n p from past ∙ sym (lent_from-past m n p to (omega arith))
 ]
 
@@ -64,7 +66,8 @@ pub lent_from-end : (m : LoansMap) (n ps p link : ℕ) → AreKnown m n ps → M
     lent_from m n p link ≡ []
 lent_from-end m n ps p link a l = elim (cases_lt link n) [
   | inl small ↦
-      skip m n p (n - link) link n (omega arith) (λ q low high. none q low) ∙ lent_from-past m n p n (omega arith)
+      skip m n p (n - link) link n (omega arith) (λ q low high. none q low)
+      ∙ lent_from-past m n p n (omega arith)
   | inr past ↦ lent_from-past m n p link past
 ]
   where

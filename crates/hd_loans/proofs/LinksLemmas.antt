@@ -1,5 +1,6 @@
 -- What lending and ending keep of the links, said of one test of numbers.
-use Rattle.std.proofs.Common.{◌≡◌, ◌≢◌, ℕ, ◌+◌, ◌<◌, ◌≤◌, ◌⊎◌, ◌==◌, Bool, true, false, Option, None, Some, arith, ◌∙◌, sym, inl}
+use Rattle.std.proofs.Common.{◌≡◌, ◌≢◌, ℕ, ◌+◌, ◌<◌, ◌≤◌, ◌⊎◌, ◌==◌, Bool, true, false, Option, None, Some}
+use Rattle.std.proofs.Common.{arith, ◌∙◌, sym, inl}
 use Rattle.std.proofs.Common.{inr}
 use Rattle.std.specs.Prelude.{IfSome}
 use Rattle.std.proofs.lemmas.Bool.Decides.{nat_tests, Decides-eqb}
@@ -8,7 +9,8 @@ use Rattle.hd_rules.specs.declared.limits.TheConstants.{MOST_COPIES}
 use Rattle.hd_loans.specs.Links.{LeadsOn, IsLastBelow}
 
 -- tests that agree have the same links
-pub leads-same : (t u : ℕ → Bool) (from link : ℕ) → ((q : ℕ) → u q ≡ t q) → LeadsOn t from link → LeadsOn u from link
+pub leads-same : (t u : ℕ → Bool) (from link : ℕ) → ((q : ℕ) → u q ≡ t q) → LeadsOn t from link
+    → LeadsOn u from link
 leads-same t u from link same l = record {
   onward = l.onward;
   passes = λ m. same link ∙ l.passes m;
@@ -32,8 +34,8 @@ leads-elsewhere t u k from link same away l = elim away [
 ]
 
 -- a link to a number that passes, with none before it
-pub leads-here : (u : ℕ → Bool) (k from : ℕ) → from ≤ k → u k ≡ true → ((q : ℕ) → from ≤ q → q < k → u q ≡ false) →
-    LeadsOn u from k
+pub leads-here : (u : ℕ → Bool) (k from : ℕ) → from ≤ k → u k ≡ true
+    → ((q : ℕ) → from ≤ q → q < k → u q ≡ false) → LeadsOn u from k
 leads-here u k from a here none = record { onward = a; passes = λ m. here; first = none }
 
 -- a link goes on past numbers that don't pass
@@ -49,7 +51,8 @@ leads-past u k from link a none l = record {
 }
 
 -- it is also one from a later number that it doesn't pass
-pub leads-later : (t : ℕ → Bool) (from later link : ℕ) → from ≤ later → later ≤ link → LeadsOn t from link → LeadsOn t later link
+pub leads-later : (t : ℕ → Bool) (from later link : ℕ) → from ≤ later → later ≤ link → LeadsOn t from link
+    → LeadsOn t later link
 leads-later t from later link a b l = record {
   onward = b;
   passes = l.passes;
@@ -57,7 +60,8 @@ leads-later t from later link a b l = record {
 }
 
 -- it never goes past a number that passes
-pub leads-no_further : (t : ℕ → Bool) (from link q : ℕ) → LeadsOn t from link → from ≤ q → t q ≡ true → link ≤ q
+pub leads-no_further : (t : ℕ → Bool) (from link q : ℕ) → LeadsOn t from link → from ≤ q
+    → t q ≡ true → link ≤ q
 leads-no_further t from link q l a is = elim (cases_lt q link) [
   | inl skipped ↦ absurd (let no : true ≡ false = sym is ∙ l.first q a skipped in cc)
   | inr well ↦ well
@@ -77,18 +81,19 @@ IsReached t limit None link = LeadsOn t 0 link
 IsReached t limit (Some last) link = (last < limit) × (t last ≡ true) × LeadsOn t (last + 1) link
 
 -- where the link doesn't lead below the limit, the walk is at its end
-pub reached-end : (t : ℕ → Bool) (limit : ℕ) (o : Option ℕ) (link : ℕ) → IsReached t limit o link → limit ≤ link →
-    IsLastBelow t limit o
+pub reached-end : (t : ℕ → Bool) (limit : ℕ) (o : Option ℕ) (link : ℕ) → IsReached t limit o link
+    → limit ≤ link → IsLastBelow t limit o
 reached-end t limit None link l far = λ q small. l.first q (omega arith) (omega arith)
 reached-end t limit (Some last) link l far = (l.0, l.1, λ q low high. l.2.first q (omega arith) (omega arith))
 
 -- a link that the walk has come to leads to a number that passes
-pub reached-passes : (t : ℕ → Bool) (limit : ℕ) (o : Option ℕ) (link : ℕ) → IsReached t limit o link → link < MOST_COPIES →
-    t link ≡ true
+pub reached-passes : (t : ℕ → Bool) (limit : ℕ) (o : Option ℕ) (link : ℕ) → IsReached t limit o link
+    → link < MOST_COPIES → t link ≡ true
 reached-passes t limit None link l m = l.passes m
 reached-passes t limit (Some last) link l m = l.2.passes m
 
 -- the last number below a limit is below all that are above the limit
-pub last-room : (t : ℕ → Bool) (limit n : ℕ) (o : Option ℕ) → IsLastBelow t limit o → limit < n → IfSome o (λ last. last < n)
+pub last-room : (t : ℕ → Bool) (limit n : ℕ) (o : Option ℕ) → IsLastBelow t limit o → limit < n
+    → IfSome o (λ last. last < n)
 last-room t limit n None l m = tt
 last-room t limit n (Some last) l m = let small : last < limit = l.0 in omega arith

@@ -3,7 +3,8 @@ use Rattle.std.proofs.Common.{◌≡◌, ◌==◌, ◌&&◌, ◌||◌, ◌<◌, 
 use Rattle.std.proofs.Common.{List, [], ◌∷◌, ◌++◌, Contains, refl, ap, sym, ◌∙◌, arith, subst, append_assoc}
 use Rattle.std.proofs.lemmas.Grind.{common_steps}
 use Rattle.std.proofs.lemmas.List.Elements.{Contains-append_left, Contains-append_right}
-use Rattle.hd_log.specs.Masks.{IsBehind, IsKept, MayBegin, InFirst, BehindBar, BehindShort, further, is_secret, is_short}
+use Rattle.hd_log.specs.Masks.{IsBehind, IsKept, MayBegin, InFirst, BehindBar, BehindShort, further}
+use Rattle.hd_log.specs.Masks.{is_secret, is_short}
 use Rattle.hd_log.specs.Masks.{masked, masked_from, next, shown}
 use Rattle.hd_log.specs.declared.masking.Place.{Place}
 use Rattle.hd_log.specs.declared.masking.Place.TheVariants.{Hidden, Told, Begun, Behind, Searched}
@@ -67,7 +68,8 @@ told_so : (place : Place) (a b : ℕ) (value rest : List ℕ) → IsOpen place �
     → masked_from place (a ∷ b ∷ (value ++ rest))
     ≡ shown place a (next place a) ++ (shown (next place a) b Hidden ++ masked_from Hidden rest)
 told_so place a b value rest held secret none =
-    ap (λ (p : Place). shown place a (next place a) ++ (shown (next place a) b p ++ masked_from p (value ++ rest)))
+    ap (λ (p : Place). shown place a (next place a)
+    ++ (shown (next place a) b p ++ masked_from p (value ++ rest)))
     (hides place a b held secret)
     ∙ ap (λ (l : List ℕ). shown place a (next place a) ++ (shown (next place a) b Hidden ++ l))
     (skipped value rest none)

@@ -1,5 +1,6 @@
 -- What holds of escapes.
-use Rattle.std.proofs.Common.{◌≡◌, ℕ, ◌+◌, ◌-◌, ◌*◌, ◌/◌, ◌%◌, ◌<◌, ◌≤◌, ◌^◌, Bool, true, false, List, [], ◌∷◌, ◌++◌}
+use Rattle.std.proofs.Common.{◌≡◌, ℕ, ◌+◌, ◌-◌, ◌*◌, ◌/◌, ◌%◌, ◌<◌, ◌≤◌, ◌^◌, Bool, true, false, List, []}
+use Rattle.std.proofs.Common.{◌∷◌, ◌++◌}
 use Rattle.std.proofs.Common.{append_assoc, refl, ap, sym, ◌∙◌, arith, suc, length, All, ◌==◌, if◌then◌else◌}
 use Rattle.std.proofs.lemmas.Fmt.{decimal_by_steps}
 use Rattle.std.specs.Fmt.{decimal}
@@ -63,8 +64,10 @@ printable_one : (b : ℕ) (p : Bool) → is_plain b ≡ p
     → All IsPrintable (if p then b ∷ [] else 92 ∷ 120 ∷ hex_digit (b / 16) ∷ hex_digit b ∷ [])
 printable_one b true is = All-cons IsPrintable b [] (printable_plain b is) (All-nil IsPrintable)
 printable_one b false is =
-    All-cons IsPrintable 92 (120 ∷ hex_digit (b / 16) ∷ hex_digit b ∷ []) (printable 92 (omega arith) (omega arith))
-    (All-cons IsPrintable 120 (hex_digit (b / 16) ∷ hex_digit b ∷ []) (printable 120 (omega arith) (omega arith))
+    All-cons IsPrintable 92 (120 ∷ hex_digit (b / 16) ∷ hex_digit b ∷ [])
+    (printable 92 (omega arith) (omega arith))
+    (All-cons IsPrintable 120 (hex_digit (b / 16) ∷ hex_digit b ∷ [])
+    (printable 120 (omega arith) (omega arith))
     (All-cons IsPrintable (hex_digit (b / 16)) (hex_digit b ∷ []) (printable_digit (b / 16))
     (All-cons IsPrintable (hex_digit b) [] (printable_digit b) (All-nil IsPrintable))))
 

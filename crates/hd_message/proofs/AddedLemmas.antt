@@ -1,11 +1,14 @@
 -- What wrong passwords leave untold, and what sorter fields add.
-use Rattle.std.proofs.Common.{◌≡◌, ℕ, List, [], ◌∷◌, ◌++◌, Option, None, refl, sym, ap, ◌∙◌, append_assoc, append-nil, codes}
+use Rattle.std.proofs.Common.{◌≡◌, ℕ, List, [], ◌∷◌, ◌++◌, Option, None, refl, sym, ap, ◌∙◌, append_assoc}
+use Rattle.std.proofs.Common.{append-nil, codes}
 use Rattle.std.specs.Borrow.{Bor}
 use Rattle.std.specs.List.{concat}
 use Rattle.hd_message.specs.CheckinReplies.{checkin_layout}
 use Rattle.hd_message.specs.ItemReplies.{item_text}
-use Rattle.hd_message.specs.PatronReplies.{AreMistaken, information_layout, information_text, known_layout, list_told, with_list}
-use Rattle.hd_message.specs.SorterReplies.{IsSameReturn, recipient_layout, sorter_item_text, sorter_layout, transit_alert, transit_fields}
+use Rattle.hd_message.specs.PatronReplies.{AreMistaken, information_layout, information_text, known_layout}
+use Rattle.hd_message.specs.PatronReplies.{list_told, with_list}
+use Rattle.hd_message.specs.SorterReplies.{IsSameReturn, recipient_layout, sorter_item_text, sorter_layout}
+use Rattle.hd_message.specs.SorterReplies.{transit_alert, transit_fields}
 use Rattle.hd_message.specs.Fields.{field_text}
 use Rattle.hd_message.specs.declared.patron_reply.Counts.{Counts}
 use Rattle.hd_message.specs.declared.patron_reply.ItemList.{ItemList}
@@ -23,10 +26,11 @@ use Rattle.hd_message.specs.declared.sorter_reply.SorterItemReply.{SorterItemRep
 use Rattle.hd_message.specs.declared.sorter_reply.SorterReply.{SorterReply}
 
 -- a reply behind which the list stands that is told
-pub known_is : (reply : PatronInformationReply) (outcome : PatronInformationOutcome) (patron : KnownPatron) (counts : Counts) (limit : ℕ)
-    (list : Option ItemList) (front : List ℕ) (told : Option ItemList) → outcome ≡ OfInformation.Known patron counts limit list →
-    front ≡ concat (information_layout reply patron counts limit) → told ≡ list_told patron.password list →
-    with_list front told ≡ information_text reply outcome
+pub known_is : (reply : PatronInformationReply) (outcome : PatronInformationOutcome) (patron : KnownPatron)
+    (counts : Counts) (limit : ℕ) (list : Option ItemList) (front : List ℕ) (told : Option ItemList)
+    → outcome ≡ OfInformation.Known patron counts limit list
+    → front ≡ concat (information_layout reply patron counts limit) → told ≡ list_told patron.password list
+    → with_list front told ≡ information_text reply outcome
 known_is reply outcome patron counts limit list front told is begins tells =
     ap (λ x. with_list x told) begins
     ∙ ap (λ y. with_list (concat (information_layout reply patron counts limit)) y) tells
@@ -36,8 +40,9 @@ pub untold_status : (reply : PatronStatusReply) (a b : KnownPatron) (notice : Li
     concat (known_layout reply a notice) ≡ concat (known_layout reply b notice)
 untold_status reply a b notice w = rw (w.flags, w.first, w.second) refl
 
-pub untold_information : (reply : PatronInformationReply) (a b : KnownPatron) (counts : Counts) (limit : ℕ) (list other : Option ItemList) →
-    AreMistaken a b → information_text reply (OfInformation.Known a counts limit list)
+pub untold_information : (reply : PatronInformationReply) (a b : KnownPatron)
+    (counts : Counts) (limit : ℕ) (list other : Option ItemList) → AreMistaken a b
+    → information_text reply (OfInformation.Known a counts limit list)
     ≡ information_text reply (OfInformation.Known b counts limit other)
 untold_information reply a b counts limit list other w = rw (w.flags, w.first, w.second) refl
 
@@ -49,11 +54,14 @@ same_on_shelf reply plain s = rw (s.date, s.institution, s.copy) refl
 -- two runs of texts
 concat_append : (xs ys : List (List ℕ)) → concat (xs ++ ys) ≡ concat xs ++ concat ys
 concat_append [] ys = refl
-concat_append (x ∷ xs) ys = ap (λ rest. x ++ rest) (concat_append xs ys) ∙ sym (append_assoc x (concat xs) (concat ys))
+concat_append (x ∷ xs) ys = ap (λ rest. x ++ rest) (concat_append xs ys)
+    ∙ sym (append_assoc x (concat xs) (concat ys))
 
-pub more_in_transit : (reply : SorterReply) (plain : CheckinReply) (branch : Bor (List ℕ)) (recipient : Option Recipient) →
-    IsSameReturn reply plain → concat (sorter_layout reply (OfSorting.Transit branch recipient))
-    ≡ concat (checkin_layout plain (OfCheckin.Returned reply.home reply.title (OfReturn.Transit branch))) ++ transit_fields branch.now recipient
+pub more_in_transit : (reply : SorterReply) (plain : CheckinReply)
+    (branch : Bor (List ℕ)) (recipient : Option Recipient) → IsSameReturn reply plain
+    → concat (sorter_layout reply (OfSorting.Transit branch recipient))
+    ≡ concat (checkin_layout plain (OfCheckin.Returned reply.home reply.title (OfReturn.Transit branch)))
+    ++ transit_fields branch.now recipient
 more_in_transit reply plain branch recipient s =
     let front = checkin_layout plain (OfCheckin.Returned reply.home reply.title (OfReturn.Transit branch)) in
     let behind = transit_alert recipient ∷ field_text (codes "CT") branch.now ∷ recipient_layout recipient in
@@ -61,5 +69,6 @@ more_in_transit reply plain branch recipient s =
     rw (s.date, s.institution, s.copy) refl in
     same ∙ concat_append front behind
 
-pub same_item : (reply : SorterItemReply) → reply.recipient ≡ None → sorter_item_text reply ≡ item_text reply.item
+pub same_item : (reply : SorterItemReply) → reply.recipient ≡ None
+    → sorter_item_text reply ≡ item_text reply.item
 same_item reply none = rw none (append-nil (item_text reply.item))

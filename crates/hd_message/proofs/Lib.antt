@@ -1,4 +1,3 @@
-pub mod StepLemmas
 pub mod DueLemmas
 pub mod LengthLemmas
 pub mod RepeatedLemmas

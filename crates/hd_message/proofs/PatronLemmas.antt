@@ -1,10 +1,13 @@
 -- Patron messages are read in one way.
-use Rattle.std.proofs.Common.{◌≡◌, ℕ, ◌≤◌, ◌||◌, Bool, true, false, List, Option, None, Some, IfSome, Ok, Err, codes, is_none}
-use Rattle.std.proofs.Common.{length, take, refl, sym, ap, subst, ◌∙◌, arith, nat_lt, length-append, if◌then◌else◌, ◌++◌, MatchBool}
+use Rattle.std.proofs.Common.{◌≡◌, ℕ, ◌≤◌, ◌||◌, Bool, true, false, List, Option, None, Some, IfSome, Ok, Err}
+use Rattle.std.proofs.Common.{codes, is_none}
+use Rattle.std.proofs.Common.{length, take, refl, sym, ap, subst, ◌∙◌, arith, nat_lt, length-append}
+use Rattle.std.proofs.Common.{if◌then◌else◌, ◌++◌, MatchBool}
 use Rattle.std.specs.Prelude.{⊤}
 use Rattle.std.specs.Str.{bytes_eq}
 use Rattle.hd_message.proofs.ReadBackLemmas.{drop_fixed, take_fixed}
-use Rattle.hd_message.specs.PatronReading.{HasNoPatronCode, IsPatronMessage, IsReading, IsStandardReading, IsUnreadablePatron, StatesPatron}
+use Rattle.hd_message.specs.PatronReading.{HasNoPatronCode, IsPatronMessage, IsReading, IsStandardReading}
+use Rattle.hd_message.specs.PatronReading.{IsUnreadablePatron, StatesPatron}
 use Rattle.hd_message.specs.PatronReading.{is_unreadable_patron}
 use Rattle.hd_message.specs.PatronTable.{patron_code, patron_fields, patron_fixed, patron_width}
 use Rattle.hd_message.specs.Values.{lacks}
@@ -40,9 +43,10 @@ pub one_patron_kind : (a b : PatronKind) → patron_code a ≡ patron_code b →
 one_patron_kind a b h = sym (decoded a) ∙ ap decode h ∙ decoded b
 
 -- a request that is found in a body with the code of a kind
-pub patron_found : (body : List ℕ) (kind : PatronKind) (found : Option PatronRequest) → take 2 body ≡ patron_code kind →
-    is_none found ≡ is_unreadable_patron kind body →
-    IfSome found (StatesPatron kind (patron_fixed kind body) (patron_fields kind body)) → IfSome found (IsPatronMessage body)
+pub patron_found : (body : List ℕ) (kind : PatronKind) (found : Option PatronRequest)
+    → take 2 body ≡ patron_code kind → is_none found ≡ is_unreadable_patron kind body
+    → IfSome found (StatesPatron kind (patron_fixed kind body) (patron_fields kind body))
+    → IfSome found (IsPatronMessage body)
 patron_found body kind None code unreadable states = tt
 patron_found body kind (Some request) code unreadable states =
     record { kind = kind; code = code; readable = sym unreadable; states = states }
@@ -56,10 +60,12 @@ patron_apart body request message m u =
     cc
 
 -- a body without the code of a patron message is none
-no_message : (body : List ℕ) → HasNoPatronCode body → (request : PatronRequest) → IsPatronMessage body request → ⊥
+no_message : (body : List ℕ) → HasNoPatronCode body → (request : PatronRequest)
+    → IsPatronMessage body request → ⊥
 no_message body none request m = none m.kind m.code
 
-no_unreadable : (body : List ℕ) → HasNoPatronCode body → (message : UnreadablePatron) → IsUnreadablePatron body message → ⊥
+no_unreadable : (body : List ℕ) → HasNoPatronCode body → (message : UnreadablePatron)
+    → IsUnreadablePatron body message → ⊥
 no_unreadable body none message u = none message.kind u.code
 
 -- where patron messages aren't read, or a body is none
@@ -79,16 +85,19 @@ pub read_on : (profile : Profile) (body : List ℕ) (reading : Reading) → HasN
     × (IsStandardReading body reading → IsReading profile body reading))
 read_on profile body (Standard answer) none =
     (λ h. (h.1, h.2), λ h. (match_either profile.patron_messages (HasNoPatronCode body) none, h.0, h.1))
-read_on profile body (Patron (Ok request)) none = (λ h. absurd (no_message body none request h.1), λ h. absurd h)
-read_on profile body (Patron (Err message)) none = (λ h. absurd (no_unreadable body none message h.2), λ h. absurd h)
+read_on profile body (Patron (Ok request)) none =
+    (λ h. absurd (no_message body none request h.1), λ h. absurd h)
+read_on profile body (Patron (Err message)) none =
+    (λ h. absurd (no_unreadable body none message h.2), λ h. absurd h)
 
 not_less : (m n : ℕ) → n ≤ m → nat_lt m n ≡ false
 not_less m n h = grind arith
 
 -- a message is its fixed part and its fields
-pub patron_message_of : (kind : PatronKind) (fixed part : List ℕ) (request : PatronRequest) → length fixed ≡ patron_width kind →
-    take 2 (fixed ++ part) ≡ patron_code kind → lacks part (codes "AA") ≡ false → StatesPatron kind fixed part request →
-    IsPatronMessage (fixed ++ part) request
+pub patron_message_of : (kind : PatronKind) (fixed part : List ℕ) (request : PatronRequest)
+    → length fixed ≡ patron_width kind → take 2 (fixed ++ part) ≡ patron_code kind
+    → lacks part (codes "AA") ≡ false → StatesPatron kind fixed part request
+    → IsPatronMessage (fixed ++ part) request
 patron_message_of kind fixed part request width code complete states =
     let front = take_fixed (patron_width kind) fixed part width in
     let back = drop_fixed (patron_width kind) fixed part width in
@@ -105,8 +114,9 @@ patron_message_of kind fixed part request width code complete states =
     }
 
 -- and states the request that it is read as
-pub patron_states_of : (kind : PatronKind) (fixed part : List ℕ) (request : PatronRequest) → length fixed ≡ patron_width kind →
-    take 2 (fixed ++ part) ≡ patron_code kind → IsPatronMessage (fixed ++ part) request → StatesPatron kind fixed part request
+pub patron_states_of : (kind : PatronKind) (fixed part : List ℕ) (request : PatronRequest)
+    → length fixed ≡ patron_width kind → take 2 (fixed ++ part) ≡ patron_code kind
+    → IsPatronMessage (fixed ++ part) request → StatesPatron kind fixed part request
 patron_states_of kind fixed part request width code message =
     let same : message.kind ≡ kind = one_patron_kind message.kind kind (sym message.code ∙ code) in
     let front = take_fixed (patron_width kind) fixed part width in

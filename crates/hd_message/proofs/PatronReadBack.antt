@@ -10,21 +10,25 @@ use Rattle.hd_message.specs.PatronReading.{StatesPatron}
 use Rattle.hd_message.specs.PatronRequests.{IsCard, IsPatronInformation, IsPatronStatus, summary_of}
 use Rattle.hd_message.specs.PatronTable.{patron_code, patron_column, patron_date, patron_width}
 use Rattle.hd_message.specs.Values.{first_value, lacks, unless_empty}
-use Rattle.hd_message.specs.WrittenPatrons.{HasCardValues, HasInformationValues, HasPatronValues, HasStatusValues, IsPatronReadBack}
+use Rattle.hd_message.specs.WrittenPatrons.{HasCardValues, HasInformationValues, HasPatronValues}
+use Rattle.hd_message.specs.WrittenPatrons.{HasStatusValues, IsPatronReadBack}
 use Rattle.hd_message.specs.WrittenPatrons.{IsPatronWritable, PatronValues, patron_fixed_text}
 use Rattle.hd_message.specs.declared.patron_kind.PatronKind.{PatronKind}
 use Rattle.hd_message.specs.declared.patron_kind.PatronKind.TheVariants as Kinds
 use Rattle.hd_message.specs.declared.patron_request.CardRequest.{CardRequest}
 use Rattle.hd_message.specs.declared.patron_request.PatronInformationRequest.{PatronInformationRequest}
 use Rattle.hd_message.specs.declared.patron_request.PatronRequest.{PatronRequest}
-use Rattle.hd_message.specs.declared.patron_request.PatronRequest.TheVariants.{Status, Information, EndSession, Block, FeePaid, RenewAll}
+use Rattle.hd_message.specs.declared.patron_request.PatronRequest.TheVariants.{Status, Information}
+use Rattle.hd_message.specs.declared.patron_request.PatronRequest.TheVariants.{EndSession, Block, FeePaid}
+use Rattle.hd_message.specs.declared.patron_request.PatronRequest.TheVariants.{RenewAll}
 use Rattle.hd_message.specs.declared.patron_request.PatronStatusRequest.{PatronStatusRequest}
 
 -- the columns of a fixed part
 second : (a b rest : List ℕ) (n m : ℕ) → length a ≡ n → length b ≡ m → take m (drop n (a ++ (b ++ rest))) ≡ b
 second a b rest n m h g = ap (take m) (drop_fixed n a (b ++ rest) h) ∙ take_fixed m b rest g
 
-third : (a b c : List ℕ) → length a ≡ 3 → length b ≡ 18 → length c ≡ 10 → take 10 (drop 21 (a ++ (b ++ (c ++ [])))) ≡ c
+third : (a b c : List ℕ) → length a ≡ 3 → length b ≡ 18 → length c ≡ 10
+    → take 10 (drop 21 (a ++ (b ++ (c ++ [])))) ≡ c
 third a b c h g f =
     let front : length (a ++ b) ≡ 21 = omega (arith, length-append a b, h, g) in
     ap (λ xs. take 10 (drop 21 xs)) (sym (append_assoc a b (c ++ [])))
@@ -36,7 +40,8 @@ flag_width true = refl
 flag_width false = refl
 
 -- the code and the fixed part are as wide as those of the message
-fixed_width : (kind : PatronKind) (v : PatronValues) → IsPatronWritable v → length (patron_fixed_text kind v) ≡ patron_width kind
+fixed_width : (kind : PatronKind) (v : PatronValues) → IsPatronWritable v
+    → length (patron_fixed_text kind v) ≡ patron_width kind
 fixed_width Kinds.Status v w = simp length-append (omega (arith, w.language, w.date))
 fixed_width Kinds.Information v w = simp length-append (omega (arith, w.language, w.date, w.summary))
 fixed_width Kinds.EndSession v w = simp length-append (omega (arith, w.date))
@@ -44,7 +49,8 @@ fixed_width Kinds.Block v w = simp length-append (omega (arith, flag_width v.ret
 fixed_width Kinds.FeePaid v w = simp length-append (omega (arith, w.date, w.fee))
 fixed_width Kinds.RenewAll v w = simp length-append (omega (arith, w.date))
 
-code_is : (kind : PatronKind) (v : PatronValues) (part : List ℕ) → take 2 (patron_fixed_text kind v ++ part) ≡ patron_code kind
+code_is : (kind : PatronKind) (v : PatronValues) (part : List ℕ)
+    → take 2 (patron_fixed_text kind v ++ part) ≡ patron_code kind
 code_is Kinds.Status v part = refl
 code_is Kinds.Information v part = refl
 code_is Kinds.EndSession v part = refl
@@ -57,7 +63,8 @@ module _ (v : PatronValues) (w : IsPatronWritable v) where
   value : (code : List ℕ) → first_value (fields_text v.fields) code ≡ value_of v.fields code
   value code = written_value code v.fields w.fields
 
-  filled : (code : List ℕ) → unless_empty (first_value (fields_text v.fields) code) ≡ unless_empty (value_of v.fields code)
+  filled : (code : List ℕ)
+      → unless_empty (first_value (fields_text v.fields) code) ≡ unless_empty (value_of v.fields code)
   filled code = ap unless_empty (value code)
 
   status_language : patron_column Kinds.Status 0 (patron_fixed_text Kinds.Status v) ≡ v.language
@@ -66,7 +73,8 @@ module _ (v : PatronValues) (w : IsPatronWritable v) where
   status_date : patron_column Kinds.Status 1 (patron_fixed_text Kinds.Status v) ≡ v.date
   status_date = second v.language v.date [] 3 18 w.language w.date
 
-  information_language : patron_column Kinds.Information 0 (patron_fixed_text Kinds.Information v) ≡ v.language
+  information_language : patron_column Kinds.Information 0 (patron_fixed_text Kinds.Information v)
+      ≡ v.language
   information_language = take_fixed 3 v.language (v.date ++ (v.summary ++ [])) w.language
 
   information_date : patron_column Kinds.Information 1 (patron_fixed_text Kinds.Information v) ≡ v.date
@@ -83,7 +91,8 @@ module _ (v : PatronValues) (w : IsPatronWritable v) where
   card_date Kinds.FeePaid = take_fixed 18 v.date (v.fee ++ []) w.date
   card_date Kinds.RenewAll = take_fixed 18 v.date [] w.date
 
-  status_values : (r : PatronStatusRequest) → IsPatronStatus (patron_fixed_text Kinds.Status v) (fields_text v.fields) r → HasStatusValues v r
+  status_values : (r : PatronStatusRequest)
+      → IsPatronStatus (patron_fixed_text Kinds.Status v) (fields_text v.fields) r → HasStatusValues v r
   status_values r s = record {
     language = s.language ∙ status_language;
     date = s.date ∙ status_date;
@@ -91,7 +100,8 @@ module _ (v : PatronValues) (w : IsPatronWritable v) where
     password = s.password ∙ filled (codes "AD");
   }
 
-  status_states : (r : PatronStatusRequest) → HasStatusValues v r → IsPatronStatus (patron_fixed_text Kinds.Status v) (fields_text v.fields) r
+  status_states : (r : PatronStatusRequest) → HasStatusValues v r
+      → IsPatronStatus (patron_fixed_text Kinds.Status v) (fields_text v.fields) r
   status_states r h = record {
     language = h.language ∙ sym status_language;
     date = h.date ∙ sym status_date;
@@ -99,8 +109,9 @@ module _ (v : PatronValues) (w : IsPatronWritable v) where
     password = h.password ∙ sym (filled (codes "AD"));
   }
 
-  information_values : (r : PatronInformationRequest) →
-      IsPatronInformation (patron_fixed_text Kinds.Information v) (fields_text v.fields) r → HasInformationValues v r
+  information_values : (r : PatronInformationRequest)
+      → IsPatronInformation (patron_fixed_text Kinds.Information v) (fields_text v.fields) r
+      → HasInformationValues v r
   information_values r s = record {
     language = s.language ∙ information_language;
     date = s.date ∙ information_date;
@@ -123,14 +134,19 @@ module _ (v : PatronValues) (w : IsPatronWritable v) where
     last = h.last ∙ sym (filled (codes "BQ"));
   }
 
-  card_values : (kind : PatronKind) (r : CardRequest) → IsCard kind (patron_fixed_text kind v) (fields_text v.fields) r → HasCardValues v r
-  card_values kind r s = record { date = s.date ∙ card_date kind; patron = sym (value (codes "AA")) ∙ s.patron }
+  card_values : (kind : PatronKind) (r : CardRequest)
+      → IsCard kind (patron_fixed_text kind v) (fields_text v.fields) r → HasCardValues v r
+  card_values kind r s =
+      record { date = s.date ∙ card_date kind; patron = sym (value (codes "AA")) ∙ s.patron }
 
-  card_states : (kind : PatronKind) (r : CardRequest) → HasCardValues v r → IsCard kind (patron_fixed_text kind v) (fields_text v.fields) r
-  card_states kind r h = record { date = h.date ∙ sym (card_date kind); patron = value (codes "AA") ∙ h.patron }
+  card_states : (kind : PatronKind) (r : CardRequest) → HasCardValues v r
+      → IsCard kind (patron_fixed_text kind v) (fields_text v.fields) r
+  card_states kind r h =
+      record { date = h.date ∙ sym (card_date kind); patron = value (codes "AA") ∙ h.patron }
 
-  values_of_kind : (kind : PatronKind) (request : PatronRequest) →
-      StatesPatron kind (patron_fixed_text kind v) (fields_text v.fields) request → HasPatronValues kind v request
+  values_of_kind : (kind : PatronKind) (request : PatronRequest)
+      → StatesPatron kind (patron_fixed_text kind v) (fields_text v.fields) request
+      → HasPatronValues kind v request
   values_of_kind Kinds.Status (Status r) s = (s.0, status_values r s.1)
   values_of_kind Kinds.Information (Information r) s = (s.0, information_values r s.1)
   values_of_kind Kinds.EndSession (EndSession r) s = (s.0, card_values Kinds.EndSession r s.1)
@@ -155,7 +171,8 @@ patron_back kind v w request =
     let part = fields_text v.fields in
     let wide = fixed_width kind v w in
     let code = code_is kind v part in
-    let named : lacks part (codes "AA") ≡ false = ap is_none (written_value (codes "AA") v.fields w.fields) ∙ w.patron in (
+    let named : lacks part (codes "AA") ≡ false =
+    ap is_none (written_value (codes "AA") v.fields w.fields) ∙ w.patron in (
       λ m. values_of_kind v w kind request (patron_states_of kind fixed part request wide code m),
       λ h. patron_message_of kind fixed part request wide code named (states_of_kind v w kind request h),
     )

@@ -1,6 +1,8 @@
 -- A body that states some values is read as a request that has them.
-use Rattle.std.proofs.Common.{◌≡◌, ℕ, zero, suc, ◌≤◌, ◌||◌, Bool, true, false, Option, None, Some, IfSome, List, [], ◌∷◌, ◌++◌, codes}
-use Rattle.std.proofs.Common.{length, take, drop, refl, sym, ap, subst, ◌∙◌, arith, nat_lt, length-append, if◌then◌else◌}
+use Rattle.std.proofs.Common.{◌≡◌, ℕ, zero, suc, ◌≤◌, ◌||◌, Bool, true, false, Option, None, Some, IfSome}
+use Rattle.std.proofs.Common.{List, [], ◌∷◌, ◌++◌, codes}
+use Rattle.std.proofs.Common.{length, take, drop, refl, sym, ap, subst, ◌∙◌, arith, nat_lt, length-append}
+use Rattle.std.proofs.Common.{if◌then◌else◌}
 use Rattle.std.specs.Str.{bytes_eq}
 use Rattle.hd_field.specs.Fields.{width_of}
 use Rattle.hd_message.specs.Grammar.{AreWritable, IsGiven, Written, cancel, has_bar, optional, value_of}
@@ -11,7 +13,8 @@ use Rattle.hd_message.specs.declared.kind.Kind.{Kind}
 use Rattle.hd_message.specs.declared.kind.Kind.TheVariants as Kinds
 use Rattle.hd_message.specs.declared.kind.DeskKind.TheVariants as Desks
 use Rattle.hd_message.specs.declared.request.Request.{Request}
-use Rattle.hd_message.specs.declared.request.Request.TheVariants.{Login, Status, Checkout, Checkin, Hold, Renew, Item, Resend, Unsupported}
+use Rattle.hd_message.specs.declared.request.Request.TheVariants.{Login, Status, Checkout, Checkin, Hold}
+use Rattle.hd_message.specs.declared.request.Request.TheVariants.{Renew, Item, Resend, Unsupported}
 
 -- the kind of a code
 decode : List ℕ → Kind
@@ -58,9 +61,9 @@ not_less : (m n : ℕ) → n ≤ m → nat_lt m n ≡ false
 not_less m n h = grind arith
 
 -- a message is its fixed part and its fields
-pub message_of : (kind : Kind) (fixed part : List ℕ) (request : Request) → length fixed ≡ fixed_width kind →
-    take 2 (fixed ++ part) ≡ code_of kind →
-    is_incomplete kind fixed part ≡ false → StatesRequest (code_of kind) fixed part request → IsMessage (fixed ++ part) request
+pub message_of : (kind : Kind) (fixed part : List ℕ) (request : Request) → length fixed ≡ fixed_width kind
+    → take 2 (fixed ++ part) ≡ code_of kind → is_incomplete kind fixed part ≡ false
+    → StatesRequest (code_of kind) fixed part request → IsMessage (fixed ++ part) request
 message_of kind fixed part request width code complete states =
     let front = take_fixed (fixed_width kind) fixed part width in
     let back = drop_fixed (fixed_width kind) fixed part width in
@@ -69,11 +72,13 @@ message_of kind fixed part request width code complete states =
     record {
       kind = kind;
       code = code;
-      readable = ap (λ t. t || is_incomplete kind (fixed_part kind (fixed ++ part)) (fields_part kind (fixed ++ part))) whole
+      readable = ap (λ t. t || is_incomplete kind (fixed_part kind (fixed ++ part))
+          (fields_part kind (fixed ++ part))) whole
           ∙ ap (λ f. is_incomplete kind f (fields_part kind (fixed ++ part))) front
           ∙ ap (λ p. is_incomplete kind fixed p) back
           ∙ complete;
-      states = subst (λ f. StatesRequest (code_of kind) f (fields_part kind (fixed ++ part)) request) (sym front)
+      states =
+          subst (λ f. StatesRequest (code_of kind) f (fields_part kind (fixed ++ part)) request) (sym front)
           (subst (λ p. StatesRequest (code_of kind) fixed p request) (sym back) states);
     }
 
@@ -87,7 +92,8 @@ states_of kind fixed part request width code message =
     let back = drop_fixed (fixed_width kind) fixed part width in
     let body = fixed ++ part in
     let stated : StatesRequest (code_of kind) (fixed_part kind body) (fields_part kind body) request =
-    subst (λ k. StatesRequest (code_of k) (fixed_part k body) (fields_part k body) request) same message.states in
+    subst (λ k. StatesRequest (code_of k) (fixed_part k body) (fields_part k body) request) same
+    message.states in
     subst (λ p. StatesRequest (code_of kind) fixed p request) back
     (subst (λ f. StatesRequest (code_of kind) f (fields_part kind body) request) front stated)
 
@@ -103,7 +109,8 @@ kind_of (Item request) = Kinds.Desk Desks.Item
 kind_of Resend = Kinds.Resend
 kind_of Unsupported = Kinds.Resend
 
-code_stated : (code fixed part : List ℕ) (request : Request) → StatesRequest code fixed part request → code ≡ code_of (kind_of request)
+code_stated : (code fixed part : List ℕ) (request : Request) → StatesRequest code fixed part request
+    → code ≡ code_of (kind_of request)
 code_stated code fixed part (Login request) h = h.0
 code_stated code fixed part Status h = h
 code_stated code fixed part (Checkout request) h = h.0
@@ -115,9 +122,10 @@ code_stated code fixed part Resend h = h
 code_stated code fixed part Unsupported h = absurd h
 
 -- a message of a kind is read as a request of that kind
-pub kind_stated : (kind : Kind) (fixed part : List ℕ) (request : Request) → StatesRequest (code_of kind) fixed part request →
-    kind ≡ kind_of request
-kind_stated kind fixed part request h = one_kind kind (kind_of request) (code_stated (code_of kind) fixed part request h)
+pub kind_stated : (kind : Kind) (fixed part : List ℕ) (request : Request)
+    → StatesRequest (code_of kind) fixed part request → kind ≡ kind_of request
+kind_stated kind fixed part request h =
+    one_kind kind (kind_of request) (code_stated (code_of kind) fixed part request h)
 
 -- a body isn't read as a request of another kind
 pub apart : (kind : Kind) (fixed part : List ℕ) (request : Request) → length fixed ≡ fixed_width kind →
@@ -142,9 +150,10 @@ cancel_is true = refl
 cancel_is false = refl
 
 -- an optional field can be written
-pub optional_writable : (code : List ℕ) (value : Option (List ℕ)) (rest : List Written) → length code ≡ 2 → has_bar code ≡ false →
-    IfSome value (λ x. has_bar x ≡ false) → IfSome value (λ x. IfSome (width_of code) (λ width. length x ≤ width)) → AreWritable rest →
-    AreWritable (optional code value ++ rest)
+pub optional_writable : (code : List ℕ) (value : Option (List ℕ)) (rest : List Written)
+    → length code ≡ 2 → has_bar code ≡ false → IfSome value (λ x. has_bar x ≡ false)
+    → IfSome value (λ x. IfSome (width_of code) (λ width. length x ≤ width)) → AreWritable rest
+    → AreWritable (optional code value ++ rest)
 optional_writable code None rest two begins plain narrow writable = writable
 optional_writable code (Some value) rest two begins plain narrow writable =
     (record { two = two; begins = begins; plain = plain; narrow = narrow }, writable)
@@ -154,18 +163,20 @@ cancel_writable true = (record { two = refl; begins = refl; plain = refl; narrow
 cancel_writable false = tt
 
 -- it is found by its identifier, and passed over by another
-pub optional_found : (code : List ℕ) (value : Option (List ℕ)) (rest : List Written) → bytes_eq code code ≡ true →
-    value_of rest code ≡ None → value_of (optional code value ++ rest) code ≡ value
+pub optional_found : (code : List ℕ) (value : Option (List ℕ)) (rest : List Written)
+    → bytes_eq code code ≡ true → value_of rest code ≡ None
+    → value_of (optional code value ++ rest) code ≡ value
 optional_found code None rest same none = none
 optional_found code (Some value) rest same none = rw same refl
 
-pub optional_passed : (code other : List ℕ) (value : Option (List ℕ)) (rest : List Written) → bytes_eq code other ≡ false →
-    value_of (optional code value ++ rest) other ≡ value_of rest other
+pub optional_passed : (code other : List ℕ) (value : Option (List ℕ)) (rest : List Written)
+    → bytes_eq code other ≡ false → value_of (optional code value ++ rest) other ≡ value_of rest other
 optional_passed code other None rest apart = refl
 optional_passed code other (Some value) rest apart = rw apart refl
 
 -- no other field is BI
-pub not_cancel : (cancels : Bool) (code : List ℕ) → bytes_eq (codes "BI") code ≡ false → value_of (cancel cancels) code ≡ None
+pub not_cancel : (cancels : Bool) (code : List ℕ) → bytes_eq (codes "BI") code ≡ false
+    → value_of (cancel cancels) code ≡ None
 not_cancel true code h = rw h refl
 not_cancel false code h = refl
 

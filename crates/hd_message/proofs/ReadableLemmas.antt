@@ -6,7 +6,8 @@ use Rattle.hd_message.specs.Table.{code_of}
 use Rattle.hd_message.specs.declared.kind.Kind.{Kind}
 use Rattle.hd_message.specs.declared.kind.Kind.TheVariants as Kinds
 use Rattle.hd_message.specs.declared.request.Request.{Request}
-use Rattle.hd_message.specs.declared.request.Request.TheVariants.{Login, Status, Checkout, Checkin, Hold, Renew}
+use Rattle.hd_message.specs.declared.request.Request.TheVariants.{Login, Status, Checkout, Checkin, Hold}
+use Rattle.hd_message.specs.declared.request.Request.TheVariants.{Renew}
 use Rattle.hd_message.specs.declared.request.Request.TheVariants.{Item, Resend, Unsupported}
 use Rattle.hd_message.specs.declared.unreadable.Unreadable.{Unreadable}
 use Rattle.hd_message.specs.declared.unreadable.Unreadable.TheVariants as Unread
@@ -22,10 +23,12 @@ kind_apart body request kind m code unreadable =
 message_apart : (body : List ℕ) (request : Request) (message : Unreadable) →
     IsMessage body request → IsUnreadable body message → ⊥
 message_apart body request Unread.Login m u = kind_apart body request Kinds.Login m u.0 u.1
-message_apart body request (Unread.Desk message) m u = kind_apart body request (Kinds.Desk message.kind) m u.code u.unreadable
+message_apart body request (Unread.Desk message) m u =
+    kind_apart body request (Kinds.Desk message.kind) m u.code u.unreadable
 
 -- the code of an unreadable message is that of a kind
-unsupported_apart : (body : List ℕ) (message : Unreadable) → IsRequest body Unsupported → IsUnreadable body message → ⊥
+unsupported_apart : (body : List ℕ) (message : Unreadable) → IsRequest body Unsupported
+    → IsUnreadable body message → ⊥
 unsupported_apart body Unread.Login h u = h Kinds.Login u.0
 unsupported_apart body (Unread.Desk message) h u = h (Kinds.Desk message.kind) u.code
 

@@ -1,5 +1,6 @@
 -- A walk over the fields of a part finds the first value of each identifier.
-use Rattle.std.proofs.Common.{◌≡◌, ℕ, Bool, true, false, cond, List, ◌∷◌, Option, None, Some, ◌∙◌, refl, sym, ap, if◌then◌else◌}
+use Rattle.std.proofs.Common.{◌≡◌, ℕ, Bool, true, false, cond, List, ◌∷◌, Option, None, Some, ◌∙◌, refl, sym}
+use Rattle.std.proofs.Common.{ap, if◌then◌else◌}
 use Rattle.std.specs.List.{find}
 use Rattle.std.specs.Option.{option_map}
 use Rattle.hd_field.specs.Fields.{Occurrence, has_code}
@@ -24,7 +25,8 @@ passed code o os (Some value) = refl
 passed code o os None = by_test code o os (has_code code o)
 
 -- and what is found in the end stays the same
-pub still : (code : List ℕ) (o : Occurrence) (before os : List Occurrence) (value after whole : Option (List ℕ)) →
-    before ≡ o ∷ os → after ≡ value_after code o value → or_among value code before ≡ whole → or_among after code os ≡ whole
+pub still : (code : List ℕ) (o : Occurrence) (before os : List Occurrence)
+    (value after whole : Option (List ℕ)) → before ≡ o ∷ os → after ≡ value_after code o value
+    → or_among value code before ≡ whole → or_among after code os ≡ whole
 still code o before os value after whole moved h g =
     ap (λ v. or_among v code os) h ∙ passed code o os value ∙ ap (or_among value code) (sym moved) ∙ g

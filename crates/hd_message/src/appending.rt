@@ -111,10 +111,10 @@ pub(crate) fn put_field<A: Allocator>(
     ensures capacity { vec_capacity out.old ≤ vec_capacity out.new }
 {
     out.reserve(value.len() + 3)?;
-    out.push(code[0]).unwrap();
-    out.push(code[1]).unwrap();
+    out.push_reserved(code[0]);
+    out.push_reserved(code[1]);
     out.extend_from_slice(value).unwrap();
-    out.push(b'|').unwrap();
+    out.push_reserved(b'|');
     Ok(())
 }
 
@@ -133,11 +133,11 @@ fn put_joined<A: Allocator>(
     ensures capacity { vec_capacity out.old ≤ vec_capacity out.new }
 {
     out.reserve(text.len() + rest.len() + 3)?;
-    out.push(code[0]).unwrap();
-    out.push(code[1]).unwrap();
+    out.push_reserved(code[0]);
+    out.push_reserved(code[1]);
     out.extend_from_slice(text).unwrap();
     out.extend_from_slice(rest).unwrap();
-    out.push(b'|').unwrap();
+    out.push_reserved(b'|');
     Ok(())
 }
 

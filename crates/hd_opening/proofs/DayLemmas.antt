@@ -1,6 +1,8 @@
 -- Days as eight digits.
-use Rattle.std.proofs.Common.{◌≡◌, ℕ, ◌+◌, ◌/◌, ◌%◌, ◌<◌, ◌≤◌, Bool, true, false, List, [], ◌∷◌, length, slice_index, codes}
-use Rattle.std.proofs.Common.{zero, suc, All, ℤ, pos, ◌-ℤ◌, unsigned_abs, None, Some, refl, sym, ap, subst, ◌∙◌, arith}
+use Rattle.std.proofs.Common.{◌≡◌, ℕ, ◌+◌, ◌/◌, ◌%◌, ◌<◌, ◌≤◌, Bool, true, false, List, [], ◌∷◌, length}
+use Rattle.std.proofs.Common.{slice_index, codes}
+use Rattle.std.proofs.Common.{zero, suc, All, ℤ, pos, ◌-ℤ◌, unsigned_abs, None, Some, refl, sym, ap, subst}
+use Rattle.std.proofs.Common.{◌∙◌, arith}
 use Rattle.std.specs.Prelude.{slice_range, nat_lt, ◌&&◌, ◌==◌}
 use Rattle.std.specs.List.{list_all}
 use Rattle.std.proofs.lemmas.Bool.Decides.{nat_tests}
@@ -9,7 +11,8 @@ use Rattle.jiff_core.proofs.SignedLemmas.{signed_arith}
 use Rattle.hd_day.specs.Days.{end_of_days}
 use Rattle.hd_date.specs.Days.{IsCalendarDay, IsPrinted}
 use Rattle.hd_date.specs.Faults.{IsFirstFault}
-use Rattle.hd_date.specs.Stamps.{HasDigits, IsDigit, IsInYears, IsLocal, IsOwnPrint, IsStamp, Prints, Stamp, local_moment, numbers_in}
+use Rattle.hd_date.specs.Stamps.{HasDigits, IsDigit, IsInYears, IsLocal, IsOwnPrint, IsStamp, Prints, Stamp}
+use Rattle.hd_date.specs.Stamps.{local_moment, numbers_in}
 use Rattle.hd_date.specs.declared.fault.DateFault.{DateFault}
 use Rattle.hd_date.specs.declared.fault.DateFault.TheVariants.{Length, Digits, Zone, Calendar, Range}
 use Rattle.std.proofs.lemmas.Option.{same_Some}
@@ -20,11 +23,13 @@ use Rattle.hd_catalogue.specs.Text.{is_digit, number_written}
 -- the first eight bytes
 abbrev pub date_of : List ℕ → List ℕ
 date_of text =
-    slice_index text 0 ∷ slice_index text 1 ∷ slice_index text 2 ∷ slice_index text 3 ∷ slice_index text 4 ∷ slice_index text 5
+    slice_index text 0 ∷ slice_index text 1 ∷ slice_index text 2 ∷ slice_index text 3 ∷ slice_index text 4
+    ∷ slice_index text 5
     ∷ slice_index text 6 ∷ slice_index text 7 ∷ []
 
 -- what is printed of a day begins with its text
-pub day_printed : (day : ℕ) (text : List ℕ) → day < end_of_days → IsPrinted day (codes "235900") text → IsDayText day (date_of text)
+pub day_printed : (day : ℕ) (text : List ℕ) → day < end_of_days → IsPrinted day (codes "235900") text
+    → IsDayText day (date_of text)
 day_printed day text h p = record {
   in_years = h;
   year = p.year;
@@ -52,8 +57,8 @@ pub midnight_local : (text : List ℕ) → IsLocal (midnight_text text)
 midnight_local text = refl
 
 -- a text is of its first moment's day where that is what is printed of a stamp
-pub day_of_print : (text : List ℕ) (stamp : Stamp) → length text ≡ 8 → stamp.day < end_of_days → Prints stamp (midnight_text text)
-    → IsDayText stamp.day text
+pub day_of_print : (text : List ℕ) (stamp : Stamp) → length text ≡ 8 → stamp.day < end_of_days
+    → Prints stamp (midnight_text text) → IsDayText stamp.day text
 day_of_print text stamp size h p = record {
   in_years = h;
   year = p.year;
@@ -64,23 +69,27 @@ day_of_print text stamp size h p = record {
 }
 
 -- the number of days before a day of the calendar
-pub number_is : (year month day number : ℕ) → IsCalendarDay year month day number → day_number year month day ≡ number
+pub number_is : (year month day number : ℕ) → IsCalendarDay year month day number
+    → day_number year month day ≡ number
 unfolding day_number
 number_is year month day number c =
-    let e : days_from_civil (pos year) month day -ℤ days_from_civil (pos 0) 1 1 ≡ pos number = omega (arith, signed_arith, c.counted) in
+    let e : days_from_civil (pos year) month day -ℤ days_from_civil (pos 0) 1 1 ≡ pos number =
+    omega (arith, signed_arith, c.counted) in
     ap unsigned_abs e
 
 -- the days of a month
 month_has : (year month : ℕ) → days_in_month (pos year) month ≤ 31
 month_has year month = grind (arith, nat_tests)
 
-date_true : (year month day : ℕ) → 1 ≤ month → month ≤ 12 → 1 ≤ day → day ≤ days_in_month (pos year) month → is_date year month day ≡ true
+date_true : (year month day : ℕ) → 1 ≤ month → month ≤ 12 → 1 ≤ day → day ≤ days_in_month (pos year) month
+    → is_date year month day ≡ true
 date_true year month day a b c d = grind (arith, nat_tests, a, b, c, d)
 
 digit_true : (n : ℕ) → n < 10 → is_digit (48 + n) ≡ true
 digit_true n h = grind (arith, nat_tests, h)
 
-four_read : (y : ℕ) → y < 10000 → number_written ((48 + y / 1000) ∷ (48 + y / 100 % 10) ∷ (48 + y / 10 % 10) ∷ (48 + y % 10) ∷ []) ≡ y
+four_read : (y : ℕ) → y < 10000
+    → number_written ((48 + y / 1000) ∷ (48 + y / 100 % 10) ∷ (48 + y / 10 % 10) ∷ (48 + y % 10) ∷ []) ≡ y
 four_read y h = omega (arith, h)
 
 two_read : (n : ℕ) → n < 100 → number_written ((48 + n / 10) ∷ (48 + n % 10) ∷ []) ≡ n
@@ -124,10 +133,12 @@ day_read number text p =
     ) refl
 
 -- a text whose first moment shows a stamp writes the stamp's day
-pub day_shown : ((text : List ℕ) → IsLocal text → IsOwnPrint text) → (text moment : List ℕ) (offset : ℤ) (stamp : Stamp) (day : ℕ)
-    → moment ≡ midnight_text text → length text ≡ 8 → IsStamp moment offset stamp → day ≡ stamp.day → day_written text ≡ Some day
+pub day_shown : ((text : List ℕ) → IsLocal text → IsOwnPrint text)
+    → (text moment : List ℕ) (offset : ℤ) (stamp : Stamp) (day : ℕ) → moment ≡ midnight_text text
+    → length text ≡ 8 → IsStamp moment offset stamp → day ≡ stamp.day → day_written text ≡ Some day
 day_shown own text moment offset stamp day is size shows same =
-    let here : IsStamp (midnight_text text) offset stamp = subst (λ (t : List ℕ). IsStamp t offset stamp) is shows in
+    let here : IsStamp (midnight_text text) offset stamp =
+    subst (λ (t : List ℕ). IsStamp t offset stamp) is shows in
     let print = own (midnight_text text) (midnight_local text) offset stamp here in
     day_read stamp.day text (day_of_print text stamp size here.day print) ∙ ap Some (sym same)
 
@@ -138,8 +149,10 @@ both_true false b h = cc
 -- what eight digits write is a day of the calendar
 pub record Writes (text : List ℕ) (number : ℕ) : Type 0 where
   pub digits : list_all is_digit text ≡ true
-  pub date : is_date (number_written (slice_range text 0 4)) (number_written (slice_range text 4 6)) (number_written (slice_range text 6 8)) ≡ true
-  pub counted : day_number (number_written (slice_range text 0 4)) (number_written (slice_range text 4 6)) (number_written (slice_range text 6 8)) ≡ number
+  pub date : is_date (number_written (slice_range text 0 4)) (number_written (slice_range text 4 6))
+      (number_written (slice_range text 6 8)) ≡ true
+  pub counted : day_number (number_written (slice_range text 0 4)) (number_written (slice_range text 4 6))
+      (number_written (slice_range text 6 8)) ≡ number
   pub below : number < end_of_days
 
 writes : (text : List ℕ) (number : ℕ) → day_written text ≡ Some number → Writes text number
@@ -211,7 +224,8 @@ module _ (a b c d e f g i : ℕ) where
       omega (arith, p.0, p.1, q.0, q.1, r.0, r.1, s.0, s.1)
 
   -- a day's text is read
-  no_fault : (number : ℕ) (offset : ℤ) (fault : DateFault) → Writes bytes number → IsFirstFault (midnight_text bytes) offset fault → ⊥
+  no_fault : (number : ℕ) (offset : ℤ) (fault : DateFault) → Writes bytes number
+      → IsFirstFault (midnight_text bytes) offset fault → ⊥
   no_fault number offset Length w h = h refl
   no_fault number offset Digits w h = h.1 (has_digits w.digits)
   no_fault number offset Zone w h = differ h.2
@@ -233,14 +247,16 @@ module _ (a b c d e f g i : ℕ) where
       let here = same_Some _ _ h.states.formed.stated in
       let same : number ≡ h.number = sym w.counted ∙ number_is _ _ _ h.number h.states.shows in
       let below : h.number < end_of_days = subst (λ n. n < end_of_days) same w.below in
-      h.outside (subst (λ z. IsInYears (local_moment h.number 0 z offset)) here (omega (arith, signed_arith), omega (arith, signed_arith, below)))
+      h.outside (subst (λ z. IsInYears (local_moment h.number 0 z offset)) here
+      (omega (arith, signed_arith), omega (arith, signed_arith, below)))
 
 -- a text whose first moment has a fault writes no day
-pub no_day : (text moment : List ℕ) (offset : ℤ) (fault : DateFault) → moment ≡ midnight_text text → length text ≡ 8
-    → IsFirstFault moment offset fault → day_written text ≡ None
+pub no_day : (text moment : List ℕ) (offset : ℤ) (fault : DateFault) → moment ≡ midnight_text text
+    → length text ≡ 8 → IsFirstFault moment offset fault → day_written text ≡ None
 no_day text moment offset fault is size f = no_number (day_written text) (λ n h.
     let all = eight text size in
-    no_fault (slice_index text 0) (slice_index text 1) (slice_index text 2) (slice_index text 3) (slice_index text 4) (slice_index text 5)
+    no_fault (slice_index text 0) (slice_index text 1) (slice_index text 2) (slice_index text 3)
+    (slice_index text 4) (slice_index text 5)
     (slice_index text 6) (slice_index text 7) n offset fault
     (subst (λ (t : List ℕ). Writes t n) all (writes text n h))
     (subst (λ (t : List ℕ). IsFirstFault t offset fault) is f))

@@ -1,12 +1,14 @@
 -- Numbers in decimal digits.
-use Rattle.std.proofs.Common.{◌≡◌, ℕ, ◌+◌, ◌-◌, ◌*◌, ◌<◌, ◌≤◌, ◌^◌, zero, suc, Bool, true, false, length, fold, decimal, Some, refl, ap}
+use Rattle.std.proofs.Common.{◌≡◌, ℕ, ◌+◌, ◌-◌, ◌*◌, ◌<◌, ◌≤◌, ◌^◌, zero, suc, Bool, true, false, length}
+use Rattle.std.proofs.Common.{fold, decimal, Some, refl, ap}
 use Rattle.std.proofs.Common.{arith, lit<, slice_index}
 use Rattle.std.specs.Prelude.{nat_le, nat_lt, not, ◌&&◌, ◌||◌, ◌==◌}
 use Rattle.std.specs.List.{list_all}
 use Rattle.std.specs.Int.{IsInRange}
 use Rattle.std.proofs.lemmas.Bool.Decides.{nat_tests}
 use Rattle.std.proofs.lemmas.Str.Parse.{FoldsDigits, IsDigitsTest, IsNumeralModel, numerals_by_fold}
-use Rattle.std.proofs.lemmas.Fmt.{decimal_digit, decimal_nonempty, digits_decimal, digits_value-decimal, first_decimal, length-decimal-le}
+use Rattle.std.proofs.lemmas.Fmt.{decimal_digit, decimal_nonempty, digits_decimal, digits_value-decimal}
+use Rattle.std.proofs.lemmas.Fmt.{first_decimal, length-decimal-le}
 use Rattle.hd_catalogue.specs.Text.{is_digit, number_to, number_written}
 
 pub both_true : (a b : Bool) → (a && b) ≡ true → (a ≡ true) × (b ≡ true)
@@ -33,7 +35,8 @@ folds_digits = record {
 }
 
 own : IsNumeralModel (λ ds. list_all is_digit ds ≡ true) number_written
-own = numerals_by_fold (λ ds. list_all is_digit ds ≡ true) tells_digits (λ n ds. fold (λ m d. 10 * m + (d - 48)) n ds) folds_digits
+own = numerals_by_fold (λ ds. list_all is_digit ds ≡ true) tells_digits
+    (λ n ds. fold (λ m d. 10 * m + (d - 48)) n ds) folds_digits
 
 -- a number below a billion is written in digits
 pub digits_are : (n : ℕ) → n ≤ 999_999_999 → list_all is_digit (decimal n) ≡ true
@@ -42,10 +45,12 @@ digits_are n h = digits_decimal own n (omega (arith, h))
 pub digits_few : (n : ℕ) → n ≤ 999_999_999 → length (decimal n) ≤ 9
 digits_few n h = length-decimal-le 9 n (lit< tt) (omega (arith, h)) (omega (arith, h))
 
-no_nought : (n : ℕ) → n ≤ 999_999_999 → ((length (decimal n) == 1) || not (slice_index (decimal n) 0 == 48)) ≡ true
+no_nought : (n : ℕ) → n ≤ 999_999_999
+    → ((length (decimal n) == 1) || not (slice_index (decimal n) 0 == 48)) ≡ true
 no_nought zero h = rw (decimal_digit 0 (omega arith)) refl
 no_nought (suc n) h =
-    let first : 48 < slice_index (decimal (suc n)) 0 = first_decimal (suc n) (omega arith) (omega (arith, h)) in
+    let first : 48 < slice_index (decimal (suc n)) 0 =
+    first_decimal (suc n) (omega arith) (omega (arith, h)) in
     grind (arith, nat_tests, first)
 
 -- and read again

@@ -1,5 +1,6 @@
 -- Lines one after another.
-use Rattle.std.proofs.Common.{◌≡◌, ℕ, ◌+◌, List, [], ◌∷◌, ◌++◌, map, length, Ok, Err, inl, inr, refl, sym, ap, ◌∙◌, arith}
+use Rattle.std.proofs.Common.{◌≡◌, ℕ, ◌+◌, List, [], ◌∷◌, ◌++◌, map, length, Ok, Err, inl, inr, refl, sym, ap}
+use Rattle.std.proofs.Common.{◌∙◌, arith}
 use Rattle.std.proofs.Common.{append_assoc, length-append}
 use Rattle.std.proofs.lemmas.List.{append-nil, length-map, map_push}
 use Rattle.hd_rules.specs.declared.rows.OpeningRow.{OpeningRow}
@@ -8,8 +9,10 @@ use Rattle.hd_opening.specs.Files.{IsFirstBad, Names, SayRows, Tells}
 use Rattle.hd_opening.specs.Lines.{first_said, row_said}
 use Rattle.hd_opening.specs.declared.cause.OpeningCause.{OpeningCause}
 
--- The first line tells the last number, the lines before those that are left say these rows, and the number is that of the last of them.
-pub record HasRead (k : Contents) (digest : List ℕ) (all : List (List ℕ)) (last number : ℕ) (rows : List OpeningRow) (left : List (List ℕ)) : Type 0 where
+-- The first line tells the last number, the lines before those that are left say these rows, and the number
+-- is that of the last of them.
+pub record HasRead (k : Contents) (digest : List ℕ) (all : List (List ℕ)) (last number : ℕ)
+    (rows : List OpeningRow) (left : List (List ℕ)) : Type 0 where
   pub first : List ℕ
   pub before : List (List ℕ)
   pub whole : all ≡ first ∷ before ++ left
@@ -18,8 +21,8 @@ pub record HasRead (k : Contents) (digest : List ℕ) (all : List (List ℕ)) (l
   pub counted : number ≡ length before + 1
 
 module _ (k : Contents) (digest : List ℕ) (all : List (List ℕ)) where
-  pub begun : (first : List ℕ) (left : List (List ℕ)) (last : ℕ) → all ≡ first ∷ left → first_said digest first ≡ Ok last
-      → HasRead k digest all last 1 [] left
+  pub begun : (first : List ℕ) (left : List (List ℕ)) (last : ℕ) → all ≡ first ∷ left
+      → first_said digest first ≡ Ok last → HasRead k digest all last 1 [] left
   begun first left last whole heads = record {
     first = first;
     before = [];
@@ -29,12 +32,12 @@ module _ (k : Contents) (digest : List ℕ) (all : List (List ℕ)) where
     counted = omega arith;
   }
 
-  pub first_bad : (first : List ℕ) (left : List (List ℕ)) (cause : OpeningCause) → all ≡ first ∷ left → first_said digest first ≡ Err cause
-      → IsFirstBad k digest all (record { line = 1; cause = cause })
+  pub first_bad : (first : List ℕ) (left : List (List ℕ)) (cause : OpeningCause) → all ≡ first ∷ left
+      → first_said digest first ≡ Err cause → IsFirstBad k digest all (record { line = 1; cause = cause })
   first_bad first left cause whole said = inl (first, left, whole, refl, said)
 
-  pub one_more : (last number : ℕ) (rows : List OpeningRow) (line : List ℕ) (left : List (List ℕ)) (row : OpeningRow)
-      → HasRead k digest all last number rows (line ∷ left) → row_said k last line ≡ Ok row
+  pub one_more : (last number : ℕ) (rows : List OpeningRow) (line : List ℕ) (left : List (List ℕ))
+      (row : OpeningRow) → HasRead k digest all last number rows (line ∷ left) → row_said k last line ≡ Ok row
       → HasRead k digest all last (number + 1) (rows ++ row ∷ []) left
   one_more last number rows line left row h said = record {
     first = h.first;
@@ -47,7 +50,8 @@ module _ (k : Contents) (digest : List ℕ) (all : List (List ℕ)) where
     counted = omega (arith, h.counted, length-append h.before (line ∷ []));
   }
 
-  pub row_bad : (last number : ℕ) (rows : List OpeningRow) (line : List ℕ) (left : List (List ℕ)) (cause : OpeningCause)
+  pub row_bad : (last number : ℕ) (rows : List OpeningRow)
+      (line : List ℕ) (left : List (List ℕ)) (cause : OpeningCause)
       → HasRead k digest all last number rows (line ∷ left) → Names (row_said k last line) cause
       → IsFirstBad k digest all (record { line = number + 1; cause = cause })
   row_bad last number rows line left cause h names = inr (record {
@@ -77,5 +81,6 @@ module _ (k : Contents) (digest : List ℕ) (all : List (List ℕ)) where
   -- a row for each line after the first
   pub counted : (told : OpeningRows) → Tells k digest all told → length all ≡ length told.rows + 1
   counted told h =
-      let same : length h.more ≡ length told.rows = sym (length-map h.more (row_said k told.last)) ∙ ap length h.rows ∙ length-map told.rows Ok in
+      let same : length h.more ≡ length told.rows =
+      sym (length-map h.more (row_said k told.last)) ∙ ap length h.rows ∙ length-map told.rows Ok in
       ap length h.whole ∙ omega (arith, same)

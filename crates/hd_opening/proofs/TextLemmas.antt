@@ -1,5 +1,6 @@
 -- The lines of a text that was written, and their values.
-use Rattle.std.proofs.Common.{◌≡◌, ℕ, ◌-◌, ◌*◌, ◌<◌, ◌≤◌, Bool, true, false, List, [], ◌∷◌, ◌++◌, length, All, refl, ap, ◌∙◌, arith}
+use Rattle.std.proofs.Common.{◌≡◌, ℕ, ◌-◌, ◌*◌, ◌<◌, ◌≤◌, Bool, true, false, List, [], ◌∷◌, ◌++◌, length, All}
+use Rattle.std.proofs.Common.{refl, ap, ◌∙◌, arith}
 use Rattle.std.proofs.Common.{length-append, slice_index}
 use Rattle.std.specs.Prelude.{nat_le, not, ◌&&◌, ◌==◌}
 use Rattle.std.specs.List.{list_all, slice_split}
@@ -31,7 +32,8 @@ plain_full : (b : ℕ) → is_plain b ≡ true → is_full b ≡ true
 plain_full b h = grind (arith, nat_tests, h)
 
 -- where each byte passes one test, each passes a weaker one
-pub weaker : (p q : ℕ → Bool) → ((b : ℕ) → p b ≡ true → q b ≡ true) → (bytes : List ℕ) → list_all p bytes ≡ true → list_all q bytes ≡ true
+pub weaker : (p q : ℕ → Bool) → ((b : ℕ) → p b ≡ true → q b ≡ true) → (bytes : List ℕ)
+    → list_all p bytes ≡ true → list_all q bytes ≡ true
 weaker p q f [] h = refl
 weaker p q f (b ∷ bytes) h =
     let parts = both_true (p b) _ h in
@@ -55,7 +57,8 @@ AreClean (text ∷ texts) = IsClean text × AreClean texts
 -- the values of a line are those that were written
 pub values_again : (text : List ℕ) (texts : List (List ℕ)) → list_all is_plain text ≡ true → AreClean texts
     → values_of (text ++ behind_bars texts) ≡ text ∷ texts
-values_again text [] h hs = ap values_of (append-nil text) ∙ slice_split_none (λ b. b == 124) text (no_bar text h)
+values_again text [] h hs = ap values_of (append-nil text)
+    ∙ slice_split_none (λ b. b == 124) text (no_bar text h)
 values_again text (next ∷ texts) h hs =
     slice_split_at (λ b. b == 124) text 124 (next ++ behind_bars texts) (no_bar text h) refl
     ∙ ap (λ vs. text ∷ vs) (values_again next texts hs.0.plain hs.1)
@@ -63,13 +66,18 @@ values_again text (next ∷ texts) h hs =
 -- how long the values are
 pub bars_short : (texts : List (List ℕ)) → AreClean texts → length (behind_bars texts) ≤ 65 * length texts
 bars_short [] hs = omega arith
-bars_short (text ∷ texts) hs = omega (arith, hs.0.short, bars_short texts hs.1, length-append text (behind_bars texts))
+bars_short (text ∷ texts) hs =
+    omega (arith, hs.0.short, bars_short texts hs.1, length-append text (behind_bars texts))
 
 -- and their bytes are bytes of a line
 pub bars_full : (texts : List (List ℕ)) → AreClean texts → list_all is_full (behind_bars texts) ≡ true
 bars_full [] hs = refl
 bars_full (text ∷ texts) hs =
-    rw (list_all-append is_full text (behind_bars texts), weaker is_plain is_full plain_full text hs.0.plain, bars_full texts hs.1) refl
+    rw (
+      list_all-append is_full text (behind_bars texts),
+      weaker is_plain is_full plain_full text hs.0.plain,
+      bars_full texts hs.1,
+    ) refl
 
 lines_of_parts-cons : (x : List ℕ) (parts : List (List ℕ)) → 0 < length parts
     → lines_of_parts (x ∷ parts) ≡ strip_carriage_return x ∷ lines_of_parts parts
@@ -77,9 +85,11 @@ lines_of_parts-cons x [] l = absurd (omega arith)
 lines_of_parts-cons x (y ∷ more) l = refl
 
 -- a line without a carriage return at its end
-strip_none : (b : ℕ) (line : List ℕ) → list_all is_full (b ∷ line) ≡ true → strip_carriage_return (b ∷ line) ≡ b ∷ line
+strip_none : (b : ℕ) (line : List ℕ) → list_all is_full (b ∷ line) ≡ true
+    → strip_carriage_return (b ∷ line) ≡ b ∷ line
 strip_none b line h =
-    let last : is_full (slice_index (b ∷ line) (length line)) ≡ true = AllPass-from_list_all is_full (b ∷ line) h (length line) 0 (omega arith) in
+    let last : is_full (slice_index (b ∷ line) (length line)) ≡ true =
+    AllPass-from_list_all is_full (b ∷ line) h (length line) 0 (omega arith) in
     let other : (slice_index (b ∷ line) (length line) == 13) ≡ false = grind (arith, nat_tests, last) in
     let at : length (b ∷ line) - 1 ≡ length line = omega arith in
     rw (at, other) refl
@@ -89,5 +99,6 @@ pub lines_again : (b : ℕ) (line more : List ℕ) → list_all is_full (b ∷ l
     → lines ((b ∷ line) ++ 10 ∷ more) ≡ (b ∷ line) ∷ lines more
 lines_again b line more h =
     ap lines_of_parts (slice_split_at (λ b. b == 10) (b ∷ line) 10 more (no_end (b ∷ line) h) refl)
-    ∙ lines_of_parts-cons (b ∷ line) (slice_split (λ b. b == 10) more) (omega (arith, length-slice_split (λ b. b == 10) more))
+    ∙ lines_of_parts-cons (b ∷ line) (slice_split (λ b. b == 10) more)
+    (omega (arith, length-slice_split (λ b. b == 10) more))
     ∙ ap (λ l. l ∷ lines more) (strip_none b line h)

@@ -1,9 +1,10 @@
 -- How requests are answered.
-use Rattle.std.specs.Prelude.{◌≡◌, ◌⊎◌, ◌≤◌, ℕ, Bool, true, false, List, ◌++◌, length, map, Option, Some}
-use Rattle.std.specs.Prelude.{None}
+use Rattle.std.specs.Prelude.{◌≡◌, ◌⊎◌, ◌<◌, ◌≤◌, ℕ, Bool, true, false, List, ◌++◌, length, map, Option}
+use Rattle.std.specs.Prelude.{Some, None}
 use Rattle.std.specs.List.{list_any}
 use Rattle.httparse.specs.Grammar.{HasNoRequest, ReadsRequest, RequestHead}
 use Rattle.httparse.specs.Spans.{name_and_value}
+use Rattle.hd_page.specs.declared.answering.TheConstants.{FIELDS}
 use Rattle.hd_page.specs.declared.answering.Sequel.{Sequel}
 use Rattle.hd_page.specs.declared.answering.Sequel.TheVariants.{GoOn, Stop}
 use Rattle.hd_page.specs.declared.reply.Method.{Method}
@@ -49,7 +50,8 @@ Answers shown head m a =
 abbrev pub IsUnread : Answer → Type 0
 IsUnread a = (a ≡ refusal BadRequest) ⊎ (a ≡ refusal FieldsTooLarge)
 
--- behind old one reply is written, whole: it answers the request's head, or says that none can be read
+-- behind old one reply is written, whole: it answers the request's head, or says that this has too many
+-- fields, or that none can be read
 pub record IsAnswered
     (request policy : List ℕ) (shown : Shown) (sequel : Sequel) (old new : List ℕ) : Type 0 where
   pub method : Method
@@ -57,7 +59,9 @@ pub record IsAnswered
   pub written : new ≡ old ++ reply_text policy method reply.status reply.media reply.body
   pub follows : sequel ≡ sequel_of reply.status
   pub read : (head : RequestHead) (rest : List ℕ) → ReadsRequest request head rest
-      → length head.fields ≤ 64 → Answers shown head method reply
+      → length head.fields ≤ FIELDS → Answers shown head method reply
+  pub over : (head : RequestHead) (rest : List ℕ) → ReadsRequest request head rest
+      → FIELDS < length head.fields → reply ≡ refusal FieldsTooLarge
   pub unread : HasNoRequest request → IsUnread reply
 
 -- the text of the answer to a head that is too long

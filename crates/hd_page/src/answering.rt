@@ -1,11 +1,11 @@
 //! The answer to a request.
-ghost use Rattle.std.specs.Prelude.{◌≡◌, ◌≤◌, IfOk, List, ℕ, OnOk, ◌++◌, length, map, take};
+ghost use Rattle.std.specs.Prelude.{◌≡◌, ◌<◌, ◌≤◌, IfOk, List, ℕ, OnOk, ◌++◌, length, map, take};
 ghost use Rattle.httparse.specs.Grammar.{HasNoRequest, ReadsRequest, RequestHead};
 ghost use Rattle.httparse.specs.Spans.{IsRequestWithin, header_bytes, span_bytes};
 ghost use Rattle.hd_page.specs.Answered.{IsAnswered, IsUnread, Answers, AnswersParts, sequel_of, too_long};
 ghost use Rattle.std.specs.List.{list_any};
 ghost use Rattle.hd_page.specs.Asking.{method_of, tells_body};
-ghost use Rattle.hd_page.specs.Replies.{reply_text};
+ghost use Rattle.hd_page.specs.Replies.{refusal, reply_text};
 ghost use Rattle.hd_page.specs.Seen.{seen};
 
 use crate::asking::{has_body, is_stop, method_of, refused_method};
@@ -90,6 +90,7 @@ fn reply_to_head<V: View>(
 }
 
 /// The reply to a request, and whether its body is sent.
+#[tactic(auto, using(crate::proofs::Fields::no_other_fault))]
 fn reply_to<V: View>(
     alloc: Global,
     request: &[u8],
@@ -100,6 +101,8 @@ fn reply_to<V: View>(
         → length head.fields ≤ FIELDS
         → Answers (record { page = page.now.text.now; shows = V.shows view.now; tells = V.tells view.now })
         head r.0 (seen r.1)) }
+    ensures over { IfOk result (λ r. (head : RequestHead) (rest : List ℕ) → ReadsRequest request.now head rest
+        → FIELDS < length head.fields → seen r.1 ≡ refusal Status.FieldsTooLarge) }
     ensures unread { IfOk result (λ r. HasNoRequest request.now → IsUnread (seen r.1)) }
 {
     let mut headers = [EMPTY_HEADER_SPAN; FIELDS];
@@ -115,7 +118,7 @@ fn reply_to<V: View>(
 /// A request is a head, with its empty line. What stands behind it isn't looked at.
 ///
 /// # Errors
-/// Where memory runs out. A beginning may be written then.
+/// Where memory runs out. What `out` has then isn't said.
 pub fn answer<V: View>(
     alloc: Global,
     request: &[u8],

@@ -75,10 +75,10 @@ pub trait View {
 
     /// Writes the rows of what is asked, as a JSON array.
     ///
-    /// Where nothing is written, `out` is as it was.
+    /// Where the outcome is `Unknown` or `Refused`, `out` is as it was.
     ///
     /// # Errors
-    /// Where memory runs out, or the journal is shut. A beginning may be written then.
+    /// Where memory runs out, or the journal is shut. What `out` has then isn't said.
     fn write(&self, inquiry: &Inquiry<'_>, out: &mut Vec<u8>) -> Result<Outcome, ViewFault>
         ensures { Writes (shows self.now (asked_of inquiry.now)) result out.old.items out.new.items };
 

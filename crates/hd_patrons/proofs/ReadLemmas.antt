@@ -1,21 +1,26 @@
 -- Lines one after another.
-use Rattle.std.proofs.Common.{◌≡◌, refl, sym, ◌∙◌, ap, subst, ℕ, ◌+◌, ◌==◌, Bool, true, false, not, ◌||◌, cond, is_some, is_none, Option, Some, None}
-use Rattle.std.proofs.Common.{List, [], ◌∷◌, ◌++◌, length, append_assoc, append-nil, length-append, arith, eqb-true}
+use Rattle.std.proofs.Common.{◌≡◌, refl, sym, ◌∙◌, ap, subst, ℕ, ◌+◌, ◌==◌, Bool, true, false, not, ◌||◌}
+use Rattle.std.proofs.Common.{cond, is_some, is_none, Option, Some, None}
+use Rattle.std.proofs.Common.{List, [], ◌∷◌, ◌++◌, length, append_assoc, append-nil, length-append, arith}
+use Rattle.std.proofs.Common.{eqb-true}
 use Rattle.hd_catalogue.specs.Contents.{Contents, patron_number}
 use Rattle.hd_catalogue.specs.Reading.{Names}
 use Rattle.hd_catalogue.specs.declared.cause.Cause.TheVariants.{Header, Text, Number}
 use Rattle.hd_catalogue.specs.Lines.{first_cause}
 use Rattle.hd_catalogue.specs.Text.{as_four, values_of, is_long, is_name}
 use Rattle.hd_patrons.specs.Texts.{PatronSaid, PatronTexts, is_text, said_before}
-use Rattle.hd_patrons.specs.Lines.{heading_cause, is_heading, language_written, line_cause, line_said, number_cause}
+use Rattle.hd_patrons.specs.Lines.{heading_cause, is_heading, language_written, line_cause, line_said}
+use Rattle.hd_patrons.specs.Lines.{number_cause}
 use Rattle.hd_patrons.specs.Lines.{patron_cause, values_cause}
 use Rattle.hd_patrons.specs.Files.{EachPasses, IsAccepted, IsFirstBad, cause_of, said_first, said_of}
 use Rattle.hd_patrons.specs.Stored.{Stored, is_told, texts_of}
 use Rattle.hd_patrons.specs.declared.fault.PatronsFault.{PatronsFault}
 use Rattle.hd_patrons.proofs.FileLemmas.{passes-none, passes-push}
 
--- The lines before those that are left pass, the number is that of the last of them, and what they say is in store.
-pub record HasRead (k : Contents) (all : List (List ℕ)) (stored : Stored) (number : ℕ) (left : List (List ℕ)) : Type 0 where
+-- The lines before those that are left pass, the number is that of the last of them, and what they say is in
+-- store.
+pub record HasRead (k : Contents) (all : List (List ℕ)) (stored : Stored) (number : ℕ)
+    (left : List (List ℕ)) : Type 0 where
   pub first : List ℕ
   pub before : List (List ℕ)
   pub whole : all ≡ first ∷ before ++ left
@@ -28,11 +33,13 @@ abbrev or_else : Option PatronTexts → Option PatronTexts → Option PatronText
 or_else None later = later
 or_else (Some texts) later = Some texts
 
-said_or : (said : Option PatronSaid) (p : ℕ) (a b : Option PatronTexts) → said_first said p (or_else a b) ≡ or_else (said_first said p a) b
+said_or : (said : Option PatronSaid) (p : ℕ) (a b : Option PatronTexts)
+    → said_first said p (or_else a b) ≡ or_else (said_first said p a) b
 said_or None p a b = refl
 said_or (Some said) p a b = by_patron (said.patron == p)
   where
-    by_patron : (same : Bool) → cond same (Some said.texts) (or_else a b) ≡ or_else (cond same (Some said.texts) a) b
+    by_patron : (same : Bool)
+        → cond same (Some said.texts) (or_else a b) ≡ or_else (cond same (Some said.texts) a) b
     by_patron true = refl
     by_patron false = refl
 
@@ -53,7 +60,8 @@ said_new said p old new = by_patron (said.patron == p) refl
     after None = refl
     after (Some t) = refl
 
-    by_patron : (same : Bool) → (said.patron == p) ≡ same → cond same (Some said.texts) old ≡ or_else old (cond same (Some said.texts) None)
+    by_patron : (same : Bool) → (said.patron == p) ≡ same
+        → cond same (Some said.texts) old ≡ or_else old (cond same (Some said.texts) None)
     by_patron true is = ap (λ o. or_else o (Some said.texts)) (sym (new (eqb-true said.patron p is)))
     by_patron false apart = after old
 
@@ -62,8 +70,8 @@ number_alike : (f g : ℕ → Bool) → ((p : ℕ) → f p ≡ g p) → (o : Opt
 number_alike f g same None = refl
 number_alike f g same (Some p) = rw (same p) refl
 
-patron_alike : (long : Bool) (k : Contents) (f g : ℕ → Bool) → ((p : ℕ) → f p ≡ g p) → (v : Option (List ℕ × List ℕ × List ℕ × List ℕ))
-    → patron_cause long k f v ≡ patron_cause long k g v
+patron_alike : (long : Bool) (k : Contents) (f g : ℕ → Bool) → ((p : ℕ) → f p ≡ g p)
+    → (v : Option (List ℕ × List ℕ × List ℕ × List ℕ)) → patron_cause long k f v ≡ patron_cause long k g v
 patron_alike long k f g same None = refl
 patron_alike long k f g same (Some (patron, password, language, name)) =
     ap (λ later. first_cause
@@ -71,12 +79,13 @@ patron_alike long k f g same (Some (patron, password, language, name)) =
     ∷ (is_none (language_written language), Number) ∷ []) later)
     (number_alike f g same (patron_number k patron))
 
-values_alike : (long : Bool) (k : Contents) (f g : ℕ → Bool) → ((p : ℕ) → f p ≡ g p) → (values : List (List ℕ))
-    → values_cause long k f values ≡ values_cause long k g values
+values_alike : (long : Bool) (k : Contents) (f g : ℕ → Bool) → ((p : ℕ) → f p ≡ g p)
+    → (values : List (List ℕ)) → values_cause long k f values ≡ values_cause long k g values
 values_alike long k f g same [] = refl
 values_alike long k f g same (kind ∷ values) = rw (patron_alike long k f g same (as_four values)) refl
 
-cause_alike : (k : Contents) (f g : ℕ → Bool) → ((p : ℕ) → f p ≡ g p) → (line : List ℕ) → line_cause k f line ≡ line_cause k g line
+cause_alike : (k : Contents) (f g : ℕ → Bool) → ((p : ℕ) → f p ≡ g p) → (line : List ℕ)
+    → line_cause k f line ≡ line_cause k g line
 unfolding line_cause
 cause_alike k f g same line = values_alike (is_long line) k f g same (values_of line)
 
@@ -95,8 +104,8 @@ pub heading : (line : List ℕ) → is_heading line ≡ true → heading_cause l
 heading line is = rw is refl
 
 module _ (k : Contents) (all : List (List ℕ)) where
-  pub begun : (first : List ℕ) (left : List (List ℕ)) (stored : Stored) → all ≡ first ∷ left → heading_cause first ≡ None
-      → ((p : ℕ) → texts_of stored p ≡ None) → HasRead k all stored 1 left
+  pub begun : (first : List ℕ) (left : List (List ℕ)) (stored : Stored) → all ≡ first ∷ left
+      → heading_cause first ≡ None → ((p : ℕ) → texts_of stored p ≡ None) → HasRead k all stored 1 left
   begun first left stored whole heads empty = record {
     first = first;
     before = [];
@@ -106,8 +115,8 @@ module _ (k : Contents) (all : List (List ℕ)) where
     counted = omega arith;
   }
 
-  pub first_bad : (first : List ℕ) (left : List (List ℕ)) (fault : PatronsFault) → all ≡ first ∷ left → fault.line ≡ 1
-      → Names (heading_cause first) fault.cause → IsFirstBad k all fault
+  pub first_bad : (first : List ℕ) (left : List (List ℕ)) (fault : PatronsFault) → all ≡ first ∷ left
+      → fault.line ≡ 1 → Names (heading_cause first) fault.cause → IsFirstBad k all fault
   first_bad first left fault whole number names = record {
     before = [];
     line = first;
@@ -119,29 +128,35 @@ module _ (k : Contents) (all : List (List ℕ)) where
   }
 
   -- the cause of a line by what is in store is that after the lines before it
-  same_cause : (stored : Stored) (number : ℕ) (line : List ℕ) (left : List (List ℕ)) (h : HasRead k all stored number left)
+  same_cause : (stored : Stored) (number : ℕ) (line : List ℕ)
+      (left : List (List ℕ)) (h : HasRead k all stored number left)
       → line_cause k (is_told stored) line ≡ cause_of k (h.first ∷ h.before) line
-  same_cause stored number line left h = cause_alike k (is_told stored) (λ p. is_some (said_of k h.before p)) (λ p. ap is_some (h.says p)) line
+  same_cause stored number line left h =
+      cause_alike k (is_told stored) (λ p. is_some (said_of k h.before p)) (λ p. ap is_some (h.says p)) line
 
   pub one_more : (stored new : Stored) (number : ℕ) (line : List ℕ) (left : List (List ℕ)) (said : PatronSaid)
-      → HasRead k all stored number (line ∷ left) → line_cause k (is_told stored) line ≡ None → line_said k line ≡ Some said
-      → texts_of stored said.patron ≡ None → ((p : ℕ) → texts_of new p ≡ said_before said p (texts_of stored p))
+      → HasRead k all stored number (line ∷ left) → line_cause k (is_told stored) line ≡ None
+      → line_said k line ≡ Some said → texts_of stored said.patron ≡ None
+      → ((p : ℕ) → texts_of new p ≡ said_before said p (texts_of stored p))
       → HasRead k all new (number + 1) left
   one_more stored new number line left said h passes is none added = record {
     first = h.first;
     before = h.before ++ line ∷ [];
     whole = h.whole ∙ ap (λ ls. h.first ∷ ls) (sym (append_assoc h.before (line ∷ []) left));
-    passes = passes-push k (h.first ∷ h.before) line h.passes (sym (same_cause stored number line (line ∷ left) h) ∙ passes);
+    passes = passes-push k (h.first ∷ h.before) line h.passes
+        (sym (same_cause stored number line (line ∷ left) h) ∙ passes);
     says = λ p.
-        added p ∙ said_new said p (texts_of stored p) (λ same. subst (λ (q : ℕ). texts_of stored q ≡ None) same none)
+        added p ∙ said_new said p (texts_of stored p)
+        (λ same. subst (λ (q : ℕ). texts_of stored q ≡ None) same none)
         ∙ ap (λ o. or_else o (said_before said p None)) (h.says p)
         ∙ ap (λ s. or_else (said_of k h.before p) (said_first s p None)) (sym is)
         ∙ sym (said_push k h.before line p);
     counted = omega (arith, h.counted, length-append h.before (line ∷ []));
   }
 
-  pub line_bad : (stored : Stored) (number : ℕ) (line : List ℕ) (left : List (List ℕ)) (fault : PatronsFault) → HasRead k all stored number (line ∷ left)
-      → fault.line ≡ number + 1 → Names (line_cause k (is_told stored) line) fault.cause → IsFirstBad k all fault
+  pub line_bad : (stored : Stored) (number : ℕ) (line : List ℕ) (left : List (List ℕ)) (fault : PatronsFault)
+      → HasRead k all stored number (line ∷ left) → fault.line ≡ number + 1
+      → Names (line_cause k (is_told stored) line) fault.cause → IsFirstBad k all fault
   line_bad stored number line left fault h at names = record {
     before = h.first ∷ h.before;
     line = line;

@@ -65,3 +65,12 @@ pub length_emptied : (xs : List (Option Record)) (p : ℕ) (o : Option Record) �
 length_emptied [] p o = refl
 length_emptied (x ∷ xs) zero o = refl
 length_emptied (x ∷ xs) (suc p) o = ap suc (length_emptied xs p o)
+
+-- slots behind others: a slot put, one set, one looked at, and the records that they have
+pub ruleset one_more = (more_behind, length_behind, length_pushed)
+
+pub ruleset one_set = (set_before, set_at, length_behind, length_emptied)
+
+pub ruleset one_looked_at = (get_before, get_behind)
+
+pub ruleset records_behind = (numbered_behind, length_behind, there_behind)

@@ -65,7 +65,7 @@ impl<A: Allocator> AllSlots<A> {
     }
 
     /// Puts one more slot with a record behind the others. It takes no memory.
-    #[tactic(auto, using(crate::proofs::Behind::more_behind, crate::proofs::Behind::length_behind, crate::proofs::Behind::length_pushed))]
+    #[tactic(auto, using(crate::proofs::Behind::one_more))]
     pub(crate) fn push(&mut self, new: &NewRecord<'_>)
         requires room { 0 < self.old.room }
         requires number { length self.old.items + 1 < 2 ^ 32 }
@@ -84,7 +84,7 @@ impl<A: Allocator> AllSlots<A> {
     }
 
     /// The record of a slot, the slots counted from 0.
-    #[tactic(auto, using(crate::proofs::Behind::get_before, crate::proofs::Behind::get_behind))]
+    #[tactic(auto, using(crate::proofs::Behind::one_looked_at))]
     pub(crate) fn get(&self, place: usize) -> Option<RecordView<'_>>
         ensures { result ≡ slice_index_or self.now.items place None }
     {
@@ -101,7 +101,7 @@ impl<A: Allocator> AllSlots<A> {
     }
 
     /// Takes the record of a slot out. Nothing is moved.
-    #[tactic(auto, using(crate::proofs::Behind::set_before, crate::proofs::Behind::set_at, crate::proofs::Behind::length_behind, crate::proofs::Behind::length_emptied))]
+    #[tactic(auto, using(crate::proofs::Behind::one_set))]
     pub(crate) fn empty(&mut self, place: usize)
         requires { place < length self.old.items }
         ensures items { self.new.items ≡ slice_set self.old.items place None }
@@ -114,7 +114,7 @@ impl<A: Allocator> AllSlots<A> {
     }
 
     /// Mends the record of a slot, if it has one: what it noted becomes what is found without the changes.
-    #[tactic(auto, using(crate::proofs::Behind::set_before, crate::proofs::Behind::set_at, crate::proofs::Behind::length_behind, crate::proofs::Behind::length_emptied, crate::proofs::Behind::get_before, crate::proofs::Behind::get_behind))]
+    #[tactic(auto, using(crate::proofs::Behind::one_set, crate::proofs::Behind::one_looked_at))]
     pub(crate) fn mend<B: Allocator + Copy>(
         &mut self,
         catalogue: &Catalogue<B>,

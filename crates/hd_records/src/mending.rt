@@ -5,21 +5,14 @@ ghost use Rattle.std.specs.Prelude.{◌≡◌, ◌≤◌, ◌+◌, ◌++◌, dro
 ghost use Rattle.hd_catalogue.specs.Contents.{facts_of};
 ghost use Rattle.hd_clash.specs.Counting.{EachIsSmall};
 ghost use Rattle.hd_clash.specs.Law.{EachCellIsKnown};
-ghost use Rattle.hd_clash.specs.Shift.{is_count as asks_count, shift_each};
+ghost use Rattle.hd_clash.specs.Shift.{shift_each};
 ghost use Rattle.hd_records.specs.Laid.{have_count};
 
 use crate::slots::Span;
 use hd_catalogue::Catalogue;
-use hd_clash::shift_finding;
-use hd_rules::{Change, Finding, Question};
+use hd_clash::{is_count, shift_finding};
+use hd_rules::{Change, Finding};
 use std::alloc::Allocator;
-
-/// Whether a count is noted of the question.
-fn is_count(question: &Question) -> bool
-    ensures { result ≡ asks_count question.now }
-{
-    matches!(question, Question::Room(_) | Question::OnShelf(_, _, _))
-}
 
 /// Whether a count is noted of one of the questions.
 pub(crate) fn has_count(findings: &[Finding]) -> bool

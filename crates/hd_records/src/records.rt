@@ -68,7 +68,7 @@ impl<A: Allocator> Model for Records<A> {
 
 impl<A: Allocator + Copy> Records<A> {
     /// No records, and the last number that was given before them. It takes no memory.
-    #[tactic(auto, using(crate::proofs::Behind::numbered_behind, crate::proofs::Behind::length_behind, crate::proofs::Behind::there_behind))]
+    #[tactic(auto, using(crate::proofs::Behind::records_behind))]
     pub fn new(alloc: A, before: u32) -> Records<A>
         ensures records { result.records ≡ [] }
         ensures last { result.last ≡ before }

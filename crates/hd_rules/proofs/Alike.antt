@@ -1,8 +1,10 @@
 -- Values that the test takes for one are one.
 use Rattle.std.proofs.Common.{ℕ, ◌≡◌, refl, ap, Bool, true, false, List, [], ◌∷◌, Option, Some, None}
 use Rattle.std.proofs.lemmas.Bool.{eqb-true}
-use Rattle.hd_rules.specs.Words.{Answer, Action, Cancel, Asked, Hold, HoldKind, Any, One, AtBranch, CopyState, Shelf, OnLoan, OnHoldShelf}
-use Rattle.hd_rules.specs.Words.{InTransit, Value, CopyHas, HoldHas, Refusal, Reply, LentOrRenewed, Returned, Held, Deleted, ItemView}
+use Rattle.hd_rules.specs.Words.{Answer, Action, Cancel, Asked, Hold, HoldKind, Any, One, AtBranch, CopyState}
+use Rattle.hd_rules.specs.Words.{Shelf, OnLoan, OnHoldShelf}
+use Rattle.hd_rules.specs.Words.{InTransit, Value, CopyHas, HoldHas, Refusal, Reply, LentOrRenewed, Returned}
+use Rattle.hd_rules.specs.Words.{Held, Deleted, ItemView}
 use Rattle.hd_rules.specs.Words.{TurnReply}
 use Rattle.hd_rules.specs.declared.replies.Refusal.TheVariants as refusal
 use Rattle.hd_rules.specs.declared.replies.TurnReply.TheVariants.{Done as Accepted, Refused, Cancelled, Item}
@@ -10,12 +12,14 @@ use Rattle.hd_rules.specs.declared.questions.Answer.TheVariants as answers
 use Rattle.hd_rules.specs.declared.commands.Action.TheVariants as action
 use Rattle.hd_rules.specs.declared.commands.Cancel.TheVariants as cancel
 use Rattle.hd_rules.specs.declared.turns.Asked.TheVariants as ask
-use Rattle.hd_rules.specs.Same.{same_bool, same_number, same_option, same_kind, same_hold, same_place, same_value, same_answer, same_action}
-use Rattle.hd_rules.specs.Same.{same_cancel, same_asked, same_line, same_refusal, same_reply, same_item, same_turn_reply}
+use Rattle.hd_rules.specs.Same.{same_bool, same_number, same_option, same_kind, same_hold, same_place}
+use Rattle.hd_rules.specs.Same.{same_value, same_answer, same_action}
+use Rattle.hd_rules.specs.Same.{same_cancel, same_asked, same_line, same_refusal, same_reply, same_item}
+use Rattle.hd_rules.specs.Same.{same_turn_reply}
 use Rattle.hd_rules.proofs.Tests.{and_left, and_right, number_is}
 
-option_is : {A : Type 0} (same : A → A → Bool) → ((x y : A) → same x y ≡ true → x ≡ y) → (o v : Option A) → same_option same o v ≡ true
-    → o ≡ v
+option_is : {A : Type 0} (same : A → A → Bool) → ((x y : A) → same x y ≡ true → x ≡ y) → (o v : Option A)
+    → same_option same o v ≡ true → o ≡ v
 option_is same ok None None is = refl
 option_is same ok (Some x) (Some y) is = ap Some (ok x y is)
 option_is same ok None (Some y) is = cc
@@ -42,9 +46,17 @@ hold_is g h is =
     let three = and_right _ _ two in
     let pickup : g.pickup ≡ h.pickup = number_is g.pickup h.pickup (and_left _ _ three) in
     let four = and_right _ _ three in
-    let expiry : g.expiry ≡ h.expiry = option_is same_number number_is g.expiry h.expiry (and_left _ _ four) in
+    let expiry : g.expiry ≡ h.expiry =
+    option_is same_number number_is g.expiry h.expiry (and_left _ _ four) in
     let copy : g.copy ≡ h.copy = option_is same_number number_is g.copy h.copy (and_right _ _ four) in
-    λ i. record { patron = patron i; stamp = stamp i; kind = kind i; pickup = pickup i; expiry = expiry i; copy = copy i }
+    λ i. record {
+      patron = patron i;
+      stamp = stamp i;
+      kind = kind i;
+      pickup = pickup i;
+      expiry = expiry i;
+      copy = copy i;
+    }
 
 place_is : (s t : CopyState) → same_place s t ≡ true → s ≡ t
 place_is (Shelf b) (Shelf x) is = ap Shelf (number_is b x is)
@@ -64,7 +76,8 @@ place_is (InTransit s) (InTransit t) is =
     let start : s.from ≡ t.from = number_is s.from t.from (and_left _ _ is) in
     let rest = and_right _ _ is in
     let to : s.to ≡ t.to = number_is s.to t.to (and_left _ _ rest) in
-    let patron : s.patron ≡ t.patron = option_is same_number number_is s.patron t.patron (and_right _ _ rest) in
+    let patron : s.patron ≡ t.patron =
+    option_is same_number number_is s.patron t.patron (and_right _ _ rest) in
     λ i. InTransit (record { from = start i; to = to i; patron = patron i })
 place_is (Shelf b) (OnLoan m) is = cc
 place_is (Shelf b) (OnHoldShelf t) is = cc

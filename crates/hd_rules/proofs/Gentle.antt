@@ -42,8 +42,8 @@ abbrev pub AreGentle : List Change → Type 0
 AreGentle cs = IsSingle cs ⊎ (AreMild cs × OneCopy cs)
 
 -- leaving some out keeps them gentle
-kept_or_not : (P : List Change → Type 0) (keep_it : Change → Bool) (c : Change) (cs : List Change) → P (c ∷ filter keep_it cs)
-    → P (filter keep_it cs) → P (filter keep_it (c ∷ cs))
+kept_or_not : (P : List Change → Type 0) (keep_it : Change → Bool) (c : Change) (cs : List Change)
+    → P (c ∷ filter keep_it cs) → P (filter keep_it cs) → P (filter keep_it (c ∷ cs))
 kept_or_not P keep_it c cs with_it without_it = by_test (keep_it c) refl
   where
     by_test : (b : Bool) → keep_it c ≡ b → P (filter keep_it (c ∷ cs))
@@ -52,11 +52,13 @@ kept_or_not P keep_it c cs with_it without_it = by_test (keep_it c) refl
 
 mild_filter : (keep_it : Change → Bool) (cs : List Change) → AreMild cs → AreMild (filter keep_it cs)
 mild_filter keep_it [] h = tt
-mild_filter keep_it (c ∷ cs) h = kept_or_not AreMild keep_it c cs (h.0, mild_filter keep_it cs h.1) (mild_filter keep_it cs h.1)
+mild_filter keep_it (c ∷ cs) h =
+    kept_or_not AreMild keep_it c cs (h.0, mild_filter keep_it cs h.1) (mild_filter keep_it cs h.1)
 
 holds_filter : (keep_it : Change → Bool) (cs : List Change) → AreOfHolds cs → AreOfHolds (filter keep_it cs)
 holds_filter keep_it [] h = tt
-holds_filter keep_it (c ∷ cs) h = kept_or_not AreOfHolds keep_it c cs (h.0, holds_filter keep_it cs h.1) (holds_filter keep_it cs h.1)
+holds_filter keep_it (c ∷ cs) h =
+    kept_or_not AreOfHolds keep_it c cs (h.0, holds_filter keep_it cs h.1) (holds_filter keep_it cs h.1)
 
 pub one_of_holds : (cs : List Change) → AreOfHolds cs → OneCopy cs
 one_of_holds [] h = tt
@@ -70,8 +72,8 @@ copy_filter : (keep_it : Change → Bool) (cs : List Change) → OneCopy cs → 
 copy_filter keep_it [] h = tt
 copy_filter keep_it (c ∷ cs) h = by_cell c.cell refl h (copy_filter keep_it cs)
   where
-    by_cell : (x : Cell) → c.cell ≡ x → OneCopyFirst x cs (OneCopy cs) → (OneCopy cs → OneCopy (filter keep_it cs))
-        → OneCopy (filter keep_it (c ∷ cs))
+    by_cell : (x : Cell) → c.cell ≡ x → OneCopyFirst x cs (OneCopy cs)
+        → (OneCopy cs → OneCopy (filter keep_it cs)) → OneCopy (filter keep_it (c ∷ cs))
     by_cell (CopyCell n) is holds more =
         let of : AreOfHolds (filter keep_it cs) = holds_filter keep_it cs holds in
         kept_or_not OneCopy keep_it c cs
@@ -79,7 +81,8 @@ copy_filter keep_it (c ∷ cs) h = by_cell c.cell refl h (copy_filter keep_it cs
         (one_of_holds (filter keep_it cs) of)
     by_cell (HoldCell t p) is later more =
         kept_or_not OneCopy keep_it c cs
-        (subst (λ (y : Cell). OneCopyFirst y (filter keep_it cs) (OneCopy (filter keep_it cs))) (sym is) (more later))
+        (subst (λ (y : Cell). OneCopyFirst y (filter keep_it cs) (OneCopy (filter keep_it cs))) (sym is)
+        (more later))
         (more later)
 
 single_filter : (keep_it : Change → Bool) (cs : List Change) → IsSingle cs → IsSingle (filter keep_it cs)
@@ -87,6 +90,7 @@ single_filter keep_it [] h = tt
 single_filter keep_it (c ∷ []) h = kept_or_not IsSingle keep_it c [] tt tt
 single_filter keep_it (c ∷ b ∷ cs) h = absurd h
 
-pub gentle_filter : (keep_it : Change → Bool) (cs : List Change) → AreGentle cs → AreGentle (filter keep_it cs)
+pub gentle_filter : (keep_it : Change → Bool) (cs : List Change) → AreGentle cs
+    → AreGentle (filter keep_it cs)
 gentle_filter keep_it cs (inl single) = inl (single_filter keep_it cs single)
 gentle_filter keep_it cs (inr both) = inr (mild_filter keep_it cs both.0, copy_filter keep_it cs both.1)

@@ -29,7 +29,8 @@ among_range a (suc n) x (inr h) =
 
 range_has : (a n x : ℕ) → a ≤ x → x < a + n → IsAmong x (range_with_len a n)
 range_has a zero x low high = absurd (let never : ⊥ = omega arith in never)
-range_has a (suc n) x low high = cases (first_or_later a x low) (λ later. range_has (a + 1) n x later (omega arith))
+range_has a (suc n) x low high =
+    cases (first_or_later a x low) (λ later. range_has (a + 1) n x later (omega arith))
   where
     cases : (a ≡ x) ⊎ (a + 1 ≤ x) → (a + 1 ≤ x → IsAmong x (range_with_len (a + 1) n)) →
         IsAmong x (range_with_len a (suc n))
@@ -44,7 +45,8 @@ range_rises a (suc n) =
 pub range_more : (a n : ℕ) → range_with_len a (suc n) ≡ range_with_len a n ++ (a + n) ∷ []
 range_more a zero = ap (λ (m : ℕ). m ∷ []) (let same : a ≡ a + 0 = omega arith in same)
 range_more a (suc n) = ap (λ (ms : List ℕ). a ∷ ms) (range_more (a + 1) n
-    ∙ ap (λ (m : ℕ). range_with_len (a + 1) n ++ m ∷ []) (let same : (a + 1) + n ≡ a + suc n = omega arith in same))
+    ∙ ap (λ (m : ℕ). range_with_len (a + 1) n ++ m ∷ [])
+    (let same : (a + 1) + n ≡ a + suc n = omega arith in same))
 
 range_from_zero : (n : ℕ) → range_with_len 0 (suc n) ≡ range_with_len 0 n ++ n ∷ []
 range_from_zero n =
@@ -70,7 +72,8 @@ loans_are k d p = record {
     in_range : (c : ℕ) → c < k.copies → IsAmong c (range_with_len 0 k.copies)
     in_range c lt = range_has 0 k.copies c (omega arith) (omega arith)
 
-pub passing_counted : (test : ℕ → Bool) (n : ℕ) → length (filter test (range_with_len 0 n)) ≡ count_below test n
+pub passing_counted : (test : ℕ → Bool) (n : ℕ)
+    → length (filter test (range_with_len 0 n)) ≡ count_below test n
 passing_counted test zero = refl
 passing_counted test (suc n) =
     let split : length (filter test (range_with_len 0 (suc n)))
@@ -202,7 +205,8 @@ module _ (d : Desk) (p : ℕ) where
       back g h list (inl e) = inl e
       back g h list (inr is) = inr ((list.members h).1 is)
 
-      by_hold : (o : Option Hold) → d.hold t p ≡ o → IsListOf (IsHeldBelow t) ComesBefore (holds_below d p t) →
+      by_hold : (o : Option Hold) → d.hold t p ≡ o
+          → IsListOf (IsHeldBelow t) ComesBefore (holds_below d p t) →
           IsListOf (IsHeldBelow (suc t)) ComesBefore (with_hold_of t o (holds_below d p t))
       by_hold None none list = record {
         order = list.order;

@@ -1,5 +1,6 @@
 -- In the run without a command on which none depends, each record is the same but for what is noted.
-use Rattle.std.proofs.Common.{arith, ◌≡◌, refl, sym, ◌∙◌, ap, subst, ℕ, ◌<◌, ◌≤◌, ◌⊎◌, inl, inr, Bool, true, false, not, ◌==◌, List, []}
+use Rattle.std.proofs.Common.{arith, ◌≡◌, refl, sym, ◌∙◌, ap, subst, ℕ, ◌<◌, ◌≤◌, ◌⊎◌, inl, inr, Bool, true}
+use Rattle.std.proofs.Common.{false, not, ◌==◌, List, []}
 use Rattle.std.proofs.Common.{◌∷◌}
 use Rattle.std.specs.Prelude.{nat_lt, filter}
 use Rattle.std.proofs.lemmas.Bool.{ltb-true, ltb-false}
@@ -19,18 +20,21 @@ use Rattle.hd_rules.proofs.Dependence.{otherwise_or_alike}
 use Rattle.hd_rules.proofs.Legal.{outcomes_stand}
 
 -- what passes a test is in the list, and passes
-among_filter : (test : Survivor → Bool) (x : Survivor) (ss : List Survivor) → IsAmong x (filter test ss) → IsAmong x ss × (test x ≡ true)
+among_filter : (test : Survivor → Bool) (x : Survivor) (ss : List Survivor) → IsAmong x (filter test ss)
+    → IsAmong x ss × (test x ≡ true)
 among_filter test x [] h = absurd h
 among_filter test x (s ∷ ss) h = by_test (test s) refl (among_filter test x ss)
   where
-    here : test s ≡ true → IsAmong x (s ∷ filter test ss) → (IsAmong x (filter test ss) → IsAmong x ss × (test x ≡ true))
-        → IsAmong x (s ∷ ss) × (test x ≡ true)
+    here : test s ≡ true → IsAmong x (s ∷ filter test ss)
+        → (IsAmong x (filter test ss) → IsAmong x ss × (test x ≡ true)) → IsAmong x (s ∷ ss) × (test x ≡ true)
     here is (inl e) more = (inl e, ap test e ∙ is)
     here is (inr later) more = let r : IsAmong x ss × (test x ≡ true) = more later in (inr r.0, r.1)
 
-    by_test : (b : Bool) → test s ≡ b → (IsAmong x (filter test ss) → IsAmong x ss × (test x ≡ true)) → IsAmong x (s ∷ ss) × (test x ≡ true)
+    by_test : (b : Bool) → test s ≡ b → (IsAmong x (filter test ss) → IsAmong x ss × (test x ≡ true))
+        → IsAmong x (s ∷ ss) × (test x ≡ true)
     by_test true is more = here is (subst (IsAmong x) (keeps test s ss is) h) more
-    by_test false is more = let r : IsAmong x ss × (test x ≡ true) = more (subst (IsAmong x) (drops test s ss is) h) in (inr r.0, r.1)
+    by_test false is more = let r : IsAmong x ss × (test x ≡ true) =
+        more (subst (IsAmong x) (drops test s ss is) h) in (inr r.0, r.1)
 
 -- a number that none of them has
 less_none : (n : ℕ) (ss : List Survivor) → ((x : Survivor) → IsAmong x ss → x.number ≡ n → ⊥) → less n ss ≡ ss
@@ -47,30 +51,36 @@ noted_same k d e (q ∷ qs) = ap (λ (fs : List Finding). findings_first k e q f
     findings_first k e q fs = record { question = q; noted = note k e q } ∷ fs
 
 -- a survivor asks the same in the run without the command
-asks_stand : (k : Facts) (ss : List Survivor) (c s : Survivor) → NoneDepends k ss c → IsAmong s ss → (s.number ≡ c.number → ⊥)
-    → asks k (run k (before s.number ss)) (plan k s.number s.command)
+asks_stand : (k : Facts) (ss : List Survivor) (c s : Survivor) → NoneDepends k ss c → IsAmong s ss
+    → (s.number ≡ c.number → ⊥) → asks k (run k (before s.number ss)) (plan k s.number s.command)
     ≡ asks k (run k (before s.number (less c.number ss))) (plan k s.number s.command)
 asks_stand k ss c s none among other =
     by_order (nat_lt c.number s.number) refl
-    ∙ ap (λ (xs : List Survivor). asks k (run k xs) (plan k s.number s.command)) (less_before c.number s.number ss)
+    ∙ ap (λ (xs : List Survivor). asks k (run k xs) (plan k s.number s.command))
+    (less_before c.number s.number ss)
   where
     those : List Survivor
     those = before s.number ss
 
     stands : AnsweredOtherwise k (run k those) (run k (less c.number those)) (plan k s.number s.command)
-        ⊎ AnsweredAlike k (run k those) (run k (less c.number those)) (plan k s.number s.command) → c.number < s.number
-        → asks k (run k those) (plan k s.number s.command) ≡ asks k (run k (less c.number those)) (plan k s.number s.command)
+        ⊎ AnsweredAlike k (run k those) (run k (less c.number those)) (plan k s.number s.command)
+        → c.number < s.number
+        → asks k (run k those) (plan k s.number s.command) ≡ asks k (run k (less c.number those))
+        (plan k s.number s.command)
     stands (inl dep) lt = absurd (none s among lt dep)
-    stands (inr alike) lt = same_asks k (run k those) (run k (less c.number those)) (plan k s.number s.command) alike
+    stands (inr alike) lt =
+        same_asks k (run k those) (run k (less c.number those)) (plan k s.number s.command) alike
 
-    by_order : (b : Bool) → nat_lt c.number s.number ≡ b
-        → asks k (run k those) (plan k s.number s.command) ≡ asks k (run k (less c.number those)) (plan k s.number s.command)
+    by_order : (b : Bool) → nat_lt c.number s.number ≡ b → asks k (run k those)
+        (plan k s.number s.command) ≡ asks k (run k (less c.number those)) (plan k s.number s.command)
     by_order true is =
         stands (otherwise_or_alike k (run k those) (run k (less c.number those)) (plan k s.number s.command))
         (ltb-true c.number s.number is)
     by_order false is =
-        ap (λ (xs : List Survivor). asks k (run k xs) (plan k s.number s.command)) (sym (less_none c.number those (λ x h same.
-        let low : x.number < s.number = ltb-true x.number s.number (among_filter (λ (y : Survivor). nat_lt y.number s.number) x ss h).1 in
+        ap (λ (xs : List Survivor). asks k (run k xs) (plan k s.number s.command))
+        (sym (less_none c.number those (λ x h same.
+        let low : x.number < s.number =
+        ltb-true x.number s.number (among_filter (λ (y : Survivor). nat_lt y.number s.number) x ss h).1 in
         let up : s.number ≤ c.number = ltb-false c.number s.number is in
         (let no_ : ⊥ = omega arith in no_))))
 
@@ -81,7 +91,8 @@ other_of m n is e = by_test (m == n) refl is
     by_test true same is = cc
     by_test false same is = number_not m n same e
 
-pub records_stand : (k : Facts) (ss : List Survivor) (c : Survivor) → Rising (first_number k) ss → IsAmong c ss → NoneDepends k ss c
+pub records_stand : (k : Facts) (ss : List Survivor) (c : Survivor)
+    → Rising (first_number k) ss → IsAmong c ss → NoneDepends k ss c
     → (s : Survivor) (r : Record) → IsAmong s (less c.number ss) → IsRecord k ss s r
     → IsRecord k (less c.number ss) s (mended_record k (run k (before s.number (less c.number ss))) r)
 records_stand k ss c rising in_c none s r among is =

@@ -7,7 +7,8 @@ use Rattle.hd_rules.proofs.Filters.{in_filter}
 
 module _ {A : Type 0} (Before : A → A → Type 0) where
   -- what passes a test stays in order
-  pub filter_order : (test : A → Bool) (xs : List A) → AreInOrder Before xs → AreInOrder Before (filter test xs)
+  pub filter_order : (test : A → Bool) (xs : List A) → AreInOrder Before xs
+      → AreInOrder Before (filter test xs)
   filter_order test [] order = tt
   filter_order test (x ∷ xs) order = by_test (test x) (filter_order test xs order.1)
     where

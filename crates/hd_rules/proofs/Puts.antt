@@ -9,7 +9,8 @@ other_hold t u p q is e f =
     both_true _ _ (eq-eqb t u (ap (λ (y : ℕ). y) e)) (eq-eqb p q (ap (λ (y : ℕ). y) f)) in cc
 
 -- what the copy c, or another, has after c gets the value s
-pub copy_cases : (P : CopyState → Type 0) (c x : ℕ) (s v : CopyState) → (c ≡ x → P s) → ((c == x) ≡ false → P v) → P (cond (c == x) s v)
+pub copy_cases : (P : CopyState → Type 0) (c x : ℕ) (s v : CopyState) → (c ≡ x → P s)
+    → ((c == x) ≡ false → P v) → P (cond (c == x) s v)
 copy_cases P c x s v here there = by_test (c == x) refl
   where
     by_test : (b : Bool) → (c == x) ≡ b → P (cond b s v)

@@ -1,5 +1,6 @@
 -- A legal run, split at one of its commands.
-use Rattle.std.proofs.Common.{arith, ◌≡◌, refl, sym, ◌∙◌, ap, subst, ℕ, ◌+◌, ◌<◌, ◌≤◌, ◌⊎◌, inl, inr, Bool, true, false, not, ◌==◌, eq-eqb}
+use Rattle.std.proofs.Common.{arith, ◌≡◌, refl, sym, ◌∙◌, ap, subst, ℕ, ◌+◌, ◌<◌, ◌≤◌, ◌⊎◌, inl, inr, Bool}
+use Rattle.std.proofs.Common.{true, false, not, ◌==◌, eq-eqb}
 use Rattle.std.proofs.Common.{List, [], ◌∷◌, ◌++◌}
 use Rattle.std.specs.Prelude.{nat_lt, filter}
 use Rattle.std.proofs.lemmas.Bool.{lt-ltb, le-ltb}
@@ -9,10 +10,12 @@ use Rattle.hd_rules.specs.Run.{IsAmong, Rising}
 use Rattle.hd_rules.specs.Depends.{before, less}
 use Rattle.hd_rules.proofs.Tests.{other_number}
 
-pub keeps : {A : Type 0} (test : A → Bool) (x : A) (xs : List A) → test x ≡ true → filter test (x ∷ xs) ≡ x ∷ filter test xs
+pub keeps : {A : Type 0} (test : A → Bool) (x : A) (xs : List A) → test x ≡ true
+    → filter test (x ∷ xs) ≡ x ∷ filter test xs
 keeps test x xs is = rw is refl
 
-pub drops : {A : Type 0} (test : A → Bool) (x : A) (xs : List A) → test x ≡ false → filter test (x ∷ xs) ≡ filter test xs
+pub drops : {A : Type 0} (test : A → Bool) (x : A) (xs : List A) → test x ≡ false
+    → filter test (x ∷ xs) ≡ filter test xs
 drops test x xs is = rw is refl
 
 -- one after another, in two parts
@@ -47,14 +50,15 @@ among_split x (y ∷ xs) (inr h) =
     record { older = y ∷ rest.older; newer = rest.newer; is = ap (λ (zs : List Survivor). y ∷ zs) rest.is }
 
 -- numbers rise
-pub rising_at : (n : ℕ) (older : List Survivor) (c : Survivor) (newer : List Survivor) → Rising n (older ++ c ∷ newer) → n ≤ c.number
+pub rising_at : (n : ℕ) (older : List Survivor) (c : Survivor) (newer : List Survivor)
+    → Rising n (older ++ c ∷ newer) → n ≤ c.number
 rising_at n [] c newer rising = rising.0
 rising_at n (s ∷ ss) c newer rising =
     let up : s.number + 1 ≤ c.number = rising_at (s.number + 1) ss c newer rising.1 in
     let low : n ≤ s.number = rising.0 in omega arith
 
-pub rising_after : (n : ℕ) (older : List Survivor) (c : Survivor) (newer : List Survivor) → Rising n (older ++ c ∷ newer)
-    → Rising (c.number + 1) newer
+pub rising_after : (n : ℕ) (older : List Survivor) (c : Survivor) (newer : List Survivor)
+    → Rising n (older ++ c ∷ newer) → Rising (c.number + 1) newer
 rising_after n [] c newer rising = rising.1
 rising_after n (s ∷ ss) c newer rising = rising_after (s.number + 1) ss c newer rising.1
 
@@ -69,8 +73,8 @@ above n d (s ∷ ss) rising (inr h) =
     let up : s.number + 1 ≤ d.number = above (s.number + 1) d ss rising.1 h in
     let low : n ≤ s.number = rising.0 in omega arith
 
-pub below : (n : ℕ) (older : List Survivor) (c : Survivor) (newer : List Survivor) (d : Survivor) → Rising n (older ++ c ∷ newer)
-    → IsAmong d older → d.number < c.number
+pub below : (n : ℕ) (older : List Survivor) (c : Survivor) (newer : List Survivor) (d : Survivor)
+    → Rising n (older ++ c ∷ newer) → IsAmong d older → d.number < c.number
 below n [] c newer d rising h = absurd h
 below n (s ∷ ss) c newer d rising (inl e) =
     let up : s.number + 1 ≤ c.number = rising_at (s.number + 1) ss c newer rising.1 in
@@ -78,13 +82,15 @@ below n (s ∷ ss) c newer d rising (inl e) =
 below n (s ∷ ss) c newer d rising (inr h) = below (s.number + 1) ss c newer d rising.1 h
 
 -- a survivor with a larger number is among the newer ones
-pub among_newer : (n : ℕ) (older : List Survivor) (c : Survivor) (newer : List Survivor) (d : Survivor) → Rising n (older ++ c ∷ newer)
-    → IsAmong d (older ++ c ∷ newer) → c.number < d.number → IsAmong d newer
+pub among_newer : (n : ℕ) (older : List Survivor) (c : Survivor) (newer : List Survivor) (d : Survivor)
+    → Rising n (older ++ c ∷ newer) → IsAmong d (older ++ c ∷ newer) → c.number < d.number → IsAmong d newer
 among_newer n older c newer d rising h lt = cases (among_either d older (c ∷ newer) h)
   where
     cases : IsAmong d older ⊎ IsAmong d (c ∷ newer) → IsAmong d newer
-    cases (inl left) = let gt : d.number < c.number = below n older c newer d rising left in absurd (let no : ⊥ = omega arith in no)
-    cases (inr (inl e)) = let same : d.number ≡ c.number = ap (λ (x : Survivor). x.number) e in absurd (let no : ⊥ = omega arith in no)
+    cases (inl left) = let gt : d.number < c.number = below n older c newer d rising left in
+        absurd (let no : ⊥ = omega arith in no)
+    cases (inr (inl e)) = let same : d.number ≡ c.number = ap (λ (x : Survivor). x.number) e in
+        absurd (let no : ⊥ = omega arith in no)
     cases (inr (inr right)) = right
 
 -- those before the command where it is split
@@ -95,14 +101,15 @@ before_none n m (s ∷ ss) rising le =
     let rest : before n ss ≡ [] = before_none n (s.number + 1) ss rising.1 (omega arith) in
     drops (λ (x : Survivor). nat_lt x.number n) s ss (le-ltb s.number n (omega arith)) ∙ rest
 
-pub before_split : (n : ℕ) (older : List Survivor) (c : Survivor) (newer : List Survivor) → Rising n (older ++ c ∷ newer)
-    → before c.number (older ++ c ∷ newer) ≡ older
+pub before_split : (n : ℕ) (older : List Survivor) (c : Survivor) (newer : List Survivor)
+    → Rising n (older ++ c ∷ newer) → before c.number (older ++ c ∷ newer) ≡ older
 before_split n [] c newer rising =
     drops (λ (x : Survivor). nat_lt x.number c.number) c newer (le-ltb c.number c.number (omega arith))
     ∙ before_none c.number (c.number + 1) newer rising.1 (omega arith)
 before_split n (s ∷ ss) c newer rising =
     let up : s.number + 1 ≤ c.number = rising_at (s.number + 1) ss c newer rising.1 in
-    keeps (λ (x : Survivor). nat_lt x.number c.number) s (ss ++ c ∷ newer) (lt-ltb s.number c.number (omega arith))
+    keeps (λ (x : Survivor). nat_lt x.number c.number) s (ss ++ c ∷ newer)
+    (lt-ltb s.number c.number (omega arith))
     ∙ ap (λ (xs : List Survivor). s ∷ xs) (before_split (s.number + 1) ss c newer rising.1)
 
 -- all less the command
@@ -114,8 +121,8 @@ less_above n m (s ∷ ss) rising lt =
     keeps (λ (x : Survivor). not (x.number == n)) s ss (ap not other)
     ∙ ap (λ (xs : List Survivor). s ∷ xs) (less_above n (s.number + 1) ss rising.1 (omega arith))
 
-pub less_split : (n : ℕ) (older : List Survivor) (c : Survivor) (newer : List Survivor) → Rising n (older ++ c ∷ newer)
-    → less c.number (older ++ c ∷ newer) ≡ older ++ newer
+pub less_split : (n : ℕ) (older : List Survivor) (c : Survivor) (newer : List Survivor)
+    → Rising n (older ++ c ∷ newer) → less c.number (older ++ c ∷ newer) ≡ older ++ newer
 less_split n [] c newer rising =
     drops (λ (x : Survivor). not (x.number == c.number)) c newer (ap not (eq-eqb c.number c.number refl))
     ∙ less_above c.number (c.number + 1) newer rising.1 (omega arith)
@@ -133,8 +140,8 @@ pub rising_later : (n m : ℕ) (ss : List Survivor) → n ≤ m → Rising m ss 
 rising_later n m [] le rising = tt
 rising_later n m (s ∷ ss) le rising = (let low : m ≤ s.number = rising.0 in omega arith, rising.1)
 
-pub rising_without : (n : ℕ) (older : List Survivor) (c : Survivor) (newer : List Survivor) → Rising n (older ++ c ∷ newer)
-    → Rising n (older ++ newer)
+pub rising_without : (n : ℕ) (older : List Survivor) (c : Survivor) (newer : List Survivor)
+    → Rising n (older ++ c ∷ newer) → Rising n (older ++ newer)
 rising_without n [] c newer rising =
     let low : n ≤ c.number = rising.0 in rising_later n (c.number + 1) newer (omega arith) rising.1
 rising_without n (s ∷ ss) c newer rising = (rising.0, rising_without (s.number + 1) ss c newer rising.1)
@@ -150,10 +157,12 @@ less_before m n (s ∷ ss) = cases (nat_lt s.number n) (not (s.number == m)) ref
     is_other : Survivor → Bool
     is_other x = not (x.number == m)
 
-    cases : (a b : Bool) → nat_lt s.number n ≡ a → not (s.number == m) ≡ b → less m (before n ss) ≡ before n (less m ss)
+    cases : (a b : Bool) → nat_lt s.number n ≡ a → not (s.number == m) ≡ b
+        → less m (before n ss) ≡ before n (less m ss)
         → less m (before n (s ∷ ss)) ≡ before n (less m (s ∷ ss))
     cases true true lower other rest =
-        ap (filter is_other) (keeps is_lower s ss lower) ∙ keeps is_other s (before n ss) other ∙ ap (λ (xs : List Survivor). s ∷ xs) rest
+        ap (filter is_other) (keeps is_lower s ss lower) ∙ keeps is_other s (before n ss) other
+        ∙ ap (λ (xs : List Survivor). s ∷ xs) rest
         ∙ sym (ap (filter is_lower) (keeps is_other s ss other) ∙ keeps is_lower s (less m ss) lower)
     cases true false lower same rest =
         ap (filter is_other) (keeps is_lower s ss lower) ∙ drops is_other s (before n ss) same ∙ rest
@@ -162,4 +171,5 @@ less_before m n (s ∷ ss) = cases (nat_lt s.number n) (not (s.number == m)) ref
         ap (filter is_other) (drops is_lower s ss higher) ∙ rest
         ∙ sym (ap (filter is_lower) (keeps is_other s ss other) ∙ drops is_lower s (less m ss) higher)
     cases false false higher same rest =
-        ap (filter is_other) (drops is_lower s ss higher) ∙ rest ∙ sym (ap (filter is_lower) (drops is_other s ss same))
+        ap (filter is_other) (drops is_lower s ss higher) ∙ rest
+        ∙ sym (ap (filter is_lower) (drops is_other s ss same))

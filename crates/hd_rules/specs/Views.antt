@@ -5,7 +5,8 @@ use Rattle.std.specs.Prelude.{None, option_map, if◌then◌else◌, zero, suc, 
 use Rattle.std.specs.Prelude.{filter_map, take, drop}
 use Rattle.std.specs.List.{range_with_len}
 use Rattle.hd_rules.specs.Words.{Hold, CopyState, HoldPlace, OnLoan, OnHoldShelf, TitleHold, Borrowing}
-use Rattle.hd_rules.specs.Words.{Denied, TooMany, Allowed, PatronView, Summary, HoldItems, OverdueItems, ChargedItems}
+use Rattle.hd_rules.specs.Words.{Denied, TooMany, Allowed, PatronView, Summary}
+use Rattle.hd_rules.specs.Words.{HoldItems, OverdueItems, ChargedItems}
 use Rattle.hd_rules.specs.Words.{UnavailableHolds, Empty, Wanted, ListItem, CopyItem, TitleItem}
 use Rattle.hd_rules.specs.Numbers.{CopyNo, TitleNo, PatronNo, Day, Count}
 use Rattle.hd_rules.specs.Facts.{Facts}

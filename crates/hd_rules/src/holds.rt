@@ -14,19 +14,19 @@ pub enum HoldKind {
     AtBranch,
 }
 
-/// A patron's hold of a title.
+/// A patron's hold of a title. Values are laid out as their fields are written, so the widest stands first.
 #[derive(Clone, Copy, PartialEq, Eq, Debug)]
 pub struct Hold {
-    /// Whose hold it is.
-    pub patron: PatronNo,
     /// The number of the command that added it. Holds of a title are served by rising stamps.
     pub stamp: u64,
+    /// Whose hold it is.
+    pub patron: PatronNo,
     /// The copies that it admits.
     pub kind: HoldKind,
-    /// Where its copy is fetched.
-    pub pickup: BranchNo,
     /// The last day on which it may be given a copy, if it has one.
     pub expiry: Option<Day>,
     /// The copy that is kept for it or on the way to its pickup.
     pub copy: Option<CopyNo>,
+    /// Where its copy is fetched.
+    pub pickup: BranchNo,
 }

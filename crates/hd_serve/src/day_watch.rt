@@ -6,7 +6,6 @@ ghost use Rattle.hd_serve.specs.Days.{request_date, standard_date, unreadable_da
 
 use crate::clock::present;
 use hd_date::{Day, OffsetMinutes, texts_show_one_stamp};
-use hd_exchange::Extensions;
 use hd_message::{
     PatronRequest, Profile, Reading, Request, Unreadable, UnreadablePatron, read_with,
 };
@@ -57,17 +56,6 @@ impl DayWatch {
         let is_news = self.told != Some(today);
         self.told = Some(today);
         is_news
-    }
-}
-
-/// Which messages are read, where some extensions are on, or none.
-pub(crate) fn profile_of(extensions: Option<&Extensions>) -> Profile {
-    match extensions {
-        Some(extensions) => extensions.profile(),
-        None => Profile {
-            patron_messages: false,
-            sorter_fields: false,
-        },
     }
 }
 

@@ -6,7 +6,7 @@ ghost use Rattle.hd_session.specs.Sessions.{new_session};
 
 use crate::accepting::Connection;
 use crate::answering::Answering;
-use crate::day_watch::{DayWatch, profile_of};
+use crate::day_watch::DayWatch;
 use crate::gate::{Gate, Observer};
 use crate::hearing::Hearing;
 use crate::line_feeds::LineFeeds;
@@ -19,6 +19,7 @@ use crate::surroundings::ClockAndGate;
 use crossbeam_channel::Receiver;
 use hd_attend::{AttendFault, attend};
 use hd_connection::{Fallible, Output};
+use hd_exchange::profile_of;
 use hd_field::Stream;
 use hd_hall::{Counter, Hall, House, Keeper, Seat};
 use hd_journal::{TurnFault, WriteFault};

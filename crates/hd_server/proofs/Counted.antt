@@ -7,7 +7,8 @@ counted : (n : ℕ) (ss : List Survivor) → Rising n ss → length ss + n ≤ n
 counted n [] rising = omega arith
 counted n (s ∷ ss) rising =
     let above : n ≤ s.number = rising.0 in
-    let others : length ss + (s.number + 1) ≤ next_number (s.number + 1) ss = counted (s.number + 1) ss rising.1 in
+    let others : length ss + (s.number + 1) ≤ next_number (s.number + 1) ss =
+    counted (s.number + 1) ss rising.1 in
     omega arith
 
 -- where the last number is below a bound, so is how many they are

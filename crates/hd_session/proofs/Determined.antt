@@ -299,9 +299,11 @@ module _ (asks : (k : Contents) (e : Extensions) (seat : ℕ) (now : Stamp) (log
           → IsFedAt k seat faults before now any_room h piece did next text
           → IsFedAt k seat faults before now any_room h piece did' next' text'
           → (did ≡ did') × (next ≡ next') × (text ≡ text')
-      one_piece now at turns (Some why) h piece did did' next next' text text' more more' fits fits' well well' p q =
+      one_piece now at turns (Some why) h piece did did' next next' text text' more more' fits fits'
+          well well' p q =
           (p.0 ∙ sym q.0, p.1 ∙ sym q.1, p.2 ∙ sym q.2)
-      one_piece now at turns None h piece did did' next next' text text' more more' fits fits' well well' (inl p) (inl q) =
+      one_piece now at turns None h piece did did' next next' text text' more more' fits fits' well well'
+          (inl p) (inl q) =
           let one =
           one_hearing now shows shows_one at turns (lines_in h.begun piece) h.state did did' next.state
           next'.state text text' more more'
@@ -312,9 +314,11 @@ module _ (asks : (k : Contents) (e : Extensions) (seat : ℕ) (now : Stamp) (log
                 (p.ended ∙ (ap (λ (b : Begun). end_of b.too_long) begun ∙ sym q.ended)),
             one.2,
           )
-      one_piece now at turns None h piece did did' next next' text text' more more' fits fits' well well' (inr p) q =
+      one_piece now at turns None h piece did did' next next' text text' more more' fits fits' well
+          well' (inr p) q =
           absurd (no_turn p.why (subst EndsWell p.ended well))
-      one_piece now at turns None h piece did did' next next' text text' more more' fits fits' well well' (inl p) (inr q) =
+      one_piece now at turns None h piece did did' next next' text text' more more' fits fits' well well'
+          (inl p) (inr q) =
           absurd (no_turn q.why (subst EndsWell q.ended well'))
 
       -- steps that are played one after the other
@@ -328,7 +332,8 @@ module _ (asks : (k : Contents) (e : Extensions) (seat : ℕ) (now : Stamp) (log
           (p.0 ∙ sym q.0, p.1 ∙ sym q.1)
       one_play at turns (step ∷ steps) ss ends ends' [] events' fits fits' well well' p q = absurd p
       one_play at turns (step ∷ steps) ss ends ends' (event ∷ events) [] fits fits' well well' p q = absurd q
-      one_play at turns (step ∷ steps) ss ends ends' (event ∷ events) (event' ∷ events') fits fits' well well' p q =
+      one_play at turns (step ∷ steps) ss ends ends' (event ∷ events) (event' ∷ events') fits fits'
+          well well' p q =
           let good : EndsWell p.next.ended = subst EndsWell p.ended (well zero event (omega arith)) in
           let good' : EndsWell q.next.ended = subst EndsWell q.ended (well' zero event' (omega arith)) in
           let one =

@@ -154,22 +154,29 @@ module _ (cuts : Cuts) (k : Contents) (seat : ℕ) (faults : TurnFault → Type 
       → IsFedAt k seat faults e now room h first did between text
       → IsFedAt k seat faults e' now left between second did' h' text'
       → IsFedAt k seat faults e now room h (first ++ second) (did ++ did') h' (text ++ text')
-  one_after_other (Some why) (Some then_why) room left first second did did' h between h' text text' fits leaves is next a b =
+  one_after_other (Some why) (Some then_why) room left first second did did' h between h' text text' fits
+      leaves is next a b =
       (ap₂ (λ (x y : List Deed). x ++ y) a.0 b.0, b.1 ∙ a.1, ap₂ (λ (x y : List ℕ). x ++ y) a.2 b.2)
-  one_after_other (Some why) None room left first second did did' h between h' text text' fits leaves is next a b =
+  one_after_other (Some why) None room left first second did did' h between h' text text' fits leaves
+      is next a b =
       absurd (none-some why (sym next ∙ (ap (λ (x : Hearing). x.ended) a.1 ∙ is)))
-  one_after_other None (Some why) room left first second did did' h between h' text text' fits leaves is next (inl a) b =
+  one_after_other None (Some why) room left first second did did' h between h' text text' fits leaves is
+      next (inl a) b =
       inl (rw (b.0, b.1, b.2, append-nil did, append-nil text)
       (long_then_more first second did h between text
       (long_where_ended between.begun.too_long why (sym a.ended ∙ next)) a))
-  one_after_other None (Some why) room left first second did did' h between h' text text' fits leaves is next (inr a) b =
+  one_after_other None (Some why) room left first second did did' h between h' text text' fits leaves is
+      next (inr a) b =
       inr (rw (b.0, b.1, b.2, append-nil did, append-nil text)
       (end_then_more room first second did h between text a))
-  one_after_other None None room left first second did did' h between h' text text' fits leaves is next (inl a) (inl b) =
+  one_after_other None None room left first second did did' h between h' text text' fits leaves is next
+      (inl a) (inl b) =
       inl (all_after_all first second did did' h between h' text text' a b)
-  one_after_other None None room left first second did did' h between h' text text' fits leaves is next (inl a) (inr b) =
+  one_after_other None None room left first second did did' h between h' text text' fits leaves is next
+      (inl a) (inr b) =
       inr (end_after_all room left first second did did' h between h' text text' fits leaves a b)
-  one_after_other None None room left first second did did' h between h' text text' fits leaves is next (inr a) b =
+  one_after_other None None room left first second did did' h between h' text text' fits leaves is
+      next (inr a) b =
       absurd (none-some (end.Turn a.why) (sym next ∙ a.ended))
 
   pub fed_after_fed : (room left : Room) (first second : List ℕ) (did did' : List Deed)
@@ -277,7 +284,8 @@ module _ {A O : Type 0} (office : Ghosts O A) (now : Stamp) where
       → Answers office old between o p now before h.state s → Answers office between new p q now [] s h'.state
       → IsCause (office.keeps between).contents office.faults (room_of p q) s 0 line why
       → Feeds office old new o q now h piece h'
-  feeds_until old between new o p q piece h h' s before later line why is split begun ended earlier none cause =
+  feeds_until old between new o p q piece h h' s before later line why is split begun ended earlier
+      none cause =
       let all : Answers office old new o q now before h.state h'.state =
       rw append-nil at (answers_append office now old between new o p q before [] h.state s h'.state earlier
       none) in

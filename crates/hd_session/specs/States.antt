@@ -15,8 +15,8 @@ use Rattle.hd_exchange.specs.declared.reply_kind.ReplyKind.{ReplyKind}
 use Rattle.hd_session.specs.Trailers.{last_after, send_again, text_said}
 
 -- What a session has come to: the extensions with which it was opened; the terminal as which it stands; its
--- last reply that isn't a 96, empty before any; the last sequence digit; and how many lines didn't carry the
--- digit after the one before.
+-- last reply that isn't a 96, empty before any; the last sequence digit; and how many lines carried another
+-- digit than the one after the last.
 pub record State : Type 0 where
   pub extensions : Extensions
   pub place : Option Login

@@ -84,7 +84,7 @@ impl<'e, A: Allocator + Copy> SessionState<'e, A> {
         *self.last.allocator()
     }
 
-    /// How many lines didn't carry the digit after the one before.
+    /// How many lines carried another digit than the one after the last.
     pub(crate) fn gaps(&self) -> u64
         ensures { result ≡ self.now.gaps }
     {

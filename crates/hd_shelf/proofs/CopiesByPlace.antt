@@ -9,7 +9,8 @@ pub put_here : (m : FinMap nat_cmp ℕ) (k c : ℕ) → get (insert m k c) k ≡
 put_here m k c = get-insert_number m k c k ∙ ap (λ b. cond b (Some c) (get m k)) (eq-eqb k k refl)
 
 pub put_elsewhere : (m : FinMap nat_cmp ℕ) (k c q : ℕ) → q ≢ k → get (insert m k c) q ≡ get m q
-put_elsewhere m k c q other = get-insert_number m k c q ∙ ap (λ b. cond b (Some c) (get m q)) (ne_eqb q k other)
+put_elsewhere m k c q other =
+    get-insert_number m k c q ∙ ap (λ b. cond b (Some c) (get m q)) (ne_eqb q k other)
 
 pub taken_here : (m : FinMap nat_cmp ℕ) (k : ℕ) → get (remove m k) k ≡ None
 taken_here m k = get-remove_number m k k ∙ ap (λ b. cond b None (get m k)) (eq-eqb k k refl)

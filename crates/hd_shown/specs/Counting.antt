@@ -14,7 +14,7 @@ use Rattle.hd_shown.specs.declared.state_reader.StateReader.{StateReader}
 use Rattle.hd_shown.specs.declared.tallied.TheConstants.{MOST_TALLIED}
 use Rattle.hd_shown.specs.declared.tallied.Tallied.{Tallied}
 use Rattle.hd_shown.specs.Standing.{state_of}
-use Rattle.hd_shown.specs.Tallies.{Counted, counted, counted_with, tallies_of}
+use Rattle.hd_shown.specs.Tallies.{Counted, counted, counted_with}
 
 -- the turns of these numbers, by terminal
 abbrev pub last_in : List Turn → List (Option ℕ) → TerminalNo → Option Turn
@@ -60,10 +60,7 @@ IsEnded reader state =
     (counts : Counts) × (reader.counts.counts ≡ Some counts) × (counts.turns ≤ reader.tallied.place)
     × (state ≡ state_of Well (Some counts) (Some reader.tallied.turns))
 
--- The tallies of all turns behind those that were there at the beginning, where what was counted before is of
--- these turns. That isn't told: a look shows that a journal is legal, and not that it is an earlier one that
--- has gone on.
+-- Some tallies. Which ones isn't said where a state is told: a look shows that a journal is legal, and not that
+-- it is an earlier one that has gone on. What each look adds to them *GoesOn* says.
 abbrev pub AreTallied : List Turn → Option Turns → Type 0
-AreTallied turns None = ⊥
-AreTallied turns (Some tallies) =
-    (old : Tallied) × (IsOf turns old → tallies ≡ tallies_of old.begun turns)
+AreTallied turns tallies = (some : Turns) × (tallies ≡ Some some)

@@ -133,7 +133,3 @@ module _ (begun : ℕ) (turns : List Turn) where
   abbrev pub counted : ℕ → Counted
   counted zero = none_counted
   counted (suc n) = counted_with (nat_lt begun (suc n)) (counted n) (turn_numbered turns (suc n))
-
--- The tallies of all turns behind the first so many.
-abbrev pub tallies_of : ℕ → List Turn → Turns
-tallies_of begun turns = (counted begun turns (length turns)).tallies

@@ -1,5 +1,6 @@
 -- Lemmas on lists of slots as finite maps.
-use Rattle.std.proofs.Common.{◌≡◌, ℕ, ◌+◌, ◌<◌, ◌≤◌, false, cond, ◌==◌, zero, suc, List, [], ◌∷◌, ◌++◌, Option, None, Some, refl, ap, sym}
+use Rattle.std.proofs.Common.{◌≡◌, ℕ, ◌+◌, ◌<◌, ◌≤◌, false, cond, ◌==◌, zero, suc, List, [], ◌∷◌, ◌++◌}
+use Rattle.std.proofs.Common.{Option, None, Some, refl, ap, sym}
 use Rattle.std.proofs.Common.{◌∙◌, inl, inr, arith, length, get_or, set, get_or-set_other}
 use Rattle.std.proofs.lemmas.Bool.Decides.{nat_tests, Decides-eqb}
 use Rattle.std.proofs.lemmas.Grind.{get_or-set_at}
@@ -17,24 +18,31 @@ eq_by_nat_cmp : (a b : ℕ) → eq_by_cmp nat_cmp a b ≡ (a == b)
 eq_by_nat_cmp a b = grind (arith, nat_tests)
 
 -- no entry is below the first index
-find-entries_below : {X : Type 0} (slots : List (Option X)) (n q : ℕ) → q < n → find nat_cmp q (entries_from n slots) ≡ None
+find-entries_below : {X : Type 0} (slots : List (Option X)) (n q : ℕ) → q < n
+    → find nat_cmp q (entries_from n slots) ≡ None
 find-entries_below [] n q l = refl
 find-entries_below (None ∷ slots) n q l = find-entries_below slots (n + 1) q (omega arith)
-find-entries_below (Some x ∷ slots) n q l = grind (arith, nat_tests, eq_by_nat_cmp q n, find-entries_below slots (n + 1) q)
+find-entries_below (Some x ∷ slots) n q l =
+    grind (arith, nat_tests, eq_by_nat_cmp q n, find-entries_below slots (n + 1) q)
 
 -- an entry is found where its slot has a value
-find-entries : {X : Type 0} (slots : List (Option X)) (n q : ℕ) → find nat_cmp (n + q) (entries_from n slots) ≡ get_or slots q None
+find-entries : {X : Type 0} (slots : List (Option X)) (n q : ℕ)
+    → find nat_cmp (n + q) (entries_from n slots) ≡ get_or slots q None
 find-entries [] n q = refl
 find-entries (None ∷ slots) n zero = find-entries_below slots (n + 1) (n + 0) (omega arith)
-find-entries (None ∷ slots) n (suc q) = ap (λ k. find nat_cmp k (entries_from (n + 1) slots)) (omega arith) ∙ find-entries slots (n + 1) q
+find-entries (None ∷ slots) n (suc q) = ap (λ k. find nat_cmp k (entries_from (n + 1) slots)) (omega arith)
+    ∙ find-entries slots (n + 1) q
 find-entries (Some x ∷ slots) n zero = grind (arith, nat_tests, eq_by_nat_cmp (n + 0) n)
 find-entries (Some x ∷ slots) n (suc q) =
-    let apart : eq_by_cmp nat_cmp (n + suc q) n ≡ false = grind (arith, nat_tests, eq_by_nat_cmp (n + suc q) n)
-    in rw apart (ap (λ k. find nat_cmp k (entries_from (n + 1) slots)) (omega arith) ∙ find-entries slots (n + 1) q)
+    let apart : eq_by_cmp nat_cmp (n + suc q) n ≡ false =
+    grind (arith, nat_tests, eq_by_nat_cmp (n + suc q) n)
+    in rw apart
+    (ap (λ k. find nat_cmp k (entries_from (n + 1) slots)) (omega arith) ∙ find-entries slots (n + 1) q)
 
 -- the map has what stands in the slot
 pub get-map_of : {X : Type 0} (slots : List (Option X)) (q : ℕ) → get (map_of slots) q ≡ get_or slots q None
-get-map_of slots q = get-from_entries nat_cmp_total (entries_from 0 slots) q ∙ ap (λ k. find nat_cmp k (entries_from 0 slots)) (omega arith)
+get-map_of slots q = get-from_entries nat_cmp_total (entries_from 0 slots) q
+    ∙ ap (λ k. find nat_cmp k (entries_from 0 slots)) (omega arith)
     ∙ find-entries slots 0 q
 
 -- two maps of numbers that answer alike are equal
@@ -50,14 +58,16 @@ get_or-set slots k q o l = elim (cases_Bool (q == k)) [
 ]
 
 -- a slot past the end is empty
-past : {X : Type 0} (slots : List (Option X)) (k q : ℕ) → length slots ≤ k → get_or slots q None ≡ cond (q == k) None (get_or slots q None)
+past : {X : Type 0} (slots : List (Option X)) (k q : ℕ) → length slots ≤ k
+    → get_or slots q None ≡ cond (q == k) None (get_or slots q None)
 past slots k q l = elim (cases_Bool (q == k)) [
   | inl e ↦ rw e (get_or_past slots q None (grind (arith, nat_tests, e)))
   | inr e ↦ rw e
 ]
 
 -- an empty slot at the end adds nothing
-get_or-push : {X : Type 0} (slots : List (Option X)) (q : ℕ) → get_or (slots ++ None ∷ []) q None ≡ get_or slots q None
+get_or-push : {X : Type 0} (slots : List (Option X)) (q : ℕ)
+    → get_or (slots ++ None ∷ []) q None ≡ get_or slots q None
 get_or-push [] zero = refl
 get_or-push [] (suc q) = refl
 get_or-push (o ∷ slots) zero = refl
@@ -71,13 +81,15 @@ map_of-set slots k x l =
     ∙ sym (get-insert_number _ k x q ∙ ap (cond (q == k) (Some x)) (get-map_of slots q)))
 
 -- to clear a slot is to remove
-pub map_of-clear : {X : Type 0} (slots : List (Option X)) (k : ℕ) → k < length slots → map_of (set slots k None) ≡ remove (map_of slots) k
+pub map_of-clear : {X : Type 0} (slots : List (Option X)) (k : ℕ) → k < length slots
+    → map_of (set slots k None) ≡ remove (map_of slots) k
 map_of-clear slots k l =
     same_number_map _ _ (λ q. get-map_of _ q ∙ get_or-set slots k q None l
     ∙ sym (get-remove_number _ k q ∙ ap (cond (q == k) None) (get-map_of slots q)))
 
 -- past the end nothing is there to remove
-pub map_of-past : {X : Type 0} (slots : List (Option X)) (k : ℕ) → length slots ≤ k → map_of slots ≡ remove (map_of slots) k
+pub map_of-past : {X : Type 0} (slots : List (Option X)) (k : ℕ) → length slots ≤ k
+    → map_of slots ≡ remove (map_of slots) k
 map_of-past slots k l =
     same_number_map _ _ (λ q. get-map_of slots q ∙ past slots k q l
     ∙ sym (get-remove_number _ k q ∙ ap (cond (q == k) None) (get-map_of slots q)))

@@ -1,5 +1,6 @@
 -- What sending and arriving keep, and how the copies bound for a branch follow one another.
-use Rattle.std.proofs.Common.{◌≡◌, ℕ, zero, suc, ◌+◌, ◌-◌, ◌<◌, ◌≤◌, Bool, true, cond, Option, None, Some, [], ◌∷◌, ap, refl, arith, inl}
+use Rattle.std.proofs.Common.{◌≡◌, ℕ, zero, suc, ◌+◌, ◌-◌, ◌<◌, ◌≤◌, Bool, true, cond, Option, None, Some, []}
+use Rattle.std.proofs.Common.{◌∷◌, ap, refl, arith, inl}
 use Rattle.std.proofs.Common.{inr}
 use Rattle.std.specs.Prelude.{eqb, nat_lt, ◌&&◌}
 use Rattle.std.specs.List.{filter, range_with_len, list_any}
@@ -29,12 +30,14 @@ AreCopies-empty n = record {
   known = λ copy t e. absurd (nothing_in_empty copy t e);
 }
 
-below-insert : (m : FinMap nat_cmp Transit) (n k : ℕ) (t : Transit) → AreBelow m n → k < n → AreBelow (insert m k t) n
-below-insert m n k t a small = λ copy other e. grind (arith, nat_tests, get-insert_number m k t copy, a copy other)
+below-insert : (m : FinMap nat_cmp Transit) (n k : ℕ) (t : Transit) → AreBelow m n → k < n
+    → AreBelow (insert m k t) n
+below-insert m n k t a small =
+    λ copy other e. grind (arith, nat_tests, get-insert_number m k t copy, a copy other)
 
 -- a copy with room may be sent
-pub AreCopies-insert : (m : FinMap nat_cmp Transit) (n k : ℕ) (t : Transit) → AreCopies m n → k < n → k < MOST_COPIES →
-    AreCopies (insert m k t) n
+pub AreCopies-insert : (m : FinMap nat_cmp Transit) (n k : ℕ) (t : Transit) → AreCopies m n → k < n
+    → k < MOST_COPIES → AreCopies (insert m k t) n
 AreCopies-insert m n k t a small known = record {
   below = below-insert m n k t a.below small;
   known = below-insert m MOST_COPIES k t a.known known;
@@ -56,15 +59,18 @@ filter_of-step : (p : ℕ → Bool) (first n m : ℕ) → n ≡ suc m →
 filter_of-step p first n m e = ap (λ k. filter p (range_with_len first k)) e
 
 -- the first copy is one of them or is not, and the others come after it
-pub bound_from-step : (m : FinMap nat_cmp Transit) (copies to first : ℕ) → first < copies →
-    bound_from m copies to first ≡ cond (is_bound_for to (get m first)) (first ∷ bound_from m copies to (first + 1))
-    (bound_from m copies to (first + 1))
+pub bound_from-step : (m : FinMap nat_cmp Transit) (copies to first : ℕ)
+    → first < copies → bound_from m copies to first ≡ cond (is_bound_for to (get m first))
+    (first ∷ bound_from m copies to (first + 1)) (bound_from m copies to (first + 1))
 bound_from-step m copies to first l =
-    filter_of-step (λ copy. is_bound_for to (get m copy)) first (copies - first) (copies - (first + 1)) (omega arith)
+    filter_of-step (λ copy. is_bound_for to (get m copy)) first (copies - first) (copies - (first + 1))
+    (omega arith)
 
 -- past the last copy there is none
-pub bound_from-past : (m : FinMap nat_cmp Transit) (copies to first : ℕ) → copies ≤ first → bound_from m copies to first ≡ []
-bound_from-past m copies to first l = ap (λ k. filter (λ copy. is_bound_for to (get m copy)) (range_with_len first k)) none
+pub bound_from-past : (m : FinMap nat_cmp Transit) (copies to first : ℕ) → copies ≤ first
+    → bound_from m copies to first ≡ []
+bound_from-past m copies to first l =
+    ap (λ k. filter (λ copy. is_bound_for to (get m copy)) (range_with_len first k)) none
   where
     none : copies - first ≡ 0
     none = omega arith
@@ -72,10 +78,16 @@ bound_from-past m copies to first l = ap (λ k. filter (λ copy. is_bound_for to
 -- numbers in a row rise
 rising : (first n : ℕ) → IsStrictlyIncreasing (range_with_len first n)
 rising first n =
-    λ k l. omega (arith, length-range_with_len first n, get_or-range_with_len first n k 0, get_or-range_with_len first n (k + 1) 0)
+    λ k l. omega (
+      arith,
+      length-range_with_len first n,
+      get_or-range_with_len first n k 0,
+      get_or-range_with_len first n (k + 1) 0,
+    )
 
 -- so those that are bound rise too
-pub bound_from-rising : (m : FinMap nat_cmp Transit) (copies to first : ℕ) → IsStrictlyIncreasing (bound_from m copies to first)
+pub bound_from-rising : (m : FinMap nat_cmp Transit) (copies to first : ℕ)
+    → IsStrictlyIncreasing (bound_from m copies to first)
 bound_from-rising m copies to first =
     IsStrictlyIncreasing-filter (λ copy. is_bound_for to (get m copy)) (range_with_len first (copies - first))
     (rising first (copies - first))
@@ -89,7 +101,8 @@ in_row c first (suc n) l = elim (cases_lt first c) [
 ]
 
 -- a copy that is bound for a branch has room
-bound_is_below : (m : FinMap nat_cmp Transit) (copies to c : ℕ) → AreBelow m copies → is_bound_for to (get m c) ≡ true → c < copies
+bound_is_below : (m : FinMap nat_cmp Transit) (copies to c : ℕ) → AreBelow m copies
+    → is_bound_for to (get m c) ≡ true → c < copies
 bound_is_below m copies to c below is = some (get m c) refl is
   where
     some : (o : Option Transit) → get m c ≡ o → is_bound_for to o ≡ true → c < copies
@@ -101,12 +114,15 @@ pub bound_from-exact : (m : FinMap nat_cmp Transit) (copies to c : ℕ) → AreB
     list_any (eqb c) (bound_from m copies to 0) ≡ is_bound_for to (get m c)
 bound_from-exact m copies to c below =
     let bound : Bool = is_bound_for to (get m c)
-    in let kept : list_any (eqb c) (bound_from m copies to 0) ≡ (bound && list_any (eqb c) (range_with_len 0 (copies - 0))) =
+    in let kept : list_any (eqb c) (bound_from m copies to 0)
+    ≡ (bound && list_any (eqb c) (range_with_len 0 (copies - 0))) =
     any-filter_same (eqb c) (λ copy. is_bound_for to (get m copy)) bound (λ k e. grind (arith, nat_tests))
     (range_with_len 0 (copies - 0))
-    in let row : list_any (eqb c) (range_with_len 0 (copies - 0)) ≡ nat_lt c (0 + (copies - 0)) = in_row c 0 (copies - 0) (omega arith)
+    in let row : list_any (eqb c) (range_with_len 0 (copies - 0)) ≡ nat_lt c (0 + (copies - 0)) =
+    in_row c 0 (copies - 0) (omega arith)
     in elim (cases_Bool bound) [
-      | inl is ↦ let small : c < copies = bound_is_below m copies to c below is in grind (arith, nat_tests, kept, row, is, small)
+      | inl is ↦ let small : c < copies = bound_is_below m copies to c below is in
+          grind (arith, nat_tests, kept, row, is, small)
       | inr not_bound ↦ grind (arith, nat_tests, kept, not_bound)
     ]
 

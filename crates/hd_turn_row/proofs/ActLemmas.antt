@@ -1,5 +1,5 @@
 -- Words, read back.
-use Rattle.std.proofs.Common.{◌≡◌, ℕ, Option, None, Some, List, [], ◌∷◌, refl, sym, ap, ◌∙◌, inl, inr}
+use Rattle.std.proofs.Common.{◌≡◌, ℕ, None, Some, List, [], ◌∷◌, refl, sym, ap, ◌∙◌, inl, inr}
 use Rattle.std.specs.Prelude.{bytes_eq}
 use Rattle.std.proofs.lemmas.Bool.{cases_Bool}
 use Rattle.std.proofs.lemmas.Option.{none-some}
@@ -11,8 +11,8 @@ use Rattle.hd_asked.specs.declared.act.Admits.{Admits}
 use Rattle.hd_asked.specs.declared.act.Admits.TheVariants as admitted
 
 -- what is named has the word
-named_has : {W : Type 0} (word_of : W → List ℕ) (all : List W) (word : List ℕ) (w : W) → named word_of all word ≡ Some w
-    → word ≡ word_of w
+named_has : {W : Type 0} (word_of : W → List ℕ) (all : List W) (word : List ℕ) (w : W)
+    → named word_of all word ≡ Some w → word ≡ word_of w
 named_has word_of [] word w e = absurd (none-some w e)
 named_has word_of (v ∷ vs) word w e = elim (cases_Bool (bytes_eq (word_of v) word)) [
   | inl t ↦

@@ -1,12 +1,15 @@
 -- What columns say, and their first fault.
-use Rattle.std.proofs.Common.{◌≡◌, ℕ, ◌⊎◌, Option, None, Some, List, [], ◌∷◌, refl, sym, ap, subst, ◌∙◌, inl, inr, rules}
+use Rattle.std.proofs.Common.{◌≡◌, ℕ, ◌⊎◌, Option, None, Some, List, [], ◌∷◌, refl, sym, ap, subst, ◌∙◌, inl}
+use Rattle.std.proofs.Common.{inr, rules}
 use Rattle.std.specs.Prelude.{IfSome, is_some}
 use Rattle.std.specs.List.{AllByRecursion}
 use Rattle.std.proofs.lemmas.Option.{same_Some}
-use Rattle.hd_catalogue.specs.Contents.{Contents, branch_number, copy_number, facts_of, patron_number, title_number}
+use Rattle.hd_catalogue.specs.Contents.{Contents, branch_number, copy_number, facts_of, patron_number}
+use Rattle.hd_catalogue.specs.Contents.{title_number}
 use Rattle.hd_day_text.specs.Days.{IsDayText}
 use Rattle.hd_asked.specs.Acts.{act_named, admits_named}
-use Rattle.hd_turn_row.specs.Columns.{AreKnownParts, AreShown, IsKnownIn, IsShown, Said, Says, asked_columns, day_of}
+use Rattle.hd_turn_row.specs.Columns.{AreKnownParts, AreShown, IsKnownIn, IsShown, Said, Says, asked_columns}
+use Rattle.hd_turn_row.specs.Columns.{day_of}
 use Rattle.hd_turn_row.specs.Columns.{part, text}
 use Rattle.hd_turn_row.specs.Faults.{IsFirst, IsFirstMisfit, IsReadText, misfit}
 use Rattle.hd_turn_row.specs.Grown.{OnlyGrew}
@@ -32,6 +35,10 @@ both : (P Q R : Column → Type 0) → ((c : Column) → P c → Q c → R c) �
 both P Q R all [] h g = tt
 both P Q R all (c ∷ cs) h g = (all c h.0 g.0, both P Q R all cs h.1 g.1)
 
+-- a column that holds isn't the first fault
+pub past : {A B C : Type 0} → B → C → A ⊎ (B × C)
+past holds later = inr (holds, later)
+
 -- what holds of each has no first fault
 pub none_first : (P : Column → Type 0) (fault_of : Column → RowFault) (cs : List Column) (fault : RowFault)
     → AllByRecursion P cs → IsFirst P fault_of cs fault → ⊥
@@ -50,23 +57,22 @@ shown_read : {V : Type 0} (Says : V → List ℕ → Type 0) (part : Option V) (
     → IsShown Says part text → IsReadText Says text
 shown_read Says None None h = tt
 shown_read Says (Some part) (Some text) h = (part, h)
-shown_read Says None (Some text) h = absurd h
-shown_read Says (Some part) None h = absurd h
+shown_read Says part text h = absurd h
 
 -- and shows one part, where a text says one thing
 shown_once : {V : Type 0} (Says : V → List ℕ → Type 0) (part other : Option V) (text : Option (List ℕ))
-    → ((x y : V) (t : List ℕ) → Says x t → Says y t → x ≡ y) → IsShown Says part text → IsShown Says other text
-    → part ≡ other
+    → ((x y : V) (t : List ℕ) → Says x t → Says y t → x ≡ y) → IsShown Says part text
+    → IsShown Says other text → part ≡ other
 shown_once Says None None None once h g = refl
-shown_once Says None (Some y) None once h g = absurd g
-shown_once Says (Some x) other None once h g = absurd h
-shown_once Says None other (Some text) once h g = absurd h
-shown_once Says (Some x) None (Some text) once h g = absurd g
 shown_once Says (Some x) (Some y) (Some text) once h g = ap (λ v. Some v) (once x y text h g)
+shown_once Says None (Some y) None once h g = absurd g
+shown_once Says (Some x) None (Some text) once h g = absurd g
+shown_once Says part other text once h g = absurd h
 
 -- what holds of each part that a text may say holds of the one that is shown
-shown_all : {V : Type 0} (Says : V → List ℕ → Type 0) (P : V → Type 0) (part : Option V) (text : Option (List ℕ))
-    → ((x : V) (t : List ℕ) → Says x t → P x) → IsShown Says part text → IfSome part P
+shown_all : {V : Type 0} (Says : V → List ℕ → Type 0) (P : V → Type 0) (part : Option V)
+    (text : Option (List ℕ)) → ((x : V) (t : List ℕ) → Says x t → P x) → IsShown Says part text
+    → IfSome part P
 shown_all Says P None text all h = tt
 shown_all Says P (Some part) None all h = absurd h
 shown_all Says P (Some part) (Some text) all h = all part text h
@@ -75,9 +81,8 @@ shown_all Says P (Some part) (Some text) all h = all part text h
 shown_still : {V : Type 0} (Says Still : V → List ℕ → Type 0) (part : Option V) (text : Option (List ℕ))
     → ((x : V) (t : List ℕ) → Says x t → Still x t) → IsShown Says part text → IsShown Still part text
 shown_still Says Still None None all h = tt
-shown_still Says Still None (Some text) all h = absurd h
-shown_still Says Still (Some part) None all h = absurd h
 shown_still Says Still (Some part) (Some text) all h = all part text h
+shown_still Says Still part text all h = absurd h
 
 -- the text of a day isn't empty
 day_filled : (day : Option ℕ) (text : Option (List ℕ)) → IsShown IsDayText day text
@@ -98,8 +103,8 @@ abbrev pub OneDay : Type 0
 OneDay = (text : List ℕ) (day other : ℕ) → IsDayText day text → IsDayText other text → day ≡ other
 
 -- a text says one thing
-says_once : (one : OneDay) (k : Contents) (c : Column) (x y : Said c) (t : List ℕ) → Says k c x t → Says k c y t
-    → x ≡ y
+says_once : (one : OneDay) (k : Contents) (c : Column) (x y : Said c) (t : List ℕ) → Says k c x t
+    → Says k c y t → x ≡ y
 says_once one k columns.Day x y t h g = one t x y h g
 says_once one k columns.Until x y t h g = one t x y h g
 says_once one k columns.Act x y t h g =
@@ -141,7 +146,8 @@ made act day patron copy title branch admits until = record {
   until = until;
 }
 
-pub same_parts : (p q : Parts) → AllByRecursion (λ column. part p column ≡ part q column) asked_columns → p ≡ q
+pub same_parts : (p q : Parts)
+    → AllByRecursion (λ column. part p column ≡ part q column) asked_columns → p ≡ q
 unfolding made
 same_parts p q (day, (act, (patron, (copy, (title, (branch, (admits, (until, _)))))))) =
     ap (λ x. made x p.day p.patron p.copy p.title p.branch p.admits p.until) (same_Some _ _ act)
@@ -154,10 +160,11 @@ same_parts p q (day, (act, (patron, (copy, (title, (branch, (admits, (until, _))
     ∙ ap (λ x. made q.act q.day q.patron q.copy q.title q.branch q.admits x) until
 
 -- the columns show one thing at most
-pub parts_once : (one : OneDay) (k : Contents) (row : KeptTurn) (p q : Parts) → AreShown k p row → AreShown k q row
-    → p ≡ q
+pub parts_once : (one : OneDay) (k : Contents) (row : KeptTurn) (p q : Parts) → AreShown k p row
+    → AreShown k q row → p ≡ q
 parts_once one k row p q h g =
-    same_parts p q (both _ _ _ (λ c. shown_once (Says k c) (part p c) (part q c) (text row c) (says_once one k c))
+    same_parts p q
+    (both _ _ _ (λ c. shown_once (Says k c) (part p c) (part q c) (text row c) (says_once one k c))
     asked_columns h g)
 
 -- each is read, and what it shows is known
@@ -166,7 +173,8 @@ pub shown_read_all : (k : Contents) (row : KeptTurn) (p : Parts) → AreShown k 
 shown_read_all k row p h =
     each _ _ (λ c. shown_read (Says k c) (part p c) (text row c)) asked_columns h
 
-pub shown_known : (k : Contents) (row : KeptTurn) (p : Parts) → AreShown k p row → AreKnownParts (facts_of k) p
+pub shown_known : (k : Contents) (row : KeptTurn) (p : Parts) → AreShown k p row
+    → AreKnownParts (facts_of k) p
 shown_known k row p h =
     let all : AllByRecursion (λ c. IfSome (part p c) (IsKnownIn (facts_of k) c)) asked_columns =
     each _ _ (λ c. shown_all (Says k c) (IsKnownIn (facts_of k) c) (part p c) (text row c) (says_known k c))

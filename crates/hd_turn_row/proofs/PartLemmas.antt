@@ -1,5 +1,5 @@
 -- What is asked, column by column.
-use Rattle.std.proofs.Common.{◌≡◌, ℕ, true, false, Option, None, Some, refl, sym, ap, subst, ◌∙◌}
+use Rattle.std.proofs.Common.{◌≡◌, ℕ, true, None, Some, refl, sym, ap, subst, ◌∙◌}
 use Rattle.std.proofs.lemmas.Option.{none-some, same_Some}
 use Rattle.hd_rules.specs.Facts.{Facts}
 use Rattle.hd_rules.specs.Known.{IsKnown, IsKnownAction, IsKnownCancel}
@@ -51,7 +51,8 @@ action_known : (k : Facts) (day : ℕ) (a : Action)
     → (IsKnownAction k a → AreKnownParts k (record (action_parts a) { day = Some day }))
     × (AreKnownParts k (record (action_parts a) { day = Some day }) → IsKnownAction k a)
 action_known k day (action.Checkout patron copy true) = (λ h. assumption, λ h. assumption)
-action_known k day (action.Add patron title (kind.One copy) pickup expiry) = (λ h. assumption, λ h. assumption)
+action_known k day (action.Add patron title (kind.One copy) pickup expiry) =
+    (λ h. assumption, λ h. assumption)
 action_known k day (action.Change patron title (Some (kind.One copy)) None expiry) =
     (λ h. assumption, λ h. assumption)
 action_known k day (action.Change patron title sort None expiry) = (λ h. assumption, λ h. assumption)

@@ -1,6 +1,7 @@
 -- Replies, read back from the numbers of their columns.
 use Rattle.std.proofs.Common.{◌≡◌, ℕ, zero, suc, ◌+◌, ◌^◌, ◌<◌, Bool, true, false, Option, None, Some}
-use Rattle.std.proofs.Common.{List, [], ◌∷◌, ◌++◌, drop, get_or, refl, sym, ap, subst, ◌∙◌, append_assoc, append-nil, arith}
+use Rattle.std.proofs.Common.{List, [], ◌∷◌, ◌++◌, drop, get_or, refl, sym, ap, subst, ◌∙◌, append_assoc}
+use Rattle.std.proofs.Common.{add-one, append-nil, arith}
 use Rattle.std.specs.Int.{from_be_bytes, to_be_bytes, w64}
 use Rattle.std.specs.List.{AllByRecursion}
 use Rattle.std.proofs.lemmas.Nat.{from_be_bytes-to_be_bytes_8}
@@ -56,7 +57,8 @@ numbers_once (m ∷ ms) [] h g e = absurd (no_bytes m (bytes_of ms) (sym e))
 numbers_once (m ∷ ms) (n ∷ ns) h g e =
     let same = first_same m n (bytes_of ms) (bytes_of ns) e in
     let first : m ≡ n =
-    sym (from_be_bytes-to_be_bytes_8 m h.0) ∙ ap (from_be_bytes w64) same.0 ∙ from_be_bytes-to_be_bytes_8 n g.0 in
+    sym (from_be_bytes-to_be_bytes_8 m h.0) ∙ ap (from_be_bytes w64) same.0
+    ∙ from_be_bytes-to_be_bytes_8 n g.0 in
     ap (λ (x : ℕ). x ∷ ms) first ∙ ap (λ (xs : List ℕ). n ∷ xs) (numbers_once ms ns h.1 g.1 same.1)
 
 -- what numbers say
@@ -76,7 +78,8 @@ abbrev pub state_by : ℕ → List ℕ → CopyState
 state_by zero ns = Shelf (at ns 1)
 state_by (suc zero) ns = OnLoan (record { patron = at ns 1; due = at ns 2; renewals = at ns 3 })
 state_by (suc (suc zero)) ns = OnHoldShelf (record { branch = at ns 1; place = at ns 2; patron = at ns 3 })
-state_by (suc (suc (suc n))) ns = InTransit (record { from = at ns 1; to = at ns 2; patron = number_said (at ns 3) })
+state_by (suc (suc (suc n))) ns =
+    InTransit (record { from = at ns 1; to = at ns 2; patron = number_said (at ns 3) })
 
 abbrev pub state_said : List ℕ → CopyState
 state_said ns = state_by (at ns 0) ns
@@ -125,29 +128,25 @@ truth_again : (b : Bool) → truth_said (truth_number b) ≡ b
 truth_again true = refl
 truth_again false = refl
 
-suc_of : (n : ℕ) → n + 1 ≡ suc n
-suc_of n = omega arith
-
-suc_suc_of : (n : ℕ) → n + 2 ≡ suc (suc n)
-suc_suc_of n = omega arith
-
 number_again : (o : Option ℕ) → number_said (number_if_any o) ≡ o
 number_again None = refl
-number_again (Some n) = ap number_said (suc_of n)
+number_again (Some n) = ap number_said (add-one n)
 
 kind_again : (k : HoldKind) → kind_said (kind_number k) ≡ k
 kind_again kind.Any = refl
 kind_again kind.AtBranch = refl
-kind_again (kind.One copy) = ap kind_said (suc_suc_of copy)
+kind_again (kind.One copy) = let two : copy + 2 ≡ suc (suc copy) = omega arith in ap kind_said two
 
 state_again : (s : CopyState) → state_said (state_numbers s) ≡ s
-state_again (InTransit way) = ap (λ (o : Option ℕ). InTransit (record way { patron = o })) (number_again way.patron)
+state_again (InTransit way) =
+    ap (λ (o : Option ℕ). InTransit (record way { patron = o })) (number_again way.patron)
 state_again s = refl
 
 hold_again : (h : Hold) → hold_said (hold_numbers h) ≡ h
 hold_again h =
     ap (λ (k : HoldKind). record (hold_said (hold_numbers h)) { kind = k }) (kind_again h.kind)
-    ∙ ap (λ (o : Option ℕ). record h { expiry = o; copy = number_said (number_if_any h.copy) }) (number_again h.expiry)
+    ∙ ap (λ (o : Option ℕ). record h { expiry = o; copy = number_said (number_if_any h.copy) })
+    (number_again h.expiry)
     ∙ ap (λ (o : Option ℕ). record h { copy = o }) (number_again h.copy)
 
 refusal_again : (r : Refusal) → refusal_said (refusal_number r ∷ depended_on r) ≡ r

@@ -38,8 +38,8 @@ row_known k seat message row h = (
 )
 
 -- a row with a fault is that of no message
-pub row_faulty : (one : OneDay) (k : Contents) (seat : ℕ) (message : Message) (row : KeptTurn) (fault : RowFault)
-    → IsFirstFault k row fault → IsRowOf k seat message row → ⊥
+pub row_faulty : (one : OneDay) (k : Contents) (seat : ℕ) (message : Message) (row : KeptTurn)
+    (fault : RowFault) → IsFirstFault k row fault → IsRowOf k seat message row → ⊥
 row_faulty one k seat message row fault (inl unread) h =
     let terminal : IsRead k row columns.Terminal = (message.terminal, h.terminal) in
     none_first (IsRead k row) unread_fault (columns.Terminal ∷ asked_columns) fault
@@ -47,7 +47,8 @@ row_faulty one k seat message row fault (inl unread) h =
 row_faulty one k seat message row fault (inr (parts, terminal, shown, (again, is, first))) h =
     let same : parts ≡ h.parts = parts_once one k row parts h.parts shown h.shown in
     let asks : asked_by parts ≡ message.asked = ap asked_by same ∙ asked_back message.asked h.parts h.asked in
-    let all : again ≡ parts = same_Some _ _ (sym is ∙ ap asked_parts asks ∙ h.asked ∙ ap (λ p. Some p) (sym same)) in
+    let all : again ≡ parts =
+    same_Some _ _ (sym is ∙ ap asked_parts asks ∙ h.asked ∙ ap (λ p. Some p) (sym same)) in
     fits_self parts fault (subst (λ (other : Parts). IsFirstMisfit parts other fault) all first)
 
 -- a row is that of one message at most
@@ -56,7 +57,8 @@ pub row_once : (one : OneDay) (k : Contents) (seat seat' : ℕ) (message message
 row_once one k seat seat' message message' row h g =
     let same : h.parts ≡ g.parts = parts_once one k row h.parts g.parts h.shown g.shown in
     let asked : message.asked ≡ message'.asked =
-    sym (asked_back message.asked h.parts h.asked) ∙ ap asked_by same ∙ asked_back message'.asked g.parts g.asked in
+    sym (asked_back message.asked h.parts h.asked) ∙ ap asked_by same
+    ∙ asked_back message'.asked g.parts g.asked in
     let terminal : message.terminal ≡ message'.terminal = same_Some _ _ (sym h.terminal ∙ g.terminal) in (
       sym h.seat_is ∙ g.seat_is,
       ap (λ (n : ℕ). record message { terminal = n }) terminal

@@ -1,5 +1,5 @@
 -- What parts ask, read back.
-use Rattle.std.specs.Prelude.{ℕ, true, false, Option, Some, None, option_map, unwrap_or}
+use Rattle.std.specs.Prelude.{ℕ, true, false, Option, option_map, unwrap_or}
 use Rattle.hd_asked.specs.declared.act.Act.{Act}
 use Rattle.hd_asked.specs.declared.act.Act.TheVariants as acts
 use Rattle.hd_asked.specs.declared.act.Admits.{Admits}

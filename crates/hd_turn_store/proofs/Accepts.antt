@@ -1,5 +1,5 @@
 -- What another digest does to the head, and what it commits.
-use Rattle.std.proofs.Common.{◌≡◌, ℕ, pos, List, [], ◌∷◌, map, None, Ok, Result, OnOk, refl, ap, subst, ◌∙◌}
+use Rattle.std.proofs.Common.{◌≡◌, ℕ, pos, List, [], ◌∷◌, map, None, Ok, refl, ap, subst, ◌∙◌, arith}
 use Rattle.std.specs.List.Sorted.{IsPermutation}
 use Rattle.sqlite.specs.declared.types.Value.TheVariants.{Null, Int, Blob}
 use Rattle.sqlite.specs.Order.{Row}
@@ -13,16 +13,14 @@ use Rattle.sqlite.specs.Tree.{Trees}
 use Rattle.sqlite.specs.Query.{IsAnswer, output, page, Output}
 use Rattle.sqlite.specs.Program.{overlay}
 use Rattle.sqlite.specs.Effect.{Database}
-use Rattle.sqlite.specs.declared.error.Error.{Error}
-use Rattle.sqlite.specs.State.{State, mode_of, Executes, CommitsBy}
+use Rattle.sqlite.specs.State.{State, mode_of}
 use Rattle.sqlite.proofs.Callers.{one_step, one_permutation}
 use Rattle.hd_turn_store.specs.Kept.{KeptTurn, Head, head_cells}
 use Rattle.hd_turn_store.specs.Tables.{journal_table, numbered_from, schema_with, Stores}
 use Rattle.hd_turn_store.specs.Texts.{update_head_text}
-use Rattle.hd_turn_store.specs.Holds.{Holds}
-use Rattle.hd_turn_store.proofs.Commits.{IsChange, changes, commits}
+use Rattle.hd_turn_store.proofs.Commits.{Changes}
 use Rattle.hd_turn_store.proofs.Order.{cmp_equal}
-use Rattle.hd_turn_store.proofs.Steps.{AreApart, one_is_not_zero, same_value, went}
+use Rattle.hd_turn_store.proofs.Steps.{same_value, went}
 use Rattle.hd_turn_store.proofs.Texts.{update_head, update_head_means, update_query}
 use Rattle.hd_turn_store.proofs.Values.{cast_null, cast_int}
 
@@ -41,16 +39,16 @@ module _ (digest : List ℕ) (h : Head) where
   replaced : (db : Trees) → db 0 ≡ numbered_from 1 (head_cells h ∷ [])
       → edit db (renewed ∷ []) ≡ numbered_from 1 (head_cells other ∷ [])
   replaced db is =
-      let same = cmp_equal 1 1 refl in
+      let same = cmp_equal 1 in
       rw (is, same, cast_null, cast_int 1, cast_int h.format)
 
-  does_accept : (ks : List KeptTurn) (indexes : List Index) → AreApart indexes
-      → (s : State) (text : List ℕ) (tally : Tally) (after : Database)
+  does_accept : (ks : List KeptTurn) (indexes : List Index) (s : State) (text : List ℕ) (tally : Tally)
+      (after : Database)
       → Stores h ks s.now.trees
       → Does s.step_limit (mode_of s) (Blob digest ∷ []) (record s.now { schema = schema_with indexes })
       text None update_head (Ok (tally, after))
       → (after.schema ≡ schema_with indexes) × Stores other ks after.trees
-  does_accept ks indexes apart s text tally after has does =
+  does_accept ks indexes s text tally after has does =
       let db = s.now.trees in
       let params = Blob digest ∷ [] in
       let done = went does in
@@ -72,23 +70,17 @@ module _ (digest : List ℕ) (h : Head) where
         ap (λ (d : Database). d.schema) now,
         record {
           head = ap (λ (t : Trees). t 0) all ∙ step.rows ∙ ap (edit db) rows ∙ replaced db has.head;
-          turns = ap (λ (t : Trees). t 1) all ∙ step.others 1 one_is_not_zero apart.1 ∙ has.turns;
+          turns = ap (λ (t : Trees). t 1) all ∙ step.tables.1.0 (omega arith) ∙ has.turns;
         },
       )
 
-is_change : IsChange update_head
-is_change =
-    record { no_commit = λ e. cc; no_release = λ name e. cc; writes = λ old new text params count runs. runs }
-
-module _ (old : State) (digest : List ℕ) (h : Head) (ks : List KeptTurn) (holds : Holds old h ks) where
-  pub accepts : (new : State) (r : Result ℕ Error)
-      → Executes update_head_text (Blob digest ∷ []) old new r → OnOk r (Holds new (other digest h) ks)
-  accepts new r ran =
-      changes update_head_text update_head update_head_means is_change (Blob digest ∷ []) h _ ks ks
-      (does_accept digest h ks) old new _ r refl ran holds
-
-  pub accept_commits : (db : Trees) → CommitsBy update_head_text (Blob digest ∷ []) old db
-      → Stores (other digest h) ks db
-  accept_commits db may =
-      commits update_head_text update_head update_head_means is_change (Blob digest ∷ []) h _ ks ks
-      (does_accept digest h ks) old _ db refl holds may
+pub accepts : (digest : List ℕ) (h : Head) (ks : List KeptTurn)
+    → Changes update_head_text (Blob digest ∷ []) h ks (record h { catalogue = digest }) ks
+accepts digest h ks = record {
+  command = update_head;
+  means = update_head_means;
+  no_commit = λ e. cc;
+  no_release = λ name e. cc;
+  writes = λ old new text count runs. runs;
+  does = does_accept digest h ks;
+}

@@ -1,30 +1,37 @@
--- What the insertion of a turn does, and what it commits.
-use Rattle.std.proofs.Common.{◌≡◌, ℕ, List, [], ◌∷◌, ◌++◌, Result, OnOk}
+-- What the insertion of a turn does.
+use Rattle.std.proofs.Common.{◌+◌, List, [], ◌∷◌, ◌++◌, append-nil, codes, length, map, refl, sym, ap, ◌∙◌}
+use Rattle.std.proofs.Common.{arith}
+use Rattle.std.proofs.lemmas.List.{map-append}
 use Rattle.sqlite.specs.Order.{Row}
-use Rattle.sqlite.specs.Tree.{Trees}
-use Rattle.sqlite.specs.declared.error.Error.{Error}
-use Rattle.sqlite.specs.State.{State, Executes, CommitsBy}
+use Rattle.sqlite.specs.Term.{eval_all}
+use Rattle.sqlite.specs.State.{mode_of}
 use Rattle.hd_turn_store.specs.Kept.{KeptTurn, Head, cells}
-use Rattle.hd_turn_store.specs.Tables.{Stores}
+use Rattle.hd_turn_store.specs.Tables.{numbered_from, schema_with, turn_columns}
 use Rattle.hd_turn_store.specs.Texts.{insert_turn_text}
-use Rattle.hd_turn_store.specs.Holds.{Holds}
-use Rattle.hd_turn_store.proofs.Commits.{IsChange, changes, commits}
-use Rattle.hd_turn_store.proofs.Steps.{does_add}
-use Rattle.hd_turn_store.proofs.Texts.{insert_turn, insert_turn_means}
+use Rattle.hd_turn_store.proofs.Commits.{Changes}
+use Rattle.hd_turn_store.proofs.Steps.{inserts}
+use Rattle.hd_turn_store.proofs.Texts.{insert_turn, insert_turn_means, row_terms}
+use Rattle.hd_turn_store.proofs.Values.{cast_turn}
 
-is_change : IsChange insert_turn
-is_change =
-    record { no_commit = λ e. cc; no_release = λ name e. cc; writes = λ old new text params count runs. runs }
-
-module _ (old : State) (k : KeptTurn) (given : Row) (is : given ≡ cells k) (h : Head) (ks : List KeptTurn)
-    (holds : Holds old h ks) where
-  pub adds : (new : State) (r : Result ℕ Error) → Executes insert_turn_text given old new r
-      → OnOk r (Holds new h (ks ++ k ∷ []))
-  adds new r ran =
-      changes insert_turn_text insert_turn insert_turn_means is_change (cells k) h h ks _
-      (λ indexes apart s. does_add indexes apart s h k ks) old new given r is ran holds
-
-  pub commits_turn : (db : Trees) → CommitsBy insert_turn_text given old db → Stores h (ks ++ k ∷ []) db
-  commits_turn db may =
-      commits insert_turn_text insert_turn insert_turn_means is_change (cells k) h h ks _
-      (λ indexes apart s. does_add indexes apart s h k ks) old given db is holds may
+-- it puts the turn at the end
+pub adds : (k : KeptTurn) (h : Head) (ks : List KeptTurn)
+    → Changes insert_turn_text (cells k) h ks h (ks ++ k ∷ [])
+adds k h ks = record {
+  command = insert_turn;
+  means = insert_turn_means;
+  no_commit = λ e. cc;
+  no_release = λ name e. cc;
+  writes = λ old new text count runs. runs;
+  does = λ indexes s text tally after has does.
+      let it = inserts (codes "turn") (codes "at") 1 turn_columns (schema_with indexes) (mode_of s)
+      (λ olds news. refl) (row_terms (length turn_columns)) (cells k) (cells k)
+      (length turn_columns + 2) (eval_all (row_terms (length turn_columns)) (cells k ∷ []))
+      (ap (λ (p : Row). eval_all (row_terms (length turn_columns)) (p ∷ []) ∷ []) (append-nil (cells k)))
+      (cast_turn k) s.step_limit 1 s.now.trees (map cells ks) tally after has.turns does in (
+        it.0,
+        record {
+          head = it.2.0 (omega arith) ∙ has.head;
+          turns = it.1 ∙ ap (numbered_from 1) (sym (map-append cells ks (k ∷ [])));
+        },
+      );
+}

@@ -6,7 +6,6 @@ use Rattle.sqlite.specs.Order.{Row}
 use Rattle.sqlite.specs.Tree.{Trees}
 use Rattle.sqlite.specs.Recovery.{Image}
 use Rattle.sqlite.specs.Files.{HoldsDatabase}
-use Rattle.sqlite_pages.specs.PageMap.{PageMap}
 use Rattle.sqlite_trees.specs.Objects.{catalog_tree}
 use Rattle.sqlite_trees.specs.declared.store.Shape.{Shape}
 use Rattle.sqlite_trees.specs.declared.store.Shape.TheVariants.{Absent, Table, Index, Pageless, FrozenTable}
@@ -14,7 +13,7 @@ use Rattle.sqlite_trees.specs.declared.store.Shape.TheVariants.{FrozenIndex}
 use Rattle.sqlite_store.specs.declared.catalog.Wanted.{Wanted}
 use Rattle.sqlite_store.specs.Catalog.{shape_at}
 use Rattle.sqlite_store.specs.Db.{trees_in}
-use Rattle.sqlite_store.specs.Listing.{all_trees, file_trees, listed, listed_from}
+use Rattle.sqlite_store.specs.Listing.{all_trees, listed, listed_from}
 use Rattle.sqlite_catalog.specs.Listing.{AreListed, IsSound, is_table_row, is_view_row}
 use Rattle.hd_turn_store.specs.Kept.{KeptTurn, Head}
 use Rattle.hd_turn_store.specs.Tables.{no_schema, Stores}
@@ -49,24 +48,14 @@ first_gap from (place ∷ places) none = go place.shape refl none
     go FrozenTable is none = absurd (cc)
     go (FrozenIndex order) is none = absurd (cc)
 
-first_tree : (size : ℕ) (places : List Wanted) (pages : PageMap) → shape_at places 0 ≡ Absent
-    → file_trees size places pages 0 ≡ []
-unfolding all_trees trees_in
-first_tree size places pages gap = rw gap refl
-
-objects : (size : ℕ) (places : List Wanted) (pages : PageMap)
-    → file_trees size places pages catalog_tree ≡ listed_from 0 places
-unfolding all_trees
-objects size places pages = refl
-
 pub blank_holds_none : (image : Image) (head : Head) (ks : List KeptTurn) (db : Trees)
     → HoldsDatabase image db → Stores head ks db → IsSound no_schema db → ⊥
+unfolding all_trees trees_in
 blank_holds_none image head ks db holds stores sound =
     let it = holds.2 in
     let listed : listed_from 0 it.wanted ≡ [] =
-    sym (objects holds.0 it.wanted it.pages) ∙ ap (λ (t : Trees). t catalog_tree) (sym it.reads)
-    ∙ none_listed (db catalog_tree) sound.lists.listed in
-    let first : db 0 ≡ [] = ap (λ (t : Trees). t 0) it.reads
-    ∙ first_tree holds.0 it.wanted it.pages (first_gap 0 it.wanted listed) in
+    ap (λ (t : Trees). t catalog_tree) (sym it.reads) ∙ none_listed (db catalog_tree) sound.lists.listed in
+    let gap = first_gap 0 it.wanted listed in
+    let first : db 0 ≡ [] = ap (λ (t : Trees). t 0) it.reads ∙ rw gap refl in
     let row = stores.head in
     cc

@@ -1,8 +1,11 @@
 -- What a query shows of a table's rows between two numbers.
-use Rattle.std.proofs.Common.{◌≡◌, inl, inr, ℕ, zero, suc, ◌+◌, ◌≤◌, ◌<◌, pos, true, false, List, [], ◌∷◌}
+use Rattle.std.proofs.Common.{◌≡◌, ℕ, zero, suc, ◌+◌, ◌≤◌, ◌<◌, pos, true, false, List, [], ◌∷◌}
 use Rattle.std.proofs.Common.{map, flat_map, take, drop, refl, sym, ap, subst, ◌∙◌, arith, Less}
 use Rattle.std.proofs.lemmas.Cmp.{on_total}
-use Rattle.std.proofs.lemmas.Bool.{cases_lt}
+use Rattle.std.proofs.Math.Seq.{take-nil}
+use Rattle.std.proofs.lemmas.Bool.Decides.{nat_tests}
+use Rattle.std.proofs.lemmas.Int.{ints}
+use Rattle.sqlite_value.proofs.OrderLemmas.{value_cmp-Int}
 use Rattle.std.specs.List.{AllByRecursion}
 use Rattle.std.specs.List.Sorted.{IsPermutation}
 use Rattle.sqlite.specs.declared.types.Value.TheVariants.{Null, Int}
@@ -18,7 +21,7 @@ use Rattle.sqlite.specs.Tree.{Trees, IsAscending}
 use Rattle.sqlite_sql.proofs.QueryLemmas.{key_cmp_total}
 use Rattle.sqlite_keyed.proofs.SortLemmas.{sorted_unique}
 use Rattle.hd_turn_store.specs.Tables.{numbered_from}
-use Rattle.hd_turn_store.proofs.Order.{cmp_less, cmp_greater, cmp_equal, take_none}
+use Rattle.hd_turn_store.proofs.Order.{cmp_less}
 use Rattle.hd_turn_store.proofs.Texts.{between, columns_from, piece_query}
 
 -- ---- which rows pass
@@ -26,28 +29,22 @@ use Rattle.hd_turn_store.proofs.Texts.{between, columns_from, piece_query}
 above : (at low : ℕ) → low < at
     → is_true (binary (Compare Gt Binary) (Int (pos at)) (Int (pos low))) ≡ true
 unfolding binary
-above at low h = let g = cmp_greater at low h in rw g
+above at low h = rw value_cmp-Int (grind (arith, ints, nat_tests))
 
 not_above : (at low : ℕ) → at ≤ low
     → is_true (binary (Compare Gt Binary) (Int (pos at)) (Int (pos low))) ≡ false
 unfolding binary
-not_above at low h = elim (cases_lt at low) [
-  | inl less ↦ let g = cmp_less at low less in rw g
-  | inr more ↦ let g = cmp_equal at low (omega arith) in rw g
-]
+not_above at low h = rw value_cmp-Int (grind (arith, ints, nat_tests))
 
 not_past : (at high : ℕ) → at ≤ high
     → is_true (binary (Compare Le Binary) (Int (pos at)) (Int (pos high))) ≡ true
 unfolding binary
-not_past at high h = elim (cases_lt at high) [
-  | inl less ↦ let g = cmp_less at high less in rw g
-  | inr more ↦ let g = cmp_equal at high (omega arith) in rw g
-]
+not_past at high h = rw value_cmp-Int (grind (arith, ints, nat_tests))
 
 past : (at high : ℕ) → high < at
     → is_true (binary (Compare Le Binary) (Int (pos at)) (Int (pos high))) ≡ false
 unfolding binary
-past at high h = let g = cmp_greater at high h in rw g
+past at high h = rw value_cmp-Int (grind (arith, ints, nat_tests))
 
 -- the rows with numbers from `low + 1` to `high`
 module _ (low high : ℕ) (trees : Trees) where
@@ -61,17 +58,17 @@ module _ (low high : ℕ) (trees : Trees) where
   envs at [] = []
   envs at (row ∷ rows) = (given ∷ (Int (pos at) ∷ Null ∷ row) ∷ []) ∷ envs (at + 1) rows
 
-  none_past : (at : ℕ) (rows : List Row) → high < at → flat_map passing (numbered_from at rows) ≡ []
-  none_past at [] over = refl
-  none_past at (row ∷ rows) over = elim (cases_lt low at) [
-    | inl less ↦ let a = above at low less in let p = past at high over in
-        rw (a, p) (none_past (at + 1) rows (omega arith))
-    | inr more ↦ let a = not_above at low more in rw a (none_past (at + 1) rows (omega arith))
-  ]
+  none_past : (at : ℕ) (rows : List Row) → low < at → high < at
+      → flat_map passing (numbered_from at rows) ≡ []
+  none_past at [] less over = refl
+  none_past at (row ∷ rows) less over =
+      let a = above at low less in
+      let p = past at high over in
+      rw (a, p) (none_past (at + 1) rows (omega arith) (omega arith))
 
   late : (n at : ℕ) (rows : List Row) → low < at → at + n ≡ high + 1
       → flat_map passing (numbered_from at rows) ≡ envs at (take n rows)
-  late zero at rows less is = none_past at rows (omega arith)
+  late zero at rows less is = none_past at rows less (omega arith)
   late (suc n) at [] less is = refl
   late (suc n) at (row ∷ rows) less is =
       let a = above at low less in
@@ -85,7 +82,7 @@ module _ (low high : ℕ) (trees : Trees) where
       let first : at ≡ low + 1 = omega arith in
       subst (λ m. flat_map passing (numbered_from m rows) ≡ envs (low + 1) (take n rows)) (sym first)
       (late n (low + 1) rows (omega arith) (omega arith))
-  early (suc d) at n [] is so = let none = take_none {X = Row} n in rw none
+  early (suc d) at n [] is so = let none = take-nil {A = Row} n in rw none
   early (suc d) at n (row ∷ rows) is so =
       let a = not_above at low (omega arith) in rw a (early d (at + 1) n rows (omega arith) so)
 

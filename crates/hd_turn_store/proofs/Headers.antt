@@ -1,42 +1,27 @@
 -- What the header says of a database file that is held without a log.
-use Rattle.std.proofs.Common.{◌≡◌, ◌∙◌, ℕ, ◌≤◌, ◌/◌, ◌++◌, ◌∷◌, List, [], Option, Some, None, IsSome, inl, inr}
-use Rattle.std.proofs.Common.{Bool, ◌*◌, ◌-◌, ◌%◌, ◌==◌, true, false, if◌then◌else◌, drop, pos}
+use Rattle.std.proofs.Common.{◌≡◌, ◌∙◌, ℕ, ◌≤◌, ◌/◌, ◌++◌, ◌∷◌, List, [], Option, Some, None, IsSome, inl}
+use Rattle.std.proofs.Common.{inr, ◌*◌, ◌-◌, true, false, drop}
 use Rattle.std.proofs.Common.{arith, ap, codes, length, nat_le, refl, subst, sym, take, take-take, true≢false}
 use Rattle.std.proofs.Common.{unwrap_or}
 use Rattle.std.proofs.lemmas.Bool.{cases_Bool}
+use Rattle.std.proofs.lemmas.Bool.Decides.{nat_tests}
 use Rattle.sqlite.specs.Files.{HoldsDatabase}
 use Rattle.sqlite.specs.Recovery.{Image}
-use Rattle.sqlite.specs.Order.{Row}
 use Rattle.sqlite.specs.Tree.{Trees}
 use Rattle.sqlite_pool.specs.Header.{user_version}
 use Rattle.sqlite_pool.specs.File.{header_in}
 use Rattle.sqlite_pool.specs.Stored.{reserved, stored_size, trimmed}
 use Rattle.sqlite_pages.specs.PageMap.{PageMap}
 use Rattle.sqlite_trees.specs.Objects.{version_rows, version_tree}
-use Rattle.sqlite_value.specs.declared.value.Value.{Value}
-use Rattle.sqlite_value.specs.declared.value.Value.TheVariants.{Int}
 use Rattle.sqlite_wal.specs.Format.{part}
 use Rattle.sqlite_wal.specs.Recovery.{Pages, Replays, pages_after}
 
 -- at most eight bytes of a page are reserved
-few : (b : Bool) → (if b then 8 else 0) ≤ 8
-few true = omega arith
-few false = omega arith
-
 few_reserved : (size : ℕ) → reserved size ≤ 8
-few_reserved size = few (size % 16 == 8)
-
--- a mark in a tree of one row
-abbrev number_of : Value → ℕ
-number_of (Int (pos n)) = n
-number_of _ = 0
-
-abbrev version_at : List Row → ℕ
-version_at ((first ∷ second ∷ more) ∷ rows) = number_of second
-version_at _ = 0
+few_reserved size = grind (arith, nat_tests)
 
 pub version_of : (one two : ℕ) → version_rows one ≡ version_rows two → one ≡ two
-version_of one two same = ap version_at same
+version_of one two same = cc
 
 -- an empty log has no frame
 no_frames : (size frames : ℕ) → Replays size [] frames → frames ≡ 0

@@ -5,7 +5,6 @@ pub mod Steps
 pub mod Commits
 pub mod Begins
 pub mod Adds
-pub mod Ends
 pub mod Finding
 pub mod Queries
 pub mod Accepts

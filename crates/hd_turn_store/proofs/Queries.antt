@@ -2,10 +2,10 @@
 use Rattle.std.proofs.Common.{◌≡◌, inl, inr, ℕ, ◌+◌, pos, List, [], ◌∷◌, length, map, take, drop, Ok, Err}
 use Rattle.std.proofs.Common.{Result, IfOk, OnOk, refl, sym, ap, subst, ◌∙◌}
 use Rattle.std.proofs.lemmas.List.{drop-map, take-map}
-use Rattle.sqlite.specs.declared.types.Value.{Value}
 use Rattle.sqlite.specs.declared.types.Value.TheVariants.{Null, Int}
 use Rattle.sqlite.specs.Order.{Row}
-use Rattle.sqlite.specs.Query.{Query}
+use Rattle.sqlite.specs.Program.{overlay}
+use Rattle.sqlite.specs.Query.{IsAnswer, Query}
 use Rattle.sqlite.specs.Term.{eval_all}
 use Rattle.sqlite.specs.Tree.{Trees}
 use Rattle.sqlite.specs.Clock.{timed}
@@ -36,6 +36,14 @@ module _ (text : List ℕ) (query : Query) (names : List (List ℕ)) (is : Shows
       let none = (subst IsPlain h.1.is plain).0 in
       let full = timed params h.0.formats h.1.now in
       (subst (ShowsRows old new text h.0 full rows) none h.2).3
+
+  answer : (rows : List Row) (h : Head) (ks : List KeptTurn) → Holds old h ks → Shown text params old new rows
+      → IsAnswer query (overlay old.now.trees []) params rows
+  answer rows h ks holds shown =
+      let it = is old.now.schema holds.schema in
+      let got = reads_as text params old new old.now.schema refl _ it.means.is it.means.plain it.unlisted rows
+      shown in
+      got.answer Null
 
   pub stays : {V : Type 0} (items : V → List Row) (r : Result V Error)
       → IfOk r (λ v. Shown text params old new (items v))
@@ -80,36 +88,22 @@ unfolding piece
 piece_is low = refl
 
 -- the turns behind the first `low`
-pub finds_piece : {V : Type 0} (old new : State) (low : ℕ) (from to : Value) (items : V → List Row)
-    (r : Result V Error) → from ≡ Int (pos low) → to ≡ Int (pos (low + 1024))
-    → IfOk r (λ v. Shown select_turns_text (from ∷ to ∷ []) old new (items v))
+pub finds_piece : {V : Type 0} (old new : State) (low : ℕ) (items : V → List Row) (r : Result V Error)
+    → IfOk r (λ v. Shown select_turns_text (Int (pos low) ∷ Int (pos (low + 1024)) ∷ []) old new (items v))
     → IfOk r (λ v. (h : Head) (ks : List KeptTurn) → Holds old h ks
     → items v ≡ map cells (take piece (drop low ks)))
-finds_piece old new low from to items (Err e) first last shown = tt
-finds_piece old new low from to items (Ok v) first last shown = λ h ks holds.
-    let params = Int (pos low) ∷ Int (pos (low + 1024)) ∷ [] in
-    let given : from ∷ to ∷ [] ≡ params = rw (first, last) in
-    let it = select_turns_shows old.now.schema holds.schema in
-    let got = reads_as select_turns_text params old new old.now.schema refl _ it.means.is it.means.plain
-    it.unlisted (items v) (subst (λ (p : Row). Shown select_turns_text p old new (items v)) given shown) in
+finds_piece old new low items (Err e) shown = tt
+finds_piece old new low items (Ok v) shown = λ h ks holds.
     let few = few_cells piece low ks in
     piece_answer 1 (length turn_columns) old.now.trees low (low + 1024) piece (map cells ks) (items v)
     (piece_is low) holds.rows.turns (subst (AreShown 1 (length turn_columns)) (sym few) (cells_shown _))
-    (got.answer Null) ∙ few
+    (answer _ _ _ select_turns_shows _ old new (items v) h ks holds shown) ∙ few
 
--- ---- the head
-
-pub finds_head : {V : Type 0} (old new : State) (from to : Value) (items : V → List Row) (r : Result V Error)
-    → from ≡ Int (pos 0) → to ≡ Int (pos 1)
-    → IfOk r (λ v. Shown select_head_text (from ∷ to ∷ []) old new (items v))
+pub finds_head : {V : Type 0} (old new : State) (items : V → List Row) (r : Result V Error)
+    → IfOk r (λ v. Shown select_head_text (Int (pos 0) ∷ Int (pos 1) ∷ []) old new (items v))
     → IfOk r (λ v. (h : Head) (ks : List KeptTurn) → Holds old h ks → items v ≡ head_cells h ∷ [])
-finds_head old new from to items (Err e) first last shown = tt
-finds_head old new from to items (Ok v) first last shown = λ h ks holds.
-    let params = Int (pos 0) ∷ Int (pos 1) ∷ [] in
-    let given : from ∷ to ∷ [] ≡ params = rw (first, last) in
-    let it = select_head_shows old.now.schema holds.schema in
-    let got = reads_as select_head_text params old new old.now.schema refl _ it.means.is it.means.plain
-    it.unlisted (items v) (subst (λ (p : Row). Shown select_head_text p old new (items v)) given shown) in
-    piece_answer 0 (length head_columns) old.now.trees 0 1 1 (head_cells h ∷ [])
-    (items v) refl holds.rows.head
-    (λ params at. refl, tt) (got.answer Null)
+finds_head old new items (Err e) shown = tt
+finds_head old new items (Ok v) shown = λ h ks holds.
+    piece_answer 0 (length head_columns) old.now.trees 0 1 1 (head_cells h ∷ []) (items v) refl
+    holds.rows.head (λ params at. refl, tt)
+    (answer _ _ _ select_head_shows _ old new (items v) h ks holds shown)

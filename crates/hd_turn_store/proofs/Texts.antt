@@ -5,6 +5,8 @@ use Rattle.sqlite.specs.declared.types.Value.TheVariants.{Null, Int}
 use Rattle.sqlite.specs.Collation.TheVariants.{Binary}
 use Rattle.sqlite.specs.Command.{Command}
 use Rattle.sqlite.specs.Command.TheVariants.{CreateIndex, CreateTable, Insert, Select, Update}
+use Rattle.sqlite.specs.Change.{created}
+use Rattle.sqlite.specs.Does.{lacks_sequence}
 use Rattle.sqlite.specs.Compile.{index_defined_by, table_defined_by}
 use Rattle.sqlite.specs.Listing.{understood, reads_listing}
 use Rattle.sqlite.specs.Query.{Query, inner, end}
@@ -40,16 +42,27 @@ pub record Creates (schema : Schema) (text : List ℕ) (table : Table) : Type 0 
   pub means : Means schema text CreateTable
   pub whole : statement_of text (understood schema text) ≡ text
   pub defines : table_defined_by text ≡ Ok table
+  pub counts_none : lacks_sequence (created schema table) ≡ false
 
 pub creates_journal_table : Creates no_schema create_journal_text journal_table
 unfolding understood everything
 creates_journal_table =
-    record { means = record { is = refl; plain = (refl, refl) }; whole = refl; defines = refl }
+    record {
+      means = record { is = refl; plain = (refl, refl) };
+      whole = refl;
+      defines = refl;
+      counts_none = refl;
+    }
 
 pub creates_turn_table : Creates head_schema create_turn_text (record turn_table { tree = 0 })
 unfolding understood everything
 creates_turn_table =
-    record { means = record { is = refl; plain = (refl, refl) }; whole = refl; defines = refl }
+    record {
+      means = record { is = refl; plain = (refl, refl) };
+      whole = refl;
+      defines = refl;
+      counts_none = refl;
+    }
 
 pub record CreatesIndex : Type 0 where
   pub means : Means (schema_with []) create_index_text (CreateIndex 1)

@@ -2,7 +2,7 @@
 use Rattle.std.proofs.Common.{◌≡◌, ℕ, pos, List, [], ◌∷◌, length, Bool, true, false, cond, Option, Some, None}
 use Rattle.std.proofs.Common.{refl}
 use Rattle.sqlite.specs.declared.types.Value.{Value}
-use Rattle.sqlite.specs.declared.types.Value.TheVariants.{Null, Int, Text as Words, Blob as Bytes}
+use Rattle.sqlite.specs.declared.types.Value.TheVariants.{Null, Int, Text as Words}
 use Rattle.sqlite.specs.Values.{or_null}
 use Rattle.sqlite.specs.Ops.{unary}
 use Rattle.sqlite.specs.Kind.TheVariants.{Integer, Text}
@@ -55,16 +55,3 @@ pub cast_head : (h : Head)
     → cast_row journal_table (eval_all (row_terms (length head_columns)) (head_cells h ∷ []))
     ≡ Null ∷ Null ∷ head_cells h
 cast_head h = rw (cast_null, cast_int h.format)
-
--- the values of a turn, each known by itself
-pub cells_are : (k : KeptTurn) (seat : Value) (terminal day act : List ℕ)
-    (patron copy title branch admits until line : Value) (outcome : List ℕ) (number : Value)
-    → seat ≡ Int (pos k.seat) → terminal ≡ k.terminal → day ≡ k.day → act ≡ k.act
-    → patron ≡ or_null Words k.patron → copy ≡ or_null Words k.copy → title ≡ or_null Words k.title
-    → branch ≡ or_null Words k.branch → admits ≡ or_null Words k.admits → until ≡ or_null Words k.until
-    → line ≡ or_null Bytes k.line → outcome ≡ k.outcome → number ≡ or_null number_cell k.number
-    → seat ∷ Words terminal ∷ Words day ∷ Words act ∷ patron ∷ copy ∷ title ∷ branch ∷ admits ∷ until ∷ line
-    ∷ Words outcome ∷ number ∷ Bytes k.reply ∷ [] ≡ cells k
-unfolding cells
-cells_are k seat terminal day act patron copy title branch admits until line outcome number s t d a p c i b m
-    u l o n = rw (s, t, d, a, p, c, i, b, m, u, l, o, n)

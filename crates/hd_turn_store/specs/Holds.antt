@@ -1,10 +1,12 @@
 -- What a connection to a journal sees.
 use Rattle.std.specs.Prelude.{◌≡◌, true, false, List, [], IsTrue}
+use Rattle.std.specs.List.{AllByRecursion}
+use Rattle.sqlite.specs.Schema.{Schema}
 use Rattle.sqlite.specs.State.{State}
-use Rattle.sqlite_schema.specs.declared.schema.Index.{Index}
+use Rattle.sqlite.specs.Table.{Table}
+use Rattle.sqlite.specs.Tree.{Trees}
 use Rattle.hd_turn_store.specs.Kept.{KeptTurn, Head}
-use Rattle.hd_turn_store.specs.Tables.{head_schema, IsJournal, journal_schema, no_schema, schema_with}
-use Rattle.hd_turn_store.specs.Tables.{Stores}
+use Rattle.hd_turn_store.specs.Tables.{IsJournal, journal_schema, Stores}
 
 -- it has this head and just these turns, all committed
 pub record Holds (s : State) (h : Head) (ks : List KeptTurn) : Type 0 where
@@ -14,29 +16,18 @@ pub record Holds (s : State) (h : Head) (ks : List KeptTurn) : Type 0 where
   pub outside : s.in_transaction ≡ false
   pub is_open : IsTrue s.is_open
 
+-- there is no row in these tables
+abbrev pub AreEmpty : List Table → Trees → Type 0
+AreEmpty tables db = AllByRecursion (λ t. db t.tree ≡ []) tables
+
+-- a transaction sees these tables, and no row in them
+pub record HasEmpty (schema : Schema) (s : State) : Type 0 where
+  pub schema_is : s.now.schema ≡ schema
+  pub empty : AreEmpty schema.tables s.now.trees
+  pub inside : s.in_transaction ≡ true
+
 -- a transaction sees this head and just these turns
 pub record SeesTurns (s : State) (h : Head) (ks : List KeptTurn) : Type 0 where
   pub schema : s.now.schema ≡ journal_schema
   pub rows : Stores h ks s.now.trees
   pub inside : s.in_transaction ≡ true
-  pub is_open : IsTrue s.is_open
-
--- a transaction sees no table
-pub record HasNothing (s : State) : Type 0 where
-  pub schema : s.now.schema ≡ no_schema
-  pub inside : s.in_transaction ≡ true
-
--- the first table alone, with no row
-pub record HasFirst (s : State) : Type 0 where
-  pub schema : s.now.schema ≡ head_schema
-  pub head : s.now.trees 0 ≡ []
-  pub inside : s.in_transaction ≡ true
-  pub is_open : IsTrue s.is_open
-
--- both tables with these indexes, with no row
-pub record HasTables (indexes : List Index) (s : State) : Type 0 where
-  pub schema : s.now.schema ≡ schema_with indexes
-  pub head : s.now.trees 0 ≡ []
-  pub turns : s.now.trees 1 ≡ []
-  pub inside : s.in_transaction ≡ true
-  pub is_open : IsTrue s.is_open

@@ -173,7 +173,8 @@ pub fn open_for_turns<D: Disk + Drop>(
     ensures left { IfErr result (λ e. IsClean (view e.1) → KeepsTurns conn e.1) }
 {
     let store = with_mark(conn, OPEN)?;
-    opened_again(alloc, store)
+    let again = opened_again(alloc, store)?;
+    Ok(again)
 }
 
 /// A connection to the journal of a store in which nothing is under way.

@@ -1,11 +1,11 @@
 //! What one transaction is made of.
 
-ghost use Rattle.std.specs.Prelude.{◌≡◌, ◌∷◌, [], OnOk};
+ghost use Rattle.std.specs.Prelude.{◌≡◌, [], OnOk};
 ghost use Rattle.sqlite.specs.State.{HasCleanDisk, Survives};
 ghost use Rattle.sqlite.specs.Held.{state};
 ghost use Rattle.hd_turn_store.specs.Kept.{new_head};
-ghost use Rattle.hd_turn_store.specs.Holds.{SeesTurns, HasNothing, HasFirst, HasTables};
-ghost use Rattle.hd_turn_store.specs.Tables.{number_index};
+ghost use Rattle.hd_turn_store.specs.Holds.{HasEmpty, SeesTurns};
+ghost use Rattle.hd_turn_store.specs.Tables.{head_schema, journal_schema, no_schema, schema_with};
 
 use crate::columns::{CREATE_INDEX, CREATE_JOURNAL, CREATE_TURN, INSERT_JOURNAL};
 use crate::heading::FORMAT;
@@ -17,8 +17,8 @@ use sqlite::{Alter, Error, Transaction};
 fn create_journal<S: Alter>(tx: &mut Transaction<'_, S>) -> Result<(), Error>
     ensures same_reference { tx.new.conn.ghost_name ≡ tx.old.conn.ghost_name }
     ensures ok { HasCleanDisk (state S.Store tx.new.conn.now)
-        → OnOk result (HasNothing (state S.Store tx.old.conn.now)
-        → HasFirst (state S.Store tx.new.conn.now)) }
+        → OnOk result (HasEmpty no_schema (state S.Store tx.old.conn.now)
+        → HasEmpty head_schema (state S.Store tx.new.conn.now)) }
     ensures survives { Survives (state S.Store tx.old.conn.now) (state S.Store tx.new.conn.now) (λ _. ⊥) }
 {
     tx.execute(CREATE_JOURNAL, &[])?;
@@ -29,8 +29,8 @@ fn create_journal<S: Alter>(tx: &mut Transaction<'_, S>) -> Result<(), Error>
 fn create_turn<S: Alter>(tx: &mut Transaction<'_, S>) -> Result<(), Error>
     ensures same_reference { tx.new.conn.ghost_name ≡ tx.old.conn.ghost_name }
     ensures ok { HasCleanDisk (state S.Store tx.new.conn.now)
-        → OnOk result (HasFirst (state S.Store tx.old.conn.now)
-        → HasTables [] (state S.Store tx.new.conn.now)) }
+        → OnOk result (HasEmpty head_schema (state S.Store tx.old.conn.now)
+        → HasEmpty (schema_with []) (state S.Store tx.new.conn.now)) }
     ensures survives { Survives (state S.Store tx.old.conn.now) (state S.Store tx.new.conn.now) (λ _. ⊥) }
 {
     tx.execute(CREATE_TURN, &[])?;
@@ -41,8 +41,8 @@ fn create_turn<S: Alter>(tx: &mut Transaction<'_, S>) -> Result<(), Error>
 fn create_index<S: Alter>(tx: &mut Transaction<'_, S>) -> Result<(), Error>
     ensures same_reference { tx.new.conn.ghost_name ≡ tx.old.conn.ghost_name }
     ensures ok { HasCleanDisk (state S.Store tx.new.conn.now)
-        → OnOk result (HasTables [] (state S.Store tx.old.conn.now)
-        → HasTables (number_index ∷ []) (state S.Store tx.new.conn.now)) }
+        → OnOk result (HasEmpty (schema_with []) (state S.Store tx.old.conn.now)
+        → HasEmpty journal_schema (state S.Store tx.new.conn.now)) }
     ensures survives { Survives (state S.Store tx.old.conn.now) (state S.Store tx.new.conn.now) (λ _. ⊥) }
 {
     tx.execute(CREATE_INDEX, &[])?;
@@ -53,7 +53,7 @@ fn create_index<S: Alter>(tx: &mut Transaction<'_, S>) -> Result<(), Error>
 fn put_head<S: Alter>(tx: &mut Transaction<'_, S>, digest: &[u8; 32]) -> Result<(), Error>
     ensures same_reference { tx.new.conn.ghost_name ≡ tx.old.conn.ghost_name }
     ensures ok { HasCleanDisk (state S.Store tx.new.conn.now)
-        → OnOk result (HasTables (number_index ∷ []) (state S.Store tx.old.conn.now)
+        → OnOk result (HasEmpty journal_schema (state S.Store tx.old.conn.now)
         → SeesTurns (state S.Store tx.new.conn.now) (new_head digest.now) []) }
     ensures survives { Survives (state S.Store tx.old.conn.now) (state S.Store tx.new.conn.now) (λ _. ⊥) }
 {
@@ -68,8 +68,8 @@ fn put_head<S: Alter>(tx: &mut Transaction<'_, S>, digest: &[u8; 32]) -> Result<
 pub(crate) fn fill<S: Alter>(tx: &mut Transaction<'_, S>, digest: &[u8; 32]) -> Result<(), Error>
     ensures same_reference { tx.new.conn.ghost_name ≡ tx.old.conn.ghost_name }
     ensures ok { HasCleanDisk (state S.Store tx.new.conn.now)
-        → OnOk result (HasNothing (state S.Store tx.old.conn.now) → SeesTurns (state S.Store tx.new.conn.now)
-        (new_head digest.now) []) }
+        → OnOk result (HasEmpty no_schema (state S.Store tx.old.conn.now)
+        → SeesTurns (state S.Store tx.new.conn.now) (new_head digest.now) []) }
     ensures survives { Survives (state S.Store tx.old.conn.now) (state S.Store tx.new.conn.now) (λ _. ⊥) }
 {
     create_journal(tx)?;

@@ -54,6 +54,7 @@ impl<'a> TurnRow<'a> {
     ///
     /// # Errors
     /// `Damaged`, where one of them isn't of its column's kind.
+    #[tactic(auto, unfolding(crate::specs::Rows::read_cells))]
     pub fn of(row: &'a Row) -> Result<TurnRow<'a>, Fault>
         ensures turn { IfOk result (λ turn. kept turn ≡ read_cells row.now) }
         ensures fault { IfErr result IsReadingFault }
@@ -77,6 +78,7 @@ impl<'a> TurnRow<'a> {
     }
 
     /// The values of its columns, in their order.
+    #[tactic(auto, unfolding(crate::specs::Kept::cells))]
     pub(crate) fn cells(&self) -> [ValueRef<'a>; 14]
         ensures { bound result ≡ cells (kept self.now) }
     {

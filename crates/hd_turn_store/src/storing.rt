@@ -107,6 +107,7 @@ pub fn turns<S: Alter>(conn: &mut Connection<S>, after: u32) -> Result<Vec<Row>,
 }
 
 /// What is read of a turn's values is the turn.
+#[tactic(auto, using(crate::proofs::Decodes::read_back))]
 pub fn a_turn_is_read_of_its_values()
     ensures { (k : KeptTurn) → read_cells (cells k) ≡ k }
 {}

@@ -21,7 +21,7 @@ pub(crate) fn begin_journal(rt: &HostRuntime, order: &JournalBegin<'_>) -> Resul
 /// Begins the first period of a folder: a copy of the catalogue, and a journal.
 fn begin_folder(rt: &HostRuntime, library: &LibraryFiles<'_>, folder: &str) -> Result<(), Fault> {
     let alloc = rt.alloc();
-    if last_period(rt, folder)? > 0 {
+    if last_period(rt, folder)?.is_some() {
         return Err(Fault::LibraryIsThere(String::from_str(alloc, folder)?));
     }
     let first = Paths::of_period(alloc, folder, 1)?;

@@ -30,10 +30,9 @@ pub(crate) fn carry_over(rt: &HostRuntime, order: &Carry<'_>) -> Result<(), Faul
 /// the opening, whose name makes it complete.
 fn carry_folder(rt: &HostRuntime, folder: &str, order: &Carry<'_>) -> Result<(), Fault> {
     let alloc = rt.alloc();
-    let period = last_period(rt, folder)?;
-    if period == 0 {
+    let Some(period) = last_period(rt, folder)? else {
         return Err(Fault::NoLibrary(String::from_str(alloc, folder)?));
-    }
+    };
     let old = Paths::of_period(alloc, folder, period)?;
     let new = Paths::of_period(alloc, folder, period.saturating_add(1))?;
     carry_period(rt, &old.files(), &new.files(), order)
@@ -88,7 +87,7 @@ fn carry_files(
     let library = Library::read_text(rt, files)?;
     let before = library.digest;
     let kept = open_over(rt, Unknown, &keeping, library)?;
-    let carried = carry_desk(rt, kept.journal(), before, way);
+    let carried = carry_desk(rt, kept.answered_journal()?, before, way);
     end_journal(kept)?;
     carried
 }

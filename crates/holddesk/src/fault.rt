@@ -2,6 +2,7 @@
 
 use hd_catalogue::{CatFault, OpeningFault as UnfitOpening};
 use hd_desk::{OpenFault as DeskFault, RowFault};
+use hd_journal::WriteFault;
 use hd_journal_file::OpenFault;
 use hd_opening::OpeningFault;
 use hd_patrons::PatronsFault;
@@ -50,6 +51,12 @@ pub(crate) enum Fault {
     /// There is no complete library in this folder.
     #[error("there is no library in {0}")]
     NoLibrary(String),
+    /// There is no such folder, or it can't be read.
+    #[error("there is no folder {0}")]
+    NoFolder(String),
+    /// A library lacks this file, which it had.
+    #[error("the library lacks {0}")]
+    Lacks(String),
     /// There is one in this folder, where one was to be begun.
     #[error("there is a library in {0}")]
     LibraryIsThere(String),
@@ -248,6 +255,12 @@ impl From<ReplayFault> for Fault {
 impl From<ServeFault> for Fault {
     fn from(fault: ServeFault) -> Fault {
         Fault::Server(ServerFault::Serve(fault))
+    }
+}
+
+impl From<WriteFault> for Fault {
+    fn from(why: WriteFault) -> Fault {
+        Fault::from(ServeFault::Unwritten(why))
     }
 }
 

@@ -2,9 +2,10 @@
 //! last complete one is the library as it is.
 
 use crate::fault::Fault;
+use crate::writing::part_path;
 use hd_command_line::{LibraryFiles, Place};
 use std::alloc::{AllocError, Global};
-use std::fs;
+use std::fs::{self, ReadDir};
 
 /// The paths of a library's files.
 pub(crate) struct Paths {
@@ -48,8 +49,8 @@ impl Paths {
     /// The paths of the last complete period of a folder.
     fn of_last_period(rt: &HostRuntime, folder: &str) -> Result<Paths, Fault> {
         match last_period(rt, folder)? {
-            0 => Err(Fault::NoLibrary(String::from_str(rt.alloc(), folder)?)),
-            period => Ok(Paths::of_period(rt.alloc(), folder, period)?),
+            None => Err(Fault::NoLibrary(String::from_str(rt.alloc(), folder)?)),
+            Some(period) => Ok(Paths::of_period(rt.alloc(), folder, period)?),
         }
     }
 
@@ -93,41 +94,113 @@ fn str_of(text: &Option<String>) -> Option<&str> {
     }
 }
 
-/// The last complete period of a folder; 0: it has none.
+/// The last complete period of a folder, if it has one.
 ///
 /// # Errors
-/// The folder can't be read; out of memory.
-pub(crate) fn last_period(rt: &HostRuntime, folder: &str) -> Result<u32, Fault> {
-    let Ok(names) = fs::read_dir(rt, folder) else {
-        return Err(Fault::NoLibrary(String::from_str(rt.alloc(), folder)?));
-    };
-    let mut last = 0;
-    for entry in names {
+/// There is no folder, or it can't be read; a later period lacks a file; out of memory.
+pub(crate) fn last_period(rt: &HostRuntime, folder: &str) -> Result<Option<u32>, Fault> {
+    let mut last = None;
+    for entry in names_in(rt, folder)? {
         let Ok(entry) = entry else {
-            return Err(Fault::NoLibrary(String::from_str(rt.alloc(), folder)?));
+            return Err(Fault::NoFolder(String::from_str(rt.alloc(), folder)?));
         };
         last = later_period(rt, folder, entry.file_name(), last)?;
     }
+    see_whole(rt, folder, last)?;
     Ok(last)
 }
 
-/// The period that a journal's file is of, by its name, where it is a later one and complete; else this one.
-fn later_period(rt: &HostRuntime, folder: &str, name: &str, than: u32) -> Result<u32, Fault> {
-    let period = period_of(name);
-    if period > than && is_complete(rt, folder, period)? {
-        Ok(period)
+/// What lies in a folder.
+///
+/// # Errors
+/// There is no folder, or it can't be read; out of memory.
+fn names_in(rt: &HostRuntime, folder: &str) -> Result<ReadDir, Fault> {
+    match fs::read_dir(rt, folder) {
+        Ok(names) => Ok(names),
+        Err(_) => Err(Fault::NoFolder(String::from_str(rt.alloc(), folder)?)),
+    }
+}
+
+/// The period that a file is of, by its name, where it is a later one and complete; else this one.
+fn later_period(
+    rt: &HostRuntime,
+    folder: &str,
+    name: &str,
+    than: Option<u32>,
+) -> Result<Option<u32>, Fault> {
+    let Some(period) = period_of(name) else {
+        return Ok(than);
+    };
+    let is_later = than.is_none_or(|than| period > than);
+    if is_later && is_complete(rt, folder, period)? {
+        Ok(Some(period))
     } else {
         Ok(than)
     }
 }
 
-/// The period that a journal's file is of, by its name; 0: the name is no journal's.
-fn period_of(name: &str) -> u32 {
-    match name.strip_suffix(".journal") {
-        Some(digits) if digits.bytes().all(|byte| byte.is_ascii_digit()) => {
-            digits.parse::<u32>().unwrap_or(0)
+/// The period that a catalogue, an opening or a journal is of, by the name of its file. They are numbered
+/// from 1.
+fn period_of(name: &str) -> Option<u32> {
+    let (digits, kind) = name.split_once('.')?;
+    let is_kind = matches!(kind, "catalogue" | "opening" | "journal");
+    if !is_kind || !digits.bytes().all(|byte| byte.is_ascii_digit()) {
+        return None;
+    }
+    match digits.parse::<u32>() {
+        Ok(period) if period > 0 => Some(period),
+        _ => None,
+    }
+}
+
+/// Sees that no period behind the last complete one lacks a file that it had. A library would else go back to
+/// what it was before that period, without a word.
+///
+/// # Errors
+/// One lacks a file; the folder can't be read; out of memory.
+fn see_whole(rt: &HostRuntime, folder: &str, last: Option<u32>) -> Result<(), Fault> {
+    for entry in names_in(rt, folder)? {
+        let Ok(entry) = entry else {
+            return Err(Fault::NoFolder(String::from_str(rt.alloc(), folder)?));
+        };
+        match period_of(entry.file_name()) {
+            Some(period) if last.is_none_or(|last| period > last) => {
+                see_whole_period(rt, &Paths::of_period(rt.alloc(), folder, period)?)?;
+            }
+            _ => {}
         }
-        _ => 0,
+    }
+    Ok(())
+}
+
+/// Sees that a period that isn't complete is one that a carry, or a beginning, was broken off at. A carry
+/// writes the opening beside its path first, and gives it its name last.
+///
+/// # Errors
+/// It lacks a file that it had; out of memory.
+fn see_whole_period(rt: &HostRuntime, paths: &Paths) -> Result<(), Fault> {
+    let Some(opening) = &paths.opening else {
+        return Ok(());
+    };
+    let part = part_path(rt.alloc(), opening.as_str())?;
+    if is_there(rt, part.as_str()) {
+        return Ok(());
+    }
+    let files = paths.files();
+    for path in [Some(files.catalogue), files.opening, files.journal] {
+        if let Some(path) = path {
+            see_file(rt, path)?;
+        }
+    }
+    Ok(())
+}
+
+/// Sees that a library's file is there.
+fn see_file(rt: &HostRuntime, path: &str) -> Result<(), Fault> {
+    if is_there(rt, path) {
+        Ok(())
+    } else {
+        Err(Fault::Lacks(String::from_str(rt.alloc(), path)?))
     }
 }
 

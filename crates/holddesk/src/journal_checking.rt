@@ -27,7 +27,7 @@ pub(crate) fn check_journal(rt: &HostRuntime, order: &JournalCheck<'_>) -> Resul
         }
         opened => opened?,
     };
-    let told = tell(rt, kept.journal());
+    let told = tell(rt, kept.answered_journal()?);
     end_journal(kept)?;
     Ok(told?)
 }

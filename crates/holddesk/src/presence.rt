@@ -7,8 +7,11 @@ use std::alloc::Global;
 use std::fs::{self, File};
 use std::io::{self, ErrorKind, Read};
 
-/// How many bytes a log without a commit has at most: its heading.
+/// How many bytes the heading of a log has. One that has more is told where its journal isn't there.
 const LOG_HEADING: u64 = 32;
+
+/// How many bytes a log with a commit has at least: its heading, that of a page, and the smallest page.
+const LEAST_LOG: u64 = 32 + 24 + 512;
 
 /// What lies at the path of a journal's file.
 #[derive(Clone, Copy, PartialEq, Eq)]
@@ -113,11 +116,11 @@ fn look(rt: &HostRuntime, path: &str, log: &str) -> Result<Presence, Fault> {
 
 /// What two files are that have these lengths, where they are there.
 fn presence_of(journal: Option<u64>, log: Option<u64>) -> Presence {
-    let has_commits = log.unwrap_or(0) > LOG_HEADING;
+    let length = log.unwrap_or(0);
     match (journal, log) {
-        (None, _) if has_commits => Presence::LogAlone,
+        (None, _) if length > LOG_HEADING => Presence::LogAlone,
         (None, _) => Presence::Nothing,
-        (Some(0), _) if !has_commits => Presence::Nothing,
+        (Some(0), _) if length < LEAST_LOG => Presence::Nothing,
         (Some(_), None) => Presence::JournalAlone,
         (Some(_), Some(_)) => Presence::Journal,
     }

@@ -1,5 +1,6 @@
 //! Serving terminals over the library of a catalogue file.
 ghost use Rattle.std.specs.Prelude.{◌≡◌, ◌≤◌, [], IfOk, Some};
+ghost use Rattle.hd_journal.specs.Openings.{IsLegalSince};
 
 use crate::counted::Counted;
 use crate::extending::extensions_of;
@@ -88,6 +89,8 @@ pub(crate) fn serve_by<
     serving: &Serving<'_>,
 ) -> Result<K, ServerFault>
     requires { K.turns keeper ≡ [] }
+    ensures opening { IfOk result (λ closed. K.opening closed ≡ K.opening keeper) }
+    ensures legal { IfOk result (λ closed. IsLegalSince (K.opening closed) (K.turns closed)) }
 {
     let options = options_of(serving);
     let observer = &Teller::new(host, serving.order.log);

@@ -150,6 +150,6 @@ fn serve_durable<R: Threads + Wait + Clock + Sync, T: TurnTable + Drop + Send>(
     let timed = DurableKeeper::new(journal.timed(rt, serving.last_commit));
     let listener = listen_with_turns(host, turns, timed.catalogue(), serving.order)?;
     let served = serve_by(rt, host, listener, timed, serving)?.into_journal();
-    let summary = summary_of(served.journal());
+    let summary = summary_of(served.answered_journal()?);
     Ok((summary, served.into_table().into_table()))
 }

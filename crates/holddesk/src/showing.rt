@@ -26,7 +26,7 @@ pub(crate) fn show_journal(rt: &HostRuntime, order: &JournalShow<'_>) -> Result<
     let mut table = Table::new(rt.alloc(), heads_of(&order.listing));
     let listed = list(
         rt.alloc(),
-        kept.journal().desk(),
+        kept.answered_journal()?.desk(),
         &order.listing,
         &mut table,
     );

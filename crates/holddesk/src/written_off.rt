@@ -9,7 +9,8 @@ use hd_rules::{CopyNo, CopyState, PatronNo};
 use std::alloc::AllocError;
 use std::io::Write;
 
-/// The copies whose names stand in a file, one a line. What is no copy's name is passed over.
+/// The copies whose names stand in a file, one a line. What is no copy's name is told on standard error, and
+/// passed over.
 ///
 /// # Errors
 /// The file can't be read; out of memory.
@@ -25,11 +26,23 @@ pub(crate) fn listed_copies(
     let file = read_list(rt, path)?;
     for line in file.as_slice().split(|byte| *byte == b'\n') {
         let name = line.strip_suffix(b"\r").unwrap_or(line);
-        if let Some(copy) = catalogue.copy(name) {
-            copies.push(copy)?;
+        match catalogue.copy(name) {
+            Some(copy) => copies.push(copy)?,
+            None if name.is_empty() => {}
+            None => tell_no_copy(rt, name)?,
         }
     }
     Ok(copies)
+}
+
+/// Tells that a name is no copy's.
+fn tell_no_copy(rt: &HostRuntime, name: &[u8]) -> Result<(), Fault> {
+    let mut line = Vec::new(rt.alloc());
+    line.extend_from_slice(b"no copy is named ")?;
+    line.extend_from_slice(name)?;
+    line.push(b'\n')?;
+    rt.stderr().write_all(line.as_slice())?;
+    Ok(())
 }
 
 /// Tells which loans are dropped, a line for each.

@@ -6,7 +6,7 @@ ghost use Rattle.hd_rules.specs.Sound.{Sound};
 ghost use Rattle.hd_desk.specs.Desks.{contents, desk_of, facts};
 
 use crate::comparing::are_desks_alike;
-use hd_desk::{Desk, Meter};
+use hd_desk::{Desk, Done, Meter};
 use hd_journal::Journal;
 use hd_rules::{Action, HoldKind, Survivor};
 use std::alloc::Allocator;
@@ -70,7 +70,9 @@ fn hold_again<A: Allocator + Copy>(
     if !is_hold(desk, &survivor.command.action) {
         return None;
     }
-    desk.apply(survivor.number, &survivor.command, meter).ok()?;
+    let mut done = Done::new();
+    desk.apply(survivor.number, &survivor.command, meter, &mut done)
+        .ok()?;
     Some(())
 }
 

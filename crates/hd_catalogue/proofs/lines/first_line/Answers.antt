@@ -1,5 +1,6 @@
 use Rattle.std.proofs.Common.{◌∙◌}
-use Rattle.hd_catalogue.proofs.LineLemmas.{lines-front, lines-whole, lines_of-some, lines_of-whole, position-nonempty}
+use Rattle.hd_catalogue.proofs.LineLemmas.{lines-front, lines-whole, lines_of-some, lines_of-whole}
+use Rattle.hd_catalogue.proofs.LineLemmas.{position-nonempty}
 use Rattle.hd_catalogue.proofs.lines.first_line.Goals as goal
 
 pub returns-in-Some-clause-lines : goal.returns-in-Some-clause-lines

@@ -4,4 +4,5 @@ use Rattle.hd_clash.proofs.clashing.count_comparisons.Given as goal
 
 abbrev pub invariant-loop-change : goal.invariant-loop-change
 invariant-loop-change l =
-    with_comparisons (length (drop l._change-index l.changes)) l.meter ≡ with_comparisons (length l.changes) l.fn.meter
+    with_comparisons (length (drop l._change-index l.changes)) l.meter
+    ≡ with_comparisons (length l.changes) l.fn.meter

@@ -10,5 +10,6 @@ invariant-loop-number g l = record {
   title : (t : ℕ) → of_title l.stock t ≡ count_below (λ n. (facts_of l.catalogue).title_of n == t) l.number;
   home : (t b : ℕ) → of_home l.stock t b ≡ count_below
       (λ n. ((facts_of l.catalogue).title_of n == t) && ((facts_of l.catalogue).home n == b)) l.number;
-  entry : (c : ℕ) → c < l.number → HasEntry l.stock ((facts_of l.catalogue).title_of c) ((facts_of l.catalogue).home c);
+  entry : (c : ℕ) → c < l.number
+      → HasEntry l.stock ((facts_of l.catalogue).title_of c) ((facts_of l.catalogue).home c);
 }

@@ -4,7 +4,8 @@ use Rattle.hd_day_text.proofs.text.day_of.Goals as goal
 pub returns-in-Ok-clause-said : goal.returns-in-Ok-clause-said
 returns-in-Ok-clause-said c =
     day_shown c.prints_show_their_stamp.ensures.own c.args.text.now c.midnight-moment.result
-    c.unwrap-offset.result c.in-Ok.stamp c.day.result c.midnight-moment.ensures c.requires.size c.requires.first
+    c.unwrap-offset.result c.in-Ok.stamp c.day.result c.midnight-moment.ensures c.requires.size
+    c.requires.first
     c.requires.second c.in-Ok.ensures.stamp c.day.ensures
 
 pub returns-in-Err-clause-none : goal.returns-in-Err-clause-none

@@ -6,7 +6,8 @@ use Rattle.hd_catalogue.specs.Files.{lines_of}
 use Rattle.hd_diagnosis.specs.Faults.{faults_from, faults_of}
 use Rattle.hd_diagnosis.specs.declared.diagnosing.TheConstants.{MOST_TOLD}
 use Rattle.hd_diagnosis.specs.declared.fault.Fault.{Fault}
-use Rattle.hd_diagnosis.proofs.FaultLemmas.{all_told, alone_told, are_told, begun, begun_few, enough_told, one_more}
+use Rattle.hd_diagnosis.proofs.FaultLemmas.{all_told, alone_told, are_told, begun, begun_few, enough_told}
+use Rattle.hd_diagnosis.proofs.FaultLemmas.{one_more}
 use Rattle.hd_diagnosis.specs.Known.{nothing_known}
 use Rattle.std.specs.Prelude.{option_to_list}
 use Rattle.hd_diagnosis.proofs.diagnosing.diagnose.Goals as goal
@@ -23,7 +24,8 @@ returns c =
     let count = length-map c.loop-rest.told.items (λ (f : Fault). f.at) in
     let none : length c.loop-rest.rest.now ≡ 0 = grind (arith, common_steps) in
     let ended : lines c.loop-rest.rest.now ≡ [] = ap lines (nil_from_length c.loop-rest.rest.now none) in
-    let whole : map (λ (f : Fault). f.at) c.loop-rest.told.items ++ [] ≡ faults_of c.in-Err.refused (lines_of c.args.bytes.now) =
+    let whole : map (λ (f : Fault). f.at) c.loop-rest.told.items ++ []
+    ≡ faults_of c.in-Err.refused (lines_of c.args.bytes.now) =
     ap
     (λ ls. map (λ (f : Fault). f.at) c.loop-rest.told.items
     ++ faults_from c.in-Err.refused c.loop-rest.known (c.loop-rest.number + 1) ls)
@@ -54,15 +56,19 @@ loop-rest-init c =
 pub loop-rest-preserved : goal.loop-rest-preserved
 loop-rest-preserved c =
     let some : 0 < length c.loop-rest.rest.now = grind (arith, common_steps) in
-    let whole : lines c.loop-rest.rest.now ≡ c.first_line-next.result.line.now ∷ lines c.first_line-next.result.after.now =
+    let whole : lines c.loop-rest.rest.now
+    ≡ c.first_line-next.result.line.now ∷ lines c.first_line-next.result.after.now =
     c.first_line-next.ensures.lines some in
     record {
       counted = omega (arith, c.first_line-next.ensures.shorter some, c.loop-rest.invariant.counted);
       few = omega (arith, c.in_ok-tell.ensures.count, c.if-len-ge-MOST_TOLD.false, c.len.ensures);
       told =
-          one_more c.in-Err.refused c.loop-rest.known _ (c.loop-rest.number + 1) c.first_line-next.result.line.now
-          (lines c.loop-rest.rest.now) (lines c.first_line-next.result.after.now) _ _ _ c.loop-rest.invariant.told whole
+          one_more c.in-Err.refused c.loop-rest.known _
+          (c.loop-rest.number + 1) c.first_line-next.result.line.now
+          (lines c.loop-rest.rest.now)
+          (lines c.first_line-next.result.after.now) _ _ _ c.loop-rest.invariant.told whole
           (c.in_ok-tell.ensures.told
-          ∙ ap (λ more. map (λ (f : Fault). f.at) c.loop-rest.told.items ++ option_to_list more) c.in_ok-fault.ensures)
+          ∙ ap (λ more. map (λ (f : Fault). f.at) c.loop-rest.told.items ++ option_to_list more)
+          c.in_ok-fault.ensures)
           c.in_ok-add.ensures;
     }

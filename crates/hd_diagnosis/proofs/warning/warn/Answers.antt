@@ -20,7 +20,9 @@ returns c =
     let count = length-map c.loop-rest.told.items (λ (w : Warning). w.line) in
     let none : length c.loop-rest.rest.now ≡ 0 = grind (arith, common_steps) in
     let ended : lines c.loop-rest.rest.now ≡ [] = ap lines (nil_from_length c.loop-rest.rest.now none) in
-    let whole : map (λ (w : Warning). w.line) c.loop-rest.told.items ++ [] ≡ odd_lines 1 (lines_of c.args.bytes.now) =
-    ap (λ ls. map (λ (w : Warning). w.line) c.loop-rest.told.items ++ odd_lines (c.loop-rest.number + 1) ls) (sym ended)
+    let whole : map (λ (w : Warning). w.line) c.loop-rest.told.items ++ []
+    ≡ odd_lines 1 (lines_of c.args.bytes.now) =
+    ap (λ ls. map (λ (w : Warning). w.line) c.loop-rest.told.items ++ odd_lines (c.loop-rest.number + 1) ls)
+    (sym ended)
     ∙ c.loop-rest.invariant.told in
     all_told _ _ MOST_TOLD whole (omega (arith, count, c.loop-rest.invariant.few))

@@ -9,7 +9,8 @@ abbrev pub invariant-loop-rest : goal.invariant-loop-rest
 invariant-loop-rest l = record {
   counted : l.number + length l.rest ≤ length l.bytes + 1;
   few : length l.told.items ≤ MOST_TOLD;
-  told : map (λ w. w.line) l.told.items ++ odd_lines (l.number + 1) (lines l.rest) ≡ odd_lines 1 (lines_of l.bytes);
+  told : map (λ w. w.line) l.told.items ++ odd_lines (l.number + 1) (lines l.rest)
+      ≡ odd_lines 1 (lines_of l.bytes);
 }
 
 abbrev pub decreases-loop-rest : goal.decreases-loop-rest

@@ -9,6 +9,7 @@ returns-in_err-number-clause-none c =
     let digits = c.in_ok-before.digits.now in
     rw c.from_residual-in_err-number.ensures (λ front number ends.
     let same =
-    same_back (front ++ codes "AZ") (before ++ codes "AZ") ends.digits digits (sym ends.split ∙ c.in_ok-before.ensures.found) (ends.four
+    same_back (front ++ codes "AZ") (before ++ codes "AZ") ends.digits digits
+    (sym ends.split ∙ c.in_ok-before.ensures.found) (ends.four
     ∙ sym c.in_ok-before.ensures.four) in
     c.in_err-number.ensures (subst (AllDigits 16) same ends.hexadecimal))

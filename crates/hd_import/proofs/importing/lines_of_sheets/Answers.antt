@@ -11,30 +11,39 @@ use Rattle.hd_import.proofs.importing.lines_of_sheets.Goals as goal
 pub loop-sheet-init : goal.loop-sheet-init
 loop-sheet-init c =
     let head = first_line c.args.settings.now in
-    let put : string_bytes c.put_first_line.new.out ≡ string_bytes c.new-text.result ++ head ++ 10 ∷ [] = grind (arith, common_steps) in
+    let put : string_bytes c.put_first_line.new.out ≡ string_bytes c.new-text.result ++ head ++ 10 ∷ [] =
+    grind (arith, common_steps) in
     rw c.new-counts.ensures.items
-    (no_tables c.args.settings.now c.args.format c.args.sources.now c.all_sheets-sheets.result.now (string_bytes c.put_first_line.new.out)
+    (no_tables c.args.settings.now c.args.format c.args.sources.now c.all_sheets-sheets.result.now
+    (string_bytes c.put_first_line.new.out)
     (put ∙ ap (λ text. text ++ head ++ 10 ∷ []) c.new-text.ensures.bytes))
 
 pub loop-sheet-preserved : goal.loop-sheet-preserved
 loop-sheet-preserved c =
     let put = c.in_ok-count.ensures.lines in
-    let pushed : c.push.new.self.items ≡ c.loop-sheet.counts.items ++ c.in_ok-count.count ∷ [] = grind (arith, common_steps) in
+    let pushed : c.push.new.self.items ≡ c.loop-sheet.counts.items ++ c.in_ok-count.count ∷ [] =
+    grind (arith, common_steps) in
     rw (pushed, put.5)
-    (table_step c.args.settings.now c.args.format c.args.sources.now c.all_sheets-sheets.result.now c.loop-sheet.sheet-index _
-    (string_bytes c.loop-sheet.text) (string_bytes c.put_sheet.new.out) c.loop-sheet.counts.items c.file_of-file.result.bytes.now put.0 put.1 c.loop-sheet-test.true
+    (table_step c.args.settings.now c.args.format c.args.sources.now c.all_sheets-sheets.result.now
+    c.loop-sheet.sheet-index _
+    (string_bytes c.loop-sheet.text) (string_bytes c.put_sheet.new.out) c.loop-sheet.counts.items
+    c.file_of-file.result.bytes.now put.0 put.1 c.loop-sheet-test.true
     c.loop-sheet.invariant (ap (λ (f : Source). f.bytes.now) c.file_of-file.ensures) put.2 put.3 put.4)
 
 pub returns-clause-lines : goal.returns-clause-lines
 returns-clause-lines c =
-    all_tables c.args.settings.now c.args.format c.args.sources.now c.all_sheets-sheets.result.now c.loop-sheet.sheet-index
-    (string_bytes c.loop-sheet.text) c.loop-sheet.counts.items c.all_sheets-sheets.ensures (omega arith) c.loop-sheet.invariant
+    all_tables c.args.settings.now c.args.format c.args.sources.now c.all_sheets-sheets.result.now
+    c.loop-sheet.sheet-index
+    (string_bytes c.loop-sheet.text) c.loop-sheet.counts.items c.all_sheets-sheets.ensures
+    (omega arith) c.loop-sheet.invariant
 
 pub returns-in_err-count-clause-refused : goal.returns-in_err-count-clause-refused
 returns-in_err-count-clause-refused c =
     let fault = c.in_err-count.field-0.0 in
-    let here = of_a_sheet c.args.settings.now c.args.format c.args.sources.now c.all_sheets-sheets.result.now c.loop-sheet.sheet-index _
+    let here = of_a_sheet c.args.settings.now c.args.format c.args.sources.now c.all_sheets-sheets.result.now
+    c.loop-sheet.sheet-index _
     c.file_of-file.result fault c.file_of-file.ensures c.in_err-count.ensures.refused in
     handed_on c.from_residual.result
-    (λ told. (which : Sheet) × IsSheetFault c.args.settings.now c.args.format which (file_of c.args.sources.now which) told) fault here
+    (λ told. (which : Sheet) × IsSheetFault c.args.settings.now c.args.format which
+    (file_of c.args.sources.now which) told) fault here
     c.from_residual.ensures.1

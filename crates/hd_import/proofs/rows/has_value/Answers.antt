@@ -7,8 +7,10 @@ use Rattle.hd_import.proofs.rows.has_value.Goals as goal
 
 pub loop-place-preserved : goal.loop-place-preserved
 loop-place-preserved c =
-    none_more (λ value. not (length value == 0)) (fields_of c.args.row.now) c.loop-place.place c.loop-place.invariant (grind (arith, common_steps))
+    none_more (λ value. not (length value == 0))
+    (fields_of c.args.row.now) c.loop-place.place c.loop-place.invariant (grind (arith, common_steps))
 
 pub returns : goal.returns
 returns c =
-    sym (any_none (λ value. not (length value == 0)) (fields_of c.args.row.now) c.loop-place.place (omega arith) c.loop-place.invariant)
+    sym (any_none (λ value. not (length value == 0)) (fields_of c.args.row.now) c.loop-place.place
+    (omega arith) c.loop-place.invariant)

@@ -1,4 +1,5 @@
-use Rattle.std.proofs.Common.{Bor, List, ℕ, ◌≡◌, ◌∙◌, sym, ap, refl, inl, inr, false, map, Some, None, ◌∷◌, ◌++◌, [], arith}
+use Rattle.std.proofs.Common.{Bor, List, ℕ, ◌≡◌, ◌∙◌, sym, ap, refl, inl, inr, false, map, Some, None, ◌∷◌}
+use Rattle.std.proofs.Common.{◌++◌, [], arith}
 use Rattle.std.specs.List.{filter}
 use Rattle.std.specs.Str as Str
 use Rattle.std.proofs.lemmas.Grind.{common_steps}
@@ -42,8 +43,11 @@ loop-row-preserved c =
     let s = rw (c.in-Some.is, c.in-Ok.is) at ((c.next.ensures.steps inv.left inv.trims).0 inv.ready) in
     let trimmed : fields_of c.trim.new.self ≡ map Str.trim f = grind (arith, common_steps) in
     let pushed : map fields_of c.push_filled.new.rows.items
-    ≡ map fields_of c.loop-row.rows.items ++ filter has_value (fields_of c.trim.new.self ∷ []) = grind (arith, common_steps) in
-    let m = rows-more (λ (s : Bor (List ℕ)). Some s.now) reader c.next.new.self.rdr f (rules_with c.args.separator) st.StartRecord (strip_bom c.args.text.now) inv.rest inv.records inv.rules inv.source inv.reached s.0 in
+    ≡ map fields_of c.loop-row.rows.items ++ filter has_value (fields_of c.trim.new.self ∷ []) =
+    grind (arith, common_steps) in
+    let m = rows-more (λ (s : Bor (List ℕ)). Some s.now) reader c.next.new.self.rdr f
+    (rules_with c.args.separator) st.StartRecord
+    (strip_bom c.args.text.now) inv.rest inv.records inv.rules inv.source inv.reached s.0 in
     record {
       trims = s.0.3 ∙ inv.trims;
       ready = inl s.1;
@@ -54,7 +58,8 @@ loop-row-preserved c =
       source = m.1;
       reached = m.2;
       rows = pushed ∙ ap (λ rows. rows ++ filter has_value (fields_of c.trim.new.self ∷ [])) inv.rows
-          ∙ ap (λ row. rows_of inv.records ++ filter has_value (row ∷ [])) trimmed ∙ sym (rows_more inv.records f);
+          ∙ ap (λ row. rows_of inv.records ++ filter has_value (row ∷ [])) trimmed
+          ∙ sym (rows_more inv.records f);
     }
 
 pub returns-clause-rows : goal.returns-clause-rows
@@ -63,6 +68,12 @@ returns-clause-rows c =
     let reader = c.loop-row.row-iterator.rdr in
     let s = rw c.in-None.is at ((c.next.ensures.steps inv.left inv.trims).0 inv.ready) in (
       inv.records,
-      (reader.state, inv.rest, inv.reached, rows-end (λ (s : Bor (List ℕ)). Some s.now) reader c.next.new.self.rdr [] (rules_with c.args.separator) inv.rest inv.rules inv.source s),
+      (
+        reader.state,
+        inv.rest,
+        inv.reached,
+        rows-end (λ (s : Bor (List ℕ)). Some s.now) reader c.next.new.self.rdr []
+            (rules_with c.args.separator) inv.rest inv.rules inv.source s,
+      ),
       inv.rows,
     )

@@ -16,6 +16,7 @@ invariant-loop-row l = record {
   records : List Row;
   rest : List ℕ;
   source : source_of (λ s. Some s.now) l.row-iterator.rdr ≡ Some rest;
-  reached : Reached (rules_with l.separator) st.StartRecord (strip_bom l.fn.text) records l.row-iterator.rdr.state rest;
+  reached : Reached (rules_with l.separator) st.StartRecord (strip_bom l.fn.text)
+      records l.row-iterator.rdr.state rest;
   rows : map fields_of l.rows.items ≡ rows_of records;
 }

@@ -5,7 +5,8 @@ use Rattle.hd_import.proofs.RowLemmas.{nothing_past}
 use Rattle.hd_import.proofs.rows.value_at.Goals as goal
 
 pub returns-in-Some : goal.returns-in-Some
-returns-in-Some c = sym (field-get (fields_of c.args.row.now) c.args.place c.in-Some.value.now (sym c.in-Some.ensures.value))
+returns-in-Some c =
+    sym (field-get (fields_of c.args.row.now) c.args.place c.in-Some.value.now (sym c.in-Some.ensures.value))
 
 pub returns-in-None : goal.returns-in-None
 returns-in-None c = sym (nothing_past (fields_of c.args.row.now) c.args.place (sym c.in-None.ensures.value))

@@ -7,7 +7,8 @@ pub returns-then-left-counts : goal.returns-then-left-counts
 returns-then-left-counts c = (
   c.loop-index.index,
   omega (arith, min-le_left),
-  sheet_at c.all_sheets-sheets.result.now c.loop-index.index _ c.all_sheets-sheets.ensures (omega (arith, min-le_right)),
+  sheet_at c.all_sheets-sheets.result.now c.loop-index.index _ c.all_sheets-sheets.ensures
+      (omega (arith, min-le_right)),
   c.if-left-counts.true,
   c.loop-index.invariant,
 )

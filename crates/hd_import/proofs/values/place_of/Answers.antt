@@ -7,13 +7,16 @@ use Rattle.hd_import.proofs.values.place_of.Goals as goal
 
 pub loop-place-preserved : goal.loop-place-preserved
 loop-place-preserved c =
-    none_more (is_heading c.args.column) (fields_of c.args.headings.now) c.loop-place.place c.loop-place.invariant (grind (arith, common_steps))
+    none_more (is_heading c.args.column) (fields_of c.args.headings.now) c.loop-place.place
+    c.loop-place.invariant (grind (arith, common_steps))
 
 pub returns : goal.returns
 returns c =
-    sym (no_first (is_heading c.args.column) (fields_of c.args.headings.now) c.loop-place.place (omega arith) c.loop-place.invariant)
+    sym (no_first (is_heading c.args.column) (fields_of c.args.headings.now) c.loop-place.place
+    (omega arith) c.loop-place.invariant)
 
 pub returns-then-is_heading : goal.returns-then-is_heading
 returns-then-is_heading c =
-    sym (first_at (is_heading c.args.column) (fields_of c.args.headings.now) c.loop-place.place (omega arith) c.loop-place.invariant
+    sym (first_at (is_heading c.args.column) (fields_of c.args.headings.now) c.loop-place.place
+    (omega arith) c.loop-place.invariant
     (grind (arith, common_steps)))

@@ -15,9 +15,11 @@ loop-column-preserved c =
     let start = string_bytes c.args.out.now ++ letter_of c.args.sheet ∷ [] in
     record {
       text =
-          value_step settings headings row start (string_bytes c.loop-column.out) (string_bytes c.put_value.new.out) columns at _
+          value_step settings headings row start (string_bytes c.loop-column.out)
+          (string_bytes c.put_value.new.out) columns at _
           c.loop-column-test.true c.loop-column.invariant.text c.in_ok-put_value.ensures.value;
       fit =
-          fit_step (λ column. is_fit column (value_of settings headings row column)) columns at _ c.loop-column-test.true
+          fit_step (λ column. is_fit column (value_of settings headings row column)) columns at _
+          c.loop-column-test.true
           c.loop-column.invariant.fit c.in_ok-put_value.ensures.fit;
     }

@@ -10,6 +10,9 @@ use Rattle.hd_import.proofs.writing.put_row.Given as goal
 abbrev pub invariant-loop-column : goal.invariant-loop-column
 invariant-loop-column l = record {
   text : string_bytes l.out ≡ (string_bytes l.fn.out ++ letter_of l.fn.sheet ∷ [])
-      ++ behind_bars (map (value_of l.settings (fields_of l.headings) (fields_of l.row)) (take l.column-index l.columns));
-  fit : list_all (λ column. is_fit column (value_of l.settings (fields_of l.headings) (fields_of l.row) column)) (take l.column-index l.columns) ≡ true;
+      ++ behind_bars (map (value_of l.settings (fields_of l.headings) (fields_of l.row))
+      (take l.column-index l.columns));
+  fit : list_all
+      (λ column. is_fit column (value_of l.settings (fields_of l.headings) (fields_of l.row) column))
+      (take l.column-index l.columns) ≡ true;
 }

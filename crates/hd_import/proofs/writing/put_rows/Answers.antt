@@ -18,10 +18,13 @@ loop-index-preserved c =
     let more = take_more rows at row c.loop-index-test.true in
     rw (more, ← c.index-rows-index.is) record {
       text =
-          row_more settings sheet headings start (string_bytes c.loop-index.out) (string_bytes c.put_row.new.out)
+          row_more settings sheet headings start (string_bytes c.loop-index.out)
+          (string_bytes c.put_row.new.out)
           (map fields_of (take at rows)) (fields_of row) c.loop-index.invariant.text c.in_default.ensures.line
-          ∙ ap (λ rs. start ++ text_of_rows settings sheet headings rs) (sym (map-append fields_of (take at rows) (row ∷ [])));
+          ∙ ap (λ rs. start ++ text_of_rows settings sheet headings rs)
+          (sym (map-append fields_of (take at rows) (row ∷ [])));
       fit =
-          All-push (λ (row : Record). is_fit_row settings sheet headings (fields_of row) ≡ true) (take at rows) row c.loop-index.invariant.fit
+          All-push (λ (row : Record). is_fit_row settings sheet headings (fields_of row) ≡ true)
+          (take at rows) row c.loop-index.invariant.fit
           c.in_default.ensures.fit;
     }

@@ -14,10 +14,14 @@ loop-list-preserved c =
     let same = c.loop-list.auto.lists in
     let more = passed_more now (past c.args.number) lists c.loop-list.lists c.loop-list.list-index in
     elim c.match-split_first.branch [
-      | in-Some+then-first-number w ↦ rw w.lists-is (more _ _ (omega arith) (omega arith) c.loop-list.invariant
-          (past_there c.args.number w.in-Some.first.now _ w.in-Some.rest.now w.in-Some.ensures.cases.0 w.if-first-number.true))
-      | in-Some+else-first-number w ↦ rw w.lists-is (more _ _ (omega arith) (omega arith) c.loop-list.invariant
-          (past_other c.args.number w.in-Some.first.now _ w.in-Some.rest.now w.in-Some.ensures.cases.0 w.if-first-number.false))
+      | in-Some+then-first-number w ↦ rw w.lists-is
+          (more _ _ (omega arith) (omega arith) c.loop-list.invariant
+          (past_there c.args.number w.in-Some.first.now _ w.in-Some.rest.now w.in-Some.ensures.cases.0
+          w.if-first-number.true))
+      | in-Some+else-first-number w ↦ rw w.lists-is
+          (more _ _ (omega arith) (omega arith) c.loop-list.invariant
+          (past_other c.args.number w.in-Some.first.now _ w.in-Some.rest.now w.in-Some.ensures.cases.0
+          w.if-first-number.false))
       | in_default w ↦ rw w.lists-is (more _ _ (omega arith) (omega arith) c.loop-list.invariant
           (past_none c.args.number _ w.in_default.ensures.cases))
     ]

@@ -11,19 +11,15 @@ returns-in-Ok-clause-ok g c clean =
 pub returns-in-Ok-clause-settled : goal.returns-in-Ok-clause-settled
 returns-in-Ok-clause-settled g c k turns left =
     left_is_held c.a_turn_is_read_of_its_values.ensures c.a_row_is_of_one_message.ensures.one
-    (state g.S.Store c.append.new.conn)
-    (λ db. g.met.S.Store.settled c.append.new.conn.store db) k turns left
+    (state g.S.Store c.append.new.conn) (λ db. g.met.S.Store.settled c.append.new.conn.store db)
 
 pub returns-in-Err-clause-settled : goal.returns-in-Err-clause-settled
 returns-in-Err-clause-settled g c k turns left =
     left_is_held c.a_turn_is_read_of_its_values.ensures c.a_row_is_of_one_message.ensures.one
-    (state g.S.Store c.append.new.conn)
-    (λ db. g.met.S.Store.settled c.append.new.conn.store db) k turns left
+    (state g.S.Store c.append.new.conn) (λ db. g.met.S.Store.settled c.append.new.conn.store db)
 
 pub returns-in-Err-clause-err : goal.returns-in-Err-clause-err
 returns-in-Err-clause-err g c clean =
     left_either c.a_turn_is_read_of_its_values.ensures c.a_row_is_of_one_message.ensures.one
-    (state g.S.Store c.args.conn.now)
-    (state g.S.Store c.append.new.conn) (kept c.args.row.now)
-    (λ db. g.met.S.Store.settled c.args.conn.now.store db)
-    (c.in-Err.ensures.crash clean)
+    (state g.S.Store c.args.conn.now) (state g.S.Store c.append.new.conn) (kept c.args.row.now)
+    (λ db. g.met.S.Store.settled c.args.conn.now.store db) (c.in-Err.ensures.crash clean)

@@ -1,13 +1,10 @@
 use Rattle.std.proofs.Common.{ℕ, sym, ◌∙◌, subst, inl, inr, IsTrue, true≢false}
 use Rattle.hd_lemmas.proofs.Results.{on_err}
-use Rattle.hd_journal_file.specs.Opening.{MayBeTaken, RefusesFile}
-use Rattle.hd_journal_file.specs.declared.open_fault.OpenFault.{OpenFault}
+use Rattle.hd_journal_file.specs.Opening.{MayBeTaken}
+use Rattle.hd_journal_file.specs.declared.open_fault.OpenFault.TheVariants.{Turns}
 use Rattle.hd_journal_file.specs.Restored.{RefusesRows}
 use Rattle.hd_journal_file.proofs.Keeping.{are_in}
-use Rattle.hd_journal_file.proofs.Results.{passed}
-use Rattle.hd_journal_file.proofs.opening.take_again.Goals.{}
-use Rattle.hd_journal_file.proofs.opening.take_again.Goals.{}
-use Rattle.hd_journal_file.proofs.opening.take_again.Goals.{}
+use Rattle.hd_journal_file.proofs.Results.{passes}
 use Rattle.hd_journal_file.proofs.opening.take_again.Goals.{else-not-is_same-via-then-not-is_same+else-not-wanted}
 use Rattle.hd_journal_file.proofs.opening.take_again.Goals.{else-not-is_same-via-else-not-is_same}
 use Rattle.hd_journal_file.proofs.opening.take_again.Goals as goal
@@ -22,15 +19,14 @@ returns-in_err-found-clause-left g c clean =
 pub returns-in_err-restore_turns-clause-why : goal.returns-in_err-restore_turns-clause-why
 returns-in_err-restore_turns-clause-why g c clean =
     let early = c.restore_turns.ensures.clean clean in
-    passed c.from_residual-in_err-restore_turns.result _ _ c.from_residual-in_err-restore_turns.ensures.1
-    (λ fault is head rows holds.
+    passes c.from_residual-in_err-restore_turns.result (Turns c.in_err-restore_turns.field-0.0) _
+    c.from_residual-in_err-restore_turns.ensures.1 (λ head rows holds.
     let may_be : MayBeTaken c.args.wanted.now head =
     elim c.else-not-is_same.branch [
       | else-not-is_same-via-then-not-is_same+else-not-wanted w ↦ inr w.if-not-wanted.false
       | else-not-is_same-via-else-not-is_same w ↦ inl
           ((c.in_ok-found.ensures.is_of early head rows holds).0 w.if-not-is_same.false)
-    ] in
-    subst (λ (f : OpenFault). RefusesFile c.args.wanted.now c.args.journal.now head rows f) (sym is) (
+    ] in (
       may_be,
       subst (λ (n : ℕ). RefusesRows n c.args.journal.now rows 0 c.in_err-restore_turns.field-0.0)
           (sym (c.in_ok-found.ensures.format early head rows holds))
@@ -65,8 +61,7 @@ returns-in_err-accept-clause-left g c clean =
           (c.restore_turns.ensures.crash late head rows first db was))
       | inr stores ↦ inr (record {
         accepted = accepted;
-        are =
-            are_in _ _ _ _ _ (c.in_ok-found.ensures.format early head rows holds) then.1;
+        are = are_in _ _ _ _ _ (c.in_ok-found.ensures.format early head rows holds) then.1;
         stores = stores;
       })
     ])

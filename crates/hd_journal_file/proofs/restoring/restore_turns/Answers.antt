@@ -1,10 +1,7 @@
-use Rattle.std.proofs.Common.{◌≡◌, sym, subst, refl, arith, [], ◌++◌, ◌<◌, length, take, drop, ℕ, Option}
-use Rattle.std.proofs.Common.{IfSome, Some}
+use Rattle.std.proofs.Common.{◌≡◌, sym, subst, refl, arith, [], ◌++◌, ◌<◌, length, take, ℕ}
 use Rattle.hd_turn_store.specs.Kept.{piece}
-use Rattle.hd_journal_file.specs.Restored.{RefusesRows, TakesPiece}
-use Rattle.hd_journal_file.specs.declared.fault.RestoreFault.{RestoreFault}
 use Rattle.hd_journal_file.proofs.Refusing.{counted, fits, refuses_piece}
-use Rattle.hd_journal_file.proofs.Results.{passed}
+use Rattle.hd_journal_file.proofs.Results.{passes}
 use Rattle.hd_journal_file.proofs.Retaken.{takes_none, takes_then, piece_taken, last_taken, all_rows}
 use Rattle.hd_journal_file.proofs.Retaken.{all_change}
 use Rattle.hd_journal_file.proofs.restoring.restore_turns.Goals as goal
@@ -12,8 +9,8 @@ use Rattle.hd_journal_file.proofs.restoring.restore_turns.Goals as goal
 pub loop-piece-init : goal.loop-piece-init
 loop-piece-init g c = record {
   clean = λ clean. clean;
-  took = ([], takes_none c.args.format c.args.journal.now);
-  rows = λ clean head rows holds. (holds, takes_none c.args.format c.args.journal.now, refl);
+  took = ([], takes_none);
+  rows = λ clean head rows holds. (holds, takes_none, refl);
   crash = λ clean head rows holds db may. may;
   many = omega arith;
 }
@@ -22,29 +19,15 @@ pub loop-piece-preserved : goal.loop-piece-preserved
 loop-piece-preserved g c =
     let some = c.loop-piece.invariant in
     let one = c.in_ok-next.ensures.took in
-    let more : c.loop-piece.at < c.in-Some.last =
-    subst (λ (o : Option ℕ). IfSome o (λ last. c.loop-piece.at < last)) c.in-Some.is c.in_ok-next.ensures.more
-    in
+    let more : c.loop-piece.at < c.in-Some.last = rw c.in-Some.is at c.in_ok-next.ensures.more in
     record {
       clean = λ clean. some.clean (c.take_piece.ensures.clean clean);
-      took = (
-        some.took.0 ++ one.0,
-        takes_then c.args.format c.args.journal.now c.loop-piece.journal c.take_piece.new.journal some.took.0
-            one.0
-            some.took.1 one.1,
-      );
+      took = (some.took.0 ++ one.0, takes_then some.took.1 one.1);
       rows = λ clean head rows holds.
           let before = some.rows (c.take_piece.ensures.clean clean) head rows holds in
-          let next : TakesPiece c.args.format c.loop-piece.journal c.take_piece.new.journal
-          (take piece (drop c.loop-piece.at rows)) c.loop-piece.at (Some c.in-Some.last) =
-          subst
-          (λ (o : Option ℕ). TakesPiece c.args.format c.loop-piece.journal c.take_piece.new.journal
-          (take piece (drop c.loop-piece.at rows)) c.loop-piece.at o)
-          c.in-Some.is (c.in_ok-next.ensures.rows clean head rows before.0) in (
+          let next = rw c.in-Some.is at (c.in_ok-next.ensures.rows clean head rows before.0) in (
             c.in_ok-next.ensures.same clean head rows before.0,
-            piece_taken c.args.format c.args.journal.now c.loop-piece.journal c.take_piece.new.journal rows
-                c.loop-piece.at
-                c.in-Some.last before.1 next,
+            piece_taken rows c.loop-piece.at c.in-Some.last before.1 next,
             subst (λ (n : ℕ). length (take n rows) ≡ n) (sym next.0)
                 (counted c.loop-piece.at piece rows before.2),
           );
@@ -61,12 +44,10 @@ returns-in_err-next-clause-clean g c =
 
 pub returns-in_err-next-clause-why : goal.returns-in_err-next-clause-why
 returns-in_err-next-clause-why g c clean =
-    passed c.from_residual.result _ _ c.from_residual.ensures.1 (λ fault is head rows holds.
+    passes c.from_residual.result c.in_err-next.field-0.0 _ c.from_residual.ensures.1 (λ head rows holds.
     let before = c.loop-piece.invariant.rows (c.take_piece.ensures.clean clean) head rows holds in
-    subst (λ (f : RestoreFault). RefusesRows c.args.format c.args.journal.now rows 0 f) (sym is)
-    (refuses_piece c.args.format c.args.journal.now c.loop-piece.journal rows c.loop-piece.at
-    c.in_err-next.field-0.0
-    before.2 before.1 (c.in_err-next.ensures.why clean head rows before.0)))
+    refuses_piece rows c.loop-piece.at c.in_err-next.field-0.0 before.2 before.1
+    (c.in_err-next.ensures.why clean head rows before.0))
 
 pub returns-in_err-next-clause-crash : goal.returns-in_err-next-clause-crash
 returns-in_err-next-clause-crash g c clean head rows holds db may =
@@ -79,15 +60,10 @@ returns-in-None-clause-clean g c = λ clean. c.loop-piece.invariant.clean (c.tak
 
 pub returns-in-None-clause-rows : goal.returns-in-None-clause-rows
 returns-in-None-clause-rows g c = λ clean head rows holds.
-    let before = c.loop-piece.invariant.rows (c.take_piece.ensures.clean clean) head rows holds in (
+    let before = c.loop-piece.invariant.rows (c.take_piece.ensures.clean clean) head rows holds in
+    let last = rw c.in-None.is at (c.in_ok-next.ensures.rows clean head rows before.0) in (
       c.in_ok-next.ensures.same clean head rows before.0,
-      all_rows c.args.format c.args.journal.now c.take_piece.new.journal rows c.requires
-          (last_taken c.args.format c.args.journal.now c.loop-piece.journal c.take_piece.new.journal rows
-          c.loop-piece.at
-          before.1 (subst
-          (λ (o : Option ℕ). TakesPiece c.args.format c.loop-piece.journal c.take_piece.new.journal
-          (take piece (drop c.loop-piece.at rows)) c.loop-piece.at o)
-          c.in-None.is (c.in_ok-next.ensures.rows clean head rows before.0))),
+      all_rows c.requires (last_taken rows c.loop-piece.at before.1 last),
     )
 
 pub returns-in-None-clause-crash : goal.returns-in-None-clause-crash
@@ -98,19 +74,11 @@ returns-in-None-clause-crash g c clean head rows holds db may =
 
 pub returns-in-None-clause-changing : goal.returns-in-None-clause-changing
 returns-in-None-clause-changing g c =
-    let some = c.loop-piece.invariant.took in
-    let one = c.in_ok-next.ensures.took in
-    all_change c.args.format c.args.journal.now c.take_piece.new.journal (some.0 ++ one.0) c.requires
-    (takes_then c.args.format c.args.journal.now c.loop-piece.journal c.take_piece.new.journal some.0 one.0
-    some.1 one.1)
+    all_change c.requires (takes_then c.loop-piece.invariant.took.1 c.in_ok-next.ensures.took.1)
 
 pub returns-in-None-clause-contents : goal.returns-in-None-clause-contents
 returns-in-None-clause-contents g c =
-    let some = c.loop-piece.invariant.took in
-    let one = c.in_ok-next.ensures.took in
-    (takes_then c.args.format c.args.journal.now c.loop-piece.journal c.take_piece.new.journal some.0 one.0
-    some.1
-    one.1).contents
+    (takes_then c.loop-piece.invariant.took.1 c.in_ok-next.ensures.took.1).contents
 
 pub returns-clause-clean : goal.returns-clause-clean
 returns-clause-clean g c = c.loop-piece.invariant.clean

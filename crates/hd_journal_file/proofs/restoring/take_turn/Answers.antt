@@ -2,11 +2,8 @@ use Rattle.std.proofs.Common.{refl, sym, subst, ◌∙◌}
 use Rattle.std.proofs.lemmas.Result.{on_ok_weaker, IfErr-weaker}
 use Rattle.hd_catalogue.specs.Contents.{Contents, facts_of}
 use Rattle.hd_rules.specs.Messages.{IsKnownMessage}
-use Rattle.hd_turn_store.specs.Rows.{kept}
-use Rattle.hd_journal_file.specs.Restored.{RefusesRow}
-use Rattle.hd_journal_file.specs.declared.fault.RestoreFault.{RestoreFault}
 use Rattle.hd_journal_file.proofs.Refusing.{asks_of, refuses_ask, refuses_came}
-use Rattle.hd_journal_file.proofs.Results.{passed}
+use Rattle.hd_journal_file.proofs.Results.{passes}
 use Rattle.hd_journal_file.proofs.Retaken.{takes_row}
 use Rattle.hd_journal_file.proofs.restoring.take_turn.Goals as goal
 
@@ -17,20 +14,15 @@ take_new-requires g c =
 
 pub returns-in_err-own-clause-why : goal.returns-in_err-own-clause-why
 returns-in_err-own-clause-why g c =
-    passed c.from_residual.result _ _ c.from_residual.ensures.1 (λ fault is.
-    subst (λ (f : RestoreFault). RefusesRow c.args.format c.args.journal.now (kept c.args.row.now) c.args.at
-    f) (sym is)
-    (refuses_ask c.args.format c.args.journal.now (kept c.args.row.now) c.args.at c.deref.result.now
-    c.in_err-own.field-0.0 (c.deref.ensures ∙ c.catalogue.ensures ∙ c.desk.ensures.contents)
-    c.in_err-own.ensures.why))
+    passes c.from_residual.result c.in_err-own.field-0.0 _ c.from_residual.ensures.1
+    (refuses_ask c.args.format c.args.journal.now _ c.in_err-own.field-0.0
+    (c.deref.ensures ∙ c.catalogue.ensures ∙ c.desk.ensures.contents) c.in_err-own.ensures.why)
 
 pub returns-then-not-new-clause-why : goal.returns-then-not-new-clause-why
 returns-then-not-new-clause-why g c = (
   refl,
   (
-    asks_of c.args.journal.now (kept c.args.row.now) c.in_ok-own.own.seat c.in_ok-own.own.message
-        c.deref.result.now (c.deref.ensures ∙ c.catalogue.ensures ∙ c.desk.ensures.contents)
-        c.in_ok-own.ensures.row,
+    asks_of (c.deref.ensures ∙ c.catalogue.ensures ∙ c.desk.ensures.contents) c.in_ok-own.ensures.row,
     sym c.in-Ok.ensures.changing ∙ c.if-not-new.true,
   ),
 )
@@ -38,18 +30,13 @@ returns-then-not-new-clause-why g c = (
 pub returns-clause-took : goal.returns-clause-took
 returns-clause-took g c =
     on_ok_weaker c.compare.result
-    (takes_row c.args.format c.args.journal.now c.take_new.new.self c.in_ok-own.own.seat
-    c.in_ok-own.own.message
-    c.in-Ok.new.made c.deref.result.now (kept c.args.row.now) c.in-Ok.ensures.turn
-    (c.deref.ensures ∙ c.catalogue.ensures ∙ c.desk.ensures.contents) c.in_ok-own.ensures.row
-    (sym c.in-Ok.ensures.changing ∙ c.if-not-new.false))
+    (takes_row c.in-Ok.ensures.turn (c.deref.ensures ∙ c.catalogue.ensures ∙ c.desk.ensures.contents)
+    c.in_ok-own.ensures.row (sym c.in-Ok.ensures.changing ∙ c.if-not-new.false))
     c.compare.ensures.same
 
 pub returns-clause-why : goal.returns-clause-why
 returns-clause-why g c =
     IfErr-weaker c.compare.result _ _
-    (λ fault. refuses_came c.args.format c.args.journal.now c.take_new.new.self c.in_ok-own.own.seat
-    c.in_ok-own.own.message
-    c.in-Ok.new.made c.deref.result.now (kept c.args.row.now) c.args.at fault c.in-Ok.ensures.turn
+    (λ fault. refuses_came fault c.in-Ok.ensures.turn
     (c.deref.ensures ∙ c.catalogue.ensures ∙ c.desk.ensures.contents) c.in_ok-own.ensures.row)
     c.compare.ensures.why

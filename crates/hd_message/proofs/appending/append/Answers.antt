@@ -11,6 +11,13 @@ pub returns-in-Err-clause-full : goal.returns-in-Err-clause-full
 returns-in-Err-clause-full g c =
     let parts = c.args.parts.now in
     let at = c.loop-part.part-index in
-    let within = length-flat_map-take part_text parts at (Text (record { ref_ptr = (0, 0); now = [] })) c.loop-part-test.true in
+    let within = length-flat_map-take part_text parts at
+    (Text (record { ref_ptr = (0, 0); now = [] })) c.loop-part-test.true in
     let text = ap length c.loop-part.invariant.text in
-    omega (arith, within, text, c.in-Err.ensures.full, length-append c.args.out.now.items (flat_map part_text (take at parts)))
+    omega (
+      arith,
+      within,
+      text,
+      c.in-Err.ensures.full,
+      length-append c.args.out.now.items (flat_map part_text (take at parts)),
+    )

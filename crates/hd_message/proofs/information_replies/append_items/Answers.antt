@@ -12,8 +12,10 @@ returns-in-Err-clause-full g c =
     let names = c.args.names.now in
     let at = c.loop-name.name-index in
     let none : Bor (List ℕ) = record { ref_ptr = (0, 0); now = [] } in
-    let fits : length (item_field c.args.code (get_or names at none)) ≤ c.loop-name.left = grind (arith, common_steps) in
-    let within = kept_within c.args.code c.args.room c.loop-name.left at names none c.loop-name-test.true fits c.loop-name.invariant.count in
+    let fits : length (item_field c.args.code (get_or names at none)) ≤ c.loop-name.left =
+    grind (arith, common_steps) in
+    let within = kept_within c.args.code c.args.room c.loop-name.left at names none c.loop-name-test.true fits
+    c.loop-name.invariant.count in
     let text = ap length c.loop-name.invariant.text in
     omega (
       arith,

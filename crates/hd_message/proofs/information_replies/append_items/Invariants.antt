@@ -3,8 +3,8 @@ use Rattle.std.specs.List.{flat_map}
 use Rattle.hd_message.specs.PatronReplies.{fitting, item_field}
 use Rattle.hd_message.proofs.information_replies.append_items.Given as goal
 
--- the items so far stand behind what stood there, those that there is room for still are the same, and the room
--- did not shrink
+-- the items so far stand behind what stood there, those that there is room for still are the same, and the
+-- room did not shrink
 abbrev pub invariant-loop-name : goal.invariant-loop-name
 invariant-loop-name g l = record {
   text : l.out.items ≡ l.fn.out.items ++ flat_map (item_field l.code) (take l.name-index l.names);

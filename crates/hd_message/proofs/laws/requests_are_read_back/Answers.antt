@@ -8,4 +8,11 @@ use Rattle.hd_message.proofs.laws.requests_are_read_back.Goals as goal
 
 pub returns : goal.returns
 returns c =
-    record { checkout = checkout_back; checkin = checkin_back; hold = hold_back; renew = renew_back; item = item_back; login = login_back }
+    record {
+      checkout = checkout_back;
+      checkin = checkin_back;
+      hold = hold_back;
+      renew = renew_back;
+      item = item_back;
+      login = login_back;
+    }

@@ -16,7 +16,8 @@ loop-field-preserved c =
       wanted = still _ _ _ _ _ _ _ moved c.note.ensures.wanted c.loop-field.invariant.wanted;
       name = still _ _ _ _ _ _ _ moved c.note.ensures.name c.loop-field.invariant.name;
       password = still _ _ _ _ _ _ _ moved c.note.ensures.password c.loop-field.invariant.password;
-      patron_password = still _ _ _ _ _ _ _ moved c.note.ensures.patron_password c.loop-field.invariant.patron_password;
+      patron_password =
+          still _ _ _ _ _ _ _ moved c.note.ensures.patron_password c.loop-field.invariant.patron_password;
       first_item = still _ _ _ _ _ _ _ moved c.note.ensures.first_item c.loop-field.invariant.first_item;
       last_item = still _ _ _ _ _ _ _ moved c.note.ensures.last_item c.loop-field.invariant.last_item;
     }

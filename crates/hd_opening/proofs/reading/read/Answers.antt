@@ -19,15 +19,19 @@ loop-rest-preserved g c =
     let left = lines c.first_line-next.result.after.now in
     let row = c.in-Ok-read_row.row in
     let some : 0 < length c.loop-rest.rest.now = grind (arith, common_steps) in
-    let whole : lines c.loop-rest.rest.now ≡ c.first_line-next.result.line.now ∷ lines c.first_line-next.result.after.now =
+    let whole : lines c.loop-rest.rest.now
+    ≡ c.first_line-next.result.line.now ∷ lines c.first_line-next.result.after.now =
     c.first_line-next.ensures.lines some in
-    let pushed : c.push.new.self.items ≡ c.loop-rest.rows.items ++ c.in-Ok-read_row.row ∷ [] = grind (arith, common_steps) in
+    let pushed : c.push.new.self.items ≡ c.loop-rest.rows.items ++ c.in-Ok-read_row.row ∷ [] =
+    grind (arith, common_steps) in
     record {
       counted = omega (arith, c.first_line-next.ensures.shorter some, c.loop-rest.invariant.counted);
       so_far =
-          subst (λ (rows : List OpeningRow). HasRead k digest all last (number + 1) rows left) (sym {b = c.loop-rest.rows.items ++ c.in-Ok-read_row.row ∷ []} pushed)
+          subst (λ (rows : List OpeningRow). HasRead k digest all last (number + 1) rows left)
+          (sym {b = c.loop-rest.rows.items ++ c.in-Ok-read_row.row ∷ []} pushed)
           (one_more k digest all last number c.loop-rest.rows.items line left row
-          (subst (λ (ls : List (List _)). HasRead k digest all last number c.loop-rest.rows.items ls) whole c.loop-rest.invariant.so_far)
+          (subst (λ (ls : List (List _)). HasRead k digest all last number c.loop-rest.rows.items ls) whole
+          c.loop-rest.invariant.so_far)
           (sym c.in-Ok-read_row.ensures));
     }
 
@@ -38,7 +42,9 @@ returns-clause-lines g c =
     let all = lines_of c.args.bytes.now in
     let none : length c.loop-rest.rest.now ≡ 0 = grind (arith, common_steps) in
     let whole : lines c.loop-rest.rest.now ≡ [] = ap lines (nil_from_length c.loop-rest.rest.now none) in
-    let read = subst (λ (ls : List (List _)). HasRead k digest all c.in-Ok.last c.loop-rest.number c.loop-rest.rows.items ls) whole c.loop-rest.invariant.so_far in
+    let read = subst (λ (ls : List (List _)). HasRead k digest all c.in-Ok.last c.loop-rest.number
+    c.loop-rest.rows.items ls) whole c.loop-rest.invariant.so_far in
     let kept : c.shrink_to_fit.new.self.items ≡ c.loop-rest.rows.items = c.shrink_to_fit.ensures.items in
     subst (λ (rows : List OpeningRow). length all ≡ length rows + 1) (sym {b = c.loop-rest.rows.items} kept)
-    (counted k digest all (told_by c.loop-rest.rows.items c.in-Ok.last) (done k digest all c.in-Ok.last c.loop-rest.number c.loop-rest.rows.items read))
+    (counted k digest all (told_by c.loop-rest.rows.items c.in-Ok.last)
+    (done k digest all c.in-Ok.last c.loop-rest.number c.loop-rest.rows.items read))

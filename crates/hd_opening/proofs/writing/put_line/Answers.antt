@@ -16,6 +16,7 @@ loop-piece-preserved g c =
     rw (more, ← c.piece-item.is) (
       texts ++ text ∷ [],
       texts_push k (take at pieces) texts piece text c.loop-piece.invariant.1 c.in_ok-put.ensures.1,
-      c.in_ok-put.ensures.2 ∙ ap (λ o. o ++ text) {x = c.push-in-loop-piece.new.self.items} {y = c.loop-piece.out.items ++ 124 ∷ []} c.in_ok-push-2.ensures.items
+      c.in_ok-put.ensures.2 ∙ ap (λ o. o ++ text) {x = c.push-in-loop-piece.new.self.items} {y =
+          c.loop-piece.out.items ++ 124 ∷ []} c.in_ok-push-2.ensures.items
           ∙ behind_more start c.loop-piece.out.items texts text c.loop-piece.invariant.2,
     )

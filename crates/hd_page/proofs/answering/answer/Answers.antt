@@ -8,5 +8,6 @@ returns g c = record {
   written = c.in_ok-write_reply.ensures;
   follows = c.sequel_of.ensures;
   read = c.in_ok-method.ensures.read;
+  over = c.in_ok-method.ensures.over;
   unread = c.in_ok-method.ensures.unread;
 }

@@ -5,4 +5,5 @@ use Rattle.hd_rules.proofs.FamiliarTurns.{known_journal}
 use Rattle.hd_rules.proofs.laws.a_legal_journal_is_the_run_of_its_survivors.Goals as goal
 
 pub returns : goal.returns
-returns c = record { run = legal_is_run; records = each_has_one; replies = each_replies; known = known_journal }
+returns c =
+    record { run = legal_is_run; records = each_has_one; replies = each_replies; known = known_journal }

@@ -5,4 +5,10 @@ use Rattle.hd_rules.proofs.Familiar.{known_done}
 use Rattle.hd_rules.proofs.laws.commands_keep_desks_sound.Goals as goal
 
 pub returns : goal.returns
-returns c = record { few = at_most_four; fit = on_through_fit; sound = sound_after; runs = reachable_sound; known = known_done }
+returns c = record {
+  few = at_most_four;
+  fit = on_through_fit;
+  sound = sound_after;
+  runs = reachable_sound;
+  known = known_done;
+}

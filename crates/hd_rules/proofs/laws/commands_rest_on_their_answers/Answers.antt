@@ -6,7 +6,8 @@ use Rattle.hd_rules.proofs.laws.commands_rest_on_their_answers.Goals as goal
 
 pub returns : goal.returns
 returns c = record {
-  alike = λ k d e n command alike. (same_outcome k d e (plan k n command) alike, same_asks k d e (plan k n command) alike);
+  alike = λ k d e n command alike.
+      (same_outcome k d e (plan k n command) alike, same_asks k d e (plan k n command) alike);
   told = told_alike;
   written = each_written;
 }

@@ -5,7 +5,8 @@ use Rattle.hd_rules.proofs.Same.{value_self, answer_self, asked_self, line_self,
 use Rattle.hd_rules.proofs.Alike.{value_is, answer_is, asked_is, line_is, turn_reply_is}
 use Rattle.hd_rules.proofs.laws.tests_are_exact.Goals as goal
 
-exact : {A : Type 0} (same : A → A → Bool) → ((x y : A) → same x y ≡ true → x ≡ y) → ((x : A) → same x x ≡ true) → IsExact same
+exact : {A : Type 0} (same : A → A → Bool) → ((x y : A) → same x y ≡ true → x ≡ y)
+    → ((x : A) → same x x ≡ true) → IsExact same
 exact same is self x y = (is x y, (λ e. subst (λ z. same x z ≡ true) e (self x)))
 
 pub returns : goal.returns

@@ -9,7 +9,8 @@ use Rattle.hd_rules.proofs.Walk.{none_depends, least_depends, walk_is}
 use Rattle.hd_rules.proofs.Dependence.{depends_is}
 use Rattle.hd_rules.proofs.laws.the_first_dependent_is_the_least.Goals as goal
 
-by_result : (k : Facts) (older : List Survivor) (c : Survivor) (newer : List Survivor) → Rising (first_number k) (older ++ c ∷ newer) → (o : Option ℕ)
+by_result : (k : Facts) (older : List Survivor) (c : Survivor) (newer : List Survivor)
+    → Rising (first_number k) (older ++ c ∷ newer) → (o : Option ℕ)
     → first_dependent k (older ++ c ∷ newer) c newer ≡ o
     → MatchOption o (NoneDepends k (older ++ c ∷ newer) c) (IsLeastDependent k (older ++ c ∷ newer) c)
 by_result k older c newer rising None is = none_depends k (first_number k) older c newer rising is
@@ -17,7 +18,8 @@ by_result k older c newer rising (Some m) is = least_depends k (first_number k) 
 
 pub returns : goal.returns
 returns c = record {
-  least = λ k older x newer rising. by_result k older x newer rising (first_dependent k (older ++ x ∷ newer) x newer) refl;
+  least = λ k older x newer rising. by_result k older x newer rising
+      (first_dependent k (older ++ x ∷ newer) x newer) refl;
   walk = λ k older x newer rising. walk_is k (first_number k) older x newer rising;
   decided = depends_is;
 }

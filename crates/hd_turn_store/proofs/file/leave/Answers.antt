@@ -1,6 +1,6 @@
 use Rattle.std.proofs.Math.Logic.{∥∥₁_map}
 use Rattle.sqlite_trees.specs.Tree.{Trees}
-use Rattle.sqlite.specs.Files.{file_state, HoldsDatabase}
+use Rattle.sqlite.specs.Files.{HoldsDatabase}
 use Rattle.sqlite_store.specs.Laws.{settled_at}
 use Rattle.sqlite.proofs.Theorems.{opens_again}
 use Rattle.hd_turn_store.specs.Tables.{Stores}
@@ -15,6 +15,6 @@ returns g c clean head ks holds left may =
     (λ x. let r : (db : Trees) × HoldsDatabase left db × Stores head ks db = (
       x.0,
       x.2,
-      lasting (file_state c.args.conn) head ks x.0 holds
+      lasting x.0 holds
           (settled_at c.args.conn.store g.met.D.Disk.seen_may_stay _ holds.is_open (e.quiet.outcomes _ x.1)),
     ) in r)

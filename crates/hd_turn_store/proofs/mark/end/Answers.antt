@@ -1,54 +1,48 @@
-use Rattle.std.proofs.Common.{[], ◌∙◌, List, subst}
+use Rattle.std.proofs.Common.{◌≡◌, ◌∙◌, ℕ, [], List, subst}
 use Rattle.std.proofs.Math.Logic.{∥∥₁_map}
+use Rattle.sqlite_disk.specs.declared.Disk.{Ghosts}
 use Rattle.sqlite_pool.proofs.StateLemmas.{clean_is, may_leave_is}
-use Rattle.sqlite_store.specs.FileStore.{view}
+use Rattle.sqlite_store.specs.FileStore.{files, view}
+use Rattle.sqlite_store.specs.declared.store.FileStore.{FileStore}
 use Rattle.sqlite_trees.proofs.Doubt.{no_doubt}
 use Rattle.sqlite_trees.specs.Tree.{Trees}
 use Rattle.sqlite_trees.specs.View.{IsClean}
 use Rattle.sqlite_wal.specs.Files.{outcomes}
 use Rattle.sqlite_wal.specs.Reads.{AreClean}
-use Rattle.sqlite.specs.Files.{HoldsDatabase}
+use Rattle.sqlite.specs.Files.{HoldsDatabase, file_state}
+use Rattle.sqlite.specs.Held.{Held}
 use Rattle.sqlite.specs.Recovery.{Image}
+use Rattle.hd_turn_store.specs.Holds.{Holds}
 use Rattle.hd_turn_store.specs.Kept.{Head, KeptTurn}
-use Rattle.hd_turn_store.specs.Marks.{HasMark, ended_mark}
+use Rattle.hd_turn_store.specs.Marks.{HasMark, IsMarked, ended_mark}
 use Rattle.hd_turn_store.specs.Tables.{Stores}
 use Rattle.hd_turn_store.proofs.mark.end.Goals as goal
 
--- two files that hold a database with these rows
-abbrev HeldRows : Image → Head → List KeptTurn → Type 0
-HeldRows left head ks = (db : Trees) × HoldsDatabase left db × Stores head ks db
-
--- two files that hold a database with the mark of an end
-abbrev HeldMark : Image → Type 0
-HeldMark left = (db : Trees) × HoldsDatabase left db × HasMark ended_mark db
+-- what a marked store has is held by whatever a crash leaves of its files, also without the log
+held_alone : {D : Type 0} {g : Ghosts D} {mark : ℕ} (conn : Held (FileStore D g)) (last : FileStore D g)
+    (log db : D) → (log, db) ≡ files last → (IsClean (view last) → IsMarked conn mark last)
+    → AreClean g log db → (head : Head) (ks : List KeptTurn) → Holds (file_state conn) head ks
+    → (left : Image) → outcomes g log db left
+    → (P : Trees → Type 0) → (IsMarked conn mark last → P (view last).committed)
+    → ∥ ((db : Trees) × HoldsDatabase left db × P db) ∥₁
+    × ∥ ((db : Trees) × HoldsDatabase (record left { log = [] }) db × P db) ∥₁
+held_alone {g} conn last log db is marked honest head ks holds left may P has =
+    let now = subst (λ p. AreClean g p.0 p.1) is honest in
+    let none : IsClean (view last) = no_doubt _ (clean_is last.pool ∙ now) in
+    let then = subst (λ p. outcomes g p.0 p.1 left) is may in
+    let it = (marked none).copied head ks holds left (may_leave_is last.pool left now then) in (
+      ∥∥₁_map it.both (λ held. ((view last).committed, held, has (marked none))),
+      ∥∥₁_map it.alone (λ held. ((view last).committed, held, has (marked none))),
+    )
 
 pub returns-in-Ok-clause-copied : goal.returns-in-Ok-clause-copied
 returns-in-Ok-clause-copied g c honest head ks holds left may =
-    let last = c.in-Ok.store in
-    let now = subst (λ p. AreClean g.D.Disk p.0 p.1) c.close.ensures honest in
-    let none : IsClean (view last) = no_doubt _ (clean_is last.pool ∙ now) in
-    let marked = c.in-Ok.ensures.marked none in
-    let then = subst (λ p. outcomes g.D.Disk p.0 p.1 left) c.close.ensures may in
-    let it = marked.copied head ks holds left (may_leave_is last.pool left now then) in
-    let rows = marked.kept head ks holds in
-    record {
-      both = ∥∥₁_map it.both (λ held.
-          let r : HeldRows left head ks = ((view last).committed, held, rows) in r);
-      alone = ∥∥₁_map it.alone (λ held.
-          let r : HeldRows (record left { log = [] }) head ks = ((view last).committed, held, rows) in r);
-    }
+    let it = held_alone c.args.conn c.in-Ok.store _ _ c.close.ensures c.in-Ok.ensures.marked honest head ks
+    holds left may (Stores head ks) (λ marked. marked.kept head ks holds) in
+    record { both = it.0; alone = it.1 }
 
 pub returns-in-Ok-clause-ended : goal.returns-in-Ok-clause-ended
 returns-in-Ok-clause-ended g c honest head ks holds left may =
-    let last = c.in-Ok.store in
-    let now = subst (λ p. AreClean g.D.Disk p.0 p.1) c.close.ensures honest in
-    let none : IsClean (view last) = no_doubt _ (clean_is last.pool ∙ now) in
-    let marked = c.in-Ok.ensures.marked none in
-    let then = subst (λ p. outcomes g.D.Disk p.0 p.1 left) c.close.ensures may in
-    let it = marked.copied head ks holds left (may_leave_is last.pool left now then) in
-    record {
-      both = ∥∥₁_map it.both (λ held.
-          let r : HeldMark left = ((view last).committed, held, marked.mark_is) in r);
-      alone = ∥∥₁_map it.alone (λ held.
-          let r : HeldMark (record left { log = [] }) = ((view last).committed, held, marked.mark_is) in r);
-    }
+    let it = held_alone c.args.conn c.in-Ok.store _ _ c.close.ensures c.in-Ok.ensures.marked honest head ks
+    holds left may (HasMark ended_mark) (λ marked. marked.mark_is) in
+    record { both = it.0; alone = it.1 }

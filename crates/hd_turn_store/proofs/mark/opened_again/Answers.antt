@@ -1,5 +1,5 @@
-use Rattle.std.proofs.Common.{◌≡◌, ◌∙◌, IsTrue, ap, arith, inl, inr, refl, subst, sym}
-use Rattle.std.proofs.lemmas.Bool.{both_ways, cases_Bool}
+use Rattle.std.proofs.Common.{◌≡◌, ◌∙◌, IsTrue, ap, arith, refl, subst, sym}
+use Rattle.std.proofs.lemmas.Bool.{both_ways, true_from_ne_false}
 use Rattle.sqlite.specs.Effect.{Database}
 use Rattle.sqlite.specs.Held.{state}
 use Rattle.sqlite.specs.State.{HasCleanDisk}
@@ -27,8 +27,6 @@ returns-then-not-is_journal-clause-left g c clean db may =
     let last = laws.settled again.store db opens.is_open (c.into_store.ensures.quiet.outcomes db may) in
     let is : db ≡ (g.S.Store.view store).committed =
     last ∙ sym (ap (λ (d : Database). d.trees) opens.clean) ∙ c.in-Ok.ensures.trees now ∙ fresh.clean in
-    let is_open : IsTrue (g.S.Store.view store).is_open = elim (cases_Bool (g.S.Store.view store).is_open) [
-      | inl h ↦ h
-      | inr shut ↦ absurd (both_ways _ fresh.sound (laws.broken_if_shut store shut))
-    ] in
+    let is_open : IsTrue (g.S.Store.view store).is_open =
+    true_from_ne_false _ (λ shut. both_ways _ fresh.sound (laws.broken_if_shut store shut)) in
     subst (g.S.Store.recovers store) (sym is) (laws.stays store is_open)

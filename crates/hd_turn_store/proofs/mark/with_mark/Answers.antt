@@ -8,8 +8,7 @@ use Rattle.sqlite_store.specs.FileStore.{view}
 use Rattle.sqlite_store.specs.Laws.{settled_at}
 use Rattle.sqlite_trees.specs.Objects.{version_tree}
 use Rattle.sqlite_trees.specs.View.{IsClean}
-use Rattle.hd_turn_store.proofs.Commits.{lasting}
-use Rattle.hd_turn_store.proofs.Marking.{keeps_marked, sound_beside, stores_beside}
+use Rattle.hd_turn_store.proofs.Marking.{keeps_marked, keeps_turns, sound_beside, stores_beside}
 use Rattle.hd_turn_store.proofs.mark.with_mark.Goals as goal
 
 pub returns-in-Ok-clause-marked : goal.returns-in-Ok-clause-marked
@@ -48,25 +47,18 @@ returns-in-Ok-clause-marked g c none =
     }
 
 pub returns-then-not-is_ours-clause-left : goal.returns-then-not-is_ours-clause-left
-returns-then-not-is_ours-clause-left g c head ks holds db may =
-    lasting (file_state c.args.conn) head ks db holds
-    (settled_at c.args.conn.store g.met.D.Disk.seen_may_stay _ holds.is_open
-    (c.store_of-store.ensures.quiet.outcomes _ may))
+returns-then-not-is_ours-clause-left g c =
+    keeps_turns g.met.D.Disk.seen_may_stay c.args.conn c.store_of-store.result.0
+    c.store_of-store.ensures.quiet.outcomes
 
 pub returns-in-Ok-clause-kept : goal.returns-in-Ok-clause-kept
 returns-in-Ok-clause-kept g c =
-    keeps_marked c.args.conn c.store_of-store.result.0 c.put_mark.new.store
-    (λ b_open. (c.store_of-store.ensures.undone.undone b_open).0)
-    (λ head ks holds db may. lasting (file_state c.args.conn) head ks db holds
-    (settled_at c.args.conn.store g.met.D.Disk.seen_may_stay _ holds.is_open
-    (c.store_of-store.ensures.quiet.outcomes _ may)))
-    c.put_mark.ensures.crash
+    keeps_marked g.met.D.Disk.seen_may_stay c.args.conn c.store_of-store.result.0
+    c.store_of-store.ensures.quiet.outcomes c.put_mark.new.store
+    (λ b_open. (c.store_of-store.ensures.undone.undone b_open).0) c.put_mark.ensures.crash
 
 pub returns-in-Err-clause-left : goal.returns-in-Err-clause-left
 returns-in-Err-clause-left g c =
-    keeps_marked c.args.conn c.store_of-store.result.0 c.put_mark.new.store
-    (λ b_open. (c.store_of-store.ensures.undone.undone b_open).0)
-    (λ head ks holds db may. lasting (file_state c.args.conn) head ks db holds
-    (settled_at c.args.conn.store g.met.D.Disk.seen_may_stay _ holds.is_open
-    (c.store_of-store.ensures.quiet.outcomes _ may)))
-    c.put_mark.ensures.crash
+    keeps_marked g.met.D.Disk.seen_may_stay c.args.conn c.store_of-store.result.0
+    c.store_of-store.ensures.quiet.outcomes c.put_mark.new.store
+    (λ b_open. (c.store_of-store.ensures.undone.undone b_open).0) c.put_mark.ensures.crash

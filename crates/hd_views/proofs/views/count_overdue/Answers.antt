@@ -20,7 +20,8 @@ loop-copy-preserved-then-is_some g c =
     c.loop-copy.copy-iterator)
     ≡ length (filter_map (overdue_copy (desk_of c.args.desk.now) c.args.day) c.next.new.self) + 1 =
     ap (λ (cs : List ℕ). length (filter_map (overdue_copy (desk_of c.args.desk.now) c.args.day) cs)) step
-    ∙ counted_one (overdue_copy (desk_of c.args.desk.now) c.args.day) c.in-Some.copy c.next.new.self found in (
+    ∙ counted_one
+    (overdue_copy (desk_of c.args.desk.now) c.args.day) c.in-Some.copy c.next.new.self found in (
       omega (arith, c.loop-copy.invariant.0),
       All-rest (λ (copy : ℕ). copy < (facts c.args.desk.now).copies) c.in-Some.copy c.next.new.self
           c.loop-copy.copy-iterator step c.loop-copy.invariant.1,
@@ -40,7 +41,8 @@ loop-copy-preserved g c =
     c.loop-copy.copy-iterator)
     ≡ length (filter_map (overdue_copy (desk_of c.args.desk.now) c.args.day) c.next.new.self) =
     ap (λ (cs : List ℕ). length (filter_map (overdue_copy (desk_of c.args.desk.now) c.args.day) cs)) step
-    ∙ counted_none (overdue_copy (desk_of c.args.desk.now) c.args.day) c.in-Some.copy c.next.new.self found in (
+    ∙ counted_none
+    (overdue_copy (desk_of c.args.desk.now) c.args.day) c.in-Some.copy c.next.new.self found in (
       omega (arith, c.loop-copy.invariant.0),
       All-rest (λ (copy : ℕ). copy < (facts c.args.desk.now).copies) c.in-Some.copy c.next.new.self
           c.loop-copy.copy-iterator step c.loop-copy.invariant.1,

@@ -17,8 +17,10 @@ pub returns-then-eq-2-clause-read : goal.returns-then-eq-2-clause-read
 returns-then-eq-2-clause-read c = (
   c.in_ok-catalogue.catalogue,
   c.in_ok-catalogue.ensures.accepted,
-  read_moved (lines_of c.args.file.now) (lines_of c.as_slice-bytes.result.now) c.in_ok-catalogue.catalogue c.in-Ok-read.catalogue
-      c.args.offset (c.is_moved.ensures c.if-not-is_moved.false) c.in_ok-catalogue.ensures.accepted c.in-Ok-read.ensures.accepted
+  read_moved (lines_of c.args.file.now)
+      (lines_of c.as_slice-bytes.result.now) c.in_ok-catalogue.catalogue c.in-Ok-read.catalogue
+      c.args.offset (c.is_moved.ensures c.if-not-is_moved.false) c.in_ok-catalogue.ensures.accepted
+      c.in-Ok-read.ensures.accepted
       (trans (sym c.offset-2.ensures)
       ((Decides-int_eq c.offset-2.result c.args.offset).0 (trans (sym c.eq-2.ensures) c.if-eq-2.true))),
 )

@@ -9,7 +9,8 @@ returns-in-Some-minutes_of-clause-offset c = (
   c.in_ok-zone.zone,
   c.in_ok-zone.ensures.zone,
   trans c.in-Some-minutes_of.ensures.minutes
-      (ap (λ o. o.seconds) (trans c.to_offset.ensures (ap (offset_at c.in_ok-zone.zone) c.in-Some.ensures.moment))),
+      (ap (λ o. o.seconds)
+      (trans c.to_offset.ensures (ap (offset_at c.in_ok-zone.zone) c.in-Some.ensures.moment))),
 )
 
 pub returns-clause-fault : goal.returns-clause-fault
@@ -18,6 +19,7 @@ returns-clause-fault c = (
   c.in_ok-zone.ensures.zone,
   λ whole. c.in-None.ensures.none
       (subst IsWhole
-      (sym (ap (λ o. o.seconds) (trans c.to_offset.ensures (ap (offset_at c.in_ok-zone.zone) c.in-Some.ensures.moment))))
+      (sym (ap (λ o. o.seconds)
+      (trans c.to_offset.ensures (ap (offset_at c.in_ok-zone.zone) c.in-Some.ensures.moment))))
       whole),
 )

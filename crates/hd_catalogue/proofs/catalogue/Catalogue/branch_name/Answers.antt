@@ -5,7 +5,8 @@ use Rattle.hd_catalogue.proofs.catalogue.Catalogue.branch_name.Goals as goal
 
 pub returns-clause-proper : goal.returns-clause-proper
 returns-clause-proper g c =
-    let named : name_at c.self.inside.branches c.number-number.result ≡ Some c.unwrap.result.now = search rules in
+    let named : name_at c.self.inside.branches c.number-number.result ≡ Some c.unwrap.result.now =
+    search rules in
     c.self.invariant.1.branches c.number-number.result c.unwrap.result.now named
 
 pub returns-clause-short : goal.returns-clause-short

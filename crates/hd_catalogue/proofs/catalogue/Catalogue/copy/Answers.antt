@@ -7,4 +7,5 @@ unfolding copy_name copy_number facts_of
 returns g c =
     let at = c.in_ok-number.ensures in
     let is = found c.new.ensures at.value at.found at.in_range c.self.invariant.0.facts.copies in
-    rw (← c.self.view_is) (record { number = is.number; named = is.named; in_range = is.in_range; none = is.none })
+    rw (← c.self.view_is)
+    (record { number = is.number; named = is.named; in_range = is.in_range; none = is.none })

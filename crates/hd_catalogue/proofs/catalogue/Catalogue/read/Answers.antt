@@ -1,4 +1,5 @@
-use Rattle.std.proofs.Common.{◌≡◌, ◌+◌, ◌<◌, ◌∷◌, [], inl, inr, refl, sym, ap, subst, arith, length, Result, Err, Ok}
+use Rattle.std.proofs.Common.{◌≡◌, ◌+◌, ◌<◌, ◌∷◌, [], inl, inr, refl, sym, ap, subst, arith, length, Result}
+use Rattle.std.proofs.Common.{Err, Ok}
 use Rattle.std.specs.Str.Lines.{lines}
 use Rattle.std.proofs.lemmas.Grind.{common_steps}
 use Rattle.std.proofs.lemmas.List.{nil_from_length}
@@ -11,7 +12,8 @@ use Rattle.hd_catalogue.proofs.catalogue.Catalogue.read.Goals as goal
 pub returns-in-Err-clause-refused : goal.returns-in-Err-clause-refused
 returns-in-Err-clause-refused g c =
     let first = c.first_line-first.result in
-    first_refused first.line.now (lines first.after.now) (lines_of c.args.bytes.now) c.in-Err.cause c.first_line-first.ensures.first
+    first_refused first.line.now (lines first.after.now)
+    (lines_of c.args.bytes.now) c.in-Err.cause c.first_line-first.ensures.first
     c.in-Err.ensures
 
 pub loop-rest-init : goal.loop-rest-init
@@ -20,16 +22,19 @@ loop-rest-init g c =
     record {
       counted = omega (arith, c.first_line-first.ensures.within);
       follows =
-          λ r f. begun_reading first.line.now (lines first.after.now) (lines_of c.args.bytes.now) _ r c.first_line-first.ensures.first
+          λ r f. begun_reading first.line.now (lines first.after.now)
+          (lines_of c.args.bytes.now) _ r c.first_line-first.ensures.first
           c.in-Ok.ensures.0 c.in-Ok.ensures.1 f;
     }
 
 pub returns-in-Err-read_line-clause-refused : goal.returns-in-Err-read_line-clause-refused
 returns-in-Err-read_line-clause-refused g c =
     let some : 0 < length c.loop-rest.rest.now = grind (arith, common_steps) in
-    let whole : lines c.loop-rest.rest.now ≡ c.first_line-next.result.line.now ∷ lines c.first_line-next.result.after.now =
+    let whole : lines c.loop-rest.rest.now
+    ≡ c.first_line-next.result.line.now ∷ lines c.first_line-next.result.after.now =
     c.first_line-next.ensures.lines some in
-    let answer : Result Contents CatFault = Err (record { line = c.loop-rest.number + 1; cause = c.in-Err-read_line.cause }) in
+    let answer : Result Contents CatFault =
+    Err (record { line = c.loop-rest.number + 1; cause = c.in-Err-read_line.cause }) in
     c.loop-rest.invariant.follows answer
     (subst (λ ls. Follows (c.loop-rest.number + 1) ls c.loop-rest.catalogue answer) (sym whole)
     (inr (c.in-Err-read_line.cause, c.in-Err-read_line.ensures, refl)))
@@ -37,7 +42,8 @@ returns-in-Err-read_line-clause-refused g c =
 pub loop-rest-preserved : goal.loop-rest-preserved
 loop-rest-preserved g c =
     let some : 0 < length c.loop-rest.rest.now = grind (arith, common_steps) in
-    let whole : lines c.loop-rest.rest.now ≡ c.first_line-next.result.line.now ∷ lines c.first_line-next.result.after.now =
+    let whole : lines c.loop-rest.rest.now
+    ≡ c.first_line-next.result.line.now ∷ lines c.first_line-next.result.after.now =
     c.first_line-next.ensures.lines some in
     record {
       counted = omega (arith, c.first_line-next.ensures.shorter some, c.loop-rest.invariant.counted);
@@ -45,7 +51,8 @@ loop-rest-preserved g c =
           (subst (λ ls. Follows (c.loop-rest.number + 1) ls c.loop-rest.catalogue r) (sym whole)
           (inl (
             c.in_default.ensures.0,
-            subst (λ k. Follows (c.loop-rest.number + 1 + 1) (lines c.first_line-next.result.after.now) k r) c.in_default.ensures.1 f,
+            subst (λ k. Follows (c.loop-rest.number + 1 + 1) (lines c.first_line-next.result.after.now) k r)
+                c.in_default.ensures.1 f,
           )));
     }
 
@@ -58,4 +65,5 @@ returns-clause-accepted g c =
     (subst (λ ls. Follows (c.loop-rest.number + 1) ls c.loop-rest.catalogue answer) (sym whole) refl)
 
 pub returns-clause-rows : goal.returns-clause-rows
-returns-clause-rows g c = accepted_fresh (lines_of c.args.bytes.now) c.loop-rest.catalogue (returns-clause-accepted g c)
+returns-clause-rows g c =
+    accepted_fresh (lines_of c.args.bytes.now) c.loop-rest.catalogue (returns-clause-accepted g c)

@@ -10,7 +10,8 @@ use Rattle.hd_catalogue.proofs.catalogue.Catalogue.read.Given as goal
 abbrev pub invariant-loop-rest : goal.invariant-loop-rest
 invariant-loop-rest g l = record {
   counted : l.number + length l.rest ≤ length l.bytes + 1;
-  follows : (r : Result Contents CatFault) → Follows (l.number + 1) (lines l.rest) l.catalogue r → IsReading (lines_of l.bytes) r;
+  follows : (r : Result Contents CatFault) → Follows (l.number + 1) (lines l.rest) l.catalogue r
+      → IsReading (lines_of l.bytes) r;
 }
 
 abbrev pub decreases-loop-rest : goal.decreases-loop-rest

@@ -10,10 +10,12 @@ invariant_of-self-2 g c =
     let new = first-name _ _ _ (sym c.are_names.ensures ∙ c.if-not-are_names.false) in
     let title : c.unwrap.result.title < length c.self.inside.titles =
     subst (λ n. c.unwrap.result.title < n) (ap (λ k. length k.titles) (sym c.self.view_is))
-    (when_some c.copy_facts-facts.result c.unwrap.result _ c.copy_facts-facts.ensures.title c.unwrap.ensures) in
+    (when_some c.copy_facts-facts.result c.unwrap.result _ c.copy_facts-facts.ensures.title
+    c.unwrap.ensures) in
     let home : c.unwrap.result.home < length c.self.inside.branches =
     subst (λ n. c.unwrap.result.home < n) (ap (λ k. length k.branches) (sym c.self.view_is))
-    (when_some c.copy_facts-facts.result c.unwrap.result _ c.copy_facts-facts.ensures.home c.unwrap.ensures) in
+    (when_some c.copy_facts-facts.result c.unwrap.result _ c.copy_facts-facts.ensures.home
+    c.unwrap.ensures) in
     rw (when_ok c.define.result _ c.define.ensures.ok (sym c.is_err.ensures.value ∙ c.if-is_err.false)) (
       sound-copy _ _ _ c.self.invariant.0 c.in_ok-check_name.ensures.room title home,
       record {

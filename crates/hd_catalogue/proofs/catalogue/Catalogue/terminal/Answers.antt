@@ -6,7 +6,8 @@ use Rattle.hd_catalogue.proofs.catalogue.Catalogue.terminal.Goals as goal
 
 pub returns-in_err-number-clause-none : goal.returns-in_err-number-clause-none
 unfolding IsTerminal
-returns-in_err-number-clause-none g c = rw c.from_residual.ensures λ terminal is. c.in_err-number.ensures.none terminal
+returns-in_err-number-clause-none g c =
+    rw c.from_residual.ensures λ terminal is. c.in_err-number.ensures.none terminal
     (subst (λ k. name_at k.terminals terminal ≡ Some c.args.name.now) (sym c.self.view_is) is.0)
 
 pub returns-then-not-is_password-clause-none : goal.returns-then-not-is_password-clause-none
@@ -14,7 +15,8 @@ unfolding IsTerminal
 returns-then-not-is_password-clause-none g c = λ terminal is.
     let same = c.in_ok-number.ensures.only terminal
     (subst (λ k. name_at k.terminals terminal ≡ Some c.args.name.now) (sym c.self.view_is) is.0) in
-    true≢false (sym is.1 ∙ ap (λ t. is_password c.args.self.now t c.args.word.now) same ∙ sym c.if-not-is_password.ensures)
+    true≢false (sym is.1 ∙ ap (λ t. is_password c.args.self.now t c.args.word.now) same
+    ∙ sym c.if-not-is_password.ensures)
 
 pub returns-clause-number : goal.returns-clause-number
 unfolding terminal_number facts_of
@@ -22,7 +24,11 @@ returns-clause-number g c =
     let few = c.self.invariant.0.facts.terminals in
     let found = subst (λ k. number_of k.terminals c.args.name.now ≡ Some c.in_ok-number.number)
     c.self.view_is (sym c.in_ok-number.ensures.value) in
-    rw (place_is_number c.new.ensures c.in_ok-number.ensures.in_range few, found, ← c.if-not-is_password.ensures) refl
+    rw (
+      place_is_number c.new.ensures c.in_ok-number.ensures.in_range few,
+      found,
+      ← c.if-not-is_password.ensures,
+    ) refl
 
 pub returns-clause-named : goal.returns-clause-named
 unfolding IsTerminal facts_of
@@ -35,7 +41,8 @@ pub returns-clause-in_range : goal.returns-clause-in_range
 unfolding facts_of
 returns-clause-in_range g c =
     let few = c.self.invariant.0.facts.terminals in
-    rw (place_is_number c.new.ensures c.in_ok-number.ensures.in_range few, ← c.self.view_is) c.in_ok-number.ensures.in_range
+    rw (place_is_number c.new.ensures c.in_ok-number.ensures.in_range few, ← c.self.view_is)
+    c.in_ok-number.ensures.in_range
 
 pub returns-clause-none : goal.returns-clause-none
 unfolding facts_of

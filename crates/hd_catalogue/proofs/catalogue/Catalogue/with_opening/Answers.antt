@@ -26,4 +26,5 @@ invariant_of-self g c =
 
 pub returns-in-None-clause-fit : goal.returns-in-None-clause-fit
 returns-in-None-clause-fit g c =
-    subst (All (Fits (facts_of c.args.self) (c.args.last + 1))) c.as_slice.ensures.value c.in-None.ensures.none
+    subst (All (Fits (facts_of c.args.self) (c.args.last + 1))) c.as_slice.ensures.value
+    c.in-None.ensures.none

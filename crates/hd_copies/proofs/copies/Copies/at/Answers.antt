@@ -16,10 +16,12 @@ returns g c =
     let x = c.self.inside.indexes in
     let branch : c.args.branch < k.branches = rw (← c.self.view_is) at c.requires in
     let read : c.index.result.now ≡ get_or x.shelves c.number.result c.index.result.now =
-    c.index.ensures ∙ ap (λ (v : _). get_or v.indexes.shelves c.number.result c.index.result.now) c.self-inside.view_is in
+    c.index.ensures
+    ∙ ap (λ (v : _). get_or v.indexes.shelves c.number.result c.index.result.now) c.self-inside.view_is in
     let shelf : c.index.result.now ≡ get_or x.shelves c.args.branch no_shelf =
     shelf_at x.shelves c.number.result c.args.branch c.index.result.now c.number.ensures.value
     (omega (arith, branch, c.self.invariant.indexed.shelves.branches_in)) read in
     let at : c.at.result ≡ copy_at x.shelves c.args.branch c.args.place =
     c.at.ensures.value ∙ ap (λ (s : PlacesValue). map.get s.copies c.args.place) shelf in
-    rw (← c.self.view_is) (at-is k c.self.inside.states.items x c.args.branch c.args.place c.at.result c.self.invariant branch at)
+    rw (← c.self.view_is) (at-is k c.self.inside.states.items x c.args.branch c.args.place c.at.result
+    c.self.invariant branch at)

@@ -15,10 +15,13 @@ returns g c = λ d e.
     let x = c.self.inside.indexes in
     let branch : c.args.branch < k.branches = rw (← c.self.view_is) at c.requires in
     let read : c.index.result.now ≡ get_or x.shelves c.number.result c.index.result.now =
-    c.index.ensures ∙ ap (λ (v : _). get_or v.indexes.shelves c.number.result c.index.result.now) c.self-inside.view_is in
+    c.index.ensures
+    ∙ ap (λ (v : _). get_or v.indexes.shelves c.number.result c.index.result.now) c.self-inside.view_is in
     let shelf : c.index.result.now ≡ get_or x.shelves c.args.branch no_shelf =
     shelf_at x.shelves c.number.result c.args.branch c.index.result.now c.number.ensures.value
     (omega (arith, branch, c.self.invariant.indexed.shelves.branches_in)) read in
-    let least : LeastFree (get_or x.shelves c.args.branch no_shelf).copies c.least_free.result = rw shelf at c.least_free.ensures.least in
-    rw (← c.self.view_is) (least-is c.place_is_the_least_free.ensures k c.self.inside.states.items x d c.args.branch c.least_free.result
+    let least : LeastFree (get_or x.shelves c.args.branch no_shelf).copies c.least_free.result =
+    rw shelf at c.least_free.ensures.least in
+    rw (← c.self.view_is) (least-is c.place_is_the_least_free.ensures k c.self.inside.states.items x d
+    c.args.branch c.least_free.result
     c.self.invariant branch (rw (← c.self.view_is) at e) least)

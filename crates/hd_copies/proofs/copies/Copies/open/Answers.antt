@@ -11,7 +11,8 @@ invariant_of-result g c =
     let k = facts_of (arc_value c.args.catalogue) in
     let home : AreAtHome k c.in_ok-states.states.items = rw c.deref.ensures at c.in_ok-states.ensures.home in
     let range : AreInRange k = rw c.deref.ensures at c.in_ok-states.ensures.range in
-    let indexed : IsIndexed k (each_at_home k) c.in_ok-indexes.indexes = rw c.deref-2.ensures at c.in_ok-indexes.ensures in
+    let indexed : IsIndexed k (each_at_home k) c.in_ok-indexes.indexes =
+    rw c.deref-2.ensures at c.in_ok-indexes.ensures in
     record {
       fit = states-home k c.in_ok-states.states.items range home;
       indexed = rw (found-home k c.in_ok-states.states.items home) indexed;

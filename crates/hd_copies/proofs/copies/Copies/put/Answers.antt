@@ -16,12 +16,14 @@ unfolding standing
 enter-requires-clause-states g c =
     let requires = rw (← c.self.view_is) at c.requires in
     rw (c.deref-3.ensures, c.deref-4.ensures.value)
-    (states-put (facts_of (arc_value c.self.inside.catalogue)) c.self.inside.states.items c.number-at.result c.args.copy c.args.new.now
+    (states-put (facts_of (arc_value c.self.inside.catalogue)) c.self.inside.states.items c.number-at.result
+    c.args.copy c.args.new.now
     c.self.invariant.fit c.number-at.ensures.value requires.copy requires.known requires.welcome)
 
 pub enter-requires-clause-indexed : goal.enter-requires-clause-indexed
 enter-requires-clause-indexed g c =
-    let left : IsIndexed (facts_of (arc_value c.self.inside.catalogue)) (all_but c.args.copy (slice_get c.self.inside.states.items))
+    let left : IsIndexed (facts_of (arc_value c.self.inside.catalogue))
+    (all_but c.args.copy (slice_get c.self.inside.states.items))
     c.leave.new.self = rw (c.deref.ensures, c.deref-2.ensures.value) at c.leave.ensures.indexed in
     rw (
       c.deref-3.ensures,
@@ -35,8 +37,10 @@ unfolding standing
 invariant_of-self g c =
     let requires = rw (← c.self.view_is) at c.requires in
     record {
-      fit = states-put (facts_of (arc_value c.self.inside.catalogue)) c.self.inside.states.items c.number-at.result c.args.copy
-          c.args.new.now c.self.invariant.fit c.number-at.ensures.value requires.copy requires.known requires.welcome;
+      fit = states-put (facts_of (arc_value c.self.inside.catalogue)) c.self.inside.states.items
+          c.number-at.result c.args.copy
+          c.args.new.now c.self.invariant.fit c.number-at.ensures.value requires.copy requires.known
+          requires.welcome;
       indexed = rw (c.deref-3.ensures, c.deref-4.ensures.value) at c.enter.ensures.indexed;
     }
 
@@ -44,5 +48,6 @@ pub returns-clause-standing : goal.returns-clause-standing
 unfolding standing
 returns-clause-standing g c =
     let copy = rw (← c.self.view_is) at c.requires.copy in
-    rw (← c.self.view_is) (state_in-set c.self.inside.states.items c.number-at.result c.args.copy c.args.new.now c.number-at.ensures.value
+    rw (← c.self.view_is) (state_in-set c.self.inside.states.items c.number-at.result c.args.copy
+    c.args.new.now c.number-at.ensures.value
     (omega (arith, c.self.invariant.fit.copies, copy)))

@@ -8,28 +8,36 @@ use Rattle.hd_stock.specs.Counts.{HasOneCopyMore}
 use Rattle.hd_catalogue.specs.Contents.{facts_of}
 use Rattle.hd_copies.specs.Indexing.{IsIndexed, all_but, copy_at, no_shelf}
 use Rattle.hd_copies.proofs.Moving.{but_here, comes, known_at, read_at}
-use Rattle.hd_copies.proofs.Indexed.{few_of_home, few_of_title, free_for, loan-in, nowhere_on, place-in, rooms-same, shelf-in, shelf_at}
+use Rattle.hd_copies.proofs.Indexed.{few_of_home, few_of_title, free_for, loan-in, nowhere_on, place-in}
+use Rattle.hd_copies.proofs.Indexed.{rooms-same, shelf-in, shelf_at}
 use Rattle.hd_copies.proofs.Indexed.{transit-in}
 use Rattle.hd_copies.proofs.indexes.Indexes.enter.Given.{Over}
 use Rattle.hd_copies.proofs.indexes.Indexes.enter.Goals.{After-index_mut}
 use Rattle.hd_copies.proofs.indexes.Indexes.enter.Goals as goal
 
 -- where a hold shelf is entered: the copy's place, what it names, and the shelf that is read
-stands : (g : Over) (c : After-index_mut g) → slice_get c.args.states.now c.args.copy ≡ Some (OnHoldShelf c.in-OnHoldShelf.there)
+stands : (g : Over) (c : After-index_mut g)
+    → slice_get c.args.states.now c.args.copy ≡ Some (OnHoldShelf c.in-OnHoldShelf.there)
 stands g c =
-    read_at (facts_of c.args.catalogue.now) c.args.states.now c.number.result c.args.copy _ _ c.requires.states c.requires.copy
+    read_at (facts_of c.args.catalogue.now) c.args.states.now c.number.result c.args.copy _ _
+    c.requires.states c.requires.copy
     c.number.ensures.value c.in-OnHoldShelf.is
 
-is_known : (g : Over) (c : After-index_mut g) → IsKnownState (facts_of c.args.catalogue.now) (OnHoldShelf c.in-OnHoldShelf.there)
-is_known g c = known_at (facts_of c.args.catalogue.now) c.args.states.now c.args.copy _ c.requires.states c.requires.copy (stands g c)
+is_known : (g : Over) (c : After-index_mut g)
+    → IsKnownState (facts_of c.args.catalogue.now) (OnHoldShelf c.in-OnHoldShelf.there)
+is_known g c = known_at (facts_of c.args.catalogue.now) c.args.states.now c.args.copy _ c.requires.states
+    c.requires.copy (stands g c)
 
 is_shelf : (g : Over) (c : After-index_mut g) →
     c.index_mut.result.now ≡ get_or c.self.inside.shelves.items c.in-OnHoldShelf.there.branch no_shelf
 is_shelf g c =
-    let old : IsIndexed (facts_of c.args.catalogue.now) (all_but c.args.copy (slice_get c.args.states.now)) _ =
+    let old : IsIndexed (facts_of c.args.catalogue.now)
+    (all_but c.args.copy (slice_get c.args.states.now)) _ =
     rw (← c.self.view_is) at c.requires.indexed in
-    shelf_at c.self.inside.shelves.items c.number-in-OnHoldShelf.result c.in-OnHoldShelf.there.branch c.index_mut.result.now
-    c.number-in-OnHoldShelf.ensures.value (let known = is_known g c in omega (arith, known.0, old.shelves.branches_in))
+    shelf_at c.self.inside.shelves.items c.number-in-OnHoldShelf.result c.in-OnHoldShelf.there.branch
+    c.index_mut.result.now
+    c.number-in-OnHoldShelf.ensures.value
+    (let known = is_known g c in omega (arith, known.0, old.shelves.branches_in))
     c.index_mut.ensures.value
 
 pub put-requires-clause-copies : goal.put-requires-clause-copies
@@ -38,7 +46,8 @@ put-requires-clause-copies g c =
     let f = slice_get c.args.states.now in
     let but = all_but c.args.copy f in
     let old : IsIndexed k but _ = rw (← c.self.view_is) at c.requires.indexed in
-    rw c.title_of.ensures.title (few_of_title k but but c.args.copy _ old (but_here f c.args.copy) c.requires.copy
+    rw c.title_of.ensures.title
+    (few_of_title k but but c.args.copy _ old (but_here f c.args.copy) c.requires.copy
     c.title_of.ensures.facts.copies)
 
 pub put-requires-clause-copies_of_home : goal.put-requires-clause-copies_of_home
@@ -48,7 +57,8 @@ put-requires-clause-copies_of_home g c =
     let but = all_but c.args.copy f in
     let old : IsIndexed k but _ = rw (← c.self.view_is) at c.requires.indexed in
     rw (c.title_of.ensures.title, c.home.ensures.branch)
-    (few_of_home k but but c.args.copy _ old (but_here f c.args.copy) c.requires.copy c.title_of.ensures.facts.copies)
+    (few_of_home k but but c.args.copy _ old
+    (but_here f c.args.copy) c.requires.copy c.title_of.ensures.facts.copies)
 
 pub returns-in-Shelf-clause-indexed : goal.returns-in-Shelf-clause-indexed
 returns-in-Shelf-clause-indexed g c =
@@ -56,11 +66,14 @@ returns-in-Shelf-clause-indexed g c =
     let f = slice_get c.args.states.now in
     let old : IsIndexed k (all_but c.args.copy f) _ = rw (← c.self.view_is) at c.requires.indexed in
     let at : f c.args.copy ≡ Some (Shelf c.in-Shelf.field-0) =
-    read_at k c.args.states.now c.number.result c.args.copy _ _ c.requires.states c.requires.copy c.number.ensures.value c.in-Shelf.is
+    read_at k c.args.states.now c.number.result c.args.copy _ _ c.requires.states c.requires.copy
+    c.number.ensures.value c.in-Shelf.is
     in
-    let more : HasOneCopyMore c.put.new.self c.self.inside.stock (k.title_of c.args.copy) (k.home c.args.copy) =
+    let more : HasOneCopyMore c.put.new.self c.self.inside.stock (k.title_of c.args.copy)
+    (k.home c.args.copy) =
     rw (← c.title_of.ensures.title, ← c.home.ensures.branch) c.put.ensures.one_more in
-    shelf-in k (all_but c.args.copy f) f c.args.copy _ old c.in-Shelf.field-0 c.put.new.self (comes f c.args.copy _ at) c.requires.copy more
+    shelf-in k (all_but c.args.copy f) f c.args.copy _ old c.in-Shelf.field-0 c.put.new.self
+    (comes f c.args.copy _ at) c.requires.copy more
     c.put.ensures.entries
 
 pub returns-in-OnLoan-clause-indexed : goal.returns-in-OnLoan-clause-indexed
@@ -69,9 +82,11 @@ returns-in-OnLoan-clause-indexed g c =
     let f = slice_get c.args.states.now in
     let old : IsIndexed k (all_but c.args.copy f) _ = rw (← c.self.view_is) at c.requires.indexed in
     let at : f c.args.copy ≡ Some (OnLoan c.in-OnLoan.loan) =
-    read_at k c.args.states.now c.number.result c.args.copy _ _ c.requires.states c.requires.copy c.number.ensures.value c.in-OnLoan.is
+    read_at k c.args.states.now c.number.result c.args.copy _ _ c.requires.states c.requires.copy
+    c.number.ensures.value c.in-OnLoan.is
     in
-    loan-in k (all_but c.args.copy f) f c.args.copy _ old c.in-OnLoan.loan c.lend.new.self (comes f c.args.copy _ at) c.lend.ensures.loans
+    loan-in k (all_but c.args.copy f) f c.args.copy _ old c.in-OnLoan.loan c.lend.new.self
+    (comes f c.args.copy _ at) c.lend.ensures.loans
     c.lend.ensures.copies c.lend.ensures.patrons
 
 pub put-requires-in-OnHoldShelf-clause-free : goal.put-requires-in-OnHoldShelf-clause-free
@@ -80,9 +95,11 @@ put-requires-in-OnHoldShelf-clause-free g c =
     let w = c.in-OnHoldShelf.there in
     let shelves = c.self.inside.shelves.items in
     let there = (goal.at.put-requires-in-OnHoldShelf-clause-free g c).After-index_mut in
-    let old : IsIndexed k (all_but c.args.copy (slice_get c.args.states.now)) _ = rw (← c.self.view_is) at c.requires.indexed in
+    let old : IsIndexed k (all_but c.args.copy (slice_get c.args.states.now)) _ =
+    rw (← c.self.view_is) at c.requires.indexed in
     ap (λ (s : PlacesValue). get s.copies w.place) (is_shelf g there)
-    ∙ free_for k c.args.states.now shelves c.args.copy w old.shelves c.requires.states c.requires.copy (stands g there)
+    ∙ free_for k c.args.states.now shelves c.args.copy w old.shelves c.requires.states c.requires.copy
+    (stands g there)
 
 pub put-requires-in-OnHoldShelf-clause-nowhere : goal.put-requires-in-OnHoldShelf-clause-nowhere
 put-requires-in-OnHoldShelf-clause-nowhere g c = λ place is.
@@ -91,7 +108,8 @@ put-requires-in-OnHoldShelf-clause-nowhere g c = λ place is.
     let shelves = c.self.inside.shelves.items in
     let there = (goal.at.put-requires-in-OnHoldShelf-clause-nowhere g c).After-index_mut in
     let old : IsIndexed k (all_but c.args.copy f) _ = rw (← c.self.view_is) at c.requires.indexed in
-    nowhere_on k (all_but c.args.copy f) shelves c.args.copy c.in-OnHoldShelf.there.branch place old.shelves (but_here f c.args.copy)
+    nowhere_on k (all_but c.args.copy f) shelves c.args.copy c.in-OnHoldShelf.there.branch place old.shelves
+    (but_here f c.args.copy)
     (ap (λ (s : PlacesValue). get s.copies place) (sym (is_shelf g there)) ∙ is)
 
 pub returns-in-OnHoldShelf-clause-indexed : goal.returns-in-OnHoldShelf-clause-indexed
@@ -106,9 +124,11 @@ returns-in-OnHoldShelf-clause-indexed g c =
     let known : IsKnownState k (OnHoldShelf w) = is_known g there in
     let free : copy_at shelves w.branch w.place ≡ None =
     free_for k c.args.states.now shelves c.args.copy w old.shelves c.requires.states c.requires.copy at in
-    rw c.number-in-OnHoldShelf.ensures.value (place-in k (all_but c.args.copy f) f c.args.copy _ old w c.put-in-OnHoldShelf.new.self
+    rw c.number-in-OnHoldShelf.ensures.value
+    (place-in k (all_but c.args.copy f) f c.args.copy _ old w c.put-in-OnHoldShelf.new.self
     (comes f c.args.copy _ at) known.0 free
-    (c.put-in-OnHoldShelf.ensures.copies ∙ ap (λ (s : PlacesValue). insert s.copies w.place c.args.copy) (is_shelf g there)))
+    (c.put-in-OnHoldShelf.ensures.copies
+    ∙ ap (λ (s : PlacesValue). insert s.copies w.place c.args.copy) (is_shelf g there)))
 
 pub returns-in-OnHoldShelf-clause-rooms : goal.returns-in-OnHoldShelf-clause-rooms
 returns-in-OnHoldShelf-clause-rooms g c =
@@ -123,7 +143,9 @@ returns-in-InTransit-clause-indexed g c =
     let f = slice_get c.args.states.now in
     let old : IsIndexed k (all_but c.args.copy f) _ = rw (← c.self.view_is) at c.requires.indexed in
     let at : f c.args.copy ≡ Some (InTransit c.in-InTransit.transit) =
-    read_at k c.args.states.now c.number.result c.args.copy _ _ c.requires.states c.requires.copy c.number.ensures.value
+    read_at k c.args.states.now c.number.result c.args.copy _ _ c.requires.states c.requires.copy
+    c.number.ensures.value
     c.in-InTransit.is in
-    transit-in k (all_but c.args.copy f) f c.args.copy _ old c.in-InTransit.transit c.send.new.self (comes f c.args.copy _ at)
+    transit-in k (all_but c.args.copy f) f c.args.copy _ old c.in-InTransit.transit c.send.new.self
+    (comes f c.args.copy _ at)
     c.send.ensures.transits c.send.ensures.copies

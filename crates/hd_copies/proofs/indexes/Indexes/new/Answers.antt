@@ -7,7 +7,8 @@ pub returns : goal.returns
 returns g c =
     let k = facts_of c.args.catalogue.now in
     record {
-      loans = loans-home k c.in_ok-new.field-0 c.in_ok-new.ensures.loans (c.in_ok-new.ensures.copies ∙ c.copies-copies.ensures.count)
+      loans = loans-home k c.in_ok-new.field-0 c.in_ok-new.ensures.loans
+          (c.in_ok-new.ensures.copies ∙ c.copies-copies.ensures.count)
           (c.in_ok-new.ensures.patrons ∙ c.patrons.ensures.count);
       transits =
           transits-home k c.in_ok-new-2.field-0 c.in_ok-new-2.ensures.transits

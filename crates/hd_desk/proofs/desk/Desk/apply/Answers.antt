@@ -39,7 +39,8 @@ returns-then-is_err-clause-later g c = λ n above.
 
 pub returns-then-is_err-clause-full : goal.returns-then-is_err-clause-full
 returns-then-is_err-clause-full g c =
-    was-short c.args.self.now _ (done_of c.in-Ok.done) c.changes.result.now c.ready.result c.is_err.result
+    was-short c.args.self.now _ (done_of c.decide.new.done c.in-Ok.reply) c.changes.result.now c.ready.result
+    c.is_err.result
     c.in-Ok.ensures.outcome
     c.changes.ensures c.is_err.ensures.value c.if-is_err.true c.ready.ensures.full
 
@@ -47,7 +48,7 @@ returns-then-is_err-clause-full g c =
 can : (g : Over) (c : After-changes-2 g)
     → CanBeMade (facts c.ready.new.self) (desk_of c.ready.new.self) c.args.number c.changes-2.result.now
 can g c =
-    can-still c.args.self.now c.ready.new.self c.args.number c.in-Ok.done.changes c.changes-2.result.now
+    can-still c.args.self.now c.ready.new.self c.args.number c.decide.new.done.changes c.changes-2.result.now
     c.in-Ok.ensures.can
     c.ready.ensures.contents c.ready.ensures.desk c.changes-2.ensures
 
@@ -72,6 +73,6 @@ returns-clause-later g c = λ n above.
 
 pub returns-clause-back : goal.returns-clause-back
 returns-clause-back g c =
-    left-back c.args.self.now c.make.new.self c.args.number c.in-Ok.done.changes c.in-Ok.ensures.can
+    left-back c.args.self.now c.make.new.self c.args.number c.decide.new.done.changes c.in-Ok.ensures.can
     (c.make.ensures.contents ∙ c.ready.ensures.contents)
     (c.make.ensures.desk ∙ (λ i. after (c.changes-2.ensures i) (c.ready.ensures.desk i)))

@@ -1,4 +1,4 @@
-use Rattle.std.proofs.Common.{refl, sym, ◌∙◌, ap}
+use Rattle.std.proofs.Common.{sym, ◌∙◌, ap}
 use Rattle.std.proofs.lemmas.Result.{err_from_is_err_and}
 use Rattle.hd_desk.specs.Asking.{told_with}
 use Rattle.hd_desk.proofs.Planned.{accepted, followed}
@@ -18,12 +18,7 @@ returns g c =
     accepted c.laws.ensures c.args.self.now c.args.number c.args.command.now c.new-inquiry.result
     c.follow.new.self
     (told_with c.follow.new.footprint c.follow.result)
-    (record { changes = c.follow.new.footprint; reply = c.in_ok-reply.reply })
-    (record {
-      changes = c.follow.new.footprint;
-      reply = c.in_ok-reply.reply;
-      findings = c.into_findings-findings.result;
-    })
-    c.new-inquiry.ensures.start c.follow.ensures.ends c.follow.ensures.desk
-    (ap (told_with c.follow.new.footprint) c.in_ok-reply.was) refl
-    c.into_findings-findings.ensures.findings c.new-inquiry.ensures.kept c.requires.known c.requires.sound
+    (record { changes = c.follow.new.footprint; findings = c.into_findings-done-inside.result })
+    c.in_ok-reply.reply c.new-inquiry.ensures.start c.follow.ensures.ends c.follow.ensures.desk
+    (ap (told_with c.follow.new.footprint) c.in_ok-reply.was)
+    c.into_findings-done-inside.ensures.findings c.new-inquiry.ensures.kept c.requires.known c.requires.sound

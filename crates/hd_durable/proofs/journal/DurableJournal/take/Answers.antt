@@ -5,7 +5,7 @@ use Rattle.hd_catalogue.specs.Contents.{facts_of}
 use Rattle.hd_rules.specs.Messages.{IsKnownMessage}
 use Rattle.hd_journal.specs.declared.fault.WriteFault.{WriteFault}
 use Rattle.hd_durable.specs.Durable.{DurableValue, IsDurable, refuses_turn_of}
-use Rattle.hd_durable.proofs.Durability.{committed, durable_more, durable_same, durable_shut, last_known}
+use Rattle.hd_durable.proofs.Durability.{committed, durable_more, durable_same, durable_shut, held, last_known}
 use Rattle.hd_durable.proofs.Durability.{left_in_doubt}
 use Rattle.hd_durable.proofs.Refusing.{out_of_memory, refused_one}
 use Rattle.hd_durable.proofs.journal.DurableJournal.take.Given.{Over}
@@ -41,6 +41,12 @@ pub returns-then-not-new-clause-committed :
 returns-then-not-new-clause-committed g c =
     committed _ _ (facts_of c.take_new.new.self.contents) c.take_new.new.self.turns c.in_ok-new.new.made.at
     ((same g (goal.at.returns-then-not-new-clause-committed g c).Then-not-new None).opened refl)
+
+pub returns-then-not-new-clause-held : goal.returns-then-not-new-clause-held
+returns-then-not-new-clause-held g c =
+    held (g.T.TurnTable.holds c.self.inside.table) (g.T.TurnTable.leaves c.self.inside.table)
+    (facts_of c.take_new.new.self.contents) c.take_new.new.self.turns c.in_ok-new.new.made.at
+    ((same g (goal.at.returns-then-not-new-clause-held g c).Then-not-new None).opened refl)
 
 pub returns-then-not-new-clause-left : goal.returns-then-not-new-clause-left
 returns-then-not-new-clause-left g c =
@@ -104,6 +110,12 @@ pub returns-in-Ok-clause-committed : goal.returns-in-Ok-clause-committed
 returns-in-Ok-clause-committed g c =
     committed _ _ (facts_of c.take_new.new.self.contents) c.take_new.new.self.turns c.in_ok-new.new.made.at
     ((more g (goal.at.returns-in-Ok-clause-committed g c).In-Ok None).opened refl)
+
+pub returns-in-Ok-clause-held : goal.returns-in-Ok-clause-held
+returns-in-Ok-clause-held g c =
+    held (g.T.TurnTable.holds c.commit_last.new.table) (g.T.TurnTable.leaves c.commit_last.new.table)
+    (facts_of c.take_new.new.self.contents) c.take_new.new.self.turns c.in_ok-new.new.made.at
+    ((more g (goal.at.returns-in-Ok-clause-held g c).In-Ok None).opened refl)
 
 pub returns-in-Ok-clause-left : goal.returns-in-Ok-clause-left
 returns-in-Ok-clause-left g c = (more g (goal.at.returns-in-Ok-clause-left g c).In-Ok None).left

@@ -4,14 +4,17 @@ use Rattle.hd_field.proofs.Cutting.{begun_so, none_behind_feeds, feeds_alone, fe
 use Rattle.hd_field.proofs.streams.Stream.push.Goals as goal
 
 pub extend-requires-then-not-is_empty-clause-plain : goal.extend-requires-then-not-is_empty-clause-plain
-extend-requires-then-not-is_empty-clause-plain g c = rw (c.without_feeds-rest.ensures) (none_behind_feeds c.args.bytes.now c.requires.plain)
+extend-requires-then-not-is_empty-clause-plain g c =
+    rw (c.without_feeds-rest.ensures) (none_behind_feeds c.args.bytes.now c.requires.plain)
 
 pub returns-then-not-is_empty : goal.returns-then-not-is_empty
 returns-then-not-is_empty g c =
-    let here = behind_return c.args.self.now (sym (ap (λ (b : Begun). b.fresh) c.self.view_is) ∙ c.if-not-self.false) c.requires.short in
+    let here = behind_return c.args.self.now
+    (sym (ap (λ (b : Begun). b.fresh) c.self.view_is) ∙ c.if-not-self.false) c.requires.short in
     let some : (length (without_feeds c.args.bytes.now) == 0) ≡ false =
     rw (← c.without_feeds-rest.ensures) (sym c.is_empty.ensures ∙ c.if-not-is_empty.true) in
-    let view : begun_so false c.self.inside.text.items c.self.inside.too_long ≡ begun_so false c.args.self.now.text false =
+    let view : begun_so false c.self.inside.text.items c.self.inside.too_long
+    ≡ begun_so false c.args.self.now.text false =
     ap₂ (λ (t : List ℕ) (l : Bool). begun_so false t l) (ap (λ (b : Begun). b.text) c.self.view_is)
     (ap (λ (b : Begun). b.too_long) c.self.view_is ∙ c.requires.short) in
     c.extend-then-not-is_empty.ensures
@@ -21,7 +24,8 @@ returns-then-not-is_empty g c =
 
 pub returns-else-not-is_empty : goal.returns-else-not-is_empty
 returns-else-not-is_empty g c =
-    let here = behind_return c.args.self.now (sym (ap (λ (b : Begun). b.fresh) c.self.view_is) ∙ c.if-not-self.false) c.requires.short in
+    let here = behind_return c.args.self.now
+    (sym (ap (λ (b : Begun). b.fresh) c.self.view_is) ∙ c.if-not-self.false) c.requires.short in
     let alone : (length (without_feeds c.args.bytes.now) == 0) ≡ true =
     rw (← c.without_feeds-rest.ensures) (sym c.is_empty.ensures ∙ c.if-not-is_empty.false) in
     here ∙ sym (ap (λ (b : Begun). begun_after b c.args.bytes.now) here

@@ -17,4 +17,5 @@ invariant_of-self c =
       length-map (take count lists) now,
       length-take-le count lists within,
     ) in
-    one_more now count c.self.inside.others c.args.list lists c.self.invariant few (omega (arith, few, c.self.told)) c.requires.rising
+    one_more now count c.self.inside.others c.args.list lists c.self.invariant few
+    (omega (arith, few, c.self.told)) c.requires.rising

@@ -1,4 +1,5 @@
-use Rattle.std.proofs.Common.{◌≡◌, ◌<◌, List, ℕ, Bor, None, Some, ap, arith, length, map, rules, sym, take, ◌∙◌}
+use Rattle.std.proofs.Common.{◌≡◌, ◌<◌, List, ℕ, Bor, None, Some, ap, arith, length, map, rules, sym, take}
+use Rattle.std.proofs.Common.{◌∙◌}
 use Rattle.std.proofs.lemmas.List.{length-take-le, take_at}
 use Rattle.hd_index.specs.Union.{least_first, union}
 use Rattle.hd_index.proofs.Ahead.{ahead, behind_first, some_lists}
@@ -19,12 +20,15 @@ invariant_of-self-2 c =
     let long : length c.pass.new.lists ≡ c.self.inside.count =
     c.pass.auto.lists ∙ length-take-le c.self.inside.count c.self.inside.lists (omega (arith, c.self.told)) in
     let some : 0 < c.self.inside.count =
-    some_lists now c.self.inside.count c.in_ok-least.least c.self.inside.lists (sym c.least_first.ensures ∙ c.in_ok-least.was) in
+    some_lists now c.self.inside.count c.in_ok-least.least c.self.inside.lists
+    (sym c.least_first.ensures ∙ c.in_ok-least.was) in
     record {
       few = few;
-      behind = behind_first now c.self.inside.count c.lower_bound-self-inside.result c.pass.new.lists _ some long c.lower_bound-self-inside.ensures;
+      behind = behind_first now c.self.inside.count c.lower_bound-self-inside.result c.pass.new.lists _ some
+          long c.lower_bound-self-inside.ensures;
       rising = rw (take_at c.pass.new.lists _ c.self.inside.count long, c.pass.ensures)
-          (past_rising c.in_ok-least.least (map now (take c.self.inside.count c.self.inside.lists)) c.self.invariant.rising);
+          (past_rising c.in_ok-least.least
+          (map now (take c.self.inside.count c.self.inside.lists)) c.self.invariant.rising);
     }
 
 pub returns-clause-steps : goal.returns-clause-steps
@@ -34,7 +38,8 @@ returns-clause-steps c =
     let lists = map now (take c.self.inside.count c.self.inside.lists) in
     let long : length c.pass.new.lists ≡ c.self.inside.count =
     c.pass.auto.lists ∙ length-take-le c.self.inside.count c.self.inside.lists (omega (arith, c.self.told)) in
-    let some : least_first None lists ≡ Some c.in_ok-least.least = sym c.least_first.ensures ∙ c.in_ok-least.was in
+    let some : least_first None lists ≡ Some c.in_ok-least.least =
+    sym c.least_first.ensures ∙ c.in_ok-least.was in
     rw (take_at c.pass.new.lists _ c.self.inside.count long, c.pass.ensures, ← c.self.view_is)
     (least_front lists c.in_ok-least.least c.self.invariant.rising some)
 
@@ -44,15 +49,19 @@ returns-clause-goes c = let steps = returns-clause-steps c in search rules
 pub invariant_of-self : goal.invariant_of-self
 invariant_of-self c =
     let now : Bor (List ℕ) → List ℕ = λ list. list.now in
-    (ahead now c.self.inside.count c.self.inside.others c.in-Some.first.now c.in-Some.rest _ c.self.inside.lists c.self.invariant
-    (omega (arith, c.self.told)) c.in-Some.ensures.cases.0 (omega (arith, c.from.ensures, c.if-from-self.true))).lists
+    (ahead now c.self.inside.count c.self.inside.others c.in-Some.first.now c.in-Some.rest _
+    c.self.inside.lists c.self.invariant
+    (omega (arith, c.self.told)) c.in-Some.ensures.cases.0
+    (omega (arith, c.from.ensures, c.if-from-self.true))).lists
 
 pub returns-then-from-self-clause-steps : goal.returns-then-from-self-clause-steps
 returns-then-from-self-clause-steps c =
     let now : Bor (List ℕ) → List ℕ = λ list. list.now in
     ap union (sym c.self.view_is)
-    ∙ (ahead now c.self.inside.count c.self.inside.others c.in-Some.first.now c.in-Some.rest _ c.self.inside.lists c.self.invariant
-    (omega (arith, c.self.told)) c.in-Some.ensures.cases.0 (omega (arith, c.from.ensures, c.if-from-self.true))).steps
+    ∙ (ahead now c.self.inside.count c.self.inside.others c.in-Some.first.now c.in-Some.rest _
+    c.self.inside.lists c.self.invariant
+    (omega (arith, c.self.told)) c.in-Some.ensures.cases.0
+    (omega (arith, c.from.ensures, c.if-from-self.true))).steps
 
 pub returns-then-from-self-clause-goes : goal.returns-then-from-self-clause-goes
 returns-then-from-self-clause-goes c = let steps = returns-then-from-self-clause-steps c in search rules

@@ -1,6 +1,5 @@
 use Rattle.std.proofs.Common.{◌≡◌, ◌+◌, ◌∙◌, ap, sym, subst, refl, ℕ, ◌++◌, ◌∷◌, []}
 use Rattle.hd_rules.specs.declared.commands.Survivor.{Survivor}
-use Rattle.hd_rules.specs.declared.replies.Reply.{Reply}
 use Rattle.hd_rules.specs.declared.replies.TurnReply.TheVariants.{Done as Accepted}
 use Rattle.hd_rules.specs.Ask.{asks}
 use Rattle.hd_rules.specs.Desk.{Desk}
@@ -89,9 +88,9 @@ invariant_of-self-in-Ok g c =
       number = n + 1;
       terminal = c.args.terminal;
       command = c.args.command.now;
-      reply = c.in-Ok.done.reply;
-      findings = c.in-Ok.done.findings;
-      changes = c.in-Ok.done.changes;
+      reply = c.in-Ok.reply;
+      findings = c.apply.new.done.findings;
+      changes = c.apply.new.done.changes;
     } in
     let known : IsKnownAction k c.args.command.now.action =
     subst (λ (x : SurvivorRun). IsKnownAction (facts_of x.contents) c.args.command.now.action)
@@ -116,7 +115,8 @@ invariant_of-self-in-Ok g c =
       last = n + 1;
     }) (desk_of c.apply.new.self) =
     running_more r (desk_of c.self.inside.desk) (desk_of c.apply.new.self) c.apply.new.self.copies.contents
-    (survivors_of c.push.new.self.records) new (done_of c.in-Ok.done) runs known refl c.in-Ok.ensures.contents
+    (survivors_of c.push.new.self.records) new (done_of c.apply.new.done c.in-Ok.reply) runs known refl
+    c.in-Ok.ensures.contents
     (ap survivors_of more ∙ survivors_joined rs (kept ∷ []))
     c.in-Ok.ensures.outcome c.in-Ok.ensures.after in (
       subst (λ (m : ℕ). LeadsTo (record {
@@ -126,7 +126,7 @@ invariant_of-self-in-Ok g c =
       }) (desk_of c.apply.new.self)) last next,
       subst (λ (x : Contents). AreStored (facts_of x) c.push.new.self.records) (sym c.in-Ok.ensures.contents)
           (stored_more c.laws.ensures k rs c.push.new.self.records kept c.self.invariant.1 one
-          (subst (λ (x : Contents). AreKnownChanges (facts_of x) c.in-Ok.done.changes)
+          (subst (λ (x : Contents). AreKnownChanges (facts_of x) c.apply.new.done.changes)
           c.in-Ok.ensures.contents c.in-Ok.ensures.back.known)
           c.in-Ok.ensures.back.apart more),
       subst (λ (x : Contents). AreListed (facts_of x) c.push.new.self)
@@ -145,9 +145,9 @@ returns-in-Ok-clause-submitted g c =
       number = n + 1;
       terminal = c.args.terminal;
       command = c.args.command.now;
-      reply = c.in-Ok.done.reply;
-      findings = c.in-Ok.done.findings;
-      changes = c.in-Ok.done.changes;
+      reply = c.in-Ok.reply;
+      findings = c.apply.new.done.findings;
+      changes = c.apply.new.done.changes;
     } in
     let more : c.push.new.self.records ≡ rs ++ kept ∷ [] =
     c.push.ensures.records ∙ (λ j. c.in_ok-ready.ensures.records j ++ c.record_of-record.ensures j ∷ []) in
@@ -158,20 +158,19 @@ returns-in-Ok-clause-submitted g c =
       survivors = survivors_of c.push.new.self.records;
       last = m;
     } in
-    let done : Submitted r c.args.terminal c.args.command.now (Accepted (n + 1) c.in-Ok.done.reply)
+    let done : Submitted r c.args.terminal c.args.command.now (Accepted (n + 1) c.in-Ok.reply)
     (next (n + 1)) =
     submitted_done r (desk_of c.self.inside.desk) c.apply.new.self.copies.contents
     (survivors_of c.push.new.self.records) c.args.terminal
-    c.args.command.now (done_of c.in-Ok.done) c.self.invariant.0.desk c.in-Ok.ensures.contents
+    c.args.command.now (done_of c.apply.new.done c.in-Ok.reply) c.self.invariant.0.desk
+    c.in-Ok.ensures.contents
     (ap survivors_of more ∙ survivors_joined rs (kept ∷ [])) c.in-Ok.ensures.outcome in
     subst
     (λ (x : SurvivorRun). Submitted x c.args.terminal c.args.command.now
-    (Accepted (n + 1) c.reply-reply.result) (next c.push.new.self.last))
+    (Accepted (n + 1) c.in-Ok.reply) (next c.push.new.self.last))
     (ap (run_at contents rs) same ∙ c.self.view_is)
-    (subst (λ (m : ℕ). Submitted r c.args.terminal c.args.command.now (Accepted (n + 1) c.reply-reply.result)
-    (next m)) last
-    (subst (λ (x : Reply). Submitted r c.args.terminal c.args.command.now (Accepted (n + 1) x) (next (n + 1)))
-    (sym c.reply-reply.ensures) done))
+    (subst (λ (m : ℕ). Submitted r c.args.terminal c.args.command.now (Accepted (n + 1) c.in-Ok.reply)
+    (next m)) last done)
 
 pub returns-in-Err-Memory-clause-rise : goal.returns-in-Err-Memory-clause-rise
 returns-in-Err-Memory-clause-rise g c = rise_step _ _ c.in-Err-Memory.ensures.step

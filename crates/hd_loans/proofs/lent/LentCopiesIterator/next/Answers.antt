@@ -9,7 +9,8 @@ pub returns-in_err-copy-clause-steps : goal.returns-in_err-copy-clause-steps
 returns-in_err-copy-clause-steps g c =
     let list = c.self.inside.loans.now
     in let none : c.args.self.now ≡ [] =
-    sym c.self.view_is ∙ lent_from-end list.loans list.copies list.patrons c.self.inside.patron c.self.inside.next c.self.invariant.loan
+    sym c.self.view_is ∙ lent_from-end list.loans list.copies list.patrons c.self.inside.patron
+    c.self.inside.next c.self.invariant.loan
     (omega (arith, c.in_err-copy.ensures))
     in search rules
 

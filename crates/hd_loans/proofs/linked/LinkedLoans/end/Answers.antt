@@ -13,8 +13,11 @@ returns-in_err-loan-clause-loans g c =
 pub invariant_of-self : goal.invariant_of-self
 invariant_of-self g c =
     let inside = c.self.inside
-    in let found : get inside.table.entries c.number-at.result ≡ Some c.in_ok-loan.loan = sym (c.in_ok-loan.ensures ∙ c.get.ensures)
-    in let some : get inside.table.entries c.args.copy ≡ Some c.in_ok-loan.loan = (rw c.number-at.ensures.value at found)
+    in let found : get inside.table.entries c.number-at.result ≡ Some c.in_ok-loan.loan =
+    sym (c.in_ok-loan.ensures ∙ c.get.ensures)
+    in let some : get inside.table.entries c.args.copy ≡ Some c.in_ok-loan.loan =
+    (rw c.number-at.ensures.value at found)
     in rw (c.take.ensures.entries, c.take.ensures.size, c.number-at.ensures.value)
     (c.take-2.ensures.linked inside.table.entries inside.table.size c.in_ok-loan.loan refl
-    (record { lent = some; last_is = rw (ap (λ v. v.loans) c.self.view_is) c.last_below-last.ensures }) c.self.invariant)
+    (record { lent = some; last_is = rw (ap (λ v. v.loans) c.self.view_is) c.last_below-last.ensures })
+    c.self.invariant)

@@ -24,7 +24,8 @@ loop-lent-preserved g c =
     let lent = c.in-Some.lent
     in let loans = ap (λ v. v.loans) c.self.view_is
     in let is : is_lent_to c.args.self.now.loans c.args.patron lent ≡ true =
-    rw c.in-Some.ensures.1 (reached-passes (is_lent_to c.args.self.now.loans c.args.patron) c.args.copy c.loop-lent.last
+    rw c.in-Some.ensures.1
+    (reached-passes (is_lent_to c.args.self.now.loans c.args.patron) c.args.copy c.loop-lent.last
     c.loop-lent.link c.loop-lent.invariant.reached c.in-Some.ensures.0)
     in record {
       reached = (

@@ -13,7 +13,8 @@ returns-in-Some-clause-linked g c loans copies loan same behind linked =
     in let k = c.args.copy
     in let last = c.in-Some.before
     in let was : AreLinked loans copies (both fs ns) = rw c.self.view_is linked
-    in let last_is : IsLastBelow (is_lent_to loans loan.patron) k (Some last) = rw c.in-Some.is at behind.last_is
+    in let last_is : IsLastBelow (is_lent_to loans loan.patron) k (Some last) =
+    rw c.in-Some.is at behind.last_is
     in let last_in = rw c.in-Some.is at c.requires.last_in
     in let nexts = ap (λ (v : LinksValue). length v.nexts) c.self.view_is
     in let firsts = ap (λ (v : LinksValue). length v.firsts) c.self.view_is
@@ -39,7 +40,8 @@ returns-in-None-clause-linked g c loans copies loan same behind linked =
     in let pl : loan.patron < length fs = omega (arith, same, firsts, c.requires.patron_in)
     in let patron_in : c.args.patron < length fs = omega (arith, firsts, c.requires.patron_in)
     in let next : c.index-next-in-None.result.now ≡ get_or fs c.args.patron 0 =
-    c.index-next-in-None.ensures ∙ ap (λ i. get_or fs i c.index-next-in-None.result.now) c.number-patron.ensures.value
+    c.index-next-in-None.ensures
+    ∙ ap (λ i. get_or fs i c.index-next-in-None.result.now) c.number-patron.ensures.value
     ∙ get_or_default fs c.args.patron c.index-next-in-None.result.now 0 patron_in
     in let kn : k < copies = omega (arith, was.room, nexts, c.requires.copy_in)
     in let km : k < MOST_COPIES = omega (arith, c.number-at.ensures.value, c.number-at.ensures.in_range)

@@ -11,8 +11,10 @@ returns-in-Some-clause-linked g c loans copies loan same behind linked =
     in let ns = c.self.inside.nexts.items
     in let k = c.args.copy
     in let was : AreLinked loans copies (both fs ns) = rw c.self.view_is linked
-    in let last_is : IsLastBelow (is_lent_to loans loan.patron) k (Some c.in-Some.before) = rw c.in-Some.is at behind.last_is
-    in let room : k < length ns = omega (arith, ap (λ (v : LinksValue). length v.nexts) c.self.view_is, c.requires.copy_in)
+    in let last_is : IsLastBelow (is_lent_to loans loan.patron) k (Some c.in-Some.before) =
+    rw c.in-Some.is at behind.last_is
+    in let room : k < length ns =
+    omega (arith, ap (λ (v : LinksValue). length v.nexts) c.self.view_is, c.requires.copy_in)
     in let next : c.index-next.result.now ≡ get_or ns k 0 =
     c.index-next.ensures ∙ ap (λ i. get_or ns i c.index-next.result.now) c.number.ensures.value
     ∙ get_or_default ns k c.index-next.result.now 0 room
@@ -26,7 +28,8 @@ returns-in-None-clause-linked g c loans copies loan same behind linked =
     in let k = c.args.copy
     in let was : AreLinked loans copies (both fs ns) = rw c.self.view_is linked
     in let last_is : IsLastBelow (is_lent_to loans loan.patron) k None = rw c.in-None.is at behind.last_is
-    in let room : k < length ns = omega (arith, ap (λ (v : LinksValue). length v.nexts) c.self.view_is, c.requires.copy_in)
+    in let room : k < length ns =
+    omega (arith, ap (λ (v : LinksValue). length v.nexts) c.self.view_is, c.requires.copy_in)
     in let next : c.index-next.result.now ≡ get_or ns k 0 =
     c.index-next.ensures ∙ ap (λ i. get_or ns i c.index-next.result.now) c.number.ensures.value
     ∙ get_or_default ns k c.index-next.result.now 0 room

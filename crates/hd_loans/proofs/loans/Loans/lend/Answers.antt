@@ -11,11 +11,20 @@ overflow_add-index_mut g c =
     let inside = c.self.inside
     in let counts = c.self.invariant.counted
     in let at : c.number-patron.result < length inside.counts.items =
-    omega (arith, ap (λ l. l.patrons) c.self.view_is, c.self.invariant.room, c.requires.patron, c.number-patron.ensures.value)
-    in let none : get inside.linked.loans c.args.copy ≡ None = rw (ap (λ l. l.loans) c.self.view_is) c.requires.free
-    in let below : c.args.copy < inside.linked.copies = omega (arith, ap (λ l. l.copies) c.self.view_is, c.requires.copy)
+    omega (
+      arith,
+      ap (λ l. l.patrons) c.self.view_is,
+      c.self.invariant.room,
+      c.requires.patron,
+      c.number-patron.ensures.value,
+    )
+    in let none : get inside.linked.loans c.args.copy ≡ None =
+    rw (ap (λ l. l.loans) c.self.view_is) c.requires.free
+    in let below : c.args.copy < inside.linked.copies =
+    omega (arith, ap (λ l. l.copies) c.self.view_is, c.requires.copy)
     in let fewer =
-    not_all inside.linked.loans inside.linked.copies c.args.copy c.number-patron.result inside.counts.items counts none below at
+    not_all inside.linked.loans inside.linked.copies c.args.copy c.number-patron.result inside.counts.items
+    counts none below at
     in omega (
       arith,
       c.index_mut.ensures.value,
@@ -29,15 +38,20 @@ invariant_of-self g c =
     let inside = c.self.inside
     in let at : c.args.loan.patron < length inside.counts.items =
     omega (arith, ap (λ l. l.patrons) c.self.view_is, c.self.invariant.room, c.requires.patron)
-    in let none : get inside.linked.loans c.args.copy ≡ None = rw (ap (λ l. l.loans) c.self.view_is) c.requires.free
-    in let below : c.args.copy < inside.linked.copies = omega (arith, ap (λ l. l.copies) c.self.view_is, c.requires.copy)
+    in let none : get inside.linked.loans c.args.copy ≡ None =
+    rw (ap (λ l. l.loans) c.self.view_is) c.requires.free
+    in let below : c.args.copy < inside.linked.copies =
+    omega (arith, ap (λ l. l.copies) c.self.view_is, c.requires.copy)
     in let was : c.index_mut.result.now ≡ get_or inside.counts.items c.args.loan.patron 0 =
-    c.index_mut.ensures.value ∙ ap (λ i. get_or inside.counts.items i c.index_mut.result.now) c.number-patron.ensures.value
+    c.index_mut.ensures.value
+    ∙ ap (λ i. get_or inside.counts.items i c.index_mut.result.now) c.number-patron.ensures.value
     ∙ get_or_default inside.counts.items c.args.loan.patron c.index_mut.result.now 0 at
     in record {
       counted = rw (c.lend.ensures.loans, c.lend.ensures.copies, c.number-patron.ensures.value)
-          (AreCounts-lend inside.linked.loans inside.linked.copies c.args.copy (c.index_mut.result.now + 1) inside.counts.items _
+          (AreCounts-lend inside.linked.loans inside.linked.copies c.args.copy
+          (c.index_mut.result.now + 1) inside.counts.items _
           c.self.invariant.counted none below at (omega (arith, was)));
-      room = length-set inside.counts.items c.number-patron.result (c.index_mut.result.now + 1) ∙ c.self.invariant.room
+      room = length-set inside.counts.items c.number-patron.result (c.index_mut.result.now + 1)
+          ∙ c.self.invariant.room
           ∙ sym c.lend.ensures.patrons;
     }

@@ -10,9 +10,11 @@ returns-clause-text g c =
     let texts : List ℕ = c.self.inside.texts.items in
     let place : Place = c.in_ok-place.place in
     let proper =
-    proper_at (record { texts = texts; places = c.self.inside.places.items }) c.args.patron place c.self.invariant
+    proper_at
+    (record { texts = texts; places = c.self.inside.places.items }) c.args.patron place c.self.invariant
     (ap (λ (s : Stored). place_of s c.args.patron) c.self.view_is ∙ sym c.in_ok-place.ensures) in
     subst (λ (t : List ℕ). is_text t ≡ true)
-    (sym (part_lent texts c.as_slice-texts.result.now place.start c.from.result c.from-2.result place.password place.name
+    (sym (part_lent texts c.as_slice-texts.result.now place.start c.from.result c.from-2.result
+    place.password place.name
     c.as_slice-texts.ensures.value c.from.ensures c.from-2.ensures))
     proper.name

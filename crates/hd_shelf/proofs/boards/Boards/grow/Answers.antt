@@ -4,7 +4,8 @@ use Rattle.hd_shelf.proofs.boards.Boards.grow.Goals as goal
 
 pub invariant_of-self-in_err-lengthen-2 : goal.invariant_of-self-in_err-lengthen-2
 invariant_of-self-in_err-lengthen-2 g c =
-    AreInBays-grow c.self.inside.free_places.items c.self.inside.open_boards.items c.lengthen-2.new.counts.items
+    AreInBays-grow c.self.inside.free_places.items c.self.inside.open_boards.items
+    c.lengthen-2.new.counts.items
     c.lengthen.new.counts.items c.self.invariant c.lengthen-2.ensures.same c.lengthen.ensures.same (omega (
       arith,
       ap length c.in_err-lengthen-2.ensures.err,
@@ -16,7 +17,8 @@ invariant_of-self-in_err-lengthen-2 g c =
 
 pub invariant_of-self-2 : goal.invariant_of-self-2
 invariant_of-self-2 g c =
-    AreInBays-grow c.self.inside.free_places.items c.self.inside.open_boards.items c.lengthen-2.new.counts.items
+    AreInBays-grow c.self.inside.free_places.items c.self.inside.open_boards.items
+    c.lengthen-2.new.counts.items
     c.lengthen.new.counts.items c.self.invariant c.lengthen-2.ensures.same c.lengthen.ensures.same (omega (
       arith,
       c.in_ok-lengthen-2.ensures.ok,

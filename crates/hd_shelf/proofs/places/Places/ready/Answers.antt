@@ -7,7 +7,8 @@ use Rattle.hd_shelf.proofs.places.Places.ready.Goals as goal
 pub invariant_of-self-in_err-grow-2 : goal.invariant_of-self-in_err-grow-2
 invariant_of-self-in_err-grow-2 g c =
     rw (c.grow-then-room-last.ensures.entries, c.in_err-grow-2.ensures.err)
-    (IsKept-longer c.self.inside.table.entries (c.self.inside.table.size - 1) c.self.inside.boards c.grow.new.self c.self.invariant
+    (IsKept-longer c.self.inside.table.entries
+    (c.self.inside.table.size - 1) c.self.inside.boards c.grow.new.self c.self.invariant
     c.grow.ensures.same (omega (arith, c.in_ok-grow.ensures.ok)))
 
 pub loop-others-init : goal.loop-others-init
@@ -15,14 +16,16 @@ loop-others-init g c = record {
   same_copies = c.grow-then-room-last.ensures.entries ∙ ap (λ p. p.copies) c.self.view_is;
   size = omega (arith, c.in_ok-grow-2.ensures.ok, c.room-room.ensures.room, ap (λ p. p.room) c.self.view_is);
   counts = rw (c.room-room.ensures.room, ← c.self.view_is)
-      (counts-longer c.self.inside.table.entries (c.self.inside.table.size - 1) c.self.inside.boards c.grow.new.self c.self.invariant.free
+      (counts-longer c.self.inside.table.entries
+      (c.self.inside.table.size - 1) c.self.inside.boards c.grow.new.self c.self.invariant.free
       c.grow.ensures.same);
   enough = omega (arith, c.in_ok-grow.ensures.ok, c.div_ceil.ensures);
 }
 
 pub raise-requires-clause-taken : goal.raise-requires-clause-taken
 raise-requires-clause-taken g c =
-    board_has_room c.args.self.now.copies c.loop-others.others c.loop-others.self-inside.boards c.loop-others.invariant.counts
+    board_has_room c.args.self.now.copies c.loop-others.others c.loop-others.self-inside.boards
+    c.loop-others.invariant.counts
     (omega (arith, c.loop-others.invariant.enough))
 
 pub loop-others-preserved : goal.loop-others-preserved
@@ -35,7 +38,8 @@ loop-others-preserved g c =
     in record {
       same_copies = c.loop-others.invariant.same_copies;
       size = c.loop-others.invariant.size;
-      counts = rw c.raise.ensures (counts-more c.args.self.now.copies others boards c.loop-others.invariant.counts
+      counts =
+          rw c.raise.ensures (counts-more c.args.self.now.copies others boards c.loop-others.invariant.counts
           (omega (arith, c.loop-others.invariant.enough)) none);
       enough = omega (
         arith,

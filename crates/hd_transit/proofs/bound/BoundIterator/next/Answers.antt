@@ -16,8 +16,10 @@ returns-in-loop-self g c =
     (omega (arith, c.loop-self-test.true, c.size.ensures.value))
     in let found : get now.table.now.entries now.next ≡ Some c.in-Some.transit.now =
     sym {b = get now.table.now.entries now.next} c.in-Some.ensures
-    in let known : now.next < MOST_COPIES = c.loop-self.invariant.known.known now.next c.in-Some.transit.now found
-    in let given : c.new.result ≡ Some now.next = some_where c.new.result (now.next < MOST_COPIES) now.next c.new.ensures known
+    in let known : now.next < MOST_COPIES =
+    c.loop-self.invariant.known.known now.next c.in-Some.transit.now found
+    in let given : c.new.result ≡ Some now.next =
+    some_where c.new.result (now.next < MOST_COPIES) now.next c.new.ensures known
     in let split : c.args.self.now ≡ now.next ∷ rest =
     grind (arith, nat_tests, common_steps, step, found, c.loop-self.invariant.same_rest, c.if-eq.ensures)
     in rw given (record {

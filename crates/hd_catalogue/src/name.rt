@@ -1,0 +1,146 @@
+//! A name, kept small.
+ghost use Rattle.std.specs.Prelude.{◌≡◌, ◌≤◌, IfOk, IsOk, length, nat_eq};
+ghost use Rattle.std.proofs.Common.{ap, rules};
+ghost use Rattle.std.specs.Cmp.Lexicographic.{bytes_decides, nat_list_eq_equiv, pointwise};
+ghost use Rattle.std.specs.Cmp.Rules.{hashing};
+ghost use Rattle.std.specs.Cmp.{partial_equiv_from_equiv};
+ghost use Rattle.std.specs.Hash as fed;
+
+use indexmap::Equivalent;
+use std::alloc::{AllocError, Allocator};
+use std::hash::{Hash, Hasher};
+use std::marker::Model;
+
+/// How many bytes of a name stand in the name itself.
+const MOST_SHORT: usize = 22;
+
+/// A name of at most [`MOST_SHORT`] bytes.
+#[derive(Drop)]
+struct ShortName {
+    length: u8,
+    bytes: [u8; MOST_SHORT],
+}
+
+impl Model for ShortName {
+    ghost use Rattle.std.specs.Prelude.{ℕ, ◌≤◌, List, take};
+    ghost use Rattle.std.specs.Coded.{coded_list, coded_ℕ};
+    ghost use Rattle.hd_catalogue.specs.declared.name.TheConstants.{MOST_SHORT};
+
+    ghost Value = { List ℕ };
+
+    ghost coded = { coded_list coded_ℕ };
+
+    ghost view = { λ name. take name.length name.bytes };
+
+    ghost invariant = { λ name. name.length ≤ MOST_SHORT };
+}
+
+impl ShortName {
+    fn new(name: &[u8]) -> ShortName
+        requires { length name.now ≤ MOST_SHORT }
+        ensures { result ≡ name.now }
+    {
+        let mut bytes = [0; MOST_SHORT];
+        bytes[..name.len()].copy_from_slice(name);
+        ShortName {
+            length: name.len() as u8,
+            bytes,
+        }
+    }
+
+    fn as_slice(&self) -> &[u8]
+        ensures { result.now ≡ self.now }
+    {
+        &self.bytes[..self.length as usize]
+    }
+}
+
+/// Where the bytes of a name are.
+#[derive(Drop)]
+enum Kept<A: Allocator> {
+    Within(ShortName),
+    Apart(Box<Vec<u8, A>, A>),
+}
+
+/// The bytes of a name. A short one takes no memory beside the value, which is as large as a `Vec`.
+#[derive(Drop)]
+pub(crate) struct Name<A: Allocator> {
+    kept: Kept<A>,
+}
+
+impl<A: Allocator> Model for Name<A> {
+    ghost use Rattle.std.specs.Prelude.{ℕ, List};
+    ghost use Rattle.std.specs.Coded.{coded_list, coded_ℕ};
+
+    ghost Value = { List ℕ };
+
+    ghost coded = { coded_list coded_ℕ };
+
+    ghost use Rattle.hd_catalogue.specs.Kept.{kept_bytes};
+
+    ghost view = { λ name. kept_bytes name.kept };
+}
+
+impl<A: Allocator> Name<A> {
+    /// A name of these bytes.
+    pub(crate) fn new(alloc: A, name: &[u8]) -> Result<Name<A>, AllocError>
+    where
+        A: Copy,
+        ensures bytes { IfOk result (λ kept. kept ≡ name.now) }
+        ensures short { length name.now ≤ MOST_SHORT → IsOk result }
+    {
+        let kept = if name.len() <= MOST_SHORT {
+            Kept::Within(ShortName::new(name))
+        } else {
+            let bytes = Vec::from_slice(alloc, name)?;
+            Kept::Apart(Box::new(alloc, bytes)?)
+        };
+        Ok(Name { kept })
+    }
+
+    /// The bytes.
+    pub(crate) fn as_slice(&self) -> &[u8]
+        ensures { result.now ≡ self.now }
+    {
+        match &self.kept {
+            Kept::Within(short) => short.as_slice(),
+            Kept::Apart(long) => long.as_slice(),
+        }
+    }
+}
+
+impl<A: Allocator> PartialEq for Name<A> {
+    ghost eq = { pointwise nat_eq };
+
+    ghost laws = { partial_equiv_from_equiv nat_list_eq_equiv };
+
+    fn eq(&self, other: &Self) -> bool {
+        self.as_slice() == other.as_slice()
+    }
+}
+
+impl<A: Allocator> Eq for Name<A> {
+    ghost laws = { nat_list_eq_equiv };
+}
+
+impl<A: Allocator> Hash for Name<A> {
+    ghost hash_input = { fed.slice fed.u8 };
+
+    ghost respects_eq = { Prim.search (hashing, rules) };
+
+    fn hash<H: Hasher>(&self, state: &mut H) {
+        self.as_slice().hash(state);
+    }
+}
+
+impl<A: Allocator> Equivalent<Name<A>> for &[u8] {
+    ghost equivalent = { λ name kept. pointwise nat_eq name.now kept };
+
+    ghost respects_hash = { λ name kept same. ap (fed.slice fed.u8) ((bytes_decides name.now kept).0 same) };
+
+    ghost respects_eq = { λ name x y. nat_list_eq_equiv.congr name.now x y };
+
+    fn equivalent(&self, kept: &Name<A>) -> bool {
+        *self == kept.as_slice()
+    }
+}
