@@ -1,13 +1,15 @@
 #!/usr/bin/env python3
-"""Stops holddesk carry by kill -9 before each of its calls that change a file, and looks what is left.
+"""Stops holddesk carry and begin by kill -9 before each of their calls that change a file, and looks what is left.
 
     python3 scripts/carry_stops.py [--every N] [PROGRAM]
 
 PROGRAM is crates/holddesk/out/holddesk where it isn't given. A day is played in a folder; then holddesk carry --library
 is run on a copy of it for each of its calls that write, sync, rename or take away a file, and is killed before that
 call (--every N: before each Nth). What is left has to be the old library or the new one: journal check takes it, and
-where it is the old one a second carry succeeds; the opening then has the same bytes as that of an undisturbed carry.
-Needs Linux, strace and Python 3; where there is no strace it is told as skipped. Status 0: nothing is lost.
+where it is the old one a second carry succeeds; the opening then has the same bytes as that of an undisturbed carry. In
+the same way an empty folder is begun with that opening: what is left has to be no library, which a second begin makes,
+or the whole one. Needs Linux, strace and Python 3; where there is no strace it is told as skipped. Status 0: nothing is
+lost.
 """
 
 import os
@@ -57,13 +59,18 @@ def opening(folder):
         return None
 
 
-def stop(program, folder, number, wanted):
-    """Carries a folder over and kills that before its call of this number. Whether there was one."""
-    words = [program, "carry", "--library", folder, "--to", CATALOGUE]
+def is_killed(words, number):
+    """Runs a command and kills it before its call of this number. Whether there was one."""
     done = subprocess.run(["strace", "-f", "-qq", "-o", os.devnull, "-e", f"trace={CALLS}", "-e",
                            f"inject={CALLS}:signal=KILL:when={number}", *words],
                           stdout=subprocess.DEVNULL, stderr=subprocess.DEVNULL, timeout=SECONDS, check=False)
-    if done.returncode == 0:
+    return done.returncode != 0
+
+
+def stop(program, folder, number, wanted):
+    """Carries a folder over and kills that before its call of this number. Whether there was one."""
+    words = [program, "carry", "--library", folder, "--to", CATALOGUE]
+    if not is_killed(words, number):
         return False
     checked = ended_well([program, "journal", "check", "--library", folder])
     if opening(folder) is None:
@@ -77,8 +84,27 @@ def stop(program, folder, number, wanted):
     return True
 
 
+def stop_begin(program, folder, number, path):
+    """Begins a folder with an opening and kills that before its call of this number. Whether there was one."""
+    words = [program, "journal", "begin", "--library", folder, "--catalogue", CATALOGUE, "--opening", path]
+    if not is_killed(words, number):
+        return False
+    check = [program, "journal", "check", "--library", folder]
+    if opening(folder) is None:
+        done = subprocess.run(check, capture_output=True, text=True, timeout=SECONDS, check=False)
+        if (done.returncode, done.stderr) != (1, f"there is no library in {folder}\n"):
+            raise Trouble(f"before call {number} of begin it is checked with {done.returncode}: {done.stderr!r}")
+        ended_well(words)
+    if not ended_well(check).startswith("turns: 0\n"):
+        raise Trouble(f"before call {number} of begin the journal isn't the new one")
+    with open(path, "rb") as file:
+        if opening(folder) != file.read():
+            raise Trouble(f"before call {number} of begin the opening is another one")
+    return True
+
+
 def stops(program, every):
-    """Stops a carry before each of its calls. How many there were."""
+    """Stops a carry, and then a beginning, before each of its calls. How many there were of each."""
     if shutil.which("strace") is None:
         return None
     with tempfile.TemporaryDirectory() as room:
@@ -87,23 +113,32 @@ def stops(program, every):
         play_day(program, old)
         shutil.copytree(old, whole)
         ended_well([program, "carry", "--library", whole, "--to", CATALOGUE])
-        number = 1
+        given = os.path.join(whole, "0002.opening")
+        carried = begun = 1
         while True:
-            folder = os.path.join(room, str(number))
+            folder = os.path.join(room, str(carried))
             shutil.copytree(old, folder)
-            if not stop(program, folder, number, opening(whole)):
-                return number
+            if not stop(program, folder, carried, opening(whole)):
+                break
             shutil.rmtree(folder)
-            number += every
+            carried += every
+        while True:
+            folder = os.path.join(room, f"begun{begun}")
+            os.mkdir(folder)
+            if not stop_begin(program, folder, begun, given):
+                return carried, begun
+            shutil.rmtree(folder)
+            begun += every
 
 
 def main():
     parser = parser_of(__doc__)
     parser.add_argument("--every", type=int, default=1, metavar="N", help="stop before each Nth call alone (1)")
     asked = parser.parse_args()
-    count = reported("carry_stops", stops, asked.program, asked.every)
-    print("carry_stops: skipped, since there is no strace" if count is None else
-          f"carry_stops: stopped before its calls up to the {count}th, the old library or the new one each time")
+    counts = reported("carry_stops", stops, asked.program, asked.every)
+    print("carry_stops: skipped, since there is no strace" if counts is None else
+          f"carry_stops: stopped before its calls up to the {counts[0]}th, the old library or the new one each time; "
+          f"a beginning up to the {counts[1]}th, no library or the whole one")
 
 
 if __name__ == "__main__":

@@ -162,11 +162,11 @@ def read(path, target):
 
 
 def rows_at(path, target):
-    """The rows that are the answer to a target, each as its members in order: a text that no name breaks out of."""
+    """The rows that are the answer to a target, each as its members in order: UTF-8 that no name breaks out of."""
     status, media, body = read(path, target)
-    if (status, media) != (200, JSON) or re.search(rb"[^ -~]|[<>&']", body):
+    if (status, media) != (200, JSON) or re.search(rb"[^ -~\x80-\xff]|[<>&']", body):
         raise Trouble(f"{target} is answered {status} {media} {body!r}")
-    return [list(row.items()) for row in json.loads(body)]
+    return [list(row.items()) for row in json.loads(body.decode("utf-8"))]
 
 
 def compare_rows(path, target, wanted):

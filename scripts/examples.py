@@ -18,6 +18,7 @@ among the options of man/holddesk.1, and the other way round. Needs nothing but 
 is written.
 """
 
+import hashlib
 import os
 import re
 import shutil
@@ -379,7 +380,10 @@ def play_manual(stage):
         file.write("H|patrons|1\nP|p1|1234|001|Ada Fielding\n")
     with open(os.path.join(stage.work, "messages"), "w", encoding="ascii") as file:
         file.write("1 9300CNt1|COpw|\n")
-    os.mkdir(stage.place(LIBRARY))
+    with open(CATALOGUE, "rb") as catalogue, open(os.path.join(stage.work, "library.opening"), "wb") as file:
+        file.write(b"H|opening|1|9|%s\n" % hashlib.sha256(catalogue.read()).hexdigest().encode())
+    for folder in (os.path.join(stage.work, "other"), stage.place(LIBRARY)):
+        os.mkdir(folder)
     lines = section_of("EXAMPLES").partition(".nf\n")[2].partition("\n.fi")[0].replace("\\", "").splitlines()
     count = play(stage, "the manual page", [(command, None) for command in lines])
     stage.end()

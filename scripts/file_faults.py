@@ -5,15 +5,17 @@ tells of each; and looks at the rights of what it makes, and at a disk that take
     python3 scripts/file_faults.py [PROGRAM] [--only OPTION]
 
 PROGRAM is crates/holddesk/out/holddesk where it isn't given. file_faults.rows has the files: `row` begins one with the
-option that takes it and what it shows, `>` is a line of it, in which DIGEST stands for the SHA-256 of the catalogue
-file, `!` is the fault with which it is refused, and `=` a line that is printed of one that is accepted. A fault is the
-one line of standard error; status 1, and nothing is printed then. --only plays the rows of one option. Behind them a
-catalogue, a journal and an opening are made under an umask that lets everyone read and write, and their owner alone
-has to be let; and serve is started where it may write no more than some bytes into a file: that has to be told before
-it listens. A journal whose server was killed is refused without its log, and one that was ended well opens without it;
-where sqlite3 changed one of its rows it is refused, and where that only read it, it isn't. A library whose last number
-lacks a file is refused too.
-Needs nothing but Python 3. Status 0: all is as it is stored.
+option that takes it and what it shows, or with `begin` for an opening with which journal begin begins a folder; `>` is
+a line of it, in which DIGEST stands for the SHA-256 of the catalogue file, `!` is the fault with which it is refused,
+and `=` a line that is printed of one that is accepted, in which FOLDER stands for the library's folder. A fault is the
+one line of standard error; status 1, and nothing is printed then, nor is a folder begun. --only plays the rows of one
+option. Behind them a catalogue, a journal and an opening are made under an umask that lets everyone read and write, and
+their owner alone has to be let; and serve is started where it may write no more than some bytes into a file: that has
+to be told before it listens. A journal whose server was killed is refused without its log, and one that was ended well
+opens without it; where sqlite3 changed one of its rows it is refused, and where that only read it, it isn't. A library
+whose last number lacks a file is refused too. A folder that is begun with an opening is served and checked, and isn't
+begun again; one whose beginning was broken off is no library, and is begun again. Needs nothing but Python 3. Status 0:
+all is as it is stored.
 """
 
 import contextlib
@@ -57,9 +59,17 @@ def told(program, option, lines, folder):
     os.chmod(own, 0o600)
     with open(path, "w", encoding="ascii") as file:
         file.writelines(line.replace("DIGEST", digest) + "\n" for line in lines)
-    done = subprocess.run([program, "check", "--catalogue", own, f"--{option}", path], capture_output=True,
-                          text=True, timeout=SECONDS, check=False)
-    return done.returncode, done.stdout, done.stderr
+    if option == "begin":
+        library = os.path.join(folder, "library")
+        os.mkdir(library)
+        words = ["journal", "begin", "--library", library, "--opening", path]
+    else:
+        words = ["check", f"--{option}", path]
+    done = subprocess.run([program, *words, "--catalogue", own], capture_output=True, text=True, timeout=SECONDS,
+                          check=False)
+    if option == "begin" and done.returncode and os.listdir(library):
+        raise Trouble(f"journal begin is refused, and the folder has {os.listdir(library)}")
+    return done.returncode, done.stdout.replace(os.path.join(folder, "library"), "FOLDER"), done.stderr
 
 
 def play(program, option, name, lines):
@@ -224,10 +234,76 @@ def compare_lost_files(program):
             raise Trouble("an empty file is taken for a journal")
 
 
+def begin_words(folder, opening):
+    """The words that begin a folder with an opening."""
+    return ["journal", "begin", "--library", folder, "--catalogue", CATALOGUE, "--opening", opening]
+
+
+def compare_begun_folder(program):
+    """Looks that a folder which is begun with an opening has copies of both files, is served and checked, and isn't
+    begun again; that one whose beginning was broken off is no library, and is begun again; and that a file that isn't
+    there and a journal that is there are told."""
+    with tempfile.TemporaryDirectory() as room:
+        folder, opening = os.path.join(room, "library"), os.path.join(room, "first.opening")
+        os.mkdir(folder)
+        with open(CATALOGUE, "rb") as catalogue, open(opening, "wb") as file:
+            digest = hashlib.sha256(catalogue.read()).hexdigest().encode()
+            file.write(b"H|opening|1|9|%s\nL|a1|p1|20260322|0\n" % digest)
+        begin = begin_words(folder, opening)
+        away = os.path.join(room, "away")
+        wanted = (1, f"cannot read the opening {away}: No such file or directory (os error 2)\n")
+        compare_said("an opening that isn't there", said_of(program, *begin_words(folder, away)), wanted)
+        compare_said("a folder that is begun", said_of(program, *begin), (0, ""))
+        names = sorted(os.listdir(folder))
+        if names != ["0002.catalogue", "0002.journal", "0002.journal-wal", "0002.opening"]:
+            raise Trouble(f"a folder that is begun with an opening has {names}")
+        for path, name in ((CATALOGUE, "0002.catalogue"), (opening, "0002.opening")):
+            with open(path, "rb") as one, open(os.path.join(folder, name), "rb") as other:
+                if one.read() != other.read():
+                    raise Trouble(f"{name} is no copy")
+        compare_said("a library that is there", said_of(program, *begin), (1, f"there is a library in {folder}\n"))
+        with Server(program, None, 1, "--library", folder) as server, connect(server.port) as terminal:
+            for message, start in ((b"9300CNt1|COpw|", b"941"), (CHECKOUT, b"120")):
+                reply = ask(terminal, message)
+                if not reply.startswith(start):
+                    raise Trouble(f"a library that is begun with a loan replies {reply!r} to {message!r}")
+            server.kill()
+        done = subprocess.run([program, "journal", "check", "--library", folder], capture_output=True, text=True,
+                              timeout=SECONDS, check=False)
+        if done.returncode or "copies on loan: 1\n" not in done.stdout:
+            raise Trouble(f"journal check of a folder that is begun with a loan: {done.stdout + done.stderr!r}")
+        compare_broken_off(program, folder, begin)
+        with open(os.path.join(folder, "0001.journal"), "wb") as file:
+            file.write(b"what was there\n")
+        said = said_of(program, *begin)
+        compare_said("a journal that is there", said, (1, f"there is a journal at {file.name}\n"))
+
+
+def compare_broken_off(program, folder, begin):
+    """Looks that a folder whose beginning was broken off before the opening got its name, before the journal was begun
+    or before the catalogue was there has no library, and is begun when that is said again. It is empty then."""
+    opening = os.path.join(folder, "0002.opening")
+    for lost in ([], ["journal", "journal-wal"], ["catalogue", "journal", "journal-wal"]):
+        os.rename(opening, f"{opening}.part")
+        for kind in lost:
+            os.remove(os.path.join(folder, f"0002.{kind}"))
+        said = said_of(program, "journal", "check", "--library", folder)
+        compare_said(f"a broken-off beginning, without {lost}", said, (1, f"there is no library in {folder}\n"))
+        compare_said(f"it is said again, without {lost}", said_of(program, *begin), (0, ""))
+        compare_said("it is checked", said_of(program, "journal", "check", "--library", folder), (0, ""))
+    for name in os.listdir(folder):
+        os.remove(os.path.join(folder, name))
+
+
+def compare_said(what, said, wanted):
+    if said != wanted:
+        raise Trouble(f"{what}: {said!r}, wanted {wanted!r}")
+
+
 def main():
     parser = parser_of(__doc__)
     parser.add_argument("--only", default="", metavar="OPTION",
-                        help="the rows of this option, opening or patrons")
+                        help="the rows of this option, opening or patrons, or of begin")
     asked = parser.parse_args()
     count = reported("file_faults", play_rows, asked.program, asked.only)
     print(f"file_faults: {count} files, each accepted or refused as it is stored")
@@ -237,8 +313,9 @@ def main():
         reported("file_faults", compare_missing_log, asked.program)
         reported("file_faults", compare_changed, asked.program)
         reported("file_faults", compare_lost_files, asked.program)
+        reported("file_faults", compare_begun_folder, asked.program)
         print(f"file_faults: {made} files made for their owner alone; starts that can't write, lack a file or a log, or "
-              "have a journal that somebody else changed, say so")
+              "have a journal that somebody else changed, say so; a folder is begun with an opening")
 
 
 if __name__ == "__main__":

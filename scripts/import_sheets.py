@@ -6,9 +6,10 @@
 PROGRAM is crates/holddesk/out/holddesk where it isn't given. The catalogue file that the sheets make has to be the
 demonstration catalogue of version 2 in docs/catalogue.md, byte for byte, however the sheets are dressed: with semicolons
 or tabs, every value in quotes, CR LF, a mark of UTF-8, headings in capitals, columns in another order, blanks around the
-values, an empty last row, and names that are in UTF-8 or Latin-1. `check` has to tell of it what it has. Then each of
-some faults has to be told as one line, by file, line and column, and the catalogue file has to stay as it was. Needs
-nothing but Python 3. Status 0: all is as it should be.
+values, an empty last row, and names that are in UTF-8 or Latin-1. `check` has to tell of it what it has, and `import`
+the headings that it didn't use. A quote that is closed, or stands in a value, has to be read. Then each of some faults
+has to be told as one line, by file, line and column, and the catalogue file has to stay as it was. Needs nothing but
+Python 3. Status 0: all is as it should be.
 """
 
 import csv
@@ -31,7 +32,9 @@ titles: 2
 titles with local priority: 1
 copies: 5
 """
-IMPORTED = "branches: 2\nterminals: 2\npatrons: 3\ntitles: 2\ncopies: 5\n"
+COUNTED = "branches: 2\nterminals: 2\npatrons: 3\ntitles: 2\ncopies: 5\n"
+# A sheet, and the heading of the example's that isn't used.
+UNUSED = [("branches", "address"), ("terminals", "where it stands"), ("patrons", "town"), ("titles", "author")]
 
 NO_NAME = "not 1 to 60 printable bytes, none of them a bar"
 
@@ -55,6 +58,24 @@ FAULTS = [
     ("titles", 3, "tb,,3651,0,", "titles.csv:3: loan days: '3651' is not a number from 0 to 3650"),
     ("titles", 1, "name,author,loan days,renewals,priority", "titles.csv:1: no column 'title'"),
     ("titles", 2, "t\xe4,,21,1,L", "titles.csv:2: not UTF-8"),
+    ("titles", 3, 'tb,"Joyce, James,14,0,', "titles.csv:3: a quote isn't closed"),
+    ("titles", 2, 'ta,"Woolf, Virginia,21,1,L', "titles.csv:2: a quote isn't closed"),
+    ("patrons", 4, 'p3,1,"', "patrons.csv:4: a quote isn't closed"),
+    ("patrons", 1, '"patron,loan limit,town', "patrons.csv:1: a quote isn't closed"),
+    ("branches", 1, 'branch,"in, the\nfull" address', "branches.csv:1: a quote isn't closed"),
+]
+
+# A sheet, its first line, its last one, and which of its headings are told. None is a fault: each quote is closed, or
+# stands in a value without quotes around it.
+READ = [
+    ("titles", "title,author,loan days,renewals,priority", 'tb,5" disk,14,0,', "author"),
+    ("titles", "title,author,loan days,renewals,priority", 'tb,"The ""Great"" one",14,0,', "author"),
+    ("titles", "title,author,loan days,renewals,priority", 'tb,"The "Great" one",14,0,', "author"),
+    ("titles", "title,author,loan days,renewals,priority", 'tb,"in two\nlines",14,0,"N"', "author"),
+    ("titles", "title,author,loan days,renewals,priority", 'tb, ",14,0,', "author"),
+    ("titles", 'title,"the\nauthor",loan days,renewals,priority', "tb,,14,0,", "the author"),
+    ("patrons", "patron,loan limit,", "p3,1,", None),
+    ("patrons", "patron,LOAN LIMIT,Patron,town", "p3,1,p9,Ely", "Patron, town"),
 ]
 
 
@@ -103,6 +124,12 @@ def dresses():
         [[f" {value} " for value in row] for row in rows], ",", plain, "\n").encode()
 
 
+def imported(headings):
+    """What import prints where each of these sheets has these headings that aren't used."""
+    told = "".join(f"{sheet}.csv: not used: {heading}\n" for sheet, heading in headings if heading)
+    return (COUNTED + told).encode()
+
+
 def run(program, folder, *words):
     return subprocess.run([program, *words], cwd=folder, capture_output=True, timeout=SECONDS, check=False,
                           umask=0o077)
@@ -134,7 +161,8 @@ def play_dress(program, name, words, dress, catalogue):
         for sheet in SHEETS:
             write(folder, f"{sheet}.csv", dress(example(sheet)))
         done = import_in(program, folder, *words)
-        compare(f"sheets {name}", (done.returncode, done.stdout, done.stderr), (0, IMPORTED.encode(), b""))
+        shown = [(sheet, dress([[it]]).decode("utf-8-sig").splitlines()[0].strip(' "')) for sheet, it in UNUSED]
+        compare(f"sheets {name}", (done.returncode, done.stdout, done.stderr), (0, imported(shown), b""))
         compare(f"the catalogue of sheets {name}", read(folder, "library.catalogue"), catalogue)
         done = run(program, folder, "check", "--catalogue", "library.catalogue")
         compare("check", (done.returncode, done.stdout, done.stderr), (0, CHECKED.encode(), b""))
@@ -168,6 +196,20 @@ def play_defaults(program, catalogue):
         compare("their catalogue", read(folder, "library.catalogue"), catalogue.replace(b"P|p3|1", b"P|p3|3"))
 
 
+def play_read(program, catalogue, sheet, first, last, heading):
+    """Quotes that are closed, or are of a value, are read, and the headings that aren't used are told."""
+    with tempfile.TemporaryDirectory() as folder:
+        for name in SHEETS:
+            write(folder, f"{name}.csv", dressed(example(name), ",", csv.QUOTE_MINIMAL, "\n").encode())
+        lines = read(folder, f"{sheet}.csv").decode().splitlines()
+        write(folder, f"{sheet}.csv", "\n".join([first, *lines[1:-1], last, ""]).encode())
+        done = import_in(program, folder)
+        shown = [(name, heading if name == sheet else other) for name, other in UNUSED]
+        compare(f"{sheet}.csv with {first!r} and {last!r}", (done.returncode, done.stdout, done.stderr),
+                (0, imported(shown), b""))
+        compare("its catalogue", read(folder, "library.catalogue"), catalogue)
+
+
 def play_fault(program, sheet, line, text, said):
     """A fault is told, in sheets that end in LF and in CR LF, and the catalogue that is there stays."""
     for end in ("\n", "\r\n"):
@@ -193,6 +235,8 @@ def play(program):
         play_dress(program, name, words, dress, catalogue)
     play_encodings(program, catalogue)
     play_defaults(program, catalogue)
+    for sheet in READ:
+        play_read(program, catalogue, *sheet)
     for fault in FAULTS:
         play_fault(program, *fault)
 

@@ -162,13 +162,3 @@ COUNTED = {
     "hold": (4, 0, 0), "hold_deletion": (0, 0, 0), "hold_change": (0, 0, 0), "cancellation": (1, 1, 0),
     "query": (1, 0, 0),
 }
-
-
-def as_told(value):
-    """A value as JSON tells it: of a name each byte is a character."""
-    return value.encode().decode("latin-1") if isinstance(value, str) else value
-
-
-def told(rows):
-    """Rows as JSON tells them."""
-    return [{name: as_told(value) for name, value in members.items()} for members in rows]

@@ -66,16 +66,16 @@ def play_morning(server):
 def compare_lists(path):
     """Compares each list at the door. How many there were."""
     for target, rows in morning.SEEN.items():
-        compare_rows(path, f"/api/{target}", morning.told(rows))
-    turns, last = morning.told(morning.TURNS), len(morning.TURNS)
+        compare_rows(path, f"/api/{target}", rows)
+    turns, last = morning.TURNS, len(morning.TURNS)
     compare_rows(path, "/api/turns", turns)
     for after, limit in ((0, 1), (5, 5), (last - 1, 7), (last, 512), (last + 1, 1), (10 ** 18, 1)):
         page = turns[after:after + limit]
         more = [{"next": after + limit}] if after + limit < last else []
         for query in (f"after={after}&limit={limit}", f"limit={limit}&after={after}"):
             compare_rows(path, f"/api/turns?{query}", page + more)
-    compare_rows(path, "/api/titles/tc/queue?after=1", morning.told([morning.SECOND_P2]))
-    compare_rows(path, f"/api/overdue?after=5&day={morning.DAY}", morning.told([morning.D1]))
+    compare_rows(path, "/api/titles/tc/queue?after=1", [morning.SECOND_P2])
+    compare_rows(path, f"/api/overdue?after=5&day={morning.DAY}", [morning.D1])
     return len(morning.SEEN) + 15
 
 
@@ -264,21 +264,37 @@ def compare_end(program, catalogue, folder):
             raise Trouble(f"holddesk {words} says something else where no server listens")
 
 
+def characters_of(name):
+    """The characters that JSON tells a name as: in UTF-8, or where it isn't that, in Latin-1."""
+    try:
+        return name.decode("utf-8")
+    except UnicodeDecodeError:
+        return name.decode("latin-1")
+
+
 def compare_names(program, folder):
-    """Compares what is told of patrons whose names have each byte that may stand in a name."""
+    """Compares what is told of patrons whose names have each byte that may stand in a name, and of some that are UTF-8
+    or all but that: cut short, too long, a half of a pair."""
     names = [bytes(byte for byte in range(first, min(first + 55, 0x100)) if byte not in b"|\x7f")
              for first in range(0x20, 0x100, 55)]
+    names += ["S\u00fcd".encode("utf-8"), "S\u00fcd".encode("latin-1"), b"S\xc3", b"\xc0\xaf", b"\xed\xa0\x80",
+              "\u0085\u2028\u2029\ufeff \u20ac\U0001f4da \u0635 <\u00e9>".encode("utf-8")]
     catalogue = os.path.join(folder, "names.catalogue")
     with open(catalogue, "wb") as file:
-        file.write(b"H|1|lib|0|9\nB|b\nS|t1|pw|b\n" + b"".join(b"P|%s|3\n" % name for name in names) + b"T|t|7|0\nC|c|t|b\n")
+        patrons = b"".join(b"P|%s|3\n" % name for name in names)
+        file.write(b"H|1|lib|0|99\nB|b\nS|t1|pw|b\n" + patrons + b"T|t|7|0\nC|c|t|b\n")
     with Seen(program, catalogue, folder, "--log", "quiet") as server, connect(server.port) as terminal:
         ask(terminal, LOGIN)
         for name in names:
             ask(terminal, f"11NN{DATE}{' ' * 18}AOlib|AA".encode() + name + b"|ABc|AC|")
             path = "/api/patrons/" + "".join(f"%{byte:02x}" for byte in name)
             [[*row]] = rows_at(server.path, path)
-            if dict(row)["copy"] != "c" or dict(rows_at(server.path, "/api/copies/c")[0])["patron"].encode("latin-1") != name:
-                raise Trouble(f"{name!r} is told as {row!r}")
+            [[*lent]] = rows_at(server.path, "/api/copies/c")
+            if dict(row)["copy"] != "c" or dict(lent)["patron"] != characters_of(name):
+                raise Trouble(f"{name!r} is told as {row!r} and {lent!r}")
+            printed, _ = asked_by(program, "show copy c", server.path)
+            if characters_of(name) not in printed:
+                raise Trouble(f"{name!r} is shown as {printed!r}")
             ask(terminal, f"09N{DATE}{DATE}APb|AOlib|ABc|AC|".encode())
         stop(server)
 

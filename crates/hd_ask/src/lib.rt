@@ -12,5 +12,5 @@ pub use crate::answer::{Answer, answer_of, read_answer};
 pub use crate::asking::ask;
 pub use crate::fault::AskFault;
 pub use crate::request::{Question, request_of};
-pub use crate::rows::{Rows, cell, text_of};
+pub use crate::rows::{Rows, cell};
 pub use crate::status::{first_line, number_of, status_text};

@@ -1,7 +1,8 @@
 //! The rows of an answer.
-ghost use Rattle.std.specs.Prelude.{◌≡◌};
+ghost use Rattle.std.specs.Prelude.{◌≡◌, IfOk, string_bytes};
+ghost use Rattle.serde_json.specs.Find.{get};
 ghost use Rattle.serde_json.specs.View.{items_view, view};
-ghost use Rattle.hd_ask.specs.Rows.{all_in, next_in};
+ghost use Rattle.hd_ask.specs.Rows.{IsCell, all_in, next_in};
 
 use crate::fault::AskFault;
 use serde_json::Value;
@@ -77,33 +78,16 @@ fn array_in(alloc: Global, body: &[u8]) -> Result<Value, AskFault> {
 }
 
 /// What a row has under a name, as text: nothing where it has nothing, and a name of the catalogue as it is
-/// there.
+/// told.
 ///
 /// # Errors
 /// Out of memory.
-pub fn cell(alloc: Global, row: &Value, name: &str) -> Result<String, AllocError> {
+pub fn cell(alloc: Global, row: &Value, name: &str) -> Result<String, AllocError>
+    ensures { IfOk result (λ text. IsCell (get name.now (view row.now)) (string_bytes text)) }
+{
     match row.get(name) {
         None | Some(Value::Null) => Ok(String::new(alloc)),
-        Some(Value::String(text)) => text_of(alloc, text.as_str()),
+        Some(Value::String(text)) => String::from_str(alloc, text.as_str()),
         Some(value) => value.to_string(alloc),
-    }
-}
-
-/// The text of a name whose bytes are told each by the character of its number: these bytes where they are
-/// text, and else those characters.
-///
-/// # Errors
-/// Out of memory.
-pub fn text_of(alloc: Global, told: &str) -> Result<String, AllocError> {
-    let mut bytes = Vec::new(alloc);
-    for character in told.chars() {
-        match u8::try_from(u32::from(character)) {
-            Ok(byte) => bytes.push(byte)?,
-            Err(_) => return String::from_str(alloc, told),
-        }
-    }
-    match String::from_utf8(bytes) {
-        Ok(text) => Ok(text),
-        Err(_) => String::from_str(alloc, told),
     }
 }

@@ -39,7 +39,7 @@ pub fn attend<R: Wait, I: Input, W: Output, A: Allocator + Copy, O: Office<A>, S
     surroundings: &S,
 ) -> Result<(), AttendFault>
     // The session is logged in as a terminal of the office's catalogue, or as none.
-    requires place { IsKnownTo (O.keeps office.old).contents state.old.state }
+    requires login { IsKnownTo (O.keeps office.old).contents state.old.state }
     ensures attends { (did : List Deed)
         × Works O.Office office.old office.new did
         × Attends (O.keeps office.old).contents (O.keeps office.old).seat O.faults (S.tells surroundings.now)
@@ -71,7 +71,7 @@ fn answer_piece<W: Output, A: Allocator + Copy, O: Office<A>>(
     to: &mut W,
 ) -> Result<(), AttendFault>
     requires piece { (0 < length piece.now) × (length piece.now ≤ 512) }
-    requires place { IsKnownTo (O.keeps office.old).contents state.old.state }
+    requires login { IsKnownTo (O.keeps office.old).contents state.old.state }
     ensures attends { (did : List Deed)
         × Works O.Office office.old office.new did
         × Attends (O.keeps office.old).contents (O.keeps office.old).seat O.faults

@@ -15,7 +15,8 @@ and no holds. `serve` and `journal check` never begin a journal, so that a mista
 with an empty desk. Nothing that is there already is written over.
 
 With --library the catalogue is copied into that folder, as 0001.catalogue, and its journal is 0001.journal
-there.";
+there. With --opening, for a library that comes from another system with its loans and holds, both files are
+copied, as 0002.catalogue and 0002.opening, and the journal is 0002.journal.";
 
 /// An example of `journal begin`, and its exit statuses.
 pub(crate) const JOURNAL_BEGIN_EXAMPLE: &str = "Example:
@@ -24,10 +25,15 @@ pub(crate) const JOURNAL_BEGIN_EXAMPLE: &str = "Example:
   begun: day.journal
   $ holddesk serve --catalogue demonstration.catalogue --journal day.journal \\
       --listen 127.0.0.1:6001 --workers 4
+  $ (echo \"H|opening|1|9|$(sha256sum < demonstration.catalogue | cut -c 1-64)\" &&
+    echo 'L|a1|p1|20260322|0') > first.opening
+  $ mkdir library
+  $ holddesk journal begin --library library --catalogue demonstration.catalogue --opening first.opening
+  begun: library/0002.journal
 
 Exit status: 0 well; 1 a fault, printed as one line (`there is a journal at FILE`, `there is a library in
-DIR`, and those of the catalogue and of a journal's file, which docs/operating.md has with what to do); 2 the
-command line was refused.";
+DIR`, and those of the catalogue, the opening and a journal's file, which docs/operating.md has with what to
+do); 2 the command line was refused.";
 
 /// What `journal check` does, in a line.
 pub(crate) const JOURNAL_CHECK_ABOUT: &str =

@@ -36,16 +36,16 @@ pub(crate) const CATALOGUE_OR_FOLDER: OptionWords = OptionWords {
 pub(crate) const OPENING: OptionWords = OptionWords {
     name: "opening",
     value: Value::Text("FILE"),
-    help: "The file of how the journal begins, which `carry` has written; without it each copy is at home",
+    help: "The file of how the journal begins, as `carry` writes it; without it each copy is at home",
     ..PLAIN
 };
 
-/// A library's folder, beside a catalogue file that is copied into it.
+/// A library's folder, beside the files that are copied into it.
 pub(crate) const FOLDER: OptionWords = OptionWords {
     name: "library",
     value: Value::Text("DIR"),
     help: "The folder of a library's numbered files, of which the last complete ones are meant",
-    conflicts: &["opening", "journal"],
+    conflicts: &["journal"],
     ..PLAIN
 };
 

@@ -129,5 +129,5 @@ pub(crate) const SERVE_EXAMPLE: &str =
   closed: 1 turns, 0 survivors
 
 Exit status: 0 well; 1 a fault, printed as one line (`catalogue line N: CAUSE`, `cannot read the catalogue`,
-the same of `opening` and `patrons`, `cannot listen`, `cannot write`, `not closed`, `no memory`, and those of
-a journal's file, which docs/operating.md has with what to do); 2 the command line was refused.";
+the same of `opening` and `patrons`, `cannot listen`, `cannot write`, `not closed`, `no thread`, `no memory`,
+and those of a journal's file, which docs/operating.md has with what to do); 2 the command line was refused.";

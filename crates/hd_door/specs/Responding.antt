@@ -1,5 +1,7 @@
 -- What is answered to what was heard.
-use Rattle.std.specs.Prelude.{◌≡◌, ℕ, List, []}
+use Rattle.std.specs.Prelude.{◌≡◌, ◌⊎◌, ℕ, List, Option, []}
+use Rattle.std.specs.Io.KnownBytes.{Appends}
+use Rattle.hd_connection.specs.Streams.{IsCutShort}
 use Rattle.hd_page.specs.declared.answering.Sequel.TheVariants.{GoOn}
 use Rattle.hd_page.specs.Answered.{IsAnswered, too_long}
 use Rattle.hd_page.specs.Shows.{Shown}
@@ -14,3 +16,8 @@ IsResponse policy shown (Whole request) response =
     IsAnswered request.items policy shown response.sequel [] response.text.items
 IsResponse policy shown TooLong response =
     (response.sequel ≡ GoOn) × (response.text.items ≡ too_long policy)
+
+-- What was written is a text, whole; or a beginning of it, but not all, where the output fails.
+abbrev pub WentOut : Option (List ℕ) → Option (List ℕ) → Type 0 → List ℕ → Type 0
+WentOut before after fails text =
+    Appends before after text ⊎ (fails × (part : List ℕ) × IsCutShort text part × Appends before after part)

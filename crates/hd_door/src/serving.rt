@@ -1,17 +1,19 @@
 //! Answering requests.
-ghost use Rattle.std.specs.Prelude.{◌≡◌, ◌≢◌, ℕ, Some, take, true};
-ghost use Rattle.std.specs.Io.KnownBytes.{Appends};
+ghost use Rattle.std.specs.Prelude.{◌≡◌, ◌≢◌, IfNone, IfSome, Some, true};
 ghost use Rattle.hd_page.specs.declared.answering.Sequel.TheVariants.{Stop};
+ghost use Rattle.hd_door.specs.Hearing.{IsHeard};
+ghost use Rattle.hd_door.specs.Responding.{IsResponse, WentOut};
+ghost use Rattle.hd_door.specs.declared.hearing.Heard.{Heard};
+ghost use Rattle.hd_door.specs.declared.responding.Response.{Response};
 
 use crate::connection::Connection;
-use crate::deadline::Deadline;
 use crate::door::Door;
 use crate::hearing::hear;
 use crate::lingering::linger;
 use crate::responding::{Response, respond};
 use crate::stopping::OnStop;
 use crate::timely::Timely;
-use hd_connection::{Output, write_all};
+use hd_connection::{Input, Output, write_all};
 use hd_page::{Page, Sequel, View};
 use std::alloc::Global;
 use std::os::unix::net::UnixStream;
@@ -93,16 +95,16 @@ fn welcome<R: Wait + Clock, V: View, S: OnStop + Copy>(
     connection: UnixStream,
 ) {
     let mut on_stop = service.on_stop;
-    match attend(rt, service, &connection, &mut on_stop) {
+    match attend_to(rt, service, &connection, &mut on_stop) {
         Some(Sequel::Stop) => door.hold(rt, connection),
         Some(Sequel::GoOn) => take_leave(rt, &connection),
         None => {}
     }
 }
 
-/// Answers the request that comes by a connection: what the answer was followed by; or `None`, where no
-/// request comes, or memory runs out.
-fn attend<R: Clock, V: View, S: OnStop>(
+/// Answers the request that comes by a connection, as `attend` does. Its head and its answer each have their
+/// time.
+fn attend_to<R: Clock, V: View, S: OnStop>(
     rt: &R,
     service: &Service<'_, V, S>,
     connection: &UnixStream,
@@ -111,18 +113,42 @@ fn attend<R: Clock, V: View, S: OnStop>(
     ensures stop { result ≡ Some Stop → S.is_called on_stop.new ≡ true }
     ensures goes_on { result ≢ Some Stop → on_stop.new ≡ on_stop.old }
 {
-    let mut from = within(rt, connection, HEAD_SECONDS)?;
-    let heard = hear(service.alloc, &mut from)?;
+    let mut from = within(rt, connection, HEAD_SECONDS);
+    let mut to = within(rt, connection, ANSWER_SECONDS);
+    attend(service, &mut from, &mut to, on_stop)
+}
+
+/// Answers the request that comes: what the answer was followed by; or `None`, where no request comes, or
+/// memory runs out. Nothing is written then.
+fn attend<I: Input, O: Output, V: View, S: OnStop>(
+    service: &Service<'_, V, S>,
+    from: &mut I,
+    to: &mut O,
+    on_stop: &mut S,
+) -> Option<Sequel>
+    ensures answered { IfSome result (λ sequel. (heard : Heard) × (response : Response)
+        × IsHeard (I.remaining from.old) (I.remaining from.new) heard
+        × IsResponse service.now.page.policy.now (record {
+          page = service.now.page.text.now;
+          shows = V.shows service.now.view.now;
+          tells = V.tells service.now.view.now;
+        }) heard response
+        × (sequel ≡ response.sequel)
+        × WentOut (O.contents to.old) (O.contents to.new) (O.fails to.new) response.text.items) }
+    ensures silent { IfNone result (to.new ≡ to.old) }
+    ensures stop { result ≡ Some Stop → S.is_called on_stop.new ≡ true }
+    ensures goes_on { result ≢ Some Stop → on_stop.new ≡ on_stop.old }
+{
+    let heard = hear(service.alloc, from)?;
     let response = respond(service.alloc, &heard, &service.page, service.view).ok()?;
-    let mut to = within(rt, connection, ANSWER_SECONDS)?;
-    give(&response, &mut to, on_stop);
+    give(&response, to, on_stop);
     Some(response.sequel)
 }
 
-/// Gives an answer, or as much of it as is taken, and has the server end where that is asked.
+/// Gives an answer, or where the output fails as much of it as was taken, and has the server end where that
+/// is asked.
 fn give<O: Output, S: OnStop>(response: &Response, to: &mut O, on_stop: &mut S)
-    ensures sent { (n : ℕ)
-        × Appends (O.contents to.old) (O.contents to.new) (take n response.now.text.items) }
+    ensures sent { WentOut (O.contents to.old) (O.contents to.new) (O.fails to.new) response.now.text.items }
     ensures stop { response.now.sequel ≡ Stop → S.is_called on_stop.new ≡ true }
     ensures goes_on { response.now.sequel ≢ Stop → on_stop.new ≡ on_stop.old }
 {
@@ -136,21 +162,19 @@ fn give<O: Output, S: OnStop>(response: &Response, to: &mut O, on_stop: &mut S)
 /// Says that no more is written, and reads a little of what still comes.
 fn take_leave<R: Clock>(rt: &R, connection: &UnixStream) {
     connection.finish();
-    if let Some(mut from) = within(rt, connection, LINGER_SECONDS) {
-        linger(&mut from);
-    }
+    linger(&mut within(rt, connection, LINGER_SECONDS));
 }
 
-/// A connection on which nothing waits longer than so many seconds from now in all, if the clock can be read.
+/// A connection on which nothing waits longer, in all, than so many seconds from the first read or write.
 fn within<'a, R: Clock>(
     rt: &'a R,
     connection: &'a UnixStream,
     seconds: u64,
-) -> Option<Timely<'a, R, &'a UnixStream>> {
-    let deadline = Deadline::after(rt, Duration::from_secs(seconds)).ok()?;
-    Some(Timely {
+) -> Timely<'a, R, &'a UnixStream> {
+    Timely {
         rt,
-        deadline,
+        within: Duration::from_secs(seconds),
+        deadline: None,
         connection,
-    })
+    }
 }

@@ -1,27 +1,38 @@
 //! A connection on which nothing waits past a moment.
-ghost use Rattle.std.specs.Prelude.{⊤};
+ghost use Rattle.std.specs.Prelude.{◌≡◌, ⊤};
 
 use crate::connection::Connection;
 use crate::deadline::Deadline;
 use hd_connection::{Input, Output, ReadFailed, WriteFailed, read_patiently, write_patiently};
 use std::io::{self, Read, Write};
-use std::time::Clock;
+use std::time::{Clock, Duration};
 
-/// A connection on which no read and no write waits past a moment; all of them fail behind it.
+/// A connection on which no read and no write waits past a moment, so long behind the first of them; all of
+/// them fail behind it.
 #[derive(Drop)]
 pub(crate) struct Timely<'a, R, C> {
     pub(crate) rt: &'a R,
-    pub(crate) deadline: Deadline,
+    /// How long behind the first call the moment is.
+    pub(crate) within: Duration,
+    /// The moment, since the first call.
+    pub(crate) deadline: Option<Deadline>,
     pub(crate) connection: C,
 }
 
 impl<'a, R: Clock, C: Connection> Timely<'a, R, C> {
-    /// Has the next call wait till then at most.
+    /// Has the next call wait till the moment at most.
     ///
     /// # Errors
     /// Where the moment has come, the clock can't be read or the system refuses.
-    fn limit(&self) -> io::Result<()> {
-        self.connection.limit(self.deadline.left(self.rt)?)
+    fn limit(&mut self) -> io::Result<()>
+        ensures { self.new.connection ≡ self.old.connection }
+    {
+        let deadline = match self.deadline {
+            Some(deadline) => deadline,
+            None => Deadline::after(self.rt, self.within)?,
+        };
+        self.deadline = Some(deadline);
+        self.connection.limit(deadline.left(self.rt)?)
     }
 }
 

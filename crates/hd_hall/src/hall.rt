@@ -133,8 +133,8 @@ impl<H: House, A: Allocator + Copy, Q: Drop, K: Keeper<A, Q> + Drop> Hall<H, A, 
     /// # Errors
     /// `Memory`, which the hall itself gives at a line and at each sixteenth receipt alone; `Estranged` where
     /// the journal lacks the seat's last turn, so never at a seat without receipts; and what the keeper
-    /// gives, of which a journal alone gives `Memory` and nothing else. The journal's turns and the seat are
-    /// unchanged.
+    /// gives, of which a journal alone gives `Memory` and nothing else. The seat is unchanged. So are the
+    /// journal's turns, as the keeper promises; no clause here can say so, since they lie under the lock.
     pub fn submit<'l, R: Wait>(
         &self,
         rt: &R,

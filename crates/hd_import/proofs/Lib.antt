@@ -1,3 +1,5 @@
 pub mod RowLemmas
+pub mod QuoteLemmas
+pub mod UnusedLemmas
 pub mod WriteLemmas
 pub mod FaultLemmas

@@ -1,6 +1,6 @@
 -- What is appended to a text, and the tables so far.
-use Rattle.std.proofs.Common.{◌≡◌, ℕ, ◌+◌, ◌<◌, ◌≤◌, Bool, true, List, [], ◌∷◌, ◌++◌, map, All, refl, sym, ap}
-use Rattle.std.proofs.Common.{◌∙◌, append_assoc, arith}
+use Rattle.std.proofs.Common.{◌≡◌, ℕ, ◌+◌, ◌<◌, ◌≤◌, Bool, true, false, List, [], ◌∷◌, ◌++◌, map, All, refl}
+use Rattle.std.proofs.Common.{sym, ap, ◌∙◌, append_assoc, arith}
 use Rattle.std.proofs.Common.{get_or, length, subst, take}
 use Rattle.std.specs.List.{flat_map, list_all, sum}
 use Rattle.std.proofs.lemmas.List.Sums.{sum_by-append}
@@ -8,6 +8,7 @@ use Rattle.std.proofs.lemmas.List.{append-nil, flat_map_more, map-append, take_a
 use Rattle.std.proofs.lemmas.List.Elements.{All-nil, All-push}
 use Rattle.std.proofs.lemmas.List.Folds.{list_all-append}
 use Rattle.hd_import.specs.Columns.{all_sheets}
+use Rattle.hd_import.specs.Quotes.{is_open_file}
 use Rattle.hd_import.specs.Rows.{AreRowsOfFile, Row}
 use Rattle.hd_import.specs.Texts.{IsTableOf, IsTextOf, Table, behind_bars, counts_of, file_of, first_line}
 use Rattle.hd_import.specs.Texts.{is_fit_row, line_of, text_of_rows, text_of_table}
@@ -85,14 +86,20 @@ pub table_step : (settings : Settings) (format : Format) (sources : Sources) (sh
     (at : ℕ) (d : Sheet) (out new counts bytes : List ℕ) (headings : Row) (rows : List Row)
     → at < length sheets → TablesSoFar settings format sources sheets at out counts
     → bytes ≡ (file_of sources (get_or sheets at d)).bytes.now → AreRowsOfFile format bytes (headings ∷ rows)
+    → is_open_file format bytes ≡ false
     → All (λ row. is_fit_row settings (get_or sheets at d) headings row ≡ true) rows
     → new ≡ out ++ text_of_rows settings (get_or sheets at d) headings rows
     → TablesSoFar settings format sources sheets (at + 1) new (counts ++ length rows ∷ [])
-table_step settings format sources sheets at d out new counts bytes headings rows l so file read fit put =
+table_step settings format sources sheets at d out new counts bytes headings rows l so file read closed fit
+    put =
     let sheet = get_or sheets at d in
     let table : Table = record { sheet = sheet; headings = headings; rows = rows } in
     let is : IsTableOf settings format sources table =
-    record { rows = subst (λ b. AreRowsOfFile format b (headings ∷ rows)) file read; fit = fit } in
+    record {
+      rows = subst (λ b. AreRowsOfFile format b (headings ∷ rows)) file read;
+      closed = subst (λ b. is_open_file format b ≡ false) file closed;
+      fit = fit;
+    } in
     let start = first_line settings ++ 10 ∷ [] in
     record {
       tables = so.tables ++ table ∷ [];

@@ -1,13 +1,13 @@
 -- Why sheets make no catalogue file.
-use Rattle.std.specs.Prelude.{◌≡◌, ℕ, ◌+◌, ◌<◌, true, false, List, [], ◌∷◌, ◌++◌, Contains, IsUtf8, None}
+use Rattle.std.specs.Prelude.{◌≡◌, ℕ, ◌+◌, ◌<◌, true, false, List, [], ◌∷◌, Contains, IsUtf8, None}
 use Rattle.std.specs.Prelude.{◌⊎◌, length, slice_index_or, string_bytes, sum, take}
 use Rattle.std.specs.List.{HoldsAt}
 use Rattle.hd_catalogue.specs.Files.{IsFirstBad, lines_of}
 use Rattle.hd_catalogue.specs.Text.{is_name}
 use Rattle.hd_catalogue.specs.declared.cause.CatFault.{CatFault}
-use Rattle.hd_catalogue.specs.declared.cause.Cause.{Cause}
 use Rattle.hd_catalogue.specs.declared.cause.Cause.TheVariants as cause
 use Rattle.hd_import.specs.Columns.{all_sheets, columns_of, is_fit}
+use Rattle.hd_import.specs.Quotes.{is_open_file, is_open_text}
 use Rattle.hd_import.specs.Rows.{AreRowsOfFile, Row}
 use Rattle.hd_import.specs.Texts.{IsTextOf, Table, counts_of, file_of}
 use Rattle.hd_import.specs.Values.{given, otherwise, place_of, value_of}
@@ -15,7 +15,6 @@ use Rattle.hd_import.specs.declared.column.Column.{Column}
 use Rattle.hd_import.specs.declared.column.Sheet.{Sheet}
 use Rattle.hd_import.specs.declared.fault.Fault.{Fault}
 use Rattle.hd_import.specs.declared.fault.Fault.TheVariants as fault
-use Rattle.hd_import.specs.declared.fault.Place.{Place}
 use Rattle.hd_import.specs.declared.format.Encoding.TheVariants as encoding
 use Rattle.hd_import.specs.declared.format.Format.{Format}
 use Rattle.hd_import.specs.declared.rows.RowsFault.{RowsFault}
@@ -27,10 +26,17 @@ use Rattle.hd_import.specs.declared.writing.LineFault.{LineFault}
 use Rattle.hd_import.specs.declared.writing.RowFault.{RowFault}
 use Rattle.hd_import.specs.declared.writing.RowFault.TheVariants as row_fault
 
--- the file isn't UTF-8, which is its encoding; or it is out of memory
+-- a quote of the text isn't closed, by the rules with this separator; or it is out of memory
+abbrev pub IsTextFault : ℕ → List ℕ → RowsFault → Type 0
+IsTextFault separator text (rows_fault.NotUtf8 valid) = ⊥
+IsTextFault separator text (rows_fault.OpenQuote place) = is_open_text separator text ≡ true
+IsTextFault separator text rows_fault.Memory = Unit {0}
+
+-- the file isn't UTF-8, which is its encoding; a quote of it isn't closed; or it is out of memory
 abbrev pub IsRowsFault : Format → List ℕ → RowsFault → Type 0
 IsRowsFault format bytes (rows_fault.NotUtf8 valid) =
     (format.encoding ≡ encoding.Utf8) × ¬ (IsUtf8 bytes)
+IsRowsFault format bytes (rows_fault.OpenQuote place) = is_open_file format bytes ≡ true
 IsRowsFault format bytes rows_fault.Memory = Unit {0}
 
 -- the catalogue doesn't take what the row says in this column, one of the sheet's
@@ -74,6 +80,8 @@ IsUnfitAt settings format sheet file row column value =
 abbrev pub IsSheetFault : Settings → Format → Sheet → Source → Fault → Type 0
 IsSheetFault settings format sheet file (fault.NotUtf8 path line) =
     (path.now ≡ file.path.now) × (format.encoding ≡ encoding.Utf8) × ¬ (IsUtf8 file.bytes.now)
+IsSheetFault settings format sheet file (fault.OpenQuote path line) =
+    (path.now ≡ file.path.now) × (is_open_file format file.bytes.now ≡ true)
 IsSheetFault settings format sheet file (fault.NoColumn path column) =
     (path.now ≡ file.path.now)
     × (rows : List Row) × AreRowsOfFile format file.bytes.now rows
@@ -107,6 +115,7 @@ IsTraced counts refused (fault.Refused told) = told ≡ refused
 IsTraced counts refused fault.Memory = Unit {0}
 IsTraced counts refused fault.Institution = ⊥
 IsTraced counts refused (fault.NotUtf8 path line) = ⊥
+IsTraced counts refused (fault.OpenQuote path line) = ⊥
 IsTraced counts refused (fault.NoColumn path column) = ⊥
 IsTraced counts refused (fault.Value place column value) = ⊥
 

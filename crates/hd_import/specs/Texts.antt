@@ -1,8 +1,10 @@
 -- The catalogue file that sheets make.
-use Rattle.std.specs.Prelude.{◌≡◌, ℕ, Bool, true, List, [], ◌∷◌, ◌++◌, All, codes, decimal, length, map}
+use Rattle.std.specs.Prelude.{◌≡◌, ℕ, Bool, true, false, List, [], ◌∷◌, ◌++◌, All, codes, decimal, length}
+use Rattle.std.specs.Prelude.{map}
 use Rattle.std.specs.List.{flat_map, list_all}
 use Rattle.std.specs.Fmt.{signed_decimal}
 use Rattle.hd_import.specs.Columns.{all_sheets, columns_of, is_fit, letter_of}
+use Rattle.hd_import.specs.Quotes.{is_open_file}
 use Rattle.hd_import.specs.Rows.{AreRowsOfFile, Row}
 use Rattle.hd_import.specs.Values.{value_of}
 use Rattle.hd_import.specs.declared.column.Sheet.{Sheet}
@@ -59,10 +61,12 @@ file_of sources sheet.Copies = sources.copies
 abbrev pub counts_of : List Table → List ℕ
 counts_of tables = map (λ table. length table.rows) tables
 
--- The table is what its sheet's file says, and the catalogue takes each value of it.
+-- The table is what its sheet's file says, each of whose quotes is closed, and the catalogue takes each value
+-- of it.
 pub record IsTableOf (settings : Settings) (format : Format) (sources : Sources) (table : Table)
     : Type 0 where
   pub rows : AreRowsOfFile format (file_of sources table.sheet).bytes.now (table.headings ∷ table.rows)
+  pub closed : is_open_file format (file_of sources table.sheet).bytes.now ≡ false
   pub fit : All (λ row. is_fit_row settings table.sheet table.headings row ≡ true) table.rows
 
 -- The text is the first line, and a line for each row of these tables, which are those of all sheets.

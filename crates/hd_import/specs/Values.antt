@@ -1,6 +1,6 @@
 -- What stands in a row, by the names of the columns.
 use Rattle.std.specs.Prelude.{ℕ, Bool, List, [], Option, None, Some, if◌then◌else◌, ◌==◌, codes, decimal}
-use Rattle.std.specs.Prelude.{length, map, position, slice_index_or}
+use Rattle.std.specs.Prelude.{length, position, slice_index_or}
 use Rattle.std.specs.Option.{option_map_or}
 use Rattle.std.specs.Str.{str_eq_ignore_ascii_case}
 use Rattle.hd_import.specs.Columns.{heading_of}

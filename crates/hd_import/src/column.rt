@@ -46,7 +46,7 @@ pub enum Column {
 }
 
 /// All sheets, in the order of their lines in the catalogue file.
-pub(crate) fn all_sheets() -> &'static [Sheet]
+pub fn all_sheets() -> &'static [Sheet]
     ensures { result.now ≡ all_sheets }
 {
     &[

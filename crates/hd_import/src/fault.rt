@@ -26,6 +26,12 @@ pub enum Fault<'a> {
         path: &'a str,
         line: usize,
     },
+    /// A quote isn't closed: the one in this line. The file ends within a value in quotes, or such a value,
+    /// which has the end of a line, goes on behind them. Rows would be lost in it.
+    OpenQuote {
+        path: &'a str,
+        line: usize,
+    },
     /// No heading is that of a column that the sheet needs.
     NoColumn {
         path: &'a str,

@@ -1,7 +1,8 @@
 //! Makes a catalogue file of sheets.
-ghost use Rattle.std.specs.Prelude.{◌≡◌, ◌<◌, ◌++◌, ◌∷◌, All, IfErr, IfOk, List, length, map, true};
+ghost use Rattle.std.specs.Prelude.{◌≡◌, ◌<◌, ◌++◌, ◌∷◌, All, IfErr, IfOk, List, false, length, map, true};
 ghost use Rattle.std.specs.Prelude.{string_bytes};
 ghost use Rattle.hd_catalogue.specs.Files.{IsAccepted, lines_of};
+ghost use Rattle.hd_import.specs.Quotes.{is_open_file};
 ghost use Rattle.hd_import.specs.Rows.{AreRowsOfFile, Row};
 ghost use Rattle.hd_import.specs.Texts.{IsTextOf, Table, counts_of, file_of, is_fit_row, text_of_rows};
 ghost use Rattle.hd_import.specs.Faults.{IsFault, IsLineFault, IsRowsFault, IsSheetFault};
@@ -13,7 +14,7 @@ use crate::format::Format;
 use crate::rows::{RowsFault, rows_of_file};
 use crate::settings::Settings;
 use crate::sources::{Source, Sources};
-use crate::tracing::{line_of_byte, line_of_row, trace};
+use crate::tracing::{line_of_byte, line_of_place, line_of_row, trace};
 use crate::values::{check_headings, given};
 use crate::writing::{LineFault, RowFault, put_first_line, put_rows};
 use csv::StringRecord;
@@ -102,6 +103,7 @@ fn put_sheet<'a>(
 ) -> Result<usize, Fault<'a>>
     ensures lines { IfOk result (λ count. (headings : Row) × (rows : List Row)
         × AreRowsOfFile format file.entry.bytes.now (headings ∷ rows)
+        × (is_open_file format file.entry.bytes.now ≡ false)
         × All (λ row. is_fit_row settings.now sheet headings row ≡ true) rows
         × (string_bytes out.new ≡ string_bytes out.old ++ text_of_rows settings.now sheet headings rows)
         × (count ≡ length rows)) }
@@ -109,7 +111,7 @@ fn put_sheet<'a>(
 {
     let rows = match rows_of_file(alloc, format, file.bytes) {
         Ok(rows) => rows,
-        Err(fault) => return Err(fault_of_file(file, fault)),
+        Err(fault) => return Err(fault_of_file(format, file, fault)),
     };
     let Some((headings, rows)) = rows.as_slice().split_first() else {
         return Err(Fault::NoColumn {
@@ -130,8 +132,8 @@ fn put_sheet<'a>(
 }
 
 /// The fault of a file whose rows can't be had.
-fn fault_of_file(file: Source<'_>, fault: RowsFault) -> Fault<'_>
-    ensures { (settings : Settings) (format : Format) (sheet : Sheet)
+pub(crate) fn fault_of_file(format: Format, file: Source<'_>, fault: RowsFault) -> Fault<'_>
+    ensures { (settings : Settings) (sheet : Sheet)
         → IsRowsFault format file.entry.bytes.now fault
         → IsSheetFault settings format sheet file.entry result }
 {
@@ -139,6 +141,10 @@ fn fault_of_file(file: Source<'_>, fault: RowsFault) -> Fault<'_>
         RowsFault::NotUtf8(valid) => Fault::NotUtf8 {
             path: file.path,
             line: line_of_byte(file.bytes, valid),
+        },
+        RowsFault::OpenQuote(place) => Fault::OpenQuote {
+            path: file.path,
+            line: line_of_place(format, file.bytes, place),
         },
         RowsFault::Memory => Fault::Memory,
     }

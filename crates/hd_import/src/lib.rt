@@ -17,7 +17,7 @@
 //! number that a row lacks is that of the settings, and a priority that it lacks is `N`.
 //!
 //! [`import`] gives the text and the catalogue that it was read back as, or the first fault, by file, line
-//! and column.
+//! and column. [`unused_headings`] gives the headings of the columns that it passed over.
 #![tactic(auto)]
 
 mod column;
@@ -25,16 +25,19 @@ mod fault;
 mod format;
 mod importing;
 mod printing;
+mod quotes;
 mod rows;
 mod settings;
 mod sources;
 mod tracing;
+mod unused;
 mod values;
 mod writing;
 
-pub use crate::column::{Column, Sheet};
+pub use crate::column::{Column, Sheet, all_sheets};
 pub use crate::fault::{Fault, Place};
 pub use crate::format::{Encoding, Format};
 pub use crate::importing::{Imported, import};
 pub use crate::settings::Settings;
 pub use crate::sources::{Source, Sources};
+pub use crate::unused::unused_headings;

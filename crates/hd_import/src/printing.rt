@@ -44,6 +44,7 @@ impl fmt::Display for Fault<'_> {
                 )
             }
             Fault::NotUtf8 { path, line } => write!(f, "{path}:{line}: not UTF-8"),
+            Fault::OpenQuote { path, line } => write!(f, "{path}:{line}: a quote isn't closed"),
             Fault::NoColumn { path, column } => {
                 write!(f, "{path}:1: no column '{}'", column.heading())
             }

@@ -1,13 +1,16 @@
 //! The rows of a sheet.
-ghost use Rattle.std.specs.Prelude.{◌≡◌, [], ◌∷◌, ◌++◌, IfErr, IfOk, OnOk, map, slice_index_or, string_bytes};
+ghost use Rattle.std.specs.Prelude.{◌≡◌, [], ◌∷◌, ◌++◌, IfErr, IfOk, OnOk, false, map, slice_index_or};
+ghost use Rattle.std.specs.Prelude.{string_bytes};
 ghost use Rattle.std.specs.List.{filter};
 ghost use Rattle.csv.specs.Records.{fields_of};
 ghost use Rattle.hd_import.specs.Rows.{AreRowsOf, AreRowsOfFile, decoded, has_value, heads_have};
 ghost use Rattle.hd_import.specs.Rows.{separator_found, separator_of};
-ghost use Rattle.hd_import.specs.Faults.{IsRowsFault};
+ghost use Rattle.hd_import.specs.Faults.{IsRowsFault, IsTextFault};
+ghost use Rattle.hd_import.specs.Quotes.{is_open_file, is_open_text};
 ghost use Rattle.hd_import.specs.declared.format.Encoding.TheVariants as encoding;
 
 use crate::format::{Encoding, Format};
+use crate::quotes::open_quote;
 use csv::{ReaderBuilder, StringRecord};
 use hd_catalogue::first_line;
 use std::alloc::{AllocError, Global};
@@ -17,6 +20,8 @@ use std::alloc::{AllocError, Global};
 pub(crate) enum RowsFault {
     /// The file isn't UTF-8: so many of its bytes are, and the next ones aren't.
     NotUtf8(usize),
+    /// A quote isn't closed, which stands in this place of the file's text.
+    OpenQuote(usize),
     /// Out of memory.
     Memory,
 }
@@ -24,18 +29,19 @@ pub(crate) enum RowsFault {
 /// The rows of a sheet's file, the headings first.
 ///
 /// # Errors
-/// The file isn't UTF-8, though that is its encoding; out of memory.
+/// The file isn't UTF-8, though that is its encoding; a quote isn't closed; out of memory.
 pub(crate) fn rows_of_file(
     alloc: Global,
     format: Format,
     bytes: &[u8],
 ) -> Result<Vec<StringRecord>, RowsFault>
     ensures rows { IfOk result (λ rows. AreRowsOfFile format bytes.now (map fields_of rows.items)) }
+    ensures closed { OnOk result (is_open_file format bytes.now ≡ false) }
     ensures refused { IfErr result (IsRowsFault format bytes.now) }
 {
     match format.encoding {
         Encoding::Utf8 => match str::from_utf8(bytes) {
-            Ok(_) => rows_of_text(alloc, separator_of(format.separator, bytes), bytes),
+            Ok(_) => rows_if_closed(alloc, separator_of(format.separator, bytes), bytes),
             Err(error) => Err(RowsFault::NotUtf8(error.valid_up_to())),
         },
         Encoding::Latin1 => {
@@ -43,7 +49,7 @@ pub(crate) fn rows_of_file(
                 return Err(RowsFault::Memory);
             };
             let text = text.as_bytes();
-            rows_of_text(alloc, separator_of(format.separator, text), text)
+            rows_if_closed(alloc, separator_of(format.separator, text), text)
         }
     }
 }
@@ -87,6 +93,21 @@ fn heads_have(byte: u8, text: &[u8]) -> bool
     ensures { result ≡ heads_have byte text.now }
 {
     first_line(text).line.contains(&byte)
+}
+
+/// The rows of a text with this separator, if each of its quotes is closed.
+///
+/// # Errors
+/// One isn't; out of memory.
+fn rows_if_closed(alloc: Global, separator: u8, text: &[u8]) -> Result<Vec<StringRecord>, RowsFault>
+    ensures rows { IfOk result (λ rows. AreRowsOf separator text.now (map fields_of rows.items)) }
+    ensures closed { OnOk result (is_open_text separator text.now ≡ false) }
+    ensures refused { IfErr result (IsTextFault separator text.now) }
+{
+    match open_quote(separator, text) {
+        Some(place) => Err(RowsFault::OpenQuote(place)),
+        None => rows_of_text(alloc, separator, text),
+    }
 }
 
 /// The rows of a text with this separator.

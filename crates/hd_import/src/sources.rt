@@ -30,7 +30,7 @@ pub struct Sources<'a> {
 
 impl<'a> Sources<'a> {
     /// The file of a sheet.
-    pub(crate) fn file_of(&self, sheet: Sheet) -> Source<'a>
+    pub fn file_of(&self, sheet: Sheet) -> Source<'a>
         ensures { result ≡ file_of self.now sheet }
     {
         match sheet {

@@ -152,11 +152,20 @@ pub(crate) fn line_of_row(format: Format, bytes: &[u8], row: &StringRecord) -> u
         Some(position) => position.byte() as usize,
         None => 0,
     };
-    let start = match format.encoding {
-        Encoding::Utf8 => start,
-        Encoding::Latin1 => byte_of_latin1(bytes, start),
-    };
-    line_of_byte(bytes, first_byte(bytes, start))
+    line_of_byte(bytes, first_byte(bytes, byte_of_text(format, bytes, start)))
+}
+
+/// The line of a file in which a place of its text is, from 1.
+pub(crate) fn line_of_place(format: Format, bytes: &[u8], place: usize) -> usize {
+    line_of_byte(bytes, byte_of_text(format, bytes, place))
+}
+
+/// The byte of a file that a place of its text is at.
+fn byte_of_text(format: Format, bytes: &[u8], place: usize) -> usize {
+    match format.encoding {
+        Encoding::Utf8 => place,
+        Encoding::Latin1 => byte_of_latin1(bytes, place),
+    }
 }
 
 /// The byte of a file in Latin-1 that stands where so many bytes of its text in UTF-8 end.

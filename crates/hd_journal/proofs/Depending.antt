@@ -56,7 +56,7 @@ of_number k xs s n None rising among number none = λ c there same.
 of_number k xs s n (Some m) rising among number least = (s, among, number, least)
 
 -- the record of the number, where there is one
-record_there : (m n : ℕ) (rs : List Record) (r : Record) → Rising m (survivors_of rs)
+pub record_there : (m n : ℕ) (rs : List Record) (r : Record) → Rising m (survivors_of rs)
     → record_of n rs ≡ Some r
     → (c : Record) × IsAt rs n c × (c.number ≡ n)
 record_there m n rs r rising there =

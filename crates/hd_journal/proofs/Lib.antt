@@ -7,6 +7,7 @@ pub mod Targets
 pub mod Recorded
 pub mod Depending
 pub mod Working
+pub mod Searching
 pub mod Withdrawing
 pub mod Keeping
 pub mod Replying

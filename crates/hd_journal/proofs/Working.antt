@@ -72,7 +72,7 @@ rise_walked k changes (r ∷ rs) counts =
     by_test false rest = rise_on counts next (after_walk k changes rs next) here rest
 
 -- part of some records
-fewer : (P : Record → Bool) (rs : List Record) → length (filter P rs) ≤ length rs
+pub fewer : (P : Record → Bool) (rs : List Record) → length (filter P rs) ≤ length rs
 fewer P [] = omega arith
 fewer P (x ∷ xs) = by_test (P x) (fewer P xs)
   where
@@ -98,7 +98,7 @@ fewer_of P Q (x ∷ xs) = by_tests (P x) (Q x) refl (fewer_of P Q xs)
     by_tests false true is rest = omega (arith, rest)
     by_tests false false is rest = rest
 
-fewer_questions : (P : Record → Bool) (rs : List Record) → questions_of (filter P rs) ≤ questions_of rs
+pub fewer_questions : (P : Record → Bool) (rs : List Record) → questions_of (filter P rs) ≤ questions_of rs
 fewer_questions P [] = omega arith
 fewer_questions P (x ∷ xs) = by_test (P x) (fewer_questions P xs)
   where

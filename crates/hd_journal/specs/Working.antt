@@ -1,6 +1,6 @@
 -- The work of a turn, as a meter counts it.
-use Rattle.std.specs.Prelude.{◌≡◌, ℕ, ◌+◌, ◌*◌, ◌≤◌, Option, Some, None, List, [], ◌∷◌, Result, Ok, Err}
-use Rattle.std.specs.Prelude.{length}
+use Rattle.std.specs.Prelude.{◌≡◌, ◌≢◌, ℕ, ◌+◌, ◌*◌, ◌≤◌, Option, Some, None, List, [], ◌∷◌, ◌++◌, filter}
+use Rattle.std.specs.Prelude.{Result, Ok, Err, length}
 use Rattle.hd_rules.specs.declared.replies.Refusal.{Refusal}
 use Rattle.hd_rules.specs.declared.replies.TurnReply.{TurnReply}
 use Rattle.hd_rules.specs.declared.turns.Asked.{Asked}
@@ -12,13 +12,18 @@ use Rattle.hd_rules.specs.Step.{plan}
 use Rattle.hd_rules.specs.Target.{Split}
 use Rattle.hd_rules.specs.Searches.{target}
 use Rattle.hd_rules.specs.Facts.{Facts}
-use Rattle.hd_rules.specs.Run.{outcome_of, run, step}
+use Rattle.hd_rules.specs.Numbers.{CommandNo}
+use Rattle.hd_rules.specs.Record.{Record, IsRecordAt}
+use Rattle.hd_rules.specs.Run.{IsAmong, outcome_of, run, step}
 use Rattle.hd_rules.specs.declared.commands.Survivor.{Survivor}
 use Rattle.hd_rules.specs.Turns.{State, next_survivor}
 use Rattle.hd_footprint.specs.Meter.{Counts, with_one_more}
 use Rattle.hd_footprint.specs.declared.count.Count.{Count}
 use Rattle.hd_footprint.specs.declared.count.Count.TheVariants.{Step}
 use Rattle.hd_inverse.specs.Work.{after_writes}
+use Rattle.hd_clash.specs.About.{touches}
+use Rattle.hd_clash.specs.Records.{AreRecords}
+use Rattle.hd_records.specs.Looks.{after_walk}
 
 -- the counts after these were counted, in order
 abbrev pub all_added : List Count → Counts → Counts
@@ -57,6 +62,24 @@ questions_from k d (s ∷ ss) =
 -- how many the survivors ask that are later than the target
 abbrev pub later_questions : Facts → Split → ℕ
 later_questions k at = questions_from k (step k (run k at.older) at.survivor) at.newer
+
+-- The work of finding what depends on the survivor at a split. Of the later records those that its changes
+-- touch are looked at, as far as the first that clashes; so each at most once, and at most four answers are
+-- compared for each question that they ask.
+pub record IsComparing (k : Facts) (at : Split) (old new : Counts) : Type 0 where
+  pub record_there : Record
+  pub later : List Record
+  pub one : IsRecordAt k (run k at.older) at.survivor record_there
+  pub after : AreRecords k (step k (run k at.older) at.survivor) at.newer later
+  pub walk : new ≡ after_walk k record_there.changes (filter (touches k record_there.changes) later) old
+  pub most : IsDecision 0 (length at.newer) (later_questions k at) old new
+
+-- The same of the survivor of this number; nothing is counted where no survivor has it.
+pub record IsDependenceWork (k : Facts) (survivors : List Survivor) (n : CommandNo)
+    (old new : Counts) : Type 0 where
+  pub there : (at : Split) → survivors ≡ at.older ++ at.survivor ∷ at.newer → at.survivor.number ≡ n
+      → IsComparing k at old new
+  pub not_there : ((s : Survivor) → IsAmong s survivors → s.number ≢ n) → new ≡ old
 
 -- A cancellation with a target: at most each later record is looked at to find it, and once more to compare;
 -- where none depends on it, its cells are written, and at most each later record is looked at to be mended.

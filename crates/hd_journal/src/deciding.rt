@@ -7,7 +7,7 @@ ghost use Rattle.std.specs.Prelude.{IfErr, IfOk, OnErr};
 ghost use Rattle.hd_records.specs.Survivors.{survivors_of};
 ghost use Rattle.hd_journal.specs.Deciding.{AreKept, IsRefused, MayGo};
 ghost use Rattle.hd_journal.specs.Dependents.{IsFirstDependent};
-ghost use Rattle.hd_journal.specs.Working.{IsCancellationWork};
+ghost use Rattle.hd_journal.specs.Working.{IsCancellationWork, IsDependenceWork};
 
 use crate::laws::laws;
 use hd_desk::{Catalogue, Meter};
@@ -55,7 +55,10 @@ pub(crate) fn first_dependent<A: Allocator + Copy>(
     meter: &mut Meter,
 ) -> Option<u64>
     requires { AreKept (facts_of catalogue.now) records.now }
-    ensures { IsFirstDependent (facts_of catalogue.now) (survivors_of records.now.records) number result }
+    ensures first { IsFirstDependent (facts_of catalogue.now) (survivors_of records.now.records) number
+        result }
+    ensures work { IsDependenceWork (facts_of catalogue.now) (survivors_of records.now.records) number
+        meter.old meter.new }
 {
     laws();
     prove!(0 < catalogue.command_limit());

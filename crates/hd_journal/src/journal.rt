@@ -14,6 +14,7 @@ ghost use Rattle.hd_journal.specs.Books.{AddsTurn, IsLegalBook, MakesNoTurn, fac
 ghost use Rattle.hd_journal.specs.Changing.{is_changing};
 ghost use Rattle.hd_journal.specs.Faults.{IsMemory};
 ghost use Rattle.hd_journal.specs.Shown.{turn_shown};
+ghost use Rattle.hd_journal.specs.Working.{IsDependenceWork};
 
 use crate::ask::OwnedAsk;
 use crate::fault::TurnFault;
@@ -269,10 +270,12 @@ impl<A: Allocator + Copy> Journal<A> {
     /// what a cancellation of that would be refused by now. `None` where none depends on it, so that it could
     /// be taken back, or where no survivor has the number.
     ///
-    /// Of the later records those that its changes touch are looked at, as far as that one. The work is
-    /// counted by the caller's own meter, and no memory is taken.
+    /// Of the later records those that its changes touch are looked at, as far as that one, each once. The
+    /// work is counted by the caller's own meter, and no memory is taken.
     pub fn first_dependent(&self, number: u64, meter: &mut Meter) -> Option<u64>
-        ensures { IsFirstDependent (facts self.now) (state self.now).survivors number result }
+        ensures first { IsFirstDependent (facts self.now) (state self.now).survivors number result }
+        ensures work { IsDependenceWork (facts self.now) (state self.now).survivors number
+            meter.old meter.new }
     {
         self.run.first_dependent(number, meter)
     }

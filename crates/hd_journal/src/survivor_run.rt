@@ -12,7 +12,8 @@ ghost use Rattle.hd_journal.specs.SurvivorRun.{IsCarriedOut, Submitted, Withdraw
 ghost use Rattle.hd_records.specs.Shown.{record_shown};
 ghost use Rattle.hd_journal.specs.Dependents.{IsFirstDependent};
 ghost use Rattle.hd_journal.specs.Stored.{IsRecordOf};
-ghost use Rattle.hd_journal.specs.Working.{IsCancellationWork, IsWork, OnlyRise, command_work};
+ghost use Rattle.hd_journal.specs.Working.{IsCancellationWork, IsDependenceWork, IsWork, OnlyRise};
+ghost use Rattle.hd_journal.specs.Working.{command_work};
 
 use crate::ask::OwnedAsk;
 use crate::deciding::{decide, first_dependent};
@@ -105,7 +106,9 @@ impl<A: Allocator + Copy> SurvivorRun<A> {
     /// The number of the first later survivor that depends on the survivor of a number, or `None` where none
     /// does, or no survivor has the number. The work is counted.
     pub(crate) fn first_dependent(&self, number: u64, meter: &mut Meter) -> Option<u64>
-        ensures { IsFirstDependent (facts_of self.now.contents) self.now.survivors number result }
+        ensures first { IsFirstDependent (facts_of self.now.contents) self.now.survivors number result }
+        ensures work { IsDependenceWork (facts_of self.now.contents) self.now.survivors number
+            meter.old meter.new }
     {
         first_dependent(self.desk.catalogue(), &self.records, number, meter)
     }

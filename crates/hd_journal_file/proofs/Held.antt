@@ -1,5 +1,6 @@
 -- What a crash leaves of a file.
 use Rattle.std.proofs.Common.{◌≡◌, sym, ◌∙◌, ap, subst, ◌⊎◌, inl, inr, IsTrue, ℕ, List, [], ◌∷◌, ◌++◌}
+use Rattle.std.proofs.Common.{Option}
 use Rattle.sqlite.specs.State.{State}
 use Rattle.sqlite.specs.Effect.{Database}
 use Rattle.sqlite.specs.Tree.{Trees}
@@ -10,7 +11,7 @@ use Rattle.hd_turn_store.specs.Kept.{KeptTurn, Head}
 use Rattle.hd_turn_store.specs.Tables.{Stores}
 use Rattle.hd_turn_store.specs.Holds.{Holds}
 use Rattle.hd_turn_row.specs.Rows.{AreTurnRows, IsTurnRow}
-use Rattle.hd_journal_file.specs.Held.{HasTurns, LeavesTurns}
+use Rattle.hd_journal_file.specs.Held.{HasTurns, HasTurnsOf, LeavesTurns}
 use Rattle.hd_journal_file.proofs.Stored.{IsReadBack, one_kept}
 use Rattle.hd_journal_file.proofs.Same.{OneMessage, same_turns, rows_more}
 
@@ -64,15 +65,20 @@ MayAdd old new row =
     → old.may_leave db ⊎ Stores head (ks ++ row ∷ []) db
 
 pub held_more : (old new : State) (row : KeptTurn) → Adds old new row
-    → (k : Contents) (turns : List Turn) (turn : Turn) → ((format : ℕ) → IsTurnRow k format turn row)
-    → IsLegal (facts_of k) (turns ++ turn ∷ []) → HasTurns k old turns → HasTurns k new (turns ++ turn ∷ [])
-held_more old new row adds k turns turn is legal held =
+    → (k : Contents) (digest : Option (List ℕ)) (turns : List Turn) (turn : Turn)
+    → ((format : ℕ) → IsTurnRow k format turn row) → IsLegal (facts_of k) (turns ++ turn ∷ [])
+    → HasTurnsOf k old digest turns → HasTurnsOf k new digest (turns ++ turn ∷ [])
+held_more old new row adds k digest turns turn is legal held =
+    let has = held.has in
     record {
-      legal = legal;
-      head = held.head;
-      rows = held.rows ++ row ∷ [];
-      keeps = adds held.head held.rows held.keeps;
-      are = rows_more k held.head.format turns held.rows turn row held.are (is held.head.format);
+      has = record {
+        legal = legal;
+        head = has.head;
+        rows = has.rows ++ row ∷ [];
+        keeps = adds has.head has.rows has.keeps;
+        are = rows_more k has.head.format turns has.rows turn row has.are (is has.head.format);
+      };
+      catalogue = held.catalogue;
     }
 
 pub left_either : (back : IsReadBack) (one : OneMessage) (old new : State) (row : KeptTurn)

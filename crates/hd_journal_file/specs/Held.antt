@@ -1,5 +1,5 @@
 -- What a journal's file holds, and what a stop may leave of it.
-use Rattle.std.specs.Prelude.{◌≡◌, Bool, false, List}
+use Rattle.std.specs.Prelude.{◌≡◌, ℕ, Bool, false, IfSome, List, Option}
 use Rattle.sqlite.specs.Recovery.{Image}
 use Rattle.sqlite.specs.State.{State, HasCleanDisk}
 use Rattle.sqlite.specs.Tree.{Trees}
@@ -24,6 +24,11 @@ module _ (k : Contents) (s : State) where
   abbrev pub HasTurns : List Turn → Type 0
   HasTurns turns = AreInFile k turns (Holds s)
 
+  -- it does, and the file is of the catalogue file with this digest, where one is told
+  pub record HasTurnsOf (digest : Option (List ℕ)) (turns : List Turn) : Type 0 where
+    pub has : HasTurns turns
+    pub catalogue : IfSome digest (λ told. has.head.catalogue ≡ told)
+
   -- a crash may leave a database with just these turns
   pub record LeavesTurns (left : List Turn) : Type 0 where
     pub database : Trees
@@ -37,9 +42,9 @@ pub record IsReliable (image : Image) (is_new : Bool) (s : State) : Type 0 where
   pub found : is_new ≡ false → (head : Head) × (rows : List KeptTurn) × HoldsTurns image head rows
 
 module _ (image : Image) (is_new : Bool) (k : Contents) (s : State) where
-  -- The file holds just these turns, each committed.
-  abbrev pub HoldsJournal : List Turn → Type 0
-  HoldsJournal turns = IsReliable image is_new s → HasTurns k s turns
+  -- The file holds just these turns, each committed, and is of the catalogue file with this digest.
+  abbrev pub HoldsJournal : Option (List ℕ) → List Turn → Type 0
+  HoldsJournal digest turns = IsReliable image is_new s → HasTurnsOf k s digest turns
 
   -- A stop at this moment may leave just these turns in the file.
   abbrev pub MayLeave : List Turn → Type 0

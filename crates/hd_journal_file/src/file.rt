@@ -28,6 +28,8 @@ pub struct JournalFile<S: Alter, F: Start, A: Allocator = Global> {
     catalogue: Arc<Catalogue<A>, A>,
     /// Whether the journal was begun in it as it was opened.
     is_new: bool,
+    /// The SHA-256 of the catalogue file that it is of, where that was told.
+    digest: Option<[u8; 32]>,
     /// Where the memory of a row comes from.
     alloc: Global,
     found: PhantomData<F>,
@@ -40,6 +42,7 @@ impl<S: Alter + Drop, F: Start, A: Allocator> Drop for JournalFile<S, F, A> {
             conn: _conn,
             catalogue: _catalogue,
             is_new: _is_new,
+            digest: _digest,
             alloc: _alloc,
             found: _found,
         } = self;
@@ -52,26 +55,29 @@ impl<S: Alter, F: Start, A: Allocator + Copy> JournalFile<S, F, A> {
         alloc: Global,
         conn: Connection<S>,
         is_new: bool,
+        digest: Option<[u8; 32]>,
         catalogue: Arc<Catalogue<A>, A>,
     ) -> JournalFile<S, F, A>
         ensures catalogue { arc_value result.catalogue ≡ arc_value catalogue }
         ensures conn { result.conn ≡ conn }
         ensures is_new { result.is_new ≡ is_new }
+        ensures digest { result.digest ≡ digest }
         ensures settled { let of = HoldsJournal (image_at F.Start) is_new (arc_value catalogue) in
             let leaves = MayLeave (image_at F.Start) is_new (arc_value catalogue) in
-            (turns left : List Turn) → of (state S.Store conn) turns → leaves (state S.Store conn) left
-            → left ≡ turns }
+            (turns left : List Turn) → of (state S.Store conn) digest turns
+            → leaves (state S.Store conn) left → left ≡ turns }
         // And a stop leaves them: what it may leave is never nothing.
         ensures left { let of = HoldsJournal (image_at F.Start) is_new (arc_value catalogue) in
             let leaves = MayLeave (image_at F.Start) is_new (arc_value catalogue) in
             (turns : List Turn) → IsReliable (image_at F.Start) is_new (state S.Store conn)
-            → of (state S.Store conn) turns → leaves (state S.Store conn) turns }
+            → of (state S.Store conn) digest turns → leaves (state S.Store conn) turns }
     {
         a_crash_leaves_what_is_seen(&conn);
         JournalFile {
             conn,
             catalogue,
             is_new,
+            digest,
             alloc,
             found: PhantomData,
         }
@@ -92,6 +98,7 @@ impl<S: Alter, F: Start, A: Allocator + Copy> JournalFile<S, F, A> {
             conn,
             catalogue: _catalogue,
             is_new: _is_new,
+            digest: _digest,
             alloc: _alloc,
             found: _found,
         } = self;
@@ -103,7 +110,7 @@ impl<S: Alter, F: Start, A: Allocator + Copy> TurnTable for JournalFile<S, F, A>
     ghost contents = { λ file. arc_value file.catalogue };
 
     ghost holds = { λ file. HoldsJournal (image_at F.Start) file.is_new (arc_value file.catalogue)
-        (state S.Store file.conn) };
+        (state S.Store file.conn) file.digest };
 
     ghost leaves = { λ file. MayLeave (image_at F.Start) file.is_new (arc_value file.catalogue)
         (state S.Store file.conn) };

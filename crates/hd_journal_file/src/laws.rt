@@ -1,6 +1,6 @@
 //! What a crash leaves, and what is opened.
 
-ghost use Rattle.std.specs.Prelude.{◌≡◌, false, List, None};
+ghost use Rattle.std.specs.Prelude.{◌≡◌, false, List, None, Some};
 ghost use Rattle.sqlite.specs.Held.{state};
 ghost use Rattle.sqlite.specs.Recovery.{Image};
 ghost use Rattle.sqlite.specs.WalFiles.{image_at};
@@ -8,8 +8,10 @@ ghost use Rattle.sqlite.specs.State.{HasCleanDisk};
 ghost use Rattle.hd_catalogue.specs.Contents.{Contents, facts_of};
 ghost use Rattle.hd_rules.specs.Journal.{IsLegal, Turn};
 ghost use Rattle.hd_journal.specs.Changing.{changing};
+ghost use Rattle.hd_turn_store.specs.Crashes.{HoldsTurns};
+ghost use Rattle.hd_turn_store.specs.Kept.{Head, KeptTurn};
 ghost use Rattle.hd_journal_file.specs.Held.{HasTurns, IsReliable, MayLeave};
-ghost use Rattle.hd_journal_file.specs.Opening.{AreFound, AreLeftOf};
+ghost use Rattle.hd_journal_file.specs.Opening.{AreFound, AreLeftOf, MayBeTaken};
 ghost use Rattle.hd_journal_file.specs.declared.opening.Wanted.{Wanted};
 
 use crate::adding::a_crash_leaves_what_is_seen;
@@ -21,8 +23,8 @@ use hd_turn_store::{Alter, Connection, Start};
 /// From the last answer over a crash to the next start. A journal is open, so that all its turns were
 /// answered. A crash leaves something of its file (`left`). Of files that a crash leaves (`leave` of
 /// `hd_turn_store`) a journal is opened with just the changing turns of those that were answered, where the
-/// catalogue says the same (`opened`). `_before` is the journal before the crash, and `_next` the connection
-/// after it.
+/// catalogue says the same (`opened`). With the catalogue file that it was of they aren't refused for another
+/// (`same`). `_before` is the journal before the crash, and `_next` the connection after it.
 pub fn what_was_answered_is_opened<S: Alter, F: Start, T: Alter>(
     _before: &DurableJournal<JournalFile<S, F>>,
     _next: &Connection<T>,
@@ -38,6 +40,11 @@ pub fn what_was_answered_is_opened<S: Alter, F: Start, T: Alter>(
         → MayLeave (image_at F.Start) _before.now.table.is_new _before.now.contents
         (state S.Store _before.now.table.conn)
         (changing (facts_of _before.now.contents) _before.now.turns) }
+    ensures same { (left : Image) (wanted : Wanted) → _before.now.shut ≡ None
+        → IsReliable (image_at F.Start) _before.now.table.is_new (state S.Store _before.now.table.conn)
+        → AreLeftOf (state S.Store _before.now.table.conn) left
+        → _before.now.table.digest ≡ Some wanted.digest.now
+        → (head : Head) × (rows : List KeptTurn) × HoldsTurns left head rows × MayBeTaken wanted head }
 {
     let conn = _before.table().connection();
     a_crash_leaves_what_is_seen(conn);

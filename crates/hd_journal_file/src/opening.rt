@@ -1,7 +1,7 @@
 //! Opening a journal's file.
 
 ghost use Rattle.std.specs.Prelude.{◌≡◌, ◌⊎◌, ◌↔◌, [], codes, false, Err, IfErr, IfOk, IsErrAnd, IsTrue};
-ghost use Rattle.std.specs.Prelude.{List, OnErr, OnOk};
+ghost use Rattle.std.specs.Prelude.{List, OnErr, OnOk, Some};
 ghost use Rattle.sqlite.specs.Files.{file_state};
 ghost use Rattle.sqlite.specs.Held.{state};
 ghost use Rattle.sqlite.specs.State.{HasCleanDisk};
@@ -60,6 +60,7 @@ pub fn open<S: Start, P: Progress>(
 ) -> Result<DurableJournal<JournalFile<FileStore<FileFrom<S>>, S>>, OpenFault>
     requires { journal.turns ≡ [] }
     ensures contents { IfOk result (λ opened. opened.contents ≡ journal.contents) }
+    ensures digest { IfOk result (λ opened. opened.table.digest ≡ Some wanted.now.digest.now) }
     // Of the path no clause says more: what its files hold is `S`.
     ensures memory { path.now ≡ codes ":memory:"
         → IsErrAnd result (λ fault. fault ≡ OpenFault.File store.CannotOpen) }
@@ -79,11 +80,11 @@ pub fn open<S: Start, P: Progress>(
     let (mut conn, is_new) = hd_turn_store::open(rt, path, start, wanted.digest)?;
     if is_new {
         let begun = for_turns(alloc, conn, is_for_turns)?;
-        return Ok(durable(alloc, begun, true, journal)?);
+        return Ok(durable(alloc, begun, true, Some(*wanted.digest), journal)?);
     }
     take_again(alloc, &mut conn, wanted, &mut journal, progress)?;
     let taken = for_turns(alloc, conn, is_for_turns)?;
-    Ok(durable(alloc, taken, false, journal)?)
+    Ok(durable(alloc, taken, false, Some(*wanted.digest), journal)?)
 }
 
 /// The connection to a journal's file as it is, or, for turns, with the mark of a server that has it open.
@@ -134,6 +135,9 @@ pub fn open_over<S: Alter + Drop, F: Start, P: Progress>(
         → HoldsTurns (image_at F.Start) head rows → Holds (state S.Store conn) head rows }
     ensures contents { IfOk result (λ opened. opened.contents ≡ journal.contents) }
     ensures told { IfOk result (λ opened. opened.table.is_new ≡ is_new) }
+    // Of which catalogue file one is that was begun, it isn't told.
+    ensures digest { IfOk result (λ opened. is_new ≡ false
+        → opened.table.digest ≡ Some wanted.now.digest.now) }
     ensures clean { IfOk result (λ opened. HasCleanDisk (state S.Store opened.table.conn)
         → HasCleanDisk (state S.Store conn)) }
     // A journal that was just begun is left as it is.
@@ -147,10 +151,10 @@ pub fn open_over<S: Alter + Drop, F: Start, P: Progress>(
     ensures memory { IsTrue is_new → IfErr result (λ fault. fault ≡ OpenFault.Memory) }
 {
     if is_new {
-        return Ok(durable(alloc, conn, true, journal)?);
+        return Ok(durable(alloc, conn, true, None, journal)?);
     }
     take_again(alloc, &mut conn, wanted, &mut journal, progress)?;
-    Ok(durable(alloc, conn, false, journal)?)
+    Ok(durable(alloc, conn, false, Some(*wanted.digest), journal)?)
 }
 
 /// Has a journal without turns take the turns of a file again, which is then of the catalogue that is wanted.
@@ -237,16 +241,18 @@ fn durable<S: Alter + Drop, F: Start>(
     alloc: Global,
     conn: Connection<S>,
     is_new: bool,
+    digest: Option<[u8; 32]>,
     journal: Journal,
 ) -> Result<DurableJournal<JournalFile<S, F>>, AllocError>
     requires held { IsReliable (image_at F.Start) is_new (state S.Store conn)
-        → AreHeld (state S.Store conn) journal.contents journal.turns }
+        → AreHeld (state S.Store conn) digest journal.contents journal.turns }
     requires change { changing (facts journal) journal.turns ≡ journal.turns }
     ensures contents { IfOk result (λ kept. kept.contents ≡ journal.contents) }
     ensures turns { IfOk result (λ kept. kept.turns ≡ journal.turns) }
     ensures file { IfOk result (λ kept. (kept.table.conn ≡ conn) × (kept.table.is_new ≡ is_new)) }
+    ensures digest { IfOk result (λ kept. kept.table.digest ≡ digest) }
 {
     let library = Arc::try_clone(journal.desk().catalogue())?;
-    let file = JournalFile::new(alloc, conn, is_new, library);
+    let file = JournalFile::new(alloc, conn, is_new, digest, library);
     Ok(DurableJournal::new(journal, file))
 }

@@ -1,9 +1,9 @@
 -- What isn't told.
-use Rattle.std.proofs.Common.{◌≡◌, ◌==◌, ◌&&◌, ◌||◌, ◌<◌, ℕ, Bool, true, false, if◌then◌else◌, suc, length}
-use Rattle.std.proofs.Common.{List, [], ◌∷◌, ◌++◌, Contains, refl, ap, sym, ◌∙◌, arith, subst, append_assoc}
+use Rattle.std.proofs.Common.{◌≡◌, ◌==◌, ℕ, Bool, true, false, if◌then◌else◌}
+use Rattle.std.proofs.Common.{List, [], ◌∷◌, ◌++◌, Contains, refl, ap, sym, ◌∙◌, arith, append_assoc}
 use Rattle.std.proofs.lemmas.Grind.{common_steps}
-use Rattle.std.proofs.lemmas.List.Elements.{Contains-append_left, Contains-append_right}
-use Rattle.hd_log.specs.Masks.{IsBehind, IsKept, MayBegin, InFirst, BehindBar, BehindShort, further}
+use Rattle.std.proofs.lemmas.List.Elements.{Contains-append_right}
+use Rattle.hd_log.specs.Masks.{IsBehind, IsKept, MayBegin, InFirst, BehindBar, BehindShort}
 use Rattle.hd_log.specs.Masks.{is_secret, is_short}
 use Rattle.hd_log.specs.Masks.{masked, masked_from, next, shown}
 use Rattle.hd_log.specs.declared.masking.Place.{Place}

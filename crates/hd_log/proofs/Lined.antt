@@ -1,10 +1,10 @@
 -- What holds of lines.
-use Rattle.std.proofs.Common.{◌≡◌, ℕ, List, [], ◌∷◌, ◌++◌, All, refl, arith, append_assoc}
+use Rattle.std.proofs.Common.{ℕ, List, [], ◌∷◌, ◌++◌, All, refl, arith}
 use Rattle.std.proofs.lemmas.List.Elements.{All-cons, All-nil, All-append}
 use Rattle.std.specs.List.{flat_map, join_by}
 use Rattle.std.specs.Fmt.{decimal}
 use Rattle.hd_log.specs.Escapes.{IsPrintable, escaped}
-use Rattle.hd_log.specs.Lines.{Field, IsOneLine, Number, Text, Value, Word, field_text, line_text, quoted}
+use Rattle.hd_log.specs.Lines.{Field, IsOneLine, Number, Text, Value, Word, field_text, line_text}
 use Rattle.hd_log.specs.Lines.{value_text}
 use Rattle.hd_log.proofs.Printable.{printable, printable_escaped}
 

@@ -50,42 +50,64 @@ end_word end.Unwritten = codes "journal_unwritten"
 abbrev pub sent_fields : Field → Field → List ℕ → List Field
 sent_fields name connection sent = name ∷ connection ∷ text (codes "text") (masked sent) ∷ []
 
+-- of a connection that came from this address
+abbrev pub from_fields : List ℕ → Field → List ℕ → List Field
+from_fields name by address = named name ∷ by ∷ text (codes "address") address ∷ []
+
+-- of one that has ended: why, how many messages were answered, and in how many seconds
+abbrev pub closed_fields : Field → List ℕ → End → ℕ → ℕ → List Field
+closed_fields by address why messages seconds =
+    named (codes "closed") ∷ by ∷ text (codes "address") address ∷ word (codes "why") (end_word why)
+    ∷ number (codes "messages") messages ∷ number (codes "seconds") seconds ∷ []
+
+-- of a login that wasn't taken
+abbrev pub refused_fields : Field → List ℕ → Refused → List Field
+refused_fields by terminal why =
+    named (codes "not_logged_in") ∷ by ∷ text (codes "terminal") terminal
+    ∷ word (codes "why") (refusal_word why) ∷ []
+
+-- of a message whose day lies so many from the server's
+abbrev pub clock_fields : Field → List ℕ → List ℕ → ℕ → List Field
+clock_fields by terminal date days =
+    named (codes "clock_off") ∷ by ∷ text (codes "terminal") terminal
+    ∷ text (codes "date") date ∷ number (codes "days") days ∷ []
+
 -- the fields of what happened at a connection, which a field names
 abbrev pub connection_fields : Field → ConnectionEvent → List Field
-connection_fields by (at.Opened address) =
-    named (codes "opened") ∷ by ∷ text (codes "address") address.now ∷ []
-connection_fields by (at.Waiting address) =
-    named (codes "waiting") ∷ by ∷ text (codes "address") address.now ∷ []
-connection_fields by (at.TurnedAway address) =
-    named (codes "turned_away") ∷ by ∷ text (codes "address") address.now ∷ []
+connection_fields by (at.Opened address) = from_fields (codes "opened") by address.now
+connection_fields by (at.Waiting address) = from_fields (codes "waiting") by address.now
+connection_fields by (at.TurnedAway address) = from_fields (codes "turned_away") by address.now
 connection_fields by (at.Closed address why messages seconds) =
-    named (codes "closed") ∷ by ∷ text (codes "address") address.now ∷ word (codes "why") (end_word why)
-    ∷ number (codes "messages") messages ∷ number (codes "seconds") seconds ∷ []
+    closed_fields by address.now why messages seconds
 connection_fields by (at.LoggedIn terminal) =
     named (codes "logged_in") ∷ by ∷ text (codes "terminal") terminal.now ∷ []
-connection_fields by (at.NotLoggedIn terminal why) =
-    named (codes "not_logged_in") ∷ by ∷ text (codes "terminal") terminal.now
-    ∷ word (codes "why") (refusal_word why) ∷ []
-connection_fields by (at.ClockOff terminal date days) =
-    named (codes "clock_off") ∷ by ∷ text (codes "terminal") terminal.now
-    ∷ text (codes "date") date.now ∷ number (codes "days") days ∷ []
+connection_fields by (at.NotLoggedIn terminal why) = refused_fields by terminal.now why
+connection_fields by (at.ClockOff terminal date days) = clock_fields by terminal.now date.now days
 connection_fields by at.LongLine = named (codes "long_line") ∷ by ∷ []
 connection_fields by at.LineFeedAlone = named (codes "line_feed_alone") ∷ by ∷ []
 connection_fields by (at.Line sent) = sent_fields (named (codes "line")) by sent.now
 connection_fields by (at.Reply sent) = sent_fields (named (codes "reply")) by sent.now
+
+-- of what can't be done: what of it is told, and why
+abbrev pub cannot_fields : List ℕ → Field → List ℕ → List Field
+cannot_fields name about why = named name ∷ about ∷ text (codes "why") why ∷ []
+
+-- of numbers for commands of which few are left
+abbrev pub few_fields : ℕ → ℕ → List Field
+few_fields last most =
+    named (codes "few_numbers") ∷ number (codes "last") last ∷ number (codes "most") most ∷ []
 
 -- the fields of an event
 abbrev pub event_fields : Event → List Field
 event_fields (events.Listening address workers) =
     named (codes "listening") ∷ text (codes "address") address.now ∷ number (codes "workers") workers ∷ []
 event_fields (events.CannotListen address why) =
-    named (codes "cannot_listen") ∷ text (codes "address") address.now ∷ text (codes "why") why.now ∷ []
+    cannot_fields (codes "cannot_listen") (text (codes "address") address.now) why.now
 event_fields (events.CannotRead file why) =
-    named (codes "cannot_read") ∷ text (codes "file") file.now ∷ text (codes "why") why.now ∷ []
+    cannot_fields (codes "cannot_read") (text (codes "file") file.now) why.now
 event_fields (events.CannotAccept times why) =
-    named (codes "cannot_accept") ∷ number (codes "times") times ∷ text (codes "why") why.now ∷ []
-event_fields (events.FewNumbers last most) =
-    named (codes "few_numbers") ∷ number (codes "last") last ∷ number (codes "most") most ∷ []
+    cannot_fields (codes "cannot_accept") (number (codes "times") times) why.now
+event_fields (events.FewNumbers last most) = few_fields last most
 event_fields (events.Unwritten why) = named (codes "journal_unwritten") ∷ text (codes "why") why.now ∷ []
 event_fields (events.Zone file offset) =
     named (codes "zone") ∷ text (codes "file") file.now ∷ word (codes "offset") offset.now ∷ []

@@ -1,7 +1,7 @@
 -- Values that aren't told: a message is a fixed part, and fields of two letters and a value, each ended by a
 -- bar (SIP2 2.00). Where the fixed part ends depends on the message, so up to the first bar a field may begin
 -- anywhere; and so it may behind a field of a few bytes, which needs no bar.
-use Rattle.std.specs.Prelude.{◌≡◌, ℕ, Bool, true, false, ◌&&◌, ◌||◌, List, [], ◌∷◌, ◌++◌, Contains}
+use Rattle.std.specs.Prelude.{◌≡◌, ℕ, Bool, true, ◌&&◌, ◌||◌, List, [], ◌∷◌, ◌++◌, Contains}
 use Rattle.std.specs.Prelude.{if◌then◌else◌, ◌==◌}
 use Rattle.hd_log.specs.declared.masking.Place.{Place}
 use Rattle.hd_log.specs.declared.masking.Place.TheVariants.{Hidden, Told, Begun, Behind, Searched}

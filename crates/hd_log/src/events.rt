@@ -1,10 +1,12 @@
 //! Events, written.
 ghost use Rattle.std.specs.Prelude.{◌≡◌, ◌++◌, OnOk, codes};
-ghost use Rattle.hd_log.specs.Events.{connection_fields, event_text, named, number, sent_fields, text, word};
+ghost use Rattle.hd_log.specs.Events.{cannot_fields, clock_fields, closed_fields, connection_fields};
+ghost use Rattle.hd_log.specs.Events.{event_text, few_fields, from_fields, number, refused_fields};
+ghost use Rattle.hd_log.specs.Events.{sent_fields, text, word, named};
 ghost use Rattle.hd_log.specs.Fields.{field_shown};
 ghost use Rattle.hd_log.specs.Lines.{line_text};
 
-use crate::event::{ConnectionEvent, Event};
+use crate::event::{ConnectionEvent, End, Event, Refused};
 use crate::field::{Field, Value, write_line};
 use crate::masking::mask;
 use std::alloc::{AllocError, Global};
@@ -30,45 +32,15 @@ pub fn write_event(alloc: Global, out: &mut Vec<u8>, event: &Event<'_>) -> Resul
             write_line(out, &about)
         }
         Event::CannotListen { address, why } => {
-            write_line(
-                out,
-                &[
-                    named(b"cannot_listen"),
-                    text(b"address", address),
-                    text(b"why", why),
-                ],
-            )
+            write_cannot(out, b"cannot_listen", &text(b"address", address), why)
         }
         Event::CannotRead { file, why } => {
-            write_line(
-                out,
-                &[
-                    named(b"cannot_read"),
-                    text(b"file", file),
-                    text(b"why", why),
-                ],
-            )
+            write_cannot(out, b"cannot_read", &text(b"file", file), why)
         }
         Event::CannotAccept { times, why } => {
-            write_line(
-                out,
-                &[
-                    named(b"cannot_accept"),
-                    number(b"times", times),
-                    text(b"why", why),
-                ],
-            )
+            write_cannot(out, b"cannot_accept", &number(b"times", times), why)
         }
-        Event::FewNumbers { last, most } => {
-            write_line(
-                out,
-                &[
-                    named(b"few_numbers"),
-                    number(b"last", last),
-                    number(b"most", most),
-                ],
-            )
-        }
+        Event::FewNumbers { last, most } => write_few_numbers(out, last, most),
         Event::Unwritten { why } => {
             write_line(out, &[named(b"journal_unwritten"), text(b"why", why)])
         }
@@ -84,45 +56,51 @@ pub fn write_event(alloc: Global, out: &mut Vec<u8>, event: &Event<'_>) -> Resul
     }
 }
 
+/// Writes what can't be done, what of it this field tells, and why.
+fn write_cannot<'a>(
+    out: &mut Vec<u8>,
+    name: &'a [u8],
+    about: &Field<'a>,
+    why: &'a [u8],
+) -> Result<(), AllocError>
+    ensures { OnOk result (out.new.items
+        ≡ out.old.items ++ line_text (cannot_fields name.now (field_shown about.now) why.now)) }
+{
+    write_line(out, &[named(name), *about, text(b"why", why)])
+}
+
+/// Writes that few numbers for commands are left.
+fn write_few_numbers(out: &mut Vec<u8>, last: u64, most: u64) -> Result<(), AllocError>
+    ensures { OnOk result (out.new.items ≡ out.old.items ++ line_text (few_fields last most)) }
+{
+    let about = [
+        named(b"few_numbers"),
+        number(b"last", last),
+        number(b"most", most),
+    ];
+    write_line(out, &about)
+}
+
 /// Writes what happened at a connection, which this field names.
-fn write_at(
+fn write_at<'a>(
     alloc: Global,
     out: &mut Vec<u8>,
-    at: &Field<'_>,
-    what: &ConnectionEvent<'_>,
+    at: &Field<'a>,
+    what: &ConnectionEvent<'a>,
 ) -> Result<(), AllocError>
     ensures { OnOk result (out.new.items
         ≡ out.old.items ++ line_text (connection_fields (field_shown at.now) what.now)) }
 {
     match *what {
-        ConnectionEvent::Opened { address } => {
-            write_line(out, &[named(b"opened"), *at, text(b"address", address)])
-        }
-        ConnectionEvent::Waiting { address } => {
-            write_line(out, &[named(b"waiting"), *at, text(b"address", address)])
-        }
-        ConnectionEvent::TurnedAway { address } => {
-            write_line(
-                out,
-                &[named(b"turned_away"), *at, text(b"address", address)],
-            )
-        }
+        ConnectionEvent::Opened { address } => write_from(out, b"opened", at, address),
+        ConnectionEvent::Waiting { address } => write_from(out, b"waiting", at, address),
+        ConnectionEvent::TurnedAway { address } => write_from(out, b"turned_away", at, address),
         ConnectionEvent::Closed {
             address,
             why,
             messages,
             seconds,
-        } => {
-            let about = [
-                named(b"closed"),
-                *at,
-                text(b"address", address),
-                word(b"why", why.word()),
-                number(b"messages", messages),
-                number(b"seconds", seconds),
-            ];
-            write_line(out, &about)
-        }
+        } => write_closed(out, at, address, why, messages, seconds),
         ConnectionEvent::LoggedIn { terminal } => {
             write_line(
                 out,
@@ -130,33 +108,94 @@ fn write_at(
             )
         }
         ConnectionEvent::NotLoggedIn { terminal, why } => {
-            let about = [
-                named(b"not_logged_in"),
-                *at,
-                text(b"terminal", terminal),
-                word(b"why", why.word()),
-            ];
-            write_line(out, &about)
+            write_not_logged_in(out, at, terminal, why)
         }
         ConnectionEvent::ClockOff {
             terminal,
             date,
             days,
-        } => {
-            let about = [
-                named(b"clock_off"),
-                *at,
-                text(b"terminal", terminal),
-                text(b"date", date),
-                number(b"days", days),
-            ];
-            write_line(out, &about)
-        }
+        } => write_clock_off(out, at, terminal, date, days),
         ConnectionEvent::LongLine => write_line(out, &[named(b"long_line"), *at]),
         ConnectionEvent::LineFeedAlone => write_line(out, &[named(b"line_feed_alone"), *at]),
         ConnectionEvent::Line { text } => write_masked(alloc, out, b"line", at, text),
         ConnectionEvent::Reply { text } => write_masked(alloc, out, b"reply", at, text),
     }
+}
+
+/// Writes what became of a connection that has come, and from where it came.
+fn write_from<'a>(
+    out: &mut Vec<u8>,
+    name: &'a [u8],
+    at: &Field<'a>,
+    address: &'a [u8],
+) -> Result<(), AllocError>
+    ensures { OnOk result (out.new.items
+        ≡ out.old.items ++ line_text (from_fields name.now (field_shown at.now) address.now)) }
+{
+    write_line(out, &[named(name), *at, text(b"address", address)])
+}
+
+/// Writes that a connection has ended.
+fn write_closed<'a>(
+    out: &mut Vec<u8>,
+    at: &Field<'a>,
+    address: &'a [u8],
+    why: End,
+    messages: u64,
+    seconds: u64,
+) -> Result<(), AllocError>
+    ensures { OnOk result (out.new.items ≡ out.old.items ++ line_text
+        (closed_fields (field_shown at.now) address.now why messages seconds)) }
+{
+    let about = [
+        named(b"closed"),
+        *at,
+        text(b"address", address),
+        word(b"why", why.word()),
+        number(b"messages", messages),
+        number(b"seconds", seconds),
+    ];
+    write_line(out, &about)
+}
+
+/// Writes that a login wasn't taken.
+fn write_not_logged_in<'a>(
+    out: &mut Vec<u8>,
+    at: &Field<'a>,
+    terminal: &'a [u8],
+    why: Refused,
+) -> Result<(), AllocError>
+    ensures { OnOk result (out.new.items
+        ≡ out.old.items ++ line_text (refused_fields (field_shown at.now) terminal.now why)) }
+{
+    let about = [
+        named(b"not_logged_in"),
+        *at,
+        text(b"terminal", terminal),
+        word(b"why", why.word()),
+    ];
+    write_line(out, &about)
+}
+
+/// Writes that a message's day lies too far from the server's.
+fn write_clock_off<'a>(
+    out: &mut Vec<u8>,
+    at: &Field<'a>,
+    terminal: &'a [u8],
+    date: &'a [u8],
+    days: u64,
+) -> Result<(), AllocError>
+    ensures { OnOk result (out.new.items
+        ≡ out.old.items ++ line_text (clock_fields (field_shown at.now) terminal.now date.now days)) }
+{
+    let about = [
+        named(b"clock_off"),
+        *at,
+        text(b"terminal", terminal),
+        text(b"date", date),
+        number(b"days", days),
+    ];
+    write_line(out, &about)
 }
 
 /// Writes what was sent at a connection, without what isn't told.

@@ -3,3 +3,4 @@ pub mod Holding  -- a patron's holds by their titles
 pub mod Walking  -- copies by rising number
 pub mod Turning  -- turns by their numbers
 pub mod Changed  -- the changes of a command
+pub mod Searched  -- a search where no survivor has the number

@@ -7,9 +7,11 @@ use Rattle.hd_rules.specs.Facts.{Facts}
 use Rattle.hd_rules.specs.Record.{Record}
 use Rattle.hd_catalogue.specs.Contents.{Contents, facts_of}
 use Rattle.hd_desk.specs.Asking.{IsQueueOf}
+use Rattle.hd_footprint.specs.Meter.{Counts}
 use Rattle.hd_journal.specs.Books.{Book, facts, state}
 use Rattle.hd_journal.specs.Dependents.{IsFirstDependent}
 use Rattle.hd_journal.specs.Stored.{IsRecordOf}
+use Rattle.hd_journal.specs.Working.{IsDependenceWork}
 use Rattle.hd_looks.specs.declared.reader.PageReader.{PageReader}
 use Rattle.hd_looks.specs.declared.row.Row.{Row}
 use Rattle.hd_looks.specs.declared.topic.Topic.{Topic}
@@ -47,7 +49,14 @@ IsShown book (about.Command number) page =
     (found : Option Record) × IsCommand (facts book) (state book).survivors number found page.rows
     × (page.next ≡ None)
 
--- A reader has taken that down.
+-- The work that is counted under the lock: at a command that of finding what depends on it, and no other.
+abbrev pub IsLookWork : Book → Topic → Counts → Counts → Type 0
+IsLookWork book (about.Command number) old new =
+    IsDependenceWork (facts book) (state book).survivors number old new
+IsLookWork book _ old new = new ≡ old
+
+-- A reader has taken that down, and counted the work.
 pub record HasShown (old : PageReader) (book : Book) (new : PageReader) : Type 0 where
   pub same : new.topic ≡ old.topic
   pub shown : IsShown book old.topic new.page
+  pub work : IsLookWork book old.topic old.meter new.meter

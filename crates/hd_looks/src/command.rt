@@ -2,6 +2,7 @@
 ghost use Rattle.std.specs.Prelude.{◌≡◌, ◌+◌, ◌*◌, ◌≤◌, ◌++◌, None, Option, length};
 ghost use Rattle.hd_rules.specs.Record.{Record};
 ghost use Rattle.hd_journal.specs.Books.{facts, state};
+ghost use Rattle.hd_journal.specs.Working.{IsDependenceWork};
 ghost use Rattle.hd_looks.specs.Rows.{change_rows};
 ghost use Rattle.hd_looks.specs.Shown.{IsCommand};
 
@@ -23,6 +24,8 @@ pub(crate) fn show_command<A: Allocator + Copy>(
     ensures rows { (found : Option Record)
         × IsCommand (facts journal.now) (state journal.now).survivors number found page.new.rows }
     ensures next { page.new.next ≡ None }
+    ensures work { IsDependenceWork (facts journal.now) (state journal.now).survivors number
+        meter.old meter.new }
 {
     commands_keep_desks_sound();
     page.clear();

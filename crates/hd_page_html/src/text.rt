@@ -126,18 +126,11 @@ function make(tag, text) {
   return element;
 }
 
-// Each character of a name stands for a byte. Where the bytes are UTF-8 they are shown as that.
-function readable(name) {
-  if (!/[\\x80-\\xff]/.test(name)) return name;
-  const bytes = Uint8Array.from(name, c => c.charCodeAt(0));
-  try { return new TextDecoder('utf-8', { fatal: true }).decode(bytes); } catch (fault) { return name; }
-}
+// A name that isn't UTF-8 is told a character a byte: this is the way back.
 function byBytes(name) {
   return name.replace(/[^\\w.~-]/g, c => '%' + c.charCodeAt(0).toString(16).padStart(2, '0'));
 }
-function bytesOf(escaped) {
-  return escaped.replace(/%([0-9a-f]{2})/gi, (all, digits) => String.fromCharCode(parseInt(digits, 16)));
-}
+function decoded(escaped) { try { return decodeURIComponent(escaped); } catch (fault) { return ''; } }
 function isDay(value) { return /^\\d{4}-\\d\\d-\\d\\d$/.test(value); }
 function label(name) { return LABELS[name] || name.charAt(0).toUpperCase() + name.slice(1); }
 
@@ -145,9 +138,9 @@ function cell(name, value) {
   const td = make('td');
   if (value === null || value === undefined) return td;
   if (typeof value === 'number' || isDay(value)) td.className = 'n';
-  if (!Object.hasOwn(LINKS, name)) { td.textContent = readable(String(value)); return td; }
-  const a = make('a', readable(String(value)));
-  a.href = '#' + LINKS[name].replace('*', () => typeof value === 'number' ? value : byBytes(value));
+  if (!Object.hasOwn(LINKS, name)) { td.textContent = value; return td; }
+  const a = make('a', value);
+  a.href = '#' + LINKS[name].replace('*', () => encodeURIComponent(value));
   td.append(a);
   return td;
 }
@@ -249,7 +242,7 @@ async function show(path) {
   try {
     let found;
     try { found = await rowsFrom(path, 0); } catch (fault) {
-      // A name that was typed is taken as UTF-8 first, and then a character a byte.
+      // A name is taken as UTF-8 first, and then a character a byte.
       const name = decoded(path.split(/[\\/=]/)[1]);
       if (fault.status !== 404 || !/[\\x80-\\xff]/.test(name) || /[^\\x00-\\xff]/.test(name)) throw fault;
       path = path.replace(/([\\/=])[^\\/]+/, (all, mark) => mark + byBytes(name));
@@ -263,7 +256,6 @@ async function show(path) {
     say(why(path, fault), true);
   }
 }
-function decoded(escaped) { try { return decodeURIComponent(escaped); } catch (fault) { return ''; } }
 function why(path, fault) {
   if (fault.status === 400) return 'There is no such day or number.';
   if (fault.status !== 404) return 'The desk does not answer: ' + fault.message;
@@ -349,7 +341,7 @@ function asked() {
   const [front, back] = option.value.split('*');
   at('kind').value = option.value;
   named();
-  at('name').value = readable(bytesOf(path.slice(front.length, path.length - back.length)));
+  at('name').value = decoded(path.slice(front.length, path.length - back.length));
   show(path);
 }
 at('kind').addEventListener('change', () => {
@@ -380,7 +372,7 @@ setInterval(refresh, 10000);
 
 /// What a browser may load and run for it: its own style and script, by their sums, and nothing else.
 pub(crate) const POLICY: &[u8] = b"default-src 'none'; \
-    script-src 'sha256-XfDsdkQ2JNl7CNCBnMm0Hnado4Zd7PGAC1ERrUVgomE='; \
+    script-src 'sha256-romFIZmuWMUyYH0IPwvxmHJIBigGW0gkXC291NKBpa8='; \
     style-src 'sha256-ks1hDWVwQIMjMtSfAgpzgU4Fgj+RQjHA7Foas3NWu0A='; \
     connect-src 'self'; \
     base-uri 'none'; \

@@ -10,10 +10,10 @@ use Rattle.hd_session.specs.declared.ended.Ended.TheVariants as ended
 use Rattle.hd_replay.specs.Replays.{AreEmpty, AreOfOffice}
 
 -- new sessions
-new_place : (e : Extensions) (n i : ℕ) → (session_at (replicate n (new_session e)) i).state.place ≡ None
-new_place e zero i = refl
-new_place e (suc n) zero = refl
-new_place e (suc n) (suc i) = new_place e n i
+new_login : (e : Extensions) (n i : ℕ) → (session_at (replicate n (new_session e)) i).state.login ≡ None
+new_login e zero i = refl
+new_login e (suc n) zero = refl
+new_login e (suc n) (suc i) = new_login e n i
 
 new_open : (e : Extensions) (n i : ℕ) → (session_at (replicate n (new_session e)) i).ended ≡ None
 new_open e zero i = refl
@@ -21,7 +21,7 @@ new_open e (suc n) zero = refl
 new_open e (suc n) (suc i) = new_open e n i
 
 pub new_known : (k : Contents) (e : Extensions) (n : ℕ) → AreKnownTo k (replicate n (new_session e))
-new_known k e n i at some = absurd (none-some at (sym (new_place e n i) ∙ some))
+new_known k e n i at some = absurd (none-some at (sym (new_login e n i) ∙ some))
 
 -- and haven't ended
 pub new_of_office : (e : Extensions) (n : ℕ) → AreOfOffice (replicate n (new_session e))

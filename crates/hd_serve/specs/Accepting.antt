@@ -42,6 +42,12 @@ received_on None false came failed = served came failed
 abbrev pub received : {X : Type 0} → Course → Result X Failed → ℕ → Result (Arrival X) ServeFault
 received course came failed = received_on course.unwritten course.is_asked came failed
 
+-- a fault that ends the accepting: it is never out of memory then
+abbrev pub IsOfAccepting : ServeFault → Type 0
+IsOfAccepting CannotListen = Unit {0}
+IsOfAccepting (Unwritten why) = Unit {0}
+IsOfAccepting fault = ⊥
+
 -- the connection of this number, from 1, is the last of so many; of 0, which is no limit, none is
 abbrev pub IsLast : ℕ → ℕ → Type 0
 IsLast number connections = (0 < connections) × (connections ≤ number)

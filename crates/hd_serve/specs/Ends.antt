@@ -1,5 +1,6 @@
 -- What ends a server and its connections.
-use Rattle.std.specs.Prelude.{ℕ, ◌-◌, ◌/◌, ◌≤◌, Bool, true, false, Option, Some, None, Result, Ok, Err}
+use Rattle.std.specs.Prelude.{◌≡◌, ◌⊎◌, ℕ, ◌-◌, ◌/◌, ◌≤◌, Bool, true, false, Option, Some, None}
+use Rattle.std.specs.Prelude.{Result, Ok, Err}
 use Rattle.hd_journal.specs.declared.fault.TurnFault.{TurnFault}
 use Rattle.hd_journal.specs.declared.fault.TurnFault.TheVariants as turn
 use Rattle.hd_journal.specs.declared.fault.WriteFault.{WriteFault}
@@ -9,7 +10,7 @@ use Rattle.hd_attend.specs.declared.fault.AttendFault.TheVariants as connection
 use Rattle.hd_log.specs.declared.event.End.{End}
 use Rattle.hd_log.specs.declared.event.End.TheVariants as told
 use Rattle.hd_serve.specs.declared.fault.ServeFault.{ServeFault}
-use Rattle.hd_serve.specs.declared.fault.ServeFault.TheVariants.{Unwritten}
+use Rattle.hd_serve.specs.declared.fault.ServeFault.TheVariants.{NotClosed, Unwritten}
 
 -- a connection ends the server where a turn of it couldn't be written, and for no other reason
 abbrev pub stop_of : Result (Unit {0}) AttendFault → Option WriteFault
@@ -49,3 +50,10 @@ abbrev pub answered : {K : Type 0} → Result (Unit {0}) ServeFault → Option W
 answered (Err fault) unwritten keeper = Err fault
 answered (Ok _) (Some why) keeper = Err (Unwritten why)
 answered (Ok _) None keeper = Ok keeper
+
+-- What is told at the end of a server, where its accepting ended so and its journal couldn't be written for
+-- this reason, or could: that its hall doesn't close, or what it answers with what kept the journal.
+abbrev pub IsEnd : {K : Type 0} → Result (Unit {0}) ServeFault → Option WriteFault → Result K ServeFault
+    → Type 0
+IsEnd {K = K} accepted unwritten end =
+    (end ≡ Err NotClosed) ⊎ ((keeper : K) × (end ≡ answered accepted unwritten keeper))

@@ -1,12 +1,16 @@
 -- What is told of a login.
-use Rattle.std.specs.Prelude.{◌≡◌, ◌<◌, ℕ, List, Bool, true, false, Option, Some, None}
+use Rattle.std.specs.Prelude.{◌≡◌, ◌⊎◌, ◌<◌, ℕ, List, [], Bool, true, false, Option, Some, None}
 use Rattle.hd_catalogue.specs.Contents.{Contents, facts_of, terminal_name}
 use Rattle.hd_message.specs.declared.request.LoginRequest.{LoginRequest}
+use Rattle.hd_message.specs.declared.request.Request.TheVariants as request
+use Rattle.hd_message.specs.declared.unreadable.Unreadable.TheVariants as unreadable
+use Rattle.hd_message.specs.Reading.{IsRequest, IsUnreadable}
 use Rattle.hd_exchange.specs.Messages.{login_terminal}
 use Rattle.hd_log.specs.declared.event.ConnectionEvent.{ConnectionEvent}
 use Rattle.hd_log.specs.declared.event.ConnectionEvent.TheVariants.{LoggedIn, NotLoggedIn}
 use Rattle.hd_log.specs.declared.event.Refused.{Refused}
-use Rattle.hd_log.specs.declared.event.Refused.TheVariants.{Encrypted, UnknownTerminal, WrongPassword}
+use Rattle.hd_log.specs.declared.event.Refused.TheVariants.{Encrypted, UnknownTerminal, Unreadable}
+use Rattle.hd_log.specs.declared.event.Refused.TheVariants.{WrongPassword}
 
 -- a terminal of the catalogue, which has this name
 abbrev pub IsNamed : Contents → List ℕ → ℕ → Type 0
@@ -34,3 +38,14 @@ abbrev pub IsToldOf : Contents → LoginRequest → ConnectionEvent → Type 0
 IsToldOf k r (LoggedIn terminal) = (terminal.now ≡ r.name.now) × IsWhy k r None
 IsToldOf k r (NotLoggedIn terminal why) = (terminal.now ≡ r.name.now) × IsWhy k r (Some why)
 IsToldOf k r what = ⊥
+
+-- it is told as a login that can't be read, with no name
+abbrev pub IsUnreadableTold : List ℕ → ConnectionEvent → Type 0
+IsUnreadableTold body (NotLoggedIn terminal Unreadable) =
+    (terminal.now ≡ []) × IsUnreadable body unreadable.Login
+IsUnreadableTold body what = ⊥
+
+-- it is told of the body of a message: that is a login, or one that can't be read
+abbrev pub IsToldOfBody : Contents → List ℕ → ConnectionEvent → Type 0
+IsToldOfBody k body what =
+    ((r : LoginRequest) × IsRequest body (request.Login r) × IsToldOf k r what) ⊎ IsUnreadableTold body what

@@ -1,7 +1,7 @@
 //! Accepting connections.
-ghost use Rattle.std.specs.Prelude.{◌≡◌, ◌↔◌, IsTrue};
+ghost use Rattle.std.specs.Prelude.{◌≡◌, ◌↔◌, IfErr, IsTrue};
 ghost use Rattle.std.specs.IoError.{error_kind, raw_os_error};
-ghost use Rattle.hd_serve.specs.Accepting.{IsLast, kind_of, of_code, received, served};
+ghost use Rattle.hd_serve.specs.Accepting.{IsLast, IsOfAccepting, kind_of, of_code, received, served};
 
 use crate::fault::ServeFault;
 use crate::gate::Observer;
@@ -72,9 +72,12 @@ impl<'a, R: Wait + Clock, O: Observer> Reception<'a, R, O> {
     /// Hands on so many connections, or with 0 all that come, until the server is to end.
     ///
     /// # Errors
-    /// `Unwritten` where the journal can't be written, `CannotListen` where a connection can't be accepted,
-    /// for good or 17 times in a row, and `Memory` where it can't be handed on.
-    pub(crate) fn accept(mut self, listener: &TcpListener) -> Result<(), ServeFault> {
+    /// `Unwritten` where the journal can't be written, and `CannotListen` where a connection can't be
+    /// accepted, for good or 17 times in a row (`received`). Else the server was asked to end, or the last
+    /// connection has been handed on.
+    pub(crate) fn accept(mut self, listener: &TcpListener) -> Result<(), ServeFault>
+        ensures why { IfErr result IsOfAccepting }
+    {
         let mut failed = 0u32;
         for came in listener.incoming() {
             match received(
@@ -84,7 +87,7 @@ impl<'a, R: Wait + Clock, O: Observer> Reception<'a, R, O> {
             )? {
                 Arrival::Connection(stream) => {
                     failed = 0;
-                    self.welcome(stream)?;
+                    self.welcome(stream);
                 }
                 Arrival::Again => {
                     failed = failed.saturating_add(1);
@@ -125,10 +128,7 @@ impl<'a, R: Wait + Clock, O: Observer> Reception<'a, R, O> {
     }
 
     /// Hands a connection on, or closes it where there are as many as may be.
-    ///
-    /// # Errors
-    /// `Memory` where it can't be handed on.
-    fn welcome(&mut self, stream: TcpStream) -> Result<(), ServeFault> {
+    fn welcome(&mut self, stream: TcpStream) {
         let is_beyond = self.standing.connections(self.rt) >= self.options.workers as usize;
         self.session = self.session.saturating_add(1);
         let speaker = Speaker::new(self.alloc, self.observer, self.session);
@@ -136,15 +136,12 @@ impl<'a, R: Wait + Clock, O: Observer> Reception<'a, R, O> {
         if is_beyond && self.options.beyond == Beyond::TurnAway {
             let address = address.as_bytes();
             speaker.tell(ConnectionEvent::TurnedAway { address });
-            return Ok(());
+            return;
         }
         tell_opened(&speaker, address.as_bytes(), is_beyond);
         match self.standing.enter(self.rt, &stream) {
             Some(place) => self.hand_on(stream, place, address),
-            None => {
-                self.tell_closed(&speaker, address.as_bytes());
-                Ok(())
-            }
+            None => self.tell_closed(&speaker, address.as_bytes()),
         }
     }
 
@@ -163,20 +160,17 @@ impl<'a, R: Wait + Clock, O: Observer> Reception<'a, R, O> {
         });
     }
 
-    /// Hands a connection on under the last number.
-    ///
-    /// # Errors
-    /// `Memory` where nobody is there any more to serve it.
-    fn hand_on(&self, stream: TcpStream, place: usize, address: String) -> Result<(), ServeFault> {
+    /// Hands a connection on under the last number. A worker ends only when this reception is dropped, so one
+    /// takes it; else it is closed.
+    fn hand_on(&self, stream: TcpStream, place: usize, address: String) {
         let connection = Connection {
             stream,
             session: self.session,
             place,
             address,
         };
-        match self.to.send(self.rt, connection) {
-            Ok(()) => Ok(()),
-            Err(_) => Err(ServeFault::Memory),
+        if self.to.send(self.rt, connection).is_err() {
+            self.standing.leave(self.rt, place);
         }
     }
 }

@@ -19,7 +19,10 @@ pub enum ServeFault {
     /// written.
     #[error("the journal can't be written: {0}")]
     Unwritten(WriteFault),
-    /// Out of memory at the start, or no first thread could be had.
+    /// No thread could be had at the start. Nothing was served.
+    #[error("no thread")]
+    NoThread,
+    /// Out of memory at the start. Nothing was served.
     #[error("no memory")]
     Memory,
 }

@@ -1,7 +1,8 @@
 //! Which logins are taken, as it is told.
 ghost use Rattle.std.specs.Prelude.{◌≡◌, ◌<◌, ◌≤◌, [], IfNone, IfSome, IsFalse, IsTrue, Some};
 ghost use Rattle.hd_catalogue.specs.Contents.{facts_of, terminal_name};
-ghost use Rattle.hd_serve.specs.Logins.{HasTerminal, IsNamed, IsToldOf, IsWhy, IsWhyUnknown};
+ghost use Rattle.hd_serve.specs.Logins.{HasTerminal, IsNamed, IsToldOf, IsToldOfBody, IsWhy};
+ghost use Rattle.hd_serve.specs.Logins.{IsWhyUnknown};
 
 use hd_catalogue::Catalogue;
 use hd_guard::{Guarded, trailer};
@@ -10,7 +11,9 @@ use hd_message::{LoginRequest, Request, Unreadable, read};
 use hd_rules::TerminalNo;
 
 /// The login that the body of a message is, and whether it is taken; nothing where it is none.
-pub(crate) fn login_in<'a>(catalogue: &Catalogue, body: &'a [u8]) -> Option<ConnectionEvent<'a>> {
+pub(crate) fn login_in<'a>(catalogue: &Catalogue, body: &'a [u8]) -> Option<ConnectionEvent<'a>>
+    ensures { IfSome result (IsToldOfBody catalogue.now body.now) }
+{
     match read(body) {
         Ok(Request::Login(request)) => Some(login_told(catalogue, &request)),
         Err(Unreadable::Login) => Some(ConnectionEvent::NotLoggedIn {

@@ -1,6 +1,6 @@
 //! The seats of the connections, kept until the hall is closed.
-ghost use Rattle.std.specs.Prelude.{◌≡◌, ◌-◌, ◌<◌, ◌≤◌, ◌++◌, ◌∷◌, [], None, Some, IfOk, OnErr, OnOk, length};
-ghost use Rattle.std.specs.Prelude.{map, slice_set};
+ghost use Rattle.std.specs.Prelude.{◌≡◌, ◌+◌, ◌-◌, ◌<◌, ◌≤◌, ◌++◌, ◌∷◌, [], None, Some, OnErr, OnOk, length};
+ghost use Rattle.std.specs.Prelude.{map, slice_set, vec_capacity, vec_len};
 ghost use Rattle.hd_hall.specs.Seats.{EachSeat};
 ghost use Rattle.hd_serve.specs.Places.{all_in};
 
@@ -30,6 +30,7 @@ pub(crate) struct Places<H: House> {
     places: Vec<Option<SeatWithShare<H>>>,
     seats: Vec<Seat<H>>,
     ghost empty: { seats.items ≡ [] },
+    ghost room: { vec_len places ≤ vec_capacity seats },
 }
 
 impl<H: House> Places<H> {
@@ -69,35 +70,30 @@ impl<H: House> Places<H> {
         }
     }
 
-    /// The seats, in the order of their numbers.
-    ///
-    /// # Errors
-    /// Out of memory, where room wasn't made.
-    pub(crate) fn into_seats(self) -> Result<Vec<Seat<H>>, AllocError>
-        ensures seats { IfOk result (λ seats. seats.items
-            ≡ map (λ held. held.seat) (all_in self.places.items)) }
-        ensures parts { IfOk result (λ seats. EachSeat seats.items (λ s. s.parts ≡ 1)) }
+    /// The seats, in the order of their numbers. It takes no memory.
+    pub(crate) fn into_seats(self) -> Vec<Seat<H>>
+        ensures seats { result.items ≡ map (λ held. held.seat) (all_in self.places.items) }
+        ensures parts { EachSeat result.items (λ s. s.parts ≡ 1) }
     {
         let Places { places, mut seats } = self;
         for place in places {
             if let Some(held) = place {
-                add_seat(&mut seats, held)?;
+                add_seat(&mut seats, held);
             }
         }
-        Ok(seats)
+        seats
     }
 }
 
-/// Adds a seat to a list.
-///
-/// # Errors
-/// Out of memory.
-fn add_seat<H: House>(seats: &mut Vec<Seat<H>>, held: SeatWithShare<H>) -> Result<(), AllocError>
-    requires { EachSeat seats.old.items (λ s. s.parts ≡ 1) }
+/// Adds a seat to a list that has room for it.
+fn add_seat<H: House>(seats: &mut Vec<Seat<H>>, held: SeatWithShare<H>)
+    requires parts { EachSeat seats.old.items (λ s. s.parts ≡ 1) }
+    requires room { vec_len seats.old < vec_capacity seats.old }
     ensures parts { EachSeat seats.new.items (λ s. s.parts ≡ 1) }
-    ensures items { OnOk result (seats.new.items ≡ seats.old.items ++ held.seat ∷ []) }
+    ensures items { seats.new.items ≡ seats.old.items ++ held.seat ∷ [] }
+    ensures len { vec_len seats.new ≡ vec_len seats.old + 1 }
+    ensures capacity { vec_capacity seats.new ≡ vec_capacity seats.old }
 {
     let SeatWithShare { seat } = held;
-    seats.push(seat)?;
-    Ok(())
+    seats.push_reserved(seat);
 }

@@ -1,7 +1,9 @@
 //! What of a server changes as it goes: whether it is to stop, which connections are open, and whether seats
 //! are left.
-ghost use Rattle.std.specs.Prelude.{◌≡◌, Some, slice_get, IfSome};
+ghost use Rattle.std.specs.Prelude.{◌≡◌, ◌+◌, ◌<◌, ◌≤◌, None, Some, IfNone, IfSome, IsTrue, OnSome, not};
+ghost use Rattle.std.specs.Prelude.{length, slice_get, slice_set, true};
 ghost use Rattle.hd_serve.specs.Ends.{first_reason};
+ghost use Rattle.hd_serve.specs.Places.{taken};
 
 use hd_journal::WriteFault;
 use std::alloc::Global;
@@ -70,7 +72,7 @@ impl Standing {
 
     /// How many connections are open: those that are served, and those that wait for a worker.
     pub fn connections<R: Wait>(&self, rt: &R) -> usize {
-        self.now.lock(rt).open.iter().flatten().count()
+        self.now.lock(rt).connections()
     }
 
     /// Whether a connection has found no seat: as many were opened as may be, so no other can be had.
@@ -104,23 +106,18 @@ impl Standing {
 
     /// Notes that the connection at this place has ended.
     pub(crate) fn leave<R: Wait>(&self, rt: &R, place: usize) {
-        if let Some(handle) = self.now.lock(rt).open.get_mut(place) {
-            *handle = None;
-        }
+        self.now.lock(rt).leave(place);
     }
 
     /// Whether nobody has been told before that few numbers are left. Then it counts as told.
     pub(crate) fn is_news<R: Wait>(&self, rt: &R) -> bool {
-        let mut now = self.now.lock(rt);
-        let is_news = !now.is_told;
-        now.is_told = true;
-        is_news
+        self.now.lock(rt).is_news()
     }
 
     /// Notes that the server was asked to end, and has nothing more read of any connection.
     fn note_and_hang_up<R: Wait>(&self, rt: &R) {
         let mut now = self.now.lock(rt);
-        now.course.is_asked = true;
+        now.course.ask();
         for handle in now.open.iter().flatten() {
             let _ = handle.shutdown(Shutdown::Read);
         }
@@ -128,15 +125,44 @@ impl Standing {
 
     /// Notes the reason, unless there was one before.
     fn note<R: Wait>(&self, rt: &R, why: WriteFault) {
-        let mut now = self.now.lock(rt);
-        now.course.unwritten = Some(first_reason(now.course.unwritten, why));
+        self.now.lock(rt).course.note(why);
+    }
+}
+
+impl Course {
+    /// The server is asked to end. Whether its journal can be written stays.
+    fn ask(&mut self)
+        ensures { self.new ≡ record self.old { is_asked = true } }
+    {
+        self.is_asked = true;
+    }
+
+    /// The journal can't be written for this reason. An earlier reason stays, and whether it was asked to
+    /// end.
+    fn note(&mut self, why: WriteFault)
+        ensures { self.new ≡ record self.old {
+          unwritten = Some (first_reason self.old.unwritten why);
+        } }
+    {
+        self.unwritten = Some(first_reason(self.unwritten, why));
     }
 }
 
 impl Now {
-    /// Puts a handle at the first free place, unless the server has been asked to end: the place.
+    /// How many connections are open.
+    fn connections(&self) -> usize
+        ensures { result ≡ taken self.now.open.items }
+    {
+        self.open.iter().filter(|handle| handle.is_some()).count()
+    }
+
+    /// Puts a handle at the first free place, unless the server has been asked to end: the place. There is
+    /// one connection more then; else they are as they were.
     fn enter(&mut self, handle: TcpStream) -> Option<usize>
         ensures place { IfSome result (λ place. slice_get self.new.open.items place ≡ Some (Some handle)) }
+        ensures one_more { OnSome result (taken self.new.open.items ≡ taken self.old.open.items + 1) }
+        ensures none { IfNone result (self.new.open.items ≡ self.old.open.items) }
+        ensures asked { IsTrue self.old.course.is_asked → result ≡ None }
         ensures course { self.new.course ≡ self.old.course }
     {
         if self.course.is_asked {
@@ -152,6 +178,28 @@ impl Now {
                 Some(self.open.len() - 1)
             }
         }
+    }
+
+    /// The connection at a place has ended. The others stay where they are.
+    fn leave(&mut self, place: usize)
+        ensures ended { place < length self.old.open.items
+            → self.new.open.items ≡ slice_set self.old.open.items place None }
+        ensures none { length self.old.open.items ≤ place → self.new.open.items ≡ self.old.open.items }
+        ensures course { self.new.course ≡ self.old.course }
+    {
+        if let Some(handle) = self.open.get_mut(place) {
+            *handle = None;
+        }
+    }
+
+    /// Whether nobody has been told before that few numbers are left. Then it counts as told.
+    fn is_news(&mut self) -> bool
+        ensures news { result ≡ not self.old.is_told }
+        ensures told { self.new.is_told ≡ true }
+    {
+        let is_news = !self.is_told;
+        self.is_told = true;
+        is_news
     }
 }
 

@@ -1,8 +1,10 @@
 //! Serving terminals in a hall.
-ghost use Rattle.std.specs.Prelude.{◌≡◌, ◌≤◌, IfOk, Ok};
+ghost use Rattle.std.specs.Prelude.{◌≡◌, ◌≤◌, IfErr, IfOk, Ok};
+ghost use Rattle.hd_hall.specs.Closings.{AreTurnsOf};
 ghost use Rattle.hd_hall.specs.Seats.{EachSeat};
 ghost use Rattle.hd_journal.specs.Openings.{IsLegalSince};
-ghost use Rattle.hd_serve.specs.Ends.{answered};
+ghost use Rattle.hd_serve.specs.Ends.{IsEnd, answered};
+ghost use Rattle.hd_serve.specs.declared.fault.ServeFault.TheVariants.{Memory};
 
 use crate::accepting::{Connection, Reception};
 use crate::fault::ServeFault;
@@ -32,7 +34,7 @@ pub struct Served<H: House> {
 
 impl<H: House> Served<H> {
     /// Closes the hall in which they were served: what keeps its journal, whose turns since it was opened are
-    /// legal.
+    /// legal, and just those that the connections were told, each once.
     ///
     /// # Errors
     /// `NotClosed` where the hall doesn't close; the fault of the accepting, if it ended with one;
@@ -44,6 +46,8 @@ impl<H: House> Served<H> {
         requires parts { H.parts ≡ 4294967296 }
         ensures opening { IfOk result (λ closed. K.opening closed ≡ H.opening) }
         ensures legal { IfOk result (λ closed. IsLegalSince H.opening (K.turns closed)) }
+        ensures told { IfOk result (λ closed. AreTurnsOf H.opening (K.turns closed) self.seats.items) }
+        ensures end { IsEnd self.accepted self.unwritten result }
     {
         let Served {
             accepted,
@@ -83,7 +87,7 @@ fn answer<K: Drop>(
 /// know.
 ///
 /// # Errors
-/// `Memory` where the start is out of memory. Nothing was served then.
+/// `Memory`, where the start is out of memory, and no other. Nothing was served then.
 pub fn serve_terminals<
     H: House + Send + Sync,
     R: Threads + Wait + Clock + Sync,
@@ -100,6 +104,7 @@ pub fn serve_terminals<
     observer: &O,
 ) -> Result<Served<H>, ServeFault>
     requires workers { (1 ≤ options.now.workers) × (options.now.workers ≤ 9999) }
+    ensures why { IfErr result (λ fault. fault ≡ Memory) }
 {
     let places = Mutex::new(Places::new(alloc));
     let (to, from) = bounded(alloc, options.workers as usize)?;
@@ -112,7 +117,7 @@ pub fn serve_terminals<
         options: *options,
     };
     let accepted = serve_by(rt, &service, listener, to, observer);
-    let seats = places.into_inner().into_seats()?;
+    let seats = places.into_inner().into_seats();
     let unwritten = standing.course(rt).unwritten;
     Ok(Served {
         accepted,
@@ -122,6 +127,9 @@ pub fn serve_terminals<
 }
 
 /// Starts the workers, hands them the connections, and returns when all are served.
+///
+/// # Errors
+/// Those of the accepting; and `NoThread` where not one worker can be had. Nothing was served then.
 fn serve_by<
     H: House + Send + Sync,
     R: Threads + Wait + Clock + Sync,
@@ -144,7 +152,7 @@ fn serve_by<
             has_worker = true;
         }
         if !has_worker {
-            return Err(ServeFault::Memory);
+            return Err(ServeFault::NoThread);
         }
         let reception = Reception {
             rt,

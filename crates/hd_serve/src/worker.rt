@@ -185,12 +185,7 @@ impl<'a, H: House, Q: Drop, K: Keeper<Global, Q> + Drop> Service<'a, H, Q, K> {
     {
         let catalogue = self.hall.catalogue();
         let from = Fallible(Reading::new(&visit.connection.stream));
-        let days = DayWatch {
-            offset: catalogue.offset(),
-            profile: profile_of(self.options.extensions),
-            most: self.options.days_off,
-            told: None,
-        };
+        let days = self.day_watch();
         let mut reader = Hearing::new(from, heard, catalogue, visit.speaker, visit.rt, days);
         let mut writer = Answering::new(writer, visit.speaker);
         let surroundings = ClockAndGate {
@@ -212,6 +207,16 @@ impl<'a, H: House, Q: Drop, K: Keeper<Global, Q> + Drop> Service<'a, H, Q, K> {
             ended,
             is_idle: reader.into_reader().0.is_idle(),
             replies: writer.replies(),
+        }
+    }
+
+    /// What sees the days of a connection's messages.
+    fn day_watch(&self) -> DayWatch {
+        DayWatch {
+            offset: self.hall.catalogue().offset(),
+            profile: profile_of(self.options.extensions),
+            most: self.options.days_off,
+            told: None,
         }
     }
 

@@ -1,5 +1,5 @@
 -- What is seen of a server.
-use Rattle.std.specs.Prelude.{◌≡◌, ◌≤◌, ℕ, Bool, true, false, Option, Some}
+use Rattle.std.specs.Prelude.{◌≡◌, ℕ, Bool, true, false, Option, Some, min}
 use Rattle.hd_page.specs.declared.state.Health.{Health}
 use Rattle.hd_page.specs.declared.state.Health.TheVariants.{Well, Shut, Full}
 use Rattle.hd_page.specs.declared.state.State.{State}
@@ -30,9 +30,9 @@ with_service state s = record state {
   commit_micros = s.micros;
 }
 
--- Its state is its hall's, with what is told of the service; each of its connections is in the hands of one
--- worker or waits for one.
-abbrev pub Tells : (State → Type 0) → State → Type 0
-Tells OfHall state =
-    (hall : State) × OfHall hall × (service : Service) × (service.busy ≤ service.connections)
+-- The state of a server with so many workers is its hall's, with what is told of the service: as many workers
+-- are busy as there are connections, or all of them.
+abbrev pub Tells : ℕ → (State → Type 0) → State → Type 0
+Tells workers OfHall state =
+    (hall : State) × OfHall hall × (service : Service) × (service.busy ≡ min service.connections workers)
     × (state ≡ with_service hall service)

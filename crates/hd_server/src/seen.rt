@@ -40,8 +40,8 @@ pub struct Sight<'a, O: Observer> {
 /// served. The door is closed at the end, and stays at its path.
 ///
 /// # Errors
-/// `Serve`, with each of the faults of `hd_serve::serve`; also `Memory` where no thread can be had for the
-/// door.
+/// `Serve`, with each of the faults of `hd_serve::serve`; also `NoThread` where no thread can be had for the
+/// door. Nothing was served then.
 pub fn serve_seen<
     'x,
     R: Threads + Wait + Clock + Sync,
@@ -148,7 +148,7 @@ struct Seen<'a> {
 /// the connections. The door is closed then.
 ///
 /// # Errors
-/// `Memory` where there is no thread for the door. Nothing is done then.
+/// `NoThread` where there is no thread for the door. Nothing is done then.
 fn beside_door<
     'x,
     R: Threads + Wait + Clock + Sync,
@@ -198,7 +198,7 @@ fn beside<
 {
     thread::scope(thread::scope_env(), rt, |scope| {
         if scope.spawn(|| hd_door::serve(rt, door, service)).is_err() {
-            return Err(ServeFault::Memory);
+            return Err(ServeFault::NoThread);
         }
         let done = work();
         door.close();

@@ -27,7 +27,7 @@ impl<'a, R: Wait, V: View> View for ServerView<'a, R, V> {
 
     ghost shows = { λ view. V.shows view.journal };
 
-    ghost tells = { λ view. Tells (V.tells view.journal) };
+    ghost tells = { λ view. Tells view.workers (V.tells view.journal) };
 
     fn write(&self, inquiry: &Inquiry<'_>, out: &mut Vec<u8>) -> Result<Outcome, ViewFault> {
         self.journal.write(inquiry, out)

@@ -130,20 +130,20 @@ module _ (k : Contents) (shows : List Turn → Book → Type 0) where
         (one_done at turns xs ys (p.0, p.1.1) (q.0, q.1.1) later)
 
 -- where a session stands, by its values
-same_state : (a b : SessionState) → a.extensions ≡ b.extensions → a.place ≡ b.place → a.last ≡ b.last
+same_state : (a b : SessionState) → a.extensions ≡ b.extensions → a.login ≡ b.login → a.last ≡ b.last
     → a.digit ≡ b.digit
     → a.gaps ≡ b.gaps → a ≡ b
-same_state a b on place last digit gaps =
+same_state a b on login last digit gaps =
     ap (λ (e : Extensions). let s : SessionState =
-    record { extensions = e; place = a.place; last = a.last; digit = a.digit; gaps = a.gaps } in s) on
+    record { extensions = e; login = a.login; last = a.last; digit = a.digit; gaps = a.gaps } in s) on
     ∙ (ap (λ (p : Option Login). let s : SessionState =
-    record { extensions = b.extensions; place = p; last = a.last; digit = a.digit; gaps = a.gaps } in s) place
+    record { extensions = b.extensions; login = p; last = a.last; digit = a.digit; gaps = a.gaps } in s) login
     ∙ (ap (λ (l : List ℕ). let s : SessionState =
-    record { extensions = b.extensions; place = b.place; last = l; digit = a.digit; gaps = a.gaps } in s) last
+    record { extensions = b.extensions; login = b.login; last = l; digit = a.digit; gaps = a.gaps } in s) last
     ∙ (ap (λ (d : Option ℕ). let s : SessionState =
-    record { extensions = b.extensions; place = b.place; last = b.last; digit = d; gaps = a.gaps } in s) digit
+    record { extensions = b.extensions; login = b.login; last = b.last; digit = d; gaps = a.gaps } in s) digit
     ∙ ap (λ (g : ℕ). let s : SessionState =
-    record { extensions = b.extensions; place = b.place; last = b.last; digit = b.digit; gaps = g } in s)
+    record { extensions = b.extensions; login = b.login; last = b.last; digit = b.digit; gaps = g } in s)
     gaps)))
 
 -- a session, by its values
@@ -198,14 +198,14 @@ module _ (asks : (k : Contents) (e : Extensions) (seat : ℕ) (now : Stamp) (log
         → IsAnswered k seat now s line body checked digit did' next' text'
         → AreOne did did' next next' text text'
     one_answered s line body checked digit did did' next next' text text' p q = (
-      asks k s.extensions seat now s.place (line_with digit line) body p.says q.says p.reply q.reply did did'
-          next.place next'.place p.answer q.answer,
+      asks k s.extensions seat now s.login (line_with digit line) body p.says q.says p.reply q.reply did did'
+          next.login next'.login p.answer q.answer,
       λ same.
           let one =
-          answer k s.extensions seat now s.place (line_with digit line) body p.says q.says p.reply q.reply did
-          next.place next'.place p.answer
-          (subst (λ (m : List Deed). IsAnswer k s.extensions seat now s.place (line_with digit line) body
-          q.says q.reply m next'.place) (sym same)
+          answer k s.extensions seat now s.login (line_with digit line) body p.says q.says p.reply q.reply did
+          next.login next'.login p.answer
+          (subst (λ (m : List Deed). IsAnswer k s.extensions seat now s.login (line_with digit line) body
+          q.says q.reply m next'.login) (sym same)
           q.answer)
           in (
             same_state next next' (p.extensions_stay ∙ sym q.extensions_stay) one.2

@@ -63,17 +63,17 @@ heard_append k seat now (line ∷ lines) more s between next did then_did text t
 }
 
 -- an answer, of a session that stands there
-pub answer_of : (k : Contents) (e e' : Extensions) (seat : ℕ) (now : Stamp) (place place' : Option Login)
+pub answer_of : (k : Contents) (e e' : Extensions) (seat : ℕ) (now : Stamp) (login login' : Option Login)
     (line line' : Option (List ℕ)) (body : List ℕ)
     (says : ReplyKind) (reply : List ℕ) (did : List Deed) (next next' : Option Login)
-    → e ≡ e' → place ≡ place' → line ≡ line' → next ≡ next'
-    → IsAnswer k e seat now place line body says reply did next
-    → IsAnswer k e' seat now place' line' body says reply did next'
-answer_of k e e' seat now place place' line line' body says reply did next next' on here same there answer =
-    subst (λ (n : Option Login). IsAnswer k e' seat now place' line' body says reply did n) there
-    (subst (λ (l : Option (List ℕ)). IsAnswer k e' seat now place' l body says reply did next) same
+    → e ≡ e' → login ≡ login' → line ≡ line' → next ≡ next'
+    → IsAnswer k e seat now login line body says reply did next
+    → IsAnswer k e' seat now login' line' body says reply did next'
+answer_of k e e' seat now login login' line line' body says reply did next next' on here same there answer =
+    subst (λ (n : Option Login). IsAnswer k e' seat now login' line' body says reply did n) there
+    (subst (λ (l : Option (List ℕ)). IsAnswer k e' seat now login' l body says reply did next) same
     (subst (λ (p : Option Login). IsAnswer k e' seat now p line body says reply did next) here
-    (subst (λ (x : Extensions). IsAnswer k x seat now place line body says reply did next) on answer)))
+    (subst (λ (x : Extensions). IsAnswer k x seat now login line body says reply did next) on answer)))
 
 -- an empty line
 pub empty_heard : (k : Contents) (seat : ℕ) (now : Stamp) (s : State) (line : List ℕ) → (length line == 0)

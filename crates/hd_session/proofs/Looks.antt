@@ -79,10 +79,10 @@ module _ (only : (k : Contents) (e : Extensions) (seat : ℕ) (now : Stamp) (log
         (text : List ℕ) → IsOff s
         → IsReadAndAnswered k seat now s line reading did next text → AreTurns did
     read_turns s line (PlainLine body) did next text off a =
-        only k s.extensions seat now s.place (line_with None line) body a.says a.reply did next.place off
+        only k s.extensions seat now s.login (line_with None line) body a.says a.reply did next.login off
         a.answer
     read_turns s line (CheckedLine body digit) did next text off a =
-        only k s.extensions seat now s.place (line_with digit line) body a.says a.reply did next.place off
+        only k s.extensions seat now s.login (line_with digit line) body a.says a.reply did next.login off
         a.answer
     read_turns s line WrongLine did next text off a = nothing_done did a.0
 

@@ -19,18 +19,18 @@ use Rattle.hd_session.specs.Trailers.{last_after, send_again, text_said}
 -- digit than the one after the last.
 pub record State : Type 0 where
   pub extensions : Extensions
-  pub place : Option Login
+  pub login : Option Login
   pub last : List ℕ
   pub digit : Option ℕ
   pub gaps : ℕ
 
 -- a new session
 abbrev pub new_state : Extensions → State
-new_state e = record { extensions = e; place = None; last = []; digit = None; gaps = 0 }
+new_state e = record { extensions = e; login = None; last = []; digit = None; gaps = 0 }
 
 -- a session stands as a terminal of the catalogue, or as none
 abbrev pub IsKnownTo : Contents → State → Type 0
-IsKnownTo k s = ForSome s.place (IsKnownLogin (facts_of k))
+IsKnownTo k s = ForSome s.login (IsKnownLogin (facts_of k))
 
 -- one more, up to the greatest number of 64 bits
 abbrev pub one_gap_more : ℕ → ℕ
@@ -59,8 +59,8 @@ module _ (k : Contents) (seat : ℕ) (now : Stamp) where
       (did : List Deed) (next : State) (text : List ℕ) : Type 0 where
     pub says : ReplyKind
     pub reply : List ℕ
-    pub answer : IsAnswer k s.extensions seat now s.place (line_with digit line) body says reply did
-        next.place
+    pub answer : IsAnswer k s.extensions seat now s.login (line_with digit line) body says reply did
+        next.login
     pub extensions_stay : next.extensions ≡ s.extensions
     pub spelled : text ≡ text_said s.last checked digit says reply
     pub last : next.last ≡ last_after s.last checked digit says reply
@@ -82,8 +82,8 @@ module _ (k : Contents) (seat : ℕ) (now : Stamp) where
 
 -- a line asks something of the office, of a session that stands so, by its trailer: its body does
 abbrev pub ReadingAsks : Contents → State → Reading → Type 0
-ReadingAsks k s (PlainLine body) = AsksTheOffice k s.extensions s.place body
-ReadingAsks k s (CheckedLine body digit) = AsksTheOffice k s.extensions s.place body
+ReadingAsks k s (PlainLine body) = AsksTheOffice k s.extensions s.login body
+ReadingAsks k s (CheckedLine body digit) = AsksTheOffice k s.extensions s.login body
 ReadingAsks k s WrongLine = ⊥
 
 -- the line asks something of the office. One with a wrong check number asks nothing.

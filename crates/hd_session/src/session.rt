@@ -100,7 +100,7 @@ impl<'e, A: Allocator + Copy> Session<'e, A> {
         office: &mut O,
         out: &mut Vec<u8, A>,
     ) -> Result<(), Ended>
-        requires place { IsKnownTo (O.keeps office.old).contents self.old.state }
+        requires login { IsKnownTo (O.keeps office.old).contents self.old.state }
         ensures fed { Feeds O.Office office.old office.new out.old out.new now.now
             self.old piece.now self.new }
         ensures open { OnOk result (self.new.ended ≡ None) }
@@ -145,7 +145,7 @@ impl<'e, A: Allocator + Copy> Session<'e, A> {
         office: &mut O,
         out: &mut Vec<u8, A>,
     )
-        requires place { IsKnownTo (O.keeps office.old).contents self.old.state }
+        requires login { IsKnownTo (O.keeps office.old).contents self.old.state }
         requires open { self.old.ended ≡ None }
         ensures { Feeds O.Office office.old office.new out.old out.new now.now
             self.old piece.now self.new }
@@ -183,7 +183,7 @@ fn answer_line<A: Allocator + Copy, O: Office<A>>(
     office: &mut O,
     out: &mut Vec<u8, A>,
 ) -> Result<(), TurnFault>
-    requires place { IsKnownTo (O.keeps office.old).contents state.old }
+    requires login { IsKnownTo (O.keeps office.old).contents state.old }
     requires line { length line.now ≤ 1024 }
     ensures heard { OnOk result (Answers O.Office office.old office.new out.old out.new now.now
         (line.now ∷ []) state.old state.new) }

@@ -25,7 +25,7 @@ pub(crate) const LONGEST_REPLY: usize = 2_048;
 #[derive(Drop)]
 pub(crate) struct SessionState<'e, A: Allocator> {
     extensions: Option<&'e Extensions<A>>,
-    place: Option<Login>,
+    login: Option<Login>,
     /// The last reply that isn't a 96; empty before any.
     last: Vec<u8, A>,
     /// The last sequence digit.
@@ -42,7 +42,7 @@ impl<'e, A: Allocator> Model for SessionState<'e, A> {
 
     ghost view = { λ s. record {
       extensions = extensions_lent s.extensions;
-      place = s.place;
+      login = s.login;
       last = s.last.items;
       digit = s.digit;
       gaps = s.gaps;
@@ -72,7 +72,7 @@ impl<'e, A: Allocator + Copy> SessionState<'e, A> {
         let last = Vec::with_capacity(alloc, LONGEST_REPLY)?;
         Ok(SessionState {
             extensions,
-            place: None,
+            login: None,
             last,
             digit: None,
             gaps: 0,
@@ -104,7 +104,7 @@ impl<'e, A: Allocator + Copy> SessionState<'e, A> {
         office: &mut O,
         out: &mut Vec<u8, A>,
     ) -> Result<(), TurnFault>
-        requires place { IsKnownTo (O.keeps office.old).contents self.old }
+        requires login { IsKnownTo (O.keeps office.old).contents self.old }
         requires some { IsSomeLine line.now }
         requires line { length line.now ≤ 1024 }
         requires room { vec_len out.old + 2048 ≤ vec_capacity out.old }
@@ -152,7 +152,7 @@ impl<'e, A: Allocator + Copy> SessionState<'e, A> {
         office: &mut O,
         out: &mut Vec<u8, A>,
     ) -> Result<(), TurnFault>
-        requires place { IsKnownTo (O.keeps office.old).contents self.old }
+        requires login { IsKnownTo (O.keeps office.old).contents self.old }
         requires body { length line.now.body.now ≤ 1024 }
         requires room { vec_len out.old + 2048 ≤ vec_capacity out.old }
         ensures answered { OnOk result (
@@ -169,23 +169,23 @@ impl<'e, A: Allocator + Copy> SessionState<'e, A> {
             × Extends out.old out.new []) }
         ensures why { IfErr result O.faults }
         ensures asks { OnErr result (
-            AsksTheOffice (O.keeps office.old).contents self.old.extensions self.old.place
+            AsksTheOffice (O.keeps office.old).contents self.old.extensions self.old.login
             line.now.body.now) }
-        ensures place { IsKnownTo (O.keeps office.old).contents self.new }
+        ensures login { IsKnownTo (O.keeps office.old).contents self.new }
     {
         let from = out.len();
         let kept = line_with(line.digit, line.bytes);
-        let mut place = self.place;
+        let mut login = self.login;
         let said = respond(
             office,
             self.extensions,
             now,
-            &mut place,
+            &mut login,
             line.body,
             kept,
             out,
         )?;
-        self.place = place;
+        self.login = login;
         self.count(line.digit);
         self.finish(said, line.has_trailer, line.digit, from, out);
         Ok(())
@@ -197,7 +197,7 @@ impl<'e, A: Allocator + Copy> SessionState<'e, A> {
         ensures digit { self.new.digit ≡ digit_after self.old.digit digit }
         ensures gaps { self.new.gaps ≡ gaps_after self.old.digit self.old.gaps digit }
         ensures extensions { self.new.extensions ≡ self.old.extensions }
-        ensures place { self.new.place ≡ self.old.place }
+        ensures login { self.new.login ≡ self.old.login }
         ensures last { self.new.last ≡ self.old.last }
     {
         let Some(next) = digit else {
@@ -228,7 +228,7 @@ impl<'e, A: Allocator + Copy> SessionState<'e, A> {
             ++ text_said self.old.last checked digit said (drop from out.old.items) }
         ensures last { self.new.last ≡ last_after self.old.last checked digit said (drop from out.old.items) }
         ensures rest { (self.new.extensions ≡ self.old.extensions)
-            × (self.new.place ≡ self.old.place)
+            × (self.new.login ≡ self.old.login)
             × (self.new.digit ≡ self.old.digit)
             × (self.new.gaps ≡ self.old.gaps) }
         ensures short { vec_len out.new ≤ from + 2048 }
@@ -255,7 +255,7 @@ impl<'e, A: Allocator + Copy> SessionState<'e, A> {
         requires { length reply.now ≤ 2048 }
         ensures last { self.new.last ≡ reply.now }
         ensures rest { (self.new.extensions ≡ self.old.extensions)
-            × (self.new.place ≡ self.old.place)
+            × (self.new.login ≡ self.old.login)
             × (self.new.digit ≡ self.old.digit)
             × (self.new.gaps ≡ self.old.gaps) }
     {

@@ -60,7 +60,7 @@ IsEnded reader state =
     (counts : Counts) × (reader.counts.counts ≡ Some counts) × (counts.turns ≤ reader.tallied.place)
     × (state ≡ state_of Well (Some counts) (Some reader.tallied.turns))
 
--- Some tallies. Which ones isn't said where a state is told: a look shows that a journal is legal, and not that
--- it is an earlier one that has gone on. What each look adds to them *GoesOn* says.
+-- Some tallies. Which ones isn't said where a state is told: a look shows that a journal is legal, and not
+-- that it is an earlier one that has gone on. What each look adds to them *GoesOn* says.
 abbrev pub AreTallied : List Turn → Option Turns → Type 0
 AreTallied turns tallies = (some : Turns) × (tallies ≡ Some some)

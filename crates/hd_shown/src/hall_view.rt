@@ -1,5 +1,6 @@
 //! A view of a hall.
-ghost use Rattle.std.specs.Prelude.{◌≡◌, [], IfSome};
+ghost use Rattle.std.specs.Prelude.{◌≡◌, [], IfOk, IfSome, length};
+ghost use Rattle.hd_catalogue.specs.Contents.{facts_of};
 ghost use Rattle.hd_hall.specs.Looking.{IsShownTo};
 ghost use Rattle.hd_shown.specs.Counting.{AreTallied};
 ghost use Rattle.hd_shown.specs.Standing.{MayShut, Tells};
@@ -29,6 +30,8 @@ pub struct HallView<
     rt: &'a R,
     host: &'a HostRuntime,
     hall: &'a Hall<H, A, Q, K>,
+    /// The turns behind so many are counted by kind and outcome.
+    begun: usize,
     /// What is counted of the journal, as far as it has been shown.
     reader: Mutex<StateReader>,
 }
@@ -50,16 +53,34 @@ impl<'a, R, H: House, A: Allocator + Copy, Q: Drop, K: Keeper<A, Q> + Drop> Hall
         host: &'a HostRuntime,
         hall: &'a Hall<H, A, Q, K>,
         begun: usize,
-    ) -> Result<HallView<'a, R, H, A, Q, K>, AllocError> {
-        let terminals = hall.catalogue().terminals();
-        let reader = Mutex::new(StateReader::new(host.alloc(), begun, terminals)?);
+    ) -> Result<HallView<'a, R, H, A, Q, K>, AllocError>
+        ensures { IfOk result (λ view. view.begun ≡ begun) }
+    {
+        let reader = Mutex::new(reader_of(host.alloc(), hall, begun)?);
         Ok(HallView {
             rt,
             host,
             hall,
+            begun,
             reader,
         })
     }
+}
+
+/// A reader that hasn't looked yet, with room for the terminals of the hall's catalogue.
+///
+/// # Errors
+/// There is no memory for the terminals.
+fn reader_of<H: House, A: Allocator + Copy, Q: Drop, K: Keeper<A, Q> + Drop>(
+    alloc: Global,
+    hall: &Hall<H, A, Q, K>,
+    begun: usize,
+) -> Result<StateReader, AllocError>
+    ensures begun { IfOk result (λ reader. reader.tallied.begun ≡ begun) }
+    ensures room { IfOk result (λ reader.
+        length reader.tallied.last.items ≡ (facts_of H.opening.contents).terminals) }
+{
+    StateReader::new(alloc, begun, hall.catalogue().terminals())
 }
 
 impl<'a, R: Wait, H: House, A: Allocator + Copy, Q: Drop, K: Keeper<A, Q> + Drop> HallView<
@@ -72,8 +93,11 @@ impl<'a, R: Wait, H: House, A: Allocator + Copy, Q: Drop, K: Keeper<A, Q> + Drop
 > {
     /// Looks at the journal once: its state, unless there are more turns to be counted.
     fn look_once(&self, reader: &mut StateReader) -> Option<State>
-        ensures { IfSome result (Tells (IsShownTo H.opening []) (MayShut K.faults) AreTallied) }
+        ensures tells { IfSome result (Tells (IsShownTo H.opening []) (MayShut K.faults) AreTallied) }
+        ensures begun { reader.new.tallied.begun ≡ self.now.begun }
     {
+        // a lock tells nothing of what it holds: so each look is told which turns have tallies
+        reader.tallied.begun = self.begun;
         match self.hall.look(self.rt, reader) {
             Ok(()) => reader.state(),
             Err(_) => Some(state_of(Health::Shut, None, None)),

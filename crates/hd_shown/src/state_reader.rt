@@ -1,6 +1,7 @@
 //! What counts a journal.
-ghost use Rattle.std.specs.Prelude.{◌≡◌, IfOk, IfSome};
+ghost use Rattle.std.specs.Prelude.{◌≡◌, IfOk, IfSome, length};
 ghost use Rattle.hd_shown.specs.Counting.{IsEnded};
+ghost use Rattle.hd_shown.specs.Tallies.{no_turns};
 
 use crate::standing::state_of;
 use crate::tallied::Tallied;
@@ -29,7 +30,10 @@ impl StateReader {
         begun: usize,
         terminals: usize,
     ) -> Result<StateReader, AllocError>
-        ensures { IfOk result (λ reader. reader.tallied.begun ≡ begun) }
+        ensures begun { IfOk result (λ reader. reader.tallied.begun ≡ begun) }
+        ensures place { IfOk result (λ reader. reader.tallied.place ≡ 0) }
+        ensures turns { IfOk result (λ reader. reader.tallied.turns ≡ no_turns) }
+        ensures room { IfOk result (λ reader. length reader.tallied.last.items ≡ terminals) }
     {
         Ok(StateReader {
             counts: CountsReader { counts: None },

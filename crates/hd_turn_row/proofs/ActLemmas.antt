@@ -1,5 +1,5 @@
 -- Words, read back.
-use Rattle.std.proofs.Common.{◌≡◌, ℕ, None, Some, List, [], ◌∷◌, refl, sym, ap, ◌∙◌, inl, inr}
+use Rattle.std.proofs.Common.{◌≡◌, ℕ, None, Some, List, [], ◌∷◌, refl, inl, inr}
 use Rattle.std.specs.Prelude.{bytes_eq}
 use Rattle.std.proofs.lemmas.Bool.{cases_Bool}
 use Rattle.std.proofs.lemmas.Option.{none-some}
@@ -43,8 +43,8 @@ unfolding admits_named
 admits_said = named_has admits_word all_admits
 
 -- and one that is no act's is the word of none
-pub act_unsaid : (word : List ℕ) (a : Act) → act_named word ≡ None → word ≡ act_word a → ⊥
-act_unsaid word a none is = none-some a (sym none ∙ ap act_named is ∙ act_back a)
+pub act_unsaid : (word : List ℕ) (a : Act) → None ≡ act_named word → word ≡ act_word a → ⊥
+act_unsaid word a none is = cc (act_back a)
 
-pub admits_unsaid : (word : List ℕ) (a : Admits) → admits_named word ≡ None → word ≡ admits_word a → ⊥
-admits_unsaid word a none is = none-some a (sym none ∙ ap admits_named is ∙ admits_back a)
+pub admits_unsaid : (word : List ℕ) (a : Admits) → None ≡ admits_named word → word ≡ admits_word a → ⊥
+admits_unsaid word a none is = cc (admits_back a)

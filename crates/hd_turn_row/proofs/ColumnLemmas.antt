@@ -14,8 +14,6 @@ use Rattle.hd_turn_row.specs.Columns.{part, text}
 use Rattle.hd_turn_row.specs.Faults.{IsFirst, IsFirstMisfit, IsReadText, misfit}
 use Rattle.hd_turn_row.specs.Grown.{OnlyGrew}
 use Rattle.hd_turn_row.specs.Rows.{text_or_empty}
-use Rattle.hd_asked.specs.declared.act.Act.{Act}
-use Rattle.hd_asked.specs.declared.act.Admits.{Admits}
 use Rattle.hd_turn_row.specs.declared.fault.Column.{Column}
 use Rattle.hd_turn_row.specs.declared.fault.Column.TheVariants as columns
 use Rattle.hd_turn_row.specs.declared.fault.RowFault.{RowFault}
@@ -25,15 +23,14 @@ use Rattle.hd_turn_row.proofs.ActLemmas.{act_back, admits_back}
 use Rattle.hd_turn_row.proofs.NumberLemmas.{number_kept, number_known}
 
 -- of each column, from what holds of it
-each : (P Q : Column → Type 0) → ((c : Column) → P c → Q c) → (cs : List Column) → AllByRecursion P cs
-    → AllByRecursion Q cs
-each P Q all [] h = tt
-each P Q all (c ∷ cs) h = (all c h.0, each P Q all cs h.1)
-
 both : (P Q R : Column → Type 0) → ((c : Column) → P c → Q c → R c) → (cs : List Column) → AllByRecursion P cs
     → AllByRecursion Q cs → AllByRecursion R cs
 both P Q R all [] h g = tt
 both P Q R all (c ∷ cs) h g = (all c h.0 g.0, both P Q R all cs h.1 g.1)
+
+each : (P Q : Column → Type 0) → ((c : Column) → P c → Q c) → (cs : List Column) → AllByRecursion P cs
+    → AllByRecursion Q cs
+each P Q all cs h = both P P Q (λ c x y. all c x) cs h h
 
 -- a column that holds isn't the first fault
 pub past : {A B C : Type 0} → B → C → A ⊎ (B × C)
@@ -134,30 +131,19 @@ says_still old new more columns.Branch x t h = number_kept old.branches new.bran
 says_still old new more c x t h = h
 
 -- parts that are the same, column by column
-made : Act → Option ℕ → Option ℕ → Option ℕ → Option ℕ → Option ℕ → Option Admits → Option ℕ → Parts
-made act day patron copy title branch admits until = record {
-  act = act;
-  day = day;
-  patron = patron;
-  copy = copy;
-  title = title;
-  branch = branch;
-  admits = admits;
-  until = until;
-}
-
 pub same_parts : (p q : Parts)
     → AllByRecursion (λ column. part p column ≡ part q column) asked_columns → p ≡ q
-unfolding made
 same_parts p q (day, (act, (patron, (copy, (title, (branch, (admits, (until, _)))))))) =
-    ap (λ x. made x p.day p.patron p.copy p.title p.branch p.admits p.until) (same_Some _ _ act)
-    ∙ ap (λ x. made q.act x p.patron p.copy p.title p.branch p.admits p.until) day
-    ∙ ap (λ x. made q.act q.day x p.copy p.title p.branch p.admits p.until) patron
-    ∙ ap (λ x. made q.act q.day q.patron x p.title p.branch p.admits p.until) copy
-    ∙ ap (λ x. made q.act q.day q.patron q.copy x p.branch p.admits p.until) title
-    ∙ ap (λ x. made q.act q.day q.patron q.copy q.title x p.admits p.until) branch
-    ∙ ap (λ x. made q.act q.day q.patron q.copy q.title q.branch x p.until) admits
-    ∙ ap (λ x. made q.act q.day q.patron q.copy q.title q.branch q.admits x) until
+    let does : p.act ≡ q.act = same_Some _ _ act in λ i. record {
+      act = does i;
+      day = day i;
+      patron = patron i;
+      copy = copy i;
+      title = title i;
+      branch = branch i;
+      admits = admits i;
+      until = until i;
+    }
 
 -- the columns show one thing at most
 pub parts_once : (one : OneDay) (k : Contents) (row : KeptTurn) (p q : Parts) → AreShown k p row

@@ -1,9 +1,9 @@
 -- Numbers of names.
-use Rattle.std.proofs.Common.{◌≡◌, ℕ, ◌+◌, ◌<◌, Option, Some, List, [], ◌∷◌, ◌++◌, length}
-use Rattle.std.proofs.Common.{get_or, sym, ap, subst, ◌∙◌, inl, inr}
-use Rattle.std.specs.List.{position_from}
-use Rattle.std.proofs.lemmas.Bool.{cases_Bool}
-use Rattle.std.proofs.lemmas.Iterator.Adapters.{position_from-zero}
+use Rattle.std.proofs.Common.{◌≡◌, ℕ, ◌<◌, Bool, not, Some, List, [], ◌∷◌, ◌++◌, length, get_or, sym, ap, ◌∙◌}
+use Rattle.std.proofs.Common.{arith, length-append}
+use Rattle.std.specs.List.{position, position_or_len}
+use Rattle.std.proofs.lemmas.Grind.{common_steps}
+use Rattle.std.proofs.lemmas.List.Folds.{prefix_len-append}
 use Rattle.std.proofs.lemmas.List.Quantifiers.{position-Some}
 use Rattle.std.proofs.lemmas.Slice.Eq.{bytes_eq-Decides}
 use Rattle.std.specs.Prelude.{bytes_eq, option_map}
@@ -11,40 +11,24 @@ use Rattle.std.proofs.lemmas.Option.{none-some, same_Some, slice_get-get_or}
 use Rattle.hd_catalogue.specs.Names.{name_at, number_of}
 use Rattle.hd_turn_row.specs.Grown.{HasMore}
 
--- the place of a name in the rest of a list, counted on
-place : {F : Type 0} → List (List ℕ × F) → List ℕ → ℕ → Option ℕ
-place names name i = position_from (λ e. bytes_eq name e.0) i names
-
-number_of-place : {F : Type 0} (names : List (List ℕ × F)) (name : List ℕ)
-    → number_of names name ≡ place names name 0
-unfolding place
-number_of-place names name = position_from-zero (λ e. bytes_eq name e.0) names
-
-place_more : {F : Type 0} (names more : List (List ℕ × F)) (name : List ℕ) (i n : ℕ)
-    → place names name i ≡ Some n → place (names ++ more) name i ≡ Some n
-unfolding place
-place_more [] more name i n h = absurd (none-some _ h)
-place_more (e ∷ es) more name i n h = elim (cases_Bool (bytes_eq name e.0)) [
-  | inl t ↦
-      let here : Some i ≡ Some n = rw t at h in
-      rw t here
-  | inr f ↦ rw f (place_more es more name (i + 1) n (rw f at h))
-]
-
--- the number of a name is in range, and a number of that name
+-- the number of a name is in range
 pub number_known : {F : Type 0} (names : List (List ℕ × F)) (name : List ℕ) (n : ℕ)
     → number_of names name ≡ Some n → n < length names
-number_known [] name n h = absurd (none-some n h)
-number_known (e ∷ es) name n h = (position-Some (λ x. bytes_eq name x.0) (e ∷ es) n e h).0
+number_known names name n h = grind (arith, common_steps)
+
+-- what is found in a list is found in a longer one
+position_more : {X : Type 0} (p : X → Bool) (xs more : List X) (n : ℕ) → position p xs ≡ Some n
+    → position p (xs ++ more) ≡ Some n
+position_more p xs more n is =
+    let at : position_or_len p xs ≡ n = grind (arith, common_steps) in
+    let low : position_or_len p xs < length xs = grind (arith, common_steps) in
+    let same = prefix_len-append (λ x. not (p x)) xs more in
+    grind (arith, common_steps, length-append xs more)
 
 -- names after the others change no number
 pub number_kept : {F : Type 0} (old new : List (List ℕ × F)) (name : List ℕ) (n : ℕ) → HasMore old new
     → number_of old name ≡ Some n → number_of new name ≡ Some n
-number_kept old new name n more h =
-    let found : place (old ++ more.0) name 0 ≡ Some n =
-    place_more old more.0 name 0 n (sym (number_of-place old name) ∙ h) in
-    subst (λ (names : List _). number_of names name ≡ Some n) (sym more.1)
-    (number_of-place (old ++ more.0) name ∙ found)
+number_kept old new name n more h = rw more.1 (position_more (λ e. bytes_eq name e.0) old more.0 n h)
 
 -- a name with another number than its own is another
 pub other_name : {F : Type 0} (names : List (List ℕ × F)) (name other : List ℕ) (n : ℕ)

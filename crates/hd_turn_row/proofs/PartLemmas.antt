@@ -1,5 +1,5 @@
 -- What is asked, column by column.
-use Rattle.std.proofs.Common.{◌≡◌, ℕ, true, None, Some, refl, sym, ap, subst, ◌∙◌}
+use Rattle.std.proofs.Common.{◌≡◌, ℕ, true, None, Some, refl}
 use Rattle.std.proofs.lemmas.Option.{none-some, same_Some}
 use Rattle.hd_rules.specs.Facts.{Facts}
 use Rattle.hd_rules.specs.Known.{IsKnown, IsKnownAction, IsKnownCancel}
@@ -41,10 +41,9 @@ cancel_back (cancel.Checkout copy) = refl
 cancel_back what = refl
 
 pub asked_back : (asked : Asked) (parts : Parts) → asked_parts asked ≡ Some parts → asked_by parts ≡ asked
-asked_back (ask.Command command) parts e =
-    ap asked_by (sym (same_Some _ _ e)) ∙ command_back command.day command.action
-asked_back (ask.Cancel what) parts e = ap asked_by (sym (same_Some _ _ e)) ∙ cancel_back what
-asked_back (ask.Item copy) parts e = absurd (none-some _ e)
+asked_back (ask.Command command) parts e = cc (command_back command.day command.action)
+asked_back (ask.Cancel what) parts e = cc (cancel_back what)
+asked_back (ask.Item copy) parts e = cc
 
 -- what a command names is known where its parts are, and the other way round
 action_known : (k : Facts) (day : ℕ) (a : Action)
@@ -67,11 +66,6 @@ cancel_known k what = (λ h. assumption, λ h. assumption)
 pub parts_known : (k : Facts) (asked : Asked) (parts : Parts) → asked_parts asked ≡ Some parts
     → (IsKnown k asked → AreKnownParts k parts) × (AreKnownParts k parts → IsKnown k asked)
 parts_known k (ask.Command command) parts e =
-    let same = same_Some _ _ e in
-    let known = action_known k command.day command.action in
-    (λ h. subst (AreKnownParts k) same (known.0 h), λ h. known.1 (subst (AreKnownParts k) (sym same) h))
-parts_known k (ask.Cancel what) parts e =
-    let same = same_Some _ _ e in
-    let known = cancel_known k what in
-    (λ h. subst (AreKnownParts k) same (known.0 h), λ h. known.1 (subst (AreKnownParts k) (sym same) h))
+    rw (← same_Some _ _ e) (action_known k command.day command.action)
+parts_known k (ask.Cancel what) parts e = rw (← same_Some _ _ e) (cancel_known k what)
 parts_known k (ask.Item copy) parts e = absurd (none-some _ e)

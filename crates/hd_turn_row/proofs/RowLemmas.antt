@@ -1,6 +1,6 @@
 -- Rows and what they ask.
-use Rattle.std.proofs.Common.{◌≡◌, ℕ, Option, Some, List, ◌∷◌, refl, sym, ap, subst, ◌∙◌, inl, inr}
-use Rattle.std.proofs.lemmas.Option.{none-some as none_there, same_Some}
+use Rattle.std.proofs.Common.{◌≡◌, ℕ, Option, Some, List, ◌∷◌, refl, subst, inl, inr}
+use Rattle.std.proofs.lemmas.Option.{none-some as none_there}
 use Rattle.hd_rules.specs.declared.turns.Asked.{Asked}
 use Rattle.hd_rules.specs.declared.turns.Asked.TheVariants as ask
 use Rattle.hd_catalogue.specs.Contents.{Contents, facts_of}
@@ -10,7 +10,6 @@ use Rattle.hd_turn_row.specs.Columns.{asked_columns}
 use Rattle.hd_turn_row.specs.Faults.{IsFirstFault, IsFirstMisfit, IsRead, unread as unread_fault}
 use Rattle.hd_turn_row.specs.Grown.{OnlyGrew}
 use Rattle.hd_asked.specs.Parts.{asked_parts}
-use Rattle.hd_turn_row.specs.Parts.{asked_by}
 use Rattle.hd_turn_row.specs.Rows.{IsRowOf}
 use Rattle.hd_turn_store.specs.Kept.{KeptTurn}
 use Rattle.hd_turn_row.specs.declared.fault.Column.TheVariants as columns
@@ -46,9 +45,7 @@ row_faulty one k seat message row fault (inl unread) h =
     (terminal, shown_read_all k row h.parts h.shown) unread
 row_faulty one k seat message row fault (inr (parts, terminal, shown, (again, is, first))) h =
     let same : parts ≡ h.parts = parts_once one k row parts h.parts shown h.shown in
-    let asks : asked_by parts ≡ message.asked = ap asked_by same ∙ asked_back message.asked h.parts h.asked in
-    let all : again ≡ parts =
-    same_Some _ _ (sym is ∙ ap asked_parts asks ∙ h.asked ∙ ap (λ p. Some p) (sym same)) in
+    let all : again ≡ parts = cc (same, asked_back message.asked h.parts h.asked, h.asked) in
     fits_self parts fault (subst (λ (other : Parts). IsFirstMisfit parts other fault) all first)
 
 -- a row is that of one message at most
@@ -56,15 +53,11 @@ pub row_once : (one : OneDay) (k : Contents) (seat seat' : ℕ) (message message
     → IsRowOf k seat message row → IsRowOf k seat' message' row → (seat ≡ seat') × (message ≡ message')
 row_once one k seat seat' message message' row h g =
     let same : h.parts ≡ g.parts = parts_once one k row h.parts g.parts h.shown g.shown in
+    let terminal : message.terminal ≡ message'.terminal = cc in
     let asked : message.asked ≡ message'.asked =
-    sym (asked_back message.asked h.parts h.asked) ∙ ap asked_by same
-    ∙ asked_back message'.asked g.parts g.asked in
-    let terminal : message.terminal ≡ message'.terminal = same_Some _ _ (sym h.terminal ∙ g.terminal) in (
-      sym h.seat_is ∙ g.seat_is,
-      ap (λ (n : ℕ). record message { terminal = n }) terminal
-          ∙ ap (λ (a : Asked). record message' { asked = a; line = message.line }) asked
-          ∙ ap (λ (l : Option (List ℕ)). record message' { line = l }) (sym h.line ∙ g.line),
-    )
+    cc (asked_back message.asked h.parts h.asked, asked_back message'.asked g.parts g.asked) in
+    let line : message.line ≡ message'.line = cc in
+    (cc, λ i. record { terminal = terminal i; asked = asked i; line = line i })
 
 -- and asks the same of a catalogue that only grew
 pub row_grown : (old new : Contents) (seat : ℕ) (message : Message) (row : KeptTurn) → OnlyGrew old new

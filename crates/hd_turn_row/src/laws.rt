@@ -28,6 +28,7 @@ pub fn a_row_is_of_one_message()
 }
 
 /// A row asks the same of a catalogue that only grew.
+#[tactic(auto, using(crate::proofs::RowLemmas::row_grown))]
 pub fn a_grown_catalogue_reads_the_same()
     ensures { (old new : Contents) (seat : ℕ) (message : Message) (row : KeptTurn) → OnlyGrew old new
         → IsRowOf old seat message row → IsRowOf new seat message row }
@@ -35,6 +36,7 @@ pub fn a_grown_catalogue_reads_the_same()
 
 /// A column is that of one reply at most, and a reply has one column at most. So two replies are the same
 /// where their columns are, and where they differ their columns do.
+#[tactic(auto, using(crate::proofs::ReplyLemmas::reply_once, crate::proofs::ReplyLemmas::column_once))]
 pub fn replies_of_one_column_are_one()
     ensures reply { (one other : TurnReply) (column : List ℕ) → IsReplyColumn one column
         → IsReplyColumn other column → one ≡ other }

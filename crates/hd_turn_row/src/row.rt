@@ -5,7 +5,6 @@ ghost use Rattle.hd_catalogue.specs.Contents.{facts_of};
 ghost use Rattle.hd_rules.specs.Messages.{IsKnownMessage, message_of};
 ghost use Rattle.hd_rules.specs.Turns.{Message};
 ghost use Rattle.hd_rules.specs.declared.replies.TurnReply.{TurnReply};
-ghost use Rattle.hd_turn_row.specs.Columns.{AreKnownParts};
 ghost use Rattle.hd_turn_row.specs.Faults.{IsFirstFault};
 ghost use Rattle.hd_turn_row.specs.Rows.{AreAskedColumns, AreColumnsOf, HasOutcome, IsRowOf};
 ghost use Rattle.hd_turn_store.specs.Rows.{kept};
@@ -24,6 +23,7 @@ use std::alloc::Allocator;
 
 /// The row of what was asked and of what that came to. It takes no memory: the columns have the texts that
 /// neither the catalogue nor the message has.
+#[tactic(auto, using(crate::proofs::ColumnLemmas::day_column))]
 pub fn row_of<'a, A: Allocator + Copy>(
     catalogue: &'a Catalogue<A>,
     ask: &Ask<'a>,
@@ -31,25 +31,6 @@ pub fn row_of<'a, A: Allocator + Copy>(
     came: &'a OutcomeColumns,
 ) -> TurnRow<'a>
     requires known { IsKnownMessage (facts_of catalogue.now) (message_of ask.now).message }
-    requires asked { AreAskedColumns ask.now.asked asked.now }
-    ensures row { let asking = message_of ask.now in
-        IsRowOf catalogue.now asking.seat asking.message (kept result) }
-    ensures came { (format : ℕ) (reply : TurnReply) → AreColumnsOf reply came.now
-        → HasOutcome format reply (kept result) }
-{
-    row_with(catalogue, ask, asked, came)
-}
-
-/// The same of parts that name things of the catalogue.
-#[tactic(auto, using(crate::proofs::ColumnLemmas::day_column))]
-fn row_with<'a, A: Allocator + Copy>(
-    catalogue: &'a Catalogue<A>,
-    ask: &Ask<'a>,
-    asked: &'a AskedColumns,
-    came: &'a OutcomeColumns,
-) -> TurnRow<'a>
-    requires terminal { IsKnownMessage (facts_of catalogue.now) (message_of ask.now).message }
-    requires known { AreKnownParts (facts_of catalogue.now) asked.now.parts }
     requires asked { AreAskedColumns ask.now.asked asked.now }
     ensures row { let asking = message_of ask.now in
         IsRowOf catalogue.now asking.seat asking.message (kept result) }

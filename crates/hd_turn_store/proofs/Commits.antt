@@ -1,23 +1,27 @@
--- What a statement that changes a journal makes of it, alone, and what it commits.
-use Rattle.std.proofs.Common.{◌≡◌, ◌⊎◌, inl, inr, ℕ, List, [], ◌∷◌, append-nil, None, Ok, Err, Result, OnOk}
-use Rattle.std.proofs.Common.{ap, refl, subst, sym, ◌∙◌}
-use Rattle.sqlite.specs.Order.{Row}
-use Rattle.sqlite.specs.Command.{Command}
-use Rattle.sqlite.specs.Command.TheVariants.{Commit, Release}
-use Rattle.sqlite.specs.Does.{Tally, Does}
-use Rattle.sqlite.specs.Schema.{Schema}
-use Rattle.sqlite.specs.Tree.{Trees}
-use Rattle.sqlite_schema.specs.declared.schema.Index.{Index}
-use Rattle.sqlite.specs.Listing.{understood}
-use Rattle.sqlite.specs.Effect.{Database}
-use Rattle.sqlite.specs.declared.error.Error.{Error}
-use Rattle.sqlite.specs.State.{State, mode_of, Executes, CommitsBy, HasCleanDisk, MayCommit, Runs, Survives}
-use Rattle.sqlite.specs.State.{Writes, text_of}
-use Rattle.sqlite.proofs.Callers.{IsPlain, command_of, statement_of, runs_as}
-use Rattle.hd_turn_store.specs.Kept.{KeptTurn, Head}
-use Rattle.hd_turn_store.specs.Tables.{IsJournal, number_index, schema_with, Stores}
-use Rattle.hd_turn_store.specs.Holds.{Holds}
-use Rattle.hd_turn_store.proofs.Texts.{Means, in_each}
+-- What a statement that changes a journal commits.
+use Rattle.std.proofs.Common.{◌≡◌, inl, inr, ℕ, List, [], ◌∷◌, append-nil, None, Ok, Err, Result, IsOk}
+use Rattle.std.proofs.Common.{IsTrue, ap, refl, subst, sym, ◌∙◌, ◌++◌, codes, length, map, arith, pos}
+use Rattle.std.proofs.lemmas.List.{map-append}
+use Rattle.std.specs.List.Sorted.{IsPermutation}
+use Rattle.sqlite.specs.State.{CommitsBy}
+use Rattle.sqlite.proofs.Callers.{IsPlain, command_of, one_step, one_permutation}
+use Rattle.sqlite.specs.Rowids.TheVariants.{Given}
+use Rattle.sqlite_rules.specs.Calls.{ids_of}
+use Rattle.hd_turn_store.specs.Words.{Blob, Command, Commit, Database, Does, Error, Executes, HasCleanDisk}
+use Rattle.hd_turn_store.specs.Words.{Index, Int, IsAnswer, MayCommit, Null, Output, Release, Row, Runs}
+use Rattle.hd_turn_store.specs.Words.{Schema, State, Survives, Tally, Trees, Writes, Written, edit_of, edited}
+use Rattle.hd_turn_store.specs.Words.{eval_all, mode_of, output, overlay, page, text_of}
+use Rattle.hd_turn_store.specs.Holds.{Commits, Holds}
+use Rattle.hd_turn_store.specs.Kept.{Head, KeptTurn, cells, head_cells}
+use Rattle.hd_turn_store.specs.Tables.{IsJournal, Stores, journal_table, number_index, numbered_from}
+use Rattle.hd_turn_store.specs.Tables.{schema_with, turn_columns}
+use Rattle.hd_turn_store.specs.Texts.{insert_turn_text, update_head_text}
+use Rattle.hd_turn_store.proofs.Texts.{Means, in_each, insert_turn, insert_turn_means, row_terms, update_head}
+use Rattle.hd_turn_store.proofs.Texts.{update_head_means, update_query}
+use Rattle.hd_turn_store.proofs.Writing.{cast_int, cast_null, cast_turn, cmp_equal, does_as, inserts}
+use Rattle.hd_turn_store.proofs.Writing.{same_value, went}
+
+-- ---- what a statement that changes a journal makes of it, alone, and what it commits
 
 -- A statement with these values is a change of a journal: it means a command that ends no transaction and
 -- writes, whatever the indexes.
@@ -35,6 +39,10 @@ pub record Changes (text : List ℕ) (params : Row) (h : Head) (ks : List KeptTu
       (Ok (tally, after))
       → (after.schema ≡ schema_with indexes) × Stores h' ks' after.trees
 
+-- a crash leaves an open database what it has committed
+abbrev pub Settles : State → Type 0
+Settles s = (db : Trees) → IsTrue s.is_open → s.may_leave db → db ≡ s.committed.trees
+
 -- what is committed is what each crash leaves
 pub lasting : {new : State} {h : Head} {ks : List KeptTurn} (db : Trees) → Holds new h ks
     → db ≡ new.committed.trees → Stores h ks db
@@ -42,8 +50,7 @@ lasting {new} {h} {ks} db holds is =
     subst (Stores h ks) (sym (is ∙ ap (λ (d : Database). d.trees) holds.settled)) holds.rows
 
 module _ {text : List ℕ} {params : Row} {h h' : Head} {ks ks' : List KeptTurn}
-    (it : Changes text params h ks h' ks') (old : State) (given : Row) (is : given ≡ params)
-    (holds : Holds old h ks) where
+    (it : Changes text params h ks h' ks') (old : State) (holds : Holds old h ks) where
   -- under the schema that the state has
   does_so : (part : List ℕ) (tally : Tally) (after : Database)
       → Does old.step_limit (mode_of old) params old.now part None it.command (Ok (tally, after))
@@ -54,28 +61,23 @@ module _ {text : List ℕ} {params : Row} {h h' : Head} {ks ks' : List KeptTurn}
       part None it.command (Ok (tally, after)) → (after.schema ≡ schema) × Stores h' ks' after.trees)
       (by (number_index ∷ [])) (by []) old.now.schema holds.schema
 
-  pub changes : (new : State) (r : Result ℕ Error) → Executes text given old new r
-      → OnOk r (Holds new h' ks')
-  changes new (Err x) ran = tt
-  changes new (Ok count) ran =
-      let known = it.means old.now.schema holds.schema in
-      let part = statement_of text (understood old.now.schema text) in
-      let runs = runs_as text params old new old.now.schema refl it.command known.is known.plain count
-      (subst (λ row. Executes text row old new (Ok count)) is ran) in
-      let w = it.writes old new part count runs in
-      let done = does_so part w.tally new.now w.changed in
+  changed : (new : State) (r : Result ℕ Error) → IsOk r → Executes text params old new r → Holds new h' ks'
+  changed new (Err x) done ran = absurd (cc)
+  changed new (Ok count) done ran =
+      let did = does_as (it.means old.now.schema holds.schema) old new params count refl
+      (λ part. it.writes old new part count) ran in
+      let done = does_so _ did.0.tally new.now did.1 in
       record {
         schema = subst IsJournal (sym done.0) holds.schema;
         rows = done.1;
-        settled = rw holds.outside at w.shown.committed_is;
-        outside = w.shown.mode ∙ holds.outside;
-        is_open = w.shown.is_open;
+        settled = rw holds.outside at did.0.shown.committed_is;
+        outside = did.0.shown.mode ∙ holds.outside;
+        is_open = did.0.shown.is_open;
       }
 
-  commits : (db : Trees) → CommitsBy text given old db → Stores h' ks' db
+  left : (db : Trees) → CommitsBy text params old db → Stores h' ks' db
   unfolding CommitsBy
-  commits db may_commit =
-      let so = subst (λ row. CommitsBy text row old db) is may_commit in
+  left db so =
       let known = it.means old.now.schema holds.schema in
       let bare = subst IsPlain so.1.is known.plain in
       let part = text_of text so.0 in
@@ -88,10 +90,104 @@ module _ {text : List ℕ} {params : Row} {h h' : Head} {ks ks' : List KeptTurn}
         | inr w ↦ subst (Stores h' ks') (sym w.5) (does_so part w.1 w.2 w.3).1
       ]
 
-  -- a crash leaves what could be left before, or the change
-  pub leaves : (new : State) → HasCleanDisk new → Survives old new (CommitsBy text given old)
-      → (db : Trees) → new.may_leave db → old.may_leave db ⊎ Stores h' ks' db
-  leaves new clean survives db may = elim (survives.crash clean db may) [
-    | inl was ↦ inl was
-    | inr done ↦ inr (commits db done)
-  ]
+  -- the change is committed by a statement that is done
+  pub commits : {is_done : Type 0} (new : State) (r : Result ℕ Error) → (is_done → IsOk r) → Settles new
+      → HasCleanDisk new → Executes text params old new r → Survives old new (CommitsBy text params old)
+      → Commits is_done h' ks' old new
+  commits {is_done} new r ok settles clean ran survives =
+      let now = λ (done : is_done). changed new r (ok done) ran in
+      record {
+        done = now;
+        durable = λ done db may. lasting db (now done) (settles db (now done).is_open may);
+        crash = λ db may. elim (survives.crash clean db may) [
+          | inl was ↦ inl was
+          | inr done ↦ inr (left db done)
+        ];
+      }
+
+-- ---- what the insertion of a turn does
+
+-- it puts the turn at the end
+pub adds : (k : KeptTurn) (h : Head) (ks : List KeptTurn)
+    → Changes insert_turn_text (cells k) h ks h (ks ++ k ∷ [])
+adds k h ks = record {
+  command = insert_turn;
+  means = insert_turn_means;
+  no_commit = λ e. cc;
+  no_release = λ name e. cc;
+  writes = λ old new text count runs. runs;
+  does = λ indexes s text tally after has does.
+      let it = inserts (codes "turn") (codes "at") 1 turn_columns (schema_with indexes) (mode_of s)
+      (λ olds news. refl) (cells k)
+      (ap (λ (p : Row). eval_all (row_terms (length turn_columns)) (p ∷ []) ∷ []) (append-nil (cells k)))
+      (cast_turn k) s.step_limit s.now.trees (map cells ks) tally after has.turns does in (
+        it.0,
+        record {
+          head = it.2.0 (omega arith) ∙ has.head;
+          turns = it.1 ∙ ap (numbered_from 1) (sym (map-append cells ks (k ∷ [])));
+        },
+      );
+}
+
+-- ---- what another digest does to the head, and what it commits
+
+module _ (digest : List ℕ) (h : Head) where
+  abbrev other : Head
+  other = record h { catalogue = digest }
+
+  -- what the query of the update shows: the old rowid, and then the new row
+  abbrev renewed : Row
+  renewed = Int (pos 1) ∷ Int (pos 1) ∷ Null ∷ head_cells other
+
+  abbrev edit : Trees → List Row → List Row
+  edit db rows = edited db (edit_of db journal_table (ids_of rows) Given 1 rows)
+
+  -- one row is taken out, and this one is put in its place
+  replaced : (db : Trees) → db 0 ≡ numbered_from 1 (head_cells h ∷ [])
+      → edit db (renewed ∷ []) ≡ numbered_from 1 (head_cells other ∷ [])
+  replaced db is =
+      let same = cmp_equal 1 in
+      rw (is, same, cast_null, cast_int 1, cast_int h.format)
+
+  does_accept : (ks : List KeptTurn) (indexes : List Index) (s : State) (text : List ℕ) (tally : Tally)
+      (after : Database)
+      → Stores h ks s.now.trees
+      → Does s.step_limit (mode_of s) (Blob digest ∷ []) (record s.now { schema = schema_with indexes })
+      text None update_head (Ok (tally, after))
+      → (after.schema ≡ schema_with indexes) × Stores other ks after.trees
+  does_accept ks indexes s text tally after has does =
+      let db = s.now.trees in
+      let params = Blob digest ∷ [] in
+      let done = went does in
+      let now = ap (λ (p : Tally × Database). p.1) (same_value (went (went done.2).2).2) in
+      let queried = went done.1 in
+      let a : IsAnswer update_query (overlay db []) params queried.0 = queried.1.answer Null in
+      let staged : a.staged ≡ (params ∷ (Int (pos 1) ∷ Null ∷ head_cells h) ∷ []) ∷ [] =
+      a.grouped ∙ (let one = has.head in rw one) in
+      let o : Output = ([], renewed) in
+      let kept : a.kept ≡ o ∷ [] = a.distinct ∙ ap (map (output update_query)) staged in
+      let ordered = one_permutation o a.ordered (subst (λ k. IsPermutation k a.ordered) kept a.same) in
+      let rows : queried.0 ≡ renewed ∷ [] =
+      a.shown ∙ ap (λ xs. page update_query params (map (λ (p : Output). p.1) xs)) ordered in
+      let written = went queried.2 in
+      let trees : done.0.trees ≡ written.0 = ap (λ (it : Written). it.trees) (same_value written.2) in
+      let all : after.trees ≡ written.0 = ap (λ (d : Database). d.trees) now ∙ trees in
+      let step = one_step (schema_with indexes) _ db written.0
+      (edit_of db journal_table (ids_of queried.0) Given 1 queried.0) refl written.1 in (
+        ap (λ (d : Database). d.schema) now,
+        record {
+          head = ap (λ (t : Trees). t 0) all ∙ step.rows ∙ ap (edit db) rows ∙ replaced db has.head;
+          turns = ap (λ (t : Trees). t 1) all ∙ step.tables.1.0 (omega arith) ∙ has.turns;
+        },
+      )
+
+pub accepts : (digest : List ℕ) (h : Head) (ks : List KeptTurn)
+    → Changes update_head_text (Blob digest ∷ []) h ks (record h { catalogue = digest }) ks
+accepts digest h ks = record {
+  command = update_head;
+  means = update_head_means;
+  no_commit = λ e. cc;
+  no_release = λ name e. cc;
+  writes = λ old new text count runs. runs;
+  does = does_accept digest h ks;
+}

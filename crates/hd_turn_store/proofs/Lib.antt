@@ -1,14 +1,5 @@
 pub mod Texts
-pub mod Order
-pub mod Values
-pub mod Steps
+pub mod Writing
 pub mod Commits
-pub mod Begins
-pub mod Adds
-pub mod Finding
 pub mod Queries
-pub mod Accepts
-pub mod Decodes
-pub mod Blank
 pub mod Marking
-pub mod Headers

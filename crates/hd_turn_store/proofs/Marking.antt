@@ -1,23 +1,15 @@
 -- A journal is the same whatever its mark.
 use Rattle.std.proofs.Common.{◌≡◌, ◌∙◌, inl, inr, List, [], ◌∷◌, IsTrue, ap, arith, subst, sym}
-use Rattle.sqlite.specs.Tree.{Trees}
-use Rattle.sqlite.specs.Schema.{Schema}
 use Rattle.sqlite_schema.specs.declared.schema.Table.{Table}
-use Rattle.sqlite_trees.specs.Objects.{catalog_tree}
-use Rattle.sqlite_catalog.specs.Listing.{IsSound}
 use Rattle.sqlite_rules.specs.Lists.{Has}
 use Rattle.sqlite_rules.proofs.RuleLemmas.{keeps_same}
-use Rattle.sqlite.specs.Effect.{Database}
-use Rattle.sqlite.specs.Held.{Held}
-use Rattle.sqlite_disk.specs.declared.Disk.{Ghosts}
-use Rattle.sqlite_store.specs.FileStore.{recovers, view}
-use Rattle.sqlite_store.specs.declared.store.FileStore.{FileStore}
-use Rattle.sqlite_store.specs.Laws.{settled_at}
 use Rattle.sqlite_wal.proofs.LogLemmas.{SeenMayStay}
+use Rattle.hd_turn_store.specs.Words.{Database, FileStore, Ghosts, Held, IsSound, Schema, Trees, catalog_tree}
+use Rattle.hd_turn_store.specs.Words.{recovers, settled_at, view}
 use Rattle.hd_turn_store.specs.Kept.{Head, KeptTurn}
-use Rattle.hd_turn_store.specs.Marks.{KeepsTurns, MayGetMark, MayHaveMark, SameButMark}
 use Rattle.hd_turn_store.specs.Tables.{IsJournal, Stores, journal_table, number_index, schema_with}
 use Rattle.hd_turn_store.specs.Tables.{turn_table}
+use Rattle.hd_turn_store.specs.Marks.{KeepsTurns, MayGetMark, MayHaveMark, SameButMark}
 use Rattle.hd_turn_store.proofs.Commits.{lasting}
 use Rattle.hd_turn_store.proofs.Texts.{in_each}
 
@@ -52,13 +44,17 @@ stores_beside one two head ks same stores =
     record { head = same 0 (omega arith) ∙ stores.head; turns = same 1 (omega arith) ∙ stores.turns }
 
 module _ {D : Type 0} {g : Ghosts D} where
-  -- what is copied is still all that a crash may leave, but for a mark
-  pub through : (old copied : FileStore D g) → (IsTrue (view copied).is_open → view copied ≡ view old)
+  -- a mark that is put after a copy, and before another, is put on what was there
+  pub through : (old copied marked last : FileStore D g)
+      → (IsTrue (view copied).is_open → view copied ≡ view old)
       → ((db : Trees) → recovers copied db → recovers old db)
-      → (db : Trees) → MayGetMark copied db → MayGetMark old db
-  through old copied same outcomes db (inl seen) =
-      inl (subst (λ v. MayHaveMark v db) (same seen.0) seen)
-  through old copied same outcomes db (inr before) = inr (outcomes db before)
+      → ((db : Trees) → recovers marked db → MayGetMark copied db)
+      → ((db : Trees) → recovers last db → recovers marked db)
+      → (db : Trees) → recovers last db → MayGetMark old db
+  through old copied marked last same before crash after db may = elim (crash db (after db may)) [
+    | inl seen ↦ inl (subst (λ v. MayHaveMark v db) (same seen.0) seen)
+    | inr was ↦ inr (before db was)
+  ]
 
   module _ (stays : SeenMayStay g) (c : Held (FileStore D g)) (back : FileStore D g)
       (outcomes : (db : Trees) → recovers back db → recovers c.store db) where

@@ -1,17 +1,15 @@
 -- Which fault an error of the database is told as.
 use Rattle.std.specs.Prelude.{◌≡◌, ℕ, List, [], ◌∷◌, ⊤, Err}
-use Rattle.sqlite.specs.declared.error.ErrorCode.TheVariants as code
-use Rattle.sqlite.specs.declared.error.Error.{Error}
 use Rattle.sqlite.specs.declared.error.Error.TheVariants.{SqliteFailure, SqlInputError, InvalidColumnType}
 use Rattle.sqlite.specs.declared.error.Error.TheVariants.{IntegralValueOutOfRange, Utf8Error}
-use Rattle.sqlite.specs.declared.types.Value.TheVariants.{Blob}
-use Rattle.sqlite.specs.State.{State, Executes}
+use Rattle.hd_turn_store.specs.Words.{Blob, Error, Executes, State}
 use Rattle.hd_turn_store.specs.declared.fault.Fault.{Fault}
 use Rattle.hd_turn_store.specs.declared.fault.Fault.TheVariants.{Busy, CannotOpen, Damaged, NotAJournal}
-use Rattle.hd_turn_store.specs.declared.fault.Fault.TheVariants.{DiskFull, CannotWrite, CannotRead}
-use Rattle.hd_turn_store.specs.declared.fault.Fault.TheVariants.{Memory, UnknownFormat}
+use Rattle.hd_turn_store.specs.declared.fault.Fault.TheVariants.{DiskFull, CannotWrite, CannotRead, Memory}
+use Rattle.hd_turn_store.specs.declared.fault.Fault.TheVariants.{UnknownFormat}
 use Rattle.hd_turn_store.specs.Kept.{KeptTurn, cells, IsKnownFormat}
 use Rattle.hd_turn_store.specs.Texts.{insert_turn_text, update_head_text}
+use Rattle.sqlite.specs.declared.error.ErrorCode.TheVariants as code
 
 -- where the files are opened
 abbrev pub opening_fault : Error → Fault

@@ -1,10 +1,7 @@
--- What a connection to a journal sees.
-use Rattle.std.specs.Prelude.{◌≡◌, true, false, List, [], IsTrue}
+-- What a connection to a journal sees, and what a call over it leaves.
+use Rattle.std.specs.Prelude.{◌≡◌, ◌⊎◌, true, false, List, [], IsTrue}
 use Rattle.std.specs.List.{AllByRecursion}
-use Rattle.sqlite.specs.Schema.{Schema}
-use Rattle.sqlite.specs.State.{State}
-use Rattle.sqlite.specs.Table.{Table}
-use Rattle.sqlite.specs.Tree.{Trees}
+use Rattle.hd_turn_store.specs.Words.{HasCleanDisk, Schema, State, Table, Trees}
 use Rattle.hd_turn_store.specs.Kept.{KeptTurn, Head}
 use Rattle.hd_turn_store.specs.Tables.{IsJournal, journal_schema, Stores}
 
@@ -31,3 +28,18 @@ pub record SeesTurns (s : State) (h : Head) (ks : List KeptTurn) : Type 0 where
   pub schema : s.now.schema ≡ journal_schema
   pub rows : Stores h ks s.now.trees
   pub inside : s.in_transaction ≡ true
+
+-- A call only reads: where it is done the journal is as it was, and a crash leaves no more than before.
+pub record OnlyReads (is_done : Type 0) (old new : State) : Type 0 where
+  pub clean : HasCleanDisk new → HasCleanDisk old
+  pub same : is_done → HasCleanDisk new → (h : Head) (ks : List KeptTurn) → Holds old h ks
+      → Holds new h ks
+  pub crash : HasCleanDisk new → (h : Head) (ks : List KeptTurn) → Holds old h ks → (db : Trees)
+      → new.may_leave db → old.may_leave db
+
+-- A call commits this head and just these turns. Where it is done they are there, also after a crash; where
+-- it fails, a crash leaves them or what it could leave before.
+pub record Commits (is_done : Type 0) (h : Head) (ks : List KeptTurn) (old new : State) : Type 0 where
+  pub done : is_done → Holds new h ks
+  pub durable : is_done → (db : Trees) → new.may_leave db → Stores h ks db
+  pub crash : (db : Trees) → new.may_leave db → old.may_leave db ⊎ Stores h ks db

@@ -1,9 +1,6 @@
 -- What is kept of a turn, and of the journal that it belongs to.
 use Rattle.std.specs.Prelude.{◌≡◌, ◌⊎◌, ℕ, pos, List, [], ◌∷◌, Option}
-use Rattle.sqlite.specs.declared.types.Value.{Value}
-use Rattle.sqlite.specs.declared.types.Value.TheVariants.{Int, Text, Blob}
-use Rattle.sqlite.specs.Order.{Row}
-use Rattle.sqlite.specs.Values.{or_null}
+use Rattle.hd_turn_store.specs.Words.{Blob, Int, Row, Text, Value, or_null}
 
 -- a turn; a day is empty where there is none
 pub record KeptTurn : Type 0 where

@@ -1,18 +1,10 @@
 -- The mark in a journal's file.
 use Rattle.std.specs.Prelude.{◌≡◌, ◌≢◌, ◌⊎◌, ◌++◌, ◌∷◌, ℕ, List, [], IsTrue, codes, take}
-use Rattle.sqlite_disk.specs.declared.Disk.{Ghosts}
 use Rattle.sqlite.specs.Closing.{HoldsAlone}
-use Rattle.sqlite.specs.Files.{HoldsDatabase, file_state}
-use Rattle.sqlite.specs.Held.{Held}
-use Rattle.sqlite.specs.Recovery.{Image}
-use Rattle.sqlite.specs.State.{HasCleanDisk, Opens, State}
-use Rattle.sqlite.specs.Steps.{IsFresh}
-use Rattle.sqlite.specs.Tree.{Trees}
-use Rattle.sqlite_pool.specs.Header.{user_version}
-use Rattle.sqlite_store.specs.FileStore.{log_frames, recovers, state, view}
-use Rattle.sqlite_store.specs.declared.store.FileStore.{FileStore}
-use Rattle.sqlite_trees.specs.Objects.{version_rows, version_tree}
-use Rattle.sqlite_trees.specs.View.{IsClean, View}
+use Rattle.sqlite_store.specs.FileStore.{state}
+use Rattle.hd_turn_store.specs.Words.{FileStore, Ghosts, HasCleanDisk, Held, Image, IsClean, IsFresh, Opens}
+use Rattle.hd_turn_store.specs.Words.{State, Trees, View, file_state, log_frames, recovers, user_version}
+use Rattle.hd_turn_store.specs.Words.{version_rows, version_tree, view}
 use Rattle.hd_turn_store.specs.Holds.{Holds}
 use Rattle.hd_turn_store.specs.Kept.{Head, KeptTurn}
 use Rattle.hd_turn_store.specs.Tables.{IsJournal, Stores}
@@ -34,14 +26,10 @@ pub record SaysMark (head : List ℕ) (mark : ℕ) : Type 0 where
   pub magic : take 16 head ≡ codes "SQLite format 3" ++ 0 ∷ []
   pub version : user_version head ≡ mark
 
--- the two files hold a database with this mark
-abbrev pub HoldsMark : Image → ℕ → Type 0
-HoldsMark left mark = ∥ ((db : Trees) × HoldsDatabase left db × HasMark mark db) ∥₁
-
--- and so does the database file with no log
-pub record HoldsMarkAlone (left : Image) (mark : ℕ) : Type 0 where
-  pub both : HoldsMark left mark
-  pub alone : HoldsMark (record left { log = [] }) mark
+-- The two files hold a database with this head and just these turns, which was ended well, and so does the
+-- database file with no log.
+abbrev pub HoldsEnded : Image → Head → List KeptTurn → Type 0
+HoldsEnded left h ks = (db : Trees) × HoldsAlone left db × Stores h ks db × HasMark ended_mark db
 
 -- a store has this mark, and is otherwise as it was
 pub record GetsMark (mark : ℕ) (old new : View) : Type 0 where

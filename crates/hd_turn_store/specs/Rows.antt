@@ -1,9 +1,7 @@
 -- A turn as it is handed in and given back, and what values say of one.
 use Rattle.std.specs.Prelude.{ℕ, pos, List, [], Option, Some, None}
 use Rattle.std.specs.Option.{option_copied}
-use Rattle.sqlite.specs.declared.types.Value.{Value}
-use Rattle.sqlite.specs.declared.types.Value.TheVariants.{Int, Text, Blob}
-use Rattle.sqlite.specs.Order.{Row, column}
+use Rattle.hd_turn_store.specs.Words.{Blob, Int, Row, Text, Value, column}
 use Rattle.hd_turn_store.specs.declared.row.TurnRow.{TurnRow}
 use Rattle.hd_turn_store.specs.declared.heading.Heading.{Heading}
 use Rattle.hd_turn_store.specs.Kept.{KeptTurn, Head}

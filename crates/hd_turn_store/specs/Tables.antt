@@ -1,17 +1,9 @@
 -- The two tables of a journal, and their rows.
-use Rattle.std.specs.Prelude.{◌≡◌, ◌⊎◌, ℕ, ◌+◌, pos, Bool, true, false, List, [], ◌∷◌, map}
-use Rattle.std.specs.Prelude.{Some, codes}
-use Rattle.sqlite.specs.Collation.TheVariants.{Binary}
-use Rattle.sqlite.specs.declared.types.Value.TheVariants.{Null, Int}
-use Rattle.sqlite.specs.Order.{Row}
-use Rattle.sqlite.specs.Table.{Table}
-use Rattle.sqlite_schema.specs.declared.schema.Index.{Index}
+use Rattle.std.specs.Prelude.{◌≡◌, ◌⊎◌, ℕ, ◌+◌, pos, Bool, true, false, List, [], ◌∷◌, map, Some, codes}
 use Rattle.sqlite_value.specs.Keys.{plain}
-use Rattle.sqlite_schema.specs.declared.schema.Column.{Column}
-use Rattle.sqlite.specs.Schema.{Schema}
-use Rattle.sqlite.specs.Kind.{Kind}
 use Rattle.sqlite.specs.Kind.TheVariants.{Integer, Text, Blob}
-use Rattle.sqlite.specs.Tree.{Trees}
+use Rattle.hd_turn_store.specs.Words.{Binary, Column, Index, Int, Kind, Null, Row, Schema, Table, Trees}
+use Rattle.hd_turn_store.specs.declared.columns.Column.{Column as Listed}
 use Rattle.hd_turn_store.specs.Kept.{KeptTurn, Head, cells, head_cells}
 
 -- a column of a STRICT table: its name, what it has, and whether it has a value in each row
@@ -25,6 +17,10 @@ column name kind is_needed =
       default = Null;
       collation = Binary;
     }
+
+-- such a column as the code lists it
+abbrev pub column_of : Listed → Column
+column_of c = column c.name.now c.kind c.is_needed
 
 -- the columns of a journal's head, behind its key
 abbrev pub head_columns : List Column

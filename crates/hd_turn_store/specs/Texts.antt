@@ -1,9 +1,7 @@
 -- The texts of SQL, made of the tables' columns.
-use Rattle.std.specs.Prelude.{ℕ, ◌+◌, List, [], ◌∷◌, ◌++◌, codes, decimal, flat_map, map}
-use Rattle.std.specs.Prelude.{if◌then◌else◌}
-use Rattle.sqlite_schema.specs.declared.schema.Column.{Column}
-use Rattle.sqlite.specs.Kind.{Kind}
+use Rattle.std.specs.Prelude.{ℕ, ◌+◌, List, [], ◌∷◌, ◌++◌, codes, decimal, flat_map, map, if◌then◌else◌}
 use Rattle.sqlite.specs.Kind.TheVariants.{Any, Blob, Integer, Real, Text}
+use Rattle.hd_turn_store.specs.Words.{Column, Kind}
 use Rattle.hd_turn_store.specs.Tables.{head_columns, turn_columns}
 
 -- texts with a comma between them

@@ -1,17 +1,12 @@
 //! A journal in a file.
 
-ghost use Rattle.std.specs.Prelude.{◌≡◌, [], codes, false, true, List, IsErrAnd, IsTrue, IfOk};
-ghost use Rattle.sqlite.specs.State.{HasCleanDisk};
-ghost use Rattle.sqlite.specs.Files.{IsBlankAs, file_state};
-ghost use Rattle.sqlite.specs.Held.{state};
-ghost use Rattle.sqlite.specs.Tree.{Trees};
+ghost use Rattle.std.specs.Prelude.{◌≡◌, [], codes, false, true, List, IsErrAnd, IsTrue, IfOk, Ok};
 ghost use Rattle.sqlite.specs.WalFiles.{image_at};
-ghost use Rattle.sqlite.specs.Recovery.{Image};
-ghost use Rattle.sqlite_store.specs.FileStore.{state as store_state, view};
-ghost use Rattle.sqlite_trees.specs.View.{IsClean};
+ghost use Rattle.sqlite_store.specs.FileStore.{state as store_state};
+ghost use Rattle.hd_turn_store.specs.Words.{HasCleanDisk, Image, IsBlankAs, IsClean, file_state, state, view};
 ghost use Rattle.hd_turn_store.specs.Kept.{KeptTurn, Head, IsKnownFormat, new_head};
 ghost use Rattle.hd_turn_store.specs.Tables.{IsJournal, no_schema};
-ghost use Rattle.hd_turn_store.specs.Holds.{Holds};
+ghost use Rattle.hd_turn_store.specs.Holds.{Holds, OnlyReads};
 ghost use Rattle.hd_turn_store.specs.Crashes.{HoldsTurns};
 
 use crate::fault::Fault;
@@ -57,20 +52,14 @@ fn connect<S: Start>(
 /// Begins a journal in a database without a table, and sees of another whether it is one that can be read.
 /// Says whether it was begun. What a journal's files hold stays, whatever this answers.
 fn begin_or_check<S: Alter>(conn: &mut Connection<S>, digest: &[u8; 32]) -> Result<bool, Fault>
-    ensures clean { HasCleanDisk (state S.Store conn.new) → HasCleanDisk (state S.Store conn.old) }
+    ensures reads { OnlyReads (result ≡ Ok false) (state S.Store conn.old) (state S.Store conn.new) }
     ensures begun { HasCleanDisk (state S.Store conn.new) → IfOk result (λ is_new. IsTrue is_new
         → Holds (state S.Store conn.new) (new_head digest.now) []) }
     ensures blank { IfOk result (λ is_new. IsTrue is_new → (state S.Store conn.old).now.schema ≡ no_schema) }
     ensures journal { IfOk result (λ is_new. is_new ≡ false → IsJournal (state S.Store conn.old).now.schema) }
-    ensures same { HasCleanDisk (state S.Store conn.new) → IfOk result (λ is_new. is_new ≡ false
-        → (head : Head) (ks : List KeptTurn) → Holds (state S.Store conn.old) head ks
-        → Holds (state S.Store conn.new) head ks) }
     ensures known { HasCleanDisk (state S.Store conn.new) → IfOk result (λ is_new. is_new ≡ false
         → (head : Head) (ks : List KeptTurn) → Holds (state S.Store conn.old) head ks
         → IsKnownFormat head.format) }
-    ensures crash { HasCleanDisk (state S.Store conn.new) → (head : Head) (ks : List KeptTurn)
-        → Holds (state S.Store conn.old) head ks → (db : Trees) → (state S.Store conn.new).may_leave db
-        → (state S.Store conn.old).may_leave db }
 {
     if is_blank(conn.schema()) {
         begin(conn, digest)?;

@@ -1,21 +1,19 @@
 //! Which catalogue a journal is of.
 
-ghost use Rattle.std.specs.Prelude.{◌≡◌, ◌⊎◌, ◌∷◌, [], List, IfOk, IfErr, OnOk};
-ghost use Rattle.sqlite.specs.State.{HasCleanDisk};
-ghost use Rattle.sqlite.specs.Held.{state};
-ghost use Rattle.sqlite.specs.Tree.{Trees};
+ghost use Rattle.std.specs.Prelude.{◌≡◌, ◌∷◌, [], List, IfOk, IfErr, IsOk, OnOk};
+ghost use Rattle.hd_turn_store.specs.Words.{HasCleanDisk, state};
 ghost use Rattle.hd_turn_store.specs.Kept.{KeptTurn, Head, head_cells, IsKnownFormat};
-ghost use Rattle.hd_turn_store.specs.Tables.{IsJournal, Stores};
-ghost use Rattle.hd_turn_store.specs.Holds.{Holds};
+ghost use Rattle.hd_turn_store.specs.Tables.{IsJournal};
+ghost use Rattle.hd_turn_store.specs.Holds.{Commits, Holds, OnlyReads};
 ghost use Rattle.hd_turn_store.specs.Rows.{read_head};
 ghost use Rattle.hd_turn_store.specs.Faults.{IsWritingFault, IsReadingFault, RefusesDigest, RefusesFormat};
 
 use crate::columns::{SELECT_HEAD, UPDATE_HEAD};
 use crate::fault::Fault;
-use crate::row::number_value;
+use crate::row::{number_value, value};
 use crate::table::is_journal;
 use sqlite::types::ValueRef;
-use sqlite::{Alter, Connection, Error, Row};
+use sqlite::{Alter, Connection, Row};
 
 /// The format that is written.
 pub const FORMAT: u32 = 2;
@@ -33,71 +31,46 @@ pub struct Heading {
 }
 
 /// The head that a row shows.
-fn heading_in(row: &Row) -> Result<Heading, Error>
-    ensures { IfOk result (λ h. (head : Head) → row.now ≡ head_cells head → read_head h ≡ head) }
+fn heading_in(row: &Row) -> Result<Heading, Fault>
+    ensures head { IfOk result (λ h. (head : Head) → row.now ≡ head_cells head → read_head h ≡ head) }
+    ensures fault { IfErr result IsReadingFault }
 {
-    let format: u32 = row.get(0)?;
-    let catalogue: Vec<u8> = row.get(1)?;
-    Ok(Heading { format, catalogue })
-}
-
-fn head_rows<S: Alter>(conn: &mut Connection<S>) -> Result<Vec<Row>, Error>
-    ensures clean { HasCleanDisk (state S.Store conn.new) → HasCleanDisk (state S.Store conn.old) }
-    ensures ok { HasCleanDisk (state S.Store conn.new) → IfOk result (λ rows. (head : Head)
-        (ks : List KeptTurn) → Holds (state S.Store conn.old) head ks → rows.items ≡ head_cells head ∷ []) }
-    ensures same { HasCleanDisk (state S.Store conn.new) → OnOk result ((head : Head) (ks : List KeptTurn)
-        → Holds (state S.Store conn.old) head ks → Holds (state S.Store conn.new) head ks) }
-    ensures crash { HasCleanDisk (state S.Store conn.new) → (head : Head) (ks : List KeptTurn)
-        → Holds (state S.Store conn.old) head ks → (db : Trees) → (state S.Store conn.new).may_leave db
-        → (state S.Store conn.old).may_leave db }
-{
-    conn.query_all(SELECT_HEAD, &[number_value(0), number_value(1)])
+    Ok(Heading {
+        format: value(row, 0)?,
+        catalogue: value(row, 1)?,
+    })
 }
 
 fn head_among(rows: &[Row]) -> Result<Heading, Fault>
     ensures head { IfOk result (λ h. (head : Head) → rows.now ≡ head_cells head ∷ [] → read_head h ≡ head) }
     ensures fault { IfErr result IsReadingFault }
 {
-    let [row] = rows else {
-        return Err(Fault::Damaged);
-    };
-    match heading_in(row) {
-        Ok(heading) => Ok(heading),
-        Err(error) => Err(Fault::of_reading(error)),
+    match rows {
+        [row] => heading_in(row),
+        _ => Err(Fault::Damaged),
     }
 }
 
 /// The format of the journal, and the digest of its catalogue file.
 pub fn catalogue<S: Alter>(conn: &mut Connection<S>) -> Result<Heading, Fault>
-    ensures clean { HasCleanDisk (state S.Store conn.new) → HasCleanDisk (state S.Store conn.old) }
+    ensures reads { OnlyReads (IsOk result) (state S.Store conn.old) (state S.Store conn.new) }
     ensures ok { HasCleanDisk (state S.Store conn.new) → IfOk result (λ h. (head : Head) (ks : List KeptTurn)
         → Holds (state S.Store conn.old) head ks → read_head h ≡ head) }
-    ensures same { HasCleanDisk (state S.Store conn.new) → OnOk result ((head : Head) (ks : List KeptTurn)
-        → Holds (state S.Store conn.old) head ks → Holds (state S.Store conn.new) head ks) }
-    ensures crash { HasCleanDisk (state S.Store conn.new) → (head : Head) (ks : List KeptTurn)
-        → Holds (state S.Store conn.old) head ks → (db : Trees) → (state S.Store conn.new).may_leave db
-        → (state S.Store conn.old).may_leave db }
     ensures fault { IfErr result IsReadingFault }
 {
-    let rows = match head_rows(conn) {
-        Ok(rows) => rows,
-        Err(error) => return Err(Fault::of_reading(error)),
-    };
-    head_among(rows.as_slice())
+    match conn.query_all(SELECT_HEAD, &[number_value(0), number_value(1)]) {
+        Ok(rows) => head_among(rows.as_slice()),
+        Err(error) => Err(Fault::of_reading(error)),
+    }
 }
 
 /// Commits the digest of another catalogue file, that the turns are to be read by from now on.
 pub fn accept<S: Alter>(conn: &mut Connection<S>, digest: &[u8; 32]) -> Result<(), Fault>
     ensures clean { HasCleanDisk (state S.Store conn.new) → HasCleanDisk (state S.Store conn.old) }
-    ensures ok { HasCleanDisk (state S.Store conn.new) → OnOk result ((head : Head) (ks : List KeptTurn)
-        → Holds (state S.Store conn.old) head ks → Holds (state S.Store conn.new)
-        (record head { catalogue = digest.now }) ks) }
-    ensures crash { HasCleanDisk (state S.Store conn.new) → (head : Head) (ks : List KeptTurn)
-        → Holds (state S.Store conn.old) head ks → (db : Trees) → (state S.Store conn.new).may_leave db
-        → (state S.Store conn.old).may_leave db ⊎ Stores (record head { catalogue = digest.now }) ks db }
-    ensures durable { HasCleanDisk (state S.Store conn.new) → OnOk result ((head : Head) (ks : List KeptTurn)
-        → Holds (state S.Store conn.old) head ks → (db : Trees) → (state S.Store conn.new).may_leave db
-        → Stores (record head { catalogue = digest.now }) ks db) }
+    ensures redates { HasCleanDisk (state S.Store conn.new) → (head : Head) (ks : List KeptTurn)
+        → Holds (state S.Store conn.old) head ks
+        → Commits (IsOk result) (record head { catalogue = digest.now }) ks (state S.Store conn.old)
+        (state S.Store conn.new) }
     ensures fault { IfErr result IsWritingFault }
     ensures told { HasCleanDisk (state S.Store conn.new) → IfErr result (RefusesDigest
         (state S.Store conn.old) (state S.Store conn.new) digest.now) }
@@ -111,17 +84,12 @@ pub fn accept<S: Alter>(conn: &mut Connection<S>, digest: &[u8; 32]) -> Result<(
 /// Whether a journal can be read: its tables are those of a journal, and its format is known. What the files
 /// hold stays.
 pub(crate) fn check<S: Alter>(conn: &mut Connection<S>) -> Result<(), Fault>
-    ensures clean { HasCleanDisk (state S.Store conn.new) → HasCleanDisk (state S.Store conn.old) }
+    ensures reads { OnlyReads (IsOk result) (state S.Store conn.old) (state S.Store conn.new) }
     ensures schema { OnOk result (IsJournal (state S.Store conn.old).now.schema) }
-    ensures same { HasCleanDisk (state S.Store conn.new) → OnOk result ((head : Head) (ks : List KeptTurn)
-        → Holds (state S.Store conn.old) head ks → Holds (state S.Store conn.new) head ks) }
     ensures known { HasCleanDisk (state S.Store conn.new) → OnOk result ((head : Head) (ks : List KeptTurn)
         → Holds (state S.Store conn.old) head ks → IsKnownFormat head.format) }
     ensures fault { HasCleanDisk (state S.Store conn.new) → IfErr result (λ fault. (head : Head)
         (ks : List KeptTurn) → Holds (state S.Store conn.old) head ks → RefusesFormat head.format fault) }
-    ensures crash { HasCleanDisk (state S.Store conn.new) → (head : Head) (ks : List KeptTurn)
-        → Holds (state S.Store conn.old) head ks → (db : Trees) → (state S.Store conn.new).may_leave db
-        → (state S.Store conn.old).may_leave db }
 {
     if !is_journal(conn.schema()) {
         return Err(Fault::NotAJournal);

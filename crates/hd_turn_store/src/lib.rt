@@ -6,8 +6,6 @@ mod fault;
 mod file;
 mod heading;
 mod mark;
-mod parts;
-mod reading;
 mod row;
 mod storing;
 mod table;

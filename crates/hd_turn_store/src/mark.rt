@@ -1,24 +1,14 @@
 //! The mark in a journal's file: whether a server has it open, or it was ended well.
 
 ghost use Rattle.std.specs.Prelude.{◌≡◌, ◌≤◌, ◌↔◌, List, [], IfErr, IfOk, IsTrue, OnOk, take};
-ghost use Rattle.sqlite.specs.Files.{HoldsDatabase, file_state};
-ghost use Rattle.sqlite.specs.Held.{state};
-ghost use Rattle.sqlite.specs.Recovery.{Image};
-ghost use Rattle.sqlite.specs.State.{HasCleanDisk, IsLive};
-ghost use Rattle.sqlite.specs.Steps.{IsFresh};
-ghost use Rattle.sqlite.specs.Tree.{Trees};
-ghost use Rattle.sqlite_pool.specs.Header.{user_version};
-ghost use Rattle.sqlite_store.specs.FileStore.{recovers, view};
-ghost use Rattle.sqlite_trees.specs.View.{IsClean, IsQuiet, IsRolledBack, doubt};
-ghost use Rattle.sqlite_wal.specs.Files.{outcomes};
-ghost use Rattle.sqlite_wal.specs.Reads.{AreClean};
-ghost use Rattle.hd_turn_store.specs.Crashes.{HoldsTurnsAlone};
+ghost use Rattle.hd_turn_store.specs.Words.{AreClean, HasCleanDisk, HoldsDatabase, Image, IsClean, IsFresh};
+ghost use Rattle.hd_turn_store.specs.Words.{IsLive, IsQuiet, IsRolledBack, Trees, doubt, file_state};
+ghost use Rattle.hd_turn_store.specs.Words.{outcomes, recovers, state, user_version, view};
 ghost use Rattle.hd_turn_store.specs.Faults.{IsWritingFault};
 ghost use Rattle.hd_turn_store.specs.Holds.{Holds};
 ghost use Rattle.hd_turn_store.specs.Kept.{Head, KeptTurn};
-ghost use Rattle.hd_turn_store.specs.Marks.{GetsMark, HasMark, HoldsMarkAlone, IsMarked, KeepsTurns};
-ghost use Rattle.hd_turn_store.specs.Marks.{MayGetMark, PutsMark, SaysMark, ShowsJournal, ended_mark};
-ghost use Rattle.hd_turn_store.specs.Marks.{open_mark};
+ghost use Rattle.hd_turn_store.specs.Marks.{GetsMark, HasMark, HoldsEnded, IsMarked, KeepsTurns, MayGetMark};
+ghost use Rattle.hd_turn_store.specs.Marks.{PutsMark, SaysMark, ShowsJournal, ended_mark, open_mark};
 
 use crate::fault::Fault;
 use crate::table::is_journal;
@@ -74,38 +64,23 @@ fn commit_mark<D: Disk>(store: &mut FileStore<D>, mark: u32) -> Result<(), Store
     if store.version() == mark {
         return Ok(());
     }
-    match store.set_version(mark) {
-        Ok(()) => {}
-        Err(error) => return Err(error),
-    }
-    match store.commit() {
-        Ok(()) => Ok(()),
-        Err(error) => Err(error),
-    }
+    store.set_version(mark)?;
+    store.commit()
 }
 
 /// Copies the log into the database file, commits a mark, and copies that. So the database file has no mark
 /// of an end before it has all else, and the log has room for the mark where the disk has none.
 fn put_mark<D: Disk>(store: &mut FileStore<D>, mark: u32) -> Result<(), StoreError>
     ensures clean { doubt (view store.old).is_clean ≤ doubt (view store.new).is_clean }
-    ensures open { IsClean (view store.new) → OnOk result (IsTrue (view store.old).is_open) }
-    ensures ok { IsClean (view store.new) → (view store.old).trees ≡ (view store.old).committed
-        → OnOk result (PutsMark mark store.old store.new) }
+    ensures ok { IsClean (view store.new) → OnOk result (IsTrue (view store.old).is_open
+        × ((view store.old).trees ≡ (view store.old).committed → PutsMark mark store.old store.new)) }
     ensures crash { (db : Trees) → recovers store.new db → MayGetMark store.old db }
 {
-    match store.checkpoint() {
-        Ok(()) => {}
-        Err(error) => return Err(error),
-    }
-    match commit_mark(store, mark) {
-        Ok(()) => {}
-        Err(error) => return Err(error),
-    }
+    store.checkpoint()?;
+    commit_mark(store, mark)?;
     store.rollback();
-    match store.checkpoint() {
-        Ok(()) => Ok(()),
-        Err(error) => Err(error),
-    }
+    store.checkpoint()?;
+    Ok(())
 }
 
 /// The store of a journal's file, with a mark. All that the journal has lies in the database file then, also
@@ -207,18 +182,13 @@ fn opened_again<S: Alter + Drop>(alloc: Global, store: S) -> Result<Connection<S
 pub fn end<D: Disk + Drop>(
     conn: Connection<FileStore<D>>,
 ) -> Result<Files<D>, (Fault, FileStore<D>)>
-    ensures copied { IfOk result (λ files. AreClean D.Disk files.log files.db
-        → (head : Head) (ks : List KeptTurn) → Holds (file_state conn) head ks
-        → (left : Image) → outcomes D.Disk files.log files.db left → HoldsTurnsAlone left head ks) }
     // The mark of a server that has it open is away.
     ensures ended { IfOk result (λ files. AreClean D.Disk files.log files.db
         → (head : Head) (ks : List KeptTurn) → Holds (file_state conn) head ks
-        → (left : Image) → outcomes D.Disk files.log files.db left → HoldsMarkAlone left ended_mark) }
+        → (left : Image) → outcomes D.Disk files.log files.db left → HoldsEnded left head ks) }
     ensures fault { IfErr result (λ e. IsWritingFault e.0) }
     ensures left { IfErr result (λ e. KeepsTurns conn e.1) }
 {
-    match with_mark(conn, ENDED) {
-        Ok(store) => Ok(store.close()),
-        Err(unended) => Err(unended),
-    }
+    let store = with_mark(conn, ENDED)?;
+    Ok(store.close())
 }

@@ -3,17 +3,14 @@
 ghost use Rattle.std.specs.Prelude.{◌≡◌, IfErr, IfOk};
 ghost use Rattle.std.specs.Option.{option_copied};
 ghost use Rattle.sqlite.specs.declared.types.Value.TheVariants.{Text as Words, Blob as Bytes};
-ghost use Rattle.sqlite.specs.Order.{column};
-ghost use Rattle.sqlite.specs.Values.{bound, bound_value, or_null};
-ghost use Rattle.sqlite_value.specs.Value.{owned};
+ghost use Rattle.hd_turn_store.specs.Words.{bound, bound_value, column, or_null, owned};
 ghost use Rattle.hd_turn_store.specs.Faults.{IsReadingFault};
 ghost use Rattle.hd_turn_store.specs.Kept.{cells, number_cell};
-ghost use Rattle.hd_turn_store.specs.Rows.{bytes_if, bytes_in, kept, number_if, number_in, read_cells};
-ghost use Rattle.hd_turn_store.specs.Rows.{text_if, text_in};
+ghost use Rattle.hd_turn_store.specs.Rows.{bytes_if, bytes_in, kept, read_cells, text_if, text_in};
 
 use crate::fault::Fault;
 use sqlite::Row;
-use sqlite::types::ValueRef;
+use sqlite::types::{FromSql, ValueRef};
 
 /// A turn, as it is kept in a journal. It lends its texts: those of whoever hands it in, or of the row of
 /// values that it is read from.
@@ -54,13 +51,13 @@ impl<'a> TurnRow<'a> {
     ///
     /// # Errors
     /// `Damaged`, where one of them isn't of its column's kind.
-    #[tactic(auto, unfolding(crate::specs::Rows::read_cells))]
+    #[tactic(auto, using(crate::proofs::Queries::number_read), unfolding(crate::specs::Rows::read_cells))]
     pub fn of(row: &'a Row) -> Result<TurnRow<'a>, Fault>
         ensures turn { IfOk result (λ turn. kept turn ≡ read_cells row.now) }
         ensures fault { IfErr result IsReadingFault }
     {
         Ok(TurnRow {
-            seat: number(row, 0)?,
+            seat: value(row, 0)?,
             terminal: text(row, 1)?,
             day: text(row, 2)?,
             act: text(row, 3)?,
@@ -72,7 +69,7 @@ impl<'a> TurnRow<'a> {
             until: text_if_any(row, 9)?,
             line: bytes_if_any(row, 10)?,
             outcome: text(row, 11)?,
-            number: number_if_any(row, 12)?,
+            number: value(row, 12)?,
             reply: bytes(row, 13)?,
         })
     }
@@ -111,52 +108,29 @@ pub(crate) fn number_value(number: u32) -> ValueRef<'static>
 fn text_or_null(text: Option<&[u8]>) -> ValueRef<'_>
     ensures { bound_value (owned result) ≡ or_null Words (option_copied text.entry) }
 {
-    match text {
-        Some(text) => ValueRef::Text(text),
-        None => ValueRef::Null,
-    }
+    text.map_or(ValueRef::Null, ValueRef::Text)
 }
 
 fn bytes_or_null(bytes: Option<&[u8]>) -> ValueRef<'_>
     ensures { bound_value (owned result) ≡ or_null Bytes (option_copied bytes.entry) }
 {
-    match bytes {
-        Some(bytes) => ValueRef::Blob(bytes),
-        None => ValueRef::Null,
-    }
+    bytes.map_or(ValueRef::Null, ValueRef::Blob)
 }
 
 fn number_or_null(number: Option<u32>) -> ValueRef<'static>
     ensures { bound_value (owned result) ≡ or_null number_cell number }
 {
-    match number {
-        Some(number) => number_value(number),
-        None => ValueRef::Null,
-    }
+    number.map_or(ValueRef::Null, number_value)
 }
 
-/// The number in a column.
-fn number(row: &Row, at: usize) -> Result<u32, Fault>
-    ensures number { IfOk result (λ number. number ≡ number_in (column row.now at)) }
+/// The value in a column.
+pub(crate) fn value<T: FromSql>(row: &Row, at: usize) -> Result<T, Fault>
+    ensures value { IfOk result (λ value. T.FromSql.reads_as (column row.now at) value) }
     ensures fault { IfErr result IsReadingFault }
 {
-    match row.get::<u32>(at) {
-        Ok(number) => Ok(number),
+    match row.get(at) {
+        Ok(value) => Ok(value),
         Err(error) => Err(Fault::of_reading(error)),
-    }
-}
-
-/// The number in a column, where it has one.
-fn number_if_any(row: &Row, at: usize) -> Result<Option<u32>, Fault>
-    ensures number { IfOk result (λ number. number ≡ number_if (column row.now at)) }
-    ensures fault { IfErr result IsReadingFault }
-{
-    match row.get_ref(at) {
-        Ok(ValueRef::Null) => Ok(None),
-        _ => match row.get::<u32>(at) {
-            Ok(number) => Ok(Some(number)),
-            Err(error) => Err(Fault::of_reading(error)),
-        },
     }
 }
 

@@ -1,42 +1,38 @@
 //! A journal's turns: beginning it, a commit a turn, and reading them back.
 
-ghost use Rattle.std.specs.Prelude.{◌≡◌, ◌⊎◌, ◌∷◌, ◌++◌, [], false, List, IfOk, IfErr, OnOk, map, take, drop};
-ghost use Rattle.sqlite.specs.State.{HasCleanDisk};
-ghost use Rattle.sqlite.specs.Held.{state};
-ghost use Rattle.sqlite.specs.Tree.{Trees};
-ghost use Rattle.hd_turn_store.specs.Kept.{KeptTurn, Head, cells, new_head, piece};
-ghost use Rattle.hd_turn_store.specs.Tables.{Stores, journal_schema, no_schema};
-ghost use Rattle.hd_turn_store.specs.Holds.{Holds};
+ghost use Rattle.std.specs.Prelude.{◌≡◌, ◌⊎◌, ◌∷◌, ◌++◌, ◌+◌, [], false, List, IfOk, IfErr, IsOk, OnOk, map};
+ghost use Rattle.std.specs.Prelude.{take, drop};
+ghost use Rattle.hd_turn_store.specs.Words.{HasCleanDisk, Survives, bound_value, owned, state};
+ghost use Rattle.hd_turn_store.specs.Kept.{KeptTurn, Head, cells, new_head, number_cell, piece};
+ghost use Rattle.hd_turn_store.specs.Tables.{journal_schema, no_schema};
+ghost use Rattle.hd_turn_store.specs.Holds.{Commits, HasEmpty, Holds, OnlyReads, SeesTurns};
 ghost use Rattle.hd_turn_store.specs.Rows.{kept, read_cells};
 ghost use Rattle.hd_turn_store.specs.Faults.{IsWritingFault, IsReadingFault, RefusesTurn};
 
-use crate::columns::INSERT_TURN;
+use crate::columns::{
+    CREATE_INDEX, CREATE_JOURNAL, CREATE_TURN, INSERT_JOURNAL, INSERT_TURN, SELECT_TURNS,
+};
 use crate::fault::Fault;
-use crate::parts::fill;
-use crate::reading::rows_after;
-use crate::row::TurnRow;
+use crate::heading::FORMAT;
+use crate::row::{TurnRow, number_value};
 use crate::table::is_blank;
-use sqlite::{Alter, Connection, Error, Row};
+use sqlite::types::ValueRef;
+use sqlite::{Alter, Connection, Error, Row, Transaction};
+
+/// How many turns are read at a time.
+const PIECE: u32 = 1024;
 
 /// Begins a journal in a database that has no table: both tables and the head, in one transaction.
 /// `digest` is the SHA-256 of the catalogue file. A database that has a table is `NotAJournal`.
 pub fn begin<S: Alter>(conn: &mut Connection<S>, digest: &[u8; 32]) -> Result<(), Fault>
     ensures clean { HasCleanDisk (state S.Store conn.new) → HasCleanDisk (state S.Store conn.old) }
-    ensures ok { HasCleanDisk (state S.Store conn.new) → OnOk result (Holds (state S.Store conn.new)
-        (new_head digest.now) []) }
-    ensures crash { HasCleanDisk (state S.Store conn.new) → (db : Trees)
-        → (state S.Store conn.new).may_leave db → (state S.Store conn.old).may_leave db
-        ⊎ Stores (new_head digest.now) [] db }
-    ensures durable { HasCleanDisk (state S.Store conn.new) → OnOk result ((db : Trees)
-        → (state S.Store conn.new).may_leave db → Stores (new_head digest.now) [] db) }
+    ensures begins { HasCleanDisk (state S.Store conn.new)
+        → Commits (IsOk result) (new_head digest.now) [] (state S.Store conn.old) (state S.Store conn.new) }
     ensures index { HasCleanDisk (state S.Store conn.new)
         → OnOk result ((state S.Store conn.new).now.schema ≡ journal_schema) }
     ensures fault { IfErr result (λ f. (f ≡ Fault.NotAJournal) ⊎ IsWritingFault f) }
 {
-    if !conn.is_autocommit() {
-        return Err(Fault::NotAJournal);
-    }
-    if !is_blank(conn.schema()) {
+    if !conn.is_autocommit() || !is_blank(conn.schema()) {
         return Err(Fault::NotAJournal);
     }
     match begin_blank(conn, digest) {
@@ -49,17 +45,32 @@ fn begin_blank<S: Alter>(conn: &mut Connection<S>, digest: &[u8; 32]) -> Result<
     requires outside { conn.old.in_transaction ≡ false }
     requires blank { (state S.Store conn.old).now.schema ≡ no_schema }
     ensures clean { HasCleanDisk (state S.Store conn.new) → HasCleanDisk (state S.Store conn.old) }
-    ensures ok { HasCleanDisk (state S.Store conn.new) → OnOk result (Holds (state S.Store conn.new)
-        (new_head digest.now) []) }
+    ensures begins { HasCleanDisk (state S.Store conn.new)
+        → Commits (IsOk result) (new_head digest.now) [] (state S.Store conn.old) (state S.Store conn.new) }
     ensures index { HasCleanDisk (state S.Store conn.new)
         → OnOk result ((state S.Store conn.new).now.schema ≡ journal_schema) }
-    ensures crash { HasCleanDisk (state S.Store conn.new) → (db : Trees)
-        → (state S.Store conn.new).may_leave db → (state S.Store conn.old).may_leave db
-        ⊎ Stores (new_head digest.now) [] db }
 {
     let mut tx = conn.transaction();
     fill(&mut tx, digest)?;
     tx.commit()
+}
+
+/// Makes both tables, the index and the head.
+fn fill<S: Alter>(tx: &mut Transaction<'_, S>, digest: &[u8; 32]) -> Result<(), Error>
+    ensures same_reference { tx.new.conn.ghost_name ≡ tx.old.conn.ghost_name }
+    ensures ok { HasCleanDisk (state S.Store tx.new.conn.now)
+        → OnOk result (HasEmpty no_schema (state S.Store tx.old.conn.now)
+        → SeesTurns (state S.Store tx.new.conn.now) (new_head digest.now) []) }
+    ensures survives { Survives (state S.Store tx.old.conn.now) (state S.Store tx.new.conn.now) (λ _. ⊥) }
+{
+    tx.execute(CREATE_JOURNAL, &[])?;
+    tx.execute(CREATE_TURN, &[])?;
+    tx.execute(CREATE_INDEX, &[])?;
+    tx.execute(
+        INSERT_JOURNAL,
+        &[number_value(FORMAT), ValueRef::Blob(digest)],
+    )?;
+    Ok(())
 }
 
 /// Commits one turn more. Where it fails, the file holds the turns before or these and the new one.
@@ -68,15 +79,9 @@ fn begin_blank<S: Alter>(conn: &mut Connection<S>, digest: &[u8; 32]) -> Result<
 /// SQLite's own, so that the operator is told why.
 pub fn append<S: Alter>(conn: &mut Connection<S>, row: &TurnRow<'_>) -> Result<(), Error>
     ensures clean { HasCleanDisk (state S.Store conn.new) → HasCleanDisk (state S.Store conn.old) }
-    ensures ok { HasCleanDisk (state S.Store conn.new) → OnOk result ((head : Head) (ks : List KeptTurn)
-        → Holds (state S.Store conn.old) head ks
-        → Holds (state S.Store conn.new) head (ks ++ kept row.now ∷ [])) }
-    ensures crash { HasCleanDisk (state S.Store conn.new) → (head : Head) (ks : List KeptTurn)
-        → Holds (state S.Store conn.old) head ks → (db : Trees) → (state S.Store conn.new).may_leave db
-        → (state S.Store conn.old).may_leave db ⊎ Stores head (ks ++ kept row.now ∷ []) db }
-    ensures durable { HasCleanDisk (state S.Store conn.new) → OnOk result ((head : Head) (ks : List KeptTurn)
-        → Holds (state S.Store conn.old) head ks → (db : Trees) → (state S.Store conn.new).may_leave db
-        → Stores head (ks ++ kept row.now ∷ []) db) }
+    ensures adds { HasCleanDisk (state S.Store conn.new) → (head : Head) (ks : List KeptTurn)
+        → Holds (state S.Store conn.old) head ks → Commits (IsOk result) head (ks ++ kept row.now ∷ [])
+        (state S.Store conn.old) (state S.Store conn.new) }
     ensures err { HasCleanDisk (state S.Store conn.new) → IfErr result (RefusesTurn (state S.Store conn.old)
         (state S.Store conn.new) (kept row.now)) }
 {
@@ -89,25 +94,27 @@ pub fn append<S: Alter>(conn: &mut Connection<S>, row: &TurnRow<'_>) -> Result<(
 
 /// The rows of the turns after the first `after`, in their order, at most 1,024 of them.
 pub fn turns<S: Alter>(conn: &mut Connection<S>, after: u32) -> Result<Vec<Row>, Fault>
-    ensures clean { HasCleanDisk (state S.Store conn.new) → HasCleanDisk (state S.Store conn.old) }
+    ensures reads { OnlyReads (IsOk result) (state S.Store conn.old) (state S.Store conn.new) }
     ensures ok { HasCleanDisk (state S.Store conn.new) → IfOk result (λ rows. (head : Head)
         (ks : List KeptTurn) → Holds (state S.Store conn.old) head ks → map read_cells rows.items
         ≡ take piece (drop after ks)) }
-    ensures same { HasCleanDisk (state S.Store conn.new) → OnOk result ((head : Head) (ks : List KeptTurn)
-        → Holds (state S.Store conn.old) head ks → Holds (state S.Store conn.new) head ks) }
-    ensures crash { HasCleanDisk (state S.Store conn.new) → (head : Head) (ks : List KeptTurn)
-        → Holds (state S.Store conn.old) head ks → (db : Trees) → (state S.Store conn.new).may_leave db
-        → (state S.Store conn.old).may_leave db }
     ensures fault { IfErr result IsReadingFault }
 {
-    match rows_after(conn, after) {
+    match conn.query_all(SELECT_TURNS, &[number_value(after), last_after(after)]) {
         Ok(rows) => Ok(rows),
         Err(error) => Err(Fault::of_reading(error)),
     }
 }
 
+/// The number of the last turn of a piece, as a value.
+fn last_after(after: u32) -> ValueRef<'static>
+    ensures { bound_value (owned result) ≡ number_cell (after + 1024) }
+{
+    ValueRef::Int(i64::from(after) + i64::from(PIECE))
+}
+
 /// What is read of a turn's values is the turn.
-#[tactic(auto, using(crate::proofs::Decodes::read_back))]
+#[tactic(auto, using(crate::proofs::Queries::read_back))]
 pub fn a_turn_is_read_of_its_values()
     ensures { (k : KeptTurn) → read_cells (cells k) ≡ k }
 {}

@@ -1,9 +1,7 @@
 //! Whether a database has a journal's tables and nothing else, or no table yet.
 
 ghost use Rattle.std.specs.Prelude.{◌≡◌, ◌⊎◌, ◌∷◌, [], false, IsTrue, map};
-ghost use Rattle.hd_turn_store.specs.Columns.{column_of};
-ghost use Rattle.hd_turn_store.specs.Tables.{IsJournal, column, journal_table, no_schema, number_index};
-ghost use Rattle.hd_turn_store.specs.Tables.{table_by, turn_table};
+ghost use Rattle.hd_turn_store.specs.Tables.{IsJournal, column, column_of, no_schema, number_index, table_by};
 ghost use Rattle.sqlite.specs.Kind.TheVariants.{Integer};
 
 use crate::columns::{COLUMNS, Column, HEAD_COLUMNS};
@@ -54,13 +52,13 @@ fn are_keyed(found: &[Found], key: &[u8], wanted: &[Column]) -> bool
     }
 }
 
-/// Whether a table has its first column as its key, and no other rule.
-fn is_table(found: &Table, name: &[u8], tree: u32) -> bool
-    ensures { IsTrue result → found.now
-        ≡ record (table_by name.now tree [] []) { columns = found.now.columns } }
+/// Whether a table has this key as its first column, these others, and no other rule.
+fn is_table(found: &Table, name: &[u8], tree: u32, key: &[u8], wanted: &[Column]) -> bool
+    ensures { IsTrue result → found.now ≡ table_by name.now tree key.now (map column_of wanted.now) }
 {
     found.name.as_slice() == name
         && found.tree == tree
+        && are_keyed(found.columns.as_slice(), key, wanted)
         && found.key == Some(0)
         && found.primary.as_slice() == [0].as_slice()
         && found.uniques.is_empty()
@@ -72,20 +70,6 @@ fn is_table(found: &Table, name: &[u8], tree: u32) -> bool
         && found.stamps.terms.roots.is_empty()
         && found.stamps.formats.is_empty()
         && !found.is_counted
-}
-
-/// Whether it is the table of the journal's head.
-fn is_journal_table(found: &Table) -> bool
-    ensures { IsTrue result → found.now ≡ journal_table }
-{
-    is_table(found, b"journal", 0) && are_keyed(found.columns.as_slice(), b"only", &HEAD_COLUMNS)
-}
-
-/// Whether it is the table of turns.
-fn is_turn_table(found: &Table) -> bool
-    ensures { IsTrue result → found.now ≡ turn_table }
-{
-    is_table(found, b"turn", 1) && are_keyed(found.columns.as_slice(), b"at", &COLUMNS)
 }
 
 /// Whether it is the index of turns by number.
@@ -116,8 +100,8 @@ pub fn is_journal(schema: &Schema) -> bool
     ensures { IsTrue result → IsJournal schema.now }
 {
     match schema.tables.as_slice() {
-        [journal, turn] => is_journal_table(journal)
-            && is_turn_table(turn)
+        [journal, turn] => is_table(journal, b"journal", 0, b"only", &HEAD_COLUMNS)
+            && is_table(turn, b"turn", 1, b"at", &COLUMNS)
             && are_indexes(schema.indexes.as_slice())
             && schema.views.is_empty(),
         _ => false,

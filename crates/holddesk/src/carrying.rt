@@ -1,13 +1,13 @@
 //! What `carry` does: it ends a journal, and writes how the next one begins.
 
-use crate::beginning::begin_at;
+use crate::beginning::begin_anew;
 use crate::carried::{Carried, Way, carry_desk};
 use crate::ending::end_journal;
 use crate::fault::Fault;
 use crate::folder::{Paths, last_period};
 use crate::keeping::{Keeping, open_over};
 use crate::library::Library;
-use crate::presence::{remove_journal, see_no_file};
+use crate::presence::see_no_file;
 use crate::reading::read_file;
 use crate::writing::{name_part, part_path, write_whole};
 use hd_command_line::{Carry, LibraryFiles, Place};
@@ -64,12 +64,6 @@ fn way_of<'to, 'off, 'into>(
         write_off: order.write_off,
         into,
     }
-}
-
-/// Begins the journal of a period that isn't complete yet. What a carry that was broken off left of it goes.
-fn begin_anew(rt: &HostRuntime, path: &str, digest: &[u8; 32]) -> Result<(), Fault> {
-    remove_journal(rt, path)?;
-    begin_at(rt, path, digest)
 }
 
 /// Carries the desk of a library's journal over, and ends the journal: the opening is then beside its path.

@@ -6,9 +6,10 @@ use crate::writing::write_whole;
 use hd_catalogue::OffsetMinutes;
 use hd_command_line::Import;
 use hd_import::{
-    Encoding, Fault as SheetFault, Format, Imported, Settings, Source, Sources, import,
+    Encoding, Fault as SheetFault, Format, Imported, Settings, Sheet, Source, Sources, all_sheets,
+    import, unused_headings,
 };
-use std::alloc::Global;
+use std::alloc::{AllocError, Global};
 
 /// The files of the sheets, as they were read.
 struct Sheets {
@@ -32,7 +33,8 @@ impl Drop for Sheets {
     }
 }
 
-/// Makes a catalogue file of sheets, puts it in its place, and tells what it has.
+/// Makes a catalogue file of sheets, puts it in its place, and tells what it has, and what of the sheets it
+/// doesn't.
 pub(crate) fn import_sheets(rt: &HostRuntime, order: &Import<'_>) -> Result<(), Fault> {
     let sheets = read_sheets(rt, order)?;
     let Imported { text, catalogue } = imported(rt.alloc(), order, &sheets)?;
@@ -45,7 +47,53 @@ pub(crate) fn import_sheets(rt: &HostRuntime, order: &Import<'_>) -> Result<(), 
         catalogue.titles(),
         catalogue.copies()
     )?;
+    tell_unused(rt, order, &sheets)
+}
+
+/// Tells which headings of the sheets aren't used, in a line for each sheet that has such.
+fn tell_unused(rt: &HostRuntime, order: &Import<'_>, sheets: &Sheets) -> Result<(), Fault> {
+    tell_unused_in(rt, format_of(order), &sources_of(order, sheets))
+}
+
+/// Tells which headings of sheets aren't used, where they are written so.
+fn tell_unused_in(rt: &HostRuntime, format: Format, sources: &Sources<'_>) -> Result<(), Fault> {
+    for sheet in all_sheets() {
+        tell_unused_of(rt, format, *sheet, sources.file_of(*sheet))?;
+    }
     Ok(())
+}
+
+/// Tells which headings of a sheet aren't used, if there are such. Its rows were had before, so that memory
+/// alone can be wanting.
+fn tell_unused_of(
+    rt: &HostRuntime,
+    format: Format,
+    sheet: Sheet,
+    file: Source<'_>,
+) -> Result<(), Fault> {
+    let alloc = rt.alloc();
+    let Ok(unused) = unused_headings(alloc, format, sheet, file) else {
+        return Err(Fault::Memory);
+    };
+    if !unused.is_empty() {
+        let headings = unused.as_slice().join(alloc, ", ")?;
+        let line = in_a_line(alloc, headings.as_str())?;
+        println!(rt; "{}: not used: {line}", file.path)?;
+    }
+    Ok(())
+}
+
+/// A text with a blank in the place of each control character, as a heading's end of a line.
+fn in_a_line(alloc: Global, text: &str) -> Result<String, AllocError> {
+    let mut line = String::new(alloc);
+    for character in text.chars() {
+        line.push(if character.is_control() {
+            ' '
+        } else {
+            character
+        })?;
+    }
+    Ok(line)
 }
 
 /// The catalogue file that sheets make.

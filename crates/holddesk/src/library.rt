@@ -102,17 +102,25 @@ impl Library {
     /// # Errors
     /// The file can't be read, or is refused.
     pub(crate) fn opened(self, rt: &HostRuntime, path: &str) -> Result<Library, Fault> {
+        let file = read_file(rt, "opening", path)?;
+        self.opened_by(rt, file.as_slice())
+    }
+
+    /// The library whose journal begins as an opening file with these bytes says.
+    ///
+    /// # Errors
+    /// It is refused.
+    pub(crate) fn opened_by(self, rt: &HostRuntime, file: &[u8]) -> Result<Library, Fault> {
         let Library {
             catalogue,
             digest,
             is_text,
         } = self;
-        let file = read_file(rt, "opening", path)?;
-        let opening = hd_opening::read(rt.alloc(), &catalogue, &digest, file.as_slice())?;
+        let opening = hd_opening::read(rt.alloc(), &catalogue, &digest, file)?;
         let Opening { rows, last } = opening;
         Ok(Library {
             catalogue: catalogue.with_opening(rows, last)?,
-            digest: Sha256::digest(file.as_slice()),
+            digest: Sha256::digest(file),
             is_text,
         })
     }

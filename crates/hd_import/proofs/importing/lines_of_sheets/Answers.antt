@@ -23,12 +23,12 @@ loop-sheet-preserved c =
     let put = c.in_ok-count.ensures.lines in
     let pushed : c.push.new.self.items ≡ c.loop-sheet.counts.items ++ c.in_ok-count.count ∷ [] =
     grind (arith, common_steps) in
-    rw (pushed, put.5)
+    rw (pushed, put.6)
     (table_step c.args.settings.now c.args.format c.args.sources.now c.all_sheets-sheets.result.now
     c.loop-sheet.sheet-index _
     (string_bytes c.loop-sheet.text) (string_bytes c.put_sheet.new.out) c.loop-sheet.counts.items
     c.file_of-file.result.bytes.now put.0 put.1 c.loop-sheet-test.true
-    c.loop-sheet.invariant (ap (λ (f : Source). f.bytes.now) c.file_of-file.ensures) put.2 put.3 put.4)
+    c.loop-sheet.invariant (ap (λ (f : Source). f.bytes.now) c.file_of-file.ensures) put.2 put.3 put.4 put.5)
 
 pub returns-clause-lines : goal.returns-clause-lines
 returns-clause-lines c =

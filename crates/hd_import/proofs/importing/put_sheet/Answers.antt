@@ -2,7 +2,7 @@ use Rattle.std.proofs.Common.{◌≡◌, ◌∷◌, [], ◌∙◌, sym, refl, ap
 use Rattle.std.proofs.lemmas.Grind.{common_steps}
 use Rattle.std.proofs.lemmas.List.{length-map, nil_from_length}
 use Rattle.std.proofs.lemmas.List.Elements.{All-map}
-use Rattle.csv.specs.Records.{Row as Record, fields_of}
+use Rattle.csv.specs.Records.{fields_of}
 use Rattle.hd_import.specs.Rows.{AreRowsOfFile, Row}
 use Rattle.hd_import.specs.Texts.{is_fit_row}
 use Rattle.hd_import.proofs.FaultLemmas.{first_missing}
@@ -18,6 +18,7 @@ returns-in-Ok-put_rows-clause-lines c =
       map fields_of rest,
       subst (λ (rows : List Row). AreRowsOfFile c.args.format c.args.file.bytes.now rows)
           (ap (map fields_of) split) c.in-Ok.ensures.rows,
+      c.in-Ok.ensures.closed,
       All-map (λ (row : Row). is_fit_row c.args.settings.now c.args.sheet headings row ≡ true) fields_of rest
           c.in-Ok-put_rows.ensures.fit,
       c.in-Ok-put_rows.ensures.text,
@@ -26,7 +27,7 @@ returns-in-Ok-put_rows-clause-lines c =
 
 pub returns-in-Err-clause-refused : goal.returns-in-Err-clause-refused
 returns-in-Err-clause-refused c =
-    c.fault_of_file.ensures c.args.settings.now c.args.format c.args.sheet c.in-Err.ensures.refused
+    c.fault_of_file.ensures c.args.settings.now c.args.sheet c.in-Err.ensures.refused
 
 pub returns-in_default-clause-refused : goal.returns-in_default-clause-refused
 returns-in_default-clause-refused c =

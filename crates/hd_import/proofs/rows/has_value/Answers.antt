@@ -1,4 +1,4 @@
-use Rattle.std.proofs.Common.{sym, arith, length, ◌≡◌, ◌<◌, ◌≤◌}
+use Rattle.std.proofs.Common.{sym, arith, length}
 use Rattle.std.specs.Prelude.{not, ◌==◌}
 use Rattle.std.proofs.lemmas.Grind.{common_steps}
 use Rattle.csv.specs.Records.{fields_of}

@@ -1,4 +1,4 @@
-use Rattle.std.proofs.Common.{Bor, List, ℕ, ◌≡◌, ◌∙◌, sym, ap, refl, inl, inr, false, map, Some, None, ◌∷◌}
+use Rattle.std.proofs.Common.{Bor, List, ℕ, ◌≡◌, ◌∙◌, sym, ap, refl, inl, inr, false, map, Some, ◌∷◌}
 use Rattle.std.proofs.Common.{◌++◌, [], arith}
 use Rattle.std.specs.List.{filter}
 use Rattle.std.specs.Str as Str

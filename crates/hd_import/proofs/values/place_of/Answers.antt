@@ -1,4 +1,4 @@
-use Rattle.std.proofs.Common.{sym, arith, ◌≡◌, ◌<◌, ◌≤◌, ◌∙◌}
+use Rattle.std.proofs.Common.{sym, arith}
 use Rattle.std.proofs.lemmas.Grind.{common_steps}
 use Rattle.csv.specs.Records.{fields_of}
 use Rattle.hd_import.specs.Values.{is_heading}

@@ -1,4 +1,4 @@
-use Rattle.std.proofs.Common.{◌≡◌, ◌++◌, ◌<◌, map, string_bytes, take, true, [], All}
+use Rattle.std.proofs.Common.{◌≡◌, ◌++◌, map, string_bytes, take, true, All}
 use Rattle.csv.specs.Records.{fields_of}
 use Rattle.hd_import.specs.Texts.{is_fit_row, text_of_rows}
 use Rattle.hd_import.proofs.writing.put_rows.Given as goal

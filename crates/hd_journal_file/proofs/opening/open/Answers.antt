@@ -2,6 +2,7 @@ use Rattle.std.proofs.Common.{◌∙◌, List, [], refl, sym, subst, true≢fals
 use Rattle.hd_rules.specs.Journal.{Turn}
 use Rattle.hd_turn_row.specs.Rows.{AreTurnRows}
 use Rattle.hd_turn_store.specs.Kept.{new_head}
+use Rattle.hd_journal_file.specs.Opening.{wanted_head}
 use Rattle.hd_journal_file.proofs.opening.open.Goals as goal
 
 -- a file that was begun
@@ -11,6 +12,7 @@ durable-requires-clause-held g c reliable =
     let head = new_head c.args.wanted.now.digest.now in
     record {
       head = head;
+      catalogue = refl;
       rows = [];
       holds = c.in_ok-begun.ensures.same reliable.clean head []
           (c.in_ok-conn.ensures.begun early c.if-is_new.true);
@@ -27,7 +29,8 @@ durable-requires-2-clause-held g c reliable =
     let seen = c.in_ok-conn.ensures.restored early c.if-is_new.false found.0 found.1 found.2 in
     let taken = c.in_ok-take_again.ensures.taken late found.0 found.1 seen in
     record {
-      head = _;
+      head = wanted_head c.args.wanted.now found.0;
+      catalogue = refl;
       rows = found.1;
       holds = c.in_ok-taken.ensures.same reliable.clean _ found.1 taken.holds;
       are = taken.are;

@@ -1,6 +1,7 @@
 use Rattle.std.proofs.Common.{◌∙◌, List, [], refl, sym, subst, true≢false}
 use Rattle.hd_rules.specs.Journal.{Turn}
 use Rattle.hd_turn_row.specs.Rows.{AreTurnRows}
+use Rattle.hd_journal_file.specs.Opening.{wanted_head}
 use Rattle.hd_journal_file.proofs.opening.open_over.Goals as goal
 
 pub durable-requires-clause-held : goal.durable-requires-clause-held
@@ -8,6 +9,7 @@ durable-requires-clause-held g c reliable =
     let begun = c.requires.begun reliable.clean c.if-is_new.true in
     record {
       head = begun.0;
+      catalogue = tt;
       rows = [];
       holds = begun.1;
       are = subst (λ (turns : List Turn). AreTurnRows c.args.journal.contents begun.0.format turns [])
@@ -24,7 +26,13 @@ durable-requires-2-clause-held g c reliable =
     let early = c.take_again.ensures.clean reliable.clean in
     let seen = c.requires.seen early c.if-is_new.false found.0 found.1 found.2 in
     let taken = c.in_ok-take_again.ensures.taken reliable.clean found.0 found.1 seen in
-    record { head = _; rows = found.1; holds = taken.holds; are = taken.are }
+    record {
+      head = wanted_head c.args.wanted.now found.0;
+      catalogue = refl;
+      rows = found.1;
+      holds = taken.holds;
+      are = taken.are;
+    }
 
 pub returns-clause-taken : goal.returns-clause-taken
 returns-clause-taken g c clean old head rows holds =

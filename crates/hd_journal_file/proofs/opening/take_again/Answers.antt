@@ -1,4 +1,4 @@
-use Rattle.std.proofs.Common.{ℕ, sym, ◌∙◌, subst, inl, inr, IsTrue, true≢false}
+use Rattle.std.proofs.Common.{ℕ, refl, sym, ◌∙◌, subst, inl, inr, IsTrue, true≢false}
 use Rattle.hd_lemmas.proofs.Results.{on_err}
 use Rattle.hd_journal_file.specs.Opening.{MayBeTaken}
 use Rattle.hd_journal_file.specs.declared.open_fault.OpenFault.TheVariants.{Turns}
@@ -56,7 +56,7 @@ returns-in_err-accept-clause-left g c clean =
       | else-not-is_same-via-else-not-is_same w ↦ absurd
           (true≢false (sym w.if-not-is_same.false ∙ c.if-not-is_same-2.true))
     ] in
-    elim (c.accept.ensures.crash clean head rows then.0 db may) [
+    elim ((c.accept.ensures.redates clean head rows then.0).crash db may) [
       | inl was ↦ inl (c.head_of.ensures.crash early head rows holds db
           (c.restore_turns.ensures.crash late head rows first db was))
       | inr stores ↦ inr (record {
@@ -81,6 +81,6 @@ returns-in_ok-accept-clause-taken g c clean head rows holds =
     ] in
     record {
       may_be = inr accepted;
-      holds = c.in_ok-accept.ensures.ok clean head rows then.0;
+      holds = (c.in_ok-accept.ensures.redates clean head rows then.0).done refl;
       are = are_in _ _ _ _ _ (c.in_ok-found.ensures.format early head rows holds) then.1;
     }

@@ -38,3 +38,10 @@ returns-in_err-last-clause-why g c clean =
     let all = ap (map read_cells) c.as_slice.ensures.value ∙ c.in-Ok.ensures.ok clean head rows holds in
     subst (λ (ks : List KeptTurn). RefusesRows c.args.format c.args.journal.now ks c.args.after
     c.in_err-last.field-0.0) all c.in_err-last.ensures.why)
+
+pub returns-then-is_empty-clause-same : goal.returns-then-is_empty-clause-same
+returns-then-is_empty-clause-same g c clean head rows holds =
+    c.in-Ok.ensures.reads.same refl clean head rows holds
+
+pub returns-clause-same : goal.returns-clause-same
+returns-clause-same g c clean head rows holds = c.in-Ok.ensures.reads.same refl clean head rows holds

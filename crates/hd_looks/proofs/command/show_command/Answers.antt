@@ -5,6 +5,7 @@ use Rattle.hd_looks.specs.declared.row.Row.TheVariants.{Command}
 use Rattle.hd_looks.specs.PageValue.{PageValue}
 use Rattle.hd_looks.specs.Rows.{change_rows}
 use Rattle.hd_looks.proofs.Changed.{few_changes}
+use Rattle.hd_looks.proofs.Searched.{nothing_searched}
 use Rattle.hd_looks.proofs.command.show_command.Goals as goal
 
 pub list_changes-requires : goal.list_changes-requires
@@ -29,7 +30,12 @@ returns-clause-rows g c =
       (
         c.in-Some.ensures,
         c.first_dependent-dependent.result,
-        c.first_dependent-dependent.ensures,
+        c.first_dependent-dependent.ensures.first,
         rows,
       ),
     )
+
+pub returns-in_default-clause-work : goal.returns-in_default-clause-work
+returns-in_default-clause-work g c =
+    nothing_searched (facts c.args.journal.now) (state c.args.journal.now).survivors c.args.number _
+    c.in_default.ensures

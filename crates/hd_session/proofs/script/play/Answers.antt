@@ -12,7 +12,7 @@ feed-requires g c =
     let k = (g.O.Office.keeps c.args.office.now).contents in
     let session = c.index-sessions-session.result in
     record {
-      place = one_of_known k c.args.sessions.now c.args.session session c.requires.known
+      login = one_of_known k c.args.sessions.now c.args.session session c.requires.known
           c.requires.session;
     }
 

@@ -1,4 +1,4 @@
-use Rattle.std.proofs.Common.{inl, inr, sym, subst}
+use Rattle.std.proofs.Common.{inl, inr, subst, sym}
 use Rattle.std.proofs.lemmas.Result.{err_from_is_err_and}
 use Rattle.hd_rules.specs.Messages.{SeatMessage, message_of}
 use Rattle.hd_turn_row.specs.Rows.{IsRowOf}
@@ -16,17 +16,13 @@ returns-in_err-parts-clause-fault g c =
 pub returns-in_err-parts-clause-none : goal.returns-in_err-parts-clause-none
 returns-in_err-parts-clause-none g c =
     let p = err_from_is_err_and c.from_residual.result c.from_residual.ensures.1 in
-    rw p.1 (λ seat message.
-    c.a_row_is_of_one_message.ensures.none c.args.catalogue.now seat message (kept c.args.row.now)
-    c.in_err-parts.field-0.0
+    rw p.1 (λ seat message. c.a_row_is_of_one_message.ensures.none _ seat message _ c.in_err-parts.field-0.0
     (inl (inr ((c.in-Some.terminal, sym c.in-Some.ensures), c.in_err-parts.ensures.fault))))
 
 pub returns-in_err-asked-clause-none : goal.returns-in_err-asked-clause-none
 returns-in_err-asked-clause-none g c =
     let p = err_from_is_err_and c.from_residual-in_err-asked.result c.from_residual-in_err-asked.ensures.1 in
-    rw p.1 (λ seat message.
-    c.a_row_is_of_one_message.ensures.none c.args.catalogue.now seat message (kept c.args.row.now)
-    c.in_err-asked.field-0.0
+    rw p.1 (λ seat message. c.a_row_is_of_one_message.ensures.none _ seat message _ c.in_err-asked.field-0.0
     (inr (
       c.in_ok-parts.parts,
       (c.in-Some.terminal, sym c.in-Some.ensures),
@@ -56,10 +52,9 @@ returns-clause-row g c = read g (goal.at.returns-clause-row g c).After-new
 
 pub returns-clause-only : goal.returns-clause-only
 returns-clause-only g c = λ seat message other.
-    c.a_row_is_of_one_message.ensures.one c.args.catalogue.now seat _ message _ (kept c.args.row.now) other
+    c.a_row_is_of_one_message.ensures.one _ seat _ message _ _ other
     (read g (goal.at.returns-clause-only g c).After-new)
 
 pub returns-clause-known : goal.returns-clause-known
 returns-clause-known g c =
-    c.a_row_is_of_one_message.ensures.known c.args.catalogue.now _ _ (kept c.args.row.now)
-    (read g (goal.at.returns-clause-known g c).After-new)
+    c.a_row_is_of_one_message.ensures.known _ _ _ _ (read g (goal.at.returns-clause-known g c).After-new)

@@ -1,13 +1,57 @@
-use Rattle.std.proofs.Common.{sym, ap, ◌∙◌, subst}
+use Rattle.std.proofs.Common.{◌≡◌, ◌∙◌, sym, ap, refl, ℕ, ◌+◌, Bool, true, false, not, ◌||◌, List, [], ◌∷◌}
+use Rattle.std.proofs.Common.{◌++◌, filter, subst}
+use Rattle.std.specs.List.{AllZip}
 use Rattle.std.proofs.Math.Logic.{∥∥₁_elim}
+use Rattle.sqlite_trees.specs.declared.store.Shape.{Shape}
+use Rattle.sqlite_trees.specs.declared.store.Shape.TheVariants.{Absent}
+use Rattle.sqlite_store.specs.declared.catalog.Wanted.{Wanted}
+use Rattle.sqlite_store.specs.Catalog.{shape_at}
+use Rattle.sqlite_store.specs.Db.{trees_in}
+use Rattle.sqlite_store.specs.Listing.{all_trees, listed, listed_from}
 use Rattle.sqlite_trees.specs.Props.{rows_set}
-use Rattle.sqlite_trees.specs.Tree.{Trees}
-use Rattle.sqlite.specs.Effect.{Database}
-use Rattle.sqlite.specs.Files.{file_state}
-use Rattle.sqlite.specs.Schema.{Schema}
-use Rattle.sqlite_catalog.specs.Listing.{IsSound}
-use Rattle.hd_turn_store.proofs.Blank.{blank_holds_none}
+use Rattle.hd_turn_store.specs.Words.{AreListed, HoldsDatabase, Image, IsSound, Row, Trees, catalog_tree}
+use Rattle.hd_turn_store.specs.Words.{is_table_row, is_view_row, Database, Schema, file_state}
+use Rattle.hd_turn_store.specs.Kept.{Head, KeptTurn}
+use Rattle.hd_turn_store.specs.Tables.{Stores, no_schema}
 use Rattle.hd_turn_store.proofs.file.connect.Goals as goal
+
+-- rows of which none passes either test, or fails both
+none_of_three : {A B C : Type 0} (p q : Row → Bool) (P : Row → A → Type 0) (Q : Row → B → Type 0)
+    (R : Row → C → Type 0) (rows : List Row)
+    → AllZip P (filter p rows) [] → AllZip Q (filter q rows) []
+    → AllZip R (filter (λ r. not (p r || q r)) rows) [] → rows ≡ []
+none_of_three p q P Q R [] a b c = refl
+none_of_three p q P Q R (row ∷ rows) a b c = absurd (go (p row) (q row) refl refl)
+  where
+    go : (one other : Bool) → p row ≡ one → q row ≡ other → ⊥
+    go true other is is-other = rw is at a
+    go false true is is-other = rw is-other at b
+    go false false is is-other = rw (is, is-other) at c
+
+none_listed : (rows : List Row) → AreListed rows no_schema → rows ≡ []
+none_listed rows all = none_of_three is_table_row is_view_row _ _ _ rows all.tables all.views all.indexes
+
+-- the first place of a list without rows has no tree
+first_gap : (from : ℕ) (places : List Wanted) → listed_from from places ≡ [] → shape_at places 0 ≡ Absent
+first_gap from [] none = refl
+first_gap from (place ∷ places) none = go place.shape refl none
+  where
+    go : (shape : Shape) → place.shape ≡ shape → listed from place shape ++ listed_from (from + 1) places ≡ []
+        → place.shape ≡ Absent
+    go Absent is none = is
+    go shape is none = absurd (cc)
+
+blank_holds_none : (image : Image) (head : Head) (ks : List KeptTurn) (db : Trees)
+    → HoldsDatabase image db → Stores head ks db → IsSound no_schema db → ⊥
+unfolding all_trees trees_in
+blank_holds_none image head ks db holds stores sound =
+    let it = holds.2 in
+    let listed : listed_from 0 it.wanted ≡ [] =
+    ap (λ (t : Trees). t catalog_tree) (sym it.reads) ∙ none_listed (db catalog_tree) sound.lists.listed in
+    let gap = first_gap 0 it.wanted listed in
+    let first : db 0 ≡ [] = ap (λ (t : Trees). t 0) it.reads ∙ rw gap refl in
+    let row = stores.head in
+    cc
 
 pub returns-in-Ok-clause-found : goal.returns-in-Ok-clause-found
 returns-in-Ok-clause-found g c clean head ks held schema =

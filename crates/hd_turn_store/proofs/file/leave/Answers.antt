@@ -1,8 +1,6 @@
 use Rattle.std.proofs.Math.Logic.{∥∥₁_map}
-use Rattle.sqlite_trees.specs.Tree.{Trees}
-use Rattle.sqlite.specs.Files.{HoldsDatabase}
-use Rattle.sqlite_store.specs.Laws.{settled_at}
 use Rattle.sqlite.proofs.Theorems.{opens_again}
+use Rattle.hd_turn_store.specs.Words.{HoldsDatabase, Trees, settled_at}
 use Rattle.hd_turn_store.specs.Tables.{Stores}
 use Rattle.hd_turn_store.proofs.Commits.{lasting}
 use Rattle.hd_turn_store.proofs.file.leave.Goals as goal

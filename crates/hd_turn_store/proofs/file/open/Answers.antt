@@ -1,15 +1,16 @@
+use Rattle.std.proofs.Common.{Ok, ap}
 use Rattle.hd_turn_store.proofs.file.open.Goals as goal
 
 pub returns-clause-new : goal.returns-clause-new
 returns-clause-new g c clean new =
-    c.in_ok-conn.ensures.blank (c.begin_or_check.ensures.clean clean) (c.in_ok-is_new.ensures.blank new)
+    c.in_ok-conn.ensures.blank (c.begin_or_check.ensures.reads.clean clean) (c.in_ok-is_new.ensures.blank new)
 
 pub returns-clause-restored : goal.returns-clause-restored
 returns-clause-restored g c clean old head ks held =
-    c.in_ok-is_new.ensures.same clean old head ks (c.in_ok-conn.ensures.found
-    (c.begin_or_check.ensures.clean clean) head ks held (c.in_ok-is_new.ensures.journal old))
+    c.in_ok-is_new.ensures.reads.same (ap Ok old) clean head ks (c.in_ok-conn.ensures.found
+    (c.begin_or_check.ensures.reads.clean clean) head ks held (c.in_ok-is_new.ensures.journal old))
 
 pub returns-clause-known : goal.returns-clause-known
 returns-clause-known g c clean old head ks held =
     c.in_ok-is_new.ensures.known clean old head ks (c.in_ok-conn.ensures.found
-    (c.begin_or_check.ensures.clean clean) head ks held (c.in_ok-is_new.ensures.journal old))
+    (c.begin_or_check.ensures.reads.clean clean) head ks held (c.in_ok-is_new.ensures.journal old))

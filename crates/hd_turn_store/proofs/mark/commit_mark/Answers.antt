@@ -1,14 +1,11 @@
 use Rattle.std.proofs.Common.{◌≡◌, ◌≢◌, ◌⊎◌, ℕ, false, IsTrue, List, arith, inl, inr, ne_eqb, refl}
 use Rattle.std.proofs.lemmas.Bool.{both_ways, true_from_ne_false}
-use Rattle.sqlite_disk.specs.declared.Disk.{Ghosts}
-use Rattle.sqlite_store.specs.FileStore.{recovers, view}
-use Rattle.sqlite_store.specs.Laws.{shut_if_dirty_at, shut_is_broken}
-use Rattle.sqlite_store.specs.declared.store.FileStore.{FileStore}
-use Rattle.sqlite_trees.specs.View.{Commits, IsClean, SetsTree, View}
+use Rattle.std.proofs.lemmas.Result.{on_ok_weaker}
+use Rattle.sqlite_trees.specs.View.{Commits}
 use Rattle.sqlite_trees.proofs.Doubt.{no_doubt}
-use Rattle.sqlite_trees.specs.Objects.{version_tree, version_rows}
-use Rattle.sqlite_trees.specs.Tree.{Trees, with_tree}
-use Rattle.sqlite.specs.Order.{Row}
+use Rattle.sqlite_trees.specs.Tree.{with_tree}
+use Rattle.hd_turn_store.specs.Words.{FileStore, Ghosts, IsClean, Row, SetsTree, Trees, View, recovers}
+use Rattle.hd_turn_store.specs.Words.{shut_if_dirty_at, shut_is_broken, version_rows, version_tree, view}
 use Rattle.hd_turn_store.specs.Marks.{GetsMark, MayGetMark, MayHaveMark}
 use Rattle.hd_turn_store.proofs.mark.commit_mark.Goals as goal
 
@@ -57,21 +54,17 @@ returns-then-version-mark-clause-ok g c clean is_open =
       is_open = refl;
     }
 
-pub returns-in-Err-clause-crash : goal.returns-in-Err-clause-crash
-returns-in-Err-clause-crash g c db may = inr (c.set_version.ensures.quiet.outcomes db may)
+pub returns-in_err-set_version-clause-crash : goal.returns-in_err-set_version-clause-crash
+returns-in_err-set_version-clause-crash g c db may = inr (c.set_version.ensures.quiet.outcomes db may)
 
-pub returns-in-Ok-commit-clause-ok : goal.returns-in-Ok-commit-clause-ok
-returns-in-Ok-commit-clause-ok g c clean is_open =
+pub returns-clause-ok : goal.returns-clause-ok
+returns-clause-ok g c clean =
+    on_ok_weaker c.commit.result (λ commits is_open.
     let middle : IsClean (view c.set_version.new.self) = omega (arith, c.commit.ensures.clean) in
-    gets_mark c.args.mark (view c.args.store.now) (view c.set_version.new.self) _ (c.in-Ok.ensures.ok middle)
-    (c.in-Ok-commit.ensures.ok clean)
+    gets_mark c.args.mark (view c.args.store.now) (view c.set_version.new.self) _
+    (c.in_ok-set_version.ensures.ok middle) (commits clean)) c.commit.ensures.ok
 
-pub returns-in-Ok-commit-clause-crash : goal.returns-in-Ok-commit-clause-crash
-returns-in-Ok-commit-clause-crash g c db may =
-    left_of c.args.store.now c.set_version.new.self (version_rows c.args.mark) c.in-Ok.ensures.ok
-    c.set_version.ensures.quiet.outcomes db (c.commit.ensures.crash db may)
-
-pub returns-in-Err-commit-clause-crash : goal.returns-in-Err-commit-clause-crash
-returns-in-Err-commit-clause-crash g c db may =
-    left_of c.args.store.now c.set_version.new.self (version_rows c.args.mark) c.in-Ok.ensures.ok
+pub returns-clause-crash : goal.returns-clause-crash
+returns-clause-crash g c db may =
+    left_of c.args.store.now c.set_version.new.self (version_rows c.args.mark) c.in_ok-set_version.ensures.ok
     c.set_version.ensures.quiet.outcomes db (c.commit.ensures.crash db may)

@@ -1,9 +1,6 @@
 use Rattle.std.proofs.Common.{◌≡◌, ◌∙◌, IsTrue, ap, arith, refl, subst, sym}
 use Rattle.std.proofs.lemmas.Bool.{both_ways, true_from_ne_false}
-use Rattle.sqlite.specs.Effect.{Database}
-use Rattle.sqlite.specs.Held.{state}
-use Rattle.sqlite.specs.State.{HasCleanDisk}
-use Rattle.sqlite_trees.specs.View.{IsClean}
+use Rattle.hd_turn_store.specs.Words.{Database, HasCleanDisk, IsClean, state}
 use Rattle.hd_turn_store.specs.Tables.{IsJournal}
 use Rattle.hd_turn_store.proofs.mark.opened_again.Goals as goal
 

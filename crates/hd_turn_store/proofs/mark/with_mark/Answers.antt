@@ -1,13 +1,7 @@
 use Rattle.std.proofs.Common.{◌≡◌, ◌≢◌, ◌∙◌, ℕ, ap, arith, subst, sym}
-use Rattle.sqlite.specs.Effect.{Database}
-use Rattle.sqlite.specs.Files.{file_state}
-use Rattle.sqlite.specs.Tree.{Trees}
 use Rattle.sqlite.proofs.Theorems.{copied as lies_alone}
-use Rattle.sqlite_catalog.specs.Listing.{IsSound}
-use Rattle.sqlite_store.specs.FileStore.{view}
-use Rattle.sqlite_store.specs.Laws.{settled_at}
-use Rattle.sqlite_trees.specs.Objects.{version_tree}
-use Rattle.sqlite_trees.specs.View.{IsClean}
+use Rattle.hd_turn_store.specs.Words.{Database, IsClean, IsSound, Trees, file_state, settled_at, version_tree}
+use Rattle.hd_turn_store.specs.Words.{view}
 use Rattle.hd_turn_store.proofs.Marking.{keeps_marked, keeps_turns, sound_beside, stores_beside}
 use Rattle.hd_turn_store.proofs.mark.with_mark.Goals as goal
 
@@ -18,14 +12,15 @@ returns-in-Ok-clause-marked g c none =
     let last = c.put_mark.new.store in
     let stays = g.met.D.Disk.seen_may_stay in
     let early : IsClean (view back) = omega (arith, c.put_mark.ensures.clean) in
-    let b_open = c.in-Ok.ensures.open none in
-    let was = c.store_of-store.ensures.undone.undone b_open in
-    let kept = c.store_of-store.ensures.undone.kept early in
-    let puts = c.in-Ok.ensures.ok none (was.0 ∙ sym (kept.committed b_open)) in
+    let undone = c.store_of-store.ensures.undone in
+    let kept = undone.kept early in
+    let put = c.in-Ok.ensures.ok none in
+    let was = (undone.undone put.0).0 in
+    let puts = put.1 (was ∙ sym (kept.committed put.0)) in
     let fresh = puts.fresh (c.store_of-store.ensures.numbered early) in
     let rows : (db : Trees) → (view conn.store).committed ≡ db → (tree : ℕ) → tree ≢ version_tree
     → (view last).committed tree ≡ db tree =
-    λ db is tree other. puts.others tree other ∙ ap (λ (t : Trees). t tree) (was.0 ∙ is) in
+    λ db is tree other. puts.others tree other ∙ ap (λ (t : Trees). t tree) (was ∙ is) in
     record {
       was_clean = omega (arith, c.store_of-store.ensures.quiet.clean);
       fresh = fresh;

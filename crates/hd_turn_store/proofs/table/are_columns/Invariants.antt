@@ -1,5 +1,5 @@
 use Rattle.std.proofs.Common.{◌≡◌, map, take}
-use Rattle.hd_turn_store.specs.Columns.{column_of}
+use Rattle.hd_turn_store.specs.Tables.{column_of}
 use Rattle.hd_turn_store.proofs.table.are_columns.Given as goal
 
 -- the first columns are these

@@ -7,6 +7,6 @@ pub feed-requires-2 : goal.feed-requires-2
 feed-requires-2 c =
     let fed = c.feed.ensures.fed in
     record {
-      place = subst (λ (k : Keeps). IsKnownTo k.contents c.feed.new.self.state) (sym fed.works.same)
+      login = subst (λ (k : Keeps). IsKnownTo k.contents c.feed.new.self.state) (sym fed.works.same)
           (fed.known (search rules));
     }

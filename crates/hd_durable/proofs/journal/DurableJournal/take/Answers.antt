@@ -5,8 +5,8 @@ use Rattle.hd_catalogue.specs.Contents.{facts_of}
 use Rattle.hd_rules.specs.Messages.{IsKnownMessage}
 use Rattle.hd_journal.specs.declared.fault.WriteFault.{WriteFault}
 use Rattle.hd_durable.specs.Durable.{DurableValue, IsDurable, refuses_turn_of}
-use Rattle.hd_durable.proofs.Durability.{committed, durable_more, durable_same, durable_shut, held, last_known}
-use Rattle.hd_durable.proofs.Durability.{left_in_doubt}
+use Rattle.hd_durable.proofs.Durability.{committed, durable_more, durable_same, durable_shut, held}
+use Rattle.hd_durable.proofs.Durability.{last_known, left_in_doubt}
 use Rattle.hd_durable.proofs.Refusing.{out_of_memory, refused_one}
 use Rattle.hd_durable.proofs.journal.DurableJournal.take.Given.{Over}
 use Rattle.hd_durable.proofs.journal.DurableJournal.take.Goals.{In-Ok, Then-not-new}

@@ -4,6 +4,7 @@ use Rattle.hd_records.specs.Survivors.{survivors_of}
 use Rattle.hd_journal.specs.Deciding.{AreKept}
 use Rattle.hd_journal.specs.Dependents.{IsFirstDependent}
 use Rattle.hd_journal.specs.SurvivorRun.{SurvivorRun}
+use Rattle.hd_journal.specs.Working.{IsDependenceWork}
 use Rattle.hd_journal.proofs.survivor_run.SurvivorRun.first_dependent.Goals as goal
 
 -- the records are kept, whoever lends the catalogue
@@ -17,10 +18,18 @@ first_dependent-requires g c =
       listed = c.self.invariant.2;
     })
 
-pub returns : goal.returns
-returns g c =
+pub returns-clause-first : goal.returns-clause-first
+returns-clause-first g c =
     subst (λ (x : SurvivorRun). IsFirstDependent (facts_of x.contents) x.survivors c.args.number
     c.first_dependent.result) c.self.view_is
     (subst (λ (x : Contents). IsFirstDependent (facts_of x) (survivors_of c.self.inside.records.records)
     c.args.number c.first_dependent.result) (c.deref.ensures ∙ c.catalogue.ensures)
-    c.first_dependent.ensures)
+    c.first_dependent.ensures.first)
+
+pub returns-clause-work : goal.returns-clause-work
+returns-clause-work g c =
+    subst (λ (x : SurvivorRun). IsDependenceWork (facts_of x.contents) x.survivors c.args.number
+    c.args.meter.now c.first_dependent.new.meter) c.self.view_is
+    (subst (λ (x : Contents). IsDependenceWork (facts_of x) (survivors_of c.self.inside.records.records)
+    c.args.number c.args.meter.now c.first_dependent.new.meter) (c.deref.ensures ∙ c.catalogue.ensures)
+    c.first_dependent.ensures.work)

@@ -14,12 +14,12 @@ use Rattle.hd_journal_file.proofs.file.JournalFileTurnTable.commit.Goals as goal
 pub returns-in_default-clause-err : goal.returns-in_default-clause-err
 returns-in_default-clause-err g c turns left legal holds leaves =
     inl (c.a_crash_leaves_what_is_seen.ensures.only (arc_value c.args.self.now.catalogue) turns left
-    (holds leaves.0) leaves.1)
+    (holds leaves.0).has leaves.1)
 
 pub returns-in_default-of-clause-err : goal.returns-in_default-of-clause-err
 returns-in_default-of-clause-err g c turns left legal holds leaves =
     inl (c.a_crash_leaves_what_is_seen.ensures.only (arc_value c.args.self.now.catalogue) turns left
-    (holds leaves.0) leaves.1)
+    (holds leaves.0).has leaves.1)
 
 -- the row is the turn's
 told : (g : Over) (c : After-add g) (format : ℕ)
@@ -33,21 +33,22 @@ told g c format =
 pub returns-clause-ok : goal.returns-clause-ok
 returns-clause-ok g c =
     ok_under c.add.result _ _ _ c.add.ensures.ok (λ ok turns legal holds reliable.
-    ok reliable.clean (arc_value c.args.self.now.catalogue) turns (turn_shown c.args.turn.now)
+    ok reliable.clean (arc_value c.args.self.now.catalogue) c.args.self.now.digest turns
+    (turn_shown c.args.turn.now)
     (told g (goal.at.returns-clause-ok g c).After-add) legal
     (holds (record { clean = c.add.ensures.clean reliable.clean; found = reliable.found })))
 
 pub returns-clause-settled : goal.returns-clause-settled
 returns-clause-settled g c =
     any_ok c.add.result _ (λ turns left holds leaves.
-    c.add.ensures.settled (arc_value c.args.self.now.catalogue) turns left (holds leaves.0) leaves.1)
+    c.add.ensures.settled (arc_value c.args.self.now.catalogue) turns left (holds leaves.0).has leaves.1)
 
 pub returns-clause-err : goal.returns-clause-err
 returns-clause-err g c =
     err_under c.add.result _ _ _ c.add.ensures.err (λ err turns left legal holds leaves.
     err leaves.0.clean (arc_value c.args.self.now.catalogue) turns left (turn_shown c.args.turn.now)
     (told g (goal.at.returns-clause-err g c).After-add) legal
-    (holds (record { clean = c.add.ensures.clean leaves.0.clean; found = leaves.0.found })) leaves.1)
+    (holds (record { clean = c.add.ensures.clean leaves.0.clean; found = leaves.0.found })).has leaves.1)
 
 pub returns-clause-why : goal.returns-clause-why
 returns-clause-why g c =

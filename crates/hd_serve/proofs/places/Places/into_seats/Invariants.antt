@@ -1,4 +1,4 @@
-use Rattle.std.proofs.Common.{◌≡◌, ◌++◌, map}
+use Rattle.std.proofs.Common.{◌≡◌, ◌+◌, ◌≤◌, ◌++◌, length, map, vec_capacity, vec_len}
 use Rattle.std.specs.Vec.Iter.{into_iter_items}
 use Rattle.hd_hall.specs.Seats.{EachSeat}
 use Rattle.hd_serve.specs.Places.{all_in}
@@ -9,4 +9,5 @@ invariant-loop-place g l = record {
   parts : EachSeat l.seats.items (λ s. s.parts ≡ 1);
   seats : l.seats.items ++ map (λ held. held.seat) (all_in (into_iter_items l.place-iterator))
       ≡ map (λ held. held.seat) (all_in l.fn.self.places.items);
+  room : vec_len l.seats + length (into_iter_items l.place-iterator) ≤ vec_capacity l.seats;
 }

@@ -1,4 +1,5 @@
-use Rattle.std.proofs.Common.{arith, ◌≡◌, Some}
+use Rattle.std.specs.Prelude.{min}
+use Rattle.std.proofs.Common.{◌≡◌, ◌∙◌, Some, ap}
 use Rattle.hd_server.proofs.server_view.ServerViewView.state.Goals as goal
 
 pub returns : goal.returns
@@ -12,7 +13,7 @@ returns g c = (
     bytes = c.bytes_of.result;
     micros = c.micros.result;
   },
-  omega (arith, c.min.ensures),
+  c.min.ensures ∙ ap (min c.connections-connections.result) c.from.ensures,
   (λ j. record c.state-hall.result {
     health = c.health_of.ensures j;
     connections = Some c.connections-connections.result;

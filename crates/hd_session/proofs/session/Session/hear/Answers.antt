@@ -3,10 +3,10 @@ use Rattle.hd_session.proofs.Feeding.{feeds_until}
 use Rattle.hd_session.proofs.Hearing.{answers_append, answers_none, line_taken}
 use Rattle.hd_session.proofs.session.Session.hear.Goals as goal
 
-pub answer_line-answered-requires-clause-place : goal.answer_line-answered-requires-clause-place
-answer_line-answered-requires-clause-place g c =
+pub answer_line-answered-requires-clause-login : goal.answer_line-answered-requires-clause-login
+answer_line-answered-requires-clause-login g c =
     let before = c.loop-used.invariant.heard.2 in
-    rw before.works.same (before.known c.requires.place)
+    rw before.works.same (before.known c.requires.login)
 
 pub loop-used-init : goal.loop-used-init
 loop-used-init g c =

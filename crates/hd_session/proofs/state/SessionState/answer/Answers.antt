@@ -23,8 +23,8 @@ returns-clause-answered g c =
         says = c.in_ok-said.said;
         reply = said.1;
         answer = answer_of _ _ _ _ _ _ _ _ _ _ _ _ _ _ _ (ap (λ (x : State). x.extensions) view)
-            (ap (λ (x : State). x.place) view)
-            c.line_with-kept.ensures (sym (c.finish.ensures.rest.1 ∙ c.count.ensures.place)) said.2;
+            (ap (λ (x : State). x.login) view)
+            c.line_with-kept.ensures (sym (c.finish.ensures.rest.1 ∙ c.count.ensures.login)) said.2;
         extensions_stay = c.finish.ensures.rest.0
             ∙ (c.count.ensures.extensions ∙ ap (λ (x : State). x.extensions) view);
         spelled = refl;

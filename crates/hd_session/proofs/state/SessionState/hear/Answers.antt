@@ -15,11 +15,11 @@ returns-in_ok-answer-in-Plain-clause-heard g c =
     let told = c.in_ok-answer-in-Plain.ensures.answered in
     answers_read _ _ _ _ _ _ c.args.line.now _ _ told.0 _ told.1 c.requires.some c.in-Plain.ensures.computed
     told.2 told.3 told.4 told.5
-    (λ _. c.in_ok-answer-in-Plain.ensures.place)
+    (λ _. c.in_ok-answer-in-Plain.ensures.login)
 
 pub returns-in_ok-answer-in-Checked-clause-heard : goal.returns-in_ok-answer-in-Checked-clause-heard
 returns-in_ok-answer-in-Checked-clause-heard g c =
     let told = c.in_ok-answer-in-Checked.ensures.answered in
     answers_read _ _ _ _ _ _ c.args.line.now _ _ told.0 _ told.1 c.requires.some c.in-Checked.ensures.computed
     told.2 told.3 told.4 told.5
-    (λ _. c.in_ok-answer-in-Checked.ensures.place)
+    (λ _. c.in_ok-answer-in-Checked.ensures.login)

@@ -4,8 +4,8 @@ use Rattle.hd_shown.specs.Standing.{MayShut}
 use Rattle.hd_shown.proofs.Ending.{told}
 use Rattle.hd_shown.proofs.hall_view.HallView.look_once.Goals as goal
 
-pub returns-in-Ok : goal.returns-in-Ok
-returns-in-Ok g c =
+pub returns-in-Ok-clause-tells : goal.returns-in-Ok-clause-tells
+returns-in-Ok-clause-tells g c =
     let seen = c.in-Ok.ensures.saw in
-    told (IsShownTo g.H.House.opening []) (MayShut g.K.Keeper.faults) seen.0 c.args.reader.now
+    told (IsShownTo g.H.House.opening []) (MayShut g.K.Keeper.faults) seen.0 _
     c.look.new.reader seen.1 seen.2 c.state.result c.state.ensures
