@@ -12,6 +12,7 @@ TRAIT = re.compile(r" *(?:pub(?:\([^)]*\))? )?(?:unsafe )?trait (\w+)")
 GENERICS = re.compile(r"<(?:[^<>]|<(?:[^<>]|<[^<>]*>)*>)*>")
 SIGNS = {"&": "Ref", "&mut": "RefMut", "[": "Slice", "()": "Unit"}  # how types are told in a path
 DEFINED = re.compile(r"(?:abbrev )?(?:pub )?([^\s():{}]+) : ")
+HOLE_OF_GOAL = "\npub {0} : goal.{0}\n{0} = ?\n"
 
 
 class Function:
@@ -103,12 +104,13 @@ def homes_in(sources):
 
 
 class Edit:
-    """A wrong body: its texts, the functions and lines that it changes, and what it came to."""
+    """A wrong body: its texts, the goal that it names, the functions and lines that it changes, and what it came to."""
 
-    def __init__(self, crate, name, pairs, homes):
-        self.crate, self.name, self.pairs = crate, name, pairs
+    def __init__(self, crate, name, pairs, homes, goal=None, others=()):
+        self.crate, self.name, self.pairs, self.goal, self.others = crate, name, pairs, goal, set(others)
         self.misfit, self.verdict, self.said, self.kept, self.tries = None, None, "", None, 0
-        self.functions, self.places, self.is_apart, self.pruned, self.misnamed = [], set(), False, {}, set()
+        self.functions, self.places, self.is_apart, self.is_guided = [], set(), False, False
+        self.pruned, self.gone, self.misnamed, self.found = {}, set(), set(), None
         texts = dict(sources_of(crate))
         for file, old, new in pairs:
             if texts.get(file, "").count(old) != 1:
@@ -162,12 +164,22 @@ def pairs_in(text):
     return pairs
 
 
+def goals_in(text):
+    """The goal at which the edit is refused, where it names one, and what isn't proved besides."""
+    goals = {key: re.findall(rf"^{key}: (.*)", text, re.M) for key in ("goal", "also")}
+    return next(iter(goals["goal"]), None), " ".join(goals["also"]).split()
+
+
+def file_of(edit):
+    return os.path.join(TOP, "crates", edit.crate, "wrong", edit.name + ".edit")
+
+
 def edits_of(crate):
     folder = os.path.join(TOP, "crates", crate, "wrong")
     names = sorted(os.listdir(folder)) if os.path.isdir(folder) else []
-    names = [name.removesuffix(".edit") for name in names if name.endswith(".edit")]
-    homes = homes_in(sources_of(crate)) if names else {}
-    return [Edit(crate, name, pairs_in(read(os.path.join(folder, name + ".edit"))), homes) for name in names]
+    texts = {name.removesuffix(".edit"): read(os.path.join(folder, name)) for name in names if name.endswith(".edit")}
+    homes = homes_in(sources_of(crate)) if texts else {}
+    return [Edit(crate, name, pairs_in(text), homes, *goals_in(text)) for name, text in texts.items()]
 
 
 def fit_together(one, other):
@@ -187,13 +199,27 @@ def round_of(edits):
     return some
 
 
+def with_one_goal(text, goal, others, goals):
+    """The answers without that of this goal, which search then tries; the others that the edit makes unfit are holes."""
+    defined = {at: found[1] for at, line in enumerate(text.split("\n")) if (found := defined_in(line))}
+    left, gone = without_answers(text, {at for at, name in defined.items() if name in {goal, *others}})
+    open_ones = {name for name in gone if f"{name} : goal.{name}" in text} | set(others) - set(defined.values())
+    head = "" if "Goals as goal" in left else f"use {goals} as goal\n"
+    return head + left + "".join(HOLE_OF_GOAL.format(name) for name in sorted(open_ones - {goal}))
+
+
+def defined_in(line):
+    """What a line of an answers' file begins to define, as a match, if it does."""
+    return None if line.startswith(("use ", "--")) else DEFINED.match(line)
+
+
 def without_answers(text, lines):
     """The file without the definitions that stand at these lines and those that name one of these, and their names.
     Where an import is refused, all are taken out."""
     texts, name = [["", ""]], ""
     for at, line in enumerate(text.split("\n")):
-        found = DEFINED.match(line)
-        if found and not line.startswith(("use ", "--")):
+        found = defined_in(line)
+        if found:
             name = found[1]
             texts.append([name, ""])
         texts[-1][1] += line + "\n"

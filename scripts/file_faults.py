@@ -174,12 +174,30 @@ def compare_missing_log(program):
             if os.path.exists(f"{journal}-wal") or file.read() != before:
                 raise Trouble("a journal without its log was changed")
         shutil.move(f"{journal}-away", f"{journal}-wal")
+        compare_emptied(program, journal, before)
         for _ in range(2):
             told = told_of(program, journal, "journal", "check")
             if told[0] != 0 or not told[1].startswith("turns: 1\n"):
                 raise Trouble(f"a journal with its log, and then ended: {told!r}")
             os.remove(f"{journal}-wal")
         serve_until_killed(program, journal)
+
+
+def compare_emptied(program, journal, whole):
+    """Looks that a journal that was emptied isn't begun anew beside the log that has its turns. It has these bytes."""
+    with open(journal, "wb"):
+        pass
+    log = os.stat(f"{journal}-wal")
+    wanted = (1, "", f"there is the log {journal}-wal, and not its journal\n")
+    for words in (["journal", "check"], ["serve", "--listen", f"{LOOPBACK}:0", "--workers", "1"], ["journal", "begin"]):
+        told = told_of(program, journal, *words)
+        if told != wanted:
+            raise Trouble(f"{words} of a journal that was emptied: {told!r}")
+    left = os.stat(f"{journal}-wal")
+    if os.path.getsize(journal) or (log.st_size, log.st_mtime_ns) != (left.st_size, left.st_mtime_ns):
+        raise Trouble("a journal that was emptied was begun anew")
+    with open(journal, "wb") as file:
+        file.write(whole)
 
 
 def compare_changed(program):
@@ -223,6 +241,7 @@ def compare_lost_files(program):
         os.rename(os.path.join(folder, "0002.opening"), os.path.join(folder, "0002.opening.part"))
         if said_of(program, "journal", "check", "--library", folder)[0] != 0:
             raise Trouble("a library whose carry was broken off isn't taken")
+        compare_first_catalogue(program, os.path.join(room, "first"))
         away = os.path.join(room, "away")
         said = said_of(program, "journal", "begin", "--catalogue", CATALOGUE, "--library", away)
         if said != (1, f"there is no folder {away}\n"):
@@ -232,6 +251,17 @@ def compare_lost_files(program):
             pass  # it is empty then, beside the log of a journal that was ended well
         if told_of(program, journal, "journal", "check") != (1, "", f"there is no journal at {journal}\n"):
             raise Trouble("an empty file is taken for a journal")
+
+
+def compare_first_catalogue(program, path):
+    """Looks that a library that has lost its first catalogue says so, and isn't begun with another one."""
+    folder = begun_folder(program, CATALOGUE, path)
+    os.remove(os.path.join(folder, "0001.catalogue"))
+    for words in (["check"], ["begin", "--catalogue", CATALOGUE]):
+        said = said_of(program, "journal", *words, "--library", folder)
+        compare_said(f"{words} without a catalogue", said, (1, f"the library lacks {folder}/0001.catalogue\n"))
+    if os.path.exists(os.path.join(folder, "0001.catalogue")):
+        raise Trouble("a library that isn't begun got a catalogue")
 
 
 def begin_words(folder, opening):
@@ -276,7 +306,7 @@ def compare_begun_folder(program):
         with open(os.path.join(folder, "0001.journal"), "wb") as file:
             file.write(b"what was there\n")
         said = said_of(program, *begin)
-        compare_said("a journal that is there", said, (1, f"there is a journal at {file.name}\n"))
+        compare_said("a journal that is there", said, (1, f"the library lacks {folder}/0001.catalogue\n"))
 
 
 def compare_broken_off(program, folder, begin):

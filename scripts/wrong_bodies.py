@@ -1,17 +1,20 @@
 #!/usr/bin/env python3
 """Puts wrong bodies into copies of the crates, many at a time, and sees that the prover refuses each.
 
-    python3 scripts/wrong_bodies.py [--crate NAME] [--list] [--anew] [--self-test]
+    python3 scripts/wrong_bodies.py [--crate NAME] [--list] [--anew] [--name-goals] [--self-test]
 
 A wrong body is a file crates/NAME/wrong/*.edit, of the form that rt ci reads in must-fail/: a line 'file: src/x.rt',
-then pairs of lines 'old: TEXT' and 'new: TEXT'; each old text stands in that file once. Edits of different functions
-are put in together, and a check looks at the edited functions alone (rattle check --only), over the proved libraries
-below. An edit comes to one of these:
+then pairs of lines 'old: TEXT' and 'new: TEXT'; each old text stands in that file once. A line 'goal: NAME' names the
+goal at which it is refused; what a line 'also: NAME ..' has isn't proved besides, and isn't tried. --name-goals tries
+all goals of edits that name none, and writes these lines. Edits of different functions are put in together, and a
+check looks at the edited functions alone (rattle check --only), over the proved libraries below. An edit comes to one
+of these:
 
     refused            a goal of an edited function isn't proved: one of what it promises, of what it owes to a function
                        that it calls, or of an invariant. Arithmetic, a cast or an index alone doesn't count. Where an
                        answer in the function's proof files doesn't fit, it is taken out, and search tries its goal;
-                       where it didn't fit for a name alone, that goal doesn't count
+                       where it didn't fit for a name alone, that goal doesn't count. Where it isn't the goal that the
+                       edit names, the line says so
     PROVED             the edit means the same as what it replaces, or the contract lets it through
     NOT TELLING        it is refused, also alone, but at no such goal: for a name that is gone, say
     CAN'T BE PUT IN    the old text doesn't stand there once, or the edited crate doesn't compile
@@ -31,15 +34,20 @@ import sys
 import tempfile
 from concurrent.futures import ThreadPoolExecutor
 
-from edits import Edit, bodies_of, edits_of, folder_of, homes_in, module_of, read, round_of, sources_of
-from edits import without_answers, write
+from edits import Edit, bodies_of, edits_of, file_of, folder_of, homes_in, module_of, read, round_of, sources_of
+from edits import with_one_goal, without_answers, write
 from prove import CORES, GIGABYTES, MEMORY, TOP, said_by_rt, sums_of, uses_of_all, with_all_below
 from proved_libraries import libraries_in
 
 REFUSED, PROVED, NOT_TELLING, CANNOT = "refused", "PROVED", "NOT TELLING", "CAN'T BE PUT IN"
 # goals that say only that a step is safe, and nothing of what the function does
 SAFETY = re.compile(r"(overflow|cast|index|bounds|slice|div|rem|shift|neg|unwrap|expect)(_\w+)?(-|$)")
-OPEN_GOAL = re.compile(r"(?:note: )?(?:\./)?(src/[^:]+):(\d+):\d+: it is not proved that (.*?) \(`([^`]+)`\)")
+OPEN_GOAL = re.compile(
+    r"(?:note: )?(?:\./)?(src/[^:]+):(\d+):\d+: (?:it is not proved that |`search` (?=found no proof ))"
+    r"(.*?) \(`([^`]+)`\)(.*)"
+)
+# how the line of a goal goes on that is false for some values, and that of one where search ended at a limit
+FALSE, LIMIT = "allow values at which", "gave up at one of its limits"
 # how a function's line goes on that isn't proved
 UNPROVED = re.compile(r": (not proved|no proof|could not tell)")
 # what is said of an answer that doesn't fit only because a step or a goal has another name, or is gone
@@ -182,11 +190,16 @@ def judge(edit, said, bench):
     goals = [it.groups() for it in map(OPEN_GOAL.match, said.split("\n")) if it]
     goals = [it for it in goals if edit.is_apart or (it[0], int(it[1]) - 1) in edit.places]
     telling = [it for it in goals if not is_of_safety(it) and it[3] not in edit.misnamed]
+    telling.sort(key=lambda it: (it[3] != edit.goal, FALSE not in it[4], LIMIT in it[4]))
+    if edit.is_guided and edit.goal not in {it[3] for it in telling}:
+        return False
     errors = re.findall(r"^(?:\./)?((?:src|proofs)/\S+: error.*)", said, re.M)
     errors = [line for line in errors if line.startswith(tuple(folders_of(edit))) and OFFERED not in line]
     if telling:
-        file, line, what, goal = telling[0]
-        settle(edit, REFUSED, f"`{goal}`, {file}:{line}: {what}")
+        file, line, what, goal, _ = telling[0]
+        edit.found = goal, sorted({*edit.gone, *(it[3] for it in goals)} - {goal})
+        named = "" if edit.goal in (None, goal) else f" (it names `{edit.goal}`)"
+        settle(edit, REFUSED, f"`{goal}`{named}, {file}:{line}: {what}")
     elif not goals and not errors and are_proved(edit, bench):
         settle(edit, PROVED, "it means the same as what it replaces, or the contract lets it through")
     elif goals:
@@ -227,8 +240,29 @@ def prune(edit, said, bench):
         text = edit.pruned[file] if file in edit.pruned else read(os.path.join(bench.top, file))
         own = [(int(line) - 1, what) for other, line, what in errors if other == file]
         edit.pruned[file], gone = without_answers(text, {line for line, _ in own})
+        edit.gone |= gone
         edit.misnamed |= gone - without_answers(text, {line for line, what in own if not MISNAMED.search(what)})[1]
     return edit.pruned != before
+
+
+def guide(edit, bench):
+    """Has only the goal tried that the edit names, where it is of one function: what isn't proved besides is left open."""
+    if edit.goal is None or edit.is_apart or len(edit.functions) != 1:
+        return
+    folder = folder_of(edit.functions[0].path)
+    files = [os.path.join(bench.top, folder, name) for name in ("Answers.antt", "Proof.antt")]
+    if not os.path.isfile(files[1]):
+        text = read(files[0]) if os.path.isfile(files[0]) else ""
+        goals = f"Rattle.{bench.crate}.{folder.replace('/', '.')}.Goals"
+        edit.is_guided, edit.pruned[f"{folder}/Answers.antt"] = True, with_one_goal(text, edit.goal, edit.others, goals)
+
+
+def unguide(edit):
+    """Has all goals tried of an edit that isn't refused at the one that it names. Whether there are any more."""
+    was_guided = edit.is_guided
+    if was_guided:
+        edit.is_guided, edit.pruned = False, {}
+    return was_guided
 
 
 def try_round(edits, bench):
@@ -238,7 +272,7 @@ def try_round(edits, bench):
     said = bench.check(edits)
     if compiles(said):
         left = [edit for edit in edits if not judge(edit, said, bench)]
-        return [edit for edit in left if prune(edit, said, bench) or len(edits) > 1]
+        return [edit for edit in left if unguide(edit) or prune(edit, said, bench) or len(edits) > 1]
     if len(edits) == 1:
         told = next((line for line in said.split("\n") if "error" in line), said.rstrip().rpartition("\n")[2])
         settle(edits[0], CANNOT, told[:200])
@@ -256,12 +290,22 @@ def try_crate(edits, bench):
         if edit.misfit:
             settle(edit, CANNOT, edit.misfit)
     left = [edit for edit in edits if not edit.misfit]
+    for edit in left:
+        guide(edit, bench)
     while left:
         some = round_of([edit for edit in left if edit.tries < ROUNDS]) or left[:1]
         left = [edit for edit in left if edit not in some] + try_round(some, bench)
     for edit in edits:
         if not edit.verdict:
             settle(edit, NOT_TELLING, edit.said)
+
+
+def name_goal(edit):
+    """Writes into the edit's file at which goal it was refused, and what wasn't proved besides."""
+    lines = [line for line in read(file_of(edit)).rstrip("\n").split("\n") if not line.startswith(("goal: ", "also: "))]
+    goal, others = edit.found
+    lines += [f"goal: {goal}", *[f"also: {' '.join(others)}"] * bool(others)]
+    write(file_of(edit), "\n".join(lines) + "\n")
 
 
 def kept_at(edit, sums, kit):
@@ -325,6 +369,7 @@ def main():
     parser.add_argument("--crate", help="try the wrong bodies of this crate alone")
     parser.add_argument("--list", action="store_true", help="name the wrong bodies, and the functions that they change")
     parser.add_argument("--anew", action="store_true", help="try also those that were refused before")
+    parser.add_argument("--name-goals", action="store_true", help="write into the edits that are tried what refuses them")
     parser.add_argument("--self-test", action="store_true", help="see that edits that mustn't count as refused don't")
     chosen, uses = parser.parse_args(), uses_of_all()
     if chosen.crate and chosen.crate not in uses:
@@ -339,6 +384,9 @@ def main():
             print("\n".join(f"{edit.crate}/{edit.name}: {' '.join(edit.asks())}" for edit in edits))
             return 0
         try_kept(edits, uses, room, chosen.anew)
+    for edit in edits:
+        if chosen.name_goals and edit.found:
+            name_goal(edit)
     refused = sum(edit.verdict == REFUSED for edit in edits)
     for edit in edits:
         if edit.verdict != REFUSED:

@@ -1,97 +1,165 @@
--- What a crash leaves of a file.
-use Rattle.std.proofs.Common.{◌≡◌, sym, ◌∙◌, ap, subst, ◌⊎◌, inl, inr, IsTrue, ℕ, List, [], ◌∷◌, ◌++◌}
-use Rattle.std.proofs.Common.{Option}
-use Rattle.sqlite.specs.State.{State}
-use Rattle.sqlite.specs.Effect.{Database}
+-- What a file holds, and what a crash leaves of it.
+use Rattle.std.proofs.Common.{◌≡◌, refl, sym, ◌∙◌, ap, ℕ, ◌+◌, Bool, true, false, IfSome, IsTrue, List, []}
+use Rattle.std.proofs.Common.{◌∷◌, ◌++◌, inr, map, rules, Option, Some}
+use Rattle.sqlite.specs.Recovery.{Image}
+use Rattle.sqlite.specs.State.{State, HasCleanDisk}
 use Rattle.sqlite.specs.Tree.{Trees}
-use Rattle.hd_rules.specs.Turns.{start}
-use Rattle.hd_rules.specs.Journal.{Turn, IsLegal}
+use Rattle.hd_rules.specs.Turns.{Message, State as Machine, start}
+use Rattle.hd_rules.specs.Machine.{turn_of}
+use Rattle.hd_rules.specs.Journal.{Turn, IsLegal, IsLegalFrom}
+use Rattle.hd_rules.specs.declared.replies.TurnReply.{TurnReply}
 use Rattle.hd_catalogue.specs.Contents.{Contents, facts_of}
-use Rattle.hd_turn_store.specs.Kept.{KeptTurn, Head}
-use Rattle.hd_turn_store.specs.Tables.{Stores}
+use Rattle.hd_journal.specs.declared.fault.WriteFault.{WriteFault}
+use Rattle.hd_journal.specs.declared.fault.WriteFault.TheVariants.{Memory}
+use Rattle.hd_turn_row.specs.Rows.{AreTurnRows, IsRowOf, IsTurnRow}
 use Rattle.hd_turn_store.specs.Holds.{Holds}
-use Rattle.hd_turn_row.specs.Rows.{AreTurnRows, IsTurnRow}
-use Rattle.hd_journal_file.specs.Held.{HasTurns, HasTurnsOf, LeavesTurns}
-use Rattle.hd_journal_file.proofs.Stored.{IsReadBack, one_kept}
-use Rattle.hd_journal_file.proofs.Same.{OneMessage, same_turns, rows_more}
+use Rattle.hd_turn_store.specs.Kept.{KeptTurn, Head, cells}
+use Rattle.hd_turn_store.specs.Rows.{read_cells}
+use Rattle.hd_turn_store.specs.Tables.{Stores, numbered_from}
+use Rattle.hd_journal_file.specs.Held.{AreInFile, HasTurns, HoldsJournal, IsReliable, LeavesTurns}
+use Rattle.hd_journal_file.specs.Refused.{IsRefusedBy, RefusesTurn}
+use Rattle.hd_journal_file.specs.Opening.{AreFound, AreLeftOf, wanted_head}
+use Rattle.hd_journal_file.specs.declared.opening.Wanted.{Wanted}
+
+-- a row is that of one message
+abbrev pub OneMessage : Type 0
+OneMessage =
+    (k : Contents) (seat seat' : ℕ) (message message' : Message) (row : KeptTurn)
+    → IsRowOf k seat message row → IsRowOf k seat' message' row → (seat ≡ seat') × (message ≡ message')
+
+-- what is read of a turn's values is the turn
+abbrev pub IsReadBack : Type 0
+IsReadBack = (k : KeptTurn) → read_cells (cells k) ≡ k
+
+-- a turn is its seat, its message and its reply
+abbrev turn_with : ℕ → Message → TurnReply → Turn
+turn_with seat message reply = record { seat = seat; message = message; reply = reply }
+
+same_turn : {turn left : Turn} → left.seat ≡ turn.seat → left.message ≡ turn.message
+    → left.reply ≡ turn.reply → left ≡ turn
+same_turn {turn} {left} seat message reply =
+    let w : turn_with left.seat left.message left.reply ≡ turn = rw (seat, message, reply) refl in w
+
+-- legal turns after the same state are told by their rows
+same_turns : (one : OneMessage) (k : Contents) (f g : ℕ) (s : Machine) (turns left : List Turn)
+    (rows : List KeptTurn) → IsLegalFrom (facts_of k) s turns → IsLegalFrom (facts_of k) s left
+    → AreTurnRows k f turns rows → AreTurnRows k g left rows → left ≡ turns
+same_turns one k f g s [] [] [] legal legal' are are' = refl
+same_turns one k f g s (t ∷ ts) (u ∷ us) (row ∷ rows) legal legal' are are' =
+    let both = one k u.seat t.seat u.message t.message row are'.0.asked are.0.asked in
+    let first : u ≡ t =
+    same_turn both.0 both.1
+    (legal'.0 ∙ ap (λ (m : Message). (turn_of (facts_of k) s m).reply) both.1 ∙ sym legal.0) in
+    let rest : us ≡ ts =
+    same_turns one k f g (turn_of (facts_of k) s t.message).state ts us rows legal.1
+    (rw first at legal'.1) are.1 are'.1 in
+    ap (λ (x : Turn). x ∷ us) first ∙ ap (λ (xs : List Turn). t ∷ xs) rest
+same_turns one k f g s turns left rows legal legal' are are' = search rules
+
+-- the same stored rows keep the same
+one_kept : (back : IsReadBack) (at : ℕ) (ks ks' : List KeptTurn)
+    → numbered_from at (map cells ks) ≡ numbered_from at (map cells ks') → ks ≡ ks'
+one_kept back at [] [] is = refl
+one_kept back at (k ∷ ks) (k' ∷ ks') is =
+    let rest : ks ≡ ks' = one_kept back (at + 1) ks ks' (cc) in cc (back k, back k')
+one_kept back at ks ks' is = cc
+
+-- so a database has the rows of one list of legal turns at most
+pub stored_turns : IsReadBack → OneMessage → {k : Contents} {turns left : List Turn} {db : Trees}
+    → AreInFile k turns (λ head rows. Stores head rows db)
+    → AreInFile k left (λ head rows. Stores head rows db) → left ≡ turns
+stored_turns back one {k} {turns} {left} it other =
+    same_turns one k it.head.format other.head.format (start (facts_of k)) turns left it.rows it.legal
+    other.legal it.are
+    (rw (one_kept back 1 other.rows it.rows (sym other.keeps.turns ∙ it.keeps.turns)) at other.are)
+
+-- turns that are kept in one way are kept in another
+keeping : {k : Contents} {turns : List Turn} {P Q : Head → List KeptTurn → Type 0}
+    → ((head : Head) (rows : List KeptTurn) → P head rows → Q head rows) → AreInFile k turns P
+    → AreInFile k turns Q
+keeping f it =
+    let keeps = f it.head it.rows it.keeps in
+    record { legal = it.legal; head = it.head; rows = it.rows; keeps = keeps; are = it.are }
 
 -- what a crash leaves of an open database with nothing under way is what was committed
-abbrev pub Settles : State → Type 0
-Settles s = (db : Trees) → IsTrue s.is_open → s.may_leave db → db ≡ s.committed.trees
-
--- legal turns whose rows a database stores are those of any other such list
-stored_turns : IsReadBack → (one : OneMessage) (k : Contents) (turns left : List Turn) {head head' : Head}
-    {rows rows' : List KeptTurn} {db : Trees} → IsLegal (facts_of k) turns → IsLegal (facts_of k) left
-    → Stores head rows db → Stores head' rows' db → AreTurnRows k head.format turns rows
-    → AreTurnRows k head'.format left rows' → left ≡ turns
-stored_turns back one k turns left {head} {head'} {rows} {rows'} {db} legal legal' stores stores' are are' =
-    same_turns one k head.format head'.format (start (facts_of k)) turns left rows legal legal' are
-    (subst (AreTurnRows k head'.format left) (one_kept back (db 1) rows' rows stores'.turns stores.turns)
-    are')
-
-pub left_is_held : IsReadBack → OneMessage → (s : State) → Settles s → {k : Contents} {turns left : List Turn}
-    → HasTurns k s turns → LeavesTurns k s left → left ≡ turns
-left_is_held back one s settles {k} {turns} {left} held leaves =
-    let trees : s.now.trees ≡ leaves.database =
-    sym (settles leaves.database held.keeps.is_open leaves.may
-    ∙ ap (λ (d : Database). d.trees) held.keeps.settled)
-    in stored_turns back one k turns left held.legal leaves.kept.legal
-    (subst (Stores held.head held.rows) trees held.keeps.rows) leaves.kept.keeps held.are leaves.kept.are
+pub left_is_held : IsReadBack → OneMessage → {s : State}
+    → ((db : Trees) → IsTrue s.is_open → s.may_leave db → db ≡ s.committed.trees) → {k : Contents}
+    {turns left : List Turn} → HasTurns k s turns → LeavesTurns k s left → left ≡ turns
+left_is_held back one settles held leaves =
+    stored_turns back one
+    (keeping (λ head rows holds.
+    rw (settles leaves.database holds.is_open leaves.may, holds.settled) holds.rows) held) leaves.kept
 
 -- and what is held is left
-pub held_is_left : (s : State) {k : Contents} {turns : List Turn} → s.may_leave s.committed.trees
+pub held_is_left : {s : State} {k : Contents} {turns : List Turn} → s.may_leave s.committed.trees
     → HasTurns k s turns → LeavesTurns k s turns
-held_is_left s may held = record {
+held_is_left {s} may held = record {
   database = s.committed.trees;
   may = may;
-  kept = record {
-    legal = held.legal;
-    head = held.head;
-    rows = held.rows;
-    keeps = subst (λ (d : Database). Stores held.head held.rows d.trees) (sym held.keeps.settled)
-        held.keeps.rows;
-    are = held.are;
-  };
+  kept = keeping (λ head rows holds. rw holds.settled holds.rows) held;
 }
 
--- a row more
-abbrev pub Adds : State → State → KeptTurn → Type 0
-Adds old new row = (head : Head) (ks : List KeptTurn) → Holds old head ks → Holds new head (ks ++ row ∷ [])
+-- rows behind others
+pub rows_join : (k : Contents) (f : ℕ) (ts us : List Turn) (xs ys : List KeptTurn) → AreTurnRows k f ts xs
+    → AreTurnRows k f us ys → AreTurnRows k f (ts ++ us) (xs ++ ys)
+rows_join k f [] us [] ys are are' = are'
+rows_join k f (t ∷ ts) us (x ∷ xs) ys are are' = (are.0, rows_join k f ts us xs ys are.1 are')
+rows_join k f ts us xs ys are are' = absurd are
 
--- a row more, or not
-abbrev pub MayAdd : State → State → KeptTurn → Type 0
-MayAdd old new row =
-    (head : Head) (ks : List KeptTurn) → Holds old head ks → (db : Trees) → new.may_leave db
-    → old.may_leave db ⊎ Stores head (ks ++ row ∷ []) db
+-- a disk that is clean was so before
+pub earlier : {image : Image} {is_new : Bool} {old new : State} → (HasCleanDisk new → HasCleanDisk old)
+    → IsReliable image is_new new → IsReliable image is_new old
+earlier clean reliable = record { clean = clean reliable.clean; found = reliable.found }
 
-pub held_more : (old new : State) (row : KeptTurn) → Adds old new row
-    → (k : Contents) (digest : Option (List ℕ)) (turns : List Turn) (turn : Turn)
-    → ((format : ℕ) → IsTurnRow k format turn row) → IsLegal (facts_of k) (turns ++ turn ∷ [])
-    → HasTurnsOf k old digest turns → HasTurnsOf k new digest (turns ++ turn ∷ [])
-held_more old new row adds k digest turns turn is legal held =
-    let has = held.has in
-    record {
+-- a turn more, and its row
+abbrev pub one_more : {k : Contents} {turns : List Turn} {turn : Turn} {row : KeptTurn}
+    {P Q : Head → List KeptTurn → Type 0} → ((format : ℕ) → IsTurnRow k format turn row)
+    → IsLegal (facts_of k) (turns ++ turn ∷ []) → (it : AreInFile k turns P) → Q it.head (it.rows ++ row ∷ [])
+    → AreInFile k (turns ++ turn ∷ []) Q
+one_more {k} {turns} {turn} {row} is legal it keeps = record {
+  legal = legal;
+  head = it.head;
+  rows = it.rows ++ row ∷ [];
+  keeps = keeps;
+  are = rows_join k it.head.format turns (turn ∷ []) it.rows (row ∷ []) it.are (is it.head.format, tt);
+}
+
+-- why that isn't committed
+pub unwritten : {k : Contents} (old new : State) {turn : Turn} {row : KeptTurn}
+    → ((format : ℕ) → IsTurnRow k format turn row) → (fault : WriteFault)
+    → (HasCleanDisk new → IsRefusedBy old new row fault) → RefusesTurn k old turn new fault
+unwritten old new is Memory refused = tt
+unwritten old new is fault refused = inr (_, is, refused)
+
+-- what was kept is opened
+pub opened_is_kept : (one : OneMessage) {k : Contents} {s now : State} {left : Image} {wanted : Wanted}
+    {turns opened : List Turn} → HasTurns k s turns → AreLeftOf s left → HasCleanDisk now
+    → AreFound left false wanted now k opened → IsLegal (facts_of k) opened → opened ≡ turns
+opened_is_kept one {k} {turns} {opened} held of clean found legal =
+    let taken = found clean refl held.head held.rows (of held.head held.rows held.keeps) in
+    same_turns one k held.head.format held.head.format (start (facts_of k)) turns opened held.rows held.legal
+    legal held.are taken.are
+
+-- a file that was begun holds no turn, and one whose turns were taken again holds these
+pub journal_held : {image : Image} (is_new : Bool) {s : State} {wanted : Wanted} {digest : Option (List ℕ)}
+    {k : Contents} {turns : List Turn} → IsLegal (facts_of k) turns
+    → (HasCleanDisk s → IsTrue is_new → (turns ≡ []) × ((head : Head) × Holds s head []
+    × IfSome digest (λ told. head.catalogue ≡ told))) → AreFound image is_new wanted s k turns
+    → (is_new ≡ false → digest ≡ Some wanted.digest.now) → HoldsJournal image is_new k s digest turns
+journal_held true {k} legal begun found told reliable =
+    let it = begun reliable.clean refl in record {
+      has = record { legal = legal; head = it.1.0; rows = []; keeps = it.1.1; are = rw it.0 tt };
+      catalogue = it.1.2;
+    }
+journal_held false {wanted} legal begun found told reliable =
+    let files = reliable.found refl in
+    let it = found reliable.clean refl files.0 files.1 files.2 in record {
       has = record {
         legal = legal;
-        head = has.head;
-        rows = has.rows ++ row ∷ [];
-        keeps = adds has.head has.rows has.keeps;
-        are = rows_more k has.head.format turns has.rows turn row has.are (is has.head.format);
+        head = wanted_head wanted files.0;
+        rows = files.1;
+        keeps = it.holds;
+        are = it.are;
       };
-      catalogue = held.catalogue;
+      catalogue = rw (told refl) refl;
     }
-
-pub left_either : (back : IsReadBack) (one : OneMessage) (old new : State) (row : KeptTurn)
-    (settles : Settles old) → MayAdd old new row
-    → (k : Contents) (turns left : List Turn) (turn : Turn) → ((format : ℕ) → IsTurnRow k format turn row)
-    → IsLegal (facts_of k) (turns ++ turn ∷ []) → HasTurns k old turns → LeavesTurns k new left
-    → (left ≡ turns) ⊎ (left ≡ turns ++ turn ∷ [])
-left_either back one old new row settles may_add k turns left turn is legal held leaves =
-    elim (may_add held.head held.rows held.keeps leaves.database leaves.may) [
-      | inl was ↦ inl (left_is_held back one old settles held
-          (record { database = leaves.database; may = was; kept = leaves.kept }))
-      | inr stores ↦ inr (stored_turns back one k (turns ++ turn ∷ []) left legal leaves.kept.legal stores
-          leaves.kept.keeps
-          (rows_more k held.head.format turns held.rows turn row held.are (is held.head.format))
-          leaves.kept.are)
-    ]

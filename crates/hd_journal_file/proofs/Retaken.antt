@@ -1,149 +1,169 @@
--- A journal that takes rows again.
-use Rattle.std.proofs.Common.{◌≡◌, refl, sym, ◌∙◌, ap, subst, ℕ, ◌+◌, ◌<◌, Bool, true, if◌then◌else◌, List}
-use Rattle.std.proofs.Common.{[], ◌∷◌, ◌++◌}
-use Rattle.std.proofs.Common.{append_assoc, append-nil, Some, None, suc, map, take, drop, length, get_or}
-use Rattle.std.proofs.Common.{arith}
-use Rattle.std.proofs.lemmas.List.{length-take, take_min, drop-take, take-take, take-append-drop, map_more}
+-- A journal that takes rows again, or why it doesn't.
+use Rattle.std.proofs.Common.{◌≡◌, refl, sym, ◌∙◌, ap, subst, ◌⊎◌, inl, inr, ℕ, ◌+◌, ◌<◌, ◌≤◌, true, List}
+use Rattle.std.proofs.Common.{[], ◌∷◌, ◌++◌, append_assoc, append-nil, length-append, take, drop, get_or}
+use Rattle.std.proofs.Common.{length, map, arith}
+use Rattle.std.proofs.lemmas.List.{drop_more, get_or-map, length-drop, length-map, length-take}
+use Rattle.std.proofs.lemmas.List.{take-append-drop, take_all, take_more}
+use Rattle.std.proofs.Math.Seq.{take-append_seam}
 use Rattle.hd_rules.specs.Turns.{Message}
-use Rattle.hd_rules.specs.Journal.{Turn}
 use Rattle.hd_rules.specs.declared.replies.TurnReply.{TurnReply}
-use Rattle.hd_catalogue.specs.Contents.{Contents, facts_of}
 use Rattle.hd_journal.specs.declared.turn.Turn.{Turn as Made}
-use Rattle.hd_journal.specs.Books.{Book, AddsTurn, next_turn, facts, state}
-use Rattle.hd_journal.specs.Changing.{is_changing, changing}
+use Rattle.hd_journal.specs.Books.{Book, AddsTurn, facts, machine_answer, next_turn, state}
+use Rattle.hd_journal.specs.Changing.{is_changing}
 use Rattle.hd_durable.specs.Laws.{ATurnMoreIsKeptWhereItChanges}
-use Rattle.hd_turn_row.specs.Rows.{AreTurnRows, HasOutcome, IsRowOf, IsTurnRow}
+use Rattle.hd_turn_row.specs.Rows.{AreTurnRows, HasOutcome, IsRowOf}
+use Rattle.hd_turn_store.specs.Holds.{OnlyReads}
 use Rattle.hd_turn_store.specs.Kept.{KeptTurn, piece}
-use Rattle.sqlite.specs.Order.{Row}
 use Rattle.hd_turn_store.specs.Rows.{read_cells}
-use Rattle.hd_journal_file.specs.Restored.{TakesPiece, TakesRow, TakesRows}
-use Rattle.hd_journal_file.proofs.Same.{rows_more}
+use Rattle.sqlite.specs.Order.{Row}
+use Rattle.sqlite.specs.State.{State}
+use Rattle.hd_journal_file.specs.Restored.{DiffersFirst, RefusesRow, RefusesRows, RowAsks, TakesRow}
+use Rattle.hd_journal_file.specs.Restored.{TakesRows}
+use Rattle.hd_journal_file.specs.declared.fault.OutcomeColumn.{OutcomeColumn}
+use Rattle.hd_journal_file.specs.declared.fault.RestoreFault.{RestoreFault}
+use Rattle.hd_journal_file.specs.declared.fault.RestoreFault.TheVariants.{Unread, Memory, Differs}
+use Rattle.hd_journal_file.specs.declared.fault.RestoreFault.TheVariants.{TooMany}
+use Rattle.hd_journal_file.proofs.Held.{rows_join}
 
-pub takes_row : {f : ℕ} {old new : Book} {seat : ℕ} {message : Message} {made : Made} {k : Contents}
-    {row : KeptTurn} → AddsTurn old new seat message made → k ≡ old.contents → IsRowOf k seat message row
+-- ---- one row
+
+pub takes_row : {f : ℕ} {old new : Book} {seat : ℕ} {message : Message} {made : Made} {row : KeptTurn}
+    → AddsTurn old new seat message made → IsRowOf old.contents seat message row
     → is_changing (state old) message ≡ true → HasOutcome f made.reply row → TakesRow f old new row
-takes_row {f} {old} {seat} {message} {row} adds same is changes came = record {
+takes_row {old} {seat} {message} adds is changes came = record {
   contents = adds.contents;
   turn = next_turn old seat message;
   turns = adds.turns;
-  is = record {
-    asked = subst (λ (c : Contents). IsRowOf c seat message row) same is;
-    came = subst (λ (r : TurnReply). HasOutcome f r row) adds.reply came;
-  };
+  is = record { asked = is; came = rw (← adds.reply) came };
   changes = changes;
 }
 
--- none
+-- it came to something else
+pub refuses_came : {f : ℕ} {book : Book} {reply : TurnReply} {row : KeptTurn} {at : ℕ}
+    (asks : RowAsks book row) → reply ≡ (machine_answer book asks.message).reply → (fault : RestoreFault)
+    → (fault ≡ Memory) ⊎ ((column : OutcomeColumn) × (fault ≡ Differs at column)
+    × DiffersFirst f reply row column) → RefusesRow f book row at fault
+refuses_came asks same fault (inl memory) = rw memory tt
+refuses_came {f} {row} asks same fault (inr it) =
+    rw it.1 (refl, (asks, subst (λ (r : TurnReply). DiffersFirst f r row it.0) same it.2))
+
+-- ---- some rows: none, one, and some behind others
+
 pub takes_none : {f : ℕ} {old : Book} → TakesRows f old old []
-takes_none {old} = record {
-  contents = refl;
-  made = [];
-  turns = sym (append-nil old.turns);
-  are = tt;
-  changes = λ all. all;
+takes_none = record { contents = refl; made = []; turns = sym (append-nil _); are = tt; changes = λ all. all }
+
+takes_one : ATurnMoreIsKeptWhereItChanges → {f : ℕ} {old new : Book} {row : KeptTurn} → TakesRow f old new row
+    → TakesRows f old new (row ∷ [])
+takes_one law {old} {new} one = record {
+  contents = one.contents;
+  made = one.turn ∷ [];
+  turns = one.turns;
+  are = (one.is, tt);
+  changes = λ all. rw (one.contents, one.turns, law (facts old) old.turns one.turn, one.changes, all) refl;
 }
-
--- one more
-pub takes_more : ATurnMoreIsKeptWhereItChanges → {f : ℕ} {old mid new : Book} {rows : List KeptTurn}
-    {row : KeptTurn} → TakesRows f old mid rows → TakesRow f mid new row
-    → TakesRows f old new (rows ++ row ∷ [])
-takes_more law {f} {old} {mid} {new} {rows} {row} some one =
-    let kept : changing (facts mid) (mid.turns ++ one.turn ∷ []) ≡ changing
-    (facts mid) mid.turns ++ one.turn ∷ [] =
-    law (facts mid) mid.turns one.turn
-    ∙ ap (λ (b : Bool). changing (facts mid) mid.turns ++ (if b then one.turn ∷ [] else [])) one.changes
-    in record {
-      contents = one.contents ∙ some.contents;
-      made = some.made ++ one.turn ∷ [];
-      turns = one.turns ∙ ap (λ (ts : List Turn). ts ++ one.turn ∷ []) some.turns
-          ∙ append_assoc old.turns some.made (one.turn ∷ []);
-      are = rows_more old.contents f some.made rows one.turn row some.are
-          (subst (λ (c : Contents). IsTurnRow c f one.turn row) some.contents one.is);
-      changes = λ all. ap (λ (c : Contents). changing (facts_of c) new.turns) one.contents
-          ∙ ap (changing (facts mid)) one.turns ∙ kept
-          ∙ ap (λ (ts : List Turn). ts ++ one.turn ∷ []) (some.changes all)
-          ∙ sym one.turns;
-    }
-
-pub rows_front : (rows : List Row) (i : ℕ) (item : Row) → i < length rows
-    → item ≡ get_or rows i item
-    → map read_cells (take i rows) ++ read_cells item ∷ [] ≡ map read_cells (take (i + 1) rows)
-rows_front rows i item low is =
-    ap (λ (x : Row). map read_cells (take i rows) ++ read_cells x ∷ []) is
-    ∙ sym (map_more read_cells rows i item low)
-
--- some more
-rows_join : (k : Contents) (f : ℕ) (ts us : List Turn) (xs ys : List KeptTurn) → AreTurnRows k f ts xs
-    → AreTurnRows k f us ys
-    → AreTurnRows k f (ts ++ us) (xs ++ ys)
-rows_join k f [] us [] ys are are' = are'
-rows_join k f [] us (x ∷ xs) ys are are' = absurd are
-rows_join k f (t ∷ ts) us [] ys are are' = absurd are
-rows_join k f (t ∷ ts) us (x ∷ xs) ys are are' = (are.0, rows_join k f ts us xs ys are.1 are')
 
 pub takes_then : {f : ℕ} {old mid new : Book} {rows more : List KeptTurn} → TakesRows f old mid rows
     → TakesRows f mid new more → TakesRows f old new (rows ++ more)
 takes_then {f} {old} {rows} {more} some next = record {
   contents = next.contents ∙ some.contents;
   made = some.made ++ next.made;
-  turns = next.turns ∙ ap (λ (ts : List Turn). ts ++ next.made) some.turns
-      ∙ append_assoc old.turns some.made next.made;
-  are = rows_join old.contents f some.made next.made rows more some.are
-      (subst (λ (c : Contents). AreTurnRows c f next.made more) some.contents next.are);
+  turns = rw (next.turns, some.turns) (append_assoc old.turns some.made next.made);
+  are = rows_join old.contents f some.made next.made rows more some.are (rw (← some.contents) next.are);
   changes = λ all. next.changes (some.changes all);
 }
 
 -- the rows of a journal that had no turn
 pub all_rows : {f : ℕ} {old new : Book} {rows : List KeptTurn} → old.turns ≡ [] → TakesRows f old new rows
     → AreTurnRows new.contents f new.turns rows
-all_rows {f} {old} {new} {rows} none took =
-    subst (λ (c : Contents). AreTurnRows c f new.turns rows) (sym took.contents)
-    (subst (λ (ts : List Turn). AreTurnRows old.contents f ts rows)
-    (sym (took.turns ∙ ap (λ (ts : List Turn). ts ++ took.made) none)) took.are)
+all_rows none took = rw (took.contents, took.turns, none) took.are
 
--- all of them change something
-pub all_change : {f : ℕ} {old new : Book} {rows : List KeptTurn} → old.turns ≡ [] → TakesRows f old new rows
-    → changing (facts new) new.turns ≡ new.turns
-all_change {old} none took = took.changes (ap (changing (facts old)) none ∙ sym none)
+-- the row of a number among stored rows
+module _ (items : List Row) (i : ℕ) (item : Row) (row : KeptTurn) (low : i < length items)
+    (is : item ≡ get_or items i item) (told : row ≡ read_cells item) where
+  abbrev rows : List KeptTurn
+  rows = map read_cells items
 
--- a piece is joined to what was before
-pub piece_joined : (a b : ℕ) (xs : List KeptTurn)
-    → take a xs ++ take b (drop a xs) ≡ take (a + length (take b (drop a xs))) xs
-piece_joined a b xs =
-    let more : ℕ = length (take b (drop a xs))
-    in let whole : take more (drop a xs) ≡ take b (drop a xs) =
-    ap (λ (n : ℕ). take n (drop a xs)) (length-take b (drop a xs)) ∙ take_min b (drop a xs)
-    in ap (λ (l : List KeptTurn). take a xs ++ l) (sym (drop-take a more xs ∙ whole))
-    ∙ ap (λ (l : List KeptTurn). l ++ drop a (take (a + more) xs))
-    (sym (take-take a (a + more) xs (omega arith)))
-    ∙ take-append-drop a (take (a + more) xs)
+  within : i < length rows
+  within = omega (arith, length-map items read_cells)
 
-none_of : (n : ℕ) (ys : List KeptTurn) → take (suc n) ys ≡ [] → ys ≡ []
-none_of n [] is = refl
-none_of n (y ∷ ys) is = cc
+  here : row ≡ get_or rows i row
+  here = told ∙ ap read_cells is ∙ sym (get_or-map read_cells items i item row low)
 
-none_left : (ys : List KeptTurn) → take piece ys ≡ [] → ys ≡ []
-unfolding piece
-none_left ys is = none_of 1023 ys is
+  pub takes_next : ATurnMoreIsKeptWhereItChanges → {f : ℕ} {old mid new : Book}
+      → TakesRows f old mid (take i rows) → TakesRow f mid new row → TakesRows f old new (take (i + 1) rows)
+  takes_next law some one =
+      rw (take_more rows i row within, ← here) (takes_then some (takes_one law one))
 
--- after the last
-pub all_taken : (a : ℕ) (xs : List KeptTurn) → take piece (drop a xs) ≡ [] → take a xs ≡ xs
-all_taken a xs is =
-    sym (append-nil (take a xs)) ∙ ap (λ (l : List KeptTurn). take a xs ++ l) (sym (none_left (drop a xs) is))
-    ∙ take-append-drop a xs
+  -- it isn't taken
+  pub refuses_next : {f : ℕ} {old mid : Book} (after at : ℕ) (fault : RestoreFault) → at ≡ after + i + 1
+      → TakesRows f old mid (take i rows) → RefusesRow f mid row at fault → RefusesRows f old rows after fault
+  refuses_next after at (Unread why) number took refuses = refuses
+  refuses_next after at TooMany number took refuses = absurd refuses
+  refuses_next {f} {mid} after at fault number took refuses =
+      let same : at ≡ after + length (take i rows) + 1 =
+      omega (arith, number, within, length-take i rows) in
+      record {
+        book = mid;
+        before = take i rows;
+        row = row;
+        later = drop (i + 1) rows;
+        rows_are = rw (here, ← drop_more rows i row within, take-append-drop) refl;
+        took = took;
+        refuses = subst (λ (n : ℕ). RefusesRow f mid row n fault) same refuses;
+      }
 
-pub piece_taken : {f : ℕ} {old mid new : Book} (rows : List KeptTurn) (at last : ℕ)
-    → TakesRows f old mid (take at rows)
-    → TakesPiece f mid new (take piece (drop at rows)) at (Some last) → TakesRows f old new (take last rows)
-piece_taken {f} {old} {new} rows at last some next =
-    subst (TakesRows f old new) (piece_joined at piece rows ∙ ap (λ (n : ℕ). take n rows) (sym next.0))
-    (takes_then some next.1)
+-- the rows of a piece, after others
+module _ (rows : List KeptTurn) (at : ℕ) (low : at ≤ length rows) where
+  abbrev next : List KeptTurn
+  next = take piece (drop at rows)
 
-pub last_taken : {f : ℕ} {old mid new : Book} (rows : List KeptTurn) (at : ℕ)
-    → TakesRows f old mid (take at rows)
-    → TakesPiece f mid new (take piece (drop at rows)) at None → TakesRows f old new rows
-last_taken {f} {old} {new} rows at some next =
-    subst (TakesRows f old new)
-    (ap (λ (l : List KeptTurn). take at rows ++ l) next.0 ∙ append-nil (take at rows)
-    ∙ all_taken at rows next.0)
-    (takes_then some next.1)
+  pub fits : at + length next ≤ length rows
+  fits = omega (arith, length-take piece (drop at rows), length-drop at rows)
+
+  parts : (take at rows ++ next) ++ drop piece (drop at rows) ≡ rows
+  parts = rw (append_assoc, take-append-drop, take-append-drop) refl
+
+  pub joined : take at rows ++ next ≡ take (at + length next) rows
+  joined =
+      let count : length (take at rows ++ next) ≡ at + length next =
+      omega (arith, length-append (take at rows) next, length-take at rows) in
+      sym (rw (parts, count) at (take-append_seam (take at rows ++ next) (drop piece (drop at rows))))
+
+  pub refuses_piece : {f : ℕ} {old mid : Book} (fault : RestoreFault) → TakesRows f old mid (take at rows)
+      → RefusesRows f mid next at fault → RefusesRows f old rows 0 fault
+  refuses_piece (Unread why) took is = is
+  refuses_piece TooMany took is = omega (arith, fits, is)
+  refuses_piece {f} fault took is =
+      let number : at + length is.before + 1 ≡ 0 + length (take at rows ++ is.before) + 1 =
+      omega (arith, length-append (take at rows) is.before, length-take at rows) in
+      record {
+        book = is.book;
+        before = take at rows ++ is.before;
+        row = is.row;
+        later = is.later ++ drop piece (drop at rows);
+        rows_are = sym parts ∙ rw is.rows_are (simp append_assoc);
+        took = takes_then took is.took;
+        refuses = subst (λ (n : ℕ). RefusesRow f is.book is.row n fault) number is.refuses;
+      }
+
+  -- after the last
+  pub all_taken : length next ≡ 0 → take at rows ++ next ≡ rows
+  unfolding piece
+  all_taken none =
+      joined
+      ∙ take_all (at + length next) rows
+      (omega (arith, none, length-take piece (drop at rows), length-drop at rows))
+
+-- ---- what a connection sees meanwhile
+
+pub reads_then : {P Q R : Type 0} {old mid new : State} → P → (R → Q) → OnlyReads P old mid
+    → OnlyReads Q mid new → OnlyReads R old new
+reads_then done then first next = record {
+  clean = λ clean. first.clean (next.clean clean);
+  same = λ all clean head rows holds.
+      next.same (then all) clean head rows (first.same done (next.clean clean) head rows holds);
+  crash = λ clean head rows holds db may.
+      let early = next.clean clean in
+      first.crash early head rows holds db
+      (next.crash clean head rows (first.same done early head rows holds) db may);
+}

@@ -1,5 +1,5 @@
 -- What is found in a journal's file, and why one isn't opened.
-use Rattle.std.specs.Prelude.{◌≡◌, ◌⊎◌, ℕ, Bool, false, IfSome, List, Option, IsTrue}
+use Rattle.std.specs.Prelude.{◌≡◌, ◌⊎◌, Bool, false, List, IsTrue}
 use Rattle.sqlite.specs.Recovery.{Image}
 use Rattle.sqlite.specs.State.{State, HasCleanDisk}
 use Rattle.sqlite.specs.Tree.{Trees}
@@ -17,15 +17,6 @@ use Rattle.hd_journal_file.specs.declared.opening.Wanted.{Wanted}
 use Rattle.hd_journal_file.specs.declared.open_fault.OpenFault.{OpenFault}
 use Rattle.hd_journal_file.specs.declared.open_fault.OpenFault.TheVariants.{File, OtherCatalogue}
 use Rattle.hd_journal_file.specs.declared.open_fault.OpenFault.TheVariants.{Turns, Memory}
-
--- A connection sees just the rows of these turns, each committed, in a file of the catalogue file with this
--- digest, where one is told.
-pub record AreHeld (s : State) (digest : Option (List ℕ)) (k : Contents) (turns : List Turn) : Type 0 where
-  pub head : Head
-  pub catalogue : IfSome digest (λ told. head.catalogue ≡ told)
-  pub rows : List KeptTurn
-  pub holds : Holds s head rows
-  pub are : AreTurnRows k head.format turns rows
 
 -- The file is of the wanted catalogue, or of another, which is accepted.
 abbrev pub MayBeTaken : Wanted → Head → Type 0

@@ -1,6 +1,5 @@
 -- A journal that takes the rows of a file again.
 use Rattle.std.specs.Prelude.{◌≡◌, ◌≢◌, ℕ, ◌+◌, ◌^◌, ◌≤◌, true, false, List, [], ◌∷◌, ◌++◌, length}
-use Rattle.std.specs.Prelude.{Option, Some, None}
 use Rattle.hd_rules.specs.Journal.{Turn}
 use Rattle.hd_rules.specs.Turns.{Message}
 use Rattle.hd_rules.specs.declared.replies.TurnReply.{TurnReply}
@@ -32,12 +31,6 @@ pub record TakesRows (format : ℕ) (old new : Book) (rows : List KeptTurn) : Ty
   pub turns : new.turns ≡ old.turns ++ made
   pub are : AreTurnRows old.contents format made rows
   pub changes : changing (facts old) old.turns ≡ old.turns → changing (facts new) new.turns ≡ new.turns
-
--- It took the rows after some, and none is left where it answers no number.
-abbrev pub TakesPiece : ℕ → Book → Book → List KeptTurn → ℕ → Option ℕ → Type 0
-TakesPiece format old new rows after None = (rows ≡ []) × TakesRows format old new rows
-TakesPiece format old new rows after (Some last) =
-    (last ≡ after + length rows) × TakesRows format old new rows
 
 -- The first column of a row that says something else than what a turn came to. In the format before this one
 -- that of the reply isn't looked at.

@@ -127,6 +127,8 @@ impl<S: Alter, F: Start, A: Allocator + Copy> TurnTable for JournalFile<S, F, A>
             return Err(WriteFault::Refused);
         };
         let row = turn_row(&self.catalogue, turn, &asked, &came);
-        add(&mut self.conn, &row)
+        add(&mut self.conn, &row)?;
+        a_crash_leaves_what_is_seen(&self.conn);
+        Ok(())
     }
 }

@@ -1,7 +1,7 @@
 //! Opening a journal's file.
 
-ghost use Rattle.std.specs.Prelude.{◌≡◌, ◌⊎◌, ◌↔◌, [], codes, false, Err, IfErr, IfOk, IsErrAnd, IsTrue};
-ghost use Rattle.std.specs.Prelude.{List, OnErr, OnOk, Some};
+ghost use Rattle.std.specs.Prelude.{◌≡◌, ◌⊎◌, ◌↔◌, [], codes, false, Err, IfErr, IfOk, IfSome, IsErrAnd};
+ghost use Rattle.std.specs.Prelude.{IsOk, IsTrue, List, OnErr, OnOk, Some};
 ghost use Rattle.sqlite.specs.Files.{file_state};
 ghost use Rattle.sqlite.specs.Held.{state};
 ghost use Rattle.sqlite.specs.State.{HasCleanDisk};
@@ -11,13 +11,12 @@ ghost use Rattle.hd_journal.specs.Books.{facts};
 ghost use Rattle.hd_journal.specs.Changing.{changing};
 ghost use Rattle.hd_turn_store.specs.Crashes.{HoldsTurns};
 ghost use Rattle.hd_turn_store.specs.Faults.{IsReadingFault};
-ghost use Rattle.hd_turn_store.specs.Holds.{Holds};
+ghost use Rattle.hd_turn_store.specs.Holds.{Holds, OnlyReads};
 ghost use Rattle.hd_turn_store.specs.Kept.{Head, KeptTurn, new_head};
 ghost use Rattle.hd_turn_store.specs.Marks.{HasMark, open_mark};
 ghost use Rattle.hd_turn_store.specs.declared.fault.Fault.{Fault as StoreFault};
 ghost use Rattle.hd_turn_store.specs.declared.fault.Fault.TheVariants as store;
-ghost use Rattle.hd_journal_file.specs.Held.{IsReliable};
-ghost use Rattle.hd_journal_file.specs.Opening.{AreFound, AreHeld, IsRedated, IsTaken, RefusesFile};
+ghost use Rattle.hd_journal_file.specs.Opening.{AreFound, IsRedated, IsTaken, RefusesFile};
 
 use crate::file::JournalFile;
 use crate::open_fault::OpenFault;
@@ -78,13 +77,9 @@ pub fn open<S: Start, P: Progress>(
 {
     let alloc = rt.alloc();
     let (mut conn, is_new) = hd_turn_store::open(rt, path, start, wanted.digest)?;
-    if is_new {
-        let begun = for_turns(alloc, conn, is_for_turns)?;
-        return Ok(durable(alloc, begun, true, Some(*wanted.digest), journal)?);
-    }
-    take_again(alloc, &mut conn, wanted, &mut journal, progress)?;
+    take_again(alloc, &mut conn, is_new, wanted, &mut journal, progress)?;
     let taken = for_turns(alloc, conn, is_for_turns)?;
-    Ok(durable(alloc, taken, false, Some(*wanted.digest), journal)?)
+    Ok(durable(alloc, taken, is_new, wanted, Some(*wanted.digest), journal)?)
 }
 
 /// The connection to a journal's file as it is, or, for turns, with the mark of a server that has it open.
@@ -150,30 +145,30 @@ pub fn open_over<S: Alter + Drop, F: Start, P: Progress>(
     ensures other { result ≡ Err OpenFault.OtherCatalogue → wanted.now.is_other_accepted ≡ false }
     ensures memory { IsTrue is_new → IfErr result (λ fault. fault ≡ OpenFault.Memory) }
 {
-    if is_new {
-        return Ok(durable(alloc, conn, true, None, journal)?);
-    }
-    take_again(alloc, &mut conn, wanted, &mut journal, progress)?;
-    Ok(durable(alloc, conn, false, Some(*wanted.digest), journal)?)
+    take_again(alloc, &mut conn, is_new, wanted, &mut journal, progress)?;
+    let digest = (!is_new).then_some(*wanted.digest);
+    Ok(durable(alloc, conn, is_new, wanted, digest, journal)?)
 }
 
 /// Has a journal without turns take the turns of a file again, which is then of the catalogue that is wanted.
+/// Of a file that was just begun there is none.
 ///
 /// # Errors
 /// `File`, `OtherCatalogue` and `Turns`.
-#[tactic(auto, using(crate::proofs::Keeping::are_in))]
 fn take_again<S: Alter, P: Progress>(
     alloc: Global,
     conn: &mut Connection<S>,
+    is_new: bool,
     wanted: &Wanted<'_>,
     journal: &mut Journal,
     progress: &mut P,
 ) -> Result<(), OpenFault>
     requires { journal.old.turns ≡ [] }
     ensures clean { HasCleanDisk (state S.Store conn.new) → HasCleanDisk (state S.Store conn.old) }
-    ensures taken { HasCleanDisk (state S.Store conn.new) → OnOk result ((head : Head) (rows : List KeptTurn)
-        → Holds (state S.Store conn.old) head rows → IsTaken wanted.now (state S.Store conn.new) head rows
-        journal.new.contents journal.new.turns) }
+    ensures begun { IsTrue is_new → IsOk result × (conn.new ≡ conn.old) × (journal.new ≡ journal.old) }
+    ensures taken { HasCleanDisk (state S.Store conn.new) → is_new ≡ false → OnOk result ((head : Head)
+        (rows : List KeptTurn) → Holds (state S.Store conn.old) head rows
+        → IsTaken wanted.now (state S.Store conn.new) head rows journal.new.contents journal.new.turns) }
     ensures changing { OnOk result (changing (facts journal.new) journal.new.turns ≡ journal.new.turns) }
     ensures contents { OnOk result (journal.new.contents ≡ journal.old.contents) }
     ensures why { HasCleanDisk (state S.Store conn.new) → IfErr result (λ fault. (head : Head)
@@ -186,6 +181,9 @@ fn take_again<S: Alter, P: Progress>(
         → Holds (state S.Store conn.old) head rows → (db : Trees) → (state S.Store conn.new).may_leave db
         → (state S.Store conn.old).may_leave db ⊎ IsRedated wanted.now journal.new head rows db) }
 {
+    if is_new {
+        return Ok(());
+    }
     let found = head_of(conn, wanted.digest)?;
     let is_same = found.is_same;
     if !is_same && !wanted.is_other_accepted {
@@ -211,19 +209,12 @@ struct Found {
 /// # Errors
 /// `File`, where its head can't be read.
 fn head_of<S: Alter>(conn: &mut Connection<S>, digest: &[u8; 32]) -> Result<Found, OpenFault>
-    ensures clean { HasCleanDisk (state S.Store conn.new) → HasCleanDisk (state S.Store conn.old) }
-    ensures same { HasCleanDisk (state S.Store conn.new) → OnOk result ((head : Head) (rows : List KeptTurn)
-        → Holds (state S.Store conn.old) head rows → Holds (state S.Store conn.new) head rows) }
-    ensures is_of { HasCleanDisk (state S.Store conn.new) → IfOk result (λ is. (head : Head)
+    ensures reads { OnlyReads (IsOk result) (state S.Store conn.old) (state S.Store conn.new) }
+    ensures found { HasCleanDisk (state S.Store conn.new) → IfOk result (λ found. (head : Head)
         (rows : List KeptTurn) → Holds (state S.Store conn.old) head rows
-        → IsTrue is.is_same ↔ (head.catalogue ≡ digest.now)) }
-    ensures format { HasCleanDisk (state S.Store conn.new) → IfOk result (λ is. (head : Head)
-        (rows : List KeptTurn) → Holds (state S.Store conn.old) head rows → head.format ≡ is.format) }
+        → (head.format ≡ found.format) × (IsTrue found.is_same ↔ (head.catalogue ≡ digest.now))) }
     ensures why { IfErr result (λ fault. (why : StoreFault) × (fault ≡ OpenFault.File why)
         × IsReadingFault why) }
-    ensures crash { HasCleanDisk (state S.Store conn.new) → (head : Head) (rows : List KeptTurn)
-        → Holds (state S.Store conn.old) head rows → (db : Trees) → (state S.Store conn.new).may_leave db
-        → (state S.Store conn.old).may_leave db }
 {
     let heading = catalogue(conn)?;
     let is_same = heading.catalogue.as_slice() == digest.as_slice();
@@ -241,16 +232,23 @@ fn durable<S: Alter + Drop, F: Start>(
     alloc: Global,
     conn: Connection<S>,
     is_new: bool,
+    wanted: &Wanted<'_>,
     digest: Option<[u8; 32]>,
     journal: Journal,
 ) -> Result<DurableJournal<JournalFile<S, F>>, AllocError>
-    requires held { IsReliable (image_at F.Start) is_new (state S.Store conn)
-        → AreHeld (state S.Store conn) digest journal.contents journal.turns }
+    requires begun { HasCleanDisk (state S.Store conn) → IsTrue is_new → (journal.turns ≡ [])
+        × ((head : Head) × Holds (state S.Store conn) head []
+        × IfSome digest (λ told. head.catalogue ≡ told)) }
+    requires found { AreFound (image_at F.Start) is_new wanted.now (state S.Store conn) journal.contents
+        journal.turns }
+    requires told { is_new ≡ false → digest ≡ Some wanted.now.digest.now }
     requires change { changing (facts journal) journal.turns ≡ journal.turns }
     ensures contents { IfOk result (λ kept. kept.contents ≡ journal.contents) }
     ensures turns { IfOk result (λ kept. kept.turns ≡ journal.turns) }
     ensures file { IfOk result (λ kept. (kept.table.conn ≡ conn) × (kept.table.is_new ≡ is_new)) }
     ensures digest { IfOk result (λ kept. kept.table.digest ≡ digest) }
+    ensures found { IfOk result (λ kept. AreFound (image_at F.Start) kept.table.is_new wanted.now
+        (state S.Store kept.table.conn) kept.contents kept.turns) }
 {
     let library = Arc::try_clone(journal.desk().catalogue())?;
     let file = JournalFile::new(alloc, conn, is_new, digest, library);

@@ -1,39 +1,35 @@
 //! The row that is kept of a turn, as it is read.
 
-ghost use Rattle.std.specs.Prelude.{◌≡◌, ◌⊎◌, IfErr, IfOk, OnOk};
-ghost use Rattle.hd_catalogue.specs.Contents.{facts_of};
+ghost use Rattle.std.specs.Prelude.{◌≡◌, ◌⊎◌, ℕ, IfErr, IfOk, OnOk};
+ghost use Rattle.hd_journal.specs.Books.{facts};
 ghost use Rattle.hd_rules.specs.Messages.{IsKnownMessage};
-ghost use Rattle.hd_turn_row.specs.Faults.{IsFirstFault};
 ghost use Rattle.hd_turn_row.specs.Rows.{HasOutcome, IsRowOf};
-ghost use Rattle.hd_turn_row.specs.declared.fault.RowFault.{RowFault};
 ghost use Rattle.hd_turn_store.specs.Rows.{kept};
-ghost use Rattle.hd_journal_file.specs.Restored.{DiffersFirst};
+ghost use Rattle.hd_journal_file.specs.Restored.{DiffersFirst, RefusesRow};
 ghost use Rattle.hd_journal_file.specs.declared.fault.OutcomeColumn.{OutcomeColumn as Column};
 
 use crate::fault::{OutcomeColumn, RestoreFault};
-use hd_catalogue::Catalogue;
-use hd_journal::{OwnedAsk, TurnReply};
+use hd_journal::{Journal, OwnedAsk, TurnReply};
 use hd_turn_row::{OutcomeColumns, ask_of, replies_of_one_column_are_one};
 use hd_turn_store::{FORMAT, TurnRow};
 use std::alloc::{Allocator, Global};
 
-/// What a row asks, as a journal takes it. `at` is the row's number.
+/// What a row asks of a journal, as that takes it. `at` is the row's number.
 ///
 /// # Errors
 /// `NoTurn` and `Memory`.
 pub(crate) fn own_ask<A: Allocator + Copy>(
-    catalogue: &Catalogue<A>,
+    journal: &Journal<A>,
     alloc: A,
     row: &TurnRow<'_>,
     at: u32,
 ) -> Result<OwnedAsk<A>, RestoreFault>
-    ensures row { IfOk result (λ own. IsRowOf catalogue.now own.seat own.message (kept row.now)) }
-    ensures known { IfOk result (λ own. IsKnownMessage (facts_of catalogue.now) own.message) }
-    ensures why { IfErr result (λ fault. (fault ≡ RestoreFault.Memory)
-        ⊎ ((why : RowFault) × (fault ≡ RestoreFault.NoTurn at why)
-        × IsFirstFault catalogue.now (kept row.now) why)) }
+    ensures row { IfOk result (λ own. IsRowOf journal.now.contents own.seat own.message (kept row.now)) }
+    ensures known { IfOk result (λ own. IsKnownMessage (facts journal.now) own.message) }
+    ensures why { IfErr result (λ fault. (format : ℕ)
+        → RefusesRow format journal.now (kept row.now) at fault) }
 {
-    let ask = match ask_of(catalogue, row) {
+    let ask = match ask_of(journal.desk().catalogue(), row) {
         Ok(ask) => ask,
         Err(why) => return Err(RestoreFault::NoTurn { at, why }),
     };

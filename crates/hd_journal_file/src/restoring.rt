@@ -1,24 +1,23 @@
 //! A journal from the rows of its file.
 
-ghost use Rattle.std.specs.Prelude.{◌≡◌, ◌+◌, ◌<◌, [], List, IfErr, IfOk, IfSome, OnOk, drop, length, map};
-ghost use Rattle.std.specs.Prelude.{take};
+ghost use Rattle.std.specs.Prelude.{◌≡◌, ◌+◌, ◌≤◌, [], List, IfErr, IfOk, IsOk, OnOk, drop, length, take};
 ghost use Rattle.sqlite.specs.State.{HasCleanDisk};
 ghost use Rattle.sqlite.specs.Held.{state};
 ghost use Rattle.sqlite.specs.Tree.{Trees};
 ghost use Rattle.hd_journal.specs.Books.{IsLegalBook, facts};
 ghost use Rattle.hd_journal.specs.Changing.{changing};
 ghost use Rattle.hd_turn_row.specs.Rows.{AreTurnRows};
-ghost use Rattle.hd_turn_store.specs.Holds.{Holds};
+ghost use Rattle.hd_turn_store.specs.Holds.{Holds, OnlyReads};
 ghost use Rattle.hd_turn_store.specs.Kept.{Head, KeptTurn, piece};
-ghost use Rattle.hd_turn_store.specs.Rows.{kept, read_cells};
-ghost use Rattle.hd_journal_file.specs.Restored.{RefusesRow, RefusesRows, TakesPiece, TakesRow, TakesRows};
+ghost use Rattle.hd_turn_store.specs.Rows.{kept};
+ghost use Rattle.hd_journal_file.specs.Restored.{RefusesRow, RefusesRows, TakesRow, TakesRows};
 
 use crate::fault::RestoreFault;
 use crate::progress::Progress;
 use crate::reading::{compare, own_ask};
 use hd_durable::a_turn_more_is_kept_where_it_changes;
 use hd_journal::Journal;
-use hd_turn_store::{Alter, Connection, Row, TurnRow, turns};
+use hd_turn_store::{Alter, Connection, TurnRow, turns};
 use std::alloc::{Allocator, Global};
 
 /// Takes the turn of a row again. `at` is the row's number, and `format` the file's.
@@ -36,7 +35,7 @@ fn take_turn<A: Allocator + Copy>(
     ensures took { OnOk result (TakesRow format journal.old journal.new (kept row.now)) }
     ensures why { IfErr result (RefusesRow format journal.old (kept row.now) at) }
 {
-    let own = own_ask(journal.desk().catalogue(), alloc, row, at)?;
+    let own = own_ask(journal, alloc, row, at)?;
     let new = match journal.take_new(own) {
         Ok(new) => new,
         Err(_) => return Err(RestoreFault::Memory),
@@ -47,61 +46,11 @@ fn take_turn<A: Allocator + Copy>(
     compare(memory, &new.made.reply, row, at, format)
 }
 
-/// Takes the turn of a row of values again.
+/// Takes the next rows of a file again, at most 1,024 of them, and answers the number of the last: `after`
+/// where there is none behind it.
 ///
 /// # Errors
-/// As `take_turn`, or `Unread`.
-fn take_row<A: Allocator + Copy>(
-    journal: &mut Journal<A>,
-    alloc: A,
-    memory: Global,
-    row: &Row,
-    at: u32,
-    format: u32,
-) -> Result<(), RestoreFault>
-    ensures took { OnOk result (TakesRow format journal.old journal.new (read_cells row.now)) }
-    ensures why { IfErr result (RefusesRow format journal.old (read_cells row.now) at) }
-{
-    match TurnRow::of(row) {
-        Ok(row) => take_turn(journal, alloc, memory, &row, at, format),
-        Err(fault) => Err(RestoreFault::Unread(fault)),
-    }
-}
-
-/// Takes the turns of some rows again, and answers the number of the last; the first has the next after
-/// `after`.
-///
-/// # Errors
-/// As `take_row`, or `TooMany`.
-fn take_rows<A: Allocator + Copy>(
-    journal: &mut Journal<A>,
-    alloc: A,
-    memory: Global,
-    rows: &[Row],
-    after: u32,
-    format: u32,
-) -> Result<u32, RestoreFault>
-    ensures number { IfOk result (λ at. at ≡ after + length rows.now) }
-    ensures rows { OnOk result (TakesRows format journal.old journal.new (map read_cells rows.now)) }
-    ensures why { IfErr result (RefusesRows format journal.old (map read_cells rows.now) after) }
-{
-    a_turn_more_is_kept_where_it_changes();
-    let mut at = after;
-    for row in rows {
-        let Some(next) = at.checked_add(1) else {
-            return Err(RestoreFault::TooMany);
-        };
-        take_row(journal, alloc, memory, row, next, format)?;
-        at = next;
-    }
-    Ok(at)
-}
-
-/// Takes the next rows of a file again, at most 1,024 of them, and answers the number of the last, or `None`
-/// where there is none after `after`.
-///
-/// # Errors
-/// As `take_rows`, or `Unread`.
+/// As `take_turn`, or `Unread` and `TooMany`.
 fn take_piece<S: Alter, A: Allocator + Copy>(
     conn: &mut Connection<S>,
     memory: Global,
@@ -109,32 +58,36 @@ fn take_piece<S: Alter, A: Allocator + Copy>(
     alloc: A,
     after: u32,
     format: u32,
-) -> Result<Option<u32>, RestoreFault>
-    ensures clean { HasCleanDisk (state S.Store conn.new) → HasCleanDisk (state S.Store conn.old) }
+) -> Result<u32, RestoreFault>
+    ensures reads { OnlyReads (IsOk result) (state S.Store conn.old) (state S.Store conn.new) }
     ensures took { OnOk result ((rows : List KeptTurn) × TakesRows format journal.old journal.new rows) }
-    ensures same { HasCleanDisk (state S.Store conn.new) → OnOk result ((head : Head) (rows : List KeptTurn)
-        → Holds (state S.Store conn.old) head rows → Holds (state S.Store conn.new) head rows) }
     ensures rows { HasCleanDisk (state S.Store conn.new) → IfOk result (λ last. (head : Head)
         (rows : List KeptTurn) → Holds (state S.Store conn.old) head rows
-        → TakesPiece format journal.old journal.new (take piece (drop after rows)) after last) }
-    ensures more { IfOk result (λ last. IfSome last (λ last. after < last)) }
+        → (last ≡ after + length (take piece (drop after rows)))
+        × TakesRows format journal.old journal.new (take piece (drop after rows))) }
+    ensures more { IfOk result (λ last. after ≤ last) }
     ensures why { HasCleanDisk (state S.Store conn.new) → IfErr result (λ fault. (head : Head)
         (rows : List KeptTurn) → Holds (state S.Store conn.old) head rows
         → RefusesRows format journal.old (take piece (drop after rows)) after fault) }
-    ensures crash { HasCleanDisk (state S.Store conn.new) → (head : Head) (rows : List KeptTurn)
-        → Holds (state S.Store conn.old) head rows → (db : Trees) → (state S.Store conn.new).may_leave db
-        → (state S.Store conn.old).may_leave db }
 {
+    a_turn_more_is_kept_where_it_changes();
     let rows = match turns(conn, after) {
         Ok(rows) => rows,
         Err(fault) => return Err(RestoreFault::Unread(fault)),
     };
-    let last = take_rows(journal, alloc, memory, rows.as_slice(), after, format)?;
-    if rows.is_empty() {
-        Ok(None)
-    } else {
-        Ok(Some(last))
+    let mut at = after;
+    for values in &rows {
+        let Some(next) = at.checked_add(1) else {
+            return Err(RestoreFault::TooMany);
+        };
+        let row = match TurnRow::of(values) {
+            Ok(row) => row,
+            Err(fault) => return Err(RestoreFault::Unread(fault)),
+        };
+        take_turn(journal, alloc, memory, &row, next, format)?;
+        at = next;
     }
+    Ok(at)
 }
 
 /// Takes all turns of a file again, in a journal that has none yet, of the catalogue by which they are told,
@@ -171,14 +124,12 @@ pub fn restore_turns<S: Alter, A: Allocator + Copy, P: Progress>(
 {
     let mut at = 0;
     for _piece in 0..u32::MAX {
-        let next = take_piece(conn, memory, journal, alloc, at, format)?;
-        match next {
-            Some(last) => {
-                at = last;
-                progress.taken(at);
-            }
-            None => return Ok(journal.front()),
+        let last = take_piece(conn, memory, journal, alloc, at, format)?;
+        if last == at {
+            return Ok(journal.front());
         }
+        at = last;
+        progress.taken(at);
     }
     Err(RestoreFault::TooMany)
 }

@@ -1,10 +1,11 @@
 //! The row of a turn.
 
 ghost use Rattle.std.specs.Prelude.{◌≡◌, ℕ};
+ghost use Rattle.std.specs.Arc.{arc_value};
 ghost use Rattle.hd_catalogue.specs.Contents.{facts_of};
 ghost use Rattle.hd_journal.specs.Shown.{turn_shown};
 ghost use Rattle.hd_rules.specs.Messages.{IsKnownMessage, asking, kept_line, message_of};
-ghost use Rattle.hd_turn_row.specs.Rows.{AreAskedColumns, AreColumnsOf, HasOutcome, IsRowOf};
+ghost use Rattle.hd_turn_row.specs.Rows.{AreAskedColumns, AreColumnsOf, IsTurnRow};
 ghost use Rattle.hd_turn_store.specs.Rows.{kept};
 
 use hd_catalogue::Catalogue;
@@ -13,20 +14,19 @@ use hd_rules::{Ask, Asked};
 use hd_turn_row::{AskedColumns, OutcomeColumns, row_of};
 use hd_turn_store::TurnRow;
 use std::alloc::Allocator;
+use std::sync::Arc;
 
 /// The row of a turn, which is no query. Its message is known to the catalogue, and the columns are its own.
 pub(crate) fn turn_row<'a, 't: 'a, A: Allocator + Copy>(
-    catalogue: &'a Catalogue<A>,
+    catalogue: &'a Arc<Catalogue<A>, A>,
     turn: &TurnRef<'t>,
     asked: &'a AskedColumns,
     came: &'a OutcomeColumns,
 ) -> TurnRow<'a>
-    requires known { IsKnownMessage (facts_of catalogue.now) (turn_shown turn.now).message }
+    requires known { IsKnownMessage (facts_of (arc_value catalogue.now)) (turn_shown turn.now).message }
     requires asked { AreAskedColumns turn.now.asked asked.now }
     requires came { AreColumnsOf turn.now.reply came.now }
-    ensures asked { IsRowOf catalogue.now (turn_shown turn.now).seat (turn_shown turn.now).message
-        (kept result) }
-    ensures came { (format : ℕ) → HasOutcome format turn.now.reply (kept result) }
+    ensures { (format : ℕ) → IsTurnRow (arc_value catalogue.now) format (turn_shown turn.now) (kept result) }
 {
     match &turn.asked {
         Asked::Command(_) | Asked::Cancel(_) => row_of(catalogue, &ask_of(turn), asked, came),

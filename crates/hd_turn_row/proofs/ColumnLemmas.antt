@@ -1,5 +1,5 @@
 -- What columns say, and their first fault.
-use Rattle.std.proofs.Common.{◌≡◌, ℕ, ◌⊎◌, Option, None, Some, List, [], ◌∷◌, refl, sym, ap, subst, ◌∙◌, inl}
+use Rattle.std.proofs.Common.{◌≡◌, ℕ, ◌⊎◌, Option, None, Some, List, [], ◌∷◌, refl, sym, ap, ◌∙◌, inl}
 use Rattle.std.proofs.Common.{inr, rules}
 use Rattle.std.specs.Prelude.{IfSome, is_some}
 use Rattle.std.specs.List.{AllByRecursion}
@@ -9,8 +9,7 @@ use Rattle.hd_catalogue.specs.Contents.{title_number}
 use Rattle.hd_day_text.specs.Days.{IsDayText}
 use Rattle.hd_asked.specs.Acts.{act_named, admits_named}
 use Rattle.hd_turn_row.specs.Columns.{AreKnownParts, AreShown, IsKnownIn, IsShown, Said, Says, asked_columns}
-use Rattle.hd_turn_row.specs.Columns.{day_of}
-use Rattle.hd_turn_row.specs.Columns.{part, text}
+use Rattle.hd_turn_row.specs.Columns.{day_of, part, text}
 use Rattle.hd_turn_row.specs.Faults.{IsFirst, IsFirstMisfit, IsReadText, misfit}
 use Rattle.hd_turn_row.specs.Grown.{OnlyGrew}
 use Rattle.hd_turn_row.specs.Rows.{text_or_empty}
@@ -49,14 +48,15 @@ fits_self p fault first =
     let all : AllByRecursion (λ c. part p c ≡ part p c) asked_columns = search rules depth 20 in
     none_first (λ c. part p c ≡ part p c) (λ c. misfit (is_some (part p c)) c) asked_columns fault all first
 
--- a column that shows a part is read
-shown_read : {V : Type 0} (Says : V → List ℕ → Type 0) (part : Option V) (text : Option (List ℕ))
-    → IsShown Says part text → IsReadText Says text
-shown_read Says None None h = tt
-shown_read Says (Some part) (Some text) h = (part, h)
-shown_read Says part text h = absurd h
+-- a column shows nothing of none, and of a part a text that says it
+by_cases : {V : Type 0} (Says : V → List ℕ → Type 0) (P : Option V → Option (List ℕ) → Type 0) → P None None
+    → ((x : V) (t : List ℕ) → Says x t → P (Some x) (Some t)) → (part : Option V) (text : Option (List ℕ))
+    → IsShown Says part text → P part text
+by_cases Says P none some None None h = none
+by_cases Says P none some (Some x) (Some t) h = some x t h
+by_cases Says P none some part text h = absurd h
 
--- and shows one part, where a text says one thing
+-- it shows one part, where a text says one thing
 shown_once : {V : Type 0} (Says : V → List ℕ → Type 0) (part other : Option V) (text : Option (List ℕ))
     → ((x y : V) (t : List ℕ) → Says x t → Says y t → x ≡ y) → IsShown Says part text
     → IsShown Says other text → part ≡ other
@@ -66,34 +66,16 @@ shown_once Says None (Some y) None once h g = absurd g
 shown_once Says (Some x) None (Some text) once h g = absurd g
 shown_once Says part other text once h g = absurd h
 
--- what holds of each part that a text may say holds of the one that is shown
-shown_all : {V : Type 0} (Says : V → List ℕ → Type 0) (P : V → Type 0) (part : Option V)
-    (text : Option (List ℕ)) → ((x : V) (t : List ℕ) → Says x t → P x) → IsShown Says part text
-    → IfSome part P
-shown_all Says P None text all h = tt
-shown_all Says P (Some part) None all h = absurd h
-shown_all Says P (Some part) (Some text) all h = all part text h
-
--- a column shows what it showed, where each text says what it said
-shown_still : {V : Type 0} (Says Still : V → List ℕ → Type 0) (part : Option V) (text : Option (List ℕ))
-    → ((x : V) (t : List ℕ) → Says x t → Still x t) → IsShown Says part text → IsShown Still part text
-shown_still Says Still None None all h = tt
-shown_still Says Still (Some part) (Some text) all h = all part text h
-shown_still Says Still part text all h = absurd h
-
 -- the text of a day isn't empty
-day_filled : (day : Option ℕ) (text : Option (List ℕ)) → IsShown IsDayText day text
-    → IsShown IsDayText day (day_of (text_or_empty text))
-day_filled None None shown = tt
-day_filled None (Some text) shown = absurd shown
-day_filled (Some day) None shown = absurd shown
-day_filled (Some day) (Some []) shown = absurd (let spelled = shown.spelled in cc)
-day_filled (Some day) (Some (byte ∷ bytes)) shown = shown
+day_filled : (day : ℕ) (text : List ℕ) → IsDayText day text → IsShown IsDayText (Some day) (day_of text)
+day_filled day [] shown = absurd (let spelled = shown.spelled in cc)
+day_filled day (byte ∷ bytes) shown = shown
 
 pub day_column : (day : Option ℕ) (text : Option (List ℕ)) (column : List ℕ) → column ≡ text_or_empty text
     → IsShown IsDayText day text → IsShown IsDayText day (day_of column)
 day_column day text column is shown =
-    subst (λ (t : List ℕ). IsShown IsDayText day (day_of t)) (sym is) (day_filled day text shown)
+    rw is (by_cases IsDayText (λ d t. IsShown IsDayText d (day_of (text_or_empty t))) tt day_filled day text
+    shown)
 
 -- the same text is of one day
 abbrev pub OneDay : Type 0
@@ -156,20 +138,21 @@ parts_once one k row p q h g =
 -- each is read, and what it shows is known
 pub shown_read_all : (k : Contents) (row : KeptTurn) (p : Parts) → AreShown k p row
     → AllByRecursion (λ c. IsReadText (Says k c) (text row c)) asked_columns
-shown_read_all k row p h =
-    each _ _ (λ c. shown_read (Says k c) (part p c) (text row c)) asked_columns h
+shown_read_all k row p =
+    each _ _ (λ c. by_cases (Says k c) (λ _ t. IsReadText (Says k c) t) tt (λ x t h. (x, h)) (part p c)
+    (text row c)) asked_columns
 
 pub shown_known : (k : Contents) (row : KeptTurn) (p : Parts) → AreShown k p row
     → AreKnownParts (facts_of k) p
 shown_known k row p h =
     let all : AllByRecursion (λ c. IfSome (part p c) (IsKnownIn (facts_of k) c)) asked_columns =
-    each _ _ (λ c. shown_all (Says k c) (IsKnownIn (facts_of k) c) (part p c) (text row c) (says_known k c))
-    asked_columns h in
+    each _ _ (λ c. by_cases (Says k c) (λ x _. IfSome x (IsKnownIn (facts_of k) c)) tt (says_known k c)
+    (part p c) (text row c)) asked_columns h in
     assumption
 
 -- what a catalogue's columns show those of one that grew show
 pub shown_grown : (old new : Contents) (p : Parts) (row : KeptTurn) → OnlyGrew old new → AreShown old p row
     → AreShown new p row
-shown_grown old new p row more h =
-    each _ _ (λ c. shown_still (Says old c) (Says new c) (part p c) (text row c) (says_still old new more c))
-    asked_columns h
+shown_grown old new p row more =
+    each _ _ (λ c. by_cases (Says old c) (IsShown (Says new c)) tt (says_still old new more c) (part p c)
+    (text row c)) asked_columns

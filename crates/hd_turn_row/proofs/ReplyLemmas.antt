@@ -1,7 +1,6 @@
 -- Replies, read back from the numbers of their columns.
-use Rattle.std.proofs.Common.{◌≡◌, ℕ, ◌^◌, ◌<◌, Bool, true, false, Option, Some}
-use Rattle.std.proofs.Common.{List, [], ◌∷◌, ◌++◌, get_or, refl, sym, ap, subst, ◌∙◌, append_assoc}
-use Rattle.std.proofs.Common.{append-nil, arith}
+use Rattle.std.proofs.Common.{◌≡◌, ℕ, ◌^◌, ◌<◌, Bool, true, false, Option, Some, List, [], ◌∷◌, ◌++◌, get_or}
+use Rattle.std.proofs.Common.{refl, sym, ap, subst, ◌∙◌, append_assoc, append-nil, arith}
 use Rattle.std.specs.Int.{to_be_bytes, w64}
 use Rattle.std.specs.List.{AllByRecursion, flat_map}
 use Rattle.std.proofs.lemmas.Nat.{from_be_bytes-to_be_bytes_8}
@@ -15,8 +14,8 @@ use Rattle.hd_rules.specs.declared.replies.Refusal.TheVariants as refusal
 use Rattle.hd_rules.specs.declared.replies.Reply.TheVariants.{LentOrRenewed, Returned, Held, Deleted}
 use Rattle.hd_rules.specs.declared.replies.TurnReply.{TurnReply}
 use Rattle.hd_rules.specs.declared.replies.TurnReply.TheVariants.{Done, Refused, Cancelled, Item}
-use Rattle.hd_turn_row.specs.Replies.{IsReplyColumn, kind_number, number_if_any, refusal_number}
-use Rattle.hd_turn_row.specs.Replies.{depended_on, hold_numbers, reply_numbers, state_numbers, truth_number}
+use Rattle.hd_turn_row.specs.Replies.{IsReplyColumn, kind_number, number_if_any, refusal_number, depended_on}
+use Rattle.hd_turn_row.specs.Replies.{hold_numbers, reply_numbers, state_numbers, truth_number}
 use Rattle.hd_turn_row.specs.Written.{IsWritten}
 
 -- numbers, and more behind them

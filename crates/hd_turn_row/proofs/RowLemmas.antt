@@ -1,15 +1,11 @@
 -- Rows and what they ask.
-use Rattle.std.proofs.Common.{◌≡◌, ℕ, Option, Some, List, ◌∷◌, refl, subst, inl, inr}
-use Rattle.std.proofs.lemmas.Option.{none-some as none_there}
-use Rattle.hd_rules.specs.declared.turns.Asked.{Asked}
-use Rattle.hd_rules.specs.declared.turns.Asked.TheVariants as ask
+use Rattle.std.proofs.Common.{◌≡◌, ℕ, ◌∷◌, subst, inl, inr}
 use Rattle.hd_catalogue.specs.Contents.{Contents, facts_of}
-use Rattle.hd_rules.specs.Messages.{IsKnownMessage, kept_line}
+use Rattle.hd_rules.specs.Messages.{IsKnownMessage}
 use Rattle.hd_rules.specs.Turns.{Message}
 use Rattle.hd_turn_row.specs.Columns.{asked_columns}
 use Rattle.hd_turn_row.specs.Faults.{IsFirstFault, IsFirstMisfit, IsRead, unread as unread_fault}
 use Rattle.hd_turn_row.specs.Grown.{OnlyGrew}
-use Rattle.hd_asked.specs.Parts.{asked_parts}
 use Rattle.hd_turn_row.specs.Rows.{IsRowOf}
 use Rattle.hd_turn_store.specs.Kept.{KeptTurn}
 use Rattle.hd_turn_row.specs.declared.fault.Column.TheVariants as columns
@@ -19,13 +15,6 @@ use Rattle.hd_turn_row.proofs.ColumnLemmas.{OneDay, fits_self, none_first, parts
 use Rattle.hd_turn_row.proofs.ColumnLemmas.{shown_known, shown_read_all}
 use Rattle.hd_turn_row.proofs.NumberLemmas.{number_kept, number_known}
 use Rattle.hd_turn_row.proofs.PartLemmas.{asked_back, parts_known}
-
--- what has columns is no query, and keeps its line
-pub line_kept : (asked : Asked) (parts : Parts) (line : Option (List ℕ)) → asked_parts asked ≡ Some parts
-    → kept_line asked line ≡ line
-line_kept (ask.Command command) parts line is = refl
-line_kept (ask.Cancel what) parts line is = refl
-line_kept (ask.Item copy) parts line is = absurd (none_there parts is)
 
 -- what is asked by a row is known
 pub row_known : (k : Contents) (seat : ℕ) (message : Message) (row : KeptTurn) → IsRowOf k seat message row

@@ -2,7 +2,7 @@
 ghost use Rattle.std.specs.Prelude.{◌≡◌, IfErr, IfOk, OnOk, Some};
 ghost use Rattle.hd_turn_row.specs.Faults.{IsFirstMisfit, IsMisfit, misfit};
 ghost use Rattle.hd_asked.specs.Parts.{asked_parts};
-ghost use Rattle.hd_turn_row.specs.Parts.{asked_by, command_by, kind_by};
+ghost use Rattle.hd_turn_row.specs.Parts.{asked_by, kind_by};
 
 use crate::fault::{Column, RowFault};
 use hd_asked::{Act, Admits, Parts, parts_of};
@@ -76,63 +76,40 @@ fn asked_by(parts: &Parts) -> Asked
     let copy = parts.copy.unwrap_or(CopyNo::new(0).unwrap());
     let title = parts.title.unwrap_or(TitleNo::new(0).unwrap());
     let branch = parts.branch.unwrap_or(BranchNo::new(0).unwrap());
-    match parts.act {
-        Act::Checkout => command(
-            parts,
-            Action::Checkout {
-                patron,
-                copy,
-                may_renew: false,
-            },
-        ),
-        Act::CheckoutOrRenewal => command(
-            parts,
-            Action::Checkout {
-                patron,
-                copy,
-                may_renew: true,
-            },
-        ),
+    let action = match parts.act {
+        Act::Checkout | Act::CheckoutOrRenewal => Action::Checkout {
+            patron,
+            copy,
+            may_renew: matches!(parts.act, Act::CheckoutOrRenewal),
+        },
         Act::OffLine => {
             let due = parts.until.unwrap_or(Day::first());
-            command(parts, Action::OffLine { patron, copy, due })
+            Action::OffLine { patron, copy, due }
         }
-        Act::Checkin => command(parts, Action::Checkin { copy, branch }),
-        Act::Add => command(
-            parts,
-            Action::Add {
-                patron,
-                title,
-                kind: kind_by(parts.admits.unwrap_or(Admits::Any), copy),
-                pickup: branch,
-                expiry: parts.until,
-            },
-        ),
-        Act::Delete => command(parts, Action::Delete { patron, title }),
-        Act::Change => command(
-            parts,
-            Action::Change {
-                patron,
-                title,
-                kind: parts.admits.map(|admits| kind_by(admits, copy)),
-                pickup: parts.branch,
-                expiry: parts.until,
-            },
-        ),
-        Act::Renewal => command(parts, Action::Renewal { patron, copy }),
-        Act::CancelCheckout => Asked::Cancel(Cancel::Checkout(copy)),
-        Act::CancelCheckin => Asked::Cancel(Cancel::Checkin(copy)),
-        Act::CancelRenewal => Asked::Cancel(Cancel::Renewal(copy)),
-        Act::CancelAdd => Asked::Cancel(Cancel::Add(patron, title)),
-        Act::CancelDelete => Asked::Cancel(Cancel::Delete(patron, title)),
-        Act::CancelChange => Asked::Cancel(Cancel::Change(patron, title)),
-    }
-}
-
-/// A command of the day of these parts.
-fn command(parts: &Parts, action: Action) -> Asked
-    ensures { result ≡ command_by parts.now action }
-{
+        Act::Checkin => Action::Checkin { copy, branch },
+        Act::Add => Action::Add {
+            patron,
+            title,
+            kind: kind_by(parts.admits.unwrap_or(Admits::Any), copy),
+            pickup: branch,
+            expiry: parts.until,
+        },
+        Act::Delete => Action::Delete { patron, title },
+        Act::Change => Action::Change {
+            patron,
+            title,
+            kind: parts.admits.map(|admits| kind_by(admits, copy)),
+            pickup: parts.branch,
+            expiry: parts.until,
+        },
+        Act::Renewal => Action::Renewal { patron, copy },
+        Act::CancelCheckout => return Asked::Cancel(Cancel::Checkout(copy)),
+        Act::CancelCheckin => return Asked::Cancel(Cancel::Checkin(copy)),
+        Act::CancelRenewal => return Asked::Cancel(Cancel::Renewal(copy)),
+        Act::CancelAdd => return Asked::Cancel(Cancel::Add(patron, title)),
+        Act::CancelDelete => return Asked::Cancel(Cancel::Delete(patron, title)),
+        Act::CancelChange => return Asked::Cancel(Cancel::Change(patron, title)),
+    };
     Asked::Command(Command {
         day: parts.day.unwrap_or(Day::first()),
         action,

@@ -1,6 +1,6 @@
 //! What a turn came to, in short.
 ghost use Rattle.std.specs.Prelude.{◌≡◌};
-ghost use Rattle.hd_turn_row.specs.Replies.{named_command, number_column, outcome_word};
+ghost use Rattle.hd_turn_row.specs.Replies.{named_command, outcome_word};
 
 use crate::reply::reply_column;
 use hd_rules::{Refusal, TurnReply};
@@ -32,7 +32,7 @@ impl OutcomeColumns {
     {
         Ok(OutcomeColumns {
             outcome: outcome_of(reply),
-            number: number_of(reply),
+            number: named_command(reply).and_then(|number| u32::try_from(number).ok()),
             reply: reply_column(alloc, reply)?,
         })
     }
@@ -48,14 +48,6 @@ fn outcome_of(reply: &TurnReply) -> &'static [u8]
         TurnReply::Cancelled { .. } => b"cancelled",
         TurnReply::Item(_) => b"item",
     }
-}
-
-/// The number of the command that a reply names, where it has 32 bits.
-fn number_of(reply: &TurnReply) -> Option<u32>
-    ensures { result ≡ number_column reply.now }
-{
-    let number = named_command(reply)?;
-    u32::try_from(number).ok()
 }
 
 /// The number of the command that a reply names.

@@ -15,6 +15,9 @@ use hd_rules::{BranchNo, CopyNo, Day, PatronNo, TitleNo};
 use hd_turn_store::TurnRow;
 use std::alloc::Allocator;
 
+/// What a column says that may be empty, or the fault that it says nothing.
+type Read<T> = Result<Option<T>, RowFault>;
+
 /// What the columns of a row say, or the first that says nothing.
 pub(crate) fn parts_said<A: Allocator + Copy>(
     catalogue: &Catalogue<A>,
@@ -26,34 +29,27 @@ pub(crate) fn parts_said<A: Allocator + Copy>(
     Ok(Parts {
         day: own_day(row.day)?,
         act: act_said(row.act)?,
-        patron: patron_if_any(catalogue, row.patron)?,
-        copy: copy_if_any(catalogue, row.copy)?,
-        title: title_if_any(catalogue, row.title)?,
-        branch: branch_if_any(catalogue, row.branch)?,
+        patron: patron_in(catalogue, row.patron)?,
+        copy: copy_in(catalogue, row.copy)?,
+        title: title_in(catalogue, row.title)?,
+        branch: branch_in(catalogue, row.branch)?,
         admits: admits_if_any(row.admits)?,
         until: day_if_any(Column::Until, row.until)?,
     })
 }
 
 /// The transaction day of a text, if it isn't empty.
-fn own_day(text: &[u8]) -> Result<Option<Day>, RowFault>
+fn own_day(text: &[u8]) -> Read<Day>
     ensures { IsReading IsDayText (RowFault.NoDay Column.Day) (day_of text.now) result }
 {
-    day_if_any(Column::Day, day_in(text))
-}
-
-/// A day's text, if it isn't empty.
-fn day_in(text: &[u8]) -> Option<&[u8]>
-    ensures { option_copied result ≡ day_of text.now }
-{
     match text {
-        [] => None,
-        text => Some(text),
+        [] => Ok(None),
+        text => day_if_any(Column::Day, Some(text)),
     }
 }
 
 /// The day of a text, if there is one.
-fn day_if_any(column: Column, text: Option<&[u8]>) -> Result<Option<Day>, RowFault>
+fn day_if_any(column: Column, text: Option<&[u8]>) -> Read<Day>
     ensures { IsReading IsDayText (RowFault.NoDay column) (option_copied text.entry) result }
 {
     let Some(text) = text else {
@@ -80,7 +76,7 @@ fn act_said(word: &[u8]) -> Result<Act, RowFault>
 
 /// What a hold admits by a word, if there is one.
 #[tactic(auto, using(crate::proofs::ActLemmas::admits_said, crate::proofs::ActLemmas::admits_unsaid))]
-fn admits_if_any(text: Option<&[u8]>) -> Result<Option<Admits>, RowFault>
+fn admits_if_any(text: Option<&[u8]>) -> Read<Admits>
     ensures { IsReading (λ admits text. text ≡ admits_word admits) (RowFault.UnknownWord Column.Admits)
         (option_copied text.entry) result }
 {
@@ -94,69 +90,49 @@ fn admits_if_any(text: Option<&[u8]>) -> Result<Option<Admits>, RowFault>
 }
 
 /// The patron of a name, if there is one.
-fn patron_if_any<A: Allocator + Copy>(
-    catalogue: &Catalogue<A>,
-    text: Option<&[u8]>,
-) -> Result<Option<PatronNo>, RowFault>
+fn patron_in<A: Allocator + Copy>(catalogue: &Catalogue<A>, text: Option<&[u8]>) -> Read<PatronNo>
     ensures { IsReading (Says catalogue.now Column.Patron) (RowFault.UnknownName Column.Patron)
         (option_copied text.entry) result }
 {
-    let Some(name) = text else {
-        return Ok(None);
-    };
-    match catalogue.patron(name) {
-        Some(patron) => Ok(Some(patron)),
-        None => Err(RowFault::UnknownName(Column::Patron)),
+    let unknown = RowFault::UnknownName(Column::Patron);
+    match text {
+        Some(name) => catalogue.patron(name).map(Some).ok_or(unknown),
+        None => Ok(None),
     }
 }
 
 /// The copy of a name, if there is one.
-fn copy_if_any<A: Allocator + Copy>(
-    catalogue: &Catalogue<A>,
-    text: Option<&[u8]>,
-) -> Result<Option<CopyNo>, RowFault>
+fn copy_in<A: Allocator + Copy>(catalogue: &Catalogue<A>, text: Option<&[u8]>) -> Read<CopyNo>
     ensures { IsReading (Says catalogue.now Column.Copy) (RowFault.UnknownName Column.Copy)
         (option_copied text.entry) result }
 {
-    let Some(name) = text else {
-        return Ok(None);
-    };
-    match catalogue.copy(name) {
-        Some(copy) => Ok(Some(copy)),
-        None => Err(RowFault::UnknownName(Column::Copy)),
+    let unknown = RowFault::UnknownName(Column::Copy);
+    match text {
+        Some(name) => catalogue.copy(name).map(Some).ok_or(unknown),
+        None => Ok(None),
     }
 }
 
 /// The title of a name, if there is one.
-fn title_if_any<A: Allocator + Copy>(
-    catalogue: &Catalogue<A>,
-    text: Option<&[u8]>,
-) -> Result<Option<TitleNo>, RowFault>
+fn title_in<A: Allocator + Copy>(catalogue: &Catalogue<A>, text: Option<&[u8]>) -> Read<TitleNo>
     ensures { IsReading (Says catalogue.now Column.Title) (RowFault.UnknownName Column.Title)
         (option_copied text.entry) result }
 {
-    let Some(name) = text else {
-        return Ok(None);
-    };
-    match catalogue.title(name) {
-        Some(title) => Ok(Some(title)),
-        None => Err(RowFault::UnknownName(Column::Title)),
+    let unknown = RowFault::UnknownName(Column::Title);
+    match text {
+        Some(name) => catalogue.title(name).map(Some).ok_or(unknown),
+        None => Ok(None),
     }
 }
 
 /// The branch of a name, if there is one.
-fn branch_if_any<A: Allocator + Copy>(
-    catalogue: &Catalogue<A>,
-    text: Option<&[u8]>,
-) -> Result<Option<BranchNo>, RowFault>
+fn branch_in<A: Allocator + Copy>(catalogue: &Catalogue<A>, text: Option<&[u8]>) -> Read<BranchNo>
     ensures { IsReading (Says catalogue.now Column.Branch) (RowFault.UnknownName Column.Branch)
         (option_copied text.entry) result }
 {
-    let Some(name) = text else {
-        return Ok(None);
-    };
-    match catalogue.branch(name) {
-        Some(branch) => Ok(Some(branch)),
-        None => Err(RowFault::UnknownName(Column::Branch)),
+    let unknown = RowFault::UnknownName(Column::Branch);
+    match text {
+        Some(name) => catalogue.branch(name).map(Some).ok_or(unknown),
+        None => Ok(None),
     }
 }

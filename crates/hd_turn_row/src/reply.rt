@@ -1,6 +1,6 @@
 //! The column of a reply.
 ghost use Rattle.std.specs.Prelude.{◌≡◌, IfOk, OnOk};
-ghost use Rattle.hd_turn_row.specs.Replies.{IsReplyColumn, depended_on, done_numbers, hold_numbers};
+ghost use Rattle.hd_turn_row.specs.Replies.{IsReplyColumn, done_numbers, hold_numbers};
 ghost use Rattle.hd_turn_row.specs.Replies.{kind_number, number_if_any, refusal_number, reply_numbers};
 ghost use Rattle.hd_turn_row.specs.Replies.{state_numbers, truth_number};
 ghost use Rattle.hd_turn_row.specs.Written.{IsWritten};
@@ -71,12 +71,9 @@ fn append_done<A: Allocator>(
             due,
             renewal,
         } => {
+            let title = u64::from(title.number());
             let due = u64::from(due.number());
-            let renewal = truth_number(*renewal);
-            append(
-                out,
-                &[LENT, number, u64::from(title.number()), due, renewal],
-            )
+            append(out, &[LENT, number, title, due, truth_number(*renewal)])
         }
         Reply::Returned { title, home, now } => {
             let home = u64::from(home.number());
@@ -152,17 +149,8 @@ fn append_hold<A: Allocator>(out: &mut Vec<u8, A>, hold: &Hold) -> Result<(), Al
     let pickup = u64::from(hold.pickup.number());
     let expiry = number_if_any(hold.expiry.map(|day| day.number()));
     let copy = number_if_any(hold.copy.map(|copy| copy.number()));
-    append(
-        out,
-        &[
-            patron,
-            hold.stamp,
-            kind_number(&hold.kind),
-            pickup,
-            expiry,
-            copy,
-        ],
-    )
+    let kind = kind_number(&hold.kind);
+    append(out, &[patron, hold.stamp, kind, pickup, expiry, copy])
 }
 
 /// Which copies a hold admits.

@@ -1,6 +1,5 @@
 //! The row of a turn.
 ghost use Rattle.std.specs.Prelude.{◌≡◌, ℕ, IfErr, IfOk, OnErr};
-ghost use Rattle.std.specs.Option.{option_copied};
 ghost use Rattle.hd_catalogue.specs.Contents.{facts_of};
 ghost use Rattle.hd_rules.specs.Messages.{IsKnownMessage, message_of};
 ghost use Rattle.hd_rules.specs.Turns.{Message};
@@ -75,6 +74,18 @@ pub fn ask_of<'a, A: Allocator + Copy>(
         → ¬ IsRowOf catalogue.now seat message (kept row.now)) }
 {
     a_row_is_of_one_message();
+    ask_said(catalogue, row)
+}
+
+/// What a row asks, or its first fault.
+fn ask_said<'a, A: Allocator + Copy>(
+    catalogue: &Catalogue<A>,
+    row: &TurnRow<'a>,
+) -> Result<Ask<'a>, RowFault>
+    ensures row { IfOk result (λ ask.
+        IsRowOf catalogue.now (message_of ask).seat (message_of ask).message (kept row.now)) }
+    ensures fault { IfErr result (IsFirstFault catalogue.now (kept row.now)) }
+{
     let Some(terminal) = terminal_named(catalogue, row.terminal) else {
         return Err(RowFault::UnknownName(Column::Terminal));
     };

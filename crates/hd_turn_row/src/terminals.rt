@@ -1,6 +1,5 @@
 //! Terminals by name.
-ghost use Rattle.std.specs.Prelude.{◌≡◌, ◌<◌, ◌↔◌, IsTrue};
-ghost use Rattle.hd_rules.specs.declared.limits.TheConstants.{MOST_TERMINALS};
+ghost use Rattle.std.specs.Prelude.{◌≡◌};
 ghost use Rattle.hd_catalogue.specs.Names.{number_of};
 
 use hd_catalogue::{Catalogue, TerminalNo};
@@ -15,25 +14,10 @@ pub(crate) fn terminal_named<A: Allocator + Copy>(
     ensures { result ≡ number_of catalogue.now.terminals name.now }
 {
     for number in 0..catalogue.terminals() {
-        let terminal = terminal_at(number);
-        if is_same(catalogue.terminal_name(terminal), name) {
+        let terminal = TerminalNo::new(number as u16).unwrap();
+        if catalogue.terminal_name(terminal) == name {
             return Some(terminal);
         }
     }
     None
-}
-
-/// The terminal of a number.
-fn terminal_at(number: usize) -> TerminalNo
-    requires { number < MOST_TERMINALS }
-    ensures { result ≡ number }
-{
-    TerminalNo::new(number as u16).unwrap()
-}
-
-/// Whether two names are the same bytes.
-fn is_same(one: &[u8], other: &[u8]) -> bool
-    ensures { IsTrue result ↔ (one.now ≡ other.now) }
-{
-    one == other
 }

@@ -1,5 +1,5 @@
 //! Numbers as bytes.
-ghost use Rattle.std.specs.Prelude.{OnOk, [], ◌∷◌};
+ghost use Rattle.std.specs.Prelude.{OnOk};
 ghost use Rattle.hd_turn_row.specs.Written.{IsWritten};
 
 use std::alloc::{AllocError, Allocator};
@@ -12,14 +12,7 @@ pub(crate) fn append<A: Allocator>(out: &mut Vec<u8, A>, numbers: &[u64]) -> Res
     ensures { OnOk result (IsWritten numbers.now out.old.items out.new.items) }
 {
     for number in numbers {
-        append_one(out, *number)?;
+        out.extend_from_slice(&number.to_be_bytes())?;
     }
     Ok(())
-}
-
-/// Appends a number.
-fn append_one<A: Allocator>(out: &mut Vec<u8, A>, number: u64) -> Result<(), AllocError>
-    ensures { OnOk result (IsWritten (number ∷ []) out.old.items out.new.items) }
-{
-    out.extend_from_slice(&number.to_be_bytes())
 }

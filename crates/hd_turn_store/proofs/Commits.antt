@@ -7,19 +7,19 @@ use Rattle.sqlite.specs.State.{CommitsBy}
 use Rattle.sqlite.proofs.Callers.{IsPlain, command_of, one_step, one_permutation}
 use Rattle.sqlite.specs.Rowids.TheVariants.{Given}
 use Rattle.sqlite_rules.specs.Calls.{ids_of}
+use Rattle.sqlite_value.proofs.OrderLemmas.{value_cmp-Int}
 use Rattle.hd_turn_store.specs.Words.{Blob, Command, Commit, Database, Does, Error, Executes, HasCleanDisk}
 use Rattle.hd_turn_store.specs.Words.{Index, Int, IsAnswer, MayCommit, Null, Output, Release, Row, Runs}
-use Rattle.hd_turn_store.specs.Words.{Schema, State, Survives, Tally, Trees, Writes, Written, edit_of, edited}
+use Rattle.hd_turn_store.specs.Words.{State, Survives, Tally, Trees, Writes, Written, edit_of, edited}
 use Rattle.hd_turn_store.specs.Words.{eval_all, mode_of, output, overlay, page, text_of}
 use Rattle.hd_turn_store.specs.Holds.{Commits, Holds}
 use Rattle.hd_turn_store.specs.Kept.{Head, KeptTurn, cells, head_cells}
-use Rattle.hd_turn_store.specs.Tables.{IsJournal, Stores, journal_table, number_index, numbered_from}
+use Rattle.hd_turn_store.specs.Tables.{Stores, journal_table, number_index, numbered_from}
 use Rattle.hd_turn_store.specs.Tables.{schema_with, turn_columns}
 use Rattle.hd_turn_store.specs.Texts.{insert_turn_text, update_head_text}
-use Rattle.hd_turn_store.proofs.Texts.{Means, in_each, insert_turn, insert_turn_means, row_terms, update_head}
+use Rattle.hd_turn_store.proofs.Texts.{MeansIn, in_each, insert_turn_means, insertion, row_terms, update_head}
 use Rattle.hd_turn_store.proofs.Texts.{update_head_means, update_query}
-use Rattle.hd_turn_store.proofs.Writing.{cast_int, cast_null, cast_turn, cmp_equal, does_as, inserts}
-use Rattle.hd_turn_store.proofs.Writing.{same_value, went}
+use Rattle.hd_turn_store.proofs.Writing.{cast_int, cast_null, cast_turn, does_as, inserts, same_value, went}
 
 -- ---- what a statement that changes a journal makes of it, alone, and what it commits
 
@@ -28,7 +28,7 @@ use Rattle.hd_turn_store.proofs.Writing.{same_value, went}
 pub record Changes (text : List ℕ) (params : Row) (h : Head) (ks : List KeptTurn) (h' : Head)
     (ks' : List KeptTurn) : Type 1 where
   pub command : Command
-  pub means : (schema : Schema) → IsJournal schema → Means schema text command
+  pub means : MeansIn text command
   pub no_commit : ¬ (command ≡ Commit)
   pub no_release : (name : List ℕ) → ¬ (command ≡ Release name)
   pub writes : (old new : State) (text : List ℕ) (count : ℕ)
@@ -47,7 +47,7 @@ Settles s = (db : Trees) → IsTrue s.is_open → s.may_leave db → db ≡ s.co
 pub lasting : {new : State} {h : Head} {ks : List KeptTurn} (db : Trees) → Holds new h ks
     → db ≡ new.committed.trees → Stores h ks db
 lasting {new} {h} {ks} db holds is =
-    subst (Stores h ks) (sym (is ∙ ap (λ (d : Database). d.trees) holds.settled)) holds.rows
+    rw (is, holds.settled) holds.rows
 
 module _ {text : List ℕ} {params : Row} {h h' : Head} {ks ks' : List KeptTurn}
     (it : Changes text params h ks h' ks') (old : State) (holds : Holds old h ks) where
@@ -68,7 +68,7 @@ module _ {text : List ℕ} {params : Row} {h h' : Head} {ks ks' : List KeptTurn}
       (λ part. it.writes old new part count) ran in
       let done = does_so _ did.0.tally new.now did.1 in
       record {
-        schema = subst IsJournal (sym done.0) holds.schema;
+        schema = rw done.0 holds.schema;
         rows = done.1;
         settled = rw holds.outside at did.0.shown.committed_is;
         outside = did.0.shown.mode ∙ holds.outside;
@@ -87,7 +87,7 @@ module _ {text : List ℕ} {params : Row} {h h' : Head} {ks ks' : List KeptTurn}
           | inl p ↦ absurd (it.no_commit p)
           | inr p ↦ absurd (it.no_release p.0 p.2)
         ]
-        | inr w ↦ subst (Stores h' ks') (sym w.5) (does_so part w.1 w.2 w.3).1
+        | inr w ↦ rw w.5 (does_so part w.1 w.2 w.3).1
       ]
 
   -- the change is committed by a statement that is done
@@ -111,7 +111,7 @@ module _ {text : List ℕ} {params : Row} {h h' : Head} {ks ks' : List KeptTurn}
 pub adds : (k : KeptTurn) (h : Head) (ks : List KeptTurn)
     → Changes insert_turn_text (cells k) h ks h (ks ++ k ∷ [])
 adds k h ks = record {
-  command = insert_turn;
+  command = insertion 1 turn_columns;
   means = insert_turn_means;
   no_commit = λ e. cc;
   no_release = λ name e. cc;
@@ -145,9 +145,7 @@ module _ (digest : List ℕ) (h : Head) where
   -- one row is taken out, and this one is put in its place
   replaced : (db : Trees) → db 0 ≡ numbered_from 1 (head_cells h ∷ [])
       → edit db (renewed ∷ []) ≡ numbered_from 1 (head_cells other ∷ [])
-  replaced db is =
-      let same = cmp_equal 1 in
-      rw (is, same, cast_null, cast_int 1, cast_int h.format)
+  replaced db is = rw (is, value_cmp-Int (pos 1) (pos 1), cast_null, cast_int 1, cast_int h.format)
 
   does_accept : (ks : List KeptTurn) (indexes : List Index) (s : State) (text : List ℕ) (tally : Tally)
       (after : Database)

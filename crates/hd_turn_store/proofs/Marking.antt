@@ -1,11 +1,11 @@
 -- A journal is the same whatever its mark.
-use Rattle.std.proofs.Common.{◌≡◌, ◌∙◌, inl, inr, List, [], ◌∷◌, IsTrue, ap, arith, subst, sym}
+use Rattle.std.proofs.Common.{◌≡◌, ◌∙◌, inl, inr, List, [], ◌∷◌, IsTrue, arith, subst}
 use Rattle.sqlite_schema.specs.declared.schema.Table.{Table}
 use Rattle.sqlite_rules.specs.Lists.{Has}
 use Rattle.sqlite_rules.proofs.RuleLemmas.{keeps_same}
 use Rattle.sqlite_wal.proofs.LogLemmas.{SeenMayStay}
-use Rattle.hd_turn_store.specs.Words.{Database, FileStore, Ghosts, Held, IsSound, Schema, Trees, catalog_tree}
-use Rattle.hd_turn_store.specs.Words.{recovers, settled_at, view}
+use Rattle.hd_turn_store.specs.Words.{FileStore, Ghosts, Held, IsRolledBack, IsSound, Schema, Trees}
+use Rattle.hd_turn_store.specs.Words.{catalog_tree, recovers, settled_at, view}
 use Rattle.hd_turn_store.specs.Kept.{Head, KeptTurn}
 use Rattle.hd_turn_store.specs.Tables.{IsJournal, Stores, journal_table, number_index, schema_with}
 use Rattle.hd_turn_store.specs.Tables.{turn_table}
@@ -44,14 +44,13 @@ stores_beside one two head ks same stores =
     record { head = same 0 (omega arith) ∙ stores.head; turns = same 1 (omega arith) ∙ stores.turns }
 
 module _ {D : Type 0} {g : Ghosts D} where
-  -- a mark that is put after a copy, and before another, is put on what was there
-  pub through : (old copied marked last : FileStore D g)
+  -- a mark that is put after a copy is put on what was there
+  pub through : (old copied marked : FileStore D g)
       → (IsTrue (view copied).is_open → view copied ≡ view old)
       → ((db : Trees) → recovers copied db → recovers old db)
       → ((db : Trees) → recovers marked db → MayGetMark copied db)
-      → ((db : Trees) → recovers last db → recovers marked db)
-      → (db : Trees) → recovers last db → MayGetMark old db
-  through old copied marked last same before crash after db may = elim (crash db (after db may)) [
+      → (db : Trees) → recovers marked db → MayGetMark old db
+  through old copied marked same before crash db may = elim (crash db may) [
     | inl seen ↦ inl (subst (λ v. MayHaveMark v db) (same seen.0) seen)
     | inr was ↦ inr (before db was)
   ]
@@ -64,13 +63,11 @@ module _ {D : Type 0} {g : Ghosts D} where
         lasting db holds (settled_at c.store stays _ holds.is_open (outcomes _ may))
 
     -- and has them with any mark
-    pub keeps_marked : (last : FileStore D g)
-        → (IsTrue (view back).is_open → (view back).trees ≡ (view c.store).committed)
+    pub keeps_marked : (last : FileStore D g) → IsRolledBack (view c.store) (view back)
         → ((db : Trees) → recovers last db → MayGetMark back db) → KeepsTurns c last
-    keeps_marked last undone crash head ks holds db may = elim (crash db may) [
+    keeps_marked last rolled crash head ks holds db may = elim (crash db may) [
       | inl seen ↦
-          let is = undone seen.0 ∙ ap (λ (d : Database). d.trees) holds.settled in
           stores_beside (view back).trees db head ks seen.1
-          (subst (Stores head ks) (sym is) holds.rows)
+          (lasting _ holds (rolled.undone seen.0).0)
       | inr before ↦ keeps_turns head ks holds db before
     ]

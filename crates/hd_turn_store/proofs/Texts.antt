@@ -18,6 +18,11 @@ use Rattle.hd_turn_store.specs.Texts.{select_turns_text, update_head_text}
 pub record Means (schema : Schema) (text : List ℕ) (command : Command) : Type 0 where
   pub is : command_of (understood schema text) ≡ command
   pub plain : IsPlain (understood schema text)
+  pub unlisted : reads_listing schema text ≡ false
+
+-- it does in each journal
+abbrev pub MeansIn : List ℕ → Command → Type 0
+MeansIn text command = (schema : Schema) → IsJournal schema → Means schema text command
 
 -- what holds with the index of turns and without it holds in each journal
 pub in_each : (P : Schema → Type 0) → P journal_schema → P (schema_with []) → (schema : Schema)
@@ -29,22 +34,23 @@ in_each P new old schema (inr is) = subst P (sym is) old
 
 pub record Creates (schema : Schema) (text : List ℕ) (table : Table) : Type 0 where
   pub means : Means schema text CreateTable
-  pub defines : table_defined_by (statement_of text (understood schema text)) ≡ Ok table
-  pub counts_none : lacks_sequence (created schema table) ≡ false
+  -- the table, which counts no rowids
+  pub defines : (table_defined_by (statement_of text (understood schema text)) ≡ Ok table)
+      × (lacks_sequence (created schema table) ≡ false)
 
 pub creates_journal_table : Creates no_schema create_journal_text journal_table
 unfolding understood everything
 creates_journal_table =
-    record { means = record { is = refl; plain = (refl, refl) }; defines = refl; counts_none = refl }
+    record { means = record { is = refl; plain = (refl, refl); unlisted = refl }; defines = (refl, refl) }
 
 pub creates_turn_table : Creates head_schema create_turn_text (record turn_table { tree = 0 })
 unfolding understood everything
 creates_turn_table =
-    record { means = record { is = refl; plain = (refl, refl) }; defines = refl; counts_none = refl }
+    record { means = record { is = refl; plain = (refl, refl); unlisted = refl }; defines = (refl, refl) }
 
 pub create_index_means : Means (schema_with []) create_index_text (CreateIndex 1)
 unfolding understood everything
-create_index_means = record { is = refl; plain = (refl, refl) }
+create_index_means = record { is = refl; plain = (refl, refl); unlisted = refl }
 
 pub defines_index : index_defined_by turn_table
     (statement_of create_index_text (understood (schema_with []) create_index_text))
@@ -63,30 +69,20 @@ columns_from row at (suc width) = col row at ∷ columns_from row (at + 1) width
 abbrev pub row_terms : ℕ → List Term
 row_terms width = lit Null ∷ lit Null ∷ columns_from 0 0 width
 
-abbrev pub insert_head : Command
-insert_head = Insert 0 (Values (row_terms (length head_columns)) (length head_columns + 2))
+abbrev pub insertion : ℕ → List Column → Command
+insertion table columns = Insert table (Values (row_terms (length columns)) (length columns + 2))
 
-pub insert_journal_means : Means journal_schema insert_journal_text insert_head
+pub insert_journal_means : Means journal_schema insert_journal_text (insertion 0 head_columns)
 unfolding understood everything
-insert_journal_means = record { is = refl; plain = (refl, refl) }
+insert_journal_means = record { is = refl; plain = (refl, refl); unlisted = refl }
 
-abbrev pub insert_turn : Command
-insert_turn = Insert 1 (Values (row_terms (length turn_columns)) (length turn_columns + 2))
-
-pub insert_turn_means : (schema : Schema) → IsJournal schema → Means schema insert_turn_text insert_turn
+pub insert_turn_means : MeansIn insert_turn_text (insertion 1 turn_columns)
 unfolding understood everything
 insert_turn_means =
-    in_each _ (record { is = refl; plain = (refl, refl) }) (record { is = refl; plain = (refl, refl) })
+    in_each _ (record { is = refl; plain = (refl, refl); unlisted = refl })
+    (record { is = refl; plain = (refl, refl); unlisted = refl })
 
 -- ---- rows are shown
-
-pub record Shows (text : List ℕ) (query : Query) (names : List (List ℕ)) (schema : Schema) : Type 0 where
-  pub means : Means schema text (Select (record { lets = []; body = query }) names)
-  pub unlisted : reads_listing schema text ≡ false
-
--- in each journal
-abbrev pub ShowsIn : List ℕ → Query → List (List ℕ) → Type 0
-ShowsIn text query names = (schema : Schema) → IsJournal schema → Shows text query names schema
 
 abbrev pub between : List Term
 between =
@@ -113,22 +109,21 @@ piece_query table width = record (every_row table (columns_from 1 2 width)) {
   order = (col 1 0, record { collation = Binary; descending = false }) ∷ [];
 }
 
-abbrev pub names_of : List Column → List (List ℕ)
-names_of = map (λ c. c.name)
+abbrev pub showing : ℕ → List Column → Command
+showing table columns =
+    Select (record { lets = []; body = piece_query table (length columns) }) (map (λ c. c.name) columns)
 
-pub select_head_shows :
-    ShowsIn select_head_text (piece_query 0 (length head_columns)) (names_of head_columns)
+pub select_head_means : MeansIn select_head_text (showing 0 head_columns)
 unfolding understood everything
-select_head_shows =
-    in_each _ (record { means = record { is = refl; plain = (refl, refl) }; unlisted = refl })
-    (record { means = record { is = refl; plain = (refl, refl) }; unlisted = refl })
+select_head_means =
+    in_each _ (record { is = refl; plain = (refl, refl); unlisted = refl })
+    (record { is = refl; plain = (refl, refl); unlisted = refl })
 
-pub select_turns_shows :
-    ShowsIn select_turns_text (piece_query 1 (length turn_columns)) (names_of turn_columns)
+pub select_turns_means : MeansIn select_turns_text (showing 1 turn_columns)
 unfolding understood everything
-select_turns_shows =
-    in_each _ (record { means = record { is = refl; plain = (refl, refl) }; unlisted = refl })
-    (record { means = record { is = refl; plain = (refl, refl) }; unlisted = refl })
+select_turns_means =
+    in_each _ (record { is = refl; plain = (refl, refl); unlisted = refl })
+    (record { is = refl; plain = (refl, refl); unlisted = refl })
 
 -- ---- the head is changed
 
@@ -138,7 +133,8 @@ update_query = every_row 0 (col 1 0 ∷ col 1 0 ∷ lit Null ∷ col 1 2 ∷ col
 abbrev pub update_head : Command
 update_head = Update 0 (record { lets = []; body = update_query })
 
-pub update_head_means : (schema : Schema) → IsJournal schema → Means schema update_head_text update_head
+pub update_head_means : MeansIn update_head_text update_head
 unfolding understood everything
 update_head_means =
-    in_each _ (record { is = refl; plain = (refl, refl) }) (record { is = refl; plain = (refl, refl) })
+    in_each _ (record { is = refl; plain = (refl, refl); unlisted = refl })
+    (record { is = refl; plain = (refl, refl); unlisted = refl })

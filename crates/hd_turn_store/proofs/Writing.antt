@@ -1,5 +1,5 @@
 -- What the statements write that make a journal and put a row.
-use Rattle.std.proofs.Common.{◌≡◌, ℕ, ◌<◌, pos, ◌∙◌, arith, Less, Equal, List, [], ◌∷◌, length, Bool, true}
+use Rattle.std.proofs.Common.{◌≡◌, ℕ, ◌<◌, pos, ◌∙◌, arith, Less, List, [], ◌∷◌, length, Bool, true}
 use Rattle.std.proofs.Common.{false, cond, Option, Some, None, refl, ◌≢◌, ◌⊎◌, inl, inr, ◌+◌, ◌+ℤ◌, ◌++◌}
 use Rattle.std.proofs.Common.{fold, Ok, Err, Result, sym, ap, subst, ◌/◌, codes}
 use Rattle.std.proofs.lemmas.Bool.Decides.{nat_tests}
@@ -15,12 +15,11 @@ use Rattle.sqlite.specs.declared.run.Mode.{Mode}
 use Rattle.sqlite.specs.Rowids.TheVariants.{Chosen}
 use Rattle.sqlite.proofs.Callers.{one_step, statement_of, runs_as}
 use Rattle.sqlite_rules.specs.Action.{works}
-use Rattle.hd_turn_store.specs.Words.{Column, Command, Database, Does, Executes}
-use Rattle.hd_turn_store.specs.Words.{Insert, Int, KeepsRows, Null, OnRows, Row, Runs, Schema, State, Table}
-use Rattle.hd_turn_store.specs.Words.{Tally, Term, Trees, Value, Values, Writes, Written, created, edit_of}
-use Rattle.hd_turn_store.specs.Words.{edited, eval_all, id_in, indexed, lacks_sequence, mode_of, next_tree}
-use Rattle.hd_turn_store.specs.Words.{numbered, or_null, put_all, put_row, rowid, taken_by, understood}
-use Rattle.hd_turn_store.specs.Words.{value_cmp, value_rows}
+use Rattle.hd_turn_store.specs.Words.{Column, Command, Database, Does, Executes, Insert, Int, KeepsRows, Null}
+use Rattle.hd_turn_store.specs.Words.{OnRows, Row, Runs, Schema, State, Table, Tally, Term, Trees, Value}
+use Rattle.hd_turn_store.specs.Words.{Values, Writes, Written, created, edit_of, edited, eval_all, id_in}
+use Rattle.hd_turn_store.specs.Words.{indexed, lacks_sequence, mode_of, next_tree, numbered, or_null, put_all}
+use Rattle.hd_turn_store.specs.Words.{put_row, rowid, taken_by, understood, value_cmp, value_rows}
 use Rattle.hd_turn_store.specs.Holds.{AreEmpty, HasEmpty, SeesTurns}
 use Rattle.hd_turn_store.specs.Kept.{Head, KeptTurn, head_cells, number_cell, cells}
 use Rattle.hd_turn_store.specs.Texts.{create_index_text, insert_journal_text}
@@ -29,13 +28,9 @@ use Rattle.hd_turn_store.specs.Tables.{numbered_from, schema_with, table_by, tur
 use Rattle.hd_turn_store.proofs.Texts.{Creates, Means, create_index_means, defines_index}
 use Rattle.hd_turn_store.proofs.Texts.{insert_journal_means, row_terms}
 
--- ---- how numbers compare as values
-
+-- numbers compare as values as they do
 pub cmp_less : (m n : ℕ) → m < n → value_cmp (Int (pos m)) (Int (pos n)) ≡ Less
 cmp_less m n h = value_cmp-Int (pos m) (pos n) ∙ grind (arith, ints, nat_tests)
-
-pub cmp_equal : (n : ℕ) → value_cmp (Int (pos n)) (Int (pos n)) ≡ Equal
-cmp_equal n = value_cmp-Int (pos n) (pos n) ∙ grind (arith, ints, nat_tests)
 
 -- ---- what a STRICT table makes of values of its columns' kinds: nothing
 
@@ -172,16 +167,15 @@ creates schema text table it old new count has ran =
     let all = went did.1 in
     let first = went all.1 in
     let made = first.1 in
-    let same : made.table ≡ table = same_value (sym made.defined ∙ it.defines) in
+    let same : made.table ≡ table = same_value (sym made.defined ∙ it.defines.0) in
     let after : first.0.schema ≡ created schema table = made.is ∙ ap (created schema) same in
-    let none : lacks_sequence first.0.schema ≡ false = ap lacks_sequence after ∙ it.counts_none in
+    let none : lacks_sequence first.0.schema ≡ false = ap lacks_sequence after ∙ it.defines.1 in
     let now : new.now ≡ first.0 =
     ap (λ (p : Tally × Database). p.1) (same_value all.2) ∙ same_value (rw none at first.2) in
     record {
       schema_is = ap (λ (d : Database). d.schema) now ∙ after;
-      empty = subst (λ (d : Database). AreEmpty (created schema table).tables d.trees) (sym now)
-          (still_empty schema.tables (record table { tree = next_tree schema }) old.now.trees first.0.trees
-          has.empty made.others made.empty);
+      empty = rw now (still_empty schema.tables (record table { tree = next_tree schema }) old.now.trees
+          first.0.trees has.empty made.others made.empty);
       inside = did.0.shown.mode ∙ has.inside;
     }
 
@@ -196,8 +190,7 @@ creates_index old new count has ran =
     record {
       schema_is = ap (λ (d : Database). d.schema) now ∙ made.is
           ∙ ap (λ i. indexed (schema_with []) turn_table i) (same_value both);
-      empty = subst (λ (d : Database). AreEmpty journal_schema.tables d.trees) (sym now)
-          (made.rows.0 ∙ has.empty.0, (made.rows.1.0 ∙ has.empty.1.0, tt));
+      empty = rw now (made.rows.0 ∙ has.empty.0, (made.rows.1.0 ∙ has.empty.1.0, tt));
       inside = did.0.shown.mode ∙ has.inside;
     }
 

@@ -2,12 +2,12 @@
 use Rattle.std.specs.Prelude.{◌≡◌, ◌≢◌, ◌⊎◌, ◌++◌, ◌∷◌, ℕ, List, [], IsTrue, codes, take}
 use Rattle.sqlite.specs.Closing.{HoldsAlone}
 use Rattle.sqlite_store.specs.FileStore.{state}
-use Rattle.hd_turn_store.specs.Words.{FileStore, Ghosts, HasCleanDisk, Held, Image, IsClean, IsFresh, Opens}
-use Rattle.hd_turn_store.specs.Words.{State, Trees, View, file_state, log_frames, recovers, user_version}
+use Rattle.hd_turn_store.specs.Words.{FileStore, Ghosts, HasCleanDisk, Held, Image, IsFresh}
+use Rattle.hd_turn_store.specs.Words.{Trees, View, file_state, log_frames, recovers, user_version}
 use Rattle.hd_turn_store.specs.Words.{version_rows, version_tree, view}
 use Rattle.hd_turn_store.specs.Holds.{Holds}
 use Rattle.hd_turn_store.specs.Kept.{Head, KeptTurn}
-use Rattle.hd_turn_store.specs.Tables.{IsJournal, Stores}
+use Rattle.hd_turn_store.specs.Tables.{Stores}
 
 -- a server has it open, so that its last turns may lie in the log alone
 abbrev pub open_mark : ℕ
@@ -59,13 +59,6 @@ pub record PutsMark {D : Type 0} {g : Ghosts D} (mark : ℕ) (old new : FileStor
   pub mark_is : HasMark mark (view new).committed
   pub others : SameButMark (view old).trees (view new).committed
   pub emptied : log_frames new ≡ 0
-
--- a connection that was opened over a store shows a journal, with what the store had
-pub record ShowsJournal (v : View) (s : State) : Type 0 where
-  pub was_clean : IsClean v
-  pub opens : Opens s
-  pub schema : IsJournal s.now.schema
-  pub trees : s.now.trees ≡ v.trees
 
 -- whatever a crash leaves of the store has the journal's head and just its turns
 abbrev pub KeepsTurns : {D : Type 0} {g : Ghosts D} → Held (FileStore D g) → FileStore D g → Type 0

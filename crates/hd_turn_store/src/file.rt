@@ -41,7 +41,6 @@ fn connect<S: Start>(
     // The pages of a new file have sums, by which the next open tells what somebody else changed.
     ensures sums { IfOk result (λ c. HasCleanDisk (file_state c) → IsBlankAs true (image_at S.Start)
         → (view c.store).has_sums ≡ true) }
-    ensures outside { IfOk result (λ c. (file_state c).in_transaction ≡ false) }
 {
     match Connection::open_from(rt, path, true, start) {
         Ok(conn) => Ok(conn),
@@ -62,11 +61,9 @@ fn begin_or_check<S: Alter>(conn: &mut Connection<S>, digest: &[u8; 32]) -> Resu
         → IsKnownFormat head.format) }
 {
     if is_blank(conn.schema()) {
-        begin(conn, digest)?;
-        return Ok(true);
+        return begin(conn, digest).map(|()| true);
     }
-    check(conn)?;
-    Ok(false)
+    check(conn).map(|()| false)
 }
 
 /// Opens a journal, also one that a crash ended: it has the head and the turns that the files hold, in a

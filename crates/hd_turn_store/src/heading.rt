@@ -10,9 +10,9 @@ ghost use Rattle.hd_turn_store.specs.Faults.{IsWritingFault, IsReadingFault, Ref
 
 use crate::columns::{SELECT_HEAD, UPDATE_HEAD};
 use crate::fault::Fault;
-use crate::row::{number_value, value};
+use crate::row::value;
 use crate::table::is_journal;
-use sqlite::types::ValueRef;
+use sqlite::types::{ToSql, ValueRef};
 use sqlite::{Alter, Connection, Row};
 
 /// The format that is written.
@@ -30,25 +30,18 @@ pub struct Heading {
     pub catalogue: Vec<u8>,
 }
 
-/// The head that a row shows.
-fn heading_in(row: &Row) -> Result<Heading, Fault>
-    ensures head { IfOk result (λ h. (head : Head) → row.now ≡ head_cells head → read_head h ≡ head) }
-    ensures fault { IfErr result IsReadingFault }
-{
-    Ok(Heading {
-        format: value(row, 0)?,
-        catalogue: value(row, 1)?,
-    })
-}
-
+/// The head that the only row shows.
 fn head_among(rows: &[Row]) -> Result<Heading, Fault>
     ensures head { IfOk result (λ h. (head : Head) → rows.now ≡ head_cells head ∷ [] → read_head h ≡ head) }
     ensures fault { IfErr result IsReadingFault }
 {
-    match rows {
-        [row] => heading_in(row),
-        _ => Err(Fault::Damaged),
-    }
+    let [row] = rows else {
+        return Err(Fault::Damaged);
+    };
+    Ok(Heading {
+        format: value(row, 0)?,
+        catalogue: value(row, 1)?,
+    })
 }
 
 /// The format of the journal, and the digest of its catalogue file.
@@ -58,7 +51,7 @@ pub fn catalogue<S: Alter>(conn: &mut Connection<S>) -> Result<Heading, Fault>
         → Holds (state S.Store conn.old) head ks → read_head h ≡ head) }
     ensures fault { IfErr result IsReadingFault }
 {
-    match conn.query_all(SELECT_HEAD, &[number_value(0), number_value(1)]) {
+    match conn.query_all(SELECT_HEAD, &[0u32.to_sql(), 1u32.to_sql()]) {
         Ok(rows) => head_among(rows.as_slice()),
         Err(error) => Err(Fault::of_reading(error)),
     }

@@ -1,14 +1,13 @@
 //! The mark in a journal's file: whether a server has it open, or it was ended well.
 
 ghost use Rattle.std.specs.Prelude.{◌≡◌, ◌≤◌, ◌↔◌, List, [], IfErr, IfOk, IsTrue, OnOk, take};
-ghost use Rattle.hd_turn_store.specs.Words.{AreClean, HasCleanDisk, HoldsDatabase, Image, IsClean, IsFresh};
-ghost use Rattle.hd_turn_store.specs.Words.{IsLive, IsQuiet, IsRolledBack, Trees, doubt, file_state};
-ghost use Rattle.hd_turn_store.specs.Words.{outcomes, recovers, state, user_version, view};
+ghost use Rattle.hd_turn_store.specs.Words.{AreClean, HasCleanDisk, HoldsDatabase, Image, IsClean, Trees};
+ghost use Rattle.hd_turn_store.specs.Words.{doubt, file_state, outcomes, recovers, view};
 ghost use Rattle.hd_turn_store.specs.Faults.{IsWritingFault};
 ghost use Rattle.hd_turn_store.specs.Holds.{Holds};
 ghost use Rattle.hd_turn_store.specs.Kept.{Head, KeptTurn};
 ghost use Rattle.hd_turn_store.specs.Marks.{GetsMark, HasMark, HoldsEnded, IsMarked, KeepsTurns, MayGetMark};
-ghost use Rattle.hd_turn_store.specs.Marks.{PutsMark, SaysMark, ShowsJournal, ended_mark, open_mark};
+ghost use Rattle.hd_turn_store.specs.Marks.{PutsMark, SaysMark, ended_mark, open_mark};
 
 use crate::fault::Fault;
 use crate::table::is_journal;
@@ -40,18 +39,12 @@ pub fn is_ended(head: &[u8; HEAD]) -> bool
     says_end(head)
 }
 
-/// Whether a header has the format's name, and the mark of an end.
+/// Whether a header has the format's name and the mark of an end: its user version, four bytes of which the
+/// highest is first.
 fn says_end(head: &[u8; HEAD]) -> bool
     ensures { IsTrue result ↔ SaysMark head.now ended_mark }
 {
-    head[..16] == MAGIC[..] && has_mark_of_end(head)
-}
-
-/// Whether a header's user version, four bytes of which the highest is first, is the mark of an end.
-fn has_mark_of_end(head: &[u8; HEAD]) -> bool
-    ensures { IsTrue result ↔ (user_version head.now ≡ ended_mark) }
-{
-    head[60] == 0 && head[61] == 0 && head[62] == 0 && head[63] == 2
+    head[..16] == MAGIC[..] && head[60] == 0 && head[61] == 0 && head[62] == 0 && head[63] == 2
 }
 
 /// Commits a mark, where the file hasn't got it yet.
@@ -97,7 +90,8 @@ fn with_mark<D: Disk + Drop>(
     ensures kept { IfOk result (KeepsTurns conn) }
     ensures left { IfErr result (λ e. KeepsTurns conn e.1) }
 {
-    let (mut store, is_ours) = store_of(conn);
+    let is_ours = is_journal(conn.schema());
+    let mut store = conn.into_store();
     if !is_ours {
         return Err((Fault::CannotWrite, store));
     }
@@ -105,18 +99,6 @@ fn with_mark<D: Disk + Drop>(
         Ok(()) => Ok(store),
         Err(error) => Err((unmarked(error), store)),
     }
-}
-
-/// The store of a connection, in which nothing is under way any more, and whether its tables are a journal's.
-fn store_of<S: Alter + Drop>(conn: Connection<S>) -> (S, bool)
-    ensures live { IsLive (state S.Store conn) }
-    ensures numbered { IsClean (S.Store.view result.0) → IsTrue (S.Store.view result.0).is_numbered }
-    ensures undone { IsRolledBack (S.Store.view conn.store) (S.Store.view result.0) }
-    ensures quiet { IsQuiet S.Store.view S.Store.faults S.Store.recovers S.Store.is_shielded
-        conn.store result.0 }
-{
-    let is_ours = is_journal(conn.schema());
-    (conn.into_store(), is_ours)
 }
 
 /// What is told where a mark can't be written.
@@ -134,8 +116,8 @@ fn unmarked(error: StoreError) -> Fault
 /// belongs to it. The journal is as it was.
 ///
 /// # Errors
-/// The mark can't be written, or the file can't be read again. With the fault comes the store, of which a
-/// crash leaves all that the journal held.
+/// The mark can't be written, or the file can't be read again, or shows no journal. With the fault comes the
+/// store, of which a crash leaves all that the journal held.
 pub fn open_for_turns<D: Disk + Drop>(
     alloc: Global,
     conn: Connection<FileStore<D>>,
@@ -148,22 +130,6 @@ pub fn open_for_turns<D: Disk + Drop>(
     ensures left { IfErr result (λ e. IsClean (view e.1) → KeepsTurns conn e.1) }
 {
     let store = with_mark(conn, OPEN)?;
-    let again = opened_again(alloc, store)?;
-    Ok(again)
-}
-
-/// A connection to the journal of a store in which nothing is under way.
-///
-/// # Errors
-/// It can't be read, or shows no journal. With the fault comes the store, of which a crash leaves no more
-/// than before.
-fn opened_again<S: Alter + Drop>(alloc: Global, store: S) -> Result<Connection<S>, (Fault, S)>
-    requires { IsClean (S.Store.view store) → IsFresh (S.Store.view store) }
-    ensures found { IfOk result (λ c. HasCleanDisk (state S.Store c)
-        → ShowsJournal (S.Store.view store) (state S.Store c)) }
-    ensures left { IfErr result (λ e. IsClean (S.Store.view e.1) → (db : Trees) → S.Store.recovers e.1 db
-        → S.Store.recovers store db) }
-{
     let again = match Connection::over(alloc, store) {
         Ok(again) => again,
         Err((error, store)) => return Err((Fault::of_opening(error), store)),

@@ -2,15 +2,15 @@
 
 ghost use Rattle.std.specs.Prelude.{◌≡◌, IfErr, IfOk};
 ghost use Rattle.std.specs.Option.{option_copied};
-ghost use Rattle.sqlite.specs.declared.types.Value.TheVariants.{Text as Words, Blob as Bytes};
+ghost use Rattle.sqlite.specs.declared.types.Value.TheVariants.{Text as Words};
 ghost use Rattle.hd_turn_store.specs.Words.{bound, bound_value, column, or_null, owned};
 ghost use Rattle.hd_turn_store.specs.Faults.{IsReadingFault};
-ghost use Rattle.hd_turn_store.specs.Kept.{cells, number_cell};
+ghost use Rattle.hd_turn_store.specs.Kept.{cells};
 ghost use Rattle.hd_turn_store.specs.Rows.{bytes_if, bytes_in, kept, read_cells, text_if, text_in};
 
 use crate::fault::Fault;
 use sqlite::Row;
-use sqlite::types::{FromSql, ValueRef};
+use sqlite::types::{FromSql, ToSql, ValueRef};
 
 /// A turn, as it is kept in a journal. It lends its texts: those of whoever hands it in, or of the row of
 /// values that it is read from.
@@ -80,7 +80,7 @@ impl<'a> TurnRow<'a> {
         ensures { bound result ≡ cells (kept self.now) }
     {
         [
-            number_value(self.seat),
+            self.seat.to_sql(),
             ValueRef::Text(self.terminal),
             ValueRef::Text(self.day),
             ValueRef::Text(self.act),
@@ -90,19 +90,12 @@ impl<'a> TurnRow<'a> {
             text_or_null(self.branch),
             text_or_null(self.admits),
             text_or_null(self.until),
-            bytes_or_null(self.line),
+            self.line.to_sql(),
             ValueRef::Text(self.outcome),
-            number_or_null(self.number),
+            self.number.to_sql(),
             ValueRef::Blob(self.reply),
         ]
     }
-}
-
-/// A number as a value.
-pub(crate) fn number_value(number: u32) -> ValueRef<'static>
-    ensures { bound_value (owned result) ≡ number_cell number }
-{
-    ValueRef::Int(i64::from(number))
 }
 
 fn text_or_null(text: Option<&[u8]>) -> ValueRef<'_>
@@ -111,27 +104,12 @@ fn text_or_null(text: Option<&[u8]>) -> ValueRef<'_>
     text.map_or(ValueRef::Null, ValueRef::Text)
 }
 
-fn bytes_or_null(bytes: Option<&[u8]>) -> ValueRef<'_>
-    ensures { bound_value (owned result) ≡ or_null Bytes (option_copied bytes.entry) }
-{
-    bytes.map_or(ValueRef::Null, ValueRef::Blob)
-}
-
-fn number_or_null(number: Option<u32>) -> ValueRef<'static>
-    ensures { bound_value (owned result) ≡ or_null number_cell number }
-{
-    number.map_or(ValueRef::Null, number_value)
-}
-
 /// The value in a column.
 pub(crate) fn value<T: FromSql>(row: &Row, at: usize) -> Result<T, Fault>
     ensures value { IfOk result (λ value. T.FromSql.reads_as (column row.now at) value) }
     ensures fault { IfErr result IsReadingFault }
 {
-    match row.get(at) {
-        Ok(value) => Ok(value),
-        Err(error) => Err(Fault::of_reading(error)),
-    }
+    row.get(at).map_err(Fault::of_reading)
 }
 
 /// The text in a column.

@@ -1,6 +1,6 @@
 //! A journal's turns: beginning it, a commit a turn, and reading them back.
 
-ghost use Rattle.std.specs.Prelude.{◌≡◌, ◌⊎◌, ◌∷◌, ◌++◌, ◌+◌, [], false, List, IfOk, IfErr, IsOk, OnOk, map};
+ghost use Rattle.std.specs.Prelude.{◌≡◌, ◌⊎◌, ◌∷◌, ◌++◌, ◌+◌, [], List, IfOk, IfErr, IsOk, OnOk, map};
 ghost use Rattle.std.specs.Prelude.{take, drop};
 ghost use Rattle.hd_turn_store.specs.Words.{HasCleanDisk, Survives, bound_value, owned, state};
 ghost use Rattle.hd_turn_store.specs.Kept.{KeptTurn, Head, cells, new_head, number_cell, piece};
@@ -14,9 +14,9 @@ use crate::columns::{
 };
 use crate::fault::Fault;
 use crate::heading::FORMAT;
-use crate::row::{TurnRow, number_value};
+use crate::row::TurnRow;
 use crate::table::is_blank;
-use sqlite::types::ValueRef;
+use sqlite::types::{ToSql, ValueRef};
 use sqlite::{Alter, Connection, Error, Row, Transaction};
 
 /// How many turns are read at a time.
@@ -35,24 +35,9 @@ pub fn begin<S: Alter>(conn: &mut Connection<S>, digest: &[u8; 32]) -> Result<()
     if !conn.is_autocommit() || !is_blank(conn.schema()) {
         return Err(Fault::NotAJournal);
     }
-    match begin_blank(conn, digest) {
-        Ok(()) => Ok(()),
-        Err(error) => Err(Fault::of_writing(error)),
-    }
-}
-
-fn begin_blank<S: Alter>(conn: &mut Connection<S>, digest: &[u8; 32]) -> Result<(), Error>
-    requires outside { conn.old.in_transaction ≡ false }
-    requires blank { (state S.Store conn.old).now.schema ≡ no_schema }
-    ensures clean { HasCleanDisk (state S.Store conn.new) → HasCleanDisk (state S.Store conn.old) }
-    ensures begins { HasCleanDisk (state S.Store conn.new)
-        → Commits (IsOk result) (new_head digest.now) [] (state S.Store conn.old) (state S.Store conn.new) }
-    ensures index { HasCleanDisk (state S.Store conn.new)
-        → OnOk result ((state S.Store conn.new).now.schema ≡ journal_schema) }
-{
     let mut tx = conn.transaction();
-    fill(&mut tx, digest)?;
-    tx.commit()
+    fill(&mut tx, digest).map_err(Fault::of_writing)?;
+    tx.commit().map_err(Fault::of_writing)
 }
 
 /// Makes both tables, the index and the head.
@@ -66,10 +51,7 @@ fn fill<S: Alter>(tx: &mut Transaction<'_, S>, digest: &[u8; 32]) -> Result<(), 
     tx.execute(CREATE_JOURNAL, &[])?;
     tx.execute(CREATE_TURN, &[])?;
     tx.execute(CREATE_INDEX, &[])?;
-    tx.execute(
-        INSERT_JOURNAL,
-        &[number_value(FORMAT), ValueRef::Blob(digest)],
-    )?;
+    tx.execute(INSERT_JOURNAL, &[FORMAT.to_sql(), ValueRef::Blob(digest)])?;
     Ok(())
 }
 
@@ -100,7 +82,7 @@ pub fn turns<S: Alter>(conn: &mut Connection<S>, after: u32) -> Result<Vec<Row>,
         ≡ take piece (drop after ks)) }
     ensures fault { IfErr result IsReadingFault }
 {
-    match conn.query_all(SELECT_TURNS, &[number_value(after), last_after(after)]) {
+    match conn.query_all(SELECT_TURNS, &[after.to_sql(), last_after(after)]) {
         Ok(rows) => Ok(rows),
         Err(error) => Err(Fault::of_reading(error)),
     }

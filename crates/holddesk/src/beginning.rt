@@ -3,11 +3,10 @@
 use crate::fault::Fault;
 use crate::folder::{Paths, last_period};
 use crate::keeping::end_kept;
-use crate::library::Library;
 use crate::presence::{remove_journal, see_no_file, see_nothing};
-use crate::reading::read_file;
 use crate::writing::{name_part, own_file, part_path, write_part, write_whole};
 use hd_command_line::{JournalBegin, LibraryFiles};
+use hd_setup::{Library, read_file};
 use hd_turn_store::{Fault as StoreFault, Unknown, open};
 
 /// Begins a journal's file where there is none, or the first period of a folder that has none. An opening
@@ -27,10 +26,10 @@ fn begin_folder(rt: &HostRuntime, library: &LibraryFiles<'_>, folder: &str) -> R
     }
     let first = Paths::of_period(alloc, folder, 1)?;
     let files = first.files();
+    see_nothing(rt, files.journal.unwrap_or(""))?;
     match library.opening {
         None => begin_first(rt, library, &files),
         Some(opening) => {
-            see_nothing(rt, files.journal.unwrap_or(""))?;
             let second = Paths::of_period(alloc, folder, 2)?;
             begin_opened(rt, library, opening, &second.files())
         }

@@ -2,7 +2,6 @@
 
 use crate::comparing::is_carried_over;
 use crate::fault::Fault;
-use crate::library::Library;
 use crate::writing::{part_path, write_part};
 use crate::written_off::{listed_copies, tell_written_off};
 use hd_carry::{CarryFault, Obstacle, carry, obstacle_text};
@@ -10,6 +9,7 @@ use hd_catalogue::Catalogue;
 use hd_desk::Desk;
 use hd_journal::Journal;
 use hd_rules::{CopyNo, OpeningRow};
+use hd_setup::{Library, SetupFault};
 
 /// Which way a desk is to be carried over.
 #[derive(Clone, Copy)]
@@ -35,9 +35,8 @@ pub(crate) struct Carried {
     pub(crate) digest: [u8; 32],
 }
 
-/// Carries the desk of a journal over, and writes the opening beside its path. What was written is read back,
-/// and its desk compared with the journal's, cell by cell. `before` is the SHA-256 of the file that the
-/// journal begins with.
+/// Carries the desk of a journal over, and writes the opening beside its path. `before` is the SHA-256 of the
+/// file that the journal begins with.
 ///
 /// # Errors
 /// Something is in the way; the new catalogue can't be read or is refused; the opening can't be written, or
@@ -51,12 +50,7 @@ pub(crate) fn carry_desk(
     let desk = journal.desk();
     let last = last_number(journal)?;
     let written_off = listed_copies(rt, desk.catalogue(), way.write_off)?;
-    let part = part_path(rt.alloc(), way.into)?;
-    let library = next_library(rt, desk, last, way.to, written_off.as_slice())?;
-    write_opening(rt, &library, part.as_str())?;
-    let library = library.opened(rt, part.as_str())?;
-    let digest = library.digest;
-    see_carried_over(rt, desk, last, library, written_off.as_slice())?;
+    let digest = written_opening(rt, desk, last, way, written_off.as_slice())?;
     tell_written_off(rt, desk, written_off.as_slice())?;
     Ok(Carried {
         turns: journal.front(),
@@ -64,6 +58,27 @@ pub(crate) fn carry_desk(
         before,
         digest,
     })
+}
+
+/// Writes the opening of a desk beside its path: its digest. What was written is read back, and its desk
+/// compared with this one, cell by cell.
+///
+/// # Errors
+/// Those of `carry_desk`.
+fn written_opening(
+    rt: &HostRuntime,
+    desk: &Desk,
+    last: u32,
+    way: &Way<'_, '_, '_>,
+    written_off: &[CopyNo],
+) -> Result<[u8; 32], Fault> {
+    let part = part_path(rt.alloc(), way.into)?;
+    let library = next_library(rt, desk, last, way.to, written_off)?;
+    write_opening(rt, &library, part.as_str())?;
+    let library = library.opened(rt, part.as_str())?;
+    let digest = library.digest;
+    see_carried_over(rt, desk, last, library, written_off)?;
+    Ok(digest)
 }
 
 /// The last number that was given in a journal, or before it.
@@ -84,16 +99,7 @@ fn next_library(
 ) -> Result<Library, Fault> {
     let library = Library::of_catalogue(rt, to)?.with_text()?;
     let rows = rows_of(rt, desk, last, &library.catalogue, written_off)?;
-    let Library {
-        catalogue,
-        digest,
-        is_text,
-    } = library;
-    Ok(Library {
-        catalogue: catalogue.with_opening(rows, last)?,
-        digest,
-        is_text,
-    })
+    Ok(library.beginning_with(rows, last)?)
 }
 
 /// Writes how the journal of a library begins, whose digest is that of the catalogue file.
@@ -145,7 +151,7 @@ fn lines_of(
     }
     match String::from_utf8(lines) {
         Ok(lines) => Ok(lines),
-        Err(_) => Err(Fault::CatalogueIsNoText),
+        Err(_) => Err(Fault::from(SetupFault::CatalogueIsNoText)),
     }
 }
 

@@ -6,11 +6,10 @@ use crate::ending::end_journal;
 use crate::fault::Fault;
 use crate::folder::{Paths, last_period};
 use crate::keeping::{Keeping, open_over};
-use crate::library::Library;
 use crate::presence::see_no_file;
-use crate::reading::read_file;
 use crate::writing::{name_part, part_path, write_whole};
 use hd_command_line::{Carry, LibraryFiles, Place};
+use hd_setup::{Library, read_file};
 use hd_turn_store::Unknown;
 
 /// Carries a library over to another catalogue: into an opening file, or to the next period of its folder.

@@ -3,13 +3,12 @@
 use crate::away::Away;
 use crate::fault::Fault;
 use crate::folder::Paths;
-use crate::library::Library;
 use crate::mending::{tell_faults, tell_warnings};
-use crate::reading::read_file;
 use crate::told::Told;
 use hd_catalogue::{Catalogue, TitleNo};
 use hd_command_line::{Check, LibraryFiles};
 use hd_desk::Desk;
+use hd_setup::{Library, read_file};
 use std::alloc::{AllocError, Global};
 use std::io::{IsTerminal, Write};
 
@@ -64,7 +63,7 @@ fn library_of(rt: &HostRuntime, path: &str) -> Result<(u8, Library), Fault> {
         Err(fault) => {
             // The fault itself is told last, also where there was no room for more.
             let _told = tell_faults(rt, path, file.as_slice());
-            Err(fault)
+            Err(Fault::from(fault))
         }
     }
 }

@@ -1,15 +1,11 @@
 //! Why the program stops.
 
-use hd_catalogue::{CatFault, OpeningFault as UnfitOpening};
-use hd_desk::{OpenFault as DeskFault, RowFault};
 use hd_journal::WriteFault;
 use hd_journal_file::OpenFault;
-use hd_opening::OpeningFault;
-use hd_patrons::PatronsFault;
 use hd_replay::ReplayFault;
 use hd_serve::ServeFault;
 use hd_server::ServerFault;
-use hd_zone::ReadFault;
+use hd_setup::SetupFault;
 use std::alloc::{AllocError, AllocFailed};
 use std::{fmt, io};
 use thiserror::Error;
@@ -17,25 +13,12 @@ use thiserror::Error;
 /// Why the program stops before its end, printed as one line on standard error.
 #[derive(Drop, Error)]
 pub(crate) enum Fault {
-    /// A file of a library can't be read.
-    #[error("cannot read the {kind} {path}: {why}")]
-    CannotRead {
-        /// What it is, as `catalogue`.
-        kind: &'static str,
-        /// Its path.
-        path: String,
-        /// The system's reason.
-        why: String,
-    },
-    /// The same in a line that is one for all paths.
+    /// A library isn't set up, or what is read beside it.
+    #[error("{0}")]
+    Setup(SetupFault),
+    /// A file of a library can't be read, in a line that is one for all paths.
     #[error("cannot read the {0}")]
     Unread(&'static str),
-    /// The catalogue file is refused.
-    #[error("catalogue {0}")]
-    Catalogue(CatFault),
-    /// The catalogue file isn't UTF-8, as its names in a journal's file have to be.
-    #[error("a journal's file holds names in UTF-8, and the catalogue isn't")]
-    CatalogueIsNoText,
     /// What the program tells can't be written.
     #[error("cannot write")]
     CannotWrite,
@@ -63,36 +46,6 @@ pub(crate) enum Fault {
     /// A file is at this path, where one was to be written.
     #[error("there is a file at {0}")]
     FileIsThere(String),
-    /// The opening file is refused.
-    #[error("{0}")]
-    Opening(OpeningFault),
-    /// A row of the opening file says what was said already.
-    #[error("opening line {line}: DOUBLE")]
-    DoubleRow {
-        /// Its line, from 1.
-        line: usize,
-    },
-    /// A row of the opening file tells of a hold that isn't there.
-    #[error("opening line {line}: UNKNOWN")]
-    RowWithoutHold {
-        /// Its line, from 1.
-        line: usize,
-    },
-    /// A row of the opening file has a number out of its bounds.
-    #[error("opening line {line}: NUMBER")]
-    UnfitRow {
-        /// Its line, from 1.
-        line: usize,
-    },
-    /// A zone's file at this path can't be read, or has no offset, for this reason.
-    #[error("cannot read the zone {0}")]
-    CannotReadZone(String),
-    /// A catalogue file with another offset isn't read as that.
-    #[error("the offset is not taken")]
-    OffsetNotTaken,
-    /// The patrons' file is refused.
-    #[error("{0}")]
-    Patrons(PatronsFault),
     /// Nothing of a kind has this name.
     #[error("there is no {kind} {name}")]
     NotThere {
@@ -104,9 +57,6 @@ pub(crate) enum Fault {
     /// This is no day of the form 2026-03-01.
     #[error("{0} is no day")]
     NoDay(String),
-    /// Another file can't be read: its path, and the system's reason.
-    #[error("cannot read {0}")]
-    CannotReadFile(String),
     /// What is in the way of a library that is to be carried over, a line for each thing.
     #[error("{0}")]
     InTheWay(String),
@@ -158,11 +108,13 @@ impl Fault {
     /// The fault as `replay` tells it: of a file that can't be read in a line that is one for all paths.
     pub(crate) fn without_path(self) -> Fault {
         match self {
-            Fault::CannotRead {
-                kind,
-                path: _path,
-                why: _why,
-            } => Fault::Unread(kind),
+            Fault::Setup(
+                SetupFault::CannotRead {
+                    kind,
+                    path: _path,
+                    why: _why,
+                },
+            ) => Fault::Unread(kind),
             other => other,
         }
     }
@@ -175,56 +127,9 @@ impl fmt::Debug for Fault {
     }
 }
 
-impl From<CatFault> for Fault {
-    fn from(fault: CatFault) -> Fault {
-        Fault::Catalogue(fault)
-    }
-}
-
-impl From<ReadFault> for Fault {
-    fn from(fault: ReadFault) -> Fault {
-        match fault {
-            ReadFault::Catalogue(fault) => Fault::Catalogue(fault),
-            ReadFault::Memory => Fault::Memory,
-            ReadFault::NotMoved => Fault::OffsetNotTaken,
-        }
-    }
-}
-
-impl From<DeskFault> for Fault {
-    fn from(fault: DeskFault) -> Fault {
-        match fault {
-            DeskFault::Memory => Fault::Memory,
-            DeskFault::Row { at, cause } => {
-                let line = line_of(at);
-                match cause {
-                    RowFault::Twice => Fault::DoubleRow { line },
-                    RowFault::NoHold => Fault::RowWithoutHold { line },
-                }
-            }
-        }
-    }
-}
-
-impl From<UnfitOpening> for Fault {
-    fn from(fault: UnfitOpening) -> Fault {
-        match fault {
-            UnfitOpening::Last => Fault::UnfitRow { line: 1 },
-            UnfitOpening::Row { index } => Fault::UnfitRow {
-                line: line_of(index),
-            },
-        }
-    }
-}
-
-/// The line of an opening file on which the row stands that has so many before it.
-fn line_of(rows: usize) -> usize {
-    rows.saturating_add(2)
-}
-
-impl From<OpeningFault> for Fault {
-    fn from(fault: OpeningFault) -> Fault {
-        Fault::Opening(fault)
+impl From<SetupFault> for Fault {
+    fn from(fault: SetupFault) -> Fault {
+        Fault::Setup(fault)
     }
 }
 

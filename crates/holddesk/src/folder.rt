@@ -4,8 +4,10 @@
 use crate::fault::Fault;
 use crate::writing::part_path;
 use hd_command_line::{LibraryFiles, Place};
+use hd_setup::cannot_read;
 use std::alloc::{AllocError, Global};
 use std::fs::{self, ReadDir};
+use std::io::ErrorKind;
 
 /// The paths of a library's files.
 pub(crate) struct Paths {
@@ -117,7 +119,10 @@ pub(crate) fn last_period(rt: &HostRuntime, folder: &str) -> Result<Option<u32>,
 fn names_in(rt: &HostRuntime, folder: &str) -> Result<ReadDir, Fault> {
     match fs::read_dir(rt, folder) {
         Ok(names) => Ok(names),
-        Err(_) => Err(Fault::NoFolder(String::from_str(rt.alloc(), folder)?)),
+        Err(error) if error.kind() == ErrorKind::NotFound => {
+            Err(Fault::NoFolder(String::from_str(rt.alloc(), folder)?))
+        }
+        Err(error) => Err(Fault::from(cannot_read(rt.alloc(), folder, &error)?)),
     }
 }
 
@@ -163,30 +168,41 @@ fn see_whole(rt: &HostRuntime, folder: &str, last: Option<u32>) -> Result<(), Fa
         let Ok(entry) = entry else {
             return Err(Fault::NoFolder(String::from_str(rt.alloc(), folder)?));
         };
-        match period_of(entry.file_name()) {
-            Some(period) if last.is_none_or(|last| period > last) => {
-                see_whole_period(rt, &Paths::of_period(rt.alloc(), folder, period)?)?;
-            }
-            _ => {}
-        }
+        see_whole_behind(rt, folder, entry.file_name(), last)?;
     }
     Ok(())
 }
 
+/// Sees it of the period that a file is of, by its name, where that is behind the last complete one.
+fn see_whole_behind(
+    rt: &HostRuntime,
+    folder: &str,
+    name: &str,
+    last: Option<u32>,
+) -> Result<(), Fault> {
+    match period_of(name) {
+        Some(period) if last.is_none_or(|last| period > last) => {
+            see_whole_period(rt, &Paths::of_period(rt.alloc(), folder, period)?)
+        }
+        _ => Ok(()),
+    }
+}
+
 /// Sees that a period that isn't complete is one that a carry, or a beginning, was broken off at. A carry
-/// writes the opening beside its path first, and gives it its name last.
+/// writes the opening beside its path first, and gives it its name last; the beginning of the first period
+/// writes the catalogue first.
 ///
 /// # Errors
 /// It lacks a file that it had; out of memory.
 fn see_whole_period(rt: &HostRuntime, paths: &Paths) -> Result<(), Fault> {
-    let Some(opening) = &paths.opening else {
-        return Ok(());
+    let files = paths.files();
+    let Some(opening) = files.opening else {
+        return see_file(rt, files.catalogue);
     };
-    let part = part_path(rt.alloc(), opening.as_str())?;
+    let part = part_path(rt.alloc(), opening)?;
     if is_there(rt, part.as_str()) {
         return Ok(());
     }
-    let files = paths.files();
     for path in [Some(files.catalogue), files.opening, files.journal] {
         if let Some(path) = path {
             see_file(rt, path)?;

@@ -1,7 +1,6 @@
 //! What `import` does: it makes a catalogue file of a spreadsheet's files.
 
 use crate::fault::Fault;
-use crate::reading::read_list;
 use crate::writing::write_whole;
 use hd_catalogue::OffsetMinutes;
 use hd_command_line::Import;
@@ -9,6 +8,7 @@ use hd_import::{
     Encoding, Fault as SheetFault, Format, Imported, Settings, Sheet, Source, Sources, all_sheets,
     import, unused_headings,
 };
+use hd_setup::{SetupFault, read_list};
 use std::alloc::{AllocError, Global};
 
 /// The files of the sheets, as they were read.
@@ -159,7 +159,7 @@ fn source_of<'a>(path: &'a str, bytes: &'a [u8]) -> Source<'a> {
 ///
 /// # Errors
 /// One can't be read.
-fn read_sheets(rt: &HostRuntime, order: &Import<'_>) -> Result<Sheets, Fault> {
+fn read_sheets(rt: &HostRuntime, order: &Import<'_>) -> Result<Sheets, SetupFault> {
     Ok(Sheets {
         branches: read_list(rt, order.branches)?,
         terminals: read_list(rt, order.terminals)?,

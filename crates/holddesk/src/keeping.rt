@@ -1,15 +1,15 @@
 //! A journal that is kept in a file.
 
 use crate::fault::Fault;
-use crate::library::Library;
 use crate::presence::see_journal;
 use crate::retaking::Retaking;
 use hd_command_line::LibraryFiles;
-use hd_desk::Meter;
 use hd_durable::DurableJournal;
-use hd_journal_file::{JournalFile, Wanted, open};
+use hd_journal_file::{JournalFile, OpenFault, Wanted, open};
+use hd_setup::Library;
 use hd_turn_store::{Connection, FileFrom, FileStore, Start, end};
 use sqlite_disk::Disk;
+use std::io;
 
 /// A journal whose changing turns are committed to a file before they are answered.
 pub(crate) type KeptJournal<S> = DurableJournal<JournalFile<FileStore<FileFrom<S>>, S>>;
@@ -62,17 +62,12 @@ fn take_again<S: Start>(
     keeping: &Keeping<'_>,
     library: Library,
 ) -> Result<KeptJournal<S>, Fault> {
-    let Library {
-        catalogue,
-        digest,
-        ..
-    } = library;
+    let digest = library.digest;
     let wanted = Wanted {
         digest: &digest,
         is_other_accepted: keeping.is_other_accepted,
     };
-    let alloc = rt.alloc();
-    let journal = hd_journal::open(alloc, Meter::new(rt), catalogue)?;
+    let journal = library.journal(rt)?;
     let mut retaking = Retaking::begin(rt)?;
     let opened = open(
         rt,
@@ -83,7 +78,13 @@ fn take_again<S: Start>(
         journal,
         &mut retaking,
     );
-    retaking.end()?;
+    opened_told(opened, retaking.end())
+}
+
+/// What was opened, where it could be told that its turns are taken again. That a journal is dropped where it
+/// couldn't is proved here, of anything: of a journal's whole type it takes long.
+fn opened_told<T: Drop>(opened: Result<T, OpenFault>, told: io::Result<()>) -> Result<T, Fault> {
+    told?;
     Ok(opened?)
 }
 

@@ -12,19 +12,16 @@ mod counted;
 mod days;
 mod door;
 mod ending;
-mod extending;
 mod fault;
 mod folder;
 mod importing;
 mod journal_checking;
 mod keeping;
-mod library;
 mod listing;
 mod mending;
 mod names;
 mod observing;
 mod presence;
-mod reading;
 mod replaying;
 mod retaking;
 mod seeing;
@@ -56,6 +53,9 @@ use crate::views::print_views;
 use hd_command_line::{Order, parse};
 use std::io;
 use std::process::ExitCode;
+use std::sync::Wait;
+use std::thread::Threads;
+use std::time::Clock;
 
 /// The exit status of a fault, which is printed as one line on standard error.
 const FAULT: u8 = 1;
@@ -65,7 +65,15 @@ const REFUSED: u8 = 2;
 
 fn main(rt: HostRuntime) -> io::Result<ExitCode> {
     let alloc = rt.alloc();
-    let words: Vec<String> = std::env::args(&rt)?.collect(alloc)?;
+    let words = match std::env::args(&rt) {
+        Ok(words) => words,
+        Err(error) if error.kind() == io::ErrorKind::InvalidData => {
+            eprintln!(rt; "a word of the command line is not UTF-8")?;
+            return Ok(ExitCode::from(REFUSED));
+        }
+        Err(error) => return Err(error),
+    };
+    let words: Vec<String> = words.collect(alloc)?;
     let order = match parse(alloc, words.as_slice()) {
         Ok(order) => order,
         Err(error) => {
@@ -80,25 +88,36 @@ fn main(rt: HostRuntime) -> io::Result<ExitCode> {
             return Ok(ExitCode::from(REFUSED));
         }
     };
-    let ended = match order {
-        Order::Check(order) => check(&rt, &order),
-        Order::Replay(order) => answer(&rt, &order),
-        Order::Serve(order) => serve(&rt, &rt, &order),
-        Order::Carry(order) => carry_over(&rt, &order),
-        Order::Import(order) => import_sheets(&rt, &order),
-        Order::JournalBegin(order) => begin_journal(&rt, &order),
-        Order::JournalCheck(order) => check_journal(&rt, &order),
-        Order::JournalShow(order) => show_journal(&rt, &order),
-        Order::JournalViews(order) => print_views(&rt, &order),
-        Order::Show(order) => show(&rt, &order),
-        Order::Status(order) => tell_status(&rt, &order),
-        Order::Stop(order) => stop(&rt, &order),
-    };
-    match ended {
+    match carry_out(&rt, &rt, &order) {
         Ok(()) => Ok(ExitCode::SUCCESS),
         Err(fault) => {
             eprintln!(rt; "{fault}")?;
             Ok(ExitCode::from(FAULT))
         }
+    }
+}
+
+/// Does what the command line orders.
+///
+/// # Errors
+/// Why it stopped.
+fn carry_out<R: Threads + Wait + Clock + Sync + Print>(
+    rt: &R,
+    host: &HostRuntime,
+    order: &Order<'_>,
+) -> Result<(), Fault> {
+    match order {
+        Order::Check(order) => check(host, order),
+        Order::Replay(order) => answer(host, order),
+        Order::Serve(order) => serve(rt, host, order),
+        Order::Carry(order) => carry_over(host, order),
+        Order::Import(order) => import_sheets(host, order),
+        Order::JournalBegin(order) => begin_journal(host, order),
+        Order::JournalCheck(order) => check_journal(host, order),
+        Order::JournalShow(order) => show_journal(host, order),
+        Order::JournalViews(order) => print_views(host, order),
+        Order::Show(order) => show(host, order),
+        Order::Status(order) => tell_status(host, order),
+        Order::Stop(order) => stop(host, order),
     }
 }

@@ -1,8 +1,9 @@
 //! What lies at the path of a journal's file, before that is opened.
 
 use crate::fault::Fault;
-use hd_journal_file::OpenFault;
-use hd_turn_store::{Fault as StoreFault, HEAD, is_ended};
+use crate::writing::cannot_write;
+use hd_setup::cannot_read;
+use hd_turn_store::{HEAD, is_ended};
 use std::alloc::Global;
 use std::fs::{self, File};
 use std::io::{self, ErrorKind, Read};
@@ -22,7 +23,7 @@ enum Presence {
     Journal,
     /// A journal without its log, which may have had the last turns.
     JournalAlone,
-    /// A log without its journal.
+    /// A log without its journal, or beside one that was emptied.
     LogAlone,
 }
 
@@ -33,11 +34,22 @@ enum Presence {
 pub(crate) fn see_journal(rt: &HostRuntime, path: &str) -> Result<(), Fault> {
     let log = log_path(rt.alloc(), path)?;
     match look(rt, path, log.as_str())? {
-        Presence::Journal => Ok(()),
+        Presence::Journal => see_readable(rt, path),
         Presence::Nothing => Err(Fault::NoJournal(String::from_str(rt.alloc(), path)?)),
         Presence::JournalAlone if is_ended_at(rt, path) => Ok(()),
         Presence::JournalAlone => Err(Fault::NoLog),
         Presence::LogAlone => Err(Fault::LogAlone(log)),
+    }
+}
+
+/// Sees that a journal's file can be read.
+///
+/// # Errors
+/// The system refuses it.
+fn see_readable(rt: &HostRuntime, path: &str) -> Result<(), Fault> {
+    match File::open(rt, path) {
+        Ok(_) => Ok(()),
+        Err(error) => Err(Fault::from(cannot_read(rt.alloc(), path, &error)?)),
     }
 }
 
@@ -100,7 +112,7 @@ fn remove(rt: &HostRuntime, path: &str) -> Result<(), Fault> {
     match fs::remove_file(rt, path) {
         Ok(()) => Ok(()),
         Err(error) if error.kind() == ErrorKind::NotFound => Ok(()),
-        Err(_) => Err(Fault::CannotWriteFile(String::from_str(rt.alloc(), path)?)),
+        Err(error) => Err(cannot_write(rt.alloc(), path, &error)?),
     }
 }
 
@@ -121,6 +133,7 @@ fn presence_of(journal: Option<u64>, log: Option<u64>) -> Presence {
         (None, _) if length > LOG_HEADING => Presence::LogAlone,
         (None, _) => Presence::Nothing,
         (Some(0), _) if length < LEAST_LOG => Presence::Nothing,
+        (Some(0), _) => Presence::LogAlone,
         (Some(_), None) => Presence::JournalAlone,
         (Some(_), Some(_)) => Presence::Journal,
     }
@@ -134,6 +147,6 @@ fn length(rt: &HostRuntime, path: &str) -> Result<Option<u64>, Fault> {
     match fs::metadata(rt, path) {
         Ok(file) => Ok(Some(file.len())),
         Err(error) if error.kind() == ErrorKind::NotFound => Ok(None),
-        Err(_) => Err(Fault::Journal(OpenFault::File(StoreFault::CannotOpen))),
+        Err(error) => Err(Fault::from(cannot_read(rt.alloc(), path, &error)?)),
     }
 }

@@ -1,13 +1,11 @@
 //! Answering the messages of the standard input.
 
-use crate::extending::{extensions_of, is_extended};
 use crate::fault::Fault;
-use crate::library::Library;
-use crate::reading::read_file;
 use hd_command_line::{LibraryFiles, Replay};
 use hd_connection::Fallible;
 use hd_replay::{ReplayFault, replay_over};
 use hd_server::replay;
+use hd_setup::{Library, extensions_of, is_extended, read_file};
 
 /// Answers the messages of the standard input.
 pub(crate) fn answer(rt: &HostRuntime, order: &Replay<'_>) -> Result<(), Fault> {

@@ -3,9 +3,10 @@
 use crate::answering::{answer_at, unanswered};
 use crate::fault::Fault;
 use crate::table::Table;
-use crate::topics::{heads_of, inquiry_of, unseen};
+use crate::topics::{heads_of, unseen};
 use hd_ask::{Question, Rows, number_of};
 use hd_command_line::{SeenTopic, Show};
+use hd_setup::inquiry_of;
 use std::alloc::Global;
 use std::io::Write;
 
@@ -42,6 +43,18 @@ impl Shown {
         }
         Ok(())
     }
+
+    /// Prints it.
+    fn print(&self, rt: &HostRuntime, is_json: bool) -> Result<(), Fault> {
+        if !is_json {
+            return self.table.print(rt, false);
+        }
+        let begin: &[u8] = if self.text.is_empty() { b"[" } else { b"" };
+        rt.stdout().write_all(begin)?;
+        rt.stdout().write_all(self.text.as_slice())?;
+        rt.stdout().write_all(b"]\n")?;
+        Ok(())
+    }
 }
 
 /// Which of the rows there are is shown.
@@ -62,14 +75,7 @@ pub(crate) fn show(rt: &HostRuntime, order: &Show<'_>) -> Result<(), Fault> {
         text: Vec::new(alloc),
     };
     add_pages(rt, order, range, &mut shown)?;
-    if !order.is_json {
-        return shown.table.print(rt, false);
-    }
-    let begin: &[u8] = if shown.text.is_empty() { b"[" } else { b"" };
-    rt.stdout().write_all(begin)?;
-    rt.stdout().write_all(shown.text.as_slice())?;
-    rt.stdout().write_all(b"]\n")?;
-    Ok(())
+    shown.print(rt, order.is_json)
 }
 
 /// Which rows are shown: of turns those that are asked for, or the last ones, and of all else all.

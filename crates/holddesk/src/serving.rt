@@ -1,11 +1,9 @@
 //! Serving terminals over the library of a catalogue file.
-ghost use Rattle.std.specs.Prelude.{◌≡◌, ◌≤◌, [], IfOk, Some};
+ghost use Rattle.std.specs.Prelude.{◌≡◌, [], IfOk};
 ghost use Rattle.hd_journal.specs.Openings.{IsLegalSince};
 
 use crate::counted::Counted;
-use crate::extending::extensions_of;
 use crate::fault::Fault;
-use crate::library::Library;
 use crate::observing::Teller;
 use crate::zone::zone_offset;
 use hd_catalogue::Catalogue;
@@ -17,8 +15,9 @@ use hd_journal::Journal;
 use hd_log::Event;
 use hd_page_html::page;
 use hd_serve::{Observer, ServeFault, serve_observed};
-use hd_server::{Options, ServerFault, Sight, Summary, serve_seen, summary_of};
+use hd_server::{ServerFault, Sight, Summary, serve_seen, summary_of};
 use hd_session::Extensions;
+use hd_setup::{Library, extensions_of, options_of};
 use std::alloc::Global;
 use std::io;
 use std::net::{SocketAddr, TcpListener};
@@ -92,7 +91,7 @@ pub(crate) fn serve_by<
     ensures opening { IfOk result (λ closed. K.opening closed ≡ K.opening keeper) }
     ensures legal { IfOk result (λ closed. IsLegalSince (K.opening closed) (K.turns closed)) }
 {
-    let options = options_of(serving);
+    let options = options_of(serving.order, serving.extensions);
     let observer = &Teller::new(host, serving.order.log);
     match serving.door {
         None => Ok(serve_observed(rt, host.alloc(), listener, keeper, &options, observer)?),
@@ -185,27 +184,6 @@ fn tell_start<R: Eprint>(
         Counted::of(catalogue.titles(), "title", "titles"),
         Counted::of(catalogue.copies(), "copy", "copies")
     )
-}
-
-/// How terminals are to be served, as the words of the command line say.
-fn options_of<'a>(serving: &Serving<'a>) -> Options<'a>
-    ensures workers { (1 ≤ result.workers) × (result.workers ≤ 9999) }
-    ensures extensions { result.extensions ≡ Some serving.now.extensions }
-    ensures line_feeds { result.has_line_feeds ≡ serving.now.order.now.has_line_feeds }
-    ensures days { result.days_off ≡ serving.now.order.now.days_off }
-{
-    Options {
-        workers: serving.order.workers.clamp(1, 9_999),
-        beyond: match serving.order.beyond {
-            Beyond::Wait => hd_serve::Beyond::Wait,
-            Beyond::TurnAway => hd_serve::Beyond::TurnAway,
-        },
-        connections: serving.order.connections,
-        idle: serving.order.idle,
-        extensions: Some(serving.extensions),
-        has_line_feeds: serving.order.has_line_feeds,
-        days_off: serving.order.days_off,
-    }
 }
 
 /// Tells how serving ended.

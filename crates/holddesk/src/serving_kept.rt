@@ -1,11 +1,9 @@
 //! Serving terminals with a journal that is kept in a file.
 
 use crate::door::open_door;
-use crate::extending::extensions_of;
 use crate::fault::Fault;
 use crate::folder::Paths;
 use crate::keeping::{Keeping, end_kept, open_over};
-use crate::library::Library;
 use crate::observing::Teller;
 use crate::presence::log_path;
 use crate::serving::{Serving, listen_with_turns, serve_by, serve_in_memory, tell_end};
@@ -19,6 +17,7 @@ use hd_journal_file::JournalFile;
 use hd_log::Event;
 use hd_serve::Observer;
 use hd_server::{Summary, summary_of};
+use hd_setup::{Library, SetupFault, extensions_of};
 use hd_turn_store::{Alter, Connection, FileStore, Start, Unknown, Wary};
 use sqlite_disk::Disk;
 use std::sync::Wait;
@@ -34,7 +33,7 @@ pub(crate) fn serve<R: Threads + Wait + Clock + Sync + Print>(
     order: &Serve<'_>,
 ) -> Result<(), Fault> {
     match serve_at_door(rt, host, order) {
-        Err(Fault::CannotRead { kind, path, why }) => {
+        Err(Fault::Setup(SetupFault::CannotRead { kind, path, why })) => {
             Teller::new(host, order.log).tell(&Event::CannotRead {
                 file: path.as_bytes(),
                 why: why.as_bytes(),

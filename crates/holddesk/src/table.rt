@@ -2,6 +2,7 @@
 
 use crate::fault::Fault;
 use hd_ask::cell;
+use hd_setup::SetupFault;
 use serde_json::Value;
 use std::alloc::Global;
 use std::io::Write;
@@ -28,7 +29,7 @@ impl Table {
     /// The bytes are no text; out of memory.
     pub(crate) fn push(&mut self, alloc: Global, cell: &[u8]) -> Result<(), Fault> {
         let Ok(text) = str::from_utf8(cell) else {
-            return Err(Fault::CatalogueIsNoText);
+            return Err(Fault::from(SetupFault::CatalogueIsNoText));
         };
         self.cells.push(String::from_str(alloc, text)?)?;
         Ok(())

@@ -1,9 +1,9 @@
 //! How much a patrons' file tells. None of its text is printed.
 
-use crate::extending::read_patrons;
 use crate::fault::Fault;
 use hd_catalogue::Catalogue;
 use hd_patrons::{PasswordCheck, PatronNo, Patrons};
+use hd_setup::read_patrons;
 use std::io;
 
 /// Of how many patrons a patrons' file has these texts.

@@ -1,13 +1,9 @@
-//! What a server can show, and how it is asked for and told.
-ghost use Rattle.std.specs.Prelude.{◌≡◌};
-ghost use Rattle.hd_page.specs.Sights.{NameAsked, asked_of};
-ghost use Rattle.holddesk.specs.Topics.{topic_asked};
+//! What a server can show, and how it is told.
 
 use crate::answering::refusal;
 use crate::fault::Fault;
 use hd_ask::Answer;
 use hd_command_line::SeenTopic;
-use hd_page::{Inquiry, Named};
 use std::alloc::{AllocError, Global};
 
 /// The headings of a copy.
@@ -65,38 +61,6 @@ pub(crate) fn heads_of(topic: &SeenTopic<'_>) -> &'static [&'static str] {
         SeenTopic::Overdue(_) => &OVERDUE,
         SeenTopic::Turns { .. } => &TURNS,
         SeenTopic::Command(_) => &COMMAND,
-    }
-}
-
-/// What is asked for a page of a topic that begins behind so much, and of turns has so many at most.
-pub(crate) fn inquiry_of<'a>(topic: &SeenTopic<'a>, after: u64, limit: u64) -> Inquiry<'a>
-    ensures { asked_of result ≡ topic_asked topic.now after limit }
-{
-    match *topic {
-        SeenTopic::Copy(name) => by_name(Named::Copy, name, after),
-        SeenTopic::Title(name) => by_name(Named::Queue, name, after),
-        SeenTopic::Patron(name) => by_name(Named::Patron, name, after),
-        SeenTopic::Shelf(name) => by_name(Named::Shelf, name, after),
-        SeenTopic::Transit(name) => by_name(Named::Transit, name, after),
-        SeenTopic::Overdue(day) => Inquiry::Overdue {
-            day: day.as_bytes(),
-            after,
-        },
-        SeenTopic::Turns { .. } => Inquiry::Turns { after, limit },
-        SeenTopic::Command(number) => Inquiry::Command {
-            number: u64::from(number),
-        },
-    }
-}
-
-/// What is asked for what there is under a name.
-fn by_name<'a>(kind: Named, name: &'a str, after: u64) -> Inquiry<'a>
-    ensures { asked_of result ≡ NameAsked kind name.now after }
-{
-    Inquiry::ByName {
-        kind,
-        name: name.as_bytes(),
-        after,
     }
 }
 

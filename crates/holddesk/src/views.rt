@@ -1,8 +1,8 @@
 //! What `journal views` prints.
 
 use crate::fault::Fault;
-use crate::reading::read_file;
 use hd_command_line::{JournalViews, VIEWS};
+use hd_setup::read_file;
 use std::alloc::{AllocError, Global};
 use std::io::Write;
 

@@ -2,7 +2,7 @@
 
 use crate::fault::Fault;
 use hd_turn_store::Fault as StoreFault;
-use std::alloc::Global;
+use std::alloc::{AllocError, Global};
 use std::fs::{File, OpenOptions, Permissions};
 use std::io::{ErrorKind, Write};
 use std::os::unix::fs::{OpenOptionsExt, PermissionsExt};
@@ -40,7 +40,7 @@ pub(crate) fn part_path(alloc: Global, path: &str) -> Result<String, Fault> {
 pub(crate) fn write_part(rt: &HostRuntime, part: &str, bytes: &[u8]) -> Result<(), Fault> {
     match write_synced(rt, part, bytes) {
         Ok(()) => Ok(()),
-        Err(_) => Err(Fault::CannotWriteFile(String::from_str(rt.alloc(), part)?)),
+        Err(error) => Err(cannot_write(rt.alloc(), part, &error)?),
     }
 }
 
@@ -51,8 +51,20 @@ pub(crate) fn write_part(rt: &HostRuntime, part: &str, bytes: &[u8]) -> Result<(
 pub(crate) fn name_part(rt: &HostRuntime, part: &str, path: &str) -> Result<(), Fault> {
     match rename_synced(rt, part, path) {
         Ok(()) => Ok(()),
-        Err(_) => Err(Fault::CannotWriteFile(String::from_str(rt.alloc(), path)?)),
+        Err(error) => Err(cannot_write(rt.alloc(), path, &error)?),
     }
+}
+
+/// The fault that a file can't be written: its path, and the system's reason.
+///
+/// # Errors
+/// Out of memory.
+pub(crate) fn cannot_write(
+    alloc: Global,
+    path: &str,
+    why: &io::Error,
+) -> Result<Fault, AllocError> {
+    Ok(Fault::CannotWriteFile(format!(in alloc; "{path}: {why}")?))
 }
 
 /// Opens a file that its owner alone may read and write, whatever the umask. Where there is none, it is made,
@@ -81,7 +93,11 @@ pub(crate) fn try_page(rt: &HostRuntime, path: &str) -> Result<(), Fault> {
     match (written, removed) {
         (Ok(()), Ok(())) => Ok(()),
         (Err(error), _) if is_full(&error) => { Err(Fault::from(StoreFault::DiskFull)) }
-        _ => Err(Fault::from(StoreFault::CannotWrite)),
+        (Err(error), _) | (Ok(()), Err(error)) => Err(cannot_write(
+            rt.alloc(),
+            trial.as_str(),
+            &error,
+        )?),
     }
 }
 

@@ -2,10 +2,10 @@
 
 use crate::fault::Fault;
 use crate::names::{copy_name, patron_name};
-use crate::reading::read_list;
 use hd_catalogue::Catalogue;
 use hd_desk::Desk;
 use hd_rules::{CopyNo, CopyState, PatronNo};
+use hd_setup::read_list;
 use std::alloc::AllocError;
 use std::io::Write;
 

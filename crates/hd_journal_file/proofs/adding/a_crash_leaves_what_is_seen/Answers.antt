@@ -1,13 +1,16 @@
-use Rattle.sqlite.specs.Held.{state}
-use Rattle.hd_journal_file.proofs.Held.{held_is_left, left_is_held}
+use Rattle.hd_journal_file.proofs.Held.{held_is_left, left_is_held, stored_turns}
 use Rattle.hd_journal_file.proofs.adding.a_crash_leaves_what_is_seen.Goals as goal
 
+pub returns-clause-one : goal.returns-clause-one
+returns-clause-one g c k turns left db =
+    stored_turns c.a_turn_is_read_of_its_values.ensures c.a_row_is_of_one_message.ensures.one
+
 pub returns-clause-only : goal.returns-clause-only
-returns-clause-only g c k turns left =
+returns-clause-only g c image is_new k digest turns left holds leaves =
     left_is_held c.a_turn_is_read_of_its_values.ensures c.a_row_is_of_one_message.ensures.one
-    (state g.S.Store c.args._conn.now) (λ db. g.met.S.Store.settled c.args._conn.now.store db)
+    (λ db. g.met.S.Store.settled c.args._conn.now.store db) (holds leaves.0).has leaves.1
 
 pub returns-clause-left : goal.returns-clause-left
-returns-clause-left g c k turns held =
-    held_is_left (state g.S.Store c.args._conn.now)
-    (g.met.S.Store.stays c.args._conn.now.store held.keeps.is_open) held
+returns-clause-left g c image is_new k digest turns reliable holds =
+    let held = (holds reliable).has in
+    (reliable, held_is_left (g.met.S.Store.stays c.args._conn.now.store held.keeps.is_open) held)

@@ -1,8 +1,7 @@
-use Rattle.std.proofs.Common.{◌≡◌, ◌≤◌, List, length, take}
+use Rattle.std.proofs.Common.{◌≤◌, List, length, take}
 use Rattle.sqlite.specs.State.{HasCleanDisk}
 use Rattle.sqlite.specs.Held.{state}
-use Rattle.sqlite.specs.Tree.{Trees}
-use Rattle.hd_turn_store.specs.Holds.{Holds}
+use Rattle.hd_turn_store.specs.Holds.{Holds, OnlyReads}
 use Rattle.hd_turn_store.specs.Kept.{KeptTurn, Head}
 use Rattle.hd_journal_file.specs.Restored.{TakesRows}
 use Rattle.hd_journal_file.proofs.restoring.restore_turns.Given as goal
@@ -13,12 +12,9 @@ invariant-loop-piece g l =
     let old = state g.S.Store l.initial.conn in
     let now = state g.S.Store l.conn in
     record {
-      clean : HasCleanDisk now → HasCleanDisk old;
+      reads : OnlyReads Unit old now;
       took : (rows : List KeptTurn) × TakesRows l.format l.initial.journal l.journal rows;
       rows : HasCleanDisk now → (head : Head) (rows : List KeptTurn) → Holds old head rows
-          → Holds now head rows × TakesRows l.format l.initial.journal l.journal (take l.at rows)
-          × (length (take l.at rows) ≡ l.at);
-      crash : HasCleanDisk now → (head : Head) (rows : List KeptTurn) → Holds old head rows
-          → (db : Trees) → now.may_leave db → old.may_leave db;
+          → TakesRows l.format l.initial.journal l.journal (take l.at rows) × (l.at ≤ length rows);
       many : l._piece ≤ l.at;
     }

@@ -1,9 +1,11 @@
-use Rattle.std.proofs.Common.{rules, subst, sym}
+use Rattle.std.proofs.Common.{rules}
 use Rattle.hd_catalogue.specs.Contents.{facts_of}
-use Rattle.hd_turn_row.specs.Replies.{IsReplyColumn}
 use Rattle.hd_turn_row.proofs.ColumnLemmas.{day_column}
 use Rattle.hd_turn_row.proofs.PartLemmas.{parts_known}
 use Rattle.hd_turn_row.proofs.row.row_of.Goals as goal
+
+also : {A B : Type 0} → A → B → A × B
+also a b = (a, b)
 
 pub returns-clause-row : goal.returns-clause-row
 returns-clause-row g c =
@@ -14,34 +16,13 @@ returns-clause-row g c =
       terminal = search rules;
       parts = c.args.asked.now.parts;
       asked = c.requires.asked.parts;
-      shown = (
-        day_column _ _ _ c.day.ensures c.requires.asked.day,
-        (
-          search rules,
-          (
-            search (rules, known, c.map.ensures.cases),
-            (
-              search (rules, known, c.map-2.ensures.cases),
-              (
-                search (rules, known, c.map-3.ensures.cases),
-                (
-                  search (rules, known, c.map-4.ensures.cases),
-                  (
-                    search (rules, c.map-5.ensures.cases),
-                    (search (rules, c.requires.asked.until), tt),
-                  ),
-                ),
-              ),
-            ),
-          ),
-        ),
-      );
+      shown =
+          also (day_column _ _ _ c.day.ensures c.requires.asked.day) (also (search rules)
+          (also (search (rules, known, c.map.ensures.cases))
+          (also (search (rules, known, c.map-2.ensures.cases))
+          (also (search (rules, known, c.map-3.ensures.cases))
+          (also (search (rules, known, c.map-4.ensures.cases))
+          (also (search (rules, c.map-5.ensures.cases))
+          (also (search (rules, c.requires.asked.until)) tt)))))));
       line = search rules;
     }
-
-pub returns-clause-came : goal.returns-clause-came
-returns-clause-came g c format reply are = record {
-  outcome = are.outcome;
-  number = are.number;
-  told = λ new. subst (IsReplyColumn reply) (sym c.as_slice.ensures.value) are.told;
-}

@@ -1,5 +1,4 @@
-use Rattle.std.proofs.Common.{◌≡◌, Some, sym, subst, below_more, arith}
-use Rattle.std.proofs.lemmas.Bool.{both_ways}
+use Rattle.std.proofs.Common.{◌≡◌, Some, sym, subst, below_more, arith, rules}
 use Rattle.hd_catalogue.specs.Contents.{facts_of, terminal_name}
 use Rattle.hd_catalogue.specs.Names.{name_at}
 use Rattle.hd_turn_row.proofs.NumberLemmas.{number_known, other_name}
@@ -12,8 +11,7 @@ loop-number-preserved g c =
     below_more _ _ c.loop-number.invariant (λ found.
     other_name c.args.catalogue.now.terminals c.args.name.now c.terminal_name.result.now c.loop-number.number
     (subst (λ n. name_at c.args.catalogue.now.terminals n ≡ Some c.terminal_name.result.now)
-    c.terminal_at-terminal.ensures
-    c.terminal_name.ensures.name) (λ same. both_ways _ c.if-is_same.false (c.is_same.ensures.1 same)) found)
+    (search rules) c.terminal_name.ensures.name) (λ same. search rules) found)
 
 pub returns : goal.returns
 unfolding facts_of

@@ -1,4 +1,4 @@
-use Rattle.std.proofs.Common.{[], ◌∷◌, get_or, take}
+use Rattle.std.proofs.Common.{[], ◌∷◌, get_or, rules, take}
 use Rattle.std.proofs.lemmas.List.{take_more}
 use Rattle.hd_turn_row.proofs.ReplyLemmas.{written_both}
 use Rattle.hd_turn_row.proofs.written.append.Goals as goal
@@ -9,4 +9,7 @@ loop-number-preserved g c =
     let at = c.loop-number.number-index in
     let more = take_more numbers at 0 c.loop-number-test.true in
     rw more (written_both (take at numbers) (get_or numbers at 0 ∷ []) c.args.out.now.items
-    c.loop-number.out.items c.append_one.new.out.items c.loop-number.invariant c.in_ok-append_one.ensures)
+    c.loop-number.out.items c.extend_from_slice.new.self.items c.loop-number.invariant (
+      search (rules, c.type_inv.numbers),
+      search rules,
+    ))

@@ -1,10 +1,6 @@
 use Rattle.std.proofs.Common.{Ok, ap}
 use Rattle.hd_turn_store.proofs.file.open.Goals as goal
 
-pub returns-clause-new : goal.returns-clause-new
-returns-clause-new g c clean new =
-    c.in_ok-conn.ensures.blank (c.begin_or_check.ensures.reads.clean clean) (c.in_ok-is_new.ensures.blank new)
-
 pub returns-clause-restored : goal.returns-clause-restored
 returns-clause-restored g c clean old head ks held =
     c.in_ok-is_new.ensures.reads.same (ap Ok old) clean head ks (c.in_ok-conn.ensures.found

@@ -44,16 +44,6 @@ left_of old middle rows set quiet db (inl did) =
     inl (set_alone (view old) (view middle) rows db (set (no_doubt _ is_clean)) did.1 is_open)
 left_of old middle rows set quiet db (inr before) = inr (quiet db before)
 
-pub returns-then-version-mark-clause-ok : goal.returns-then-version-mark-clause-ok
-returns-then-version-mark-clause-ok g c clean is_open =
-    record {
-      mark_is = rw c.if-version-mark.true at (c.version.ensures clean is_open);
-      others = λ tree other. refl;
-      settled = λ h. h;
-      numbered = refl;
-      is_open = refl;
-    }
-
 pub returns-in_err-set_version-clause-crash : goal.returns-in_err-set_version-clause-crash
 returns-in_err-set_version-clause-crash g c db may = inr (c.set_version.ensures.quiet.outcomes db may)
 

@@ -1,5 +1,5 @@
-use Rattle.std.proofs.Common.{◌≡◌, ◌↔◌, ◌∙◌, ℕ, ◌≤◌, ◌*◌, ◌-◌, List, [], ◌∷◌, ◌++◌, Option, inl, inr}
-use Rattle.std.proofs.Common.{arith, ap, codes, subst, sym, take, take-take, unwrap_or, IsTrue}
+use Rattle.std.proofs.Common.{◌≡◌, ◌↔◌, ◌∙◌, ℕ, ◌≤◌, ◌*◌, ◌-◌, List, [], ◌∷◌, ◌++◌, Option, inl, inr, arith}
+use Rattle.std.proofs.Common.{ap, codes, subst, sym, take, take-take, unwrap_or, IsTrue}
 use Rattle.std.proofs.lemmas.Bool.Decides.{nat_tests}
 use Rattle.sqlite_pool.specs.File.{header_in}
 use Rattle.sqlite_pool.specs.Stored.{reserved, stored_size}
@@ -11,13 +11,6 @@ use Rattle.sqlite_wal.proofs.AppendLemmas.{some_value, page_from_pages}
 use Rattle.hd_turn_store.specs.Words.{HoldsDatabase, Image, Trees, user_version, version_rows, version_tree}
 use Rattle.hd_turn_store.specs.Marks.{HasMark, SaysMark, ended_mark}
 use Rattle.hd_turn_store.proofs.mark.is_ended.Goals as goal
-
--- at most eight bytes of a page are reserved
-few_reserved : (size : ℕ) → reserved size ≤ 8
-few_reserved size = grind (arith, nat_tests)
-
-version_of : (one two : ℕ) → version_rows one ≡ version_rows two → one ≡ two
-version_of one two same = cc
 
 -- an empty log has no frame
 no_frames : (size frames : ℕ) → Replays size [] frames → frames ≡ 0
@@ -32,7 +25,8 @@ has_what_it_says left db mark (size, allowed, held) =
     let whole = stored_size size in
     let found = held.found.found in
     let first : (1 - 1) * whole ≡ 0 = omega arith in
-    let long : 100 ≤ size = omega (arith, allowed.0, few_reserved size) in
+    let few : reserved size ≤ 8 = grind (arith, nat_tests) in
+    let long : 100 ≤ size = omega (arith, allowed.0) in
     let page = some_value (held.found.stored 1) held.found.whole.first in
     let gives = subst (λ n. pages_after whole [] left.db n ≡ held.found.stored)
     (no_frames whole found.frames found.replays) found.gives in
@@ -52,7 +46,7 @@ has_what_it_says left db mark (size, allowed, held) =
       λ has. record {
         magic = subst (λ (h : List ℕ). take 16 h ≡ codes "SQLite format 3" ++ 0 ∷ []) head
             held.ours.file.sound.header.0.magic;
-        version = version_of _ _ (sym version ∙ has);
+        version = cc;
       },
     )
 

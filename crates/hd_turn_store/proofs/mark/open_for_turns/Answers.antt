@@ -1,36 +1,41 @@
-use Rattle.std.proofs.Common.{◌∙◌, subst, sym}
-use Rattle.std.proofs.lemmas.Result.{err_from_is_err_and}
+use Rattle.std.proofs.Common.{◌∙◌, ap, arith, refl, subst, sym}
+use Rattle.hd_turn_store.specs.Words.{Database, HasCleanDisk, IsClean, file_state, settled_at, view}
 use Rattle.hd_turn_store.specs.Marks.{HasMark, open_mark}
-use Rattle.hd_turn_store.specs.Tables.{Stores}
+use Rattle.hd_turn_store.specs.Tables.{IsJournal, Stores}
 use Rattle.hd_turn_store.proofs.mark.open_for_turns.Goals as goal
 
-pub opened_again-requires : goal.opened_again-requires
-opened_again-requires g c clean = (c.in_ok-store.ensures.marked clean).fresh
+pub returns-in-Err-clause-left : goal.returns-in-Err-clause-left
+returns-in-Err-clause-left g c clean head ks holds db may =
+    c.in_ok-store.ensures.kept head ks holds db (c.in-Err.ensures.unharmed.outcomes db may)
 
-pub returns-in_err-again-clause-left : goal.returns-in_err-again-clause-left
-returns-in_err-again-clause-left g c =
-    let p = err_from_is_err_and c.from_residual-in_err-again.result c.from_residual-in_err-again.ensures.1 in
-    rw (p.1, p.2) (λ clean head ks holds db may.
-    c.in_ok-store.ensures.kept head ks holds db (c.in_err-again.ensures.left clean db may))
-
-pub returns-clause-clean : goal.returns-clause-clean
-returns-clause-clean g c clean =
-    (c.in_ok-store.ensures.marked (c.in_ok-again.ensures.found clean).was_clean).was_clean
+pub returns-then-not-is_journal-clause-left : goal.returns-then-not-is_journal-clause-left
+returns-then-not-is_journal-clause-left g c clean head ks holds db may =
+    let again = c.in-Ok.again in
+    let now : HasCleanDisk (file_state again) = omega (arith, c.into_store.ensures.quiet.clean) in
+    let early : IsClean (view c.in_ok-store.store) = omega (arith, c.in-Ok.ensures.clean) in
+    let marked = c.in_ok-store.ensures.marked early in
+    let opens = (c.in-Ok.ensures.opens now).0 in
+    let last = settled_at again.store g.met.D.Disk.seen_may_stay db opens.is_open
+    (c.into_store.ensures.quiet.outcomes db may) in
+    subst (Stores head ks) (sym (last ∙ sym (ap (λ (d : Database). d.trees) opens.clean)
+    ∙ c.in-Ok.ensures.trees now ∙ marked.fresh.clean)) (marked.kept head ks holds)
 
 pub returns-clause-same : goal.returns-clause-same
 returns-clause-same g c clean head ks holds =
-    let shows = c.in_ok-again.ensures.found clean in
-    let marked = c.in_ok-store.ensures.marked shows.was_clean in
+    let early : IsClean (view c.in_ok-store.store) = omega (arith, c.in-Ok.ensures.clean) in
+    let marked = c.in_ok-store.ensures.marked early in
+    let opens = (c.in-Ok.ensures.opens clean).0 in
     record {
-      schema = shows.schema;
-      rows = subst (Stores head ks) (sym (shows.trees ∙ marked.fresh.clean)) (marked.kept head ks holds);
-      settled = sym shows.opens.clean;
-      outside = shows.opens.autocommit;
-      is_open = shows.opens.is_open;
+      schema = subst IsJournal c.schema.ensures.value (c.if-not-is_journal.ensures refl);
+      rows = subst (Stores head ks) (sym (c.in-Ok.ensures.trees clean ∙ marked.fresh.clean))
+          (marked.kept head ks holds);
+      settled = sym opens.clean;
+      outside = opens.autocommit;
+      is_open = opens.is_open;
     }
 
 pub returns-clause-marked : goal.returns-clause-marked
 returns-clause-marked g c clean =
-    let shows = c.in_ok-again.ensures.found clean in
-    let marked = c.in_ok-store.ensures.marked shows.was_clean in
-    subst (HasMark open_mark) (sym (shows.trees ∙ marked.fresh.clean)) marked.mark_is
+    let early : IsClean (view c.in_ok-store.store) = omega (arith, c.in-Ok.ensures.clean) in
+    let marked = c.in_ok-store.ensures.marked early in
+    subst (HasMark open_mark) (sym (c.in-Ok.ensures.trees clean ∙ marked.fresh.clean)) marked.mark_is

@@ -19,23 +19,20 @@ returns-in_err-checkpoint-clause-crash g c db may = inr (c.checkpoint.ensures.qu
 
 pub returns-in_err-commit_mark-clause-crash : goal.returns-in_err-commit_mark-clause-crash
 returns-in_err-commit_mark-clause-crash g c =
-    let copy = c.checkpoint.ensures in
-    through c.args.store.now c.checkpoint.new.self c.commit_mark.new.store c.commit_mark.new.store copy.same
-    copy.quiet.outcomes c.commit_mark.ensures.crash (λ db may. may)
+    through c.args.store.now c.checkpoint.new.self c.commit_mark.new.store c.checkpoint.ensures.same
+    c.checkpoint.ensures.quiet.outcomes c.commit_mark.ensures.crash
 
 pub returns-in_err-checkpoint-2-clause-crash : goal.returns-in_err-checkpoint-2-clause-crash
-returns-in_err-checkpoint-2-clause-crash g c =
-    let copy = c.checkpoint.ensures in
-    through c.args.store.now c.checkpoint.new.self c.commit_mark.new.store c.checkpoint-2.new.self copy.same
-    copy.quiet.outcomes c.commit_mark.ensures.crash
-    (λ db may. c.rollback.ensures.quiet.outcomes db (c.checkpoint-2.ensures.quiet.outcomes db may))
+returns-in_err-checkpoint-2-clause-crash g c db may =
+    through c.args.store.now c.checkpoint.new.self c.commit_mark.new.store c.checkpoint.ensures.same
+    c.checkpoint.ensures.quiet.outcomes c.commit_mark.ensures.crash db
+    (c.rollback.ensures.quiet.outcomes db (c.checkpoint-2.ensures.quiet.outcomes db may))
 
 pub returns-clause-crash : goal.returns-clause-crash
-returns-clause-crash g c =
-    let copy = c.checkpoint.ensures in
-    through c.args.store.now c.checkpoint.new.self c.commit_mark.new.store c.checkpoint-2.new.self copy.same
-    copy.quiet.outcomes c.commit_mark.ensures.crash
-    (λ db may. c.rollback.ensures.quiet.outcomes db (c.checkpoint-2.ensures.quiet.outcomes db may))
+returns-clause-crash g c db may =
+    through c.args.store.now c.checkpoint.new.self c.commit_mark.new.store c.checkpoint.ensures.same
+    c.checkpoint.ensures.quiet.outcomes c.commit_mark.ensures.crash db
+    (c.rollback.ensures.quiet.outcomes db (c.checkpoint-2.ensures.quiet.outcomes db may))
 
 pub returns-clause-ok : goal.returns-clause-ok
 returns-clause-ok g c none =

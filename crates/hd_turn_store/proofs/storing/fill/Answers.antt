@@ -28,4 +28,4 @@ returns-clause-ok g c clean none =
     creates_index _ _ _ tables
     (rw c.in_ok-execute-3.was at (c.execute-3.ensures.runs clean_three (rw tables.inside))).0 in
     puts_head _ _ (new_head c.args.digest.now) _ all
-    (rw (c.in_ok-execute-4.was, c.number_value.ensures) at (c.execute-4.ensures.runs clean (rw all.inside))).0
+    (rw (c.in_ok-execute-4.was, c.to_sql.ensures) at (c.execute-4.ensures.runs clean (rw all.inside))).0

@@ -1,0 +1,194 @@
+//! A library, by its files.
+ghost use Rattle.std.specs.Prelude.{◌≡◌, ◌↔◌, [], IfNone, IfOk, IfSome, IsTrue, IsUtf8};
+ghost use Rattle.hd_catalogue.specs.Contents.{told_by};
+ghost use Rattle.hd_catalogue.specs.Files.{IsAccepted, lines_of};
+ghost use Rattle.hd_opening.specs.Files.{Tells};
+ghost use Rattle.hd_zone.specs.Moved.{IsReadAt};
+ghost use Rattle.sha2.specs.Sha256.{sha256};
+
+use crate::fault::SetupFault;
+use crate::reading::read_file;
+use hd_catalogue::{Catalogue, OffsetMinutes, OpeningRow};
+use hd_command_line::LibraryFiles;
+use hd_desk::Meter;
+use hd_journal::Journal;
+use hd_opening::Opening;
+use hd_zone::read_at;
+use sha2::{Digest, Sha256};
+use std::alloc::Global;
+
+/// What a library's files say.
+#[derive(Drop)]
+pub struct Library {
+    /// What the catalogue file says and, where there is one, the opening file.
+    pub catalogue: Catalogue,
+    /// The SHA-256 of the opening file where there is one, else of the catalogue file.
+    pub digest: [u8; 32],
+    /// Whether the catalogue file is UTF-8, as names in a journal's file have to be.
+    pub is_text: bool,
+}
+
+impl Library {
+    /// Reads a library.
+    ///
+    /// # Errors
+    /// A file can't be read, or is refused.
+    pub fn read(rt: &HostRuntime, files: &LibraryFiles<'_>) -> Result<Library, SetupFault> {
+        Library::read_at(rt, files, None)
+    }
+
+    /// Reads a library that goes by this offset, where there is one, in place of its own. The digest is the
+    /// same.
+    ///
+    /// # Errors
+    /// Those of `read`.
+    pub fn read_at(
+        rt: &HostRuntime,
+        files: &LibraryFiles<'_>,
+        offset: Option<OffsetMinutes>,
+    ) -> Result<Library, SetupFault> {
+        let file = read_file(rt, "catalogue", files.catalogue)?;
+        let library = Library::of_file(rt, file.as_slice(), offset)?;
+        drop(file);
+        match files.opening {
+            Some(path) => library.opened(rt, path),
+            None => Ok(library),
+        }
+    }
+
+    /// Reads a library whose names are text.
+    ///
+    /// # Errors
+    /// Those of `read`, and that the catalogue is no text.
+    pub fn read_text(rt: &HostRuntime, files: &LibraryFiles<'_>) -> Result<Library, SetupFault> {
+        Library::read(rt, files)?.with_text()
+    }
+
+    /// The library of a catalogue file with these bytes.
+    ///
+    /// # Errors
+    /// It is refused.
+    pub fn of_catalogue(rt: &HostRuntime, file: &[u8]) -> Result<Library, SetupFault>
+        ensures says { IfOk result (λ library. IsAccepted (lines_of file.now) library.catalogue) }
+        ensures digest { IfOk result (λ library. library.digest ≡ sha256 file.now) }
+        ensures text { IfOk result (λ library. IsTrue library.is_text ↔ IsUtf8 file.now) }
+    {
+        Library::of_file(rt, file, None)
+    }
+
+    /// The same, where it goes by this offset, if there is one.
+    ///
+    /// # Errors
+    /// It is refused.
+    fn of_file(
+        rt: &HostRuntime,
+        file: &[u8],
+        offset: Option<OffsetMinutes>,
+    ) -> Result<Library, SetupFault>
+        ensures own { IfNone offset (IfOk result (λ library. IsAccepted (lines_of file.now)
+            library.catalogue)) }
+        ensures other { IfSome offset (λ offset. IfOk result (λ library. IsReadAt (lines_of file.now) offset
+            library.catalogue)) }
+        ensures digest { IfOk result (λ library. library.digest ≡ sha256 file.now) }
+        ensures text { IfOk result (λ library. IsTrue library.is_text ↔ IsUtf8 file.now) }
+    {
+        Ok(Library {
+            catalogue: catalogue_of(rt.alloc(), file, offset)?,
+            digest: Sha256::digest(file),
+            is_text: str::from_utf8(file).is_ok(),
+        })
+    }
+
+    /// The library, if its names are text.
+    ///
+    /// # Errors
+    /// They aren't.
+    pub fn with_text(self) -> Result<Library, SetupFault>
+        ensures text { IfOk result (λ library. (library ≡ self) × IsTrue self.is_text) }
+    {
+        if self.is_text {
+            Ok(self)
+        } else {
+            Err(SetupFault::CatalogueIsNoText)
+        }
+    }
+
+    /// The library whose journal begins as the opening file at this path says.
+    ///
+    /// # Errors
+    /// The file can't be read, or is refused.
+    pub fn opened(self, rt: &HostRuntime, path: &str) -> Result<Library, SetupFault> {
+        let file = read_file(rt, "opening", path)?;
+        self.opened_by(rt, file.as_slice())
+    }
+
+    /// The library whose journal begins as an opening file with these bytes says.
+    ///
+    /// # Errors
+    /// It is refused.
+    pub fn opened_by(self, rt: &HostRuntime, file: &[u8]) -> Result<Library, SetupFault>
+        ensures opening { IfOk result (λ library. Tells self.catalogue self.digest (lines_of file.now)
+            library.catalogue.opening) }
+        ensures rest { IfOk result (λ library. library.catalogue
+            ≡ record self.catalogue { opening = library.catalogue.opening }) }
+        ensures digest { IfOk result (λ library. library.digest ≡ sha256 file.now) }
+    {
+        let opening = hd_opening::read(rt.alloc(), &self.catalogue, &self.digest, file)?;
+        let Opening { rows, last } = opening;
+        let mut library = self.beginning_with(rows, last)?;
+        library.digest = Sha256::digest(file);
+        Ok(library)
+    }
+
+    /// The library whose journal begins with what these rows tell, behind this last number. Its digest stays.
+    ///
+    /// # Errors
+    /// A row doesn't fit the catalogue.
+    pub fn beginning_with(self, rows: Vec<OpeningRow>, last: u32) -> Result<Library, SetupFault>
+        ensures digest { IfOk result (λ library. library.digest ≡ self.digest) }
+        ensures says { IfOk result (λ library. library.catalogue
+            ≡ record self.catalogue { opening = told_by rows.items last }) }
+    {
+        let Library {
+            catalogue,
+            digest,
+            is_text,
+        } = self;
+        Ok(Library {
+            catalogue: catalogue.with_opening(rows, last)?,
+            digest,
+            is_text,
+        })
+    }
+
+    /// The library's journal before any turn.
+    ///
+    /// # Errors
+    /// A row of the opening may not stand; out of memory.
+    pub fn journal(self, rt: &HostRuntime) -> Result<Journal, SetupFault>
+        ensures turns { IfOk result (λ journal. journal.turns ≡ []) }
+        ensures contents { IfOk result (λ journal. journal.contents ≡ self.catalogue) }
+    {
+        let Library { catalogue, .. } = self;
+        let alloc = rt.alloc();
+        Ok(hd_journal::open(alloc, Meter::new(rt), catalogue)?)
+    }
+}
+
+/// What a catalogue file says; where there is an offset, with that in place of its own.
+///
+/// # Errors
+/// It is refused.
+fn catalogue_of(
+    alloc: Global,
+    file: &[u8],
+    offset: Option<OffsetMinutes>,
+) -> Result<Catalogue, SetupFault>
+    ensures own { IfNone offset (IfOk result (λ k. IsAccepted (lines_of file.now) k)) }
+    ensures other { IfSome offset (λ offset. IfOk result (IsReadAt (lines_of file.now) offset)) }
+{
+    match offset {
+        Some(offset) => Ok(read_at(alloc, file, offset)?),
+        None => Ok(Catalogue::read(alloc, file)?),
+    }
+}

@@ -1,0 +1,29 @@
+//! How terminals are to be served.
+ghost use Rattle.std.specs.Prelude.{◌≡◌, ◌≤◌, Some};
+
+use hd_command_line::{Beyond, Serve};
+use hd_serve::Options;
+use hd_session::Extensions;
+
+/// How terminals are to be served, as the words of the command line say, with what extends their messages.
+pub fn options_of<'a>(order: &Serve<'_>, extensions: &'a Extensions) -> Options<'a>
+    ensures workers { (1 ≤ result.workers) × (result.workers ≤ 9999) }
+    ensures connections { result.connections ≡ order.now.connections }
+    ensures idle { result.idle ≡ order.now.idle }
+    ensures extensions { result.extensions ≡ Some extensions.entry }
+    ensures line_feeds { result.has_line_feeds ≡ order.now.has_line_feeds }
+    ensures days { result.days_off ≡ order.now.days_off }
+{
+    Options {
+        workers: order.workers.clamp(1, 9_999),
+        beyond: match order.beyond {
+            Beyond::Wait => hd_serve::Beyond::Wait,
+            Beyond::TurnAway => hd_serve::Beyond::TurnAway,
+        },
+        connections: order.connections,
+        idle: order.idle,
+        extensions: Some(extensions),
+        has_line_feeds: order.has_line_feeds,
+        days_off: order.days_off,
+    }
+}
