@@ -1,9 +1,8 @@
 //! A row more, as a turn more.
 
-ghost use Rattle.std.specs.Prelude.{◌≡◌, ◌++◌, ◌∷◌, [], ℕ, Bool, IfErr, IsOk, List, Option};
+ghost use Rattle.std.specs.Prelude.{◌≡◌, ◌++◌, ◌∷◌, [], IfErr, IsOk, List};
 ghost use Rattle.sqlite.specs.State.{HasCleanDisk};
 ghost use Rattle.sqlite.specs.Held.{state};
-ghost use Rattle.sqlite.specs.Recovery.{Image};
 ghost use Rattle.sqlite.specs.Tree.{Trees};
 ghost use Rattle.hd_catalogue.specs.Contents.{Contents};
 ghost use Rattle.hd_rules.specs.Journal.{Turn};
@@ -11,7 +10,7 @@ ghost use Rattle.hd_turn_store.specs.Holds.{Commits, Holds};
 ghost use Rattle.hd_turn_store.specs.Kept.{Head, KeptTurn};
 ghost use Rattle.hd_turn_store.specs.Rows.{kept};
 ghost use Rattle.hd_turn_store.specs.Tables.{Stores};
-ghost use Rattle.hd_journal_file.specs.Held.{AreInFile, HoldsJournal, IsReliable, MayLeave};
+ghost use Rattle.hd_journal_file.specs.Held.{AreInFile, HasTurns, LeavesTurns};
 ghost use Rattle.hd_journal_file.specs.Refused.{IsRefusedBy, write_fault};
 
 use hd_journal::WriteFault;
@@ -25,13 +24,10 @@ pub(crate) fn a_crash_leaves_what_is_seen<S: Alter>(_conn: &Connection<S>)
     ensures one { (k : Contents) (turns left : List Turn) (db : Trees)
         → AreInFile k turns (λ head rows. Stores head rows db)
         → AreInFile k left (λ head rows. Stores head rows db) → left ≡ turns }
-    ensures only { (image : Image) (is_new : Bool) (k : Contents) (digest : Option (List ℕ))
-        (turns left : List Turn) → HoldsJournal image is_new k (state S.Store _conn.now) digest turns
-        → MayLeave image is_new k (state S.Store _conn.now) left → left ≡ turns }
-    ensures left { (image : Image) (is_new : Bool) (k : Contents) (digest : Option (List ℕ))
-        (turns : List Turn) → IsReliable image is_new (state S.Store _conn.now)
-        → HoldsJournal image is_new k (state S.Store _conn.now) digest turns
-        → MayLeave image is_new k (state S.Store _conn.now) turns }
+    ensures only { (k : Contents) (turns left : List Turn) → HasTurns k (state S.Store _conn.now) turns
+        → LeavesTurns k (state S.Store _conn.now) left → left ≡ turns }
+    ensures left { (k : Contents) (turns : List Turn) → HasTurns k (state S.Store _conn.now) turns
+        → LeavesTurns k (state S.Store _conn.now) turns }
 {
     a_row_is_of_one_message();
     a_turn_is_read_of_its_values();

@@ -6,11 +6,10 @@ returns-clause-one g c k turns left db =
     stored_turns c.a_turn_is_read_of_its_values.ensures c.a_row_is_of_one_message.ensures.one
 
 pub returns-clause-only : goal.returns-clause-only
-returns-clause-only g c image is_new k digest turns left holds leaves =
+returns-clause-only g c k turns left =
     left_is_held c.a_turn_is_read_of_its_values.ensures c.a_row_is_of_one_message.ensures.one
-    (λ db. g.met.S.Store.settled c.args._conn.now.store db) (holds leaves.0).has leaves.1
+    (λ db. g.met.S.Store.settled c.args._conn.now.store db)
 
 pub returns-clause-left : goal.returns-clause-left
-returns-clause-left g c image is_new k digest turns reliable holds =
-    let held = (holds reliable).has in
-    (reliable, held_is_left (g.met.S.Store.stays c.args._conn.now.store held.keeps.is_open) held)
+returns-clause-left g c k turns held =
+    held_is_left (g.met.S.Store.stays c.args._conn.now.store held.keeps.is_open) held

@@ -6,11 +6,11 @@ use Rattle.hd_journal_file.proofs.file.JournalFileTurnTable.commit.Goals as goal
 
 pub returns-in_default-clause-err : goal.returns-in_default-clause-err
 returns-in_default-clause-err g c turns left legal holds leaves =
-    inl (c.a_crash_leaves_what_is_seen.ensures.only _ _ _ _ turns left holds leaves)
+    inl (c.a_crash_leaves_what_is_seen.ensures.only _ turns left (holds leaves.0).has leaves.1)
 
 pub returns-in_default-of-clause-err : goal.returns-in_default-of-clause-err
 returns-in_default-of-clause-err g c turns left legal holds leaves =
-    inl (c.a_crash_leaves_what_is_seen.ensures.only _ _ _ _ turns left holds leaves)
+    inl (c.a_crash_leaves_what_is_seen.ensures.only _ turns left (holds leaves.0).has leaves.1)
 
 pub returns-clause-ok : goal.returns-clause-ok
 returns-clause-ok g c turns legal holds reliable =
@@ -23,7 +23,8 @@ returns-clause-ok g c turns legal holds reliable =
     }
 
 pub returns-clause-settled : goal.returns-clause-settled
-returns-clause-settled g c = c.a_crash_leaves_what_is_seen-2.ensures.only _ _ _ _
+returns-clause-settled g c turns left holds leaves =
+    c.a_crash_leaves_what_is_seen-2.ensures.only _ turns left (holds leaves.0).has leaves.1
 
 pub returns-in_err-add-clause-err : goal.returns-in_err-add-clause-err
 returns-in_err-add-clause-err g c =
@@ -32,8 +33,8 @@ returns-in_err-add-clause-err g c =
     let has = (holds early).has in
     elim ((c.add.ensures.adds leaves.0.clean has.head has.rows has.keeps).crash leaves.1.database
     leaves.1.may) [
-      | inl was ↦ inl (c.a_crash_leaves_what_is_seen.ensures.only _ _ _ _ turns left holds
-          (early, record { database = leaves.1.database; may = was; kept = leaves.1.kept }))
+      | inl was ↦ inl (c.a_crash_leaves_what_is_seen.ensures.only _ turns left has
+          record { database = leaves.1.database; may = was; kept = leaves.1.kept })
       | inr stores ↦ inr (c.a_crash_leaves_what_is_seen.ensures.one _ _ left leaves.1.database
           (one_more c.turn_row-row.ensures legal has stores) leaves.1.kept)
     ])
