@@ -55,7 +55,7 @@ install:
 	install -D -m 755 $(PROGRAM) $(BELOW)/bin/holddesk
 	install -D -m 644 man/holddesk.1 $(BELOW)/share/man/man1/holddesk.1
 	install -D -m 644 -t $(BELOW)/share/doc/holddesk README.md LICENSE crates/holddesk/data/demonstration.catalogue
-	install -D -m 644 -t $(BELOW)/share/doc/holddesk/docs docs/*.md
+	install -D -m 644 -t $(BELOW)/share/doc/holddesk/docs docs/*.md docs/*.svg
 	install -d $(BELOW)/lib/systemd/system
 	@for unit in $(UNITS); do sed 's|@PREFIX@|$(PREFIX)|g' examples/$$unit > $(BELOW)/lib/systemd/system/$$unit && \
 	  chmod 644 $(BELOW)/lib/systemd/system/$$unit && echo "$(BELOW)/lib/systemd/system/$$unit" || exit 1; done

@@ -6,8 +6,9 @@
 PROGRAM is crates/holddesk/out/holddesk where it isn't given. carry_rows.days has the rows: `row` begins one, over the
 demonstration library; `+` adds a line to its catalogue and `-` takes one out; `>` is a message to holddesk serve and
 `<` its reply; `carry` ends the day and carries the library over to the catalogue with the lines that were added and
-taken out since, and each `!` behind it is a line that is in the way. A row is played over files that are named one by
-one, some over a folder too. Needs nothing but Python 3. Status 0: all is as it is stored.
+taken out since. Behind it each `off` is a copy that is listed to be written off, each `!` a line that is in the way,
+and each `=` a line of the opening behind its first, where any is stored. A row is played over files that are named one
+by one, some over a folder too. Needs nothing but Python 3. Status 0: all is as it is stored.
 """
 
 import concurrent.futures
@@ -87,7 +88,19 @@ class Files:
     def words_to(self, lines):
         """The words that carry the library over to a catalogue of these lines."""
         to = self.write(self.number + 1, lines)
-        return ["carry", *self.library(), "--to", to, "--into", self.path("opening", self.number + 1)]
+        return ["carry", *self.library(), "--to", to, "--into", self.opening()]
+
+    def words_off(self, names):
+        """The words that write the loans of these copies off, if there are any."""
+        if not names:
+            return []
+        with open(self.path("off"), "w", encoding="ascii") as file:
+            file.writelines(f"{name}\n" for name in names)
+        return ["--write-off", self.path("off")]
+
+    def opening(self):
+        """The path of the next period's opening."""
+        return self.path("opening", self.number + 1)
 
     def carried(self):
         """Goes on with the next period."""
@@ -112,6 +125,9 @@ class Folder(Files):
 
     def words_to(self, lines):
         return ["carry", "--library", self.inside, "--to", self.write(self.number + 1, lines)]
+
+    def opening(self):
+        return os.path.join(self.inside, f"{self.number + 1:04}.opening")
 
     def carried(self):
         self.number += 1
@@ -157,6 +173,20 @@ def refuse(program, library, lines, in_the_way):
         raise Trouble("something was written though things are in the way")
 
 
+def carry(program, library, lines, behind):
+    """Carries a library over, with what is stored behind the carry by its mark. Whether it went on."""
+    if behind["!"]:
+        refuse(program, library, lines, behind["!"])
+        return False
+    wanted(program, library.words_to(lines) + library.words_off(behind["off"]), 0, "")
+    with open(library.opening(), encoding="ascii") as file:
+        told = file.read().splitlines()[1:]
+    if behind["="] and told != behind["="]:
+        raise Trouble(f"the opening says {told}, wanted {behind['=']}")
+    library.carried()
+    return True
+
+
 def change(lines, mark, text):
     """Adds a line to a catalogue, the first line at its head, or takes it out."""
     if mark == "-":
@@ -177,19 +207,16 @@ def play(program, steps, kind, folder):
             change(lines, mark, text)
         elif mark == "carry":
             day.end()
-            in_the_way = []
-            while at < len(steps) and steps[at][0] in "+-!":
+            behind = {"!": [], "off": [], "=": []}
+            while at < len(steps) and (steps[at][0] in behind or steps[at][0] in "+-"):
                 mark, text = steps[at]
                 at += 1
-                if mark == "!":
-                    in_the_way.append(text)
+                if mark in behind:
+                    behind[mark].append(text)
                 else:
                     change(lines, mark, text)
-            if in_the_way:
-                refuse(program, library, lines, in_the_way)
+            if not carry(program, library, lines, behind):
                 return
-            wanted(program, library.words_to(lines), 0, "")
-            library.carried()
         else:
             if library is None:
                 library = kind(program, folder, lines)

@@ -42,12 +42,18 @@ def play_day(program, folder):
         raise Trouble(f"the server ends with {status} and says {said!r}")
 
 
-def ended_well(words):
-    """Looks that a command ends well."""
+def ended_well(words, told=""):
+    """Looks that a command ends well, and says this on standard error. What it prints."""
     done = subprocess.run(words, capture_output=True, text=True, timeout=SECONDS, check=False)
-    if (done.returncode, without_progress(done.stderr)) != (0, ""):
+    if (done.returncode, without_progress(done.stderr)) != (0, told):
         raise Trouble(f"{' '.join(words)} ends with {done.returncode} and says {done.stderr!r}")
     return done.stdout
+
+
+def checked(program, folder):
+    """What journal check prints of a folder, whose second number it takes where that has its opening."""
+    number = "0001" if opening(folder) is None else "0002"
+    return ended_well([program, "journal", "check", "--library", folder], f"checking {number} of {folder}\n")
 
 
 def opening(folder):
@@ -72,13 +78,13 @@ def stop(program, folder, number, wanted):
     words = [program, "carry", "--library", folder, "--to", CATALOGUE]
     if not is_killed(words, number):
         return False
-    checked = ended_well([program, "journal", "check", "--library", folder])
+    printed = checked(program, folder)
     if opening(folder) is None:
-        if not checked.startswith("turns: 6\n"):
-            raise Trouble(f"before call {number} the old journal has {checked!r}")
+        if not printed.startswith("turns: 6\n"):
+            raise Trouble(f"before call {number} the old journal has {printed!r}")
         ended_well(words)
-    elif not checked.startswith("turns: 0\n"):
-        raise Trouble(f"before call {number} the new journal has {checked!r}")
+    elif not printed.startswith("turns: 0\n"):
+        raise Trouble(f"before call {number} the new journal has {printed!r}")
     if opening(folder) != wanted:
         raise Trouble(f"before call {number} the opening is another one")
     return True
@@ -89,13 +95,13 @@ def stop_begin(program, folder, number, path):
     words = [program, "journal", "begin", "--library", folder, "--catalogue", CATALOGUE, "--opening", path]
     if not is_killed(words, number):
         return False
-    check = [program, "journal", "check", "--library", folder]
     if opening(folder) is None:
+        check = [program, "journal", "check", "--library", folder]
         done = subprocess.run(check, capture_output=True, text=True, timeout=SECONDS, check=False)
         if (done.returncode, done.stderr) != (1, f"there is no library in {folder}\n"):
             raise Trouble(f"before call {number} of begin it is checked with {done.returncode}: {done.stderr!r}")
         ended_well(words)
-    if not ended_well(check).startswith("turns: 0\n"):
+    if not checked(program, folder).startswith("turns: 0\n"):
         raise Trouble(f"before call {number} of begin the journal isn't the new one")
     with open(path, "rb") as file:
         if opening(folder) != file.read():

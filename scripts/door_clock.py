@@ -65,6 +65,8 @@ def compare_days(program, folder):
                         replies.append(re.sub(rb"20\d{6}    (?!120000|130000)\d{6}", b"the present", reply))
                         if message == LOGIN:
                             server.tells(rf'logged_in connection={number} terminal="t1"')
+                        if reply.startswith(b"96"):  # one of a connection, at most
+                            server.tells(rf"resend_requested connection={number}")
                         if words and off and off[0] == count:
                             _, name, date, days = off
                             server.tells(rf'clock_off connection={number} terminal="{name}" date="{date}" days={days}')

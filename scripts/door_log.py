@@ -9,6 +9,7 @@ import re
 import socket
 import struct
 import subprocess
+import threading
 import time
 
 import morning
@@ -17,6 +18,7 @@ from server import CATALOGUE, LOOPBACK, SECONDS, Trouble, ask, begun, connect, s
 
 DATE = morning.NOW
 LOGIN = b"9300CNt1|COpw|"
+SOON = 20  # seconds that an end may take at most, on a machine that has much else to do
 
 
 def opened(server, number):
@@ -46,12 +48,16 @@ def compare_events(program, catalogue, folder):
         ask(first, LOGIN)
         server.tells(r'logged_in connection=1 terminal="t1"')
         second, at_second = opened(server, 2)
+        for damaged in (b"9900302.00AY1AZFCA6", b"19", b"97"):
+            if not ask(second, damaged).startswith(b"96"):
+                raise Trouble(f"{damaged!r} isn't answered 96")
+        server.tells("resend_requested connection=2")
         second.sendall(LOGIN + b"\n")
         server.tells("line_feed_alone connection=2")
         third, at_third = opened(server, 3)
         server.tells(rf"waiting connection=3 {at_third}")
         second.close()
-        server.tells(closed(2, at_second, "peer", 0))
+        server.tells(closed(2, at_second, "peer", 3))
         third.sendall(b"x" * 1_025)
         server.tells("long_line connection=3", closed(3, at_third, "long_line", 0))
         third.close()
@@ -145,24 +151,45 @@ def ask_at_last(port):
     raise Trouble("a server doesn't go on that had no descriptors for a while")
 
 
+def beat(connection):
+    """Sends heartbeats by a connection, five a second, as long as they are answered."""
+    with contextlib.suppress(ConnectionError):
+        while ask(connection, b"9900302.00").startswith(b"98"):
+            time.sleep(0.2)
+
+
 def compare_unwritten(program, catalogue, folder):
-    """Has a journal's file grow beyond what its server may write, and compares what is told of it."""
+    """Has a journal's file grow beyond what its server may write, and compares what is told of it. The server ends
+    soon, also where another terminal sends heartbeats, and a third waits to be served."""
     journal = begun(program, catalogue, os.path.join(folder, "journal"))
     with Seen(program, catalogue, folder, "--journal", journal, largest=540_000) as server:
         server.tells(rf'listening address="{LOOPBACK}:{server.port}" workers=2')
         first, at_first = opened(server, 1)
         ask(first, LOGIN)
         server.tells(r'logged_in connection=1 terminal="t1"')
+        second, at_second = opened(server, 2)
+        beating = threading.Thread(target=beat, args=(second,))
+        beating.start()
+        third, at_third = opened(server, 3)
+        server.tells(rf"waiting connection=3 {at_third}")
         turns = 0
         with contextlib.suppress(ConnectionError):
             while turns < 100:
                 ask(first, f"11YN{DATE}{DATE}AOlib|AAp1|ABa1|AC|".encode())
                 turns += 1
-        server.wait_for(rb'event=journal_unwritten why=".+"')
-        server.tells(closed(1, at_first, "journal_unwritten", turns + 1))
+        begins = time.monotonic()
         status, printed, said = server.end()
-        if (status, printed) != (1, "") or not said[-1].startswith("the journal can't be written"):
-            raise Trouble(f"with a journal that can't be written it ends with {status}, {printed!r} and {said!r}")
+        taken = time.monotonic() - begins
+        beating.join(SECONDS)
+    ends = [closed(number, address, "journal_unwritten", messages) for number, address, messages
+            in ((1, at_first, turns + 1), (2, at_second, r"[1-9]\d*"), (3, at_third, 0))]
+    told = [line.removeprefix("event=") for line in said if line.startswith("event=")]
+    missing = [it for it in ['journal_unwritten why=".+"', *ends] if not any(re.fullmatch(it, line) for line in told)]
+    if missing or len(told) != 4 or heard(third):
+        raise Trouble(f"with a journal that can't be written the log tells {told!r}, and not {missing!r}")
+    if (status, printed) != (1, "") or not said[-1].startswith("the journal can't be written") or taken > SOON:
+        raise Trouble(f"with a journal that can't be written it ends after {taken:.1f} s with {status}, {printed!r} "
+                      f"and {said!r}")
 
 
 def compare_broken(program, catalogue, folder):

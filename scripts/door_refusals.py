@@ -12,8 +12,8 @@ NOWHERE = ["/api", "/api/", "//", "/health/", "/Health", "/metrics/", "/api/copi
            "/api/branches/north", "/api/branches/west/shelf", "/api/commands/12", "/api/commands/99", "/stop/",
            "/api/commands/0", "/api/copies/%61%00", "/api/copies/a%2", "/../health", "http://desk/health", "*"]
 NO_FORM = ["/?x", "/health?", "/metrics?a", "/api/copies/a1?x", "/api/copies/a1?after=x", "/api/overdue",
-           "/api/overdue?day=2026-02-30", "/api/overdue?day=20260301", "/api/turns?limit=0", "/api/turns?after=-1",
-           "/api/turns?after=1&limit=1&x", "/api/turns?after=12345678901234567890", "/api/commands/x",
+           "/api/overdue?day=2026-02-30", "/api/overdue?day=20260301", "/api/expired", "/api/expired?day=",
+           "/api/turns?limit=0", "/api/turns?after=-1", "/api/turns?after=1&limit=1&x", "/api/turns?after=12345678901234567890", "/api/commands/x",
            "/api/commands/1?x", "/api/titles/tc/queue?after=", "/api/turns?after=1&after=2"]
 UNREAD = [b"\0\r\n\r\n", b"GET\r\n\r\n", b"GET /health\r\n\r\n", b"GET /health HTTP/9.9\r\n\r\n", b"G@T / HTTP/1.1\r\n\r\n",
           b"GET /health HTTP/1.1\r\nno field\r\n\r\n", b"\x16\x03\x01\x02\x00\x01\x00\x01\xfc\x03\x03" + bytes(64)]

@@ -11,6 +11,7 @@ BLOCK = re.compile(r" *(?:pub(?:\([^)]*\))? )?(?:unsafe )?(?:impl|trait)\b")
 TRAIT = re.compile(r" *(?:pub(?:\([^)]*\))? )?(?:unsafe )?trait (\w+)")
 GENERICS = re.compile(r"<(?:[^<>]|<(?:[^<>]|<[^<>]*>)*>)*>")
 SIGNS = {"&": "Ref", "&mut": "RefMut", "[": "Slice", "()": "Unit"}  # how types are told in a path
+CONSTANT = re.compile(r" *(?:pub(?:\([^)]*\))? )?const (\w+): ")
 DEFINED = re.compile(r"(?:abbrev )?(?:pub )?([^\s():{}]+) : ")
 HOLE_OF_GOAL = "\npub {0} : goal.{0}\n{0} = ?\n"
 
@@ -97,6 +98,19 @@ def bodies_of(crate):
     return [function for function in every if not function.is_promised]
 
 
+def constant_at(lines, at):
+    """The name of the constant that the line is of, if it is of one."""
+    begin = next((it for it in range(at, -1, -1) if not lines[it].startswith((" ", "]", "}", ")"))), at)
+    found = CONSTANT.match(lines[begin])
+    return found[1] if found else None
+
+
+def users_of(constant, crate, homes):
+    """The functions of the crate in which the constant stands, but for those of traits."""
+    every = [it for file, text in sources_of(crate).items() for it in functions_of(file, text, homes)]
+    return [it for it in every if constant and not it.is_promised and re.search(rf"\b{constant}\b", it.text)]
+
+
 def homes_in(sources):
     """Of each type of the crate the module that defines it."""
     type_head = re.compile(r"^(?:pub(?:\([^)]*\))? )?(?:struct|enum) (\w+)", re.M)
@@ -120,13 +134,15 @@ class Edit:
             texts[file] = texts[file].replace(old, new)
 
     def look(self, file, text, old, homes):
-        """Notes where the old text stands. What isn't in a body may concern other functions, so it is tried apart."""
+        """Notes where the old text stands: in a body, or in a constant, and then in which functions that stands. What is
+        in neither may concern other functions, so it is tried apart."""
         at = text[: text.index(old)].count("\n")
         inside = [function for function in functions_of(file, text, homes) if at in function.lines][-1:]
         is_comment = text.split("\n")[at].lstrip().startswith("//")
-        self.is_apart |= not is_comment and (not inside or at in inside[0].head)
-        self.functions += [it for it in inside if it.path not in [other.path for other in self.functions]]
-        self.places |= {(file, at), *((file, line) for it in inside for line in it.told)}
+        users = [] if inside or is_comment else users_of(constant_at(text.split("\n"), at), self.crate, homes)
+        self.is_apart |= not is_comment and not users and (not inside or at in inside[0].head)
+        self.functions += [it for it in inside + users if it.path not in [other.path for other in self.functions]]
+        self.places |= {(file, at), *((it.file, line) for it in inside + users for line in it.told)}
 
     def __str__(self):
         return f"{self.crate}/{self.name}: {self.verdict}: {self.said}"

@@ -73,7 +73,7 @@ HELD = [LOGIN, b"15+20260301    100000BSnorth|BY2|AOlib|AAp1|AJta|",
 DAYS = {"carry": LENT, "journal check": LENT, "journal show": HELD, "journal views": LENT}
 # The day that a server has had which is looked at by its door: a loan, two holds, and two returns that bring a copy to
 # another branch's and to this branch's hold shelf.
-SEEN = [LOGIN, LOAN, HOLD, b"15+20260301    100000BW20260401    000000BSsouth|BY2|AOlib|AAp3|AJtb|",
+SEEN = [LOGIN, LOAN, HOLD, b"15+20260301    100000BW20260315    235900BSsouth|BY2|AOlib|AAp3|AJtb|",
         b"09N20260301    10000020260301    100000APnorth|AOlib|ABb1|AC|",
         b"09N20260301    10000020260301    100000APnorth|AOlib|ABa2|AC|"]
 DOOR = "/run/holddesk/door"

@@ -238,9 +238,12 @@ def compare_lost_files(program):
             if said != (1, f"the library lacks {path}\n"):
                 raise Trouble(f"a library without its {kind}: {said!r}")
             shutil.move(os.path.join(room, kind), path)
+        for words in (["check"], ["journal", "check"]):
+            said = said_of(program, *words, "--library", folder)
+            compare_said(f"{words} of a library that was carried", said, (0, f"checking 0002 of {folder}\n"))
         os.rename(os.path.join(folder, "0002.opening"), os.path.join(folder, "0002.opening.part"))
-        if said_of(program, "journal", "check", "--library", folder)[0] != 0:
-            raise Trouble("a library whose carry was broken off isn't taken")
+        said = said_of(program, "journal", "check", "--library", folder)
+        compare_said("a library whose carry was broken off", said, (0, f"checking 0001 of {folder}\n"))
         compare_first_catalogue(program, os.path.join(room, "first"))
         away = os.path.join(room, "away")
         said = said_of(program, "journal", "begin", "--catalogue", CATALOGUE, "--library", away)
@@ -320,7 +323,8 @@ def compare_broken_off(program, folder, begin):
         said = said_of(program, "journal", "check", "--library", folder)
         compare_said(f"a broken-off beginning, without {lost}", said, (1, f"there is no library in {folder}\n"))
         compare_said(f"it is said again, without {lost}", said_of(program, *begin), (0, ""))
-        compare_said("it is checked", said_of(program, "journal", "check", "--library", folder), (0, ""))
+        said = said_of(program, "journal", "check", "--library", folder)
+        compare_said("it is checked", said, (0, f"checking 0002 of {folder}\n"))
     for name in os.listdir(folder):
         os.remove(os.path.join(folder, name))
 

@@ -37,7 +37,7 @@ PICTURES = {"front": "", "patron": "patrons/p2", "queue": "titles/tc/queue", "ov
             "came": f"turns?day={morning.DAY}", "command": "commands/2", "nobody": "patrons/nobody"}
 # What the form asks, by what is asked at the door: what stands before the name and behind it.
 FORMS = [("copies/", ""), ("titles/", "/queue"), ("patrons/", ""), ("branches/", "/shelf"), ("branches/", "/transit"),
-         ("overdue?day=", ""), ("turns?day=", ""), ("commands/", "")]
+         ("overdue?day=", ""), ("expired?day=", ""), ("turns?day=", ""), ("commands/", "")]
 CAPTIONS = {"copy": "Copies", "hold": "Holds", "turn": "Turns", "command": "Command", "before": "Before it",
             "after": "After it"}
 LABELS = {"command": "Command", "dependent": "First that depends on it", "only": "Only this copy", "number": "Command",

@@ -154,6 +154,8 @@ SEEN = {
     f"overdue?day={DAY}": [C1, D1],
     "overdue?day=2026-02-22": [],
     "overdue?day=2026-03-23": [A1, A3, C1, D1],
+    "expired?day=2026-04-01": [],
+    "expired?day=2026-04-02": [HOLD_P3],
     **{f"commands/{number}": rows for number, rows in COMMANDS.items()},
 }
 # The turns by kind and outcome: done, refused, repeated.

@@ -250,8 +250,8 @@ def fill(disk):
 
 
 def compare_full_disk(program, catalogue, folder):
-    """A disk that is full ends the server, and loses no turn that was answered; a start says so before it listens.
-    Why that was skipped, if it was."""
+    """A disk that is full ends the server, also beside a terminal that stays, and loses no turn that was answered; a
+    start says so before it listens. Why that was skipped, if it was."""
     disk = os.path.join(folder, "disk")
     os.mkdir(disk)
     mounted = subprocess.run(["mount", "-t", "tmpfs", "-o", "size=512k", "holddesk", disk], capture_output=True,
@@ -260,7 +260,7 @@ def compare_full_disk(program, catalogue, folder):
         return f"a full disk, since none can be mounted here ({mounted.stderr.partition(chr(10))[0]})"
     try:
         journal = begun(program, catalogue, os.path.join(disk, "journal"))
-        with Server(program, catalogue, TERMINALS, "--journal", journal) as server:
+        with Server(program, catalogue, TERMINALS, "--journal", journal) as server, connect(server.port):
             terminal = Terminal(1, server.port, random.Random(SEED))
             terminal.work()
             status, _, said = server.end()

@@ -34,6 +34,7 @@ from server import SECONDS, Trouble, ask, begun, connect, parser_of, reported
 SHOWN = os.path.splitext(os.path.abspath(__file__))[0] + ".shown"
 MANY = 513  # holds of one title: one more than a page has
 DATE, DUE = morning.NOW, morning.DUE
+PAST = "2026-04-02"  # a day behind the last one of each hold that has one
 LOGIN = b"9300CNt1|COpw|"
 
 
@@ -82,8 +83,8 @@ def compare_lists(path):
 def compare_crowd(path, connections):
     """Has many patrons wait for a title, and compares its queue and the turns, page by page."""
     for number in range(1, MANY + 1):
-        reply = ask(connections["t1"], f"15+{DATE}BSnorth|BY2|AOlib|AAcrowd-{number}|AJcrowd|".encode())
-        if not reply.startswith(f"161N{DATE}BR{number}|".encode()):
+        reply = ask(connections["t1"], f"15+{DATE}BW{DUE}BSnorth|BY2|AOlib|AAcrowd-{number}|AJcrowd|".encode())
+        if not reply.startswith(f"161N{DATE}BW{DUE}|BR{number}|".encode()):
             raise Trouble(f"the hold of crowd-{number} is answered {reply!r}")
     for target, first, name in (("/api/titles/crowd/queue", 1, "position"), ("/api/turns", 1, "turn")):
         rows = rows_at(path, target)
@@ -95,6 +96,20 @@ def compare_crowd(path, connections):
         raise Trouble(f"the last of the crowd is {last!r}")
     if len(rows_at(path, "/api/turns?after=512")) != len(morning.MESSAGES) + MANY - 512:
         raise Trouble("the second page of the turns isn't what is left")
+    compare_expired(path)
+
+
+def compare_expired(path):
+    """Compares the holds past their day, of which the crowd's don't go on a page with the one before them."""
+    first = rows_at(path, f"/api/expired?day={PAST}")
+    [(_, place)] = first[-1]
+    told = [dict(row) for row in [*first[:-1], *rows_at(path, f"/api/expired?after={place}&day={PAST}")]]
+    wanted = [("tb", "p3"), *(("crowd", f"crowd-{number}") for number in range(1, MANY + 1))]
+    if [(row["title"], row["patron"]) for row in told] != wanted or len(first) != 513:
+        raise Trouble(f"the holds past their day on {PAST} are {told!r}, {len(first) - 1} on the first page")
+    [[*last]] = rows_at(path, f"/api/expired?day=2026-03-23&after={place + 1}")
+    if dict(last)["patron"] != f"crowd-{MANY}":
+        raise Trouble(f"the last of the crowd past its day is {last!r}")
 
 
 def figures(path):

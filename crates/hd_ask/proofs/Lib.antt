@@ -1,1 +1,3 @@
 pub mod Lasts
+pub mod Fronts
+pub mod Numbers

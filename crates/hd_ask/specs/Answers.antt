@@ -1,6 +1,6 @@
 -- Answers, and the bytes that they come in.
 use Rattle.std.specs.Prelude.{◌≡◌, ℕ, Bool, List, [], ◌∷◌, Option, Some, None, codes, length, map}
-use Rattle.std.specs.Prelude.{if◌then◌else◌}
+use Rattle.std.specs.Prelude.{if◌then◌else◌, ◌<◌, ◌^◌}
 use Rattle.std.specs.Str.{str_eq_ignore_ascii_case}
 use Rattle.std.specs.Str.Parse.{IsNumeral, digits_value, without_leading_plus}
 use Rattle.httparse.specs.Grammar.{ReadsResponse, ResponseHead, status_code}
@@ -11,6 +11,10 @@ use Rattle.hd_ask.specs.declared.answer.Answer.{Answer}
 abbrev pub IsNumberOf : List ℕ → ℕ → Type 0
 IsNumberOf text n =
     IsNumeral 10 (without_leading_plus text) × (n ≡ digits_value 10 (without_leading_plus text))
+
+-- it is no number below 2 ^ 64
+abbrev pub IsNoNumber : List ℕ → Type 0
+IsNoNumber text = (n : ℕ) → n < 2 ^ 64 → ¬ IsNumberOf text n
 
 -- a field of this name tells the length of a body, whatever the case of its letters
 unfoldable pub is_length : List ℕ → Bool

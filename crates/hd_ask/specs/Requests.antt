@@ -3,7 +3,9 @@ use Rattle.std.specs.Prelude.{ℕ, List, [], ◌∷◌, ◌++◌, codes, decimal
 use Rattle.std.specs.List.{concat}
 use Rattle.percent_encoding.specs.Percent.{percent_encode}
 use Rattle.hd_page.specs.declared.view.Inquiry.{Inquiry}
-use Rattle.hd_page.specs.declared.view.Inquiry.TheVariants.{ByName, Overdue, Turns, Command}
+use Rattle.hd_page.specs.declared.view.Inquiry.TheVariants.{ByName, ByDay, Turns, Command}
+use Rattle.hd_page.specs.declared.view.Dated.{Dated}
+use Rattle.hd_page.specs.declared.view.Dated.TheVariants.{Overdue, Expired}
 use Rattle.hd_page.specs.declared.view.Named.{Named}
 use Rattle.hd_page.specs.declared.view.Named.TheVariants.{Copy, Queue, Patron, Shelf, Transit}
 use Rattle.hd_ask.specs.declared.request.Question.{Question}
@@ -25,12 +27,17 @@ path_back Patron = []
 path_back Shelf = codes "/shelf"
 path_back Transit = codes "/transit"
 
+-- the path of what there is by a day, and what stands before the day
+abbrev pub day_front : Dated → List ℕ
+day_front Overdue = codes "/api/overdue?day="
+day_front Expired = codes "/api/expired?day="
+
 -- the pieces of the target by which a view is asked
 abbrev pub inquiry_pieces : Inquiry → List (List ℕ)
 inquiry_pieces (ByName kind name after) =
     path_front kind ∷ percent_encode ESCAPED name.now ∷ path_back kind ∷ codes "?after=" ∷ decimal after ∷ []
-inquiry_pieces (Overdue day after) =
-    codes "/api/overdue?day=" ∷ percent_encode ESCAPED day.now ∷ codes "&after=" ∷ decimal after ∷ []
+inquiry_pieces (ByDay kind day after) =
+    day_front kind ∷ percent_encode ESCAPED day.now ∷ codes "&after=" ∷ decimal after ∷ []
 inquiry_pieces (Turns after limit) =
     codes "/api/turns?after=" ∷ decimal after ∷ codes "&limit=" ∷ decimal limit ∷ []
 inquiry_pieces (Command number) = codes "/api/commands/" ∷ decimal number ∷ []

@@ -1,7 +1,23 @@
 -- The rows of a page.
-use Rattle.std.specs.Prelude.{◌≡◌, ⊤, ℕ, List, [], Option, Some, None, option_and_then, codes}
+use Rattle.std.specs.Prelude.{◌≡◌, ⊤, ℕ, List, [], ◌∷◌, ◌++◌, Option, Some, None, option_and_then, codes}
+use Rattle.std.specs.Prelude.{Contains, IsUtf8, is_some, true}
 use Rattle.serde_json.specs.Data.{Data, Items, null, string, no_items, item}
 use Rattle.serde_json.specs.Find.{as_array, as_number, as_u64, get}
+use Rattle.serde_json.specs.Read.{read}
+use Rattle.hd_ask.specs.declared.fault.AskFault.{AskFault}
+use Rattle.hd_ask.specs.declared.fault.AskFault.TheVariants.{Memory, Unreadable}
+
+-- A body is this page: it is JSON in UTF-8, and an array.
+pub record IsPage (body : List ℕ) (page : Data) : Type 0 where
+  pub text : IsUtf8 body
+  pub reads : read body ≡ Some page
+  pub array : is_some (as_array page) ≡ true
+
+-- why a body isn't read: it is no page, or memory is wanting
+abbrev pub IsUnread : List ℕ → AskFault → Type 0
+IsUnread body Unreadable = (page : Data) → ¬ IsPage body page
+IsUnread body Memory = ⊤
+IsUnread body fault = ⊥
 
 -- the items of what is an array
 abbrev pub items_in : Option Items → Items
@@ -25,6 +41,34 @@ next_told row = option_and_then as_u64 (option_and_then as_number (get (codes "n
 -- where the next page begins, if there is one: the last object tells it
 abbrev pub next_in : Data → Option ℕ
 next_in page = option_and_then next_told (last_of (all_in page))
+
+-- all but the last
+abbrev pub but_last : Items → Items
+but_last no_items = no_items
+but_last (item row no_items) = no_items
+but_last (item row (item next rows)) = item row (but_last (item next rows))
+
+-- the rows among the objects of a page, by where the next page begins, if there is one: all, or all but the
+-- last, which tells that
+abbrev pub rows_of : Option ℕ → Items → Items
+rows_of None all = all
+rows_of (Some next) all = but_last all
+
+-- the rows of a page
+abbrev pub rows_in : Data → Items
+rows_in page = rows_of (next_in page) (all_in page)
+
+-- the text of rows, and a comma (44) behind it where there is any
+abbrev pub with_comma : List ℕ → List ℕ
+with_comma [] = []
+with_comma (byte ∷ rows) = (byte ∷ rows) ++ 44 ∷ []
+
+-- Between its brackets (91, 93) the text of a page has this text of its rows. Where there is a next page, a
+-- last object stands behind them, with no brace (123) but the one that opens it.
+abbrev pub HasRows : Option ℕ → List ℕ → List ℕ → Type 0
+HasRows None text rows = text ≡ 91 ∷ (rows ++ 93 ∷ [])
+HasRows (Some next) text rows =
+    (object : List ℕ) × (¬ Contains object 123) × (text ≡ 91 ∷ (with_comma rows ++ 123 ∷ object))
 
 -- the text of what a row has under a name: none where it has nothing there, and a text as it is told
 abbrev pub IsCell : Option Data → List ℕ → Type 0

@@ -1,6 +1,6 @@
 //! What a server answers.
-ghost use Rattle.std.specs.Prelude.{◌≡◌, All, IfOk, IfSome, length, map};
-ghost use Rattle.hd_ask.specs.Answers.{IsAnswerIn, IsNumberOf, TellsLength, is_length};
+ghost use Rattle.std.specs.Prelude.{◌≡◌, All, IfNone, IfOk, IfSome, length, map};
+ghost use Rattle.hd_ask.specs.Answers.{IsAnswerIn, IsNoNumber, IsNumberOf, TellsLength, is_length};
 ghost use Rattle.httparse.specs.Spans.{IsHeaderWithin, header_bytes};
 
 use crate::fault::AskFault;
@@ -76,9 +76,13 @@ fn is_length(name: &[u8]) -> bool
     b"content-length".eq_ignore_ascii_case(name)
 }
 
-/// The number that a text is, if it is one.
+/// The number that a text is, if it is one that has room.
 pub(crate) fn number_in(text: &[u8]) -> Option<u64>
-    ensures { IfSome result (IsNumberOf text.now) }
+    ensures some { IfSome result (IsNumberOf text.now) }
+    ensures none { IfNone result (IsNoNumber text.now) }
 {
-    str::from_utf8(text).ok()?.parse::<u64>().ok()
+    match str::from_utf8(text) {
+        Ok(text) => text.parse::<u64>().ok(),
+        Err(_) => None,
+    }
 }

@@ -1,4 +1,7 @@
 //! Asking a server.
+ghost use Rattle.std.specs.Prelude.{◌≡◌};
+ghost use Rattle.std.specs.IoError.{error_kind};
+ghost use Rattle.hd_ask.specs.Connecting.{fault_by};
 
 use crate::answer::{Answer, read_answer};
 use crate::fault::AskFault;
@@ -35,7 +38,9 @@ pub fn ask<R: Net>(
 }
 
 /// Why a server can't be asked, where connecting failed so.
-fn fault_of(error: &io::Error) -> AskFault {
+fn fault_of(error: &io::Error) -> AskFault
+    ensures { result ≡ fault_by (error_kind error.now) }
+{
     match error.kind() {
         ErrorKind::NotFound | ErrorKind::ConnectionRefused => AskFault::NoServer,
         ErrorKind::PermissionDenied => AskFault::Forbidden,

@@ -2,10 +2,10 @@
 ghost use Rattle.std.specs.Prelude.{◌≡◌, ◌++◌, ◌∷◌, [], IfOk, OnOk, codes, decimal, string_bytes};
 ghost use Rattle.std.specs.List.{concat, flat_map};
 ghost use Rattle.percent_encoding.specs.Percent.{percent_encode};
-ghost use Rattle.hd_ask.specs.Requests.{inquiry_pieces, method_text, path_back, path_front, request_text};
-ghost use Rattle.hd_ask.specs.Requests.{target_pieces};
+ghost use Rattle.hd_ask.specs.Requests.{day_front, inquiry_pieces, method_text, path_back, path_front};
+ghost use Rattle.hd_ask.specs.Requests.{request_text, target_pieces};
 
-use hd_page::{Inquiry, Named};
+use hd_page::{Dated, Inquiry, Named};
 use itoa::Buffer;
 use percent_encoding::{AsciiSet, NON_ALPHANUMERIC, ascii_set, percent_encode};
 use std::alloc::{AllocError, Global};
@@ -78,14 +78,11 @@ fn write_inquiry(alloc: Global, out: &mut Vec<u8>, inquiry: &Inquiry<'_>) -> Res
 {
     match inquiry {
         Inquiry::ByName { kind, name, after } => write_by_name(alloc, out, *kind, name, *after),
-        Inquiry::Overdue { day, after } => {
+        Inquiry::ByDay { kind, day, after } => {
             let day = escaped(alloc, day)?;
             let mut after_text = Buffer::new();
             let after = after_text.format(*after).as_bytes();
-            write_pieces(
-                out,
-                &[b"/api/overdue?day=", day.as_bytes(), b"&after=", after],
-            )
+            write_pieces(out, &[day_front(*kind), day.as_bytes(), b"&after=", after])
         }
         Inquiry::Turns { after, limit } => {
             let mut after_text = Buffer::new();
@@ -151,6 +148,16 @@ fn path_back(kind: Named) -> &'static [u8]
         Named::Queue => b"/queue",
         Named::Shelf => b"/shelf",
         Named::Transit => b"/transit",
+    }
+}
+
+/// What stands before the day in a target.
+fn day_front(kind: Dated) -> &'static [u8]
+    ensures { result.now ≡ day_front kind }
+{
+    match kind {
+        Dated::Overdue => b"/api/overdue?day=",
+        Dated::Expired => b"/api/expired?day=",
     }
 }
 

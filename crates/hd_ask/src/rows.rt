@@ -1,8 +1,8 @@
 //! The rows of an answer.
-ghost use Rattle.std.specs.Prelude.{◌≡◌, IfOk, string_bytes};
+ghost use Rattle.std.specs.Prelude.{◌≡◌, ◌∷◌, ◌++◌, [], ℕ, Contains, IfErr, IfOk, List, string_bytes};
 ghost use Rattle.serde_json.specs.Find.{get};
 ghost use Rattle.serde_json.specs.View.{items_view, view};
-ghost use Rattle.hd_ask.specs.Rows.{IsCell, all_in, next_in};
+ghost use Rattle.hd_ask.specs.Rows.{HasRows, IsCell, IsPage, IsUnread, all_in, next_in, rows_in};
 
 use crate::fault::AskFault;
 use serde_json::Value;
@@ -16,24 +16,29 @@ pub struct Rows {
 }
 
 impl Rows {
-    /// The rows of a body, which is a JSON array of objects.
+    /// The rows of a body, which is a JSON array.
     ///
     /// # Errors
-    /// `Unreadable` where it isn't one.
-    pub fn read(alloc: Global, body: Vec<u8>) -> Result<Rows, AskFault> {
+    /// `Unreadable` where it isn't one; `Memory`.
+    pub fn read(alloc: Global, body: Vec<u8>) -> Result<Rows, AskFault>
+        ensures text { IfOk result (λ rows. rows.text.items ≡ body.items) }
+        ensures page { IfOk result (λ rows. IsPage body.items (view rows.array)) }
+        ensures unread { IfErr result (IsUnread body.items) }
+    {
         let array = array_in(alloc, body.as_slice())?;
         Ok(Rows { text: body, array })
     }
 
     /// The text of the rows of the page, as it stands between the brackets of the array.
-    pub fn inside(&self) -> &[u8] {
-        let text = self.text.as_slice();
-        let text = match (self.next(), text.iter().rposition(|byte| *byte == b'{')) {
-            (Some(_), Some(last)) => &text[..last],
-            _ => text.strip_suffix(b"]").unwrap_or(text),
-        };
-        let text = text.strip_prefix(b"[").unwrap_or(text);
-        text.strip_suffix(b",").unwrap_or(text)
+    pub fn inside(&self) -> &[u8]
+        ensures { (rows : List ℕ) → HasRows (next_in (view self.now.array)) self.now.text.items rows
+            → result.now ≡ rows }
+    {
+        let text = without_first(self.text.as_slice(), b'[');
+        match self.next() {
+            Some(_) => without_last(before_last_brace(text), b','),
+            None => without_last(text, b']'),
+        }
     }
 
     /// All rows. Where the page isn't the last, the last of them has where the next one begins.
@@ -54,7 +59,9 @@ impl Rows {
     }
 
     /// The rows of the page.
-    pub fn rows(&self) -> &[Value] {
+    pub fn rows(&self) -> &[Value]
+        ensures { items_view result.now ≡ rows_in (view self.now.array) }
+    {
         let all = self.all();
         match (self.next(), all.split_last()) {
             (Some(_), Some((_, rows))) => rows,
@@ -66,15 +73,52 @@ impl Rows {
 /// The JSON array that a body is.
 ///
 /// # Errors
-/// `Unreadable` where it isn't one.
-fn array_in(alloc: Global, body: &[u8]) -> Result<Value, AskFault> {
-    let Ok(text) = str::from_utf8(body) else {
-        return Err(AskFault::Unreadable);
-    };
-    match Value::from_str(alloc, text) {
+/// `Unreadable` where it isn't one; `Memory`.
+fn array_in(alloc: Global, body: &[u8]) -> Result<Value, AskFault>
+    ensures page { IfOk result (λ array. IsPage body.now (view array)) }
+    ensures unread { IfErr result (IsUnread body.now) }
+{
+    match Value::from_slice(alloc, body) {
         Ok(array) if array.is_array() => Ok(array),
+        Err(error) if error.is_memory() => Err(AskFault::Memory),
         _ => Err(AskFault::Unreadable),
     }
+}
+
+/// A text without this byte at its front, if it begins with it.
+fn without_first(text: &[u8], first: u8) -> &[u8]
+    ensures { (rest : List ℕ) → text.now ≡ first ∷ rest → result.now ≡ rest }
+{
+    match text.split_first() {
+        Some((byte, rest)) if *byte == first => rest,
+        _ => text,
+    }
+}
+
+/// A text without this byte at its end, if it ends with it.
+fn without_last(text: &[u8], last: u8) -> &[u8]
+    ensures some { (front : List ℕ) → text.now ≡ front ++ last ∷ [] → result.now ≡ front }
+    ensures none { text.now ≡ [] → result.now ≡ [] }
+{
+    match text.split_last() {
+        Some((byte, front)) if *byte == last => front,
+        _ => text,
+    }
+}
+
+/// What stands before the last brace that opens an object: all of a text where there is none.
+fn before_last_brace(text: &[u8]) -> &[u8]
+    ensures { (front object : List ℕ) → text.now ≡ front ++ 123 ∷ object → ¬ Contains object 123
+        → result.now ≡ front }
+{
+    let mut left = text;
+    while let Some((byte, front)) = left.split_last() {
+        if *byte == b'{' {
+            return front;
+        }
+        left = front;
+    }
+    text
 }
 
 /// What a row has under a name, as text: nothing where it has nothing, and a name of the catalogue as it is

@@ -1,6 +1,6 @@
 //! How a server stands, for people.
 ghost use Rattle.std.specs.Prelude.{◌≡◌, IfOk, string_bytes};
-ghost use Rattle.hd_ask.specs.Lines.{first_line};
+ghost use Rattle.hd_ask.specs.Lines.{IsNumberBehind, first_line, line_with};
 
 use crate::answer::number_in;
 use std::alloc::{AllocError, Global};
@@ -24,14 +24,13 @@ pub fn first_line(alloc: Global, text: &[u8]) -> Result<String, AllocError>
     Ok(line)
 }
 
-/// The number behind a name, on a line of a text that begins with it.
-pub fn number_of(text: &[u8], name: &[u8]) -> Option<u64> {
-    for line in text.split(|byte| *byte == b'\n') {
-        if let Some(digits) = line.strip_prefix(name) {
-            return number_in(digits);
-        }
-    }
-    None
+/// The number behind a name, on the first line of a text that begins with it.
+pub fn number_of(text: &[u8], name: &[u8]) -> Option<u64>
+    ensures { IsNumberBehind name.now (line_with name.now text.now) result }
+{
+    let mut lines = text.split(|byte| *byte == b'\n');
+    let line = lines.find(|line| line.starts_with(name))?;
+    number_in(&line[name.len()..])
 }
 
 /// What a server says of its health and of its numbers, a line for each. Turns are told of the kinds that

@@ -1,43 +1,20 @@
 -- Names by number, and numbers by name.
-use Rattle.std.proofs.Common.{◌≡◌, ℕ, ◌+◌, ◌<◌, Option, None, Some, List, [], ◌∷◌, length, refl, ap}
-use Rattle.std.proofs.Common.{sym, ◌∙◌, subst, zero, suc, inl, inr, option_and_then, bytes_eq, arith}
-use Rattle.std.specs.List.{position_from}
-use Rattle.std.proofs.lemmas.Bool.{cases_Bool}
-use Rattle.std.proofs.lemmas.Iterator.Adapters.{position_from-zero}
-use Rattle.std.proofs.lemmas.Option.{none-some}
+use Rattle.std.proofs.Common.{◌≡◌, ℕ, ◌<◌, Option, None, Some, List, [], ◌∷◌, length, refl, ap, get_or}
+use Rattle.std.proofs.Common.{sym, ◌∙◌, zero, suc, option_and_then, bytes_eq, arith}
+use Rattle.std.specs.Prelude.{option_map}
+use Rattle.std.proofs.lemmas.List.Quantifiers.{position-Some}
+use Rattle.std.proofs.lemmas.Option.{none-some, same_Some, slice_get-get_or}
 use Rattle.std.proofs.lemmas.Slice.Eq.{bytes_eq-Decides}
 use Rattle.hd_catalogue.specs.Names.{AreDistinct, name_at, number_of}
 
--- the place of a name in the rest of a list, counted on
-abbrev place : {F : Type 0} → List (List ℕ × F) → List ℕ → ℕ → Option ℕ
-place names name i = position_from (λ e. bytes_eq name e.0) i names
-
-same_some : {A : Type 0} {a b : A} → Some a ≡ Some b → a ≡ b
-same_some e = cc
-
-place_found : {F : Type 0} (names : List (List ℕ × F)) (name : List ℕ) (i n : ℕ) → place names name i
-    ≡ Some n →
-    (k : ℕ) × (n ≡ i + k) × (name_at names k ≡ Some name)
-place_found [] name i n h = absurd (none-some n h)
-place_found (e ∷ es) name i n h = elim (cases_Bool (bytes_eq name e.0)) [
-  | inl t ↦
-      let here : Some i ≡ Some n = rw t at h in
-      let here : i ≡ n = same_some here in
-      (0, omega arith, ap Some (sym ((bytes_eq-Decides name e.0).0 t)))
-  | inr f ↦
-      let more : (k : ℕ) × (n ≡ (i + 1) + k) × (name_at es k ≡ Some name) =
-      place_found es name (i + 1) n (rw f at h) in
-      (suc more.0, omega (arith, more.1), more.2)
-]
-
 -- the number of a name is a number of that name
-number_found : {F : Type 0} (names : List (List ℕ × F)) (name : List ℕ) (n : ℕ) → number_of names name
-    ≡ Some n
-    → name_at names n ≡ Some name
-number_found names name n h =
-    let found = place_found names name 0 n (sym (position_from-zero (λ e. bytes_eq name e.0) names) ∙ h) in
-    let same : found.0 ≡ n = omega (arith, found.1) in
-    subst (λ k. name_at names k ≡ Some name) same found.2
+number_found : {F : Type 0} (names : List (List ℕ × F)) (name : List ℕ) (n : ℕ)
+    → number_of names name ≡ Some n → name_at names n ≡ Some name
+number_found [] name n h = absurd (none-some n h)
+number_found (e ∷ es) name n h =
+    let found = position-Some (λ x. bytes_eq name x.0) (e ∷ es) n e h in
+    let same : name ≡ (get_or (e ∷ es) n e).0 = (bytes_eq-Decides name (get_or (e ∷ es) n e).0).0 found.1 in
+    ap (option_map (λ x. x.0)) (slice_get-get_or (e ∷ es) n e found.0) ∙ ap Some (sym same)
 
 -- a number with a name is one of the list
 pub in_range : {F : Type 0} (names : List (List ℕ × F)) (n : ℕ) (name : List ℕ) → name_at names n ≡ Some name
@@ -66,8 +43,8 @@ pub one_to_one : {F G : Type 0} (old : List (List ℕ × F)) (new : List (List �
     → (x y z : ℕ)
     → Renamed old new x z → Renamed old new y z → x ≡ y
 one_to_one old new distinct x y z one two =
-    let same : one.name ≡ two.name = same_some (sym one.is ∙ two.is) in
-    same_some (sym (distinct x one.name one.was) ∙ ap (number_of old) same ∙ distinct y two.name two.was)
+    let same : one.name ≡ two.name = same_Some _ _ (sym one.is ∙ two.is) in
+    same_Some _ _ (sym (distinct x one.name one.was) ∙ ap (number_of old) same ∙ distinct y two.name two.was)
 
 pub never_some : (n : ℕ) → None ≡ Some n → ⊥
 never_some n e = none-some n e

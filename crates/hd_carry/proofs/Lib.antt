@@ -17,3 +17,8 @@ pub mod Real
 pub mod Exact
 pub mod Once
 pub mod Next
+pub mod Deciding
+pub mod SameHolds
+pub mod Back
+pub mod Compared
+pub mod Walked

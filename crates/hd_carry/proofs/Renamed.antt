@@ -23,7 +23,7 @@ module _ (old new : Contents) (distinct : HasDistinctNames old) where
   unfolding copy_name copy_number
   copy_there c x same = renamed old.copies new.copies c x same
 
-  is_there : (c x : ℕ) → new_copy old new c ≡ Some x → IsThere c x
+  pub is_there : (c x : ℕ) → new_copy old new c ≡ Some x → IsThere c x
   is_there c x same = by_number (option_and_then (copy_number new) (copy_name old c)) refl same
     where
       by_number : (o : Option ℕ) → option_and_then (copy_number new) (copy_name old c) ≡ o
@@ -50,7 +50,7 @@ module _ (old new : Contents) (distinct : HasDistinctNames old) where
                     title);
               }
 
-  title_there : (t u : ℕ) → new_title old new t ≡ Some u → Renamed old.titles new.titles t u
+  pub title_there : (t u : ℕ) → new_title old new t ≡ Some u → Renamed old.titles new.titles t u
   unfolding title_name title_number
   title_there t u same = renamed old.titles new.titles t u same
 

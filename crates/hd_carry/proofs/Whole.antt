@@ -1,6 +1,7 @@
 -- The whole of carrying over: from the noted copies to the listed ones, and from no obstacle to the law.
 use Rattle.std.proofs.Common.{◌≡◌, ◌≢◌, ◌∙◌, ℕ, ◌+◌, ◌<◌, ◌≤◌, zero, suc, Bool, true, false, cond, inl, inr}
 use Rattle.std.proofs.Common.{List, [], ◌∷◌, ◌++◌, Option, Some, ap, length, sym, subst, refl, arith, nat_lt}
+use Rattle.std.specs.Prelude.{Result, Ok, Err, IfOk, OnOk}
 use Rattle.std.proofs.Math.Dec.{eqb}
 use Rattle.std.proofs.lemmas.Bool.{cases_Bool, eqb-true, ltb-false, ltb-true}
 use Rattle.hd_rules.specs.declared.holds.Hold.{Hold}
@@ -42,8 +43,9 @@ rows_alike r j d e (suc n) same =
     ∙ ap (λ s. copy_rows r j e n ++ row_or_none (copy_row r j n s)) (same n (omega arith))
 
 -- where the listed copies are noted, their loans end
-ended_alike : (k : Facts) (d : Desk) (listed : List ℕ) (notes : List Bool) → AreNoted k.copies listed notes →
-    (c : ℕ) → c < k.copies → (without_loans k (is_noted notes) d).copy c ≡ (written_off k listed d).copy c
+pub ended_alike : (k : Facts) (d : Desk) (listed : List ℕ) (notes : List Bool)
+    → AreNoted k.copies listed notes → (c : ℕ) → c < k.copies
+    → (without_loans k (is_noted notes) d).copy c ≡ (written_off k listed d).copy c
 unfolding without_loans
 ended_alike k d listed notes noted c l = ap (λ b. written_state b (k.home c) (d.copy c)) (noted.each c l)
 
@@ -135,6 +137,12 @@ pub copies_of_names : (old new : Contents) (r : Renumbering) → NamesKeepToThem
     AreCopiesOf (facts_of new) r
 copies_of_names old new r law distinct names =
     subst (AreCopiesOf (facts_of new)) (sym names) (law old new distinct).names.new_copy
+
+-- what follows of a result
+pub when_ok : {A E : Type 0} (o : Result A E) (P : A → Type 0) (Q : Type 0) (R : A → Type 0) → IfOk o P
+    → OnOk o Q → ((a : A) → P a → Q → R a) → IfOk o R
+when_ok (Ok a) P Q R p q all = all a p q
+when_ok (Err e) P Q R p q all = tt
 
 -- a list is empty where its length is 0
 pub none_there : (xs : List Obstacle) (b : Bool) → b ≡ eqb (length xs) 0 → b ≡ true → xs ≡ []

@@ -67,14 +67,13 @@ pub fn carry<A: Allocator + Copy>(
     let noted = WriteOff::new(alloc, copies_of(old), write_off)?;
     let obstacles = obstacles_of(alloc, old, last, new, &numbers, &noted)?;
     if is_free(&obstacles) {
-        let rows = rows_of(alloc, old, new, &numbers, &noted)?;
-        return Ok(rows);
+        return Ok(rows_of(alloc, old, new, &numbers, &noted)?);
     }
     Err(CarryFault::InTheWay(obstacles))
 }
 
 /// The titles of each desk have their queues.
-fn keeps_its_queues<A: Allocator + Copy>(desk: &Desk<A>)
+pub(crate) fn keeps_its_queues<A: Allocator + Copy>(desk: &Desk<A>)
     ensures { AreQueuesOf (facts desk.now) (desk_of desk.now) (queues_of desk.now) }
 {
     let _titles = desk.titles();
@@ -98,7 +97,7 @@ fn names_known_things<A: Allocator + Copy>(desk: &Desk<A>)
 }
 
 /// The new numbers of the names of a desk's catalogue, no two of which are equal.
-fn numbers_of<A: Allocator + Copy>(
+pub(crate) fn numbers_of<A: Allocator + Copy>(
     alloc: A,
     old: &Desk<A>,
     new: &Catalogue<A>,
@@ -109,8 +108,7 @@ fn numbers_of<A: Allocator + Copy>(
     ensures copies { IfOk result (λ numbers. AreCopiesOf (facts_of new.now) (renumbering numbers)) }
 {
     names_keep_to_themselves();
-    let numbers = NewNumbers::new(alloc, old.catalogue(), new)?;
-    Ok(numbers)
+    NewNumbers::new(alloc, old.catalogue(), new)
 }
 
 /// Whether nothing is in the way.

@@ -5,17 +5,17 @@ use crate::door_options::{
     TITLE_ASKED,
 };
 use crate::door_texts::{
-    COMMAND, COMMAND_ABOUT, COMMAND_EXAMPLE, COPY, COPY_ABOUT, COPY_EXAMPLE, OVERDUE,
-    OVERDUE_ABOUT, OVERDUE_EXAMPLE, PATRON, PATRON_ABOUT, PATRON_EXAMPLE, SHELF, SHELF_ABOUT,
-    SHELF_EXAMPLE, STATUS, STATUS_ABOUT, STATUS_EXAMPLE, STOP, STOP_ABOUT, STOP_EXAMPLE, TITLE,
-    TITLE_ABOUT, TITLE_EXAMPLE, TRANSIT, TRANSIT_ABOUT, TRANSIT_EXAMPLE, TURNS, TURNS_ABOUT,
-    TURNS_EXAMPLE,
+    COMMAND, COMMAND_ABOUT, COMMAND_EXAMPLE, COPY, COPY_ABOUT, COPY_EXAMPLE, EXPIRED,
+    EXPIRED_ABOUT, EXPIRED_EXAMPLE, OVERDUE, OVERDUE_ABOUT, OVERDUE_EXAMPLE, PATRON, PATRON_ABOUT,
+    PATRON_EXAMPLE, SHELF, SHELF_ABOUT, SHELF_EXAMPLE, STATUS, STATUS_ABOUT, STATUS_EXAMPLE, STOP,
+    STOP_ABOUT, STOP_EXAMPLE, TITLE, TITLE_ABOUT, TITLE_EXAMPLE, TRANSIT, TRANSIT_ABOUT,
+    TRANSIT_EXAMPLE, TURNS, TURNS_ABOUT, TURNS_EXAMPLE,
 };
 use crate::options::JSON;
 use crate::words::CommandWords;
 
 /// The commands of `show`.
-pub(crate) const SHOW_COMMANDS: [CommandWords; 8] = [
+pub(crate) const SHOW_COMMANDS: [CommandWords; 9] = [
     CommandWords {
         name: "copy",
         about: COPY_ABOUT,
@@ -61,6 +61,14 @@ pub(crate) const SHOW_COMMANDS: [CommandWords; 8] = [
         about: OVERDUE_ABOUT,
         long_about: OVERDUE,
         example: OVERDUE_EXAMPLE,
+        options: &[DAY_ASKED, DOOR_ASKED, JSON],
+        groups: &[],
+    },
+    CommandWords {
+        name: "expired",
+        about: EXPIRED_ABOUT,
+        long_about: EXPIRED,
+        example: EXPIRED_EXAMPLE,
         options: &[DAY_ASKED, DOOR_ASKED, JSON],
         groups: &[],
     },

@@ -49,6 +49,7 @@ fn topic_of<'a>(topic: &str, found: &ArgMatches<'a>) -> SeenTopic<'a> {
         "shelf" => SeenTopic::Shelf(found.get_str("branch").unwrap_or("")),
         "transit" => SeenTopic::Transit(found.get_str("branch").unwrap_or("")),
         "overdue" => SeenTopic::Overdue(found.get_str("day").unwrap_or("")),
+        "expired" => SeenTopic::Expired(found.get_str("day").unwrap_or("")),
         "turns" => SeenTopic::Turns {
             after: found.get_one::<u32>("after"),
             limit: found.get_one::<u32>("limit").unwrap_or(20),

@@ -119,6 +119,26 @@ pub(crate) const OVERDUE_EXAMPLE: &str = "Example:
 Exit status: 0 well; 1 a fault, printed as one line (`DAY is no day`, `no server listens at PATH`, and others,
 which docs/operating.md has with what to do); 2 the command line was refused.";
 
+/// What `show expired` does, in a line.
+pub(crate) const EXPIRED_ABOUT: &str = "Shows the holds whose last day was before a day";
+
+/// What `show expired` does.
+pub(crate) const EXPIRED: &str = "Shows the holds whose last day was before a day
+
+The server at the door is asked for the holds whose until is earlier, by title in the order of the catalogue
+each title's in the order of its queue, some at a time: a hold that begins or ends meanwhile may be among them
+or not. Such a hold gets no copy; one that has a copy keeps it until the hold is deleted.";
+
+/// An example of `show expired`, and its exit statuses.
+pub(crate) const EXPIRED_EXAMPLE: &str = "Example:
+
+  $ holddesk show expired 2026-04-01 --door /run/holddesk/door
+  title  patron  stamp  admits  only  pickup  until       copy
+  tb     p3      3      any           south   2026-03-15  b1
+
+Exit status: 0 well; 1 a fault, printed as one line (`DAY is no day`, `no server listens at PATH`, and others,
+which docs/operating.md has with what to do); 2 the command line was refused.";
+
 /// What `show turns` does, in a line.
 pub(crate) const TURNS_ABOUT: &str = "Shows what was asked of the desk, and what it came to";
 

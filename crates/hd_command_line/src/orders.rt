@@ -266,6 +266,8 @@ pub enum SeenTopic<'a> {
     Transit(&'a str),
     /// The loans that were due before this day.
     Overdue(&'a str),
+    /// The holds whose last day was before this day.
+    Expired(&'a str),
     /// Turns, so many at most: those behind so many, or else the last ones.
     Turns { after: Option<u32>, limit: u32 },
     /// The command of this number, what it changed, and the first later one that depends on it.

@@ -85,6 +85,7 @@ connection_fields by (at.NotLoggedIn terminal why) = refused_fields by terminal.
 connection_fields by (at.ClockOff terminal date days) = clock_fields by terminal.now date.now days
 connection_fields by at.LongLine = named (codes "long_line") ∷ by ∷ []
 connection_fields by at.LineFeedAlone = named (codes "line_feed_alone") ∷ by ∷ []
+connection_fields by at.ResendRequested = named (codes "resend_requested") ∷ by ∷ []
 connection_fields by (at.Line sent) = sent_fields (named (codes "line")) by sent.now
 connection_fields by (at.Reply sent) = sent_fields (named (codes "reply")) by sent.now
 
@@ -92,10 +93,9 @@ connection_fields by (at.Reply sent) = sent_fields (named (codes "reply")) by se
 abbrev pub cannot_fields : List ℕ → Field → List ℕ → List Field
 cannot_fields name about why = named name ∷ about ∷ text (codes "why") why ∷ []
 
--- of numbers for commands of which few are left
-abbrev pub few_fields : ℕ → ℕ → List Field
-few_fields last most =
-    named (codes "few_numbers") ∷ number (codes "last") last ∷ number (codes "most") most ∷ []
+-- of what there are few: how many, and of how many
+abbrev pub few_fields : List ℕ → Field → Field → List Field
+few_fields name few of = named name ∷ few ∷ of ∷ []
 
 -- the fields of an event
 abbrev pub event_fields : Event → List Field
@@ -107,7 +107,10 @@ event_fields (events.CannotRead file why) =
     cannot_fields (codes "cannot_read") (text (codes "file") file.now) why.now
 event_fields (events.CannotAccept times why) =
     cannot_fields (codes "cannot_accept") (number (codes "times") times) why.now
-event_fields (events.FewNumbers last most) = few_fields last most
+event_fields (events.FewNumbers last most) =
+    few_fields (codes "few_numbers") (number (codes "last") last) (number (codes "most") most)
+event_fields (events.FewWorkers started wanted) =
+    few_fields (codes "few_workers") (number (codes "started") started) (number (codes "wanted") wanted)
 event_fields (events.Unwritten why) = named (codes "journal_unwritten") ∷ text (codes "why") why.now ∷ []
 event_fields (events.Zone file offset) =
     named (codes "zone") ∷ text (codes "file") file.now ∷ word (codes "offset") offset.now ∷ []

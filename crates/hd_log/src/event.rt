@@ -42,6 +42,13 @@ pub enum Event<'a> {
         /// The last that there is.
         most: u64,
     },
+    /// It serves fewer connections at once than it was to: the system gave no more threads.
+    FewWorkers {
+        /// How many it serves at once.
+        started: u64,
+        /// How many it was to serve.
+        wanted: u64,
+    },
     /// Its journal can't be written.
     Unwritten {
         /// Why.
@@ -117,6 +124,8 @@ pub enum ConnectionEvent<'a> {
     LongLine,
     /// A line feed came without a carriage return before it, which ends no line.
     LineFeedAlone,
+    /// A line was answered by the request to send it again.
+    ResendRequested,
     /// A line came.
     Line {
         /// The line.

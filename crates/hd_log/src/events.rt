@@ -40,7 +40,22 @@ pub fn write_event(alloc: Global, out: &mut Vec<u8>, event: &Event<'_>) -> Resul
         Event::CannotAccept { times, why } => {
             write_cannot(out, b"cannot_accept", &number(b"times", times), why)
         }
-        Event::FewNumbers { last, most } => write_few_numbers(out, last, most),
+        Event::FewNumbers { last, most } => {
+            write_few(
+                out,
+                b"few_numbers",
+                &number(b"last", last),
+                &number(b"most", most),
+            )
+        }
+        Event::FewWorkers { started, wanted } => {
+            write_few(
+                out,
+                b"few_workers",
+                &number(b"started", started),
+                &number(b"wanted", wanted),
+            )
+        }
         Event::Unwritten { why } => {
             write_line(out, &[named(b"journal_unwritten"), text(b"why", why)])
         }
@@ -69,16 +84,17 @@ fn write_cannot<'a>(
     write_line(out, &[named(name), *about, text(b"why", why)])
 }
 
-/// Writes that few numbers for commands are left.
-fn write_few_numbers(out: &mut Vec<u8>, last: u64, most: u64) -> Result<(), AllocError>
-    ensures { OnOk result (out.new.items ≡ out.old.items ++ line_text (few_fields last most)) }
+/// Writes of what there are few: how many, and of how many.
+fn write_few<'a>(
+    out: &mut Vec<u8>,
+    name: &'a [u8],
+    few: &Field<'a>,
+    of: &Field<'a>,
+) -> Result<(), AllocError>
+    ensures { OnOk result (out.new.items
+        ≡ out.old.items ++ line_text (few_fields name.now (field_shown few.now) (field_shown of.now))) }
 {
-    let about = [
-        named(b"few_numbers"),
-        number(b"last", last),
-        number(b"most", most),
-    ];
-    write_line(out, &about)
+    write_line(out, &[named(name), *few, *of])
 }
 
 /// Writes what happened at a connection, which this field names.
@@ -117,6 +133,7 @@ fn write_at<'a>(
         } => write_clock_off(out, at, terminal, date, days),
         ConnectionEvent::LongLine => write_line(out, &[named(b"long_line"), *at]),
         ConnectionEvent::LineFeedAlone => write_line(out, &[named(b"line_feed_alone"), *at]),
+        ConnectionEvent::ResendRequested => write_line(out, &[named(b"resend_requested"), *at]),
         ConnectionEvent::Line { text } => write_masked(alloc, out, b"line", at, text),
         ConnectionEvent::Reply { text } => write_masked(alloc, out, b"reply", at, text),
     }

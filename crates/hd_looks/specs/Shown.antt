@@ -1,12 +1,12 @@
 -- What a look shows of a journal.
-use Rattle.std.specs.Prelude.{◌≡◌, ◌<◌, ⊤, Option, Some, None, List, [], ◌∷◌}
+use Rattle.std.specs.Prelude.{◌≡◌, ℕ, ◌<◌, ⊤, Option, Some, None, List, [], ◌∷◌}
 use Rattle.hd_rules.specs.declared.holds.Hold.{Hold}
 use Rattle.hd_rules.specs.declared.commands.Survivor.{Survivor}
 use Rattle.hd_rules.specs.Numbers.{CommandNo}
 use Rattle.hd_rules.specs.Facts.{Facts}
 use Rattle.hd_rules.specs.Record.{Record}
 use Rattle.hd_catalogue.specs.Contents.{Contents, facts_of}
-use Rattle.hd_desk.specs.Asking.{IsQueueOf}
+use Rattle.hd_desk.specs.Asking.{AreQueuesOf, IsQueueOf}
 use Rattle.hd_footprint.specs.Meter.{Counts}
 use Rattle.hd_journal.specs.Books.{Book, facts, state}
 use Rattle.hd_journal.specs.Dependents.{IsFirstDependent}
@@ -16,6 +16,7 @@ use Rattle.hd_looks.specs.declared.reader.PageReader.{PageReader}
 use Rattle.hd_looks.specs.declared.row.Row.{Row}
 use Rattle.hd_looks.specs.declared.topic.Topic.{Topic}
 use Rattle.hd_looks.specs.declared.topic.Topic.TheVariants as about
+use Rattle.hd_looks.specs.Expired.{IsExpiredPage}
 use Rattle.hd_looks.specs.PageValue.{PageValue}
 use Rattle.hd_looks.specs.Pages.{IsWalk, most_turns, page_behind, page_within}
 use Rattle.hd_looks.specs.Rows.{command_rows, copy_row, patron_rows, queue_rows, turn_rows}
@@ -43,6 +44,9 @@ IsShown book (about.Queue title after) page =
 IsShown book (about.Patron patron after) page =
     page ≡ page_behind after (patron_rows (facts book) (state book).desk patron)
 IsShown book (about.Copies which first) page = IsWalk (facts book) (state book).desk which first page
+IsShown book (about.Expired day first) page =
+    (queues : ℕ → List Hold) × AreQueuesOf (facts book) (state book).desk queues
+    × IsExpiredPage (facts book) (state book).desk queues day first page
 IsShown book (about.Turns after limit) page =
     page ≡ page_within after (most_turns limit) (turn_rows 1 book.turns)
 IsShown book (about.Command number) page =

@@ -11,7 +11,7 @@ use hd_desk::Desk;
 use hd_rules::{CopyNo, CopyState};
 use std::alloc::Allocator;
 
-/// How many copies a look goes over at most.
+/// How many copies, titles or holds a look goes over at most.
 pub const MOST_WALKED: u32 = 65_536;
 
 /// Shows the copies on a list, from that of a number on, by rising number.
@@ -54,8 +54,8 @@ fn put_if_on<A: Allocator + Copy>(desk: &Desk<A>, which: &CopyList, copy: CopyNo
     }
 }
 
-/// How far a look goes.
-fn last_walked(first: u32, copies: u32) -> u32
+/// How far a look goes, of so many copies or titles.
+pub(crate) fn last_walked(first: u32, copies: u32) -> u32
     requires { first < copies }
     ensures within { result ≤ copies }
     ensures on { first < result }

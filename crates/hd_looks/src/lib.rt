@@ -1,13 +1,15 @@
 //! What is looked up in a journal, and shown page by page.
 //!
 //! A page has at most 512 rows, and room for them before the look: under a hall's lock nothing is asked of
-//! the allocator, and at most 65,536 copies are gone over. A row has numbers alone; names are put to them
-//! outside of the lock.
+//! the allocator, and at most 65,536 copies are gone over, or as many titles and as many holds beside those
+//! of one queue that come before the page. A row has numbers alone; names are put to them outside of the
+//! lock.
 #![tactic(auto)]
 
 mod command;
 mod copies;
 mod counts;
+mod expired;
 mod page;
 mod patron;
 mod queue;

@@ -45,8 +45,8 @@ impl Page {
         self.rows.as_slice()
     }
 
-    /// Where the next page begins, if there may be another: behind so many entries of the list, or from the
-    /// copy of this number on.
+    /// Where the next page begins, if there may be another: behind so many entries of the list, from the copy
+    /// of this number on, or from a hold on, by its title and patron.
     pub fn next(&self) -> Option<u64>
         ensures { result ≡ self.now.next }
     {

@@ -7,6 +7,7 @@ ghost use Rattle.hd_looks.specs.Shown.{HasShown, IsTopicOf};
 
 use crate::command::show_command;
 use crate::copies::show_copies;
+use crate::expired::show_expired;
 use crate::page::Page;
 use crate::patron::show_patron;
 use crate::queue::show_queue;
@@ -56,6 +57,7 @@ impl<A: Allocator + Copy> Look<A> for PageReader {
             Topic::Queue { title, after } => show_queue(desk, title, after, page),
             Topic::Patron { patron, after } => show_patron(desk, patron, after, page),
             Topic::Copies { which, first } => show_copies(desk, &which, first, page),
+            Topic::Expired { day, first } => show_expired(desk, day, first, page),
             Topic::Turns { after, limit } => show_turns(journal, after, limit, page),
             Topic::Command(number) => show_command(journal, number, &mut self.meter, page),
         }

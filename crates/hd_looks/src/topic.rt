@@ -13,6 +13,8 @@ pub enum Topic {
     Patron { patron: PatronNo, after: u32 },
     /// The copies on a list, from that of a number on.
     Copies { which: CopyList, first: u32 },
+    /// The holds past their day, from a place on.
+    Expired { day: Day, first: u64 },
     /// The turns behind so many, at most a limit of them, and at most a page.
     Turns { after: u64, limit: u64 },
     /// The surviving command of a number.

@@ -5,6 +5,7 @@ use Rattle.std.proofs.Common.{zero, suc, All, ℤ, pos, ◌-ℤ◌, unsigned_abs
 use Rattle.std.proofs.Common.{◌∙◌, arith}
 use Rattle.std.specs.Prelude.{slice_range, nat_lt, ◌&&◌, ◌==◌}
 use Rattle.std.specs.List.{list_all}
+use Rattle.std.proofs.lemmas.Bool.{and_parts}
 use Rattle.std.proofs.lemmas.Bool.Decides.{nat_tests}
 use Rattle.jiff_core.specs.Calendar.{days_from_civil, days_in_month}
 use Rattle.jiff_core.proofs.SignedLemmas.{signed_arith}
@@ -142,10 +143,6 @@ day_shown own text moment offset stamp day is size shows same =
     let print = own (midnight_text text) (midnight_local text) offset stamp here in
     day_read stamp.day text (day_of_print text stamp size here.day print) ∙ ap Some (sym same)
 
-both_true : (a b : Bool) → (a && b) ≡ true → (a ≡ true) × (b ≡ true)
-both_true true b h = (refl, h)
-both_true false b h = cc
-
 -- what eight digits write is a day of the calendar
 pub record Writes (text : List ℕ) (number : ℕ) : Type 0 where
   pub digits : list_all is_digit text ≡ true
@@ -164,10 +161,10 @@ writes text number h =
     let outer = some_if ((length text == 8) && list_all is_digit text) (day_on year month day) number h in
     let tests = is_date year month day && nat_lt (day_number year month day) end_of_days in
     let inner = some_if tests (Some (day_number year month day)) number outer.1 in
-    let both = both_true (is_date year month day) (nat_lt (day_number year month day) end_of_days) inner.0 in
+    let both = and_parts (is_date year month day) (nat_lt (day_number year month day) end_of_days) inner.0 in
     let same : day_number year month day ≡ number = same_Some _ _ inner.1 in
     record {
-      digits = (both_true (length text == 8) (list_all is_digit text) outer.0).1;
+      digits = (and_parts (length text == 8) (list_all is_digit text) outer.0).1;
       date = both.0;
       counted = same;
       below = grind (arith, nat_tests, both.1, same);
@@ -198,14 +195,14 @@ module _ (a b c d e f g i : ℕ) where
 
   has_digits : list_all is_digit bytes ≡ true → HasDigits (midnight_text bytes)
   has_digits h =
-      let t0 = both_true (is_digit a) _ h in
-      let t1 = both_true (is_digit b) _ t0.1 in
-      let t2 = both_true (is_digit c) _ t1.1 in
-      let t3 = both_true (is_digit d) _ t2.1 in
-      let t4 = both_true (is_digit e) _ t3.1 in
-      let t5 = both_true (is_digit f) _ t4.1 in
-      let t6 = both_true (is_digit g) _ t5.1 in
-      let t7 = both_true (is_digit i) _ t6.1 in
+      let t0 = and_parts (is_digit a) _ h in
+      let t1 = and_parts (is_digit b) _ t0.1 in
+      let t2 = and_parts (is_digit c) _ t1.1 in
+      let t3 = and_parts (is_digit d) _ t2.1 in
+      let t4 = and_parts (is_digit e) _ t3.1 in
+      let t5 = and_parts (is_digit f) _ t4.1 in
+      let t6 = and_parts (is_digit g) _ t5.1 in
+      let t7 = and_parts (is_digit i) _ t6.1 in
       record {
         year = four_all a b c d (digit_is a t0.0) (digit_is b t1.0) (digit_is c t2.0) (digit_is d t3.0);
         month = two_all e f (digit_is e t4.0) (digit_is f t5.0);

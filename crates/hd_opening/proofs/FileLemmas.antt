@@ -22,6 +22,7 @@ use Rattle.hd_opening.specs.Pieces.{behind_bars}
 use Rattle.hd_opening.specs.declared.cause.OpeningFault.{OpeningFault}
 use Rattle.hd_opening.specs.declared.cause.OpeningCause.{OpeningCause}
 use Rattle.hd_opening.specs.declared.cause.OpeningCause.TheVariants.{Memory}
+use Rattle.hd_opening.proofs.LimitLemmas.{fine, nil_cons, ok_same}
 use Rattle.hd_opening.proofs.NumberLemmas.{digits_are, digits_few, number_read}
 use Rattle.hd_opening.proofs.RowLemmas.{digit_plain, rows_again}
 use Rattle.hd_opening.proofs.TextLemmas.{AreClean, bars_full, bars_short, is_full, is_plain, lines_again}
@@ -110,15 +111,6 @@ written_told k digest told text is fits (more, are, whole) =
       last = first.0;
       rows = rows_again k told.last told.rows more are fits.1 fits.0;
     }
-
-nil_cons : {A : Type 0} {x : A} {xs : List A} → [] ≡ x ∷ xs → ⊥
-nil_cons e = cc
-
-abbrev pub fine : {A : Type 0} → A → Result A OpeningCause
-fine x = Ok x
-
-ok_same : {A : Type 0} {x y : A} → fine x ≡ fine y → x ≡ y
-ok_same e = cc
 
 ok_err : {A : Type 0} {r : Result A OpeningCause} {x : A} {y : OpeningCause} → r ≡ Ok x → r ≡ Err y → ⊥
 ok_err e f = cc

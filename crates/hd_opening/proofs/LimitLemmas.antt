@@ -3,6 +3,7 @@ use Rattle.std.proofs.Common.{◌≡◌, ℕ, ◌≤◌, Bool, true, false, List
 use Rattle.std.proofs.Common.{Some, Result, Ok, Err, refl, sym, ap, subst, arith}
 use Rattle.std.specs.Prelude.{◌==◌, ◌&&◌, bytes_eq, if◌then◌else◌, nat_le, option_map}
 use Rattle.std.specs.Option.{ok_or, option_zip}
+use Rattle.std.proofs.lemmas.Bool.{and_parts}
 use Rattle.std.proofs.lemmas.Bool.Decides.{nat_tests}
 use Rattle.std.proofs.lemmas.List.Elements.{All-cons, All-nil}
 use Rattle.std.proofs.lemmas.Option.{none-some, same_Some}
@@ -24,18 +25,20 @@ use Rattle.hd_opening.specs.Lines.{row_said, said, sent_said, shelf_said, transi
 use Rattle.hd_opening.specs.declared.limits.TheConstants.{MOST_PLACES}
 use Rattle.hd_opening.specs.declared.cause.OpeningCause.{OpeningCause}
 use Rattle.hd_opening.specs.declared.cause.OpeningCause.TheVariants.{Header, Kind, Other, Unknown}
-use Rattle.hd_opening.proofs.NumberLemmas.{both_true}
 
-nil_cons : {A : Type 0} {x : A} {xs : List A} → [] ≡ x ∷ xs → ⊥
+-- an empty list is none with an element
+pub nil_cons : {A : Type 0} {x : A} {xs : List A} → [] ≡ x ∷ xs → ⊥
 nil_cons e = cc
 
 bad : {A : Type 0} {x : A} {e : OpeningCause} → Err e ≡ Ok x → ⊥
 bad h = cc
 
+-- a value that was read
 abbrev pub fine : {A : Type 0} → A → Result A OpeningCause
 fine x = Ok x
 
-ok_same : {A : Type 0} {x y : A} → fine x ≡ fine y → x ≡ y
+-- equal ones have equal values
+pub ok_same : {A : Type 0} {x y : A} → fine x ≡ fine y → x ≡ y
 ok_same e = cc
 
 -- of two ways one was gone
@@ -74,7 +77,7 @@ number_in : (most : ℕ) (text : List ℕ) (n : ℕ) → number_to most text ≡
 number_in most text n h =
     let parts =
     some_if (is_decimal text && nat_le (number_written text) most) (Some (number_written text)) n h in
-    let test = (both_true (is_decimal text) (nat_le (number_written text) most) parts.0).1 in
+    let test = (and_parts (is_decimal text) (nat_le (number_written text) most) parts.0).1 in
     let same : number_written text ≡ n = same_Some _ _ parts.1 in
     grind (arith, nat_tests, test, same)
 

@@ -5,15 +5,12 @@ use Rattle.std.proofs.Common.{arith, lit<, slice_index}
 use Rattle.std.specs.Prelude.{nat_le, nat_lt, not, ◌&&◌, ◌||◌, ◌==◌}
 use Rattle.std.specs.List.{list_all}
 use Rattle.std.specs.Int.{IsInRange}
+use Rattle.std.proofs.lemmas.Bool.{and_parts}
 use Rattle.std.proofs.lemmas.Bool.Decides.{nat_tests}
 use Rattle.std.proofs.lemmas.Str.Parse.{FoldsDigits, IsDigitsTest, IsNumeralModel, numerals_by_fold}
 use Rattle.std.proofs.lemmas.Fmt.{decimal_digit, decimal_nonempty, digits_decimal, digits_value-decimal}
 use Rattle.std.proofs.lemmas.Fmt.{first_decimal, length-decimal-le}
 use Rattle.hd_catalogue.specs.Text.{is_digit, number_to, number_written}
-
-pub both_true : (a b : Bool) → (a && b) ≡ true → (a ≡ true) × (b ≡ true)
-both_true true b h = (refl, h)
-both_true false b h = cc
 
 pub digit_in : (c : ℕ) → is_digit c ≡ true → IsInRange 48 57 c
 digit_in c h = (grind (arith, nat_tests, h), grind (arith, nat_tests, h))
@@ -24,7 +21,7 @@ digit_of c h = grind (arith, nat_tests, h.0, h.1)
 tells_digits : IsDigitsTest (λ ds. list_all is_digit ds ≡ true)
 tells_digits = record {
   empty = refl;
-  parts = λ c cs h. (digit_in c (both_true (is_digit c) _ h).0, (both_true (is_digit c) _ h).1);
+  parts = λ c cs h. (digit_in c (and_parts (is_digit c) _ h).0, (and_parts (is_digit c) _ h).1);
   more = λ c cs h g. rw (digit_of c h) g;
 }
 

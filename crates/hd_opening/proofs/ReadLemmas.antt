@@ -5,7 +5,7 @@ use Rattle.std.proofs.Common.{append_assoc, length-append}
 use Rattle.std.proofs.lemmas.List.{append-nil, length-map, map_push}
 use Rattle.hd_rules.specs.declared.rows.OpeningRow.{OpeningRow}
 use Rattle.hd_catalogue.specs.Contents.{Contents, OpeningRows}
-use Rattle.hd_opening.specs.Files.{IsFirstBad, Names, SayRows, Tells}
+use Rattle.hd_opening.specs.Files.{IsFirstBad, SayRows, Tells}
 use Rattle.hd_opening.specs.Lines.{first_said, row_said}
 use Rattle.hd_opening.specs.declared.cause.OpeningCause.{OpeningCause}
 
@@ -49,24 +49,6 @@ module _ (k : Contents) (digest : List ℕ) (all : List (List ℕ)) where
         ∙ ap (λ r. map Ok rows ++ r ∷ []) said ∙ sym (map_push Ok rows row);
     counted = omega (arith, h.counted, length-append h.before (line ∷ []));
   }
-
-  pub row_bad : (last number : ℕ) (rows : List OpeningRow)
-      (line : List ℕ) (left : List (List ℕ)) (cause : OpeningCause)
-      → HasRead k digest all last number rows (line ∷ left) → Names (row_said k last line) cause
-      → IsFirstBad k digest all (record { line = number + 1; cause = cause })
-  row_bad last number rows line left cause h names = inr (record {
-    first = h.first;
-    last = last;
-    before = h.before;
-    line = line;
-    after = left;
-    rows = rows;
-    whole = h.whole;
-    heads = h.heads;
-    earlier = h.earlier;
-    counted = omega (arith, h.counted);
-    here = names;
-  })
 
   pub done : (last number : ℕ) (rows : List OpeningRow) → HasRead k digest all last number rows []
       → Tells k digest all (record { rows = rows; last = last })

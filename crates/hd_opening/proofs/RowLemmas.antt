@@ -5,6 +5,7 @@ use Rattle.std.proofs.Common.{decimal, length-append, suc, All, map}
 use Rattle.std.specs.Prelude.{nat_le, nat_lt, ◌&&◌, ◌==◌}
 use Rattle.std.specs.List.{list_all}
 use Rattle.std.specs.Str.Lines.{lines}
+use Rattle.std.proofs.lemmas.Bool.{and_parts}
 use Rattle.std.proofs.lemmas.Bool.Decides.{nat_tests}
 use Rattle.std.proofs.lemmas.List.Folds.{list_all-append}
 use Rattle.hd_rules.specs.declared.limits.TheConstants.{MOST_RENEWALS, MOST_GIVEN}
@@ -28,9 +29,9 @@ use Rattle.hd_opening.specs.declared.piece.Piece.{Piece}
 use Rattle.hd_opening.specs.declared.piece.Piece.TheVariants as piece
 use Rattle.hd_opening.specs.declared.piece.Admits.TheVariants as admits
 use Rattle.hd_opening.proofs.DayLemmas.{day_digits, day_long, day_read}
-use Rattle.hd_opening.proofs.NumberLemmas.{both_true, digits_are, digits_few, number_read}
+use Rattle.hd_opening.proofs.NumberLemmas.{digits_are, digits_few, number_read}
 use Rattle.hd_opening.proofs.TextLemmas.{AreClean, IsClean, bars_full, bars_short, is_full, is_plain}
-use Rattle.hd_opening.proofs.TextLemmas.{lines_again, values_again, weaker}
+use Rattle.hd_opening.proofs.TextLemmas.{lines_again, plain_full, values_again, weaker}
 
 -- a number that the reader reads
 abbrev pub IsSmall : Piece → Type 0
@@ -49,8 +50,8 @@ digit_plain b h = grind (arith, nat_tests, h)
 
 name_clean : (text : List ℕ) → is_name text ≡ true → IsClean text
 name_clean text h =
-    let sizes = both_true (nat_lt 0 (length text) && nat_le (length text) 60) _ h in
-    let sixty : nat_le (length text) 60 ≡ true = (both_true (nat_lt 0 (length text)) _ sizes.0).1 in
+    let sizes = and_parts (nat_lt 0 (length text) && nat_le (length text) 60) _ h in
+    let sixty : nat_le (length text) 60 ≡ true = (and_parts (nat_lt 0 (length text)) _ sizes.0).1 in
     record {
       plain = weaker is_name_byte is_plain name_byte_plain text sizes.1;
       short = grind (arith, nat_tests, sixty);
@@ -234,9 +235,6 @@ letter_cons : (letter rest : List ℕ) → length letter ≡ 1 → (first : ℕ)
 letter_cons [] rest h = absurd (omega arith)
 letter_cons (x ∷ []) rest h = (x, refl)
 letter_cons (x ∷ y ∷ more) rest h = absurd (omega arith)
-
-plain_full : (b : ℕ) → is_plain b ≡ true → is_full b ≡ true
-plain_full b h = grind (arith, nat_tests, h)
 
 pub line_again : (k : Contents) (last : ℕ) (r : OpeningRow) (line : List ℕ) → IsLine k r line
     → IsInLimits last r → last ≤ MOST_GIVEN → IsAgain k last r line

@@ -5,6 +5,7 @@ use Rattle.std.proofs.Common.{length-append, slice_index}
 use Rattle.std.specs.Prelude.{nat_le, not, ◌&&◌, ◌==◌}
 use Rattle.std.specs.List.{list_all, slice_split}
 use Rattle.std.specs.Str.Lines.{lines, lines_of_parts, strip_carriage_return}
+use Rattle.std.proofs.lemmas.Bool.{and_parts}
 use Rattle.std.proofs.lemmas.Bool.Decides.{nat_tests}
 use Rattle.std.proofs.lemmas.List.{append-nil}
 use Rattle.std.proofs.lemmas.List.Folds.{list_all-append}
@@ -12,7 +13,6 @@ use Rattle.std.proofs.lemmas.List.Sums.{AllPass-from_list_all}
 use Rattle.std.proofs.lemmas.List.Splits.{length-slice_split, slice_split_at, slice_split_none}
 use Rattle.hd_catalogue.specs.Text.{values_of}
 use Rattle.hd_opening.specs.Pieces.{behind_bars}
-use Rattle.hd_opening.proofs.NumberLemmas.{both_true}
 
 -- a byte of a value: neither a bar nor the end of a line
 abbrev pub is_plain : ℕ → Bool
@@ -28,7 +28,8 @@ plain_no_bar b h = grind (arith, nat_tests, h)
 full_no_end : (b : ℕ) → is_full b ≡ true → (b == 10) ≡ false
 full_no_end b h = grind (arith, nat_tests, h)
 
-plain_full : (b : ℕ) → is_plain b ≡ true → is_full b ≡ true
+-- a byte of a value is one of a line
+pub plain_full : (b : ℕ) → is_plain b ≡ true → is_full b ≡ true
 plain_full b h = grind (arith, nat_tests, h)
 
 -- where each byte passes one test, each passes a weaker one
@@ -36,7 +37,7 @@ pub weaker : (p q : ℕ → Bool) → ((b : ℕ) → p b ≡ true → q b ≡ tr
     → list_all p bytes ≡ true → list_all q bytes ≡ true
 weaker p q f [] h = refl
 weaker p q f (b ∷ bytes) h =
-    let parts = both_true (p b) _ h in
+    let parts = and_parts (p b) _ h in
     rw (f b parts.0) (weaker p q f bytes parts.1)
 
 no_bar : (text : List ℕ) → list_all is_plain text ≡ true → All (λ b. (b == 124) ≡ false) text

@@ -1,6 +1,6 @@
 -- A library's state in the text format of Prometheus.
-use Rattle.std.specs.Prelude.{ℕ, ◌+◌, ◌/◌, ◌%◌, List, [], ◌∷◌, ◌++◌, Option, Some, None, option_and_then}
-use Rattle.std.specs.Prelude.{option_map, codes, decimal}
+use Rattle.std.specs.Prelude.{ℕ, ◌+◌, ◌/◌, ◌%◌, List, [], ◌∷◌, ◌++◌, Option, Some, None, option_map}
+use Rattle.std.specs.Prelude.{codes, decimal}
 use Rattle.std.specs.List.{concat, flat_map}
 use Rattle.hd_page.specs.declared.state.Health.{Health}
 use Rattle.hd_page.specs.declared.state.Health.TheVariants.{Well, Shut, Full}
@@ -29,7 +29,6 @@ abbrev pub gauges : State → List (List ℕ × Option ℕ)
 gauges s =
     (codes "holddesk_well", Some (well s.health))
     ∷ (codes "holddesk_journal_turns", option_map (λ j. j.turns) s.journal)
-    ∷ (codes "holddesk_journal_survivors", option_and_then (λ j. j.survivors) s.journal)
     ∷ (codes "holddesk_last_number", option_map (λ j. j.last_number) s.journal)
     ∷ (codes "holddesk_numbers_left", option_map (λ j. j.numbers_left) s.journal)
     ∷ (codes "holddesk_connections", s.connections)

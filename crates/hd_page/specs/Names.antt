@@ -1,4 +1,6 @@
--- What is looked up by a name, in words that no place has.
+-- What is looked up by a name or a day, in words that no place has.
+use Rattle.hd_page.specs.declared.view.Dated.{Dated}
+use Rattle.hd_page.specs.declared.view.Dated.TheVariants.{Overdue, Expired}
 use Rattle.hd_page.specs.declared.view.Named.{Named}
 use Rattle.hd_page.specs.declared.view.Named.TheVariants.{Copy, Queue, Patron, Shelf, Transit}
 
@@ -16,3 +18,9 @@ a_shelf = Shelf
 
 abbrev pub a_transit : Named
 a_transit = Transit
+
+abbrev pub overdue_loans : Dated
+overdue_loans = Overdue
+
+abbrev pub expired_holds : Dated
+expired_holds = Expired

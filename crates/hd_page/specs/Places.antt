@@ -3,7 +3,7 @@ use Rattle.std.specs.Prelude.{ℕ, Bool, not, ◌==◌, IsTrue, List, ◌++◌, 
 use Rattle.std.specs.List.{list_all}
 use Rattle.hd_page.specs.declared.place.Place.{Place}
 use Rattle.hd_page.specs.declared.place.Place.TheVariants.{Home, Health, Metrics, Copy, Queue, Patron, Shelf}
-use Rattle.hd_page.specs.declared.place.Place.TheVariants.{Transit, Overdue, Turns, Command}
+use Rattle.hd_page.specs.declared.place.Place.TheVariants.{Transit, Overdue, Expired, Turns, Command}
 
 -- a byte of a name: any but /
 abbrev pub is_name_byte : ℕ → Bool
@@ -23,6 +23,7 @@ IsProper (Patron name) = IsProperName name.now
 IsProper (Shelf name) = IsProperName name.now
 IsProper (Transit name) = IsProperName name.now
 IsProper Overdue = ⊤
+IsProper Expired = ⊤
 IsProper Turns = ⊤
 IsProper (Command digits) = IsProperName digits.now
 
@@ -37,5 +38,6 @@ place_text (Patron name) = codes "/api/patrons/" ++ (name.now ++ codes "")
 place_text (Shelf name) = codes "/api/branches/" ++ (name.now ++ codes "/shelf")
 place_text (Transit name) = codes "/api/branches/" ++ (name.now ++ codes "/transit")
 place_text Overdue = codes "/api/overdue"
+place_text Expired = codes "/api/expired"
 place_text Turns = codes "/api/turns"
 place_text (Command digits) = codes "/api/commands/" ++ (digits.now ++ codes "")

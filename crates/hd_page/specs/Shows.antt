@@ -3,13 +3,14 @@ use Rattle.std.specs.Prelude.{◌≡◌, ◌≢◌, ℕ, List, Option, Some, Non
 use Rattle.percent_encoding.specs.Percent.{percent_decode}
 use Rattle.hd_page.specs.declared.place.Place.{Place}
 use Rattle.hd_page.specs.declared.place.Place.TheVariants.{Home, Health, Metrics, Copy, Queue, Patron, Shelf}
-use Rattle.hd_page.specs.declared.place.Place.TheVariants.{Transit, Overdue, Turns, Command}
+use Rattle.hd_page.specs.declared.place.Place.TheVariants.{Transit, Overdue, Expired, Turns, Command}
 use Rattle.hd_page.specs.declared.state.State.{State}
+use Rattle.hd_page.specs.declared.view.Dated.{Dated}
 use Rattle.hd_page.specs.declared.view.Named.{Named}
 use Rattle.hd_page.specs.Answers.{fault_answer, health_answer, metrics_answer, page_answer, rows_answer}
 use Rattle.hd_page.specs.Answers.{bad_request, not_found}
 use Rattle.hd_page.specs.Cuts.{before_mark, behind_mark}
-use Rattle.hd_page.specs.Names.{a_copy, a_queue, a_patron, a_shelf, a_transit}
+use Rattle.hd_page.specs.Names.{a_copy, a_queue, a_patron, a_shelf, a_transit, overdue_loans, expired_holds}
 use Rattle.hd_page.specs.Numbers.{number_in}
 use Rattle.hd_page.specs.Places.{IsProper, place_text}
 use Rattle.hd_page.specs.Queries.{after_alone, after_and_limit, day_and_after, words_in}
@@ -44,9 +45,9 @@ abbrev pub name_asked : Named → List ℕ → Option (List ℕ) → Option Aske
 name_asked kind name query =
     option_map (λ after. NameAsked kind (percent_decode name) after) (after_alone (words_in query))
 
--- what is asked of overdue loans by a query
-abbrev pub day_asked : Option (List ℕ) → Option Asked
-day_asked query = option_map (λ asked. DayAsked asked.0 asked.1) (day_and_after (words_in query))
+-- what is asked by the day of a query
+abbrev pub day_asked : Dated → Option (List ℕ) → Option Asked
+day_asked kind query = option_map (λ asked. DayAsked kind asked.0 asked.1) (day_and_after (words_in query))
 
 -- what is asked of the turns by a query
 abbrev pub turns_asked : Option (List ℕ) → Option Asked
@@ -74,7 +75,8 @@ Shows s (Queue name) query a = AnswersAsked s.shows (name_asked a_queue name.now
 Shows s (Patron name) query a = AnswersAsked s.shows (name_asked a_patron name.now query) a
 Shows s (Shelf name) query a = AnswersAsked s.shows (name_asked a_shelf name.now query) a
 Shows s (Transit name) query a = AnswersAsked s.shows (name_asked a_transit name.now query) a
-Shows s Overdue query a = AnswersAsked s.shows (day_asked query) a
+Shows s Overdue query a = AnswersAsked s.shows (day_asked overdue_loans query) a
+Shows s Expired query a = AnswersAsked s.shows (day_asked expired_holds query) a
 Shows s Turns query a = AnswersAsked s.shows (turns_asked query) a
 Shows s (Command digits) query a = AnswersAsked s.shows (number_asked digits.now query) a
 

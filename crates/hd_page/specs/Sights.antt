@@ -1,18 +1,19 @@
 -- What is asked of a view, and what may be seen.
 use Rattle.std.specs.Prelude.{◌≡◌, ℕ, List, ◌++◌, Result, Ok, Err}
 use Rattle.hd_json.specs.Texts.{Member, array_text}
+use Rattle.hd_page.specs.declared.view.Dated.{Dated}
 use Rattle.hd_page.specs.declared.view.Named.{Named}
 use Rattle.hd_page.specs.declared.view.Inquiry.{Inquiry}
-use Rattle.hd_page.specs.declared.view.Inquiry.TheVariants.{ByName, Overdue, Turns, Command}
+use Rattle.hd_page.specs.declared.view.Inquiry.TheVariants.{ByName, ByDay, Turns, Command}
 use Rattle.hd_page.specs.declared.view.Outcome.{Outcome}
 use Rattle.hd_page.specs.declared.view.Outcome.TheVariants.{Written, Unknown, Refused}
 use Rattle.hd_page.specs.declared.view.ViewFault.{ViewFault}
 
--- what is asked: what there is under a name, what is overdue on a day, the turns after so many, the command
--- of a number
+-- what is asked: what there is under a name, what there is by a day, the turns after so many, the command of a
+-- number
 pub data Asked : Type 0 where
   NameAsked : Named → List ℕ → ℕ → Asked
-  DayAsked : List ℕ → ℕ → Asked
+  DayAsked : Dated → List ℕ → ℕ → Asked
   TurnsAsked : ℕ → ℕ → Asked
   NumberAsked : ℕ → Asked
 
@@ -27,7 +28,7 @@ pub data Sight : Type 0 where
 -- what is asked by an inquiry
 abbrev pub asked_of : Inquiry → Asked
 asked_of (ByName kind name after) = NameAsked kind name.now after
-asked_of (Overdue day after) = DayAsked day.now after
+asked_of (ByDay kind day after) = DayAsked kind day.now after
 asked_of (Turns after limit) = TurnsAsked after limit
 asked_of (Command number) = NumberAsked number
 

@@ -23,4 +23,4 @@ pub use crate::place::{Place, place_of};
 pub use crate::query::MOST_TURNS;
 pub use crate::reply::{FIXED, Media, Method, Status};
 pub use crate::state::{Health, JournalCounts, State, Tally, Turns};
-pub use crate::view::{Inquiry, Named, Outcome, View, ViewFault};
+pub use crate::view::{Dated, Inquiry, Named, Outcome, View, ViewFault};

@@ -81,10 +81,6 @@ fn write_state(out: &mut Vec<u8>, state: &State) -> Result<(), AllocError>
             value: state.journal.map(|j| j.turns),
         },
         Gauge {
-            name: b"holddesk_journal_survivors",
-            value: state.journal.and_then(|j| j.survivors),
-        },
-        Gauge {
             name: b"holddesk_last_number",
             value: state.journal.map(|j| j.last_number),
         },

@@ -27,6 +27,8 @@ pub enum Place<'a> {
     Transit(&'a [u8]),
     /// `/api/overdue`
     Overdue,
+    /// `/api/expired`
+    Expired,
     /// `/api/turns`
     Turns,
     /// `/api/commands/N`
@@ -73,6 +75,9 @@ pub fn place_of(path: &[u8]) -> Option<Place<'_>>
     }
     if path == b"/api/overdue".as_slice() {
         return Some(Place::Overdue);
+    }
+    if path == b"/api/expired".as_slice() {
+        return Some(Place::Expired);
     }
     if path == b"/api/turns".as_slice() {
         return Some(Place::Turns);

@@ -15,7 +15,7 @@ use crate::place::{Place, place_of};
 use crate::query::{after_alone, after_and_limit, day_and_after};
 use crate::reply::{Media, Reply, Status, refuse, say};
 use crate::state::{Health, State};
-use crate::view::{Inquiry, Named, Outcome, View, ViewFault};
+use crate::view::{Dated, Inquiry, Named, Outcome, View, ViewFault};
 use percent_encoding::percent_decode;
 use std::alloc::{AllocError, Global};
 
@@ -70,13 +70,18 @@ fn show_name<V: View>(
     show_asked(alloc, view, &inquiry)
 }
 
-/// What is overdue on a day.
-fn show_overdue<V: View>(alloc: Global, view: &V, query: Option<&[u8]>) -> Result<Reply, AllocError>
+/// What there is by a day.
+fn show_day<V: View>(
+    alloc: Global,
+    view: &V,
+    kind: Dated,
+    query: Option<&[u8]>,
+) -> Result<Reply, AllocError>
     ensures { IfOk result (λ r. AnswersAsked (V.shows view.now)
-        (day_asked (option_map (λ q. q.now) query.entry)) (seen r)) }
+        (day_asked kind (option_map (λ q. q.now) query.entry)) (seen r)) }
 {
     match day_and_after(query) {
-        Some((day, after)) => show_asked(alloc, view, &Inquiry::Overdue { day, after }),
+        Some((day, after)) => show_asked(alloc, view, &Inquiry::ByDay { kind, day, after }),
         None => refuse(alloc, Status::BadRequest),
     }
 }
@@ -167,7 +172,8 @@ fn show<V: View>(
         Place::Patron(name) => show_name(alloc, view, Named::Patron, name, query),
         Place::Shelf(name) => show_name(alloc, view, Named::Shelf, name, query),
         Place::Transit(name) => show_name(alloc, view, Named::Transit, name, query),
-        Place::Overdue => show_overdue(alloc, view, query),
+        Place::Overdue => show_day(alloc, view, Dated::Overdue, query),
+        Place::Expired => show_day(alloc, view, Dated::Expired, query),
         Place::Turns => show_turns(alloc, view, query),
         Place::Command(digits) => show_command(alloc, view, digits, query),
     }

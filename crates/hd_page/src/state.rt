@@ -50,8 +50,6 @@ pub struct Turns {
 pub struct JournalCounts {
     /// Its turns.
     pub turns: u64,
-    /// The commands that were accepted and not cancelled, where they are counted.
-    pub survivors: Option<u64>,
     /// The last number that was given.
     pub last_number: u64,
     /// How many more can be given.

@@ -19,6 +19,15 @@ pub enum Named {
     Transit,
 }
 
+/// What is looked up by a day.
+#[derive(Clone, Copy, Debug, PartialEq, Eq)]
+pub enum Dated {
+    /// The loans that were due before it.
+    Overdue,
+    /// The holds whose last day was before it.
+    Expired,
+}
+
 /// What is asked of a view. `after` is where a page begins: 0, or what the last row of the page before gave
 /// as `next`.
 #[derive(Clone, Copy, Debug, PartialEq, Eq)]
@@ -29,8 +38,9 @@ pub enum Inquiry<'a> {
         name: &'a [u8],
         after: u64,
     },
-    /// The copies whose loans are due before this day, which is any bytes: a day is `YYYY-MM-DD`.
-    Overdue {
+    /// What there is by a day, which is any bytes: a day is `YYYY-MM-DD`.
+    ByDay {
+        kind: Dated,
         day: &'a [u8],
         after: u64,
     },

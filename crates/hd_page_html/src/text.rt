@@ -65,6 +65,7 @@ thead th { font-weight: 500; font-size: .875rem; white-space: nowrap; }
 <option value=\"branches/*/shelf\">A branch: what lies to be fetched</option>
 <option value=\"branches/*/transit\">A branch: what is on the way there</option>
 <option value=\"overdue?day=*\">A day: what is overdue</option>
+<option value=\"expired?day=*\">A day: holds past their last day</option>
 <option value=\"turns?day=*\">A day: what came in</option>
 <option value=\"commands/*\">A command: would a cancellation be refused?</option>
 </select></label>
@@ -94,7 +95,7 @@ const PAGE = 512, FEW = 50, MOST_PAGES = 100;
 let last = FEW;
 const KINDS = [
   'copies/[^/?]+', 'titles/[^/?]+/queue', 'patrons/[^/?]+', 'branches/[^/?]+/shelf',
-  'branches/[^/?]+/transit', '(overdue|turns)[?]day=[^&]+', 'commands/[0-9]+',
+  'branches/[^/?]+/transit', '(overdue|expired|turns)[?]day=[^&]+', 'commands/[0-9]+',
 ].map(form => new RegExp('^' + form + '$'));
 const LABELS = {
   command: 'Command', dependent: 'First that depends on it', due: 'Due', only: 'Only this copy',
@@ -111,7 +112,6 @@ const LINKS = {
 };
 const STATE = [
   ['holddesk_journal_turns', 'Turns'],
-  ['holddesk_journal_survivors', 'Commands that stand'],
   ['holddesk_numbers_left', 'Numbers left'],
   ['holddesk_connections', 'Terminals connected'],
   ['holddesk_workers_busy', 'Workers busy'],
@@ -372,7 +372,7 @@ setInterval(refresh, 10000);
 
 /// What a browser may load and run for it: its own style and script, by their sums, and nothing else.
 pub(crate) const POLICY: &[u8] = b"default-src 'none'; \
-    script-src 'sha256-romFIZmuWMUyYH0IPwvxmHJIBigGW0gkXC291NKBpa8='; \
+    script-src 'sha256-j8JaRm9hdFUsDI+fEO7bKzbuOf4+jukXDzNFSNt63xU='; \
     style-src 'sha256-ks1hDWVwQIMjMtSfAgpzgU4Fgj+RQjHA7Foas3NWu0A='; \
     connect-src 'self'; \
     base-uri 'none'; \

@@ -5,7 +5,6 @@ ghost use Rattle.std.specs.Prelude.{drop, vec_len};
 ghost use Rattle.std.specs.Io.KnownBytes.{Appends};
 ghost use Rattle.hd_connection.specs.Streams.{streams};
 ghost use Rattle.hd_exchange.specs.Extensions.{extensions_lent, no_extensions};
-ghost use Rattle.hd_journal.specs.Books.{IsLegalBook};
 ghost use Rattle.hd_replay.specs.Ends.{IsReplayOf, ReadsAndWrites, ReplaysOver};
 ghost use Rattle.hd_replay.specs.Inputs.{AreLines, with_rest};
 ghost use Rattle.hd_replay.specs.Reasons.{HasReason};
@@ -76,44 +75,41 @@ pub fn replay_in<A: Allocator + Copy, R: Input, W: Output>(
 {
     match Catalogue::read(alloc, catalogue) {
         Ok(catalogue) => match hd_date::read(now, catalogue.offset()) {
-            Ok(now) => {
-                let extensions = no_extensions();
-                replay_over(rt, alloc, catalogue, now, Some(&extensions), from, to)
-            }
+            Ok(now) => replay_catalogue(rt, alloc, catalogue, now, from, to),
             Err(_) => Err(ReplayFault::BadNow),
         },
         Err(fault) => Err(ReplayFault::Catalogue(fault)),
     }
 }
 
-/// The same over a catalogue, at a present. The journal begins with the catalogue's rows, and each session
-/// has these extensions, if any.
-///
-/// # Errors
-/// Those of `replay`, but `Catalogue` and `BadNow`. `Memory` stands also for rows with which no journal
-/// begins: `hd_journal::open` says which.
-pub fn replay_over<A: Allocator + Copy, R: Input, W: Output>(
+/// Answers the messages over the catalogue of a file, at a present. No journal begins only where it is out
+/// of memory: such a catalogue has no opening rows.
+fn replay_catalogue<A: Allocator + Copy, R: Input, W: Output>(
     rt: &HostRuntime,
     alloc: A,
     catalogue: Catalogue<A>,
     now: Stamp18,
-    extensions: Option<&Extensions<A>>,
     from: &mut R,
     to: &mut W,
 ) -> Result<(), ReplayFault>
-    ensures replay { ReplaysOver catalogue (extensions_lent extensions.entry) now
+    ensures replay { ReplaysOver catalogue no_extensions now
         (streams (R.remaining from.old) (R.remaining from.new) (W.contents to.old) (W.contents to.new))
         result }
     ensures why { IfErr result (HasReason (R.fails from.new) (W.fails to.new)) }
 {
+    let extensions = no_extensions();
     match hd_journal::open(alloc, Meter::new(rt), catalogue) {
-        Ok(journal) => replay_at(alloc, journal, now, extensions, from, to),
+        Ok(journal) => replay_over(alloc, journal, now, Some(&extensions), from, to),
         Err(_) => Err(ReplayFault::Memory),
     }
 }
 
-/// The same at a journal without turns.
-fn replay_at<A: Allocator + Copy, R: Input, W: Output>(
+/// Answers the messages that a reader gives from a journal without turns, at a present, and writes the
+/// replies. Each session has these extensions, if any.
+///
+/// # Errors
+/// Those of `replay`, but `Catalogue` and `BadNow`.
+pub fn replay_over<A: Allocator + Copy, R: Input, W: Output>(
     alloc: A,
     journal: Journal<A>,
     now: Stamp18,
@@ -122,12 +118,12 @@ fn replay_at<A: Allocator + Copy, R: Input, W: Output>(
     to: &mut W,
 ) -> Result<(), ReplayFault>
     requires new { journal.turns ≡ [] }
-    requires legal { IsLegalBook journal.contents journal.turns }
     ensures replay { ReplaysOver journal.contents (extensions_lent extensions.entry) now
         (streams (R.remaining from.old) (R.remaining from.new) (W.contents to.old) (W.contents to.new))
         result }
     ensures why { IfErr result (HasReason (R.fails from.new) (W.fails to.new)) }
 {
+    prove!(journal.front() == 0);
     let mut sessions = Sessions::new(alloc, journal, now, extensions)?;
     answer_input(alloc, &mut sessions, from, to)
 }

@@ -1,5 +1,5 @@
 -- Terminals whose clock is off: messages whose day lies too far from the server's.
-use Rattle.std.specs.Prelude.{◌≡◌, ◌<◌, ◌≤◌, ℕ, ◌+◌, ◌-◌, ℤ, List, Option, None, Some, Result, Ok, Err}
+use Rattle.std.specs.Prelude.{◌≡◌, ◌≢◌, ◌<◌, ◌≤◌, ℕ, ◌+◌, ◌-◌, ℤ, List, Option, None, Some, Result, Ok, Err}
 use Rattle.std.specs.Option.{option_copied}
 use Rattle.hd_date.specs.Stamps.{IsStamp, Stamp}
 use Rattle.hd_message.specs.declared.patron_reading.Reading.{Reading}
@@ -11,6 +11,9 @@ use Rattle.hd_message.specs.declared.patron_request.PatronRequest.TheVariants as
 use Rattle.hd_message.specs.declared.patron_request.UnreadablePatron.{UnreadablePatron}
 use Rattle.hd_message.specs.declared.unreadable.Unreadable.{Unreadable}
 use Rattle.hd_message.specs.declared.unreadable.Unreadable.TheVariants as Unread
+use Rattle.hd_message.specs.PatronReading.{IsReading}
+use Rattle.hd_serve.specs.declared.day_watch.DayWatch.{DayWatch}
+use Rattle.hd_serve.specs.declared.day_watch.OffDay.{OffDay}
 
 -- the transaction date of a request: a login, a status message, a request for the last reply, and what isn't
 -- read have none
@@ -62,3 +65,13 @@ IsOff most offset today date days =
 abbrev pub IsNear : ℕ → ℤ → ℕ → List ℕ → Type 0
 IsNear most offset today date =
     (stamp : Stamp) → IsStamp date offset stamp → days_apart today stamp.day ≤ most
+
+-- What is told of a message on a day of which nothing was told: its date, which is off on that day.
+pub record IsOffMessage (watch : DayWatch) (body : List ℕ) (today : ℕ) (off : OffDay) : Type 0 where
+  pub most : ℕ
+  pub looked : watch.most ≡ Some most
+  pub reading : Reading
+  pub read : IsReading watch.profile body reading
+  pub dated : date_read reading ≡ Some off.date.now
+  pub is_off : IsOff most watch.offset today off.date.now off.days
+  pub news : watch.told ≢ Some today

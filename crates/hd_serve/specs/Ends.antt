@@ -1,6 +1,6 @@
 -- What ends a server and its connections.
-use Rattle.std.specs.Prelude.{◌≡◌, ◌⊎◌, ℕ, ◌-◌, ◌/◌, ◌≤◌, Bool, true, false, Option, Some, None}
-use Rattle.std.specs.Prelude.{Result, Ok, Err}
+use Rattle.std.specs.Prelude.{◌≡◌, ◌⊎◌, ◌||◌, ℕ, ◌-◌, ◌/◌, ◌≤◌, Bool, true, false, Option, Some, None}
+use Rattle.std.specs.Prelude.{Result, Ok, Err, is_some}
 use Rattle.hd_journal.specs.declared.fault.TurnFault.{TurnFault}
 use Rattle.hd_journal.specs.declared.fault.TurnFault.TheVariants as turn
 use Rattle.hd_journal.specs.declared.fault.WriteFault.{WriteFault}
@@ -11,6 +11,7 @@ use Rattle.hd_log.specs.declared.event.End.{End}
 use Rattle.hd_log.specs.declared.event.End.TheVariants as told
 use Rattle.hd_serve.specs.declared.fault.ServeFault.{ServeFault}
 use Rattle.hd_serve.specs.declared.fault.ServeFault.TheVariants.{NotClosed, Unwritten}
+use Rattle.hd_serve.specs.declared.standing.Course.{Course}
 
 -- a connection ends the server where a turn of it couldn't be written, and for no other reason
 abbrev pub stop_of : Result (Unit {0}) AttendFault → Option WriteFault
@@ -23,16 +24,26 @@ end_of_turn turn.Memory = told.Memory
 end_of_turn (turn.Unwritten why) = told.Unwritten
 end_of_turn fault = told.Estranged
 
--- What is told of why a connection ended, whose last read waited for too long or not, at a server that was
--- asked to end or wasn't.
-abbrev pub end_of : Result (Unit {0}) AttendFault → Bool → Bool → End
-end_of (Ok _) idle true = told.Stop
-end_of (Ok _) idle false = told.Peer
-end_of (Err connection.Read) true asked = told.Idle
-end_of (Err connection.Read) false asked = told.Read
-end_of (Err connection.Write) idle asked = told.Write
-end_of (Err (connection.Ended session.TooLong)) idle asked = told.LongLine
-end_of (Err (connection.Ended (session.Turn fault))) idle asked = end_of_turn fault
+-- a server is to end where it was asked to, or its journal can't be written
+abbrev pub is_to_end : Course → Bool
+is_to_end course = course.is_asked || is_some course.unwritten
+
+-- What is told of why a connection ended of which no more came: its server's journal can't be written, or
+-- else it was asked to end, or else the other side ended it.
+abbrev pub end_on : Option WriteFault → Bool → End
+end_on (Some why) asked = told.Unwritten
+end_on None true = told.Stop
+end_on None false = told.Peer
+
+-- What is told of why a connection ended, whose last read waited for too long or not, at a server on this
+-- course.
+abbrev pub end_of : Result (Unit {0}) AttendFault → Bool → Course → End
+end_of (Ok _) idle course = end_on course.unwritten course.is_asked
+end_of (Err connection.Read) true course = told.Idle
+end_of (Err connection.Read) false course = told.Read
+end_of (Err connection.Write) idle course = told.Write
+end_of (Err (connection.Ended session.TooLong)) idle course = told.LongLine
+end_of (Err (connection.Ended (session.Turn fault))) idle course = end_of_turn fault
 
 -- nine tenths of so many numbers have been given, of which this is the last
 abbrev pub AreFew : ℕ → ℕ → Type 0

@@ -115,8 +115,7 @@ impl<'a, R: Wait + Clock, O: Observer> Reception<'a, R, O> {
 
     /// Tells why no connection could be accepted, unless the server is to end, which shuts the port.
     fn tell_failed(&self, error: &io::Error, failed: u32) {
-        let course = self.standing.course(self.rt);
-        if course.is_asked || course.unwritten.is_some() {
+        if self.standing.course(self.rt).is_to_end() {
             return;
         }
         if let Ok(why) = format!(in self.alloc; "{error}") {
@@ -147,8 +146,9 @@ impl<'a, R: Wait + Clock, O: Observer> Reception<'a, R, O> {
 
     /// Tells that a connection is closed at once: the server is to end, or there is no room for it.
     fn tell_closed(&self, speaker: &Speaker<'_, O>, address: &[u8]) {
-        let why = if self.standing.course(self.rt).is_asked {
-            End::Stop
+        let course = self.standing.course(self.rt);
+        let why = if course.is_to_end() {
+            course.end()
         } else {
             End::Memory
         };

@@ -10,6 +10,9 @@ use std::io::{self, Write};
 /// What ends a reply.
 const CARRIAGE_RETURN: u8 = b'\r';
 
+/// What a reply begins with that requests the line again.
+const RESEND: &[u8] = b"96";
+
 /// A writer before another, which tells the replies that go by it, and counts them. What the other is given
 /// is what it is given.
 ///
@@ -22,6 +25,8 @@ pub(crate) struct Answering<'a, W, O: Observer> {
     /// How many bytes that were offered, and told, haven't been taken.
     ahead: usize,
     replies: u64,
+    /// Whether it was told that a line was requested again.
+    is_told: bool,
 }
 
 impl<'a, W: Output, O: Observer> Answering<'a, W, O> {
@@ -34,6 +39,7 @@ impl<'a, W: Output, O: Observer> Answering<'a, W, O> {
             speaker,
             ahead: 0,
             replies: 0,
+            is_told: false,
         }
     }
 
@@ -50,7 +56,7 @@ impl<'a, W: Output, O: Observer> Answering<'a, W, O> {
         ensures ahead { self.new.ahead ≡ length bytes.now }
     {
         let (_, fresh) = bytes.split_at(self.ahead.min(bytes.len()));
-        let replies = tell_replies(self.speaker, fresh);
+        let replies = tell_replies(self.speaker, fresh, &mut self.is_told);
         self.replies = self.replies.saturating_add(replies);
         self.ahead = bytes.len();
     }
@@ -81,13 +87,17 @@ impl<'a, W: Output, O: Observer> Output for Answering<'a, W, O> {
     }
 }
 
-/// Tells the replies among these bytes: how many they are.
-fn tell_replies<O: Observer>(speaker: &Speaker<'_, O>, bytes: &[u8]) -> u64 {
+/// Tells the replies among these bytes, and once that a line was requested again: how many they are.
+fn tell_replies<O: Observer>(speaker: &Speaker<'_, O>, bytes: &[u8], is_told: &mut bool) -> u64 {
     let mut replies = 0u64;
     for reply in bytes.split_inclusive(|byte| *byte == CARRIAGE_RETURN) {
         if let Some(text) = reply.strip_suffix(&[CARRIAGE_RETURN]) {
             replies = replies.saturating_add(1);
             speaker.tell(ConnectionEvent::Reply { text });
+            if !*is_told && text.starts_with(RESEND) {
+                speaker.tell(ConnectionEvent::ResendRequested);
+                *is_told = true;
+            }
         }
     }
     replies

@@ -1,8 +1,8 @@
 //! Terminals whose clock is off: seeing whether the day of a message is the server's.
-ghost use Rattle.std.specs.Prelude.{◌≡◌, ◌≢◌, ◌↔◌, IfNone, IfSome, IsTrue, None, Some};
+ghost use Rattle.std.specs.Prelude.{◌≡◌, ◌≢◌, ◌↔◌, ℕ, IfNone, IfSome, IsTrue, None, Some};
 ghost use Rattle.std.specs.Option.{option_copied};
-ghost use Rattle.hd_serve.specs.Days.{IsNear, IsOff, card_date, date_read, days_apart, patron_date};
-ghost use Rattle.hd_serve.specs.Days.{request_date, standard_date, unreadable_date};
+ghost use Rattle.hd_serve.specs.Days.{IsNear, IsOff, IsOffMessage, card_date, date_read, days_apart};
+ghost use Rattle.hd_serve.specs.Days.{patron_date, request_date, standard_date, unreadable_date};
 
 use crate::clock::present;
 use hd_date::{Day, OffsetMinutes, texts_show_one_stamp};
@@ -36,7 +36,10 @@ pub(crate) struct DayWatch {
 impl DayWatch {
     /// What is to be told of the body of a message: nothing where its day isn't off, or where it was told of
     /// an earlier one today. The clock is asked where days are looked at, and the message has a date.
-    pub(crate) fn see<'l, R: Clock>(&mut self, clock: &R, body: &'l [u8]) -> Option<OffDay<'l>> {
+    pub(crate) fn see<'l, R: Clock>(&mut self, clock: &R, body: &'l [u8]) -> Option<OffDay<'l>>
+        ensures off { IfSome result (λ off. (today : ℕ) × (self.new.told ≡ Some today)
+            × IsOffMessage self.old body.now today off) }
+    {
         let most = self.most?;
         let date = date_read(&read_with(self.profile, body))?;
         let today = present(&|| clock.since_1970(), self.offset).day();

@@ -15,8 +15,8 @@ pub enum ServeFault {
     /// The journal isn't the one that the receipts of the connections are of.
     #[error("not closed")]
     NotClosed,
-    /// The keeper of the journal failed to write a turn, for this reason. Those that were answered stay
-    /// written.
+    /// The keeper of the journal failed to write a turn, for this reason, and every connection was ended. The
+    /// turns that were answered stay written.
     #[error("the journal can't be written: {0}")]
     Unwritten(WriteFault),
     /// No thread could be had at the start. Nothing was served.

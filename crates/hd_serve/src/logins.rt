@@ -1,8 +1,9 @@
 //! Which logins are taken, as it is told.
 ghost use Rattle.std.specs.Prelude.{◌≡◌, ◌<◌, ◌≤◌, [], IfNone, IfSome, IsFalse, IsTrue, Some};
 ghost use Rattle.hd_catalogue.specs.Contents.{facts_of, terminal_name};
-ghost use Rattle.hd_serve.specs.Logins.{HasTerminal, IsNamed, IsToldOf, IsToldOfBody, IsWhy};
-ghost use Rattle.hd_serve.specs.Logins.{IsWhyUnknown};
+ghost use Rattle.hd_guard.specs.Trailer.{IsWrong};
+ghost use Rattle.hd_serve.specs.Logins.{HasTerminal, IsBody, IsNamed, IsNoLogin, IsToldOf, IsToldOfBody};
+ghost use Rattle.hd_serve.specs.Logins.{IsWhy, IsWhyUnknown};
 
 use hd_catalogue::Catalogue;
 use hd_guard::{Guarded, trailer};
@@ -10,9 +11,10 @@ use hd_log::{ConnectionEvent, Refused};
 use hd_message::{LoginRequest, Request, Unreadable, read};
 use hd_rules::TerminalNo;
 
-/// The login that the body of a message is, and whether it is taken; nothing where it is none.
+/// The login that the body of a message is, and whether it is taken; nothing where it is another message.
 pub(crate) fn login_in<'a>(catalogue: &Catalogue, body: &'a [u8]) -> Option<ConnectionEvent<'a>>
-    ensures { IfSome result (IsToldOfBody catalogue.now body.now) }
+    ensures login { IfSome result (IsToldOfBody catalogue.now body.now) }
+    ensures other { IfNone result (IsNoLogin body.now) }
 {
     match read(body) {
         Ok(Request::Login(request)) => Some(login_told(catalogue, &request)),
@@ -25,7 +27,10 @@ pub(crate) fn login_in<'a>(catalogue: &Catalogue, body: &'a [u8]) -> Option<Conn
 }
 
 /// A line without its trailer, unless that is wrong.
-pub(crate) fn body_of(line: &[u8]) -> Option<&[u8]> {
+pub(crate) fn body_of(line: &[u8]) -> Option<&[u8]>
+    ensures body { IfSome result (λ body. IsBody line.now body.now) }
+    ensures wrong { IfNone result (IsWrong line.now) }
+{
     match trailer(line) {
         Guarded::Plain { body } | Guarded::Checked { body, .. } => Some(body),
         Guarded::Wrong => None,

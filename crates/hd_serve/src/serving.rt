@@ -37,9 +37,9 @@ use std::time::Clock;
 /// # Errors
 /// `CannotListen` where a connection can't be accepted: those that run are served to their end, and the hall
 /// is closed. `Unwritten`, with the reason, where the keeper fails to write a turn: no more connections are
-/// accepted, those that run end at their next turn or their end, and the hall is closed. `NotClosed` where
-/// the hall doesn't close. `NoThread` where no thread can be had, and `Memory` where the start is out of
-/// memory: nothing was served then.
+/// accepted, those that run end at their next turn or their next read, and the hall is closed. `NotClosed`
+/// where the hall doesn't close. `NoThread` where no thread can be had, and `Memory` where the start is out
+/// of memory: nothing was served then.
 pub fn serve<
     R: Threads + Wait + Clock + Sync,
     G: Gate,

@@ -2,10 +2,11 @@
 //! are left.
 ghost use Rattle.std.specs.Prelude.{◌≡◌, ◌+◌, ◌<◌, ◌≤◌, None, Some, IfNone, IfSome, IsTrue, OnSome, not};
 ghost use Rattle.std.specs.Prelude.{length, slice_get, slice_set, true};
-ghost use Rattle.hd_serve.specs.Ends.{first_reason};
+ghost use Rattle.hd_serve.specs.Ends.{end_on, first_reason, is_to_end};
 ghost use Rattle.hd_serve.specs.Places.{taken};
 
 use hd_journal::WriteFault;
+use hd_log::End;
 use std::alloc::Global;
 use std::io;
 use std::net::{Shutdown, TcpListener, TcpStream};
@@ -66,8 +67,9 @@ impl Standing {
     /// Has the server end: no more connections are accepted, a turn that is under way is answered, and each
     /// session ends at its next read.
     pub fn ask_to_end<R: Wait>(&self, rt: &R) {
-        self.note_and_hang_up(rt);
-        let _ = self.port.shutdown(Shutdown::Both);
+        let mut now = self.now.lock(rt);
+        now.course.ask();
+        self.hang_up(&now);
     }
 
     /// How many connections are open: those that are served, and those that wait for a worker.
@@ -85,11 +87,12 @@ impl Standing {
         self.now.lock(rt).is_full = true;
     }
 
-    /// Has no more connections served, since the journal can't be written for this reason, unless there was
-    /// one before. Whoever waits for one at the port is woken.
+    /// Has the server end as `ask_to_end` does, since the journal can't be written for this reason, unless
+    /// there was one before.
     pub(crate) fn end_unwritten<R: Wait>(&self, rt: &R, why: WriteFault) {
-        self.note(rt, why);
-        let _ = self.port.shutdown(Shutdown::Both);
+        let mut now = self.now.lock(rt);
+        now.course.note(why);
+        self.hang_up(&now);
     }
 
     /// Whether the server is to go on.
@@ -97,8 +100,8 @@ impl Standing {
         self.now.lock(rt).course
     }
 
-    /// Notes that a connection is open: the place that it has; nothing where the server has been asked to
-    /// end, or where no second handle can be had, or no memory.
+    /// Notes that a connection is open: the place that it has; nothing where the server is to end, or where
+    /// no second handle can be had, or no memory.
     pub(crate) fn enter<R: Wait>(&self, rt: &R, connection: &TcpStream) -> Option<usize> {
         let handle = connection.try_clone().ok()?;
         self.now.lock(rt).enter(handle)
@@ -114,18 +117,12 @@ impl Standing {
         self.now.lock(rt).is_news()
     }
 
-    /// Notes that the server was asked to end, and has nothing more read of any connection.
-    fn note_and_hang_up<R: Wait>(&self, rt: &R) {
-        let mut now = self.now.lock(rt);
-        now.course.ask();
+    /// Has nothing more read of any connection. Whoever waits for one at the port is woken.
+    fn hang_up(&self, now: &Now) {
         for handle in now.open.iter().flatten() {
             let _ = handle.shutdown(Shutdown::Read);
         }
-    }
-
-    /// Notes the reason, unless there was one before.
-    fn note<R: Wait>(&self, rt: &R, why: WriteFault) {
-        self.now.lock(rt).course.note(why);
+        let _ = self.port.shutdown(Shutdown::Both);
     }
 }
 
@@ -146,6 +143,26 @@ impl Course {
     {
         self.unwritten = Some(first_reason(self.unwritten, why));
     }
+
+    /// Whether the server is to end: it was asked to, or its journal can't be written.
+    pub(crate) fn is_to_end(self) -> bool
+        ensures { result ≡ is_to_end self }
+    {
+        self.is_asked || self.unwritten.is_some()
+    }
+
+    /// What is told of why a connection ended of which no more came.
+    pub(crate) fn end(self) -> End
+        ensures { result ≡ end_on self.unwritten self.is_asked }
+    {
+        if self.unwritten.is_some() {
+            End::Unwritten
+        } else if self.is_asked {
+            End::Stop
+        } else {
+            End::Peer
+        }
+    }
 }
 
 impl Now {
@@ -156,16 +173,16 @@ impl Now {
         self.open.iter().filter(|handle| handle.is_some()).count()
     }
 
-    /// Puts a handle at the first free place, unless the server has been asked to end: the place. There is
-    /// one connection more then; else they are as they were.
+    /// Puts a handle at the first free place, unless the server is to end: the place. There is one connection
+    /// more then; else they are as they were.
     fn enter(&mut self, handle: TcpStream) -> Option<usize>
         ensures place { IfSome result (λ place. slice_get self.new.open.items place ≡ Some (Some handle)) }
         ensures one_more { OnSome result (taken self.new.open.items ≡ taken self.old.open.items + 1) }
         ensures none { IfNone result (self.new.open.items ≡ self.old.open.items) }
-        ensures asked { IsTrue self.old.course.is_asked → result ≡ None }
+        ensures ending { IsTrue (is_to_end self.old.course) → result ≡ None }
         ensures course { self.new.course ≡ self.old.course }
     {
-        if self.course.is_asked {
+        if self.course.is_to_end() {
             return None;
         }
         match self.open.iter().position(Option::is_none) {

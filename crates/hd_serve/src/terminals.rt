@@ -16,6 +16,7 @@ use crate::worker::Service;
 use crossbeam_channel::{Sender, bounded};
 use hd_hall::{Hall, House, Keeper, Seat};
 use hd_journal::WriteFault;
+use hd_log::Event;
 use std::alloc::Global;
 use std::net::TcpListener;
 use std::sync::{Mutex, Wait};
@@ -126,7 +127,8 @@ pub fn serve_terminals<
     })
 }
 
-/// Starts the workers, hands them the connections, and returns when all are served.
+/// Starts the workers, hands them the connections, and returns when all are served. Where not all workers can
+/// be had, as many connections are served at once as were started.
 ///
 /// # Errors
 /// Those of the accepting; and `NoThread` where not one worker can be had. Nothing was served then.
@@ -144,25 +146,39 @@ fn serve_by<
     observer: &O,
 ) -> Result<(), ServeFault> {
     thread::scope(thread::scope_env(), rt, |scope| {
-        let mut has_worker = false;
+        let mut started = 0u32;
         for _ in 0..service.options.workers {
             if scope.spawn(|| service.work(rt, observer)).is_err() {
                 break;
             }
-            has_worker = true;
+            started = started.saturating_add(1);
         }
-        if !has_worker {
+        if started == 0 {
             return Err(ServeFault::NoThread);
         }
+        tell_few(observer, started, service.options.workers);
         let reception = Reception {
             rt,
             alloc: service.alloc,
             standing: service.standing,
-            options: service.options,
+            options: Options {
+                workers: started,
+                ..service.options
+            },
             observer,
             to,
             session: 0,
         };
         reception.accept(listener)
     })
+}
+
+/// Tells where fewer workers were started than there were to be.
+fn tell_few<O: Observer>(observer: &O, started: u32, wanted: u32) {
+    if started < wanted {
+        observer.tell(&Event::FewWorkers {
+            started: u64::from(started),
+            wanted: u64::from(wanted),
+        });
+    }
 }

@@ -14,7 +14,7 @@ use crate::options::Options;
 use crate::places::{Places, SeatWithShare};
 use crate::reading::Reading;
 use crate::speaking::Speaker;
-use crate::standing::Standing;
+use crate::standing::{Course, Standing};
 use crate::surroundings::ClockAndGate;
 use crossbeam_channel::Receiver;
 use hd_attend::{AttendFault, attend};
@@ -89,10 +89,10 @@ impl<'a, H: House, Q: Drop, K: Keeper<Global, Q> + Drop> Service<'a, H, Q, K> {
             connection,
         });
         self.standing.leave(rt, connection.place);
-        let is_asked = self.standing.course(rt).is_asked;
+        let course = self.standing.course(rt);
         speaker.tell(ConnectionEvent::Closed {
             address: connection.address.as_bytes(),
-            why: end_of(visited.ended, visited.is_idle, is_asked),
+            why: end_of(visited.ended, visited.is_idle, course),
             messages: visited.replies,
             seconds: seconds_since(rt, begin),
         });
@@ -131,7 +131,7 @@ impl<'a, H: House, Q: Drop, K: Keeper<Global, Q> + Drop> Service<'a, H, Q, K> {
     }
 
     /// How it went, and the seat, when the connection has ended. Why it ended makes no difference to the
-    /// others, but where the journal can't be written: then no more are served.
+    /// others, but where the journal can't be written: then the server is to end.
     fn attend_one<R: Wait + Clock, O: Gate + Observer>(
         &self,
         visit: &Visit<'_, R, O>,
@@ -255,14 +255,13 @@ fn stop_of(ended: Result<(), AttendFault>) -> Option<WriteFault>
     }
 }
 
-/// What is told of why a connection ended, whose last read waited for too long or not, at a server that was
-/// asked to end or wasn't.
-fn end_of(ended: Result<(), AttendFault>, is_idle: bool, is_asked: bool) -> End
-    ensures { result ≡ end_of ended is_idle is_asked }
+/// What is told of why a connection ended, whose last read waited for too long or not, at a server on this
+/// course.
+fn end_of(ended: Result<(), AttendFault>, is_idle: bool, course: Course) -> End
+    ensures { result ≡ end_of ended is_idle course }
 {
     match ended {
-        Ok(()) if is_asked => End::Stop,
-        Ok(()) => End::Peer,
+        Ok(()) => course.end(),
         Err(AttendFault::Read) if is_idle => End::Idle,
         Err(AttendFault::Read) => End::Read,
         Err(AttendFault::Write) => End::Write,

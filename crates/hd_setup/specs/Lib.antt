@@ -1,1 +1,4 @@
 pub mod Topics
+pub mod Libraries
+pub mod PatronsFiles
+pub mod Served

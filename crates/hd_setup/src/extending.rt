@@ -1,5 +1,6 @@
 //! What extends the standard messages.
-ghost use Rattle.std.specs.Prelude.{◌≡◌, ◌||◌, IfOk, is_some, option_and_then, true};
+ghost use Rattle.std.specs.Prelude.{◌≡◌, ◌||◌, IfOk, is_some, option_and_then};
+ghost use Rattle.hd_setup.specs.PatronsFiles.{AreOfFile, ArePatronsAt};
 
 use crate::fault::SetupFault;
 use crate::reading::read_file;
@@ -25,8 +26,8 @@ pub fn extensions_of(
 ) -> Result<Extensions, SetupFault>
     ensures kiosks { IfOk result (λ e. e.profile.patron_messages ≡ is_some order.now.kiosks) }
     ensures sorters { IfOk result (λ e. e.profile.sorter_fields ≡ order.now.has_sorter_fields) }
-    ensures patrons { IfOk result (λ e. is_some e.patrons
-        ≡ is_some (option_and_then (λ kiosks. kiosks.patrons) order.now.kiosks)) }
+    ensures patrons { IfOk result (λ e. ArePatronsAt catalogue.now
+        (option_and_then (λ kiosks. kiosks.patrons) order.now.kiosks) e.patrons) }
 {
     let profile = Profile {
         patron_messages: order.kiosks.is_some(),
@@ -38,7 +39,7 @@ pub fn extensions_of(
 
 /// The path of the patrons' file, where one is named.
 fn patrons_path<'a>(order: &Extended<'a>) -> Option<&'a str>
-    ensures { is_some result ≡ is_some (option_and_then (λ kiosks. kiosks.patrons) order.now.kiosks) }
+    ensures { result ≡ option_and_then (λ kiosks. kiosks.patrons) order.now.kiosks }
 {
     match order.kiosks {
         Some(kiosks) => kiosks.patrons,
@@ -55,7 +56,7 @@ fn patrons_at(
     path: Option<&str>,
     catalogue: &Catalogue,
 ) -> Result<Patrons, SetupFault>
-    ensures { IfOk result (λ patrons. is_some patrons ≡ is_some path.entry) }
+    ensures { IfOk result (ArePatronsAt catalogue.now path.entry) }
 {
     match path {
         Some(path) => read_patrons(rt, path, catalogue),
@@ -72,7 +73,7 @@ pub fn read_patrons(
     path: &str,
     catalogue: &Catalogue,
 ) -> Result<Patrons, SetupFault>
-    ensures { IfOk result (λ patrons. is_some patrons ≡ true) }
+    ensures { IfOk result (AreOfFile catalogue.now) }
 {
     let file = read_file(rt, "patrons", path)?;
     match Patrons::read(rt.alloc(), catalogue, file.as_slice()) {

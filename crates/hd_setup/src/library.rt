@@ -1,10 +1,9 @@
 //! A library, by its files.
-ghost use Rattle.std.specs.Prelude.{◌≡◌, ◌↔◌, [], IfNone, IfOk, IfSome, IsTrue, IsUtf8};
+ghost use Rattle.std.specs.Prelude.{◌≡◌, [], IfOk, IsTrue, None};
 ghost use Rattle.hd_catalogue.specs.Contents.{told_by};
-ghost use Rattle.hd_catalogue.specs.Files.{IsAccepted, lines_of};
-ghost use Rattle.hd_opening.specs.Files.{Tells};
-ghost use Rattle.hd_zone.specs.Moved.{IsReadAt};
-ghost use Rattle.sha2.specs.Sha256.{sha256};
+ghost use Rattle.hd_catalogue.specs.Files.{lines_of};
+ghost use Rattle.hd_setup.specs.Libraries.{IsOfCatalogue, IsOfFiles, IsOfSomeCatalogue, IsOpened};
+ghost use Rattle.hd_setup.specs.Libraries.{IsOpenedBy, SaysAt};
 
 use crate::fault::SetupFault;
 use crate::reading::read_file;
@@ -33,7 +32,9 @@ impl Library {
     ///
     /// # Errors
     /// A file can't be read, or is refused.
-    pub fn read(rt: &HostRuntime, files: &LibraryFiles<'_>) -> Result<Library, SetupFault> {
+    pub fn read(rt: &HostRuntime, files: &LibraryFiles<'_>) -> Result<Library, SetupFault>
+        ensures files { IfOk result (IsOfFiles None files.now.opening) }
+    {
         Library::read_at(rt, files, None)
     }
 
@@ -46,10 +47,10 @@ impl Library {
         rt: &HostRuntime,
         files: &LibraryFiles<'_>,
         offset: Option<OffsetMinutes>,
-    ) -> Result<Library, SetupFault> {
-        let file = read_file(rt, "catalogue", files.catalogue)?;
-        let library = Library::of_file(rt, file.as_slice(), offset)?;
-        drop(file);
+    ) -> Result<Library, SetupFault>
+        ensures files { IfOk result (IsOfFiles offset files.now.opening) }
+    {
+        let library = Library::of_path(rt, files.catalogue, offset)?;
         match files.opening {
             Some(path) => library.opened(rt, path),
             None => Ok(library),
@@ -60,8 +61,26 @@ impl Library {
     ///
     /// # Errors
     /// Those of `read`, and that the catalogue is no text.
-    pub fn read_text(rt: &HostRuntime, files: &LibraryFiles<'_>) -> Result<Library, SetupFault> {
+    pub fn read_text(rt: &HostRuntime, files: &LibraryFiles<'_>) -> Result<Library, SetupFault>
+        ensures files { IfOk result (IsOfFiles None files.now.opening) }
+        ensures text { IfOk result (λ library. IsTrue library.is_text) }
+    {
         Library::read(rt, files)?.with_text()
+    }
+
+    /// The library of the catalogue file at a path. It goes by this offset, where there is one.
+    ///
+    /// # Errors
+    /// The file can't be read, or is refused.
+    fn of_path(
+        rt: &HostRuntime,
+        path: &str,
+        offset: Option<OffsetMinutes>,
+    ) -> Result<Library, SetupFault>
+        ensures { IfOk result (IsOfSomeCatalogue offset) }
+    {
+        let file = read_file(rt, "catalogue", path)?;
+        Library::of_file(rt, file.as_slice(), offset)
     }
 
     /// The library of a catalogue file with these bytes.
@@ -69,14 +88,12 @@ impl Library {
     /// # Errors
     /// It is refused.
     pub fn of_catalogue(rt: &HostRuntime, file: &[u8]) -> Result<Library, SetupFault>
-        ensures says { IfOk result (λ library. IsAccepted (lines_of file.now) library.catalogue) }
-        ensures digest { IfOk result (λ library. library.digest ≡ sha256 file.now) }
-        ensures text { IfOk result (λ library. IsTrue library.is_text ↔ IsUtf8 file.now) }
+        ensures { IfOk result (IsOfCatalogue None file.now) }
     {
         Library::of_file(rt, file, None)
     }
 
-    /// The same, where it goes by this offset, if there is one.
+    /// The library of a catalogue file with these bytes. It goes by this offset, where there is one.
     ///
     /// # Errors
     /// It is refused.
@@ -85,12 +102,7 @@ impl Library {
         file: &[u8],
         offset: Option<OffsetMinutes>,
     ) -> Result<Library, SetupFault>
-        ensures own { IfNone offset (IfOk result (λ library. IsAccepted (lines_of file.now)
-            library.catalogue)) }
-        ensures other { IfSome offset (λ offset. IfOk result (λ library. IsReadAt (lines_of file.now) offset
-            library.catalogue)) }
-        ensures digest { IfOk result (λ library. library.digest ≡ sha256 file.now) }
-        ensures text { IfOk result (λ library. IsTrue library.is_text ↔ IsUtf8 file.now) }
+        ensures { IfOk result (IsOfCatalogue offset file.now) }
     {
         Ok(Library {
             catalogue: catalogue_of(rt.alloc(), file, offset)?,
@@ -117,7 +129,9 @@ impl Library {
     ///
     /// # Errors
     /// The file can't be read, or is refused.
-    pub fn opened(self, rt: &HostRuntime, path: &str) -> Result<Library, SetupFault> {
+    pub fn opened(self, rt: &HostRuntime, path: &str) -> Result<Library, SetupFault>
+        ensures { IfOk result (IsOpened self) }
+    {
         let file = read_file(rt, "opening", path)?;
         self.opened_by(rt, file.as_slice())
     }
@@ -127,11 +141,7 @@ impl Library {
     /// # Errors
     /// It is refused.
     pub fn opened_by(self, rt: &HostRuntime, file: &[u8]) -> Result<Library, SetupFault>
-        ensures opening { IfOk result (λ library. Tells self.catalogue self.digest (lines_of file.now)
-            library.catalogue.opening) }
-        ensures rest { IfOk result (λ library. library.catalogue
-            ≡ record self.catalogue { opening = library.catalogue.opening }) }
-        ensures digest { IfOk result (λ library. library.digest ≡ sha256 file.now) }
+        ensures { IfOk result (IsOpenedBy self file.now) }
     {
         let opening = hd_opening::read(rt.alloc(), &self.catalogue, &self.digest, file)?;
         let Opening { rows, last } = opening;
@@ -146,6 +156,7 @@ impl Library {
     /// A row doesn't fit the catalogue.
     pub fn beginning_with(self, rows: Vec<OpeningRow>, last: u32) -> Result<Library, SetupFault>
         ensures digest { IfOk result (λ library. library.digest ≡ self.digest) }
+        ensures text { IfOk result (λ library. library.is_text ≡ self.is_text) }
         ensures says { IfOk result (λ library. library.catalogue
             ≡ record self.catalogue { opening = told_by rows.items last }) }
     {
@@ -184,8 +195,7 @@ fn catalogue_of(
     file: &[u8],
     offset: Option<OffsetMinutes>,
 ) -> Result<Catalogue, SetupFault>
-    ensures own { IfNone offset (IfOk result (λ k. IsAccepted (lines_of file.now) k)) }
-    ensures other { IfSome offset (λ offset. IfOk result (IsReadAt (lines_of file.now) offset)) }
+    ensures { IfOk result (SaysAt offset (lines_of file.now)) }
 {
     match offset {
         Some(offset) => Ok(read_at(alloc, file, offset)?),

@@ -6,6 +6,8 @@ use Rattle.hd_catalogue.specs.Contents.{Contents, branch_number, copy_number, pa
 use Rattle.hd_journal.specs.Books.{Book}
 use Rattle.hd_page.specs.Sights.{Asked, NameAsked, DayAsked, TurnsAsked, NumberAsked}
 use Rattle.hd_page.specs.Sights.{Sight, Rows, NoSuchName, NoSuchDay, NoSight}
+use Rattle.hd_page.specs.declared.view.Dated.{Dated}
+use Rattle.hd_page.specs.declared.view.Dated.TheVariants.{Overdue, Expired}
 use Rattle.hd_page.specs.declared.view.Named.{Named}
 use Rattle.hd_page.specs.declared.view.Named.TheVariants as by
 use Rattle.hd_page.specs.declared.view.ViewFault.TheVariants.{Memory, Shut}
@@ -39,17 +41,22 @@ named_sought k by.Shelf name after =
 named_sought k by.Transit name after =
     if_named (branch_number k name) (λ b. about.Copies (list.Transit b) (capped after))
 
--- what is overdue on the day of a text, where there is such a day
-abbrev pub IsDaySought : List ℕ → ℕ → Sought → Type 0
-IsDaySought text after (Known topic) =
-    (day : Day) × IsDayText day text × (topic ≡ about.Copies (list.Overdue day) (capped after))
-IsDaySought text after NoDay = (day : Day) → ¬ IsDayText day text
-IsDaySought text after NoName = ⊥
+-- what is looked up by a day
+abbrev pub dated_topic : Dated → Day → ℕ → Topic
+dated_topic Overdue day after = about.Copies (list.Overdue day) (capped after)
+dated_topic Expired day after = about.Expired day after
+
+-- what is looked up by the day of a text, where there is such a day
+abbrev pub IsDaySought : Dated → List ℕ → ℕ → Sought → Type 0
+IsDaySought kind text after (Known topic) =
+    (day : Day) × IsDayText day text × (topic ≡ dated_topic kind day after)
+IsDaySought kind text after NoDay = (day : Day) → ¬ IsDayText day text
+IsDaySought kind text after NoName = ⊥
 
 -- what is asked, by the catalogue's numbers
 abbrev pub IsSought : Contents → Asked → Sought → Type 0
 IsSought k (NameAsked kind name after) sought = sought ≡ named_sought k kind name after
-IsSought k (DayAsked text after) sought = IsDaySought text after sought
+IsSought k (DayAsked kind text after) sought = IsDaySought kind text after sought
 IsSought k (TurnsAsked after limit) sought = sought ≡ Known (about.Turns after limit)
 IsSought k (NumberAsked n) sought = sought ≡ Known (about.Command n)
 

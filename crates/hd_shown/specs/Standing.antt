@@ -16,11 +16,10 @@ use Rattle.hd_page.specs.declared.state.Turns.{Turns}
 abbrev pub MayShut : (TurnFault → Type 0) → Type 0
 MayShut gives = (fault : TurnFault) × IsLookFault gives (λ front. ⊥) fault
 
--- what is counted of a journal, as a state tells it: survivors aren't counted
+-- what is counted of a journal, as a state tells it
 abbrev pub told_of : Counts → JournalCounts
 told_of counts = record {
   turns = counts.turns;
-  survivors = None;
   last_number = counts.last_number;
   numbers_left = counts.numbers_left;
 }
@@ -44,7 +43,3 @@ Tells MayShow Closed MayTally state =
     ((book : Book) × MayShow book × (tallies : Option Turns) × MayTally book.turns tallies
     × (state ≡ state_of Well (Some (counts_of book)) tallies))
     ⊎ (Closed × (state ≡ state_of Shut None None))
-
--- a journal alone has no turns since a program began
-abbrev pub NoneTallied : List Turn → Option Turns → Type 0
-NoneTallied turns tallies = tallies ≡ None

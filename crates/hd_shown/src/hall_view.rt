@@ -1,9 +1,10 @@
 //! A view of a hall.
-ghost use Rattle.std.specs.Prelude.{◌≡◌, [], IfOk, IfSome, length};
+ghost use Rattle.std.specs.Prelude.{◌≡◌, ◌⊎◌, [], IfOk, IfSome, None, length};
 ghost use Rattle.hd_catalogue.specs.Contents.{facts_of};
 ghost use Rattle.hd_hall.specs.Looking.{IsShownTo};
-ghost use Rattle.hd_shown.specs.Counting.{AreTallied};
-ghost use Rattle.hd_shown.specs.Standing.{MayShut, Tells};
+ghost use Rattle.hd_page.specs.declared.state.Health.TheVariants.{Shut};
+ghost use Rattle.hd_shown.specs.Counting.{AreTallied, IsEnded};
+ghost use Rattle.hd_shown.specs.Standing.{MayShut, Tells, state_of};
 
 use crate::seeing::write_shown;
 use crate::sought::{Sought, sought_of};
@@ -94,6 +95,8 @@ impl<'a, R: Wait, H: House, A: Allocator + Copy, Q: Drop, K: Keeper<A, Q> + Drop
     /// Looks at the journal once: its state, unless there are more turns to be counted.
     fn look_once(&self, reader: &mut StateReader) -> Option<State>
         ensures tells { IfSome result (Tells (IsShownTo H.opening []) (MayShut K.faults) AreTallied) }
+        ensures tallies { IfSome result (λ state. IsEnded reader.new state
+            ⊎ (state ≡ state_of Shut None None)) }
         ensures begun { reader.new.tallied.begun ≡ self.now.begun }
     {
         // a lock tells nothing of what it holds: so each look is told which turns have tallies

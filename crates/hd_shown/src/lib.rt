@@ -7,7 +7,6 @@
 mod asked;
 mod columns;
 mod hall_view;
-mod journal_view;
 mod laws;
 mod names;
 mod pages;
@@ -23,7 +22,6 @@ mod words;
 mod writing;
 
 pub use crate::hall_view::HallView;
-pub use crate::journal_view::JournalView;
 pub use crate::laws::repeats_are_answered_again;
 pub use crate::tallied::MOST_TALLIED;
 pub use crate::words::Heading;

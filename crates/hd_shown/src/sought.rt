@@ -5,12 +5,14 @@ ghost use Rattle.hd_looks.specs.Shown.{IsTopicOf};
 ghost use Rattle.hd_page.specs.Sights.{asked_of};
 ghost use Rattle.hd_looks.specs.declared.topic.Topic.TheVariants as about;
 ghost use Rattle.hd_shown.specs.declared.sought.Sought.TheVariants.{Known};
-ghost use Rattle.hd_shown.specs.Seeing.{IsSought, IsSoughtOf, capped, named_sought};
+ghost use Rattle.hd_rules.specs.Facts.{Facts};
+ghost use Rattle.hd_shown.specs.Seeing.{IsSought, IsSoughtOf, capped, dated_topic, named_sought};
 
 use hd_catalogue::Catalogue;
 use hd_day_text::day_said;
 use hd_looks::{CopyList, Topic};
-use hd_page::{Inquiry, Named};
+use hd_page::{Dated, Inquiry, Named};
+use hd_rules::Day;
 use std::alloc::Allocator;
 
 /// What is asked, by the catalogue's numbers.
@@ -34,8 +36,8 @@ pub(crate) fn sought_of<A: Allocator + Copy>(
 {
     match inquiry {
         Inquiry::ByName { kind, name, after } => sought_by_name(catalogue, *kind, name, *after),
-        Inquiry::Overdue { day, after } => match day_said(day) {
-            Some(day) => copies_on(CopyList::Overdue(day), capped(*after)),
+        Inquiry::ByDay { kind, day, after } => match day_said(day) {
+            Some(day) => Sought::Known(dated_topic(*kind, day, *after)),
             None => Sought::NoDay,
         },
         Inquiry::Turns { after, limit } => Sought::Known(Topic::Turns {
@@ -78,6 +80,20 @@ fn sought_by_name<A: Allocator + Copy>(
             Some(branch) => copies_on(CopyList::Transit(branch), after),
             None => Sought::NoName,
         },
+    }
+}
+
+/// What is looked up by a day.
+fn dated_topic(kind: Dated, day: Day, after: u64) -> Topic
+    ensures topic { result ≡ dated_topic kind day after }
+    ensures known { (k : Facts) → IsTopicOf k result }
+{
+    match kind {
+        Dated::Overdue => Topic::Copies {
+            which: CopyList::Overdue(day),
+            first: capped(after),
+        },
+        Dated::Expired => Topic::Expired { day, first: after },
     }
 }
 

@@ -20,13 +20,12 @@ pub(crate) fn state_of(health: Health, counts: Option<Counts>, turns: Option<Tur
     }
 }
 
-/// What is counted of a journal, as a state tells it. Survivors aren't counted.
+/// What is counted of a journal, as a state tells it.
 fn told_of(counts: Counts) -> JournalCounts
     ensures { result ≡ told_of counts }
 {
     JournalCounts {
         turns: counts.turns,
-        survivors: None,
         last_number: counts.last_number,
         numbers_left: counts.numbers_left,
     }

@@ -1,10 +1,9 @@
 //! A desk carried over into an opening file.
 
-use crate::comparing::is_carried_over;
 use crate::fault::Fault;
 use crate::writing::{part_path, write_part};
 use crate::written_off::{listed_copies, tell_written_off};
-use hd_carry::{CarryFault, Obstacle, carry, obstacle_text};
+use hd_carry::{CarryFault, Obstacle, carry, is_carried_over, obstacle_text};
 use hd_catalogue::Catalogue;
 use hd_desk::Desk;
 use hd_journal::Journal;
@@ -156,6 +155,9 @@ fn lines_of(
 }
 
 /// Sees that the journal of a library begins with the desk, by names, and behind the last number.
+///
+/// # Errors
+/// It doesn't; out of memory.
 fn see_carried_over(
     rt: &HostRuntime,
     desk: &Desk,
@@ -165,7 +167,7 @@ fn see_carried_over(
 ) -> Result<(), Fault> {
     let is_next = library.catalogue.last_before() == last;
     let next = library.journal(rt)?;
-    if is_next && is_carried_over(desk, next.desk(), written_off) {
+    if is_next && is_carried_over(rt.alloc(), desk, next.desk(), written_off)? {
         Ok(())
     } else {
         Err(Fault::NotCarriedOver)

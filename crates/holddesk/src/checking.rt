@@ -18,6 +18,7 @@ const LONG_FILE: usize = 10_000_000;
 /// Tells what a library's files say, or why one is refused.
 pub(crate) fn check(rt: &HostRuntime, order: &Check<'_>) -> Result<(), Fault> {
     let paths = Paths::of(rt, &order.library)?;
+    paths.tell(rt, "checking")?;
     check_files(rt, &paths.files(), order.patrons)
 }
 

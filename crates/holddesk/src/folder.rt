@@ -7,10 +7,12 @@ use hd_command_line::{LibraryFiles, Place};
 use hd_setup::cannot_read;
 use std::alloc::{AllocError, Global};
 use std::fs::{self, ReadDir};
-use std::io::ErrorKind;
+use std::io::{self, ErrorKind};
 
 /// The paths of a library's files.
 pub(crate) struct Paths {
+    /// The period that they are of, and its folder, where they are of one.
+    period: Option<String>,
     catalogue: String,
     opening: Option<String>,
     journal: Option<String>,
@@ -20,6 +22,7 @@ pub(crate) struct Paths {
 impl Drop for Paths {
     fn drop(self) {
         let Paths {
+            period: _period,
             catalogue: _catalogue,
             opening: _opening,
             journal: _journal,
@@ -42,6 +45,7 @@ impl Paths {
     /// The paths of files that are named one by one.
     fn of_files(alloc: Global, files: &LibraryFiles<'_>) -> Result<Paths, AllocError> {
         Ok(Paths {
+            period: None,
             catalogue: String::from_str(alloc, files.catalogue)?,
             opening: text_of(alloc, files.opening)?,
             journal: text_of(alloc, files.journal)?,
@@ -64,10 +68,19 @@ impl Paths {
             Some(format!(in alloc; "{folder}/{period:04}.opening")?)
         };
         Ok(Paths {
+            period: Some(format!(in alloc; "{period:04} of {folder}")?),
             catalogue: format!(in alloc; "{folder}/{period:04}.catalogue")?,
             opening,
             journal: Some(format!(in alloc; "{folder}/{period:04}.journal")?),
         })
+    }
+
+    /// Says on standard error what is done with the period that they are of, where they are of a folder.
+    pub(crate) fn tell<R: Eprint>(&self, rt: &R, done: &str) -> io::Result<()> {
+        if let Some(period) = &self.period {
+            eprintln!(rt; "{done} {period}")?;
+        }
+        Ok(())
     }
 
     /// The files at these paths.

@@ -16,6 +16,7 @@ use std::io;
 /// is refused. There has to be one.
 pub(crate) fn check_journal(rt: &HostRuntime, order: &JournalCheck<'_>) -> Result<(), Fault> {
     let paths = Paths::of(rt, &order.library)?;
+    paths.tell(rt, "checking")?;
     let keeping = Keeping {
         library: paths.files(),
         is_other_accepted: false,

@@ -7,7 +7,6 @@ mod beginning;
 mod carried;
 mod carrying;
 mod checking;
-mod comparing;
 mod counted;
 mod days;
 mod door;

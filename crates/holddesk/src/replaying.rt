@@ -1,7 +1,7 @@
 //! Answering the messages of the standard input.
 
 use crate::fault::Fault;
-use hd_command_line::{LibraryFiles, Replay};
+use hd_command_line::Replay;
 use hd_connection::Fallible;
 use hd_replay::{ReplayFault, replay_over};
 use hd_server::replay;
@@ -17,9 +17,6 @@ pub(crate) fn answer(rt: &HostRuntime, order: &Replay<'_>) -> Result<(), Fault> 
 
 /// The same, where a file that can't be read is told with its path.
 fn answer_all(rt: &HostRuntime, order: &Replay<'_>) -> Result<(), Fault> {
-    if order.library.opening.is_some() {
-        see_opening(rt, &order.library)?;
-    }
     if order.library.opening.is_some() || is_extended(&order.extended) {
         return answer_over(rt, Library::read(rt, &order.library)?, order);
     }
@@ -31,32 +28,17 @@ fn answer_all(rt: &HostRuntime, order: &Replay<'_>) -> Result<(), Fault> {
     Ok(())
 }
 
-/// Sees that a library's opening tells a desk.
-///
-/// # Errors
-/// A file can't be read, or is refused; a row of the opening may not stand.
-fn see_opening(rt: &HostRuntime, files: &LibraryFiles<'_>) -> Result<(), Fault> {
-    drop(Library::read(rt, files)?.journal(rt)?);
-    Ok(())
-}
-
 /// Answers the messages of the standard input over a library, from its opening on, with what extends them.
 fn answer_over(rt: &HostRuntime, library: Library, order: &Replay<'_>) -> Result<(), Fault> {
-    let Library { catalogue, .. } = library;
-    let extensions = extensions_of(rt, &order.extended, &catalogue)?;
+    let journal = library.journal(rt)?;
+    let catalogue = journal.desk().catalogue();
+    let extensions = extensions_of(rt, &order.extended, catalogue)?;
     let Ok(now) = hd_date::read(order.now.as_bytes(), catalogue.offset()) else {
         return Err(Fault::from(ReplayFault::BadNow));
     };
     let mut from = Fallible(rt.stdin());
     let mut to = Fallible(rt.stdout());
-    replay_over(
-        rt,
-        rt.alloc(),
-        catalogue,
-        now,
-        Some(&extensions),
-        &mut from,
-        &mut to,
-    )?;
+    let extensions = Some(&extensions);
+    replay_over(rt.alloc(), journal, now, extensions, &mut from, &mut to)?;
     Ok(())
 }

@@ -67,6 +67,7 @@ fn serve_library<R: Threads + Wait + Clock + Sync + Print>(
     door: Option<&Door>,
 ) -> Result<(), Fault> {
     let paths = Paths::of(host, &order.library)?;
+    paths.tell(host, "serving")?;
     let library = paths.files();
     if library.journal.is_none() {
         return serve_in_memory(rt, host, &library, order, door);

@@ -30,6 +30,11 @@ const TRANSIT: [&str; 5] = ["copy", "title", "branch", "to", "patron"];
 /// The headings of what is overdue.
 const OVERDUE: [&str; 5] = ["copy", "title", "patron", "due", "renewals"];
 
+/// The headings of holds past their day.
+const EXPIRED: [&str; 8] = [
+    "title", "patron", "stamp", "admits", "only", "pickup", "until", "copy",
+];
+
 /// The headings of turns.
 const TURNS: [&str; 10] = [
     "turn", "terminal", "asked", "day", "patron", "copy", "title", "outcome", "number", "why",
@@ -59,6 +64,7 @@ pub(crate) fn heads_of(topic: &SeenTopic<'_>) -> &'static [&'static str] {
         SeenTopic::Shelf(_) => &SHELF,
         SeenTopic::Transit(_) => &TRANSIT,
         SeenTopic::Overdue(_) => &OVERDUE,
+        SeenTopic::Expired(_) => &EXPIRED,
         SeenTopic::Turns { .. } => &TURNS,
         SeenTopic::Command(_) => &COMMAND,
     }
@@ -75,7 +81,9 @@ pub(crate) fn unseen(
     answer: &Answer,
 ) -> Result<Fault, AllocError> {
     match (*topic, answer.status) {
-        (SeenTopic::Overdue(day), 400) => Ok(Fault::NoDay(String::from_str(alloc, day)?)),
+        (SeenTopic::Overdue(day) | SeenTopic::Expired(day), 400) => {
+            Ok(Fault::NoDay(String::from_str(alloc, day)?))
+        }
         (SeenTopic::Command(number), 404) => Ok(Fault::NotThere {
             kind: "command",
             name: format!(in alloc; "{number}")?,

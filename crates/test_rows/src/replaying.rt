@@ -6,6 +6,7 @@ use crate::row::Row;
 use crate::script::input_of;
 use hd_catalogue::Catalogue;
 use hd_date::Stamp18;
+use hd_desk::Meter;
 use hd_replay::replay_over;
 use hd_server::{ServerFault, replay};
 use hd_session::Extensions;
@@ -84,7 +85,10 @@ fn replay_in_library(
     out: &mut Vec<u8>,
 ) -> Result<Option<String>, AllocError> {
     let alloc = rt.alloc();
-    match replay_over(rt, alloc, catalogue, now, Some(extensions), &mut input, out) {
+    let Ok(journal) = hd_journal::open(alloc, Meter::new(rt), catalogue) else {
+        return Ok(Some(String::from_str(alloc, "no journal")?));
+    };
+    match replay_over(alloc, journal, now, Some(extensions), &mut input, out) {
         Ok(()) => Ok(None),
         Err(fault) => told(alloc, Err(ServerFault::Replay(fault))),
     }

@@ -176,7 +176,7 @@ const A_LONG_LINE: Script = Script {
 };
 
 /// What two terminals do at a desk that can write one turn: the session whose turn can't be written ends
-/// without a reply, as every other does at its next turn.
+/// without a reply, and so does the other, which waits for nothing.
 pub(crate) fn unwritten_turn() -> &'static [Step] {
     AN_UNWRITTEN_TURN
 }
@@ -187,7 +187,6 @@ const AN_UNWRITTEN_TURN: &[Step] = &[
     Step::At(0, Deed::Asks(HOLD_1, HELD_1_FIRST)),
     Step::At(0, Deed::Says(HOLD_2)),
     Step::At(0, Deed::IsLeft),
-    Step::At(1, Deed::Says(ITEM)),
     Step::At(1, Deed::IsLeft),
 ];
 

@@ -10,8 +10,8 @@ use std::sync::Wait;
 use std::thread::Threads;
 use std::time::Clock;
 
-/// The session ends without a reply, as every other does at its next turn, and the server, which would serve
-/// for ever, says that the journal can't be written, and why.
+/// The session ends without a reply, and so does every other, and the server, which would serve for ever,
+/// says that the journal can't be written, and why.
 pub(crate) fn goes<R: Threads + Wait + Clock + Sync>(rt: &R, host: &HostRuntime) -> Option<bool> {
     is_told(rt, host, 0)
 }

@@ -23,11 +23,11 @@ returns-then-is_free-clause-carried g c =
     c.in_ok-numbers.ensures.names c.in_ok-noted.ensures c.in_ok-obstacles.ensures in
     carried_over (contents old) c.args.new.now c.args.last (desk_of old) c.args.write_off.now
     c.in_ok-noted.noted (queues_of old)
-    (renumbering c.in_ok-numbers.numbers) c.in_ok-rows.rows.items c.copies_of.result
+    (renumbering c.in_ok-numbers.numbers) c.in_ok-rows_of.field-0.items c.copies_of.result
     c.rows_carry_a_desk_over.ensures
     c.in_ok-numbers.ensures.distinct c.names_known_things.ensures.range c.names_known_things.ensures.known
     c.keeps_its_queues.ensures c.copies_of.ensures.count c.in_ok-numbers.ensures.names c.in_ok-noted.ensures
-    c.in_ok-rows.ensures
+    c.in_ok-rows_of.ensures
     (sym all ∙ (sym c.deref.ensures.value ∙ c.is_free.ensures.free c.if-is_free.true))
 
 pub returns-clause-in_the_way : goal.returns-clause-in_the_way

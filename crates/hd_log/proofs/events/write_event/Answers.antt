@@ -16,3 +16,16 @@ unfolding event_text
 returns-in-Unwritten c =
     rw c.in-Unwritten.is
     (rw (c.named-in-Unwritten.ensures, c.text-in-Unwritten.ensures) at c.write_line-in-Unwritten.ensures)
+
+pub returns-in-FewNumbers : goal.returns-in-FewNumbers
+unfolding event_text
+returns-in-FewNumbers c =
+    rw c.in-FewNumbers.is
+    (rw (c.number-in-FewNumbers.ensures, c.number-in-FewNumbers-2.ensures) at c.write_few.ensures)
+
+pub returns-in-FewWorkers : goal.returns-in-FewWorkers
+unfolding event_text
+returns-in-FewWorkers c =
+    rw c.in-FewWorkers.is
+    (rw (c.number-in-FewWorkers.ensures, c.number-in-FewWorkers-2.ensures)
+    at c.write_few-in-FewWorkers.ensures)

@@ -6,7 +6,7 @@ pub returns-in-Ok-read-clause-replay : goal.returns-in-Ok-read-clause-replay
 returns-in-Ok-read-clause-replay g c =
     replay_of _ _ _ c.in-Ok-read.now _ c.in-Ok.ensures.accepted
     (rw c.offset.ensures at c.in-Ok-read.ensures.stamp) _
-    (rw c.no_extensions-extensions.ensures at c.replay_over.ensures.replay)
+    c.replay_catalogue.ensures.replay
 
 pub returns-in-Err-read-clause-replay : goal.returns-in-Err-read-clause-replay
 returns-in-Err-read-clause-replay g c = (
