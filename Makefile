@@ -45,8 +45,8 @@ PICTURES = bench/out/page
 page:
 	@python3 scripts/look_at_page.py --into $(PICTURES)
 
-# The program, its manual page, the documents, an example of a catalogue file, and the systemd units and the timer, in
-# which PREFIX is filled in. systemd finds those below /usr/local and /usr.
+# The program, its manual page, the documents, examples of files, and the systemd units and the timer, in which PREFIX
+# is filled in. systemd finds those below /usr/local and /usr.
 PROGRAM = crates/holddesk/out/holddesk
 BELOW = $(DESTDIR)$(PREFIX)
 UNITS = holddesk.service holddesk-night.service holddesk-night.timer
@@ -56,6 +56,8 @@ install:
 	install -D -m 644 man/holddesk.1 $(BELOW)/share/man/man1/holddesk.1
 	install -D -m 644 -t $(BELOW)/share/doc/holddesk README.md LICENSE crates/holddesk/data/demonstration.catalogue
 	install -D -m 644 -t $(BELOW)/share/doc/holddesk/docs docs/*.md docs/*.svg
+	install -D -m 644 -t $(BELOW)/share/doc/holddesk/examples examples/stunnel-*.conf
+	install -D -m 644 -t $(BELOW)/share/doc/holddesk/examples/export examples/export/*.csv
 	install -d $(BELOW)/lib/systemd/system
 	@for unit in $(UNITS); do sed 's|@PREFIX@|$(PREFIX)|g' examples/$$unit > $(BELOW)/lib/systemd/system/$$unit && \
 	  chmod 644 $(BELOW)/lib/systemd/system/$$unit && echo "$(BELOW)/lib/systemd/system/$$unit" || exit 1; done

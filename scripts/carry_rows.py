@@ -13,10 +13,9 @@ by one, some over a folder too. Needs nothing but Python 3. Status 0: all is as 
 
 import concurrent.futures
 import os
-import subprocess
 import tempfile
 
-from server import CATALOGUE, SECONDS, Server, Trouble, ask, connect, parser_of, reported, without_progress
+from server import CATALOGUE, Server, Trouble, ask, connect, parser_of, reported, said_by
 
 DAYS = os.path.splitext(os.path.abspath(__file__))[0] + ".days"
 
@@ -36,14 +35,12 @@ def rows():
 
 def ran(program, *words):
     """What the program says: its status, its output and its standard error."""
-    done = subprocess.run([program, *words], capture_output=True, text=True, timeout=SECONDS, check=False)
-    return done.returncode, done.stdout, done.stderr
+    return said_by([program, *words])
 
 
 def wanted(program, words, status, said):
     """Looks that a command ends with this status and says this on standard error. What it printed."""
     code, printed, told = ran(program, *words)
-    told = without_progress(told)
     if (code, told) != (status, said):
         raise Trouble(f"{' '.join(words)} ends with {code} and says {told!r}, wanted {status} and {said!r}")
     return printed

@@ -8,18 +8,21 @@ is run on a copy of it for each of its calls that write, sync, rename or take aw
 call (--every N: before each Nth). What is left has to be the old library or the new one: journal check takes it, and
 where it is the old one a second carry succeeds; the opening then has the same bytes as that of an undisturbed carry. In
 the same way an empty folder is begun with that opening: what is left has to be no library, which a second begin makes,
-or the whole one. Needs Linux, strace and Python 3; where there is no strace it is told as skipped. Status 0: nothing is
-lost.
+or the whole one. At last a carry waits before each rename: until the opening has its name the old journal can't be
+opened, for what a server answered there would be lost. Needs Linux, strace and Python 3; where there is no strace it is
+told as skipped. Status 0: nothing is lost.
 """
 
 import os
 import shutil
 import subprocess
 import tempfile
+import time
 
 from server import CATALOGUE, SECONDS, Server, Trouble, ask, begun_folder, connect, parser_of, reported
-from server import without_progress
+from server import said_by
 
+RENAMES, WAITED = "rename,renameat,renameat2", 2_000_000  # microseconds before each
 CALLS = "write,writev,pwrite64,fsync,fdatasync,ftruncate,rename,renameat,renameat2,unlink,unlinkat"
 MESSAGES = """9300CNt1|COpw|
 11NN20260301    10000020260301    100000AOlib|AAp1|ABa2|AC|
@@ -44,10 +47,10 @@ def play_day(program, folder):
 
 def ended_well(words, told=""):
     """Looks that a command ends well, and says this on standard error. What it prints."""
-    done = subprocess.run(words, capture_output=True, text=True, timeout=SECONDS, check=False)
-    if (done.returncode, without_progress(done.stderr)) != (0, told):
-        raise Trouble(f"{' '.join(words)} ends with {done.returncode} and says {done.stderr!r}")
-    return done.stdout
+    status, printed, said = said_by(words)
+    if (status, said) != (0, told):
+        raise Trouble(f"{' '.join(words)} ends with {status} and says {said!r}")
+    return printed
 
 
 def checked(program, folder):
@@ -109,6 +112,25 @@ def stop_begin(program, folder, number, path):
     return True
 
 
+def others_kept_out(program, folder):
+    """Carries a folder over while others try to open its journal, which has to fail until the opening is there."""
+    words = ["strace", "-f", "-qq", "-o", os.devnull, "-e", f"trace={RENAMES}", "-e",
+             f"inject={RENAMES}:delay_enter={WAITED}", program, "carry", "--library", folder, "--to", CATALOGUE]
+    tried, check = 0, [program, "journal", "check", "--library", folder]
+    with subprocess.Popen(words, stdout=subprocess.DEVNULL, stderr=subprocess.DEVNULL) as carry:
+        while carry.poll() is None:
+            if not os.path.exists(os.path.join(folder, "0002.opening.part")):
+                time.sleep(0.05)
+                continue
+            done = subprocess.run(check, capture_output=True, text=True, timeout=SECONDS, check=False)
+            if opening(folder) is None:
+                tried += 1
+                if not done.stderr.endswith("\nanother program has the journal open\n"):
+                    raise Trouble(f"while a carry goes on journal check ends with {done.returncode}: {done.stderr!r}")
+    if carry.returncode or not tried or opening(folder) is None:
+        raise Trouble(f"a carry that waits ends with {carry.returncode}, and {tried} have tried to open its journal")
+
+
 def stops(program, every):
     """Stops a carry, and then a beginning, before each of its calls. How many there were of each."""
     if shutil.which("strace") is None:
@@ -119,6 +141,9 @@ def stops(program, every):
         play_day(program, old)
         shutil.copytree(old, whole)
         ended_well([program, "carry", "--library", whole, "--to", CATALOGUE])
+        waiting = os.path.join(room, "waiting")
+        shutil.copytree(old, waiting)
+        others_kept_out(program, waiting)
         given = os.path.join(whole, "0002.opening")
         carried = begun = 1
         while True:

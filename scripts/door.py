@@ -11,7 +11,6 @@ import signal
 import socket
 import subprocess
 import threading
-import time
 from itertools import zip_longest
 
 from server import LOOPBACK, SECONDS, Trouble, serve_words

@@ -21,7 +21,7 @@ PICTURE = os.path.join(TOP, "docs", "house.svg")
 WIDTH, MARGIN, GAP, LEAST = 900, 16, 8, 165  # of the picture, around it, between boxes, and of a box
 LINE, SMALL = 15, 5.9  # the height of a line, and the width of a small letter
 FILLS = ["#eceaf6", "#f6e9f0", "#fdf0d9", "#e3f1ea", "#e8eef5"]  # from the lowest layer to the highest
-BESIDE, BESIDE_FILL = ("test_", "bench_"), "#f3f3f3"  # crates beside the product, by how their names begin
+BESIDE, BESIDE_FILL = "test_", "#f3f3f3"  # crates beside the product, by how their names begin
 INK, PALE, EDGE = "#1d2b3a", "#5b6b7c", "#9fb0c0"
 
 

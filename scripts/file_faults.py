@@ -29,7 +29,7 @@ import subprocess
 import tempfile
 
 from server import (CATALOGUE, LOOPBACK, SECONDS, TOP, Server, Trouble, ask, begun, begun_folder, connect, parser_of,
-                    reported, serve_words)
+                    reported, said_by, serve_words)
 
 MOST = 64  # bytes that a program may write into a file, where its disk takes no more: a log's heading has 32
 CHECKOUT = b"11NN20260301    10000020260301    100000AOlib|AAp1|ABa1|AC|"
@@ -65,11 +65,10 @@ def told(program, option, lines, folder):
         words = ["journal", "begin", "--library", library, "--opening", path]
     else:
         words = ["check", f"--{option}", path]
-    done = subprocess.run([program, *words, "--catalogue", own], capture_output=True, text=True, timeout=SECONDS,
-                          check=False)
-    if option == "begin" and done.returncode and os.listdir(library):
+    status, printed, told = said_by([program, *words, "--catalogue", own])
+    if option == "begin" and status and os.listdir(library):
         raise Trouble(f"journal begin is refused, and the folder has {os.listdir(library)}")
-    return done.returncode, done.stdout.replace(os.path.join(folder, "library"), "FOLDER"), done.stderr
+    return status, printed.replace(os.path.join(folder, "library"), "FOLDER"), told
 
 
 def play(program, option, name, lines):
@@ -143,9 +142,7 @@ def compare_narrow_start(program):
 
 def told_of(program, journal, *words):
     """What a command says of a journal: its status, its output and its standard error."""
-    done = subprocess.run([program, *words, "--catalogue", CATALOGUE, "--journal", journal], capture_output=True,
-                          text=True, timeout=SECONDS, check=False)
-    return done.returncode, done.stdout, done.stderr
+    return said_by([program, *words, "--catalogue", CATALOGUE, "--journal", journal])
 
 
 def serve_until_killed(program, journal):
@@ -217,8 +214,8 @@ def compare_changed(program):
 
 def said_of(program, *words):
     """What a command says: its status and its standard error."""
-    done = subprocess.run([program, *words], capture_output=True, text=True, timeout=SECONDS, check=False)
-    return done.returncode, done.stderr
+    status, _, told = said_by([program, *words])
+    return status, told
 
 
 def compare_lost_files(program):

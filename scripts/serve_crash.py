@@ -28,7 +28,7 @@ import threading
 import time
 
 from make_library import InTurn, branch, copy, password, patron, terminal, title
-from server import SECONDS, Server, Trouble, ask, begun, connect, parser_of, reported, serve_words
+from server import SECONDS, Server, Trouble, ask, begun, connect, parser_of, reported, said_by, serve_words
 
 ROUNDS = 50
 TERMINALS = 4
@@ -137,11 +137,10 @@ def compare_rows(connection, terminals, before):
 
 def compare_check(program, catalogue, journal, folder, views, turns):
     """Compares what journal check tells with the turns, and with what the views count."""
-    done = subprocess.run([program, "journal", "check", "--catalogue", catalogue, "--journal", journal],
-                          capture_output=True, text=True, timeout=SECONDS, check=False)
-    if done.returncode != 0:
-        raise Trouble(f"journal check says {done.stderr!r}")
-    told = {name: int(count) for name, count in (line.split(": ") for line in done.stdout.splitlines())}
+    status, printed, told = said_by([program, "journal", "check", "--catalogue", catalogue, "--journal", journal])
+    if status:
+        raise Trouble(f"journal check says {told!r}")
+    told = {name: int(count) for name, count in (line.split(": ") for line in printed.splitlines())}
     connection = opened_copy(journal, folder)
     connection.executescript(views)
     counted = tuple(connection.execute(f"SELECT count(*) FROM {view}").fetchone()[0] for view in ("surviving", "lent"))
@@ -197,10 +196,9 @@ def compare_views(program, catalogue, folder, views):
 
 def compare_refusal(program, catalogue, journal, why):
     """Looks that a server on a journal's file is refused for this reason."""
-    done = subprocess.run(serve_words(program, catalogue, 1, "--journal", journal), capture_output=True, text=True,
-                          timeout=SECONDS, check=False)
-    if (done.returncode, done.stderr) != (1, f"{why}\n"):
-        raise Trouble(f"wanted {why!r}, and it ends with {done.returncode} and says {done.stderr!r}")
+    status, _, told = said_by(serve_words(program, catalogue, 1, "--journal", journal))
+    if (status, told) != (1, f"{why}\n"):
+        raise Trouble(f"wanted {why!r}, and it ends with {status} and says {told!r}")
 
 
 def compare_missing_log(program, catalogue, folder, journal):
@@ -212,10 +210,9 @@ def compare_missing_log(program, catalogue, folder, journal):
     compare_refusal(program, catalogue, log, f"there is the log {log}-wal, and not its journal")
     for path, why in ((alone, f"there is a journal at {alone}"),
                       (log, f"there is the log {log}-wal, and not its journal")):
-        done = subprocess.run([program, "journal", "begin", "--catalogue", catalogue, "--journal", path],
-                              capture_output=True, text=True, timeout=SECONDS, check=False)
-        if (done.returncode, done.stdout, done.stderr) != (1, "", f"{why}\n"):
-            raise Trouble(f"journal begin at {path} ends with {done.returncode} and says {done.stderr!r}")
+        status, printed, told = said_by([program, "journal", "begin", "--catalogue", catalogue, "--journal", path])
+        if (status, printed, told) != (1, "", f"{why}\n"):
+            raise Trouble(f"journal begin at {path} ends with {status} and says {told!r}")
     if os.path.exists(f"{alone}-wal") or os.path.exists(log) or not filecmp.cmp(journal, alone, shallow=False):
         raise Trouble("a journal without its log was changed")
 

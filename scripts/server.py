@@ -30,6 +30,12 @@ def without_progress(told):
     return "".join(line for line in told.splitlines(True) if not line.startswith("taking the journal's turns again: "))
 
 
+def said_by(words, **more):
+    """What a command says: its status, its output and its standard error, without progress."""
+    done = subprocess.run(words, capture_output=True, text=True, timeout=SECONDS, check=False, **more)
+    return done.returncode, done.stdout, without_progress(done.stderr)
+
+
 def reported(name, play, *given):
     """What a script's play gives. What isn't as it has to be ends the script, by its name, with status 1."""
     try:
@@ -57,20 +63,18 @@ def serve_words(program, catalogue, workers, *words, port=0):
 
 def begun(program, catalogue, journal, *words):
     """The path of a journal's file, which holddesk journal begin has made."""
-    done = subprocess.run([program, "journal", "begin", "--catalogue", catalogue, "--journal", journal, *words],
-                          capture_output=True, text=True, timeout=SECONDS, check=False)
-    if (done.returncode, done.stdout) != (0, f"begun: {journal}\n"):
-        raise Trouble(f"journal begin ends with {done.returncode} and says {done.stdout + done.stderr!r}")
+    status, printed, told = said_by([program, "journal", "begin", "--catalogue", catalogue, "--journal", journal, *words])
+    if (status, printed) != (0, f"begun: {journal}\n"):
+        raise Trouble(f"journal begin ends with {status} and says {printed + told!r}")
     return journal
 
 
 def begun_folder(program, catalogue, folder):
     """The path of a library's folder, which is made, and which holddesk journal begin has begun."""
     os.mkdir(folder)
-    done = subprocess.run([program, "journal", "begin", "--catalogue", catalogue, "--library", folder],
-                          capture_output=True, text=True, timeout=SECONDS, check=False)
-    if done.returncode != 0:
-        raise Trouble(f"journal begin ends with {done.returncode} and says {done.stderr!r}")
+    status, _, told = said_by([program, "journal", "begin", "--catalogue", catalogue, "--library", folder])
+    if status:
+        raise Trouble(f"journal begin ends with {status} and says {told!r}")
     return folder
 
 

@@ -23,7 +23,7 @@ import subprocess
 import tempfile
 import time
 
-from server import SECONDS, Server, Trouble, ask, begun_folder, connect, parser_of, reported
+from server import SECONDS, Server, Trouble, ask, begun_folder, connect, parser_of, reported, said_by
 
 DAYS = 700
 SEED = 1
@@ -257,9 +257,9 @@ class Nights:
     def carry(self, catalogue):
         """Carries it over."""
         begun = time.monotonic()
-        done = subprocess.run(self.words(catalogue), capture_output=True, text=True, timeout=SECONDS, check=False)
-        if (done.returncode, done.stderr) != (0, ""):
-            raise Trouble(f"carry ends with {done.returncode} and says {done.stderr!r}")
+        status, _, told = said_by(self.words(catalogue))
+        if (status, told) != (0, ""):
+            raise Trouble(f"carry ends with {status} and says {told!r}")
         self.seconds = time.monotonic() - begun
 
 
@@ -299,11 +299,10 @@ def refuse(program, folder, desk, catalogue):
     desk.library.write(catalogue)
     desk.library.copies[copy] = facts
     before = sorted(os.listdir(folder))
-    done = subprocess.run([program, "carry", "--library", folder, "--to", catalogue], capture_output=True, text=True,
-                          timeout=SECONDS, check=False)
+    status, _, told = said_by([program, "carry", "--library", folder, "--to", catalogue])
     why = f"copy {copy} is on loan to {patron}, and the new catalogue lacks it\n"
-    if (done.returncode, done.stderr, sorted(os.listdir(folder))) != (1, why, before):
-        raise Trouble(f"carry without {copy} ends with {done.returncode} and says {done.stderr!r}")
+    if (status, told, sorted(os.listdir(folder))) != (1, why, before):
+        raise Trouble(f"carry without {copy} ends with {status} and says {told!r}")
     return True
 
 

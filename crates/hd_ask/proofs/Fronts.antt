@@ -23,8 +23,8 @@ one_front byte (x ∷ front) (y ∷ other) rest behind none also same =
     (one_front byte front other rest behind none also (ap (drop 1) same))
 
 -- at the last of them: what stands before it is the front
-pub front_at : (byte : ℕ) (text left front behind : List ℕ) → text ≡ left ++ behind → left ≡ front ++ byte ∷ []
-    → (Contains behind byte → ⊥) → (other rest : List ℕ) → text ≡ other ++ byte ∷ rest
+pub front_at : (byte : ℕ) (text left front behind : List ℕ)
+    → text ≡ left ++ behind → left ≡ front ++ byte ∷ [] → (Contains behind byte → ⊥) → (other rest : List ℕ) → text ≡ other ++ byte ∷ rest
     → (Contains rest byte → ⊥) → front ≡ other
 front_at byte text left front behind whole split none other rest is also =
     one_front byte front other behind rest none also

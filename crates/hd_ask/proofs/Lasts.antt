@@ -25,15 +25,16 @@ next_by rows page row all last =
     ∙ ap (λ (items : Items). option_and_then next_told (last_of items)) all
 
 -- the others are those before it
-but_last_are : (rows : List Value) (last : Value) → but_last (items_view (rows ++ last ∷ [])) ≡ items_view rows
+but_last_are : (rows : List Value) (last : Value)
+    → but_last (items_view (rows ++ last ∷ [])) ≡ items_view rows
 but_last_are [] last = refl
 but_last_are (row ∷ []) last = refl
 but_last_are (row ∷ next ∷ rows) last =
     ap (λ (items : Items). item (view row) items) (but_last_are (next ∷ rows) last)
 
 -- and where there is a next page they are the rows
-pub rows_before : (page : Data) (all rows : List Value) (last : Value) (told : ℕ) → items_view all ≡ all_in page
-    → Some told ≡ next_in page → all ≡ rows ++ last ∷ [] → items_view rows ≡ rows_in page
+pub rows_before : (page : Data) (all rows : List Value) (last : Value) (told : ℕ)
+    → items_view all ≡ all_in page → Some told ≡ next_in page → all ≡ rows ++ last ∷ [] → items_view rows ≡ rows_in page
 rows_before page all rows last told are next split =
     sym (but_last_are rows last)
     ∙ ap (λ (vs : List Value). but_last (items_view vs)) (sym split)

@@ -1,6 +1,7 @@
 -- Numbers in texts.
-use Rattle.std.proofs.Common.{arith, ◌≡◌, ◌==◌, refl, sym, subst, ℕ, ◌<◌, ◌^◌, Bool, true, false, cond, zero, suc}
-use Rattle.std.proofs.Common.{List, [], ◌∷◌, ◌-◌, drop, eqb-true, length, take, Option, None, Some, Result, Ok, Err}
+use Rattle.std.proofs.Common.{arith, ◌≡◌, ◌==◌, refl, sym, subst, ℕ, ◌<◌, ◌^◌, Bool, true, false, cond, zero}
+use Rattle.std.proofs.Common.{suc, List, [], ◌∷◌, ◌-◌, drop, eqb-true, length, take, Option, None, Some}
+use Rattle.std.proofs.Common.{Result, Ok, Err}
 use Rattle.std.proofs.Common.{IfNone, IfSome}
 use Rattle.std.specs.Str.{IsAscii}
 use Rattle.std.specs.Str.Parse.{AllDigits, ParsesUnsigned, without_leading_plus}

@@ -45,10 +45,6 @@ pub joined-begun : {X : Type 0} (blocks : List (List X)) → all_items (blocks +
 joined-begun [] = refl
 joined-begun (block ∷ blocks) = ap (λ xs. block ++ xs) (joined-begun blocks)
 
--- no blocks
-pub no_blocks : {X : Type 0} (size : ℕ) → AreBlocks {X = X} size 0 []
-no_blocks size = record { filled = tt; counted = refl; room = omega arith }
-
 -- a block more, behind full ones
 pub blocks_begun : {X : Type 0} (size count : ℕ) (blocks : List (List X))
     → AreBlocks size count blocks → size * length blocks ≤ count → size * length blocks + size < 2 ^ 64

@@ -171,10 +171,3 @@ named k d queues its = λ t p h is. elim (cases_Bool (nat_lt t k.titles)) [
   | inl b ↦ found_named (queues t) p h (sym ((its.queue t (ltb-true t k.titles b)).each p) ∙ is)
   | inr b ↦ absurd (let none = its.past t p (ltb-false t k.titles b) in cc)
 ]
-
--- a desk without copies and titles
-pub known_empty : (k : Facts) (d : Desk) → k.copies ≤ 0 → k.titles ≤ 0 → IsKnownDesk k d
-known_empty k d copies titles = record {
-  copies = λ c l. absurd (omega arith);
-  holds = λ t p l m. absurd (omega arith);
-}

@@ -25,7 +25,7 @@ use hd_rules::{BranchNo, CopyNo, CopyState, TitleNo};
 use std::alloc::{AllocError, Allocator};
 
 /// Whether a desk is the old one, carried over: each copy and each hold has there what it had at the old one,
-/// by names; what is new is at home and isn't held; a copy that is gone stood on an open shelf; and no hold is
+/// by names; what is new is at home and isn't held; a copy that is gone stood on an open shelf; no hold is
 /// lost. The loans of the copies of `write_off`, by old numbers, have ended.
 ///
 /// # Errors

@@ -170,6 +170,3 @@ distinct-push names name facts none distinct n x at = elim (push_place names (na
       ∙ place-push names name facts 0 (sym (number_of-place names name) ∙ none)
       ∙ ap Some (omega arith))
 ]
-
-pub distinct-none : (F : Type 0) → AreDistinct {F = F} []
-distinct-none F n name at = absurd (none-some name at)

@@ -1,7 +1,6 @@
 -- What the reader's own functions answer, one line after another.
-use Rattle.std.specs.Prelude.{◌≡◌, ℕ, ◌⊎◌, Option, None, Some, Result, Ok, Err}
+use Rattle.std.specs.Prelude.{◌≡◌, ◌⊎◌, Option, None, Some, Result, Ok, Err}
 use Rattle.hd_catalogue.specs.Contents.{Contents}
-use Rattle.hd_catalogue.specs.declared.cause.CatFault.{CatFault}
 use Rattle.hd_catalogue.specs.declared.cause.Cause.{Cause}
 use Rattle.hd_catalogue.specs.declared.cause.Cause.TheVariants.{Memory}
 
@@ -18,8 +17,3 @@ Reads cause next new (Err named) = Names cause named
 abbrev pub Begins : Option Cause → Contents → Result Contents Cause → Type 0
 Begins cause next (Ok new) = (cause ≡ None) × (new ≡ next)
 Begins cause next (Err named) = Names cause named
-
--- the first cause among the lines after those that were read, the next of them with this number
-abbrev pub after_cause : ℕ → Option CatFault → Option Cause → Option CatFault
-after_cause number later None = later
-after_cause number later (Some cause) = Some (record { line = number; cause = cause })

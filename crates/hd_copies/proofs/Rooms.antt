@@ -7,11 +7,8 @@ use Rattle.std.proofs.Math.ListN.{set, get_or-map}
 use Rattle.std.proofs.lemmas.Bool.{cases_Bool, eqb-true, eqb-false}
 use Rattle.std.proofs.lemmas.Grind.{get_or-set_at}
 use Rattle.std.proofs.lemmas.List.{get_or-set_other, length-map, map-set, set-get_or}
-use Rattle.hd_rules.specs.declared.copies.CopyState.{CopyState}
-use Rattle.hd_rules.specs.declared.copies.CopyState.TheVariants.{Shelf, OnLoan, OnHoldShelf, InTransit}
 use Rattle.hd_shelf.specs.PlacesValue.{PlacesValue}
 use Rattle.hd_copies.specs.IndexesValue.{IndexesValue}
-use Rattle.hd_copies.specs.Standing.{HasRoom}
 use Rattle.hd_copies.specs.Indexing.{no_shelf, rooms_in}
 
 -- the room of a branch's shelf
@@ -49,14 +46,6 @@ pub grows : (r : Result (Unit {0}) AllocError) (old new place : ℕ) → OnOk r 
     → OnErr r (new ≡ old) → old ≤ new
 grows (Ok x) old new place is same = omega (arith, is)
 grows (Err e) old new place is same = omega (arith, same)
-
--- more room than before
-pub rooms-more : (old new : List ℕ) → ((b : ℕ) → get_or old b 0 ≤ get_or new b 0) → (s : CopyState)
-    → HasRoom old s → HasRoom new s
-rooms-more old new more (OnHoldShelf s) has = omega (arith, more s.branch)
-rooms-more old new more (Shelf b) has = tt
-rooms-more old new more (OnLoan l) has = tt
-rooms-more old new more (InTransit t) has = tt
 
 -- a shelf that stays as it was
 pub shelf-kept : (shelves : List PlacesValue) (i : ℕ) (s t : PlacesValue) → t ≡ get_or shelves i no_shelf

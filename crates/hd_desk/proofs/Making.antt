@@ -2,7 +2,7 @@
 use Rattle.std.proofs.Common.{arith, ◌≡◌, refl, sym, ◌∙◌, ap, subst, ℕ, zero, suc, ◌+◌, ◌<◌, ◌≤◌, Bool, true}
 use Rattle.std.proofs.Common.{false, cond, not, List, []}
 use Rattle.std.proofs.Common.{◌∷◌, ◌++◌, length, drop, take, get_or, Result, Ok, Err}
-use Rattle.std.proofs.lemmas.List.{drop_all, take_all, take_more}
+use Rattle.std.proofs.lemmas.List.{drop_all, take_more}
 use Rattle.hd_rules.specs.declared.copies.CopyState.{CopyState}
 use Rattle.hd_rules.specs.declared.holds.Hold.{Hold}
 use Rattle.hd_rules.specs.declared.cells.Cell.{Cell}
@@ -243,12 +243,6 @@ lacking d cs i now c readying below is full room =
     subst (HaveRoom (HasRoomFor d) (length cs)) (drop_at cs i c below is)
     (room-from d (length cs) cs i room) in
     full (readying.kept c.cell c.old (length cs) here.0) (readying.kept c.cell c.new (length cs) here.1)
-
-pub readying-end : (d : DeskValue) (cs : List Change) (i : ℕ) (now : DeskValue) → Readying d cs i now
-    → length cs ≤ i →
-    HaveRoom (HasRoomFor now) (length cs) cs
-readying-end d cs i now readying past =
-    subst (HaveRoom (HasRoomFor now) (length cs)) (take_all i cs past) readying.room
 
 -- the real ones among changes, with one more
 first-same : (b : Bool) (x : Change) (xs ys : List Change) → xs ≡ ys → cond b (x ∷ xs) xs ≡ cond b (x ∷ ys) ys

@@ -1,4 +1,3 @@
 pub mod NameLemmas
 pub mod LineLemmas
-pub mod PrintableLemmas
 pub mod FaultLemmas

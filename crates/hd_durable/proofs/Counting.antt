@@ -1,9 +1,8 @@
 -- The turns that were answered, counted; and those since a number of them.
-use Rattle.std.proofs.Common.{arith, ◌≡◌, refl, sym, ap, subst, ℕ, zero, suc, ◌+◌, ◌-◌, ◌<◌, ◌≤◌, List, []}
+use Rattle.std.proofs.Common.{arith, ◌≡◌, refl, ap, subst, ℕ, zero, suc, ◌+◌, ◌-◌, ◌<◌, ◌≤◌, List, []}
 use Rattle.std.proofs.Common.{◌∷◌, ◌++◌, length, take, drop}
 use Rattle.std.proofs.Common.{Option, None, Some, slice_get, ◌∙◌, length-append, take-append-drop}
 use Rattle.hd_rules.specs.Journal.{Turn}
-use Rattle.hd_journal.specs.Books.{turn_numbered}
 
 -- as many as there are, at most
 pub took : (n : ℕ) (xs : List Turn) → n ≤ length xs → n ≡ length (take n xs)
@@ -24,17 +23,6 @@ got_within zero k xs within = absurd (omega (arith, within))
 got_within (suc n) k [] within = refl
 got_within (suc n) zero (x ∷ xs) within = refl
 got_within (suc n) (suc k) (x ∷ xs) within = got_within n k xs (omega (arith, within))
-
--- no turn past those that were answered
-pub numbered_past : (n at : ℕ) (turns : List Turn) → n < at → None ≡ turn_numbered (take n turns) at
-numbered_past n zero turns past = absurd (omega (arith, past))
-numbered_past n (suc at) turns past = sym (got_past n at turns (omega (arith, past)))
-
--- and the same turn within them
-pub numbered_within : (n at : ℕ) (turns : List Turn) → at ≤ n
-    → turn_numbered turns at ≡ turn_numbered (take n turns) at
-numbered_within n zero turns within = refl
-numbered_within n (suc at) turns within = sym (got_within n at turns (omega (arith, within)))
 
 -- of those since
 pub since_more : (n : ℕ) (turns more : List Turn) → n ≤ length turns
@@ -64,24 +52,10 @@ since_got (suc n) k (turn ∷ turns) =
     let e : suc n + k ≡ suc (n + k) = omega arith in
     ap (slice_get (turn ∷ turns)) e ∙ since_got n k turns
 
-pub since_numbered : (n at : ℕ) (turns : List Turn) → 0 < at
-    → turn_numbered turns (n + at) ≡ turn_numbered (drop n turns) at
-since_numbered n zero turns first = absurd (omega (arith, first))
-since_numbered n (suc at) turns first =
-    let e : n + suc at ≡ suc (n + at) = omega arith in
-    ap (turn_numbered turns) e ∙ since_got n at turns
-
 none_past : (k : ℕ) (turns : List Turn) → length turns ≤ k → slice_get turns k ≡ None
 none_past k [] past = refl
 none_past zero (turn ∷ turns) past = absurd (omega (arith, past))
 none_past (suc k) (turn ∷ turns) past = none_past k turns (omega (arith, past))
-
-pub since_past : (n at : ℕ) (turns : List Turn) → n ≤ length turns → length turns - n < at
-    → None ≡ turn_numbered (drop n turns) at
-since_past n zero turns few past = refl
-since_past n (suc at) turns few past =
-    let size = since_length n turns few in
-    sym (none_past at (drop n turns) (omega (arith, size, past)))
 
 -- none yet
 pub since_all : (turns : List Turn) → drop (length turns) turns ≡ []

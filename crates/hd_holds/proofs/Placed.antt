@@ -31,17 +31,6 @@ queue_at-none qs p none = rw (eq-eqb p 0 none) refl
 queue_at-own : (qs : List QueueValue) (p : ℕ) → 0 < p → queue_at qs p ≡ queue_of qs p
 queue_at-own qs p own = rw (ne_eqb p 0 (λ e. omega arith)) refl
 
--- the queue that stands at a title's place has the title's holds
-pub holds-at : (k : Facts) (ps : List ℕ) (qs : List QueueValue) → IsPlaced k ps qs → (t : ℕ) →
-    (queue_of qs (place_of ps t)).holds ≡ (queue_of (queues_at qs ps) t).holds
-holds-at k ps qs is t = elim (cases_eq (place_of ps t) 0) [
-  | inl e ↦ ap (λ (p : ℕ). (queue_of qs p).holds) e ∙ is.none
-      ∙ ap (λ (q : QueueValue). q.holds)
-      (sym (queue_of-queues_at qs ps t ∙ queue_at-none qs (place_of ps t) e))
-  | inr ne ↦ ap (λ (q : QueueValue). q.holds)
-      (sym (queue_of-queues_at qs ps t ∙ queue_at-own qs (place_of ps t) (omega (arith, ne))))
-]
-
 -- and it is the title's own where that is not the first
 pub queue-own : (qs : List QueueValue) (ps : List ℕ) (t : ℕ) → 0 < place_of ps t →
     queue_of qs (place_of ps t) ≡ queue_of (queues_at qs ps) t

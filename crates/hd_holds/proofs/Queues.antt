@@ -18,7 +18,7 @@ use Rattle.hd_holds.specs.Held.{AreQueues, IsQueue, IsWelcome, facts, no_queue, 
 use Rattle.hd_holds.specs.Held.{with_held}
 use Rattle.hd_holds.proofs.Counts.{count-all, count-holds}
 use Rattle.hd_queue.specs.Laws.{QueuesStayInOrder}
-use Rattle.hd_holds.proofs.Lists.{hold-named, hold_of-with_held, known-held, known-patrons, no_stamp-without}
+use Rattle.hd_holds.proofs.Lists.{hold-named, hold_of-with_held, known-patrons, no_stamp-without}
 use Rattle.hd_holds.proofs.Lists.{queue-with_held, stamps-apart}
 use Rattle.hd_lemmas.proofs.Counts.{count_below-le}
 
@@ -192,11 +192,6 @@ pub held-apart : (v : HoldsValue) → AreQueues (facts v) v.queues → StampsApa
 unfolding patron_hold
 held-apart v all = λ t p q g h one two same. stamps-apart (queue_of v.queues t).holds (all.queue t).ordered p
     q g h one two same
-
-pub held-known : (v : HoldsValue) → AreQueues (facts v) v.queues → (t p : ℕ)
-    → IsKnownHeld (facts v) (patron_hold v t p)
-unfolding patron_hold
-held-known v all t p = known-held (facts v) (queue_of v.queues t).holds p (all.queue t).known
 
 pub held-within : (v : HoldsValue) → AreQueues (facts v) v.queues → (t p : ℕ) (h : Hold) → patron_hold v t p
     ≡ Some h → t < (facts v).titles

@@ -1,9 +1,8 @@
 -- What is appended to a text, and the tables so far.
 use Rattle.std.proofs.Common.{◌≡◌, ℕ, ◌+◌, ◌<◌, ◌≤◌, Bool, true, false, List, [], ◌∷◌, ◌++◌, map, All, refl}
-use Rattle.std.proofs.Common.{sym, ap, ◌∙◌, append_assoc, arith}
+use Rattle.std.proofs.Common.{sym, ap, ◌∙◌, append_assoc}
 use Rattle.std.proofs.Common.{get_or, length, subst, take}
-use Rattle.std.specs.List.{flat_map, list_all, sum}
-use Rattle.std.proofs.lemmas.List.Sums.{sum_by-append}
+use Rattle.std.specs.List.{flat_map, list_all}
 use Rattle.std.proofs.lemmas.List.{append-nil, flat_map_more, map-append, take_all, take_more}
 use Rattle.std.proofs.lemmas.List.Elements.{All-nil, All-push}
 use Rattle.std.proofs.lemmas.List.Folds.{list_all-append}
@@ -129,9 +128,3 @@ all_tables settings format sources sheets n out counts are past so = (
   },
   so.counted,
 )
-
--- one number more
-pub sum_more : (xs : List ℕ) (i d : ℕ) → i < length xs
-    → sum (take (i + 1) xs) ≡ sum (take i xs) + get_or xs i d
-sum_more xs i d l =
-    rw (take_more xs i d l) (sum_by-append (λ (x : ℕ). x) (take i xs) (get_or xs i d ∷ []) ∙ omega arith)

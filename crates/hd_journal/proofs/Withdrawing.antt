@@ -90,13 +90,6 @@ goes_at laws k terminal what value n old new goes =
     can_go laws k value.records n goes.at.record_there goes.at.parts goes.at.kept.may_run goes.at.of.known
     goes.stands
 
--- the answer without a target, where a later one depends on it, and where none does
-pub refused_nothing : (contents : Contents) (terminal : ℕ) (what : Cancel) (value : RecordsValue)
-    → target terminal what (survivors_of value.records) ≡ None
-    → IsRefused contents terminal what value refusal.NothingToCancel
-refused_nothing contents terminal what value none kept =
-    ap (answered_cancel (facts_of contents) (state_at (run_at contents value.records value.last) kept)) none
-
 pub refused_depends : (laws : CancellationLaws) (contents : Contents) (terminal : ℕ) (what : Cancel)
     (value : RecordsValue) (n m : ℕ)
     → IsTargetAt (facts_of contents) terminal what value n

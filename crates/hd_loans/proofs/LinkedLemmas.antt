@@ -15,7 +15,6 @@ use Rattle.hd_loans.specs.Counts.{AreBelow, is_loan_to}
 use Rattle.hd_loans.specs.Lent.{is_lent_to}
 use Rattle.hd_loans.specs.Links.{LeadsOn, IsLastBelow, AreKnown, AreLinked, LinksValue}
 use Rattle.hd_loans.proofs.LoansLemmas.{insert_other, insert_here, remove_other, remove_here, replace_alike}
-use Rattle.hd_loans.proofs.LoansLemmas.{not_lent}
 use Rattle.hd_loans.proofs.LinksLemmas.{leads-same, leads-elsewhere, leads-here, leads-past, leads-later}
 use Rattle.hd_loans.proofs.LinksLemmas.{leads-no_further, leads-beyond}
 
@@ -451,12 +450,3 @@ AreLinked-empty n fs ns room ends = record {
   where
     nothing_lent : (p q : ℕ) → is_lent_to empty p q ≡ false
     nothing_lent p q = ap (is_loan_to p) (get-empty {X = Loan} nat_cmp q)
-
--- a patron past all that have room has no loans
-pub leads-past_patrons : (m : LoansMap) (n ps p : ℕ) → AreKnown m n ps → ps ≤ p →
-    LeadsOn (is_lent_to m p) 0 MOST_COPIES
-leads-past_patrons m n ps p a l = record {
-  onward = omega arith;
-  passes = λ m. absurd (let no : ⊥ = omega arith in no);
-  first = λ q _ _. not_lent (get m q) p ps l (λ loan e. (a.within q loan e).1);
-}

@@ -80,12 +80,6 @@ abbrev pub IsReached : (ℕ → Bool) → ℕ → Option ℕ → ℕ → Type 0
 IsReached t limit None link = LeadsOn t 0 link
 IsReached t limit (Some last) link = (last < limit) × (t last ≡ true) × LeadsOn t (last + 1) link
 
--- where the link doesn't lead below the limit, the walk is at its end
-pub reached-end : (t : ℕ → Bool) (limit : ℕ) (o : Option ℕ) (link : ℕ) → IsReached t limit o link
-    → limit ≤ link → IsLastBelow t limit o
-reached-end t limit None link l far = λ q small. l.first q (omega arith) (omega arith)
-reached-end t limit (Some last) link l far = (l.0, l.1, λ q low high. l.2.first q (omega arith) (omega arith))
-
 -- a link that the walk has come to leads to a number that passes
 pub reached-passes : (t : ℕ → Bool) (limit : ℕ) (o : Option ℕ) (link : ℕ) → IsReached t limit o link
     → link < MOST_COPIES → t link ≡ true

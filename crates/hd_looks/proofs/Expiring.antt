@@ -136,20 +136,6 @@ from_patron d queues titles t p less few =
     (λ j. of_titles queues (titles - title j) (title j) (stamp_at d (title j) (at j)))
     ∙ title_more queues titles t (stamp_or_first (d.hold t p)) less
 
--- the holds from a title on
-pub from_title : (d : Desk) (queues : ℕ → List Hold) (titles t : ℕ)
-    → (let place : ℕ = t * 1000001 in
-    of_titles queues (titles - title_at place) (title_at place)
-    (stamp_at d (title_at place) (place % 1000001)))
-    ≡ of_titles queues (titles - t) t 0
-from_title d queues titles t =
-    let place : ℕ = t * 1000001 in
-    let same : place ≡ t * 1000001 + 0 = omega arith in
-    let title : title_at place ≡ t = ap title_at same ∙ title_of_place t 0 (omega arith) in
-    let at : place % 1000001 ≡ 0 =
-    ap (λ (n : ℕ). n % 1000001) same ∙ mod-mul-add t 1000001 0 (omega arith) in
-    (λ j. of_titles queues (titles - title j) (title j) (stamp_at d (title j) (at j)))
-
 -- a page that ends before a patron's hold of a title
 pub ends_before : (k : Facts) (d : Desk) (queues : ℕ → List Hold) (day first t stamp p most left : ℕ)
     (old new : PageValue) → t < k.titles → p < 1000000

@@ -4,7 +4,6 @@ pub mod RepeatedLemmas
 pub mod WrittenLemmas
 pub mod WalkLemmas
 pub mod ReadBackLemmas
-pub mod ReadingLemmas
 pub mod ReadableLemmas
 pub mod ItemReadBack
 pub mod CheckoutReadBack

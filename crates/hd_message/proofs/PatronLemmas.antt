@@ -1,6 +1,6 @@
 -- Patron messages are read in one way.
-use Rattle.std.proofs.Common.{◌≡◌, ℕ, ◌≤◌, ◌||◌, Bool, true, false, List, Option, None, Some, IfSome, Ok, Err}
-use Rattle.std.proofs.Common.{codes, is_none}
+use Rattle.std.proofs.Common.{◌≡◌, ℕ, ◌≤◌, ◌||◌, Bool, true, false, List, Ok, Err}
+use Rattle.std.proofs.Common.{codes}
 use Rattle.std.proofs.Common.{length, take, refl, sym, ap, subst, ◌∙◌, arith, nat_lt, length-append}
 use Rattle.std.proofs.Common.{if◌then◌else◌, ◌++◌, MatchBool}
 use Rattle.std.specs.Prelude.{⊤}
@@ -41,15 +41,6 @@ decoded Kinds.RenewAll = refl
 -- two kinds of one code are one
 pub one_patron_kind : (a b : PatronKind) → patron_code a ≡ patron_code b → a ≡ b
 one_patron_kind a b h = sym (decoded a) ∙ ap decode h ∙ decoded b
-
--- a request that is found in a body with the code of a kind
-pub patron_found : (body : List ℕ) (kind : PatronKind) (found : Option PatronRequest)
-    → take 2 body ≡ patron_code kind → is_none found ≡ is_unreadable_patron kind body
-    → IfSome found (StatesPatron kind (patron_fixed kind body) (patron_fields kind body))
-    → IfSome found (IsPatronMessage body)
-patron_found body kind None code unreadable states = tt
-patron_found body kind (Some request) code unreadable states =
-    record { kind = kind; code = code; readable = sym unreadable; states = states }
 
 -- no body is a request and unreadable
 pub patron_apart : (body : List ℕ) (request : PatronRequest) (message : UnreadablePatron) →

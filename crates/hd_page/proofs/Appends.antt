@@ -8,9 +8,3 @@ pub three_pieces : (o n₁ n₂ n₃ a b c : List ℕ) → n₁ ≡ o ++ a → n
     → n₃ ≡ o ++ (a ++ b ++ c)
 three_pieces o n₁ n₂ n₃ a b c first second third =
     rw (third, second, first) (simp append_assoc)
-
-pub four_pieces : (o n₁ n₂ n₃ n₄ a b c d : List ℕ)
-    → n₁ ≡ o ++ a → n₂ ≡ n₁ ++ b → n₃ ≡ n₂ ++ c → n₄ ≡ n₃ ++ d
-    → n₄ ≡ o ++ (a ++ b ++ c ++ d)
-four_pieces o n₁ n₂ n₃ n₄ a b c d first second third fourth =
-    rw (fourth, third, second, first) (simp append_assoc)

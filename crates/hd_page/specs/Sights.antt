@@ -9,8 +9,8 @@ use Rattle.hd_page.specs.declared.view.Outcome.{Outcome}
 use Rattle.hd_page.specs.declared.view.Outcome.TheVariants.{Written, Unknown, Refused}
 use Rattle.hd_page.specs.declared.view.ViewFault.{ViewFault}
 
--- what is asked: what there is under a name, what there is by a day, the turns after so many, the command of a
--- number
+-- what is asked: what there is under a name, what there is by a day, the turns after so many, the command of
+-- a number
 pub data Asked : Type 0 where
   NameAsked : Named → List ℕ → ℕ → Asked
   DayAsked : Dated → List ℕ → ℕ → Asked

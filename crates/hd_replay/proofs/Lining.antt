@@ -2,11 +2,10 @@
 use Rattle.std.proofs.Common.{◌≡◌, ◌==◌, ◌∙◌, ◌<◌, ◌≤◌, ℕ, zero, suc, true, false, List, [], ◌∷◌, ◌++◌}
 use Rattle.std.proofs.Common.{length, flat_map, Contains, arith}
 use Rattle.std.proofs.Common.{refl, sym, ap, ap₂, subst, append_assoc, append-nil, eqb-true, drop, set, take}
-use Rattle.std.proofs.Common.{get_or, slice_index}
-use Rattle.std.proofs.Common.{take-append-drop, length-append, ◌-◌, ◌+◌}
-use Rattle.std.proofs.lemmas.Bool.{eq-eqb, eqb-false, true≢false}
-use Rattle.std.proofs.lemmas.List.{append_cancel_right, drop-drop, drop-set-add, drop-set-lt, drop_more}
-use Rattle.std.proofs.lemmas.List.{get_or-drop, get_or_default}
+use Rattle.std.proofs.Common.{get_or}
+use Rattle.std.proofs.Common.{length-append, ◌-◌, ◌+◌}
+use Rattle.std.proofs.lemmas.Bool.{eqb-false}
+use Rattle.std.proofs.lemmas.List.{drop-drop, drop-set-add, drop-set-lt}
 use Rattle.std.proofs.lemmas.List.{length-drop}
 use Rattle.std.proofs.lemmas.List.Concat.{flat_map-append}
 use Rattle.std.proofs.lemmas.List.Elements.{All-append, All-cons, All-nil}
@@ -105,12 +104,6 @@ lines_exist end (byte ∷ text) =
       | false ↦ λ is. byte_before end byte text later.1 later.0 (eqb-false byte end is) later.2
     ] refl
 
--- a last line that nothing ends, behind others
-pub rest_behind : (lines later : List (List ℕ)) (rest : List ℕ) → with_rest (lines ++ later) rest
-    ≡ lines ++ with_rest later rest
-rest_behind lines later [] = refl
-rest_behind lines later (byte ∷ rest) = append_assoc lines later ((byte ∷ rest) ∷ [])
-
 -- one more line is done
 pub line_done : (end : ℕ) (text rest first after : List ℕ) (done : List (List ℕ)) → text
     ≡ ended end done ++ rest →
@@ -145,19 +138,6 @@ are_from end text rest rest' done later whole all are = record {
   unended = are.unended;
 }
 
--- the lines up to a byte that ends one, and a rest without any
-pub whole_up_to : (end : ℕ) (text front rest : List ℕ) → text ≡ front ++ end ∷ rest
-    → (Contains rest end → ⊥) →
-    (lines : List (List ℕ)) × AreLines end text lines rest
-whole_up_to end text front rest split none =
-    let lines = lines_exist end front in
-    let last : AreLines end (lines.1 ++ end ∷ rest) (lines.1 ∷ []) rest =
-    are_one_more end lines.1 rest rest [] lines.2.unended (are_none end rest none) in (
-      lines.0 ++ lines.1 ∷ [],
-      subst (λ (t : List ℕ). AreLines end t (lines.0 ++ lines.1 ∷ []) rest) (sym split)
-          (are_append end front (end ∷ rest) lines.1 rest lines.0 (lines.1 ∷ []) lines.2 last),
-    )
-
 -- a text that begins with a line
 pub line_first : (end : ℕ) (text first after rest : List ℕ) (lines : List (List ℕ)) → text
     ≡ first ++ end ∷ after →
@@ -165,45 +145,6 @@ pub line_first : (end : ℕ) (text first after rest : List ℕ) (lines : List (L
 line_first end text first after rest lines split none are =
     subst (λ (t : List ℕ). AreLines end t (first ∷ lines) rest) (sym split)
     (are_one_more end first after rest lines none are)
-
--- a line first, and a last one that nothing ends
-pub rest_after : (done later : List (List ℕ)) (first rest : List ℕ) →
-    with_rest (done ++ first ∷ later) rest ≡ done ++ first ∷ with_rest later rest
-rest_after done later first rest =
-    rest_behind done (first ∷ later) rest
-    ∙ ap (λ (l : List (List ℕ)). done ++ l) (rest_behind (first ∷ []) later rest)
-
-pub rest_is_line : (lines : List (List ℕ)) (rest : List ℕ) → (length rest == 0) ≡ false → with_rest lines rest
-    ≡ lines ++ rest ∷ []
-rest_is_line lines [] some = absurd (true≢false some)
-rest_is_line lines (byte ∷ rest) some = refl
-
-pub no_rest : (lines : List (List ℕ)) (rest : List ℕ) → (length rest == 0) ≡ true → with_rest lines rest
-    ≡ lines
-no_rest lines [] none = refl
-no_rest lines (byte ∷ rest) none = let no : suc (length rest)
-    ≡ 0 = eqb-true _ _ none in absurd (omega (arith, no))
-
--- no byte from a place on ends a line
-pub none_from : (end : ℕ) (text : List ℕ) (i : ℕ)
-    → ((k : ℕ) → i ≤ k → k < length text → (slice_index text k == end) ≡ true → ⊥) →
-    Contains (drop i text) end → ⊥
-none_from end text i nowhere (k, within, is) =
-    let long : k < length text - i = rw (length-drop i text) at within in
-    let at : get_or text (i + k) end ≡ end = sym (get_or-drop i text k end) ∙ is in
-    nowhere (i + k) (omega arith) (omega (arith, long))
-    (eq-eqb _ _ (get_or_default text (i + k) 0 end (omega (arith, long)) ∙ at))
-
--- the last byte that ends one
-pub last_found : (end : ℕ) (text : List ℕ) (last : ℕ) → last < length text → (slice_index text last == end)
-    ≡ true →
-    ((k : ℕ) → last + 1 ≤ k → k < length text → (slice_index text k == end) ≡ true → ⊥)
-    → (lines : List (List ℕ)) × AreLines end text lines (drop (last + 1) text)
-last_found end text last within is after =
-    let split : text ≡ take last text ++ end ∷ drop (last + 1) text =
-    sym (take-append-drop last text) ∙ ap (λ (t : List ℕ). take last text ++ t)
-    (drop_more text last 0 within ∙ ap (λ (b : ℕ). b ∷ drop (last + 1) text) (eqb-true _ _ is)) in
-    whole_up_to end text (take last text) (drop (last + 1) text) split (none_from end text (last + 1) after)
 
 -- a byte stands in a text that it ends a part of
 pub stands_there : (end : ℕ) (front rest : List ℕ) → Contains (front ++ end ∷ rest) end
@@ -270,23 +211,6 @@ lines_alone end text rest rest' (l ∷ ls) (m ∷ ms) a b =
     } in
     let others = lines_alone end (ended end ls ++ rest) rest rest' ls ms later later' in
     (ap₂ (λ (x : List ℕ) (xs : List (List ℕ)). x ∷ xs) first.0 others.0, others.1)
-
--- whole lines have no rest
-pub whole_lines_alone : (end : ℕ) (text front rest rest' : List ℕ) (lines lines' : List (List ℕ)) → text
-    ≡ front ++ rest →
-    AreLines end text lines rest → AreLines end front lines' rest' → (lines ≡ lines') × (rest' ≡ [])
-whole_lines_alone end text front rest rest' lines lines' split a b =
-    let front_is : front
-    ≡ ended end lines = append_cancel_right front (ended end lines) rest (sym split ∙ a.whole) in
-    let all : AreLines end front lines [] =
-    record {
-      whole = front_is ∙ sym (append-nil (ended end lines));
-      plain = a.plain;
-      unended =
-          not_in_nothing end;
-    } in
-    let same = lines_alone end front [] rest' lines lines' all b in
-    (same.0, sym same.1)
 
 -- lines take their bytes
 pub lines_fit : (end : ℕ) (lines : List (List ℕ)) (rest : List ℕ)

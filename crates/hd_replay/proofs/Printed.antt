@@ -20,13 +20,6 @@ prints_after out between out' text more (Err fault) first rest = (
       ∙ (ap (λ (t : List ℕ). t ++ rest.0) first ∙ append_assoc out text rest.0),
 )
 
--- some of a text is some of it and more
-pub prints_some : {E : Type 0} (out out' text more : List ℕ) (fault : E)
-    → PrintsBehind {E = E} out out' text (Err fault) →
-    PrintsBehind {E = E} out out' (text ++ more) (Err fault)
-prints_some out out' text more fault (part, begins, is) =
-    (part, (begins.0 ++ more, ap (λ (t : List ℕ). t ++ more) begins.1 ∙ append_assoc part begins.0 more), is)
-
 -- the parts of a line that is printed, up to one of them
 pub line_begins : (session : ℕ) (number blank text feed : Bor (List ℕ)) (i : ℕ) → number.now ≡ decimal session
     → blank.now ≡ 32 ∷ [] →
@@ -81,9 +74,3 @@ line_printed session out between out' reply done first then =
 pub begins_more : (text more part : List ℕ) → BeginsWith text part → BeginsWith (text ++ more) part
 begins_more text more part begins =
     (begins.0 ++ more, ap (λ (t : List ℕ). t ++ more) begins.1 ∙ append_assoc part begins.0 more)
-
--- what begins what is behind a text
-pub begins_behind : (text more part : List ℕ) → BeginsWith more part
-    → BeginsWith (text ++ more) (text ++ part)
-begins_behind text more part begins =
-    (begins.0, ap (λ (t : List ℕ). text ++ t) begins.1 ∙ sym (append_assoc text part begins.0))

@@ -40,11 +40,6 @@ without_owed : (owes : Bool) (text : List ℕ)
 without_owed true text = refl
 without_owed false text = refl
 
-ends_owed : (owes : Bool) (text : List ℕ)
-    → ends_with_return owes (owed owes ++ text) ≡ ends_with_return false text
-ends_owed true text = refl
-ends_owed false text = refl
-
 -- a text is read back
 read_back : (text : List ℕ) → without_line_feeds false (with_line_feeds text) ≡ text
 read_back [] = refl
@@ -135,19 +130,6 @@ gives_then owes owes' owes'' a b c s t first next = record {
       ∙ ap (λ (b : Bool). ends_with_return b next.given) first.ends
       ∙ next.ends;
 }
-
--- nothing is given
-pub gives_nothing : (owes : Bool) (a b : Option (List ℕ)) → Appends a b [] → Gives owes owes a b []
-gives_nothing owes a b appends = record {
-  given = [];
-  appends = appends;
-  whole = sym (append-nil (owed owes));
-  ends = refl;
-}
-
--- the line feed that was owed is given
-pub gives_owed : (a b : Option (List ℕ)) → Appends a b (10 ∷ []) → Gives true false a b []
-gives_owed a b appends = record { given = 10 ∷ []; appends = appends; whole = refl; ends = refl }
 
 -- a text without a carriage return
 

@@ -1,12 +1,12 @@
 -- The boards that have a free place, counted by bay, and the first of them.
-use Rattle.std.proofs.Common.{◌≡◌, ◌≢◌, ℕ, ◌+◌, ◌-◌, ◌*◌, ◌/◌, ◌<◌, ◌≤◌, true, false, cond, List, [], length}
+use Rattle.std.proofs.Common.{◌≡◌, ◌≢◌, ℕ, ◌+◌, ◌-◌, ◌*◌, ◌/◌, ◌<◌, ◌≤◌, true, false, cond, List, length}
 use Rattle.std.proofs.Common.{get_or, set, drop}
 use Rattle.std.proofs.Common.{None, Some, sym, ap, ◌∙◌, inl, inr, arith, get_or-set_same, get_or-set_other}
 use Rattle.std.proofs.Common.{length-set}
 use Rattle.std.proofs.Common.{length-drop}
 use Rattle.std.specs.Prelude.{slice_index, nat_lt, position}
 use Rattle.std.specs.List.{position_or_len}
-use Rattle.std.proofs.lemmas.Bool.{cases_lt, cases_eq, lt-ltb, le-ltb, ltb-true, ltb-false}
+use Rattle.std.proofs.lemmas.Bool.{cases_lt, lt-ltb, le-ltb, ltb-true, ltb-false}
 use Rattle.std.proofs.lemmas.List.{get_or_past, get_or-drop}
 use Rattle.std.proofs.lemmas.List.Sums.{position_or_len_is, fails_before_first}
 use Rattle.std.proofs.lemmas.List.Quantifiers.{position-Some}
@@ -16,13 +16,6 @@ use Rattle.hd_shelf.specs.Taken.{AreCounts, AreInBays, has_free}
 use Rattle.hd_shelf.proofs.CountLemmas.{AreCounts-le, AreCounts-some, AreCounts-none, AreCounts-begins}
 use Rattle.hd_shelf.proofs.CountLemmas.{AreCounts-agree, AreCounts-longer}
 use Rattle.hd_shelf.proofs.CountLemmas.{AreCounts-raise, AreCounts-lower}
-
--- there are no boards in no bays
-pub AreInBays-empty : AreInBays [] []
-AreInBays-empty = record {
-  counts = record { each = λ span within. absurd (omega arith) };
-  enough = omega arith;
-}
 
 -- a write leaves the other boards as they are
 written_elsewhere : (boards : List ℕ) (board value k : ℕ) → k ≢ board
@@ -34,27 +27,10 @@ written_here : (boards : List ℕ) (board value : ℕ) → board < length boards
     → has_free (set boards board value) board ≡ nat_lt 0 value
 written_here boards board value within = ap (nat_lt 0) (get_or-set_same boards board value 0 within)
 
-still_free : (boards : List ℕ) (board value : ℕ) → board < length boards → 0 < slice_index boards board
-    → 0 < value → (k : ℕ) → has_free boards k ≡ has_free (set boards board value) k
-still_free boards board value within before after k = elim (cases_eq k board) [
-  | inl here ↦ rw here (lt-ltb 0 (slice_index boards board) before
-      ∙ sym (written_here boards board value within ∙ lt-ltb 0 value after))
-  | inr apart ↦ written_elsewhere boards board value k apart
-]
-
 -- there is a bay for each board
 pub bay_of : (boards bays : List ℕ) (board : ℕ) → AreInBays boards bays → board < length boards
     → board / SPAN < length bays
 bay_of boards bays board are within = omega (arith, are.enough)
-
--- a board that has a free place still has one
-pub AreInBays-stay : (boards bays : List ℕ) (board value : ℕ) → AreInBays boards bays → board < length boards
-    → 0 < slice_index boards board → 0 < value → AreInBays (set boards board value) bays
-AreInBays-stay boards bays board value are within before after = record {
-  counts = AreCounts-agree (has_free boards) (has_free (set boards board value)) bays are.counts
-      (still_free boards board value within before after);
-  enough = omega (arith, are.enough, length-set boards board value);
-}
 
 -- a board that has one now and had none
 pub AreInBays-open : (boards bays : List ℕ) (board value : ℕ) → AreInBays boards bays

@@ -257,19 +257,6 @@ IsKept-longer m room boards more kept same longer = record {
   };
 }
 
--- more places that have room
-pub IsKept-more : (m : FinMap nat_cmp ℕ) (room last : ℕ) (boards more : List ℕ)
-    → IsCountedByBoard m room boards → room ≤ last → AreCounts (is_free_after m last) more
-    → last ≤ SPAN * length more → IsCountedByBoard m last more
-IsKept-more m room last boards more kept higher counts enough = record {
-  shelf = kept.shelf;
-  above = λ place past. kept.above place (omega arith);
-  free = record {
-    counts = counts;
-    enough = enough;
-  };
-}
-
 -- a board without a free place has a copy at each of its places that has room
 taken_on_board : (m : FinMap nat_cmp ℕ) (room p : ℕ) (boards : List ℕ) → AreOnBoards m room boards → 1 ≤ p
     → p ≤ room → slice_index boards ((p - 1) / SPAN) ≡ 0 → IsSome (get m p)

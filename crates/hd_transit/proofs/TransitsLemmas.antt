@@ -1,5 +1,5 @@
 -- What sending and arriving keep, and how the copies bound for a branch follow one another.
-use Rattle.std.proofs.Common.{◌≡◌, ℕ, zero, suc, ◌+◌, ◌-◌, ◌<◌, ◌≤◌, Bool, true, cond, Option, None, Some, []}
+use Rattle.std.proofs.Common.{◌≡◌, ℕ, zero, suc, ◌+◌, ◌-◌, ◌<◌, ◌≤◌, Bool, true, cond, Option, None, Some}
 use Rattle.std.proofs.Common.{◌∷◌, ap, refl, arith, inl}
 use Rattle.std.proofs.Common.{inr}
 use Rattle.std.specs.Prelude.{eqb, nat_lt, ◌&&◌}
@@ -65,15 +65,6 @@ pub bound_from-step : (m : FinMap nat_cmp Transit) (copies to first : ℕ)
 bound_from-step m copies to first l =
     filter_of-step (λ copy. is_bound_for to (get m copy)) first (copies - first) (copies - (first + 1))
     (omega arith)
-
--- past the last copy there is none
-pub bound_from-past : (m : FinMap nat_cmp Transit) (copies to first : ℕ) → copies ≤ first
-    → bound_from m copies to first ≡ []
-bound_from-past m copies to first l =
-    ap (λ k. filter (λ copy. is_bound_for to (get m copy)) (range_with_len first k)) none
-  where
-    none : copies - first ≡ 0
-    none = omega arith
 
 -- numbers in a row rise
 rising : (first n : ℕ) → IsStrictlyIncreasing (range_with_len first n)

@@ -113,17 +113,6 @@ no_room room items xs ys full =
     let none : room - length items ≡ 0 = omega arith in
     ap (λ (n : ℕ). items ++ take n xs) none ∙ ap (λ (n : ℕ). items ++ take n ys) (sym none)
 
--- the next item is taken, where none is to be passed over
-pub next_of_some : (skip left : ℕ) (x : ListItem) (rest : List ListItem) → (0 < skip → ⊥) → 0 < left →
-    x ∷ take (left - 1) (drop skip rest) ≡ take left (drop skip (x ∷ rest))
-next_of_some zero left x rest none some = sym (take_more left x rest some)
-next_of_some (suc skip) left x rest none some = absurd (none (omega arith))
-
-pub next_of_all : (skip : ℕ) (x : ListItem) (rest : List ListItem) → (0 < skip → ⊥) →
-    x ∷ drop skip rest ≡ drop skip (x ∷ rest)
-next_of_all zero x rest none = refl
-next_of_all (suc skip) x rest none = absurd (none (omega arith))
-
 -- no more are wanted
 pub no_more : (left : ℕ) (xs ys : List ListItem) → (0 < left → ⊥) → take left xs ≡ take left ys
 no_more zero xs ys none = refl

@@ -9,6 +9,7 @@ use crate::keeping::{Keeping, open_over};
 use crate::presence::see_no_file;
 use crate::writing::{name_part, part_path, write_whole};
 use hd_command_line::{Carry, LibraryFiles, Place};
+use hd_journal::Journal;
 use hd_setup::{Library, read_file};
 use hd_turn_store::Unknown;
 
@@ -18,8 +19,7 @@ pub(crate) fn carry_over(rt: &HostRuntime, order: &Carry<'_>) -> Result<(), Faul
         Place::Files(files) => {
             let catalogue = read_file(rt, "catalogue", order.to)?;
             let way = way_of(order, catalogue.as_slice(), order.into.unwrap_or(""));
-            let carried = carry_files(rt, files, &way)?;
-            name_opening(rt, &way, &carried)
+            carry_files(rt, files, &way, None)
         }
         Place::Folder(folder) => carry_folder(rt, folder, order),
     }
@@ -46,10 +46,7 @@ fn carry_period(
 ) -> Result<(), Fault> {
     let catalogue = read_file(rt, "catalogue", order.to)?;
     let way = way_of(order, catalogue.as_slice(), new.opening.unwrap_or(""));
-    let carried = carry_files(rt, old, &way)?;
-    write_whole(rt, new.catalogue, catalogue.as_slice())?;
-    begin_anew(rt, new.journal.unwrap_or(""), &carried.digest)?;
-    name_opening(rt, &way, &carried)
+    carry_files(rt, old, &way, Some(new))
 }
 
 /// Which way a desk is to be carried over to this catalogue file's bytes, into this opening file.
@@ -65,12 +62,14 @@ fn way_of<'to, 'off, 'into>(
     }
 }
 
-/// Carries the desk of a library's journal over, and ends the journal: the opening is then beside its path.
+/// Carries the desk of a library's journal over, into a next period, if there is to be one, and then ends the
+/// journal. Until the opening has its name no server can take turns of the old journal, which would be lost.
 fn carry_files(
     rt: &HostRuntime,
     files: &LibraryFiles<'_>,
     way: &Way<'_, '_, '_>,
-) -> Result<Carried, Fault> {
+    next: Option<&LibraryFiles<'_>>,
+) -> Result<(), Fault> {
     see_no_file(rt, way.into)?;
     let keeping = Keeping {
         library: *files,
@@ -80,9 +79,26 @@ fn carry_files(
     let library = Library::read_text(rt, files)?;
     let before = library.digest;
     let kept = open_over(rt, Unknown, &keeping, library)?;
-    let carried = carry_desk(rt, kept.answered_journal()?, before, way);
+    let carried = carry_journal(rt, kept.answered_journal()?, before, way, next);
     end_journal(kept)?;
     carried
+}
+
+/// Carries the desk of a journal over: the files of the next period, if there is to be one, and at last the
+/// opening's name.
+fn carry_journal(
+    rt: &HostRuntime,
+    journal: &Journal,
+    before: [u8; 32],
+    way: &Way<'_, '_, '_>,
+    next: Option<&LibraryFiles<'_>>,
+) -> Result<(), Fault> {
+    let carried = carry_desk(rt, journal, before, way)?;
+    if let Some(next) = next {
+        write_whole(rt, next.catalogue, way.to)?;
+        begin_anew(rt, next.journal.unwrap_or(""), &carried.digest)?;
+    }
+    name_opening(rt, way, &carried)
 }
 
 /// Gives the opening that lies beside its path its name, and tells what was carried over.

@@ -100,7 +100,7 @@ fn main(rt: HostRuntime) -> io::Result<ExitCode> {
 ///
 /// # Errors
 /// Why it stopped.
-fn carry_out<R: Threads + Wait + Clock + Sync + Print>(
+fn carry_out<R: Threads + Wait + Clock + Sync>(
     rt: &R,
     host: &HostRuntime,
     order: &Order<'_>,

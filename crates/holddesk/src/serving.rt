@@ -39,7 +39,7 @@ pub(crate) struct Serving<'a> {
 }
 
 /// Serves terminals over a library whose journal is in memory, and tells how it ended.
-pub(crate) fn serve_in_memory<R: Threads + Wait + Clock + Sync + Print>(
+pub(crate) fn serve_in_memory<R: Threads + Wait + Clock + Sync>(
     rt: &R,
     host: &HostRuntime,
     files: &LibraryFiles<'_>,
@@ -58,7 +58,7 @@ pub(crate) fn serve_in_memory<R: Threads + Wait + Clock + Sync + Print>(
         last_commit: &LastCommit::new(),
     };
     let closed: Journal = serve_by(rt, host, listener, journal, &serving)?;
-    tell_end(rt, &summary_of(&closed))?;
+    tell_end(host, &summary_of(&closed))?;
     Ok(())
 }
 
@@ -187,7 +187,7 @@ fn tell_start<R: Eprint>(
 }
 
 /// Tells how serving ended.
-pub(crate) fn tell_end<R: Print>(rt: &R, summary: &Summary) -> io::Result<()> {
+pub(crate) fn tell_end(rt: &HostRuntime, summary: &Summary) -> io::Result<()> {
     println!(rt;
         "closed: {} turns, {} survivors",
         summary.turns, summary.survivors

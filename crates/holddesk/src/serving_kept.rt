@@ -27,7 +27,7 @@ use std::time::Clock;
 /// Serves terminals over a library as the words of the command line say, and, where there is to be one, opens
 /// a door at which the server is seen. Whoever asks it there to end hears when it has. Of a file that
 /// can't be read the log has path and reason, and the fault is one line for all paths.
-pub(crate) fn serve<R: Threads + Wait + Clock + Sync + Print>(
+pub(crate) fn serve<R: Threads + Wait + Clock + Sync>(
     rt: &R,
     host: &HostRuntime,
     order: &Serve<'_>,
@@ -45,7 +45,7 @@ pub(crate) fn serve<R: Threads + Wait + Clock + Sync + Print>(
 }
 
 /// Serves terminals over a library, with a door or without.
-fn serve_at_door<R: Threads + Wait + Clock + Sync + Print>(
+fn serve_at_door<R: Threads + Wait + Clock + Sync>(
     rt: &R,
     host: &HostRuntime,
     order: &Serve<'_>,
@@ -60,7 +60,7 @@ fn serve_at_door<R: Threads + Wait + Clock + Sync + Print>(
 }
 
 /// Serves terminals over a library, with its journal in memory or in a file.
-fn serve_library<R: Threads + Wait + Clock + Sync + Print>(
+fn serve_library<R: Threads + Wait + Clock + Sync>(
     rt: &R,
     host: &HostRuntime,
     order: &Serve<'_>,
@@ -86,7 +86,7 @@ fn serve_library<R: Threads + Wait + Clock + Sync + Print>(
 
 /// Opens a journal's file, sees that the disk takes a write, serves terminals as the words of the command
 /// line say, and tells how it ended. The turns in the file are told first.
-fn run_kept<R: Threads + Wait + Clock + Sync + Print, S: Start + Send>(
+fn run_kept<R: Threads + Wait + Clock + Sync, S: Start + Send>(
     rt: &R,
     host: &HostRuntime,
     start: S,
@@ -108,7 +108,7 @@ fn run_kept<R: Threads + Wait + Clock + Sync + Print, S: Start + Send>(
         last_commit: &LastCommit::new(),
     };
     let summary = serve_from_disks(rt, host, opened, &serving)?;
-    tell_end(rt, &summary)?;
+    tell_end(host, &summary)?;
     Ok(())
 }
 

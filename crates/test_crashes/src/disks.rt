@@ -3,14 +3,14 @@ ghost use Rattle.std.specs.Prelude.{IsTrue, IfErr, IfOk};
 
 use hd_turn_store::{Connection, FileStore, Files};
 use sqlite::Options;
-use sqlite_disk::{Crash, Fuse, Memory};
+use sqlite_disk::{Crash, Disk, Fuse, Memory};
 use std::alloc::Global;
 
 /// A file and its log.
 pub(crate) type Disks = Files<Fuse<Memory>>;
 
-/// A connection to the database in them.
-pub(crate) type OnDisks = Connection<FileStore<Fuse<Memory>>>;
+/// A connection to the database in a file and its log.
+pub(crate) type OnDisks<D> = Connection<FileStore<D>>;
 
 /// The log is copied into the database file after few commits, so that stops fall there too.
 const OPTIONS: Options = Options {
@@ -49,7 +49,7 @@ pub(crate) fn database(disks: &Disks) -> &[u8] {
 
 /// Opens the database in them, in which each page of a new one has a sum, as in a file of the program. Where
 /// it can't be opened, the disks come back.
-pub(crate) fn open(alloc: Global, disks: Disks) -> Result<OnDisks, Disks> {
+pub(crate) fn open<D: Disk + Drop>(alloc: Global, disks: Files<D>) -> Result<OnDisks<D>, Files<D>> {
     if !disks.may_be_used() {
         return Err(disks);
     }

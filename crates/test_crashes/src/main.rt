@@ -18,13 +18,13 @@ mod stopping;
 mod whole;
 
 use crate::row::{Row, rows};
-use crate::stopping::{Disk, calls, is_read_in_the_old_format};
+use crate::stopping::{WhichDisk, calls, is_read_in_the_old_format};
 use std::io;
 
 fn main(rt: HostRuntime) -> io::Result<()> {
     for row in rows() {
-        print_calls(&rt, row, Disk::Log)?;
-        print_calls(&rt, row, Disk::Database)?;
+        print_calls(&rt, row, WhichDisk::Log)?;
+        print_calls(&rt, row, WhichDisk::Database)?;
         print_old_format(&rt, row)?;
     }
     Ok(())
@@ -32,7 +32,7 @@ fn main(rt: HostRuntime) -> io::Result<()> {
 
 /// Prints a row's name, how many calls one of the disks gets, and whether what was answered outlived a stop
 /// before each.
-fn print_calls(rt: &HostRuntime, row: &Row, disk: Disk) -> io::Result<()> {
+fn print_calls(rt: &HostRuntime, row: &Row, disk: WhichDisk) -> io::Result<()> {
     let name = row.name;
     let of = disk.name();
     match calls(rt, row, disk) {

@@ -16,49 +16,50 @@ use hd_durable::{DurableJournal, TurnTable};
 use hd_journal::{Ask, Journal, OwnedAsk, SeatNo};
 use hd_journal_file::{JournalFile, Wanted, open_over, restore_turns};
 use hd_turn_store::{
-    Alter, Connection, Unknown, begin, catalogue, end, is_blank, leave, open_for_turns,
+    Alter, Connection, Files, Unknown, begin, catalogue, end, is_blank, leave, open_for_turns,
 };
+use sqlite_disk::Disk;
 use std::alloc::Global;
 
 /// One of the two disks.
 #[derive(Clone, Copy)]
-pub(crate) enum Disk {
+pub(crate) enum WhichDisk {
     Log,
     Database,
 }
 
-impl Disk {
+impl WhichDisk {
     /// As it is printed.
     pub(crate) fn name(self) -> &'static str {
         match self {
-            Disk::Log => "log",
-            Disk::Database => "database",
+            WhichDisk::Log => "log",
+            WhichDisk::Database => "database",
         }
     }
 
     /// Empty disks of which this one stops after so many calls.
     fn stopped_after(self, alloc: Global, calls: u64) -> Disks {
         match self {
-            Disk::Log => empty(alloc, calls, u64::MAX),
-            Disk::Database => empty(alloc, u64::MAX, calls),
+            WhichDisk::Log => empty(alloc, calls, u64::MAX),
+            WhichDisk::Database => empty(alloc, u64::MAX, calls),
         }
     }
 }
 
 /// What was answered of a row before its disks stopped.
-struct Played {
+struct Played<F> {
     /// How many turns were answered.
     answered: usize,
     /// Whether the file was opened for turns.
     is_marked: bool,
     /// Whether nothing stopped: the file was ended well, opened for turns again, and ended again.
     is_whole: bool,
-    disks: Disks,
+    disks: F,
 }
 
-impl Played {
+impl<F> Played<F> {
     /// What is left where a disk stopped.
-    fn stopped(answered: usize, is_marked: bool, disks: Disks) -> Played {
+    fn stopped(answered: usize, is_marked: bool, disks: F) -> Played<F> {
         Played {
             answered,
             is_marked,
@@ -76,7 +77,7 @@ const MOST_CALLS: u64 = 10_000;
 
 /// How many calls a disk gets while a row is played, where a stop before each of them leaves a prefix of what
 /// changes something, with all that was answered. None where one doesn't.
-pub(crate) fn calls(rt: &HostRuntime, row: &Row, disk: Disk) -> Option<u64> {
+pub(crate) fn calls(rt: &HostRuntime, row: &Row, disk: WhichDisk) -> Option<u64> {
     let whole = Whole::of(rt, row.steps)?;
     calls_beside(rt, &whole, row, disk)
 }
@@ -84,7 +85,7 @@ pub(crate) fn calls(rt: &HostRuntime, row: &Row, disk: Disk) -> Option<u64> {
 /// Whether the turns of a row are taken again from a file of the format before, whose replies are texts.
 pub(crate) fn is_read_in_the_old_format(rt: &HostRuntime, row: &Row) -> Option<bool> {
     let whole = Whole::of(rt, row.steps)?;
-    let whole_disks = Disk::Log.stopped_after(rt.alloc(), u64::MAX);
+    let whole_disks = WhichDisk::Log.stopped_after(rt.alloc(), u64::MAX);
     let Played {
         answered: _,
         is_marked: _,
@@ -96,24 +97,30 @@ pub(crate) fn is_read_in_the_old_format(rt: &HostRuntime, row: &Row) -> Option<b
 }
 
 /// The journal of the turns in a file that is put into the format before.
-fn restore_from_the_old_format(rt: &HostRuntime, disks: Disks) -> Option<Journal> {
+fn restore_from_the_old_format<D: Disk + Drop>(
+    rt: &HostRuntime,
+    disks: Files<D>,
+) -> Option<Journal> {
     match open(rt.alloc(), disks) {
-        Ok(mut conn) => {
-            put_back(&mut conn)?;
-            restore_from(rt, &mut conn)
-        }
+        Ok(conn) => restore_put_back(rt, conn),
         Err(_) => None,
     }
 }
 
+/// The same of a database that is open.
+fn restore_put_back<S: Alter + Drop>(rt: &HostRuntime, mut conn: Connection<S>) -> Option<Journal> {
+    put_back(&mut conn)?;
+    restore_from(rt, &mut conn)
+}
+
 /// Puts a file into the format before. None where that fails.
-fn put_back(conn: &mut OnDisks) -> Option<()> {
+fn put_back<S: Alter>(conn: &mut Connection<S>) -> Option<()> {
     change(conn, "UPDATE journal SET format = 1")?;
     change(conn, "UPDATE turn SET reply = x'6e6f7465'")
 }
 
 /// Changes a file by a statement of SQL. None where that fails.
-fn change(conn: &mut OnDisks, statement: &str) -> Option<()> {
+fn change<S: Alter>(conn: &mut Connection<S>, statement: &str) -> Option<()> {
     match conn.execute(statement, &[]) {
         Ok(_) => Some(()),
         Err(_) => None,
@@ -121,7 +128,7 @@ fn change(conn: &mut OnDisks, statement: &str) -> Option<()> {
 }
 
 /// The same beside the row whose turns are all taken.
-fn calls_beside(rt: &HostRuntime, whole: &Whole, row: &Row, disk: Disk) -> Option<u64> {
+fn calls_beside(rt: &HostRuntime, whole: &Whole, row: &Row, disk: WhichDisk) -> Option<u64> {
     for calls in 0..MOST_CALLS {
         let played = play(rt, row.steps, disk.stopped_after(rt.alloc(), calls))?;
         let is_whole = played.is_whole;
@@ -137,50 +144,70 @@ fn calls_beside(rt: &HostRuntime, whole: &Whole, row: &Row, disk: Disk) -> Optio
 
 /// Begins a journal's file on these disks, opens it for turns, takes those of a row, and ends it; then opens
 /// it for turns and ends it again. None where there is no memory.
-fn play(rt: &HostRuntime, steps: &[Step], disks: Disks) -> Option<Played> {
-    let journal = new_journal(rt)?;
-    let alloc = rt.alloc();
-    match open(alloc, disks) {
-        Ok(conn) => play_on(alloc, conn, journal, steps),
+fn play<D: Disk + Drop>(
+    rt: &HostRuntime,
+    steps: &[Step],
+    disks: Files<D>,
+) -> Option<Played<Files<D>>> {
+    match open(rt.alloc(), disks) {
+        Ok(conn) => play_on(rt, conn, steps),
         Err(disks) => Some(Played::stopped(0, false, disks)),
     }
 }
 
 /// The same on a connection to them.
-fn play_on(alloc: Global, mut conn: OnDisks, journal: Journal, steps: &[Step]) -> Option<Played>
-    requires { journal.turns ≡ [] }
-{
+fn play_on<D: Disk + Drop>(
+    rt: &HostRuntime,
+    mut conn: OnDisks<D>,
+    steps: &[Step],
+) -> Option<Played<Files<D>>> {
     match begin(&mut conn, &DIGEST) {
-        Ok(()) => play_begun(alloc, conn, journal, steps),
+        Ok(()) => play_begun(rt, conn, steps),
         Err(_) => Some(Played::stopped(0, false, leave(conn).close())),
     }
 }
 
 /// The same where the journal was begun.
-fn play_begun(alloc: Global, conn: OnDisks, journal: Journal, steps: &[Step]) -> Option<Played>
-    requires empty { journal.turns ≡ [] }
-    requires begun { HasCleanDisk (file_state conn) → (head : Head) × Holds (file_state conn) head [] }
+fn play_begun<D: Disk + Drop>(
+    rt: &HostRuntime,
+    conn: OnDisks<D>,
+    steps: &[Step],
+) -> Option<Played<Files<D>>>
+    requires { HasCleanDisk (file_state conn) → (head : Head) × Holds (file_state conn) head [] }
 {
-    match open_for_turns(alloc, conn) {
-        Ok(conn) => play_marked(alloc, conn, journal, steps),
+    match open_for_turns(rt.alloc(), conn) {
+        Ok(conn) => play_marked(rt, conn, steps),
         Err((_, store)) => Some(Played::stopped(0, false, store.close())),
     }
 }
 
 /// The same where it was opened for turns.
-fn play_marked(alloc: Global, conn: OnDisks, journal: Journal, steps: &[Step]) -> Option<Played>
-    requires empty { journal.turns ≡ [] }
-    requires begun { HasCleanDisk (file_state conn) → (head : Head) × Holds (file_state conn) head [] }
+fn play_marked<D: Disk + Drop>(
+    rt: &HostRuntime,
+    conn: OnDisks<D>,
+    steps: &[Step],
+) -> Option<Played<Files<D>>>
+    requires { HasCleanDisk (file_state conn) → (head : Head) × Holds (file_state conn) head [] }
 {
-    let (answered, conn) = answered_over(alloc, conn, journal, steps)?;
+    let (answered, conn) = answered_over(rt, conn, steps)?;
+    Some(play_end(rt.alloc(), conn, answered, steps))
+}
+
+/// What was answered of a row, when its file is ended, opened for turns again, and ended again.
+fn play_end<D: Disk + Drop>(
+    alloc: Global,
+    conn: OnDisks<D>,
+    answered: usize,
+    steps: &[Step],
+) -> Played<Files<D>> {
     match ended_twice(alloc, conn) {
-        Ok(disks) => Some(Played {
+        Ok(disks) => Played {
             answered,
             is_marked: true,
             is_whole: answered == steps.len(),
             disks,
-        }),
-        Err(disks) => Some(Played::stopped(answered, true, disks)),
+        },
+        Err(disks) => Played::stopped(answered, true, disks),
     }
 }
 
@@ -188,7 +215,7 @@ fn play_marked(alloc: Global, conn: OnDisks, journal: Journal, steps: &[Step]) -
 ///
 /// # Errors
 /// A disk stopped: what is left.
-fn ended_twice(alloc: Global, conn: OnDisks) -> Result<Disks, Disks> {
+fn ended_twice<D: Disk + Drop>(alloc: Global, conn: OnDisks<D>) -> Result<Files<D>, Files<D>> {
     let disks = ended(conn)?;
     let conn = open(alloc, disks)?;
     match open_for_turns(alloc, conn) {
@@ -201,25 +228,23 @@ fn ended_twice(alloc: Global, conn: OnDisks) -> Result<Disks, Disks> {
 ///
 /// # Errors
 /// A disk stopped: what is left.
-fn ended(conn: OnDisks) -> Result<Disks, Disks> {
+fn ended<D: Disk + Drop>(conn: OnDisks<D>) -> Result<Files<D>, Files<D>> {
     match end(conn) {
         Ok(disks) => Ok(disks),
         Err((_, store)) => Err(store.close()),
     }
 }
 
-/// The same over any store: how many turns were answered, and the connection.
+/// Takes the turns of a row over any store until one isn't answered: how many were, and the connection.
 fn answered_over<S: Alter + Drop>(
-    alloc: Global,
+    rt: &HostRuntime,
     conn: Connection<S>,
-    journal: Journal,
     steps: &[Step],
 ) -> Option<(usize, Connection<S>)>
-    requires empty { journal.turns ≡ [] }
-    requires begun { HasCleanDisk (state S.Store conn) → (head : Head) × Holds (state S.Store conn) head [] }
+    requires { HasCleanDisk (state S.Store conn) → (head : Head) × Holds (state S.Store conn) head [] }
 {
-    let mut kept = keep(alloc, conn, journal)?;
-    let answered = take_all(alloc, &mut kept, steps);
+    let mut kept = keep(rt.alloc(), conn, new_journal(rt)?)?;
+    let answered = take_all(rt.alloc(), &mut kept, steps);
     Some((answered, kept.into_table().into_connection()))
 }
 
@@ -236,10 +261,7 @@ fn keep<S: Alter + Drop>(
         digest: &DIGEST,
         is_other_accepted: false,
     };
-    match open_over::<S, Unknown, ()>(alloc, conn, true, &wanted, journal, &mut ()) {
-        Ok(kept) => Some(kept),
-        Err(_) => None,
-    }
+    open_over::<S, Unknown, ()>(alloc, conn, true, &wanted, journal, &mut ()).ok()
 }
 
 /// Takes the turns of a row until one isn't answered: how many were.
@@ -266,7 +288,7 @@ fn take<T: TurnTable>(alloc: Global, kept: &mut DurableJournal<T>, step: &Step) 
 /// Whether the turns that a crash leaves are the first changing ones of a row, with all that were answered;
 /// where the file says that it was ended, also without its log. One that was opened for turns says that, or
 /// that it is open, so that it isn't opened without its log.
-fn outlives(rt: &HostRuntime, whole: &Whole, played: Played) -> bool {
+fn outlives(rt: &HostRuntime, whole: &Whole, played: Played<Disks>) -> bool {
     let Played {
         answered,
         is_marked,
@@ -304,7 +326,10 @@ fn has_answered(whole: &Whole, answered: usize, journal: &Journal) -> bool {
 }
 
 /// The journal of the turns in a file, and its disks. None where they can't be taken again.
-fn restore_journal(rt: &HostRuntime, disks: Disks) -> Option<(Journal, Disks)> {
+fn restore_journal<D: Disk + Drop>(
+    rt: &HostRuntime,
+    disks: Files<D>,
+) -> Option<(Journal, Files<D>)> {
     match open(rt.alloc(), disks) {
         Ok(mut conn) => {
             let journal = restore_from(rt, &mut conn)?;

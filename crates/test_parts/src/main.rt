@@ -1,8 +1,9 @@
 //! Plays the parts of the house each by itself, and says of each row whether it went as it is to.
 //!
-//! Reads and writes of a connection; sessions whose office is estranged; two seats of a hall, and two
-//! threads; connections over memory at a hall; what no stored row says of `replay`; and each request for
-//! memory refused in turn. A heading stands over the rows of each.
+//! Rows of messages and replies; reads and writes of a connection; sessions whose office is estranged; two
+//! seats of a hall, and two threads; connections over memory at a hall; what no stored row says of `replay`;
+//! each request for memory refused in turn; and terminals over TCP at servers. A heading stands over the rows
+//! of each.
 #![tactic(auto)]
 
 mod attending;
@@ -11,31 +12,38 @@ mod halls;
 mod library;
 mod refusals;
 mod replaying;
+mod rows;
+mod serving;
 mod sessions;
 mod streams;
 
 use std::io;
 use std::sync::Wait;
 use std::thread::Threads;
+use std::time::Clock;
 
 /// A part of the house, with a heading over its rows.
 #[derive(Clone, Copy)]
 enum Part {
+    Rows,
     Streams,
     Sessions,
     Hall,
     Connections,
     Replay,
     Refusals,
+    Serving,
 }
 
-const PARTS: [(&str, Part); 6] = [
+const PARTS: [(&str, Part); 8] = [
+    ("Rows of messages", Part::Rows),
     ("Reads, writes and requests for memory", Part::Streams),
     ("Sessions", Part::Sessions),
     ("A hall", Part::Hall),
     ("Connections at a hall", Part::Connections),
     ("Replay", Part::Replay),
     ("Requests for memory, each refused in turn", Part::Refusals),
+    ("Serving", Part::Serving),
 ];
 
 fn main(rt: HostRuntime) -> io::Result<()> {
@@ -47,15 +55,17 @@ fn main(rt: HostRuntime) -> io::Result<()> {
 }
 
 impl Part {
-    /// Plays its rows, by handles that wait and start threads, and that print.
-    fn play<R: Threads + Wait + Sync>(self, rt: &R, host: &HostRuntime) -> io::Result<()> {
+    /// Plays its rows, by handles that wait, start threads and have a clock, and that print.
+    fn play<R: Threads + Wait + Clock + Sync>(self, rt: &R, host: &HostRuntime) -> io::Result<()> {
         match self {
+            Part::Rows => rows::play(host),
             Part::Streams => streams::play(host),
             Part::Sessions => sessions::play(host),
             Part::Hall => halls::play(rt, host),
             Part::Connections => attending::play(rt, host),
             Part::Replay => replaying::play(host),
             Part::Refusals => refusals::play(rt, host),
+            Part::Serving => serving::play(rt, host),
         }
     }
 }

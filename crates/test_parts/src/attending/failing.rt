@@ -2,7 +2,7 @@
 
 use crate::attending::alone::feed_alone;
 use crate::attending::hall::play;
-use crate::attending::lines::{RETURN, first_lines, lines, replies};
+use crate::attending::lines::{first_lines, is_return, lines, replies};
 use crate::attending::outcome::Outcome;
 use crate::attending::wire::{PIECE, TAKEN, Then, Wire};
 use hd_attend::AttendFault;
@@ -116,7 +116,7 @@ fn calls(side: Side) -> usize {
         Side::Reads => lines().len().div_ceil(PIECE).saturating_add(1),
         Side::Writes => {
             let mut writes = 0usize;
-            for reply in replies().split_inclusive(|byte| *byte == RETURN) {
+            for reply in replies().split_inclusive(is_return) {
                 writes = writes.saturating_add(reply.len().div_ceil(TAKEN));
             }
             writes
@@ -151,7 +151,7 @@ fn bytes_before(outcome: &Outcome, call: usize) -> &'static [u8] {
 
 /// How many whole replies were written.
 fn replies_in(outcome: &Outcome) -> usize {
-    outcome.text.iter().filter(|byte| **byte == RETURN).count()
+    outcome.text.iter().filter(|byte| is_return(byte)).count()
 }
 
 /// Whether all is written that a session alone writes, or where a write failed a beginning and not all.

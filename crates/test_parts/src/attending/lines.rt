@@ -3,6 +3,11 @@
 /// What ends a line.
 pub(crate) const RETURN: u8 = b'\r';
 
+/// Whether a byte ends a line.
+pub(crate) fn is_return(byte: &u8) -> bool {
+    *byte == RETURN
+}
+
 /// A login, five messages and two that are sent again, each with its carriage return.
 pub(crate) const LINES: &[u8] = b"9300CNt1|COpw|\r\
     11NN20260301    10000020260301    100000AOlib|AAp1|ABa1|AC|\r\

@@ -1,5 +1,5 @@
 //! Rows of messages of one session, and the replies to them.
-use crate::attending::lines::{LINES, REPLIES};
+use crate::attending::lines::{LINES, REPLIES, is_return};
 use std::alloc::{AllocError, Global};
 
 /// A row of messages of one session.
@@ -18,11 +18,6 @@ pub(crate) const LOGIN: &[u8] = b"9300CNt1|COpw|\r";
 
 /// The reply to it.
 pub(crate) const LOGGED_IN: &[u8] = b"941\r";
-
-/// Whether a byte is a carriage return.
-fn is_return(byte: &u8) -> bool {
-    *byte == b'\r'
-}
 
 /// How many carriage returns a text has.
 pub(crate) fn returns_in(text: &[u8]) -> usize {

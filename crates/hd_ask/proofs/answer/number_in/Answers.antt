@@ -6,7 +6,8 @@ use Rattle.hd_ask.proofs.Numbers.{none_parsed, number_ascii}
 use Rattle.hd_ask.proofs.answer.number_in.Goals as goal
 
 pub returns-in-Err-clause-none : goal.returns-in-Err-clause-none
-returns-in-Err-clause-none c = λ n small is. c.in-Err.ensures.cases.0 (IsUtf8-from_ascii _ (number_ascii _ n is))
+returns-in-Err-clause-none c = λ n small is.
+    c.in-Err.ensures.cases.0 (IsUtf8-from_ascii _ (number_ascii _ n is))
 
 pub returns-in-Ok-clause-none : goal.returns-in-Ok-clause-none
 returns-in-Ok-clause-none c =

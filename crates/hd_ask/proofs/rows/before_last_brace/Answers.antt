@@ -14,4 +14,5 @@ returns-then-byte-eq123 c =
 pub returns : goal.returns
 returns c = λ front object is none.
     let left = c.loop-byte.invariant in
-    absurd (no_front 123 _ _ left.0 left.1 (nil_from_length _ c.in_default.ensures.cases) left.2 front object is)
+    let nothing = nil_from_length _ c.in_default.ensures.cases in
+    absurd (no_front 123 _ _ left.0 left.1 nothing left.2 front object is)

@@ -5,11 +5,15 @@ use Rattle.hd_ask.proofs.rows.Rows.inside.Goals as goal
 
 pub returns-in-Some : goal.returns-in-Some
 returns-in-Some c = λ rows has.
-    let there = subst (λ (o : Option ℕ). HasRows o c.args.self.now.text.items rows) (sym c.in-Some.ensures) has in
+    let there =
+    subst (λ (o : Option ℕ). HasRows o c.args.self.now.text.items rows) (sym c.in-Some.ensures) has in
+    let behind = c.without_first-text.ensures _ (c.as_slice.ensures.value ∙ there.2) in
     without_comma rows _ _ c.without_last.ensures.some c.without_last.ensures.none
-    (c.before_last_brace.ensures _ _ (c.without_first-text.ensures _ (c.as_slice.ensures.value ∙ there.2)) there.1)
+    (c.before_last_brace.ensures _ _ behind there.1)
 
 pub returns-in-None : goal.returns-in-None
 returns-in-None c = λ rows has.
-    let there = subst (λ (o : Option ℕ). HasRows o c.args.self.now.text.items rows) (sym c.in-None.ensures) has in
-    c.without_last-in-None.ensures.some rows (c.without_first-text.ensures _ (c.as_slice.ensures.value ∙ there))
+    let there =
+    subst (λ (o : Option ℕ). HasRows o c.args.self.now.text.items rows) (sym c.in-None.ensures) has in
+    let behind = c.without_first-text.ensures _ (c.as_slice.ensures.value ∙ there) in
+    c.without_last-in-None.ensures.some rows behind

@@ -4,4 +4,5 @@ use Rattle.hd_ask.proofs.rows.Rows.rows.Goals as goal
 
 pub returns-in-Some-Some : goal.returns-in-Some-Some
 returns-in-Some-Some c =
-    rows_before (view c.args.self.now.array) _ _ _ _ c.all-all.ensures c.in-Some-Some.ensures c.in-Some-Some.ensures'.cases.0
+    rows_before (view c.args.self.now.array) _ _ _ _ c.all-all.ensures c.in-Some-Some.ensures
+    c.in-Some-Some.ensures'.cases.0

@@ -1,0 +1,82 @@
+//! Serves terminals over TCP on the loopback, and says of each row whether it went as it is to.
+//!
+//! In each row a server of its own has a port that the system gives; the terminals connect first, and what
+//! they say and hear is played beside the server. A row waits for what has to happen, some seconds at most.
+
+mod failed_accept;
+mod full_disk;
+mod hundred_lines;
+mod idle;
+mod lines;
+mod present;
+mod script;
+mod server;
+mod terminal;
+mod two_connections;
+mod unwritten_reply;
+mod unwritten_turn;
+mod waiting;
+
+use crate::serving::script::{is_played, scripts};
+use std::io;
+use std::sync::Wait;
+use std::thread::Threads;
+use std::time::Clock;
+use test_kit::tell;
+
+/// A row with a gate, a keeper or a port of its own.
+#[derive(Clone, Copy)]
+enum Row {
+    TwoConnections,
+    TwoAtOneWorker,
+    UnwrittenReply,
+    UnwrittenTurn,
+    UnwrittenBehindTheLast,
+    HundredLines,
+    Idle,
+    FailedAccept,
+    Present,
+}
+
+const ROWS: [(&str, Row); 9] = [
+    ("two connections", Row::TwoConnections),
+    ("two connections at one worker", Row::TwoAtOneWorker),
+    ("a reply that can't be written", Row::UnwrittenReply),
+    ("a turn that can't be written", Row::UnwrittenTurn),
+    (
+        "the same behind the last connection",
+        Row::UnwrittenBehindTheLast,
+    ),
+    ("100 lines in one piece", Row::HundredLines),
+    ("an idle connection", Row::Idle),
+    ("a failed accept", Row::FailedAccept),
+    ("the present", Row::Present),
+];
+
+/// Plays each row, and says whether it went as it is to. Servers are started by a handle that has a clock.
+pub(crate) fn play<R: Threads + Wait + Clock + Sync>(rt: &R, host: &HostRuntime) -> io::Result<()> {
+    for (name, row) in ROWS {
+        tell(host, name, row.goes(rt, host) == Some(true))?;
+    }
+    for (name, script) in scripts() {
+        tell(host, name, is_played(rt, host, script) == Some(true))?;
+    }
+    Ok(())
+}
+
+impl Row {
+    /// Whether it goes as it is to. None where it can't be played.
+    fn goes<R: Threads + Wait + Clock + Sync>(self, rt: &R, host: &HostRuntime) -> Option<bool> {
+        match self {
+            Row::TwoConnections => two_connections::goes(rt, host),
+            Row::TwoAtOneWorker => two_connections::waits(rt, host),
+            Row::UnwrittenReply => unwritten_reply::goes(rt, host),
+            Row::UnwrittenTurn => unwritten_turn::goes(rt, host),
+            Row::UnwrittenBehindTheLast => unwritten_turn::goes_behind_the_last(rt, host),
+            Row::HundredLines => hundred_lines::goes(rt, host),
+            Row::Idle => idle::goes(rt, host),
+            Row::FailedAccept => failed_accept::goes(rt, host),
+            Row::Present => present::goes(rt, host),
+        }
+    }
+}
