@@ -13,6 +13,7 @@ GENERICS = re.compile(r"<(?:[^<>]|<(?:[^<>]|<[^<>]*>)*>)*>")
 SIGNS = {"&": "Ref", "&mut": "RefMut", "[": "Slice", "()": "Unit"}  # how types are told in a path
 CONSTANT = re.compile(r" *(?:pub(?:\([^)]*\))? )?const (\w+): ")
 DEFINED = re.compile(r"(?:abbrev )?(?:pub )?([^\s():{}]+) : ")
+NO_BODY = "unreachable!()"  # what fits in the place of any body
 HOLE_OF_GOAL = "\npub {0} : goal.{0}\n{0} = ?\n"
 
 
@@ -24,13 +25,15 @@ class Function:
         indent = " " * (len(lines[first]) - len(lines[first].lstrip()))
         last = body = first
         if not lines[first].rstrip().endswith(("}", ";")):
-            last = next((at for at in range(first + 1, len(lines)) if lines[at].startswith(indent + "}")), first)
+            ends = (f"{indent}}}", f"{indent}{{}}")
+            last = next((at for at in range(first + 1, len(lines)) if lines[at].startswith(ends)), first)
             body = next((at for at in range(first, last) if re.match(indent + r"(\S.*)?\{$", lines[at])), last)
         above = first  # a check tells of the function at its first attribute
         while above and lines[above - 1].startswith(indent + "#["):
             above -= 1
         self.name, self.file = HEAD.match(lines[first])[1], file
         self.lines, self.head, self.told = range(first, last + 1), range(first, body), range(above, last + 1)
+        self.body = range(body + 1, last)
         self.text = "\n".join(lines[first : last + 1])
         head = head_of(lines, first, indent)
         promised = TRAIT.match(head)
@@ -98,6 +101,15 @@ def bodies_of(crate):
     return [function for function in every if not function.is_promised]
 
 
+def without_bodies(text, functions):
+    """The file's text, of as many lines, where nothing stands in the bodies of these functions of it."""
+    lines = text.split("\n")
+    for function in functions:
+        for at in function.body:
+            lines[at] = NO_BODY if at == function.body[0] else ""
+    return "\n".join(lines)
+
+
 def constant_at(lines, at):
     """The name of the constant that the line is of, if it is of one."""
     begin = next((it for it in range(at, -1, -1) if not lines[it].startswith((" ", "]", "}", ")"))), at)
@@ -146,6 +158,11 @@ class Edit:
 
     def __str__(self):
         return f"{self.crate}/{self.name}: {self.verdict}: {self.said}"
+
+    def forget(self):
+        """Forgets what it came to."""
+        self.verdict, self.tries, self.is_guided = None, 0, False
+        self.pruned, self.gone, self.misnamed = {}, set(), set()
 
     def is_of(self, path):
         """Whether a check has to look at this function."""

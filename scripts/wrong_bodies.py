@@ -35,7 +35,7 @@ import tempfile
 from concurrent.futures import ThreadPoolExecutor
 
 from edits import Edit, bodies_of, edits_of, file_of, folder_of, homes_in, module_of, read, round_of, sources_of
-from edits import with_one_goal, without_answers, write
+from edits import with_one_goal, without_answers, without_bodies, write
 from prove import CORES, GIGABYTES, MEMORY, TOP, said_by_rt, sums_of, uses_of_all, with_all_below
 from proved_libraries import libraries_in
 
@@ -83,19 +83,22 @@ SELF_TEST = [
 class Bench:
     """A copy of a crate in which edits are checked, and the processor seconds that this took.
 
-    A proof rests on what the functions that it calls promise, and not on their proofs. So only functions that are
-    edited have theirs here; the proof of each other one is a hole, which takes a third of the time or less."""
+    A proof rests on what the functions that it calls promise, and neither on their bodies nor on their proofs. So only
+    functions that are edited have theirs here: each other one has nothing in its body, and a hole for its proof."""
 
     def __init__(self, crate, uses, libraries, room):
         self.crate, self.top, self.room = crate, os.path.join(TOP, "crates", crate), room
-        self.seconds, self.instead = 0, {}
+        self.seconds, self.instead, self.is_whole = 0, {}, False
         for part in ("src", "specs", "proofs"):
             if os.path.isdir(os.path.join(self.top, part)):
                 shutil.copytree(os.path.join(self.top, part), os.path.join(room, part))
         self.modules = {"", *map(module_of, sources_of(crate))}
-        self.folders = {function.path: folder_of(function.path) for function in bodies_of(crate)}
+        self.functions = bodies_of(crate)
+        self.folders = {function.path: folder_of(function.path) for function in self.functions}
         for path in self.folders:
             self.put_hole(path)
+        for file, text in sources_of(crate).items():
+            self.put_source(file, text, ())
         kit = os.path.dirname(said_by_rt("doc"))
         root = "main" if os.path.isfile(os.path.join(room, "src", "main.rt")) else "lib"
         self.words = [f"{kit}/bin/rattle", "check", "--crate-name", crate, f"src/{root}.rt", "--jobs", "1"]
@@ -120,6 +123,17 @@ class Bench:
             texts["Answers.antt"] = texts.get("Answers.antt", "") + NO_OFFERS
         self.put_files(folder, texts)
 
+    def put_source(self, file, text, paths):
+        """Writes a source file, where only the functions at these paths have their bodies."""
+        others = [function for function in self.functions if function.file == file and function.path not in paths]
+        write(os.path.join(self.room, file), text if self.is_whole else without_bodies(text, others))
+
+    def put_bodies(self):
+        """Puts all functions' bodies back."""
+        self.is_whole = True
+        for file, text in sources_of(self.crate).items():
+            self.put_source(file, text, ())
+
     def put_files(self, folder, texts):
         os.makedirs(os.path.join(self.room, folder), exist_ok=True)
         for name in OF_A_PROOF:
@@ -135,14 +149,15 @@ class Bench:
         paths = [path for path in self.folders if any(edit.is_of(path) for edit in edits)]
         for path in paths:
             self.put_proof(path, pruned, is_short)
-        texts = {}
+        sound = sources_of(self.crate)
+        texts = {function.file: sound[function.file] for function in self.functions if function.path in paths}
         for file, old, new in (pair for edit in edits for pair in edit.pairs):
-            texts[file] = texts.get(file, read(os.path.join(self.top, file))).replace(old, new)
+            texts[file] = texts.get(file, sound[file]).replace(old, new)
         for file, text in texts.items():
-            write(os.path.join(self.room, file), text)
+            self.put_source(file, text, paths)
         said = self.rattle({it for edit in edits for it in edit.asks()})
         for file in texts:
-            shutil.copy(os.path.join(self.top, file), os.path.join(self.room, file))
+            self.put_source(file, sound[file], ())
         for path in paths:
             self.put_hole(path)
         return said
@@ -285,13 +300,24 @@ def try_round(edits, bench):
 
 
 def try_crate(edits, bench):
-    """Tries all edits of a crate, as many in a check as fit together, and what is then still open alone."""
+    """Tries all edits of a crate. What isn't refused is tried once more beside the bodies of all functions."""
     for edit in edits:
         if edit.misfit:
             settle(edit, CANNOT, edit.misfit)
-    left = [edit for edit in edits if not edit.misfit]
-    for edit in left:
+    try_together([edit for edit in edits if not edit.misfit], bench)
+    left = [edit for edit in edits if not edit.misfit and edit.verdict != REFUSED]
+    if left:
+        bench.put_bodies()
+        for edit in left:
+            edit.forget()
+        try_together(left, bench)
+
+
+def try_together(edits, bench):
+    """Tries edits of a crate, as many in a check as fit together, and what is then still open alone."""
+    for edit in edits:
         guide(edit, bench)
+    left = edits
     while left:
         some = round_of([edit for edit in left if edit.tries < ROUNDS]) or left[:1]
         left = [edit for edit in left if edit not in some] + try_round(some, bench)

@@ -1,150 +1,102 @@
 //! The program's commands, put together from their words.
 
-use crate::commands::{COMMANDS, JOURNAL_COMMANDS};
-use crate::door_commands::{DOOR_COMMANDS, SHOW_COMMANDS};
+use crate::commands::{below_journal, carry_and_import, check_and_replay, serve};
+use crate::door_commands::{below_show, status_and_stop};
 use crate::door_texts::SHOW_ABOUT;
 use crate::journal_texts::JOURNAL_ABOUT;
 use crate::texts::{ABOUT, VERSION};
-use crate::words::{Choice, CommandWords, Form, GroupWords, Need, Number, OptionWords, Value};
+use crate::words::{CommandWords, Form, GroupWords, OptionWords, Value};
 use clap::builder::ValueParser;
 use clap::{Arg, ArgAction, ArgGroup, Command};
 use std::alloc::{AllocError, Global};
 
-/// A command that is put together. Want of memory may end that after each part, and drops what there is by
-/// then.
-pub(crate) struct Building<'a> {
-    command: Command<'a>,
-}
-
-// Written out, so that a caller's proof sees one call and not the drop of each field of a command.
-impl<'a> Drop for Building<'a> {
-    fn drop(self) {
-        let Building { command: _command } = self;
-    }
-}
-
-impl<'a> Building<'a> {
-    /// Adds an option.
-    ///
-    /// It fails where it is out of memory.
-    fn arg(self, arg: Arg<'a>) -> Result<Building<'a>, AllocError> {
-        match self.into_command().arg(arg) {
-            Ok(command) => Ok(Building { command }),
-            Err(error) => Err(error),
-        }
-    }
-
-    /// Adds a group of options.
-    ///
-    /// It fails where it is out of memory.
-    fn group(self, group: ArgGroup<'a>) -> Result<Building<'a>, AllocError> {
-        match self.into_command().group(group) {
-            Ok(command) => Ok(Building { command }),
-            Err(error) => Err(error),
-        }
-    }
-
-    /// Adds a command below this one.
-    ///
-    /// It fails where it is out of memory.
-    fn subcommand(self, below: Building<'a>) -> Result<Building<'a>, AllocError> {
-        match self.into_command().subcommand(below.into_command()) {
-            Ok(command) => Ok(Building { command }),
-            Err(error) => Err(error),
-        }
-    }
-
-    /// The command.
-    pub(crate) fn into_command(self) -> Command<'a> {
-        let Building { command } = self;
-        command
-    }
-}
-
 /// The program with its commands.
-pub(crate) fn program<'a>(alloc: Global) -> Result<Building<'a>, AllocError> {
+pub(crate) fn program<'a>(alloc: Global) -> Result<Command<'a>, AllocError> {
     let command = Command::new(alloc, "holddesk").version(VERSION);
-    let program = with_commands(alloc, above(command, ABOUT), &COMMANDS)?;
-    let program = with_group(alloc, program, "journal", JOURNAL_ABOUT, &JOURNAL_COMMANDS)?;
-    let program = with_group(alloc, program, "show", SHOW_ABOUT, &SHOW_COMMANDS)?;
-    with_commands(alloc, program, &DOOR_COMMANDS)
+    let command = with(alloc, above(command, ABOUT), check_and_replay())?;
+    let command = with(alloc, command, serve())?;
+    let command = with(alloc, command, carry_and_import())?;
+    let command = command.subcommand(journal(alloc)?)?;
+    let command = command.subcommand(show(alloc)?)?;
+    with(alloc, command, status_and_stop())
 }
 
-/// A program with a command below it of this name, which has these commands below it.
-fn with_group<'a>(
-    alloc: Global,
-    program: Building<'a>,
-    name: &'static str,
-    about: &'static str,
-    below: &[CommandWords],
-) -> Result<Building<'a>, AllocError> {
-    let command = above(Command::new(alloc, name), about);
-    program.subcommand(with_commands(alloc, command, below)?)
+/// `journal`, with the commands below it.
+fn journal<'a>(alloc: Global) -> Result<Command<'a>, AllocError> {
+    let command = above(Command::new(alloc, "journal"), JOURNAL_ABOUT);
+    with(alloc, command, below_journal())
 }
 
-/// A command of which one below it has to be named, and what these do in a line.
-fn above<'a>(command: Command<'a>, about: &'a str) -> Building<'a> {
-    let command = command
+/// `show`, with the commands below it.
+fn show<'a>(alloc: Global) -> Result<Command<'a>, AllocError> {
+    let command = above(Command::new(alloc, "show"), SHOW_ABOUT);
+    with(alloc, command, below_show())
+}
+
+/// A command of which one below it has to be named, and what those do in a line.
+fn above<'a>(command: Command<'a>, about: &'a str) -> Command<'a> {
+    command
         .about(about)
         .subcommand_required(true)
-        .arg_required_else_help(true);
-    Building { command }
+        .arg_required_else_help(true)
 }
 
-/// A command with these below it.
-fn with_commands<'a>(
+/// A command with the commands of these words below it, behind those that it has.
+fn with<'a>(
     alloc: Global,
-    above: Building<'a>,
-    below: &[CommandWords],
-) -> Result<Building<'a>, AllocError> {
-    let mut command = above;
-    for words in below {
-        let next = command_of(alloc, words)?;
-        command = command.subcommand(next)?;
-    }
-    Ok(command)
+    command: Command<'a>,
+    below: &'a [CommandWords],
+) -> Result<Command<'a>, AllocError> {
+    command.subcommands(commands_of(alloc, below)?)
+}
+
+/// The commands with these words.
+fn commands_of<'a>(alloc: Global, all: &'a [CommandWords]) -> Result<Vec<Command<'a>>, AllocError> {
+    all.iter()
+        .map(|words| command_of(alloc, words))
+        .try_collect(alloc)
 }
 
 /// The command with these words.
-fn command_of<'a>(alloc: Global, words: &CommandWords) -> Result<Building<'a>, AllocError> {
-    let command = Command::new(alloc, words.name)
+fn command_of<'a>(alloc: Global, words: &'a CommandWords) -> Result<Command<'a>, AllocError> {
+    let options = options_of(alloc, words.options)?;
+    let groups = groups_of(alloc, words.groups)?;
+    Command::new(alloc, words.name)
         .about(words.about)
         .long_about(words.long_about)
-        .after_help(words.example);
-    let command = with_options(alloc, Building { command }, words.options)?;
-    with_groups(alloc, command, words.groups)
+        .after_help(words.example)
+        .args(options)?
+        .groups(groups)
 }
 
-/// A command with these options.
-fn with_options<'a>(
-    alloc: Global,
-    command: Building<'a>,
-    options: &[OptionWords],
-) -> Result<Building<'a>, AllocError> {
-    let mut command = command;
-    for words in options {
-        command = command.arg(option_of(alloc, words)?)?;
-    }
-    Ok(command)
+/// The options with these words.
+fn options_of<'a>(alloc: Global, all: &'a [OptionWords]) -> Result<Vec<Arg<'a>>, AllocError> {
+    all.iter()
+        .map(|words| option_of(alloc, words))
+        .try_collect(alloc)
 }
 
-/// A command with these groups of its options.
-fn with_groups<'a>(
-    alloc: Global,
-    command: Building<'a>,
-    groups: &[GroupWords],
-) -> Result<Building<'a>, AllocError> {
-    let mut command = command;
-    for words in groups {
-        command = command.group(group_of(alloc, words)?)?;
-    }
-    Ok(command)
+/// The groups with these words.
+fn groups_of<'a>(alloc: Global, all: &'a [GroupWords]) -> Result<Vec<ArgGroup<'a>>, AllocError> {
+    all.iter()
+        .map(|words| group_of(alloc, words))
+        .try_collect(alloc)
 }
 
 /// The option with these words.
-fn option_of<'a>(alloc: Global, words: &OptionWords) -> Result<Arg<'a>, AllocError> {
-    let option = formed(Arg::new(alloc, words.name).help(words.help), words);
-    needed(valued(option, words.value), words.need)?.conflicts_with_all(words.conflicts)
+fn option_of<'a>(alloc: Global, words: &'a OptionWords) -> Result<Arg<'a>, AllocError> {
+    let value = words.value;
+    formed(Arg::new(alloc, words.name), words)
+        .help(words.help)
+        .action(action_of(value))
+        .value_name(name_of(value))
+        .value_parser(parser_of(value))
+        .default_values(defaults_of(value))
+        .allow_negative_numbers(may_be_negative(value))
+        .required(words.is_required)
+        .required_unless_present_any(words.unless)?
+        .requires_all(words.only_with)?
+        .conflicts_with_all(words.conflicts)
 }
 
 /// An option that is given so.
@@ -155,62 +107,55 @@ fn formed<'a>(option: Arg<'a>, words: &OptionWords) -> Arg<'a> {
     }
 }
 
-/// An option with what stands behind it.
-fn valued<'a>(option: Arg<'a>, value: Value) -> Arg<'a> {
+/// What a use of an option does that has this behind it.
+fn action_of(value: Value) -> ArgAction {
     match value {
-        Value::Nothing => option.action(ArgAction::SetTrue),
-        Value::Text(name) => option.value_name(name).action(ArgAction::Set),
-        Value::Number(number) => numbered(option, &number),
-        Value::Choice(choice) => chosen(option, &choice),
+        Value::Nothing => ArgAction::SetTrue,
+        _ => ArgAction::Set,
     }
 }
 
-/// An option with one of some words behind it.
-fn chosen<'a>(option: Arg<'a>, choice: &Choice) -> Arg<'a> {
-    let option = option
-        .value_name(choice.name)
-        .action(ArgAction::Set)
-        .value_parser(ValueParser::Names(choice.words));
-    defaulted(option, choice.default)
-}
-
-/// An option with a number behind it.
-fn numbered<'a>(option: Arg<'a>, number: &Number) -> Arg<'a> {
-    defaulted(
-        bounded(option.value_name(number.name), number),
-        number.default,
-    )
-}
-
-/// An option that stands for this where it isn't there.
-fn defaulted<'a>(option: Arg<'a>, default: Option<&'static str>) -> Arg<'a> {
-    match default {
-        Some(default) => option.default_value(default),
-        None => option,
+/// What the help calls this.
+fn name_of(value: Value) -> &'static str {
+    match value {
+        Value::Nothing => "",
+        Value::Text(name) => name,
+        Value::Number(number) => number.name,
+        Value::Choice(choice) => choice.name,
     }
 }
 
-/// An option with a number of these bounds behind it.
-fn bounded<'a>(option: Arg<'a>, number: &Number) -> Arg<'a> {
-    let bounds = ValueParser::signed(i64::from(number.least), i64::from(number.most));
-    option
-        .action(ArgAction::Set)
-        .allow_negative_numbers(number.least < 0)
-        .value_parser(bounds)
+/// What the words have to be that stand for this.
+fn parser_of<'a>(value: Value) -> ValueParser<'a> {
+    match value {
+        Value::Nothing => ValueParser::Bool,
+        Value::Text(_) => ValueParser::String,
+        Value::Number(number) => {
+            ValueParser::Signed(i64::from(number.least), i64::from(number.most))
+        }
+        Value::Choice(choice) => ValueParser::Names(choice.words),
+    }
 }
 
-/// An option that has to be there then.
-fn needed<'a>(option: Arg<'a>, need: Need) -> Result<Arg<'a>, AllocError> {
-    match need {
-        Need::Never => Ok(option),
-        Need::Always => Ok(option.required(true)),
-        Need::Without(other) => option.required_unless_present(other),
-        Need::OnlyWith(other) => option.requires_arg(other),
+/// What this is where the option isn't there.
+fn defaults_of(value: Value) -> &'static [&'static str] {
+    match value {
+        Value::Nothing | Value::Text(_) => &[],
+        Value::Number(number) => number.defaults,
+        Value::Choice(choice) => choice.defaults,
+    }
+}
+
+/// Whether this may begin with a hyphen, as a number.
+fn may_be_negative(value: Value) -> bool {
+    match value {
+        Value::Number(number) => number.least < 0,
+        _ => false,
     }
 }
 
 /// The group with these words.
-fn group_of<'a>(alloc: Global, words: &GroupWords) -> Result<ArgGroup<'a>, AllocError> {
+fn group_of<'a>(alloc: Global, words: &'a GroupWords) -> Result<ArgGroup<'a>, AllocError> {
     ArgGroup::new(alloc, words.name)
         .required(words.is_required)
         .args(words.options)

@@ -1,4 +1,4 @@
-//! The program's commands.
+//! The words of the program's commands.
 
 use crate::carry_texts::{CARRY, CARRY_ABOUT, CARRY_EXAMPLE};
 use crate::import_options::{
@@ -25,8 +25,28 @@ use crate::texts::{
 };
 use crate::words::{CommandWords, GroupWords};
 
-/// The program's commands, but for `journal`.
-pub(crate) const COMMANDS: [CommandWords; 5] = [
+/// The words of `check` and `replay`.
+pub(crate) fn check_and_replay() -> &'static [CommandWords] {
+    &CHECK_AND_REPLAY
+}
+
+/// The words of `serve`.
+pub(crate) fn serve() -> &'static [CommandWords] {
+    &SERVE_ALONE
+}
+
+/// The words of `carry` and `import`.
+pub(crate) fn carry_and_import() -> &'static [CommandWords] {
+    &CARRY_AND_IMPORT
+}
+
+/// The words of the commands below `journal`.
+pub(crate) fn below_journal() -> &'static [CommandWords] {
+    &BELOW_JOURNAL
+}
+
+/// The words of `check` and `replay`.
+static CHECK_AND_REPLAY: [CommandWords; 2] = [
     CommandWords {
         name: "check",
         about: CHECK_ABOUT,
@@ -50,34 +70,40 @@ pub(crate) const COMMANDS: [CommandWords; 5] = [
         ],
         groups: &[],
     },
-    CommandWords {
-        name: "serve",
-        about: SERVE_ABOUT,
-        long_about: SERVE,
-        example: SERVE_EXAMPLE,
-        options: &[
-            CATALOGUE_OR_FOLDER,
-            OPENING,
-            LIBRARY,
-            LISTEN,
-            WORKERS,
-            TERMINALS_AT_ONCE,
-            CONNECTIONS,
-            IDLE,
-            JOURNAL,
-            WARY,
-            ACCEPT_CATALOGUE_OF_KEPT,
-            PATRON_MESSAGES,
-            PATRONS_OF_KIOSKS,
-            SORTER_FIELDS,
-            REPLIES_END,
-            ZONE,
-            DOOR,
-            LOG,
-            DAYS_OFF,
-        ],
-        groups: &[SERVED, KEPT],
-    },
+];
+
+/// The words of `serve`.
+static SERVE_ALONE: [CommandWords; 1] = [CommandWords {
+    name: "serve",
+    about: SERVE_ABOUT,
+    long_about: SERVE,
+    example: SERVE_EXAMPLE,
+    options: &[
+        CATALOGUE_OR_FOLDER,
+        OPENING,
+        LIBRARY,
+        LISTEN,
+        WORKERS,
+        TERMINALS_AT_ONCE,
+        CONNECTIONS,
+        IDLE,
+        JOURNAL,
+        WARY,
+        ACCEPT_CATALOGUE_OF_KEPT,
+        PATRON_MESSAGES,
+        PATRONS_OF_KIOSKS,
+        SORTER_FIELDS,
+        REPLIES_END,
+        ZONE,
+        DOOR,
+        LOG,
+        DAYS_OFF,
+    ],
+    groups: &[SERVED, KEPT],
+}];
+
+/// The words of `carry` and `import`.
+static CARRY_AND_IMPORT: [CommandWords; 2] = [
     CommandWords {
         name: "carry",
         about: CARRY_ABOUT,
@@ -119,8 +145,8 @@ pub(crate) const COMMANDS: [CommandWords; 5] = [
     },
 ];
 
-/// The commands of `journal`.
-pub(crate) const JOURNAL_COMMANDS: [CommandWords; 4] = [
+/// The words of the commands below `journal`.
+static BELOW_JOURNAL: [CommandWords; 4] = [
     CommandWords {
         name: "begin",
         about: JOURNAL_BEGIN_ABOUT,

@@ -1,4 +1,4 @@
-//! The commands that ask a server at its door.
+//! The words of the commands that ask a server at its door.
 
 use crate::door_options::{
     AFTER, BRANCH_ASKED, COPY_ASKED, DAY_ASKED, DOOR_ASKED, LIMIT, NUMBER_ASKED, PATRON_ASKED,
@@ -14,8 +14,18 @@ use crate::door_texts::{
 use crate::options::JSON;
 use crate::words::CommandWords;
 
-/// The commands of `show`.
-pub(crate) const SHOW_COMMANDS: [CommandWords; 9] = [
+/// The words of the commands below `show`.
+pub(crate) fn below_show() -> &'static [CommandWords] {
+    &BELOW_SHOW
+}
+
+/// The words of `status` and `stop`.
+pub(crate) fn status_and_stop() -> &'static [CommandWords] {
+    &STATUS_AND_STOP
+}
+
+/// The words of the commands below `show`.
+static BELOW_SHOW: [CommandWords; 9] = [
     CommandWords {
         name: "copy",
         about: COPY_ABOUT,
@@ -90,8 +100,8 @@ pub(crate) const SHOW_COMMANDS: [CommandWords; 9] = [
     },
 ];
 
-/// The other commands.
-pub(crate) const DOOR_COMMANDS: [CommandWords; 2] = [
+/// The words of `status` and `stop`.
+static STATUS_AND_STOP: [CommandWords; 2] = [
     CommandWords {
         name: "status",
         about: STATUS_ABOUT,

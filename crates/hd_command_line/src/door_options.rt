@@ -1,21 +1,21 @@
 //! The options of the commands that ask a server at its door.
 
 use crate::options::PLAIN;
-use crate::words::{Form, Need, Number, OptionWords, Value};
+use crate::words::{Form, Number, OptionWords, Value};
 
 /// The door of the server that is asked.
 pub(crate) const DOOR_ASKED: OptionWords = OptionWords {
     name: "door",
     value: Value::Text("PATH"),
     help: "The Unix socket of the server, which its own --door names",
-    need: Need::Always,
+    is_required: true,
     ..PLAIN
 };
 
 /// What is asked for, of which those below say what it is.
 const ASKED: OptionWords = OptionWords {
     form: Form::Placed,
-    need: Need::Always,
+    is_required: true,
     ..PLAIN
 };
 
@@ -66,7 +66,7 @@ pub(crate) const NUMBER_ASKED: OptionWords = OptionWords {
         name: "NUMBER",
         least: 1,
         most: u32::MAX,
-        default: None,
+        defaults: &[],
     }),
     help: "The command, by its number",
     ..ASKED
@@ -79,7 +79,7 @@ pub(crate) const AFTER: OptionWords = OptionWords {
         name: "N",
         least: 0,
         most: u32::MAX,
-        default: None,
+        defaults: &[],
     }),
     help: "Begin behind this turn; without it the last ones are shown",
     ..PLAIN
@@ -92,7 +92,7 @@ pub(crate) const LIMIT: OptionWords = OptionWords {
         name: "M",
         least: 1,
         most: 1_000_000,
-        default: Some("20"),
+        defaults: &["20"],
     }),
     help: "How many turns to show at most, 1 to 1000000",
     ..PLAIN

@@ -1,12 +1,12 @@
 //! The options of `import`.
 
 use crate::options::PLAIN;
-use crate::words::{Choice, Need, Number, OptionWords, Value};
+use crate::words::{Choice, Number, OptionWords, Value};
 
 /// A file of the spreadsheet, of which those below name and say which it is.
 const SHEET: OptionWords = OptionWords {
     value: Value::Text("FILE"),
-    need: Need::Always,
+    is_required: true,
     ..PLAIN
 };
 
@@ -50,7 +50,7 @@ pub(crate) const INTO_CATALOGUE: OptionWords = OptionWords {
     name: "into",
     value: Value::Text("FILE"),
     help: "The catalogue file to write; one that is there is replaced",
-    need: Need::Always,
+    is_required: true,
     ..PLAIN
 };
 
@@ -59,7 +59,7 @@ pub(crate) const INSTITUTION: OptionWords = OptionWords {
     name: "institution",
     value: Value::Text("NAME"),
     help: "The institution that replies carry in AO",
-    need: Need::Always,
+    is_required: true,
     ..PLAIN
 };
 
@@ -70,10 +70,10 @@ pub(crate) const OFFSET: OptionWords = OptionWords {
         name: "MINUTES",
         least: -1439,
         most: 1439,
-        default: None,
+        defaults: &[],
     }),
     help: "How many minutes local time is later than universal time, -1439 to 1439",
-    need: Need::Always,
+    is_required: true,
     ..PLAIN
 };
 
@@ -84,7 +84,7 @@ pub(crate) const COMMANDS_LIMIT: OptionWords = OptionWords {
         name: "N",
         least: 1,
         most: 1_000_000,
-        default: Some("1000000"),
+        defaults: &["1000000"],
     }),
     help: "How many commands the desk may take in all, 1 to 1000000",
     ..PLAIN
@@ -97,7 +97,7 @@ pub(crate) const LOAN_LIMIT: OptionWords = OptionWords {
         name: "N",
         least: 0,
         most: 999,
-        default: None,
+        defaults: &[],
     }),
     help: "The loan limit of a patron whose row has none, 0 to 999",
     ..PLAIN
@@ -110,7 +110,7 @@ pub(crate) const LOAN_DAYS: OptionWords = OptionWords {
         name: "N",
         least: 0,
         most: 3650,
-        default: None,
+        defaults: &[],
     }),
     help: "The days of a loan of a title whose row has none, 0 to 3650",
     ..PLAIN
@@ -123,7 +123,7 @@ pub(crate) const RENEWALS: OptionWords = OptionWords {
         name: "N",
         least: 0,
         most: 99,
-        default: None,
+        defaults: &[],
     }),
     help: "How often a loan of a title may be renewed whose row has no number, 0 to 99",
     ..PLAIN
@@ -135,7 +135,7 @@ pub(crate) const FROM: OptionWords = OptionWords {
     value: Value::Choice(Choice {
         name: "ENCODING",
         words: &["utf8", "latin1"],
-        default: Some("utf8"),
+        defaults: &["utf8"],
     }),
     help: "The encoding of the CSV files; the catalogue is UTF-8",
     ..PLAIN
@@ -147,7 +147,7 @@ pub(crate) const SEPARATOR: OptionWords = OptionWords {
     value: Value::Choice(Choice {
         name: "SEPARATOR",
         words: &["found", "comma", "semicolon", "tab"],
-        default: Some("found"),
+        defaults: &["found"],
     }),
     help: "What stands between two values; found: what the first line shows",
     ..PLAIN

@@ -1,6 +1,6 @@
 //! The options of the program's commands.
 
-use crate::words::{Choice, Form, Need, Number, OptionWords, Value};
+use crate::words::{Choice, Form, Number, OptionWords, Value};
 
 /// An option without words, of which those below name the ones that they have.
 pub(crate) const PLAIN: OptionWords = OptionWords {
@@ -8,7 +8,9 @@ pub(crate) const PLAIN: OptionWords = OptionWords {
     form: Form::Named,
     value: Value::Nothing,
     help: "",
-    need: Need::Never,
+    is_required: false,
+    unless: &[],
+    only_with: &[],
     conflicts: &[],
 };
 
@@ -22,13 +24,13 @@ const CATALOGUE: OptionWords = OptionWords {
 
 /// The catalogue file, where there may be no folder in its place.
 pub(crate) const CATALOGUE_ALWAYS: OptionWords = OptionWords {
-    need: Need::Always,
+    is_required: true,
     ..CATALOGUE
 };
 
 /// The catalogue file, or else a folder.
 pub(crate) const CATALOGUE_OR_FOLDER: OptionWords = OptionWords {
-    need: Need::Without("library"),
+    unless: &["library"],
     ..CATALOGUE
 };
 
@@ -65,7 +67,7 @@ pub(crate) const JOURNAL: OptionWords = OptionWords {
 
 /// The journal's file, or else a folder.
 pub(crate) const JOURNAL_OR_FOLDER: OptionWords = OptionWords {
-    need: Need::Without("library"),
+    unless: &["library"],
     ..JOURNAL
 };
 
@@ -74,7 +76,7 @@ pub(crate) const NOW: OptionWords = OptionWords {
     name: "now",
     value: Value::Text("DATE"),
     help: "The present: 18 bytes, YYYYMMDD, four blanks (or three and Z), HHMMSS",
-    need: Need::Always,
+    is_required: true,
     ..PLAIN
 };
 
@@ -83,7 +85,7 @@ pub(crate) const LISTEN: OptionWords = OptionWords {
     name: "listen",
     value: Value::Text("ADDRESS"),
     help: "The IP address and port to listen at, as 127.0.0.1:6001; names are not looked up",
-    need: Need::Always,
+    is_required: true,
     ..PLAIN
 };
 
@@ -94,7 +96,7 @@ pub(crate) const WORKERS: OptionWords = OptionWords {
         name: "N",
         least: 1,
         most: 64,
-        default: None,
+        defaults: &[],
     }),
     help: "How many connections are served at once, 1 to 64; one more waits",
     ..PLAIN
@@ -107,7 +109,7 @@ pub(crate) const TERMINALS_AT_ONCE: OptionWords = OptionWords {
         name: "M",
         least: 1,
         most: 9999,
-        default: None,
+        defaults: &[],
     }),
     help: "How many connections are served at once, 1 to 9999; one more is closed",
     ..PLAIN
@@ -127,7 +129,7 @@ pub(crate) const LOG: OptionWords = OptionWords {
     value: Value::Choice(Choice {
         name: "LEVEL",
         words: &["quiet", "events", "messages"],
-        default: None,
+        defaults: &[],
     }),
     help: "What to tell on standard error; without it: events where there is a door, else quiet",
     ..PLAIN
@@ -140,7 +142,7 @@ pub(crate) const CONNECTIONS: OptionWords = OptionWords {
         name: "K",
         least: 0,
         most: u32::MAX,
-        default: Some("0"),
+        defaults: &["0"],
     }),
     help: "After how many connections to end; 0: never",
     ..PLAIN
@@ -153,7 +155,7 @@ pub(crate) const IDLE: OptionWords = OptionWords {
         name: "SECONDS",
         least: 0,
         most: 86_400,
-        default: Some("600"),
+        defaults: &["600"],
     }),
     help: "How long a connection may be silent before it is dropped, up to 86400; 0: for ever",
     ..PLAIN
@@ -174,7 +176,7 @@ pub(crate) const DAYS_OFF: OptionWords = OptionWords {
         name: "DAYS",
         least: 1,
         most: 9999,
-        default: None,
+        defaults: &[],
     }),
     help: "Tell of terminals whose messages lie more days than this from the server's, 1 to 9999",
     ..PLAIN
@@ -184,7 +186,7 @@ pub(crate) const DAYS_OFF: OptionWords = OptionWords {
 pub(crate) const WARY: OptionWords = OptionWords {
     name: "journal-wary",
     help: "Sync the journal's file twice a turn, for disks that may tear a write",
-    need: Need::OnlyWith("kept"),
+    only_with: &["kept"],
     ..PLAIN
 };
 
@@ -197,7 +199,7 @@ pub(crate) const ACCEPT_CATALOGUE: OptionWords = OptionWords {
 
 /// That another catalogue is accepted, where the journal is kept in a file.
 pub(crate) const ACCEPT_CATALOGUE_OF_KEPT: OptionWords = OptionWords {
-    need: Need::OnlyWith("kept"),
+    only_with: &["kept"],
     ..ACCEPT_CATALOGUE
 };
 
@@ -218,7 +220,7 @@ pub(crate) const PATRONS: OptionWords = OptionWords {
 
 /// The patrons' file, where patron messages are answered.
 pub(crate) const PATRONS_OF_KIOSKS: OptionWords = OptionWords {
-    need: Need::OnlyWith("patron-messages"),
+    only_with: &["patron-messages"],
     ..PATRONS
 };
 
@@ -235,7 +237,7 @@ pub(crate) const REPLIES_END: OptionWords = OptionWords {
     value: Value::Choice(Choice {
         name: "END",
         words: &["cr", "crlf"],
-        default: Some("cr"),
+        defaults: &["cr"],
     }),
     help: "What ends a reply: a carriage return, or that and a line feed, which some terminals wait for",
     ..PLAIN
@@ -246,7 +248,7 @@ pub(crate) const TO: OptionWords = OptionWords {
     name: "to",
     value: Value::Text("FILE"),
     help: "The new catalogue file, which may be the old one",
-    need: Need::Always,
+    is_required: true,
     ..PLAIN
 };
 
@@ -255,7 +257,7 @@ pub(crate) const INTO: OptionWords = OptionWords {
     name: "into",
     value: Value::Text("FILE"),
     help: "The opening file to write, which isn't there yet",
-    need: Need::Without("library"),
+    unless: &["library"],
     conflicts: &["library"],
     ..PLAIN
 };

@@ -6,7 +6,7 @@ ghost use Rattle.hd_command_line.specs.Logs.{log_named};
 ghost use Rattle.std.specs.Str.{bytes_eq};
 
 use crate::building::program;
-use crate::door_parsing::door_order_of;
+use crate::door_parsing::{show_of, status_of, stop_of};
 use crate::orders::{
     Beyond, Carry, Check, Extended, Import, JournalBegin, JournalCheck, JournalShow, JournalViews,
     Kiosks, LibraryFiles, Listing, Log, Order, Place, Replay, Serve,
@@ -18,49 +18,47 @@ use std::alloc::Global;
 ///
 /// An error is a mistake in the words, or the text of a help that was asked for.
 pub fn parse<'a>(alloc: Global, words: &'a [String]) -> Result<Order<'a>, Error> {
-    let program = program(alloc)?.into_command();
-    let matches = program.try_get_matches_from(words)?;
+    let matches = program(alloc)?.try_get_matches_from(words)?;
     Ok(order_of(&matches))
 }
 
 /// What the program is asked to do by what was found.
 fn order_of<'a>(matches: &ArgMatches<'a>) -> Order<'a> {
-    if let Some(found) = matches.subcommand_matches("carry") {
-        return Order::Carry(carry_of(found));
+    match matches.subcommand() {
+        Some(("journal", found)) => journal_order_of(found),
+        Some((name, found)) => order_named(name, found),
+        None => replay_of(matches),
     }
-    if let Some(found) = matches.subcommand_matches("import") {
-        return Order::Import(import_of(found));
-    }
-    if let Some(found) = matches.subcommand_matches("journal") {
-        return journal_order_of(found);
-    }
-    if let Some(found) = matches.subcommand_matches("serve") {
-        return Order::Serve(serve_of(found));
-    }
-    if let Some(order) = door_order_of(matches) {
-        return order;
-    }
-    match matches.subcommand_matches("check") {
-        Some(found) => Order::Check(Check {
-            library: place_of(found),
-            patrons: found.get_str("patrons"),
-        }),
-        None => Order::Replay(replay_of(matches.subcommand_matches("replay"))),
+}
+
+/// What the command of this name is asked to do by what was found.
+fn order_named<'a>(name: &str, found: &ArgMatches<'a>) -> Order<'a> {
+    match name {
+        "carry" => carry_of(found),
+        "check" => check_of(found),
+        "import" => import_of(found),
+        "serve" => serve_of(found),
+        "show" => show_of(found),
+        "status" => status_of(found),
+        "stop" => stop_of(found),
+        _ => replay_of(found),
     }
 }
 
 /// What `journal` is asked to do by what was found.
 fn journal_order_of<'a>(found: &ArgMatches<'a>) -> Order<'a> {
-    if let Some(found) = found.subcommand_matches("begin") {
-        return Order::JournalBegin(journal_begin_of(found));
+    match found.subcommand() {
+        Some(("begin", found)) => journal_begin_of(found),
+        Some(("check", found)) => journal_check_of(found),
+        Some(("show", found)) => journal_show_of(found),
+        Some((_, found)) => journal_views_of(found),
+        None => journal_views_of(found),
     }
-    if let Some(found) = found.subcommand_matches("show") {
-        return Order::JournalShow(journal_show_of(found));
-    }
-    match found.subcommand_matches("check") {
-        Some(found) => Order::JournalCheck(journal_check_of(found)),
-        None => Order::JournalViews(journal_views_of(found.subcommand_matches("views"))),
-    }
+}
+
+/// The text behind this option, or an empty one where it isn't there.
+pub(crate) fn text_of<'a>(found: &ArgMatches<'a>, option: &str) -> &'a str {
+    found.get_str(option).unwrap_or("")
 }
 
 /// Which library is meant by what was found.
@@ -74,33 +72,27 @@ fn place_of<'a>(found: &ArgMatches<'a>) -> Place<'a> {
 /// Which library's files are meant by what was found.
 fn files_of<'a>(found: &ArgMatches<'a>) -> LibraryFiles<'a> {
     LibraryFiles {
-        catalogue: found.get_str("catalogue").unwrap_or(""),
+        catalogue: text_of(found, "catalogue"),
         opening: found.get_str("opening"),
         journal: found.get_str("journal"),
     }
 }
 
+/// What `check` is asked to do by what was found.
+fn check_of<'a>(found: &ArgMatches<'a>) -> Order<'a> {
+    Order::Check(Check {
+        library: place_of(found),
+        patrons: found.get_str("patrons"),
+    })
+}
+
 /// What `replay` is asked to do by what was found.
-fn replay_of<'a>(found: Option<&ArgMatches<'a>>) -> Replay<'a> {
-    match found {
-        Some(found) => Replay {
-            library: files_of(found),
-            now: found.get_str("now").unwrap_or(""),
-            extended: extended_of(found),
-        },
-        None => Replay {
-            library: LibraryFiles {
-                catalogue: "",
-                opening: None,
-                journal: None,
-            },
-            now: "",
-            extended: Extended {
-                kiosks: None,
-                has_sorter_fields: false,
-            },
-        },
-    }
+fn replay_of<'a>(found: &ArgMatches<'a>) -> Order<'a> {
+    Order::Replay(Replay {
+        library: files_of(found),
+        now: text_of(found, "now"),
+        extended: extended_of(found),
+    })
 }
 
 /// What of the extensions is switched on by what was found.
@@ -124,20 +116,13 @@ fn kiosks_of(are_answered: bool, patrons: Option<&str>) -> Option<Kiosks<'_>>
     }
 }
 
-/// What `journal views` is asked to do by what was found.
-fn journal_views_of<'a>(found: Option<&ArgMatches<'a>>) -> JournalViews<'a> {
-    JournalViews {
-        opening: found.and_then(|found| found.get_str("opening")),
-    }
-}
-
 /// What `serve` is asked to do by what was found.
-fn serve_of<'a>(found: &ArgMatches<'a>) -> Serve<'a> {
+fn serve_of<'a>(found: &ArgMatches<'a>) -> Order<'a> {
     let door = found.get_str("door");
     let terminals = found.get_one::<u32>("terminals");
-    Serve {
+    Order::Serve(Serve {
         library: place_of(found),
-        listen: found.get_str("listen").unwrap_or(""),
+        listen: text_of(found, "listen"),
         workers: terminals.or(found.get_one::<u32>("workers")).unwrap_or(1),
         beyond: beyond_of(terminals.is_some()),
         connections: found.get_one::<u32>("connections").unwrap_or(0),
@@ -150,7 +135,7 @@ fn serve_of<'a>(found: &ArgMatches<'a>) -> Serve<'a> {
         log: log_of(found.get_str("log"), door.is_some()),
         days_off: found.get_one::<u32>("days-off"),
         zone: found.get_str("zone"),
-    }
+    })
 }
 
 /// What becomes of a connection beyond those that are served at once, where these are told as terminals, or
@@ -199,25 +184,25 @@ fn has_line_feeds(end: &str) -> bool
 }
 
 /// What `carry` is asked to do by what was found.
-fn carry_of<'a>(found: &ArgMatches<'a>) -> Carry<'a> {
-    Carry {
+fn carry_of<'a>(found: &ArgMatches<'a>) -> Order<'a> {
+    Order::Carry(Carry {
         library: place_of(found),
-        to: found.get_str("to").unwrap_or(""),
+        to: text_of(found, "to"),
         into: found.get_str("into"),
         write_off: found.get_str("write-off"),
-    }
+    })
 }
 
 /// What `import` is asked to do by what was found.
-fn import_of<'a>(found: &ArgMatches<'a>) -> Import<'a> {
-    Import {
-        branches: found.get_str("branches").unwrap_or(""),
-        terminals: found.get_str("terminals").unwrap_or(""),
-        patrons: found.get_str("patrons").unwrap_or(""),
-        titles: found.get_str("titles").unwrap_or(""),
-        copies: found.get_str("copies").unwrap_or(""),
-        into: found.get_str("into").unwrap_or(""),
-        institution: found.get_str("institution").unwrap_or(""),
+fn import_of<'a>(found: &ArgMatches<'a>) -> Order<'a> {
+    Order::Import(Import {
+        branches: text_of(found, "branches"),
+        terminals: text_of(found, "terminals"),
+        patrons: text_of(found, "patrons"),
+        titles: text_of(found, "titles"),
+        copies: text_of(found, "copies"),
+        into: text_of(found, "into"),
+        institution: text_of(found, "institution"),
         offset: found.get_one::<i16>("offset").unwrap_or(0),
         commands: found.get_one::<u32>("commands").unwrap_or(1_000_000),
         loan_limit: found.get_one::<u32>("loan-limit"),
@@ -225,7 +210,7 @@ fn import_of<'a>(found: &ArgMatches<'a>) -> Import<'a> {
         renewals: found.get_one::<u32>("renewals"),
         is_latin1: found.get_str("from") == Some("latin1"),
         separator: separator_of(found.get_str("separator").unwrap_or("found")),
-    }
+    })
 }
 
 /// The separator of this name, where it isn't to be found.
@@ -239,28 +224,35 @@ fn separator_of(name: &str) -> Option<u8> {
 }
 
 /// What `journal begin` is asked to do by what was found.
-fn journal_begin_of<'a>(found: &ArgMatches<'a>) -> JournalBegin<'a> {
-    JournalBegin {
+fn journal_begin_of<'a>(found: &ArgMatches<'a>) -> Order<'a> {
+    Order::JournalBegin(JournalBegin {
         library: files_of(found),
         folder: found.get_str("library"),
-    }
+    })
 }
 
 /// What `journal check` is asked to do by what was found.
-fn journal_check_of<'a>(found: &ArgMatches<'a>) -> JournalCheck<'a> {
-    JournalCheck {
+fn journal_check_of<'a>(found: &ArgMatches<'a>) -> Order<'a> {
+    Order::JournalCheck(JournalCheck {
         library: place_of(found),
         is_other_accepted: found.get_flag("accept-catalogue"),
-    }
+    })
 }
 
 /// What `journal show` is asked to do by what was found.
-fn journal_show_of<'a>(found: &ArgMatches<'a>) -> JournalShow<'a> {
-    JournalShow {
+fn journal_show_of<'a>(found: &ArgMatches<'a>) -> Order<'a> {
+    Order::JournalShow(JournalShow {
         library: place_of(found),
         listing: listing_of(found),
         is_json: found.get_flag("json"),
-    }
+    })
+}
+
+/// What `journal views` is asked to do by what was found.
+fn journal_views_of<'a>(found: &ArgMatches<'a>) -> Order<'a> {
+    Order::JournalViews(JournalViews {
+        opening: found.get_str("opening"),
+    })
 }
 
 /// What is to be listed by what was found.

@@ -25,7 +25,12 @@ pub(crate) struct OptionWords {
     pub(crate) value: Value,
     /// What it is, as the help says.
     pub(crate) help: &'static str,
-    pub(crate) need: Need,
+    /// Whether it has to be there.
+    pub(crate) is_required: bool,
+    /// The options in whose place it stands: it has to be there where none of these is.
+    pub(crate) unless: &'static [&'static str],
+    /// The options and groups without each of which it is refused.
+    pub(crate) only_with: &'static [&'static str],
     /// The options beside which it is refused.
     pub(crate) conflicts: &'static [&'static str],
 }
@@ -60,7 +65,7 @@ pub(crate) struct Number {
     pub(crate) least: i32,
     pub(crate) most: u32,
     /// What it is where the option isn't there.
-    pub(crate) default: Option<&'static str>,
+    pub(crate) defaults: &'static [&'static str],
 }
 
 /// One of some words behind an option.
@@ -70,20 +75,7 @@ pub(crate) struct Choice {
     pub(crate) name: &'static str,
     pub(crate) words: &'static [&'static str],
     /// Which it is where the option isn't there.
-    pub(crate) default: Option<&'static str>,
-}
-
-/// When an option has to be there.
-#[derive(Clone, Copy)]
-pub(crate) enum Need {
-    /// Never.
-    Never,
-    /// Always.
-    Always,
-    /// Where this option isn't.
-    Without(&'static str),
-    /// Never; and it is refused where this option isn't there, or no option of this group.
-    OnlyWith(&'static str),
+    pub(crate) defaults: &'static [&'static str],
 }
 
 /// The words of a group of options.

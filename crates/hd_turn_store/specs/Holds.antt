@@ -1,9 +1,9 @@
 -- What a connection to a journal sees, and what a call over it leaves.
-use Rattle.std.specs.Prelude.{◌≡◌, ◌⊎◌, true, false, List, [], IsTrue}
+use Rattle.std.specs.Prelude.{◌≡◌, ◌⊎◌, ℕ, Bool, true, false, List, [], IsTrue}
 use Rattle.std.specs.List.{AllByRecursion}
 use Rattle.hd_turn_store.specs.Words.{HasCleanDisk, Schema, State, Table, Trees}
-use Rattle.hd_turn_store.specs.Kept.{KeptTurn, Head}
-use Rattle.hd_turn_store.specs.Tables.{IsJournal, journal_schema, Stores}
+use Rattle.hd_turn_store.specs.Kept.{KeptTurn, Head, IsKnownFormat, new_head}
+use Rattle.hd_turn_store.specs.Tables.{IsJournal, journal_schema, no_schema, Stores}
 
 -- it has this head and just these turns, all committed
 pub record Holds (s : State) (h : Head) (ks : List KeptTurn) : Type 0 where
@@ -43,3 +43,15 @@ pub record Commits (is_done : Type 0) (h : Head) (ks : List KeptTurn) (old new :
   pub done : is_done → Holds new h ks
   pub durable : is_done → (db : Trees) → new.may_leave db → Stores h ks db
   pub crash : (db : Trees) → new.may_leave db → old.may_leave db ⊎ Stores h ks db
+
+-- A call begins a journal with this digest where there is no table, or else finds one whose format is known,
+-- which stays as it was.
+pub record BeginsOrReads (digest : List ℕ) (is_new : Bool) (old new : State) : Type 0 where
+  pub clean : HasCleanDisk new → HasCleanDisk old
+  pub blank : IsTrue is_new → old.now.schema ≡ no_schema
+  pub begun : HasCleanDisk new → IsTrue is_new → Holds new (new_head digest) []
+  pub journal : is_new ≡ false → IsJournal old.now.schema
+  pub same : HasCleanDisk new → is_new ≡ false → (head : Head) (ks : List KeptTurn) → Holds old head ks
+      → Holds new head ks
+  pub known : HasCleanDisk new → is_new ≡ false → (head : Head) (ks : List KeptTurn) → Holds old head ks
+      → IsKnownFormat head.format

@@ -1,10 +1,12 @@
 -- The mark in a journal's file.
 use Rattle.std.specs.Prelude.{◌≡◌, ◌≢◌, ◌⊎◌, ◌++◌, ◌∷◌, ℕ, List, [], IsTrue, codes, take}
 use Rattle.sqlite.specs.Closing.{HoldsAlone}
+use Rattle.sqlite.specs.Held.{AreDatabases}
 use Rattle.sqlite_store.specs.FileStore.{state}
+use Rattle.sqlite_trees.specs.declared.store.Store.{Ghosts as StoreGhosts}
 use Rattle.hd_turn_store.specs.Words.{FileStore, Ghosts, HasCleanDisk, Held, Image, IsFresh}
-use Rattle.hd_turn_store.specs.Words.{Trees, View, file_state, log_frames, recovers, user_version}
-use Rattle.hd_turn_store.specs.Words.{version_rows, version_tree, view}
+use Rattle.hd_turn_store.specs.Words.{IsClean, IsQuiet, IsRolledBack, Trees, View, file_state}
+use Rattle.hd_turn_store.specs.Words.{log_frames, recovers, user_version, version_rows, version_tree, view}
 use Rattle.hd_turn_store.specs.Holds.{Holds}
 use Rattle.hd_turn_store.specs.Kept.{Head, KeptTurn}
 use Rattle.hd_turn_store.specs.Tables.{Stores}
@@ -77,3 +79,11 @@ pub record IsMarked {D : Type 0} {g : Ghosts D} (c : Held (FileStore D g)) (mark
       → Stores head ks (view store).committed
   pub copied : (head : Head) (ks : List KeptTurn) → Holds (file_state c) head ks → (left : Image)
       → (state store).may_leave left → HoldsAlone left (view store).committed
+
+-- The store that a connection leaves has what was committed alone, and a crash leaves no more of it than
+-- before.
+pub record IsReleased {S : Type 0} (g : StoreGhosts S) (old new : S) : Type 0 where
+  pub numbered : IsClean (g.view new) → IsTrue (g.view new).is_numbered
+  pub sound : IsClean (g.view new) → AreDatabases (g.recovers new)
+  pub undone : IsRolledBack (g.view old) (g.view new)
+  pub quiet : IsQuiet g.view g.faults g.recovers g.is_shielded old new

@@ -6,11 +6,12 @@ ghost use Rattle.sqlite_store.specs.FileStore.{state as store_state};
 ghost use Rattle.hd_turn_store.specs.Words.{HasCleanDisk, Image, IsBlankAs, IsClean, file_state, state, view};
 ghost use Rattle.hd_turn_store.specs.Kept.{KeptTurn, Head, IsKnownFormat, new_head};
 ghost use Rattle.hd_turn_store.specs.Tables.{IsJournal, no_schema};
-ghost use Rattle.hd_turn_store.specs.Holds.{Holds, OnlyReads};
+ghost use Rattle.hd_turn_store.specs.Holds.{BeginsOrReads, Holds, OnlyReads};
 ghost use Rattle.hd_turn_store.specs.Crashes.{HoldsTurns};
 
 use crate::fault::Fault;
 use crate::heading::check;
+use crate::store::release;
 use crate::storing::begin;
 use crate::table::is_blank;
 use sqlite::{Alter, Connection, FileFrom, FileStore, Start};
@@ -22,7 +23,7 @@ pub fn leave<D: Disk + Drop>(conn: Connection<FileStore<D>>) -> FileStore<D>
     ensures { IsClean (view result) → (head : Head) (ks : List KeptTurn) → Holds (file_state conn) head ks
         → (left : Image) → (store_state result).may_leave left → HoldsTurns left head ks }
 {
-    conn.into_store()
+    release(conn)
 }
 
 /// A connection to the database in the file of this path.
@@ -66,6 +67,18 @@ fn begin_or_check<S: Alter>(conn: &mut Connection<S>, digest: &[u8; 32]) -> Resu
     check(conn).map(|()| false)
 }
 
+/// The connection with whether a journal was begun over it, where there is one now that can be read.
+fn readable<S: Alter + Drop>(
+    conn: Connection<S>,
+    digest: &[u8; 32],
+) -> Result<(Connection<S>, bool), Fault>
+    ensures { IfOk result (λ r. BeginsOrReads digest.now r.1 (state S.Store conn) (state S.Store r.0)) }
+{
+    let mut conn = conn;
+    let is_new = begin_or_check(&mut conn, digest)?;
+    Ok((conn, is_new))
+}
+
 /// Opens a journal, also one that a crash ended: it has the head and the turns that the files hold, in a
 /// known format. Where there is no file, an empty one, or one that a crash left before its tables were made,
 /// it is begun; with the connection comes whether it was. A file with other tables is `NotAJournal`.
@@ -87,7 +100,5 @@ pub fn open<S: Start>(
     ensures known { IfOk result (λ r. HasCleanDisk (file_state r.0) → r.1 ≡ false → (head : Head)
         (ks : List KeptTurn) → HoldsTurns (image_at S.Start) head ks → IsKnownFormat head.format) }
 {
-    let mut conn = connect(rt, path, start)?;
-    let is_new = begin_or_check(&mut conn, digest)?;
-    Ok((conn, is_new))
+    readable(connect(rt, path, start)?, digest)
 }

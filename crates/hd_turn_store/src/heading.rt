@@ -87,7 +87,14 @@ pub(crate) fn check<S: Alter>(conn: &mut Connection<S>) -> Result<(), Fault>
     if !is_journal(conn.schema()) {
         return Err(Fault::NotAJournal);
     }
-    let heading = catalogue(conn)?;
+    check_format(&catalogue(conn)?)
+}
+
+/// Whether the format of a journal's head is known.
+fn check_format(heading: &Heading) -> Result<(), Fault>
+    ensures known { OnOk result (IsKnownFormat heading.now.format) }
+    ensures fault { IfErr result (RefusesFormat heading.now.format) }
+{
     if heading.format == FORMAT || heading.format == OLD_FORMAT {
         Ok(())
     } else {

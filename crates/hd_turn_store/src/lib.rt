@@ -7,6 +7,7 @@ mod file;
 mod heading;
 mod mark;
 mod row;
+mod store;
 mod storing;
 mod table;
 

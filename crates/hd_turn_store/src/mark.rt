@@ -10,7 +10,7 @@ ghost use Rattle.hd_turn_store.specs.Marks.{GetsMark, HasMark, HoldsEnded, IsMar
 ghost use Rattle.hd_turn_store.specs.Marks.{PutsMark, SaysMark, ended_mark, open_mark};
 
 use crate::fault::Fault;
-use crate::table::is_journal;
+use crate::store::{release, shows_journal};
 use sqlite::{Connection, FileStore, Files};
 use sqlite_disk::Disk;
 use sqlite_trees::error::StoreError;
@@ -90,8 +90,8 @@ fn with_mark<D: Disk + Drop>(
     ensures kept { IfOk result (KeepsTurns conn) }
     ensures left { IfErr result (λ e. KeepsTurns conn e.1) }
 {
-    let is_ours = is_journal(conn.schema());
-    let mut store = conn.into_store();
+    let is_ours = shows_journal(&conn);
+    let mut store = release(conn);
     if !is_ours {
         return Err((Fault::CannotWrite, store));
     }
@@ -134,8 +134,8 @@ pub fn open_for_turns<D: Disk + Drop>(
         Ok(again) => again,
         Err((error, store)) => return Err((Fault::of_opening(error), store)),
     };
-    if !is_journal(again.schema()) {
-        return Err((Fault::Damaged, again.into_store()));
+    if !shows_journal(&again) {
+        return Err((Fault::Damaged, release(again)));
     }
     Ok(again)
 }

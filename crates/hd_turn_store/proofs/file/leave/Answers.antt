@@ -7,8 +7,8 @@ use Rattle.hd_turn_store.proofs.file.leave.Goals as goal
 
 pub returns : goal.returns
 returns g c clean head ks holds left may =
-    let last = c.into_store.result in
-    let e = c.into_store.ensures in
+    let last = c.release.result in
+    let e = c.release.ensures in
     ∥∥₁_map (opens_again last (e.numbered clean) (e.sound clean) left may)
     (λ x. let r : (db : Trees) × HoldsDatabase left db × Stores head ks db = (
       x.0,

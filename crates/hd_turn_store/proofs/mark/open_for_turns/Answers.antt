@@ -1,22 +1,22 @@
 use Rattle.std.proofs.Common.{◌∙◌, ap, arith, refl, subst, sym}
 use Rattle.hd_turn_store.specs.Words.{Database, HasCleanDisk, IsClean, file_state, settled_at, view}
 use Rattle.hd_turn_store.specs.Marks.{HasMark, open_mark}
-use Rattle.hd_turn_store.specs.Tables.{IsJournal, Stores}
+use Rattle.hd_turn_store.specs.Tables.{Stores}
 use Rattle.hd_turn_store.proofs.mark.open_for_turns.Goals as goal
 
 pub returns-in-Err-clause-left : goal.returns-in-Err-clause-left
 returns-in-Err-clause-left g c clean head ks holds db may =
     c.in_ok-store.ensures.kept head ks holds db (c.in-Err.ensures.unharmed.outcomes db may)
 
-pub returns-then-not-is_journal-clause-left : goal.returns-then-not-is_journal-clause-left
-returns-then-not-is_journal-clause-left g c clean head ks holds db may =
+pub returns-then-not-shows_journal-clause-left : goal.returns-then-not-shows_journal-clause-left
+returns-then-not-shows_journal-clause-left g c clean head ks holds db may =
     let again = c.in-Ok.again in
-    let now : HasCleanDisk (file_state again) = omega (arith, c.into_store.ensures.quiet.clean) in
+    let now : HasCleanDisk (file_state again) = omega (arith, c.release.ensures.quiet.clean) in
     let early : IsClean (view c.in_ok-store.store) = omega (arith, c.in-Ok.ensures.clean) in
     let marked = c.in_ok-store.ensures.marked early in
     let opens = (c.in-Ok.ensures.opens now).0 in
     let last = settled_at again.store g.met.D.Disk.seen_may_stay db opens.is_open
-    (c.into_store.ensures.quiet.outcomes db may) in
+    (c.release.ensures.quiet.outcomes db may) in
     subst (Stores head ks) (sym (last ∙ sym (ap (λ (d : Database). d.trees) opens.clean)
     ∙ c.in-Ok.ensures.trees now ∙ marked.fresh.clean)) (marked.kept head ks holds)
 
@@ -26,7 +26,7 @@ returns-clause-same g c clean head ks holds =
     let marked = c.in_ok-store.ensures.marked early in
     let opens = (c.in-Ok.ensures.opens clean).0 in
     record {
-      schema = subst IsJournal c.schema.ensures.value (c.if-not-is_journal.ensures refl);
+      schema = c.if-not-shows_journal.ensures.shown refl;
       rows = subst (Stores head ks) (sym (c.in-Ok.ensures.trees clean ∙ marked.fresh.clean))
           (marked.kept head ks holds);
       settled = sym opens.clean;
