@@ -5,7 +5,9 @@ ghost use Rattle.std.specs.Prelude.{◌≡◌, ◌≤◌, [], drop, length};
 use crate::journal::DurableJournal;
 use crate::table::TurnTable;
 use hd_catalogue::Catalogue;
-use hd_journal::{Ask, Journal, Keeper, OwnedAsk, Turn, TurnFault, TurnRef, WriteFault};
+use hd_journal::{
+    Ask, CataloguedKeeper, Keeper, Look, OwnedAsk, Turn, TurnFault, TurnRef, Turns, WriteFault,
+};
 use std::alloc::{AllocError, Allocator, Global};
 use std::sync::Arc;
 
@@ -50,12 +52,8 @@ impl<T: TurnTable, A: Allocator + Copy> DurableKeeper<T, A> {
     }
 }
 
-impl<T: TurnTable, A: Allocator + Copy> Keeper<A, OwnedAsk<A>> for DurableKeeper<T, A> {
+impl<T: TurnTable, A: Allocator + Copy> Turns for DurableKeeper<T, A> {
     ghost use Rattle.std.specs.Prelude.{drop, take};
-    ghost use Rattle.hd_journal.specs.Faults.{IsMemoryOrUnwritten};
-    ghost use Rattle.hd_durable.specs.Durable.{IsTakeFault, refuses_turn_of};
-
-    ghost asks = { λ ask. ask };
 
     ghost opening = { λ keeper. record {
       contents = keeper.journal.contents;
@@ -63,6 +61,25 @@ impl<T: TurnTable, A: Allocator + Copy> Keeper<A, OwnedAsk<A>> for DurableKeeper
     } };
 
     ghost turns = { λ keeper. drop keeper.begun keeper.journal.turns };
+
+    fn front(&self) -> usize {
+        self.journal.front() - self.begun
+    }
+
+    fn turn_at(&self, at: usize) -> Option<TurnRef<'_>> {
+        let front = self.journal.front();
+        if at == 0 || at > front - self.begun {
+            return None;
+        }
+        self.journal.turn_at(self.begun + at)
+    }
+}
+
+impl<T: TurnTable, A: Allocator + Copy> Keeper<A, OwnedAsk<A>> for DurableKeeper<T, A> {
+    ghost use Rattle.hd_journal.specs.Faults.{IsMemoryOrUnwritten};
+    ghost use Rattle.hd_durable.specs.Durable.{IsTakeFault, refuses_turn_of};
+
+    ghost asks = { λ ask. ask };
 
     ghost faults = { IsMemoryOrUnwritten };
 
@@ -76,31 +93,22 @@ impl<T: TurnTable, A: Allocator + Copy> Keeper<A, OwnedAsk<A>> for DurableKeeper
         OwnedAsk::of(alloc, ask)
     }
 
-    fn catalogue(&self) -> &Arc<Catalogue<A>, A> {
-        self.journal.catalogue()
-    }
-
-    fn front(&self) -> usize {
-        self.journal.front() - self.begun
-    }
-
-    fn turn_at(&self, at: usize) -> Option<TurnRef<'_>> {
-        let front = self.journal.front();
-        if at == 0 || at > front - self.begun {
-            return None;
-        }
-        self.journal.turn_at(self.begun + at)
-    }
-
-    fn journal(&self) -> Result<&Journal<A>, WriteFault> {
-        self.journal.answered_journal()
-    }
-
     fn take(&mut self, own: OwnedAsk<A>) -> Result<Turn, TurnFault> {
         let turn = self.journal.take(own)?;
         Ok(Turn {
             at: turn.at - self.begun,
             reply: turn.reply,
         })
+    }
+
+    fn show<L: Look<A>>(&self, reader: &mut L) -> Result<(), WriteFault> {
+        reader.look(self.journal.answered_journal()?);
+        Ok(())
+    }
+}
+
+impl<T: TurnTable, A: Allocator + Copy> CataloguedKeeper<A, OwnedAsk<A>> for DurableKeeper<T, A> {
+    fn catalogue(&self) -> &Arc<Catalogue<A>, A> {
+        self.journal.catalogue()
     }
 }

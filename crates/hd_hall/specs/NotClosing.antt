@@ -5,7 +5,7 @@ use Rattle.hd_journal.specs.Openings.{Opening}
 use Rattle.hd_hall.specs.Seats.{SeatView, EachSeat, IsWhole}
 use Rattle.std.specs.declared.alloc.Allocator.{Ghosts as AllocatorGhosts}
 use Rattle.hd_hall.specs.declared.house.House.{Ghosts}
-use Rattle.hd_journal.specs.declared.keeper.Keeper.{Ghosts as KeeperGhosts}
+use Rattle.hd_journal.specs.declared.keeper.Turns.{Ghosts as TurnsGhosts}
 use Rattle.hd_hall.specs.declared.hall.NotClosed.{NotClosed}
 use Rattle.hd_hall.specs.declared.hall.NotClosed.TheVariants.{SeatMissing, ReceiptDiffers}
 
@@ -13,7 +13,7 @@ use Rattle.hd_hall.specs.declared.hall.NotClosed.TheVariants.{SeatMissing, Recei
 -- many turns as the seats' shares say, each share being the number of its seat's receipts, has a turn of that
 -- number of which no seat has a receipt.
 abbrev pub Misses : {H A Q K : Type 0} {house : Ghosts H} {memory : AllocatorGhosts A}
-    {keeping : KeeperGhosts K A Q} → Opening → NotClosed H A Q K house memory keeping
+    {keeping : TurnsGhosts K} → Opening → NotClosed H A Q K house memory keeping
     → List SeatView → Type 0
 Misses o (SeatMissing hall back opened) seats = (back.items ≡ seats) × (length seats < opened)
 Misses {keeping = keeping} o (ReceiptDiffers keeper back number) seats =
@@ -23,6 +23,6 @@ Misses {keeping = keeping} o (ReceiptDiffers keeper back number) seats =
 -- Of a hall that has opened so many seats: a seat is told to be missing, with that number, or these are as
 -- many.
 abbrev pub CountsOpened : {H A Q K : Type 0} {house : Ghosts H} {memory : AllocatorGhosts A}
-    {keeping : KeeperGhosts K A Q} → ℕ → NotClosed H A Q K house memory keeping → List SeatView → Type 0
+    {keeping : TurnsGhosts K} → ℕ → NotClosed H A Q K house memory keeping → List SeatView → Type 0
 CountsOpened given (SeatMissing hall back opened) seats = opened ≡ given
 CountsOpened given (ReceiptDiffers keeper back number) seats = length seats ≡ given

@@ -14,23 +14,23 @@ use crate::hall_state::stands;
 use crate::house::House;
 use crate::seat::Seat;
 use crate::stored_receipt::StoredReceipt;
-use hd_journal::{Keeper, TurnRef};
+use hd_journal::{TurnRef, Turns};
 use std::alloc::Allocator;
 use std::sync::ledger::{Book, Share};
 
 /// The number of a turn of which no seat has the receipt. With `None` the turns are the receipts.
-pub(crate) fn differing<H: House, A: Allocator + Copy, Q: Drop, K: Keeper<A, Q>>(
-    keeper: &K,
+pub(crate) fn differing<H: House, A: Allocator, T: Turns>(
+    journal: &T,
     book: &mut Book<H>,
     rest: &mut Share<H>,
     seats: &mut [Seat<H, A>],
 ) -> Option<usize>
     requires seats { EachSeat seats.old (λ s. s.parts ≡ 1) }
-    requires counted { book.old.total ≡ length (K.turns keeper.now) }
+    requires counted { book.old.total ≡ length (T.turns journal.now) }
     requires empty { (rest.old.amount ≡ 0) × (0 < rest.old.parts) }
     requires all { H.parts ≤ rest.old.parts + length seats.old }
-    ensures none { IfNone result (AreTurnsOf (K.opening keeper.now) (K.turns keeper.now) seats.old) }
-    ensures some { IfSome result (LacksReceipt (K.opening keeper.now) (K.turns keeper.now) seats.old) }
+    ensures none { IfNone result (AreTurnsOf (T.opening journal.now) (T.turns journal.now) seats.old) }
+    ensures some { IfSome result (LacksReceipt (T.opening journal.now) (T.turns journal.now) seats.old) }
     ensures same { OnSome result (seats.new ≡ seats.old) }
     ensures whole { EachSeat seats.old IsWhole }
     // no seat is there whose part the ledger hasn't
@@ -38,11 +38,11 @@ pub(crate) fn differing<H: House, A: Allocator + Copy, Q: Drop, K: Keeper<A, Q>>
 {
     gather(rest, seats);
     audit(book, rest);
-    let front = keeper.front();
-    if are_there(keeper, seats) {
+    let front = journal.front();
+    if are_there(journal, seats) {
         return None;
     }
-    match first_without_receipt(keeper, seats, front) {
+    match first_without_receipt(journal, seats, front) {
         None => None,
         Some(number) => {
             give_back(rest, seats);
@@ -91,16 +91,13 @@ fn give_back<H: House, A: Allocator>(all: &mut Share<H>, seats: &mut [Seat<H, A>
 
 /// Whether the seats stand in the order of their numbers, and each receipt is of the journal's turn of its
 /// number.
-fn are_there<H: House, A: Allocator + Copy, Q: Drop, K: Keeper<A, Q>>(
-    keeper: &K,
-    seats: &[Seat<H, A>],
-) -> bool
-    ensures { IsTrue result ↔ AreThere (K.turns keeper.now) 0 seats.now }
+fn are_there<H: House, A: Allocator, T: Turns>(journal: &T, seats: &[Seat<H, A>]) -> bool
+    ensures { IsTrue result ↔ AreThere (T.turns journal.now) 0 seats.now }
 {
     let mut last = 0;
     for seat in seats {
         let number = seat.number().number();
-        if number <= last || !all_stand(keeper, seat.receipts()) {
+        if number <= last || !all_stand(journal, seat.receipts()) {
             return false;
         }
         last = number;
@@ -109,14 +106,11 @@ fn are_there<H: House, A: Allocator + Copy, Q: Drop, K: Keeper<A, Q>>(
 }
 
 /// Whether each receipt is of the journal's turn of its number.
-fn all_stand<A: Allocator + Copy, Q: Drop, K: Keeper<A, Q>>(
-    keeper: &K,
-    receipts: &[StoredReceipt<A>],
-) -> bool
-    ensures { IsTrue result ↔ All (StandsAt (K.turns keeper.now)) receipts.now }
+fn all_stand<A: Allocator, T: Turns>(journal: &T, receipts: &[StoredReceipt<A>]) -> bool
+    ensures { IsTrue result ↔ All (StandsAt (T.turns journal.now)) receipts.now }
 {
     for receipt in receipts {
-        if !stands(keeper, receipt) {
+        if !stands(journal, receipt) {
             return false;
         }
     }
@@ -124,19 +118,19 @@ fn all_stand<A: Allocator + Copy, Q: Drop, K: Keeper<A, Q>>(
 }
 
 /// The first turn of which no seat has the receipt, of `front` turns.
-fn first_without_receipt<H: House, A: Allocator + Copy, Q: Drop, K: Keeper<A, Q>>(
-    keeper: &K,
+fn first_without_receipt<H: House, A: Allocator, T: Turns>(
+    journal: &T,
     seats: &[Seat<H, A>],
     front: usize,
 ) -> Option<usize>
-    requires { front ≡ length (K.turns keeper.now) }
-    ensures none { IfNone result ((k : ℕ) (t : Turn) → slice_get (K.turns keeper.now) k ≡ Some t
+    requires { front ≡ length (T.turns journal.now) }
+    ensures none { IfNone result ((k : ℕ) (t : Turn) → slice_get (T.turns journal.now) k ≡ Some t
         → Contains (all_receipts seats.now) (record { number = k + 1; turn = t })) }
-    ensures some { IfSome result (IsLacking (K.turns keeper.now) seats.now) }
+    ensures some { IfSome result (IsLacking (T.turns journal.now) seats.now) }
 {
     for at in 0..front {
         let number = at + 1;
-        if !is_received(keeper, seats, number) {
+        if !is_received(journal, seats, number) {
             return Some(number);
         }
     }
@@ -144,17 +138,17 @@ fn first_without_receipt<H: House, A: Allocator + Copy, Q: Drop, K: Keeper<A, Q>
 }
 
 /// Whether some seat has the receipt of the turn of this number, where there is such a turn.
-fn is_received<H: House, A: Allocator + Copy, Q: Drop, K: Keeper<A, Q>>(
-    keeper: &K,
+fn is_received<H: House, A: Allocator, T: Turns>(
+    journal: &T,
     seats: &[Seat<H, A>],
     number: usize,
 ) -> bool
-    ensures yes { IsTrue result → (t : Turn) → turn_numbered (K.turns keeper.now) number ≡ Some t
+    ensures yes { IsTrue result → (t : Turn) → turn_numbered (T.turns journal.now) number ≡ Some t
         → Contains (all_receipts seats.now) (record { number = number; turn = t }) }
-    ensures no { result ≡ false → (t : Turn) × (turn_numbered (K.turns keeper.now) number ≡ Some t)
+    ensures no { result ≡ false → (t : Turn) × (turn_numbered (T.turns journal.now) number ≡ Some t)
         × (Contains (all_receipts seats.now) (record { number = number; turn = t }) → ⊥) }
 {
-    match keeper.turn_at(number) {
+    match journal.turn_at(number) {
         None => true,
         Some(turn) => has_receipt(seats, number, &turn),
     }

@@ -12,7 +12,7 @@ use crate::hall::Hall;
 use crate::house::House;
 use crate::seat::Seat;
 use hd_catalogue::Catalogue;
-use hd_journal::{Ask, Journal, Keeper, Look, Office, OwnedAsk, SeatNo, Turn, TurnFault};
+use hd_journal::{Ask, Journal, Keeper, Look, Office, OwnedAsk, SeatNo, Turn, TurnFault, Turns};
 use std::alloc::{Allocator, Global};
 use std::sync::Wait;
 
@@ -24,7 +24,7 @@ pub struct Counter<
     R: Wait,
     A: Allocator = Global,
     Q: Drop = OwnedAsk<A>,
-    K: Keeper<A, Q> = Journal<A>,
+    K: Turns = Journal<A>,
 > {
     rt: &'a R,
     hall: &'a Hall<H, A, Q, K>,
@@ -32,7 +32,7 @@ pub struct Counter<
     ghost held: { seat.now.parts ≡ 1 },
 }
 
-impl<'a, H: House, R: Wait, A: Allocator, Q: Drop, K: Keeper<A, Q>> Counter<'a, H, R, A, Q, K> {
+impl<'a, H: House, R: Wait, A: Allocator, Q: Drop, K: Turns> Counter<'a, H, R, A, Q, K> {
     /// The counter of a seat, which was opened by this hall.
     pub fn new(
         rt: &'a R,

@@ -1,6 +1,7 @@
 //! Halls.
 
 ghost use Rattle.std.specs.Prelude.{◌≡◌, ◌+◌, ◌<◌, [], ℕ, Err, IfOk, IfErr, IfSome, OnOk, OnErr};
+ghost use Rattle.std.specs.Prelude.{length, vec_capacity};
 ghost use Rattle.std.specs.Arc.{arc_value};
 ghost use Rattle.hd_catalogue.specs.Contents.{facts_of};
 ghost use Rattle.hd_rules.specs.Messages.{IsKnownMessage, turn_with_reply, message_of};
@@ -9,7 +10,7 @@ ghost use Rattle.hd_journal.specs.Books.{Book};
 ghost use Rattle.hd_hall.specs.Faults.{IsLockFault, IsLookFault, IsSubmitFault, NeedsMemory};
 ghost use Rattle.hd_hall.specs.Looking.{IsShownTo};
 ghost use Rattle.hd_hall.specs.Receipts.{receipt_of, receipt_shown};
-ghost use Rattle.hd_hall.specs.Seats.{EachSeat, IsWhole, with_receipt};
+ghost use Rattle.hd_hall.specs.Seats.{EachSeat, HasRoom, IsWhole, with_receipt};
 ghost use Rattle.hd_hall.specs.Submitting.{AreNext, IsNextOf, IsStrangeTo};
 
 use crate::hall_state::HallState;
@@ -18,8 +19,8 @@ use crate::receipt::Receipt;
 use crate::seat::{Seat, ready};
 use crate::stored_receipt::StoredReceipt;
 use hd_catalogue::Catalogue;
-use hd_journal::{Ask, Journal, Keeper, Look, OwnedAsk, Turn, TurnFault};
-use std::alloc::{Allocator, Global};
+use hd_journal::{Ask, CataloguedKeeper, Journal, Keeper, Look, OwnedAsk, Turn, TurnFault, Turns};
+use std::alloc::{AllocError, Allocator, Global};
 use std::sync::ledger::{Blank, Share};
 use std::sync::{Arc, Mutex, Wait};
 
@@ -29,12 +30,7 @@ use std::sync::{Arc, Mutex, Wait};
 /// Under the lock are the journal's keeper, the book of the ledger, the parts that no seat has and the number
 /// of seats opened. The journal is always legal. Each new seat has the number after the last one's, from 1
 /// on.
-pub struct Hall<
-    H: House,
-    A: Allocator = Global,
-    Q: Drop = OwnedAsk<A>,
-    K: Keeper<A, Q> = Journal<A>,
-> {
+pub struct Hall<H: House, A: Allocator = Global, Q: Drop = OwnedAsk<A>, K: Turns = Journal<A>> {
     pub(crate) alloc: A,
     pub(crate) catalogue: Arc<Catalogue<A>, A>,
     pub(crate) shared: Mutex<HallState<H, A, Q, K>>,
@@ -42,7 +38,7 @@ pub struct Hall<
 }
 
 // Written out, so that a caller's proof sees one call and not the drop of each field.
-impl<H: House, A: Allocator, Q: Drop, K: Keeper<A, Q> + Drop> Drop for Hall<H, A, Q, K> {
+impl<H: House, A: Allocator, Q: Drop, K: Turns + Drop> Drop for Hall<H, A, Q, K> {
     fn drop(self) {
         let Hall {
             alloc: _alloc,
@@ -54,12 +50,7 @@ impl<H: House, A: Allocator, Q: Drop, K: Keeper<A, Q> + Drop> Drop for Hall<H, A
 
 /// Why a hall did not close. The seats come back as they were.
 #[derive(Drop)]
-pub enum NotClosed<
-    H: House,
-    A: Allocator = Global,
-    Q: Drop = OwnedAsk<A>,
-    K: Keeper<A, Q> = Journal<A>,
-> {
+pub enum NotClosed<H: House, A: Allocator = Global, Q: Drop = OwnedAsk<A>, K: Turns = Journal<A>> {
     /// More seats were opened than were handed in.
     SeatMissing {
         /// The hall.
@@ -80,9 +71,7 @@ pub enum NotClosed<
     },
 }
 
-impl<H: House, A: Allocator + Copy, Q: Drop, K: Keeper<A, Q> + Drop> Hall<H, A, Q, K> {
-    ghost use Rattle.hd_hall.specs.NotClosing.{Misses};
-
+impl<H: House, A: Allocator + Copy, Q: Drop, K: CataloguedKeeper<A, Q> + Drop> Hall<H, A, Q, K> {
     /// A hall round a journal without turns since its keeper was made, with a new ledger, whose parts are one
     /// for each seat and one more.
     ///
@@ -103,6 +92,10 @@ impl<H: House, A: Allocator + Copy, Q: Drop, K: Keeper<A, Q> + Drop> Hall<H, A, 
             shared: Mutex::new(HallState::new(keeper, blank)),
         })
     }
+}
+
+impl<H: House, A: Allocator + Copy, Q: Drop, K: Turns + Drop> Hall<H, A, Q, K> {
+    ghost use Rattle.hd_hall.specs.NotClosing.{Misses};
 
     /// The catalogue.
     pub fn catalogue(&self) -> &Catalogue<A>
@@ -123,6 +116,33 @@ impl<H: House, A: Allocator + Copy, Q: Drop, K: Keeper<A, Q> + Drop> Hall<H, A, 
         })
     }
 
+    /// The journal, whose turns are the receipts of these seats, each once. The seats are all that the hall
+    /// has opened (`HallState::close`, clause `all`). It takes no memory.
+    ///
+    /// Each receipt is compared with the journal's turn of its number. Where the seats stand in the order of
+    /// their numbers, this is all that is compared; else each turn's receipt is looked for.
+    ///
+    /// # Errors
+    /// `SeatMissing` exactly where fewer seats are handed in than were opened, and `ReceiptDiffers` where
+    /// some turn has no receipt. The seats come back as they were.
+    pub fn close(self, seats: Vec<Seat<H, A>, A>) -> Result<K, NotClosed<H, A, Q, K>>
+        requires parts { H.parts ≡ 4294967296 }
+        requires seats { EachSeat seats.items (λ s. s.parts ≡ 1) }
+        ensures turns { IfOk result (λ keeper. AreTurnsOf H.opening (K.turns keeper) seats.items) }
+        ensures opening { IfOk result (λ keeper. K.opening keeper ≡ H.opening) }
+        ensures in_order { OnOk result (EachSeat seats.items IsWhole) }
+        ensures missing { IfErr result (λ why. Misses H.opening why seats.items) }
+    {
+        let Hall {
+            alloc,
+            catalogue,
+            shared,
+        } = self;
+        shared.into_inner().close(alloc, catalogue, seats)
+    }
+}
+
+impl<H: House, A: Allocator + Copy, Q: Drop, K: Keeper<A, Q> + Drop> Hall<H, A, Q, K> {
     /// One turn: what a terminal of this seat asks. The seat was opened by this hall; the terminal, and all
     /// that it asks, are of the hall's catalogue.
     ///
@@ -159,9 +179,7 @@ impl<H: House, A: Allocator + Copy, Q: Drop, K: Keeper<A, Q> + Drop> Hall<H, A, 
             receipts,
             share,
         } = seat;
-        ready(receipts)?;
-        let copy = OwnedAsk::of(self.alloc, ask)?;
-        let own = K::own(self.alloc, ask)?;
+        let (copy, own) = self.prepare(receipts, ask)?;
         let made = self.take(rt, receipts, share, own)?;
         receipts.push_reserved(StoredReceipt::new(copy, &made));
         Ok(Receipt::new(ask, &made))
@@ -204,29 +222,28 @@ impl<H: House, A: Allocator + Copy, Q: Drop, K: Keeper<A, Q> + Drop> Hall<H, A, 
         self.shared.lock(rt).look(seat.receipts(), reader)
     }
 
-    /// The journal, whose turns are the receipts of these seats, each once. The seats are all that the hall
-    /// has opened (`HallState::close`, clause `all`). It takes no memory.
-    ///
-    /// Each receipt is compared with the journal's turn of its number. Where the seats stand in the order of
-    /// their numbers, this is all that is compared; else each turn's receipt is looked for.
+    /// What is made before the lock is taken: room for one receipt more, a copy of what is asked for it, and
+    /// what the keeper keeps of an ask.
     ///
     /// # Errors
-    /// `SeatMissing` exactly where fewer seats are handed in than were opened, and `ReceiptDiffers` where
-    /// some turn has no receipt. The seats come back as they were.
-    pub fn close(self, seats: Vec<Seat<H, A>, A>) -> Result<K, NotClosed<H, A, Q, K>>
-        requires parts { H.parts ≡ 4294967296 }
-        requires seats { EachSeat seats.items (λ s. s.parts ≡ 1) }
-        ensures turns { IfOk result (λ keeper. AreTurnsOf H.opening (K.turns keeper) seats.items) }
-        ensures opening { IfOk result (λ keeper. K.opening keeper ≡ H.opening) }
-        ensures in_order { OnOk result (EachSeat seats.items IsWhole) }
-        ensures missing { IfErr result (λ why. Misses H.opening why seats.items) }
+    /// Out of memory, which is needed at a line and at each sixteenth receipt alone.
+    fn prepare(
+        &self,
+        receipts: &mut Vec<StoredReceipt<A>, A>,
+        ask: &Ask<'_>,
+    ) -> Result<(OwnedAsk<A>, Q), AllocError>
+        requires { HasRoom (length receipts.old.items) (vec_capacity receipts.old) }
+        ensures items { receipts.new.items ≡ receipts.old.items }
+        ensures still { HasRoom (length receipts.new.items) (vec_capacity receipts.new) }
+        ensures more { OnOk result (HasRoom (length receipts.new.items + 1) (vec_capacity receipts.new)) }
+        ensures copy { IfOk result (λ made. made.0 ≡ message_of ask.now) }
+        ensures own { IfOk result (λ made. K.asks made.1 ≡ message_of ask.now) }
+        ensures why { OnErr result (NeedsMemory receipts.old.items ask.now.line) }
     {
-        let Hall {
-            alloc,
-            catalogue,
-            shared,
-        } = self;
-        shared.into_inner().close(alloc, catalogue, seats)
+        ready(receipts)?;
+        let copy = OwnedAsk::of(self.alloc, ask)?;
+        let own = K::own(self.alloc, ask)?;
+        Ok((copy, own))
     }
 
     /// The lock's section of a turn, counted in the share, where the journal holds the last of these

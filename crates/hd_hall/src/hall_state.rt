@@ -22,7 +22,7 @@ use crate::seat::Seat;
 use crate::stored_receipt::StoredReceipt;
 use crate::tickets::{SEATS, Ticket, Tickets};
 use hd_catalogue::Catalogue;
-use hd_journal::{Keeper, Look, Turn, TurnFault};
+use hd_journal::{Keeper, Look, Turn, TurnFault, Turns};
 use std::alloc::Allocator;
 use std::marker::PhantomData;
 use std::sync::ledger::{Blank, Book, Share};
@@ -32,7 +32,7 @@ use std::sync::{Arc, Mutex};
 ///
 /// The keeper comes out by `close` alone.
 #[derive(Drop)]
-pub(crate) struct HallState<H: House, A: Allocator, Q: Drop, K: Keeper<A, Q>> {
+pub(crate) struct HallState<H: House, A: Allocator, Q: Drop, K: Turns> {
     keeper: K,
     book: Book<H>,
     tickets: Tickets<H>,
@@ -42,7 +42,7 @@ pub(crate) struct HallState<H: House, A: Allocator, Q: Drop, K: Keeper<A, Q>> {
     ghost counted: { book.total ≡ length (K.turns keeper) },
 }
 
-impl<H: House, A: Allocator + Copy, Q: Drop, K: Keeper<A, Q>> HallState<H, A, Q, K> {
+impl<H: House, A: Allocator, Q: Drop, K: Turns> HallState<H, A, Q, K> {
     /// A journal without turns since its keeper was made, and all parts of the ledger.
     pub(crate) fn new(keeper: K, blank: Blank) -> HallState<H, A, Q, K>
         requires turns { K.turns keeper ≡ [] }
@@ -73,7 +73,9 @@ impl<H: House, A: Allocator + Copy, Q: Drop, K: Keeper<A, Q>> HallState<H, A, Q,
     {
         self.tickets.next()
     }
+}
 
+impl<H: House, A: Allocator, Q: Drop, K: Keeper<A, Q>> HallState<H, A, Q, K> {
     /// Makes the turn of what is asked, counted in the share, where the journal holds the last of these
     /// receipts.
     ///
@@ -158,17 +160,14 @@ impl<H: House, A: Allocator + Copy, Q: Drop, K: Keeper<A, Q>> HallState<H, A, Q,
         ensures shut { IfErr result (λ why. option_map Unwritten (K.shut self.now.keeper) ≡ Some why) }
         ensures err { OnErr result (reader.new ≡ reader.old) }
     {
-        match self.keeper.journal() {
-            Ok(journal) => {
-                reader.look(journal);
-                Ok(())
-            }
+        match self.keeper.show(reader) {
+            Ok(()) => Ok(()),
             Err(why) => Err(TurnFault::Unwritten(why)),
         }
     }
 }
 
-impl<H: House, A: Allocator + Copy, Q: Drop, K: Keeper<A, Q> + Drop> HallState<H, A, Q, K> {
+impl<H: House, A: Allocator, Q: Drop, K: Turns + Drop> HallState<H, A, Q, K> {
     ghost use Rattle.hd_hall.specs.NotClosing.{CountsOpened, Misses};
 
     /// The journal, whose turns are the receipts of these seats, each once. The seats are as many as were
@@ -227,15 +226,12 @@ impl<H: House, A: Allocator + Copy, Q: Drop, K: Keeper<A, Q> + Drop> HallState<H
 }
 
 /// Whether the turn of the last receipt, if there is one, stands in the journal.
-fn holds_last<A: Allocator + Copy, Q: Drop, K: Keeper<A, Q>>(
-    keeper: &K,
-    receipts: &[StoredReceipt<A>],
-) -> bool
-    ensures yes { IsTrue result → HoldsLast (K.turns keeper.now) receipts.now }
-    ensures no { result ≡ false → LacksLast (K.turns keeper.now) receipts.now }
+fn holds_last<A: Allocator, T: Turns>(journal: &T, receipts: &[StoredReceipt<A>]) -> bool
+    ensures yes { IsTrue result → HoldsLast (T.turns journal.now) receipts.now }
+    ensures no { result ≡ false → LacksLast (T.turns journal.now) receipts.now }
 {
     match last_of(receipts) {
-        Some(last) => stands(keeper, last),
+        Some(last) => stands(journal, last),
         None => true,
     }
 }
@@ -249,13 +245,10 @@ fn last_of<A: Allocator>(receipts: &[StoredReceipt<A>]) -> Option<&StoredReceipt
 }
 
 /// Whether the receipt's turn stands in the journal, at its number.
-pub(crate) fn stands<A: Allocator + Copy, Q: Drop, K: Keeper<A, Q>>(
-    keeper: &K,
-    receipt: &StoredReceipt<A>,
-) -> bool
-    ensures { IsTrue result ↔ StandsAt (K.turns keeper.now) receipt.now }
+pub(crate) fn stands<A: Allocator, T: Turns>(journal: &T, receipt: &StoredReceipt<A>) -> bool
+    ensures { IsTrue result ↔ StandsAt (T.turns journal.now) receipt.now }
 {
-    match keeper.turn_at(receipt.number()) {
+    match journal.turn_at(receipt.number()) {
         Some(turn) => receipt.is_of(receipt.number(), &turn),
         None => false,
     }

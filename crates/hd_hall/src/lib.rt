@@ -17,4 +17,4 @@ pub use crate::house::House;
 pub use crate::receipt::Receipt;
 pub use crate::seat::Seat;
 pub use crate::stored_receipt::StoredReceipt;
-pub use hd_journal::{Ask, Keeper, TurnFault as HallFault, TurnRef};
+pub use hd_journal::{Ask, CataloguedKeeper, Keeper, TurnFault as HallFault, TurnRef, Turns};

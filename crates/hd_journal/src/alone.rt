@@ -2,7 +2,7 @@
 use crate::ask::OwnedAsk;
 use crate::fault::{TurnFault, WriteFault};
 use crate::journal::Journal;
-use crate::keeper::Keeper;
+use crate::keeper::{CataloguedKeeper, Keeper, Turns};
 use crate::look::Look;
 use crate::office::Office;
 use crate::turn::{Turn, TurnRef};
@@ -52,16 +52,27 @@ impl<A: Allocator + Copy> Office<A> for Journal<A> {
     }
 }
 
-impl<A: Allocator + Copy> Keeper<A, OwnedAsk<A>> for Journal<A> {
-    ghost use Rattle.std.specs.Prelude.{None};
-    ghost use Rattle.hd_journal.specs.Faults.{IsMemory};
+impl<A: Allocator + Copy> Turns for Journal<A> {
     ghost use Rattle.hd_journal.specs.Openings.{fresh};
-
-    ghost asks = { λ ask. ask };
 
     ghost opening = { λ journal. fresh journal.contents };
 
     ghost turns = { λ journal. journal.turns };
+
+    fn front(&self) -> usize {
+        Journal::front(self)
+    }
+
+    fn turn_at(&self, at: usize) -> Option<TurnRef<'_>> {
+        Journal::turn_at(self, at)
+    }
+}
+
+impl<A: Allocator + Copy> Keeper<A, OwnedAsk<A>> for Journal<A> {
+    ghost use Rattle.std.specs.Prelude.{None};
+    ghost use Rattle.hd_journal.specs.Faults.{IsMemory};
+
+    ghost asks = { λ ask. ask };
 
     /// Memory, and nothing else.
     ghost faults = { IsMemory };
@@ -75,24 +86,19 @@ impl<A: Allocator + Copy> Keeper<A, OwnedAsk<A>> for Journal<A> {
         OwnedAsk::of(alloc, ask)
     }
 
-    fn catalogue(&self) -> &Arc<Catalogue<A>, A> {
-        self.desk().catalogue()
-    }
-
-    fn front(&self) -> usize {
-        Journal::front(self)
-    }
-
-    fn turn_at(&self, at: usize) -> Option<TurnRef<'_>> {
-        Journal::turn_at(self, at)
-    }
-
-    fn journal(&self) -> Result<&Journal<A>, WriteFault> {
-        let _turns = Journal::front(self);
-        Ok(self)
-    }
-
     fn take(&mut self, own: OwnedAsk<A>) -> Result<Turn, TurnFault> {
         Journal::take(self, own)
+    }
+
+    fn show<L: Look<A>>(&self, reader: &mut L) -> Result<(), WriteFault> {
+        let _turns = Journal::front(self);
+        reader.look(self);
+        Ok(())
+    }
+}
+
+impl<A: Allocator + Copy> CataloguedKeeper<A, OwnedAsk<A>> for Journal<A> {
+    fn catalogue(&self) -> &Arc<Catalogue<A>, A> {
+        self.desk().catalogue()
     }
 }

@@ -6,7 +6,7 @@ ghost use Rattle.std.specs.Arc.{arc_value};
 ghost use Rattle.hd_rules.specs.Journal.{Turn};
 ghost use Rattle.hd_catalogue.specs.Contents.{facts_of};
 ghost use Rattle.hd_rules.specs.Messages.{IsKnownMessage, SeatMessage, message_of};
-ghost use Rattle.hd_journal.specs.Books.{turn_numbered};
+ghost use Rattle.hd_journal.specs.Books.{Book, turn_numbered};
 ghost use Rattle.hd_journal.specs.Faults.{IsMemoryOrUnwritten};
 ghost use Rattle.hd_journal.specs.Shown.{turn_shown};
 ghost use Rattle.hd_journal.specs.Keepers.{IsAdded};
@@ -17,26 +17,38 @@ ghost use Rattle.hd_journal.specs.declared.fault.TurnFault.TheVariants.{Unwritte
 ghost use Rattle.hd_journal.specs.declared.fault.WriteFault.{WriteFault};
 
 use crate::fault::{TurnFault, WriteFault};
-use crate::journal::Journal;
+use crate::look::Look;
 use crate::turn::{Turn, TurnRef};
 use hd_catalogue::Catalogue;
 use hd_rules::Ask;
 use std::alloc::{AllocError, Allocator};
 use std::sync::Arc;
 
-/// What takes the turns of a legal journal, under a hall's lock: the journal alone, or whatever does more
-/// with each turn before it is answered.
-///
-/// `Q` is what it keeps of an ask, made before the lock is taken.
-pub trait Keeper<A: Allocator, Q: Drop> {
-    /// What that asks.
-    ghost asks: { Q → SeatMessage };
-
+/// What has the turns of a legal journal, and tells them.
+pub trait Turns {
     /// What its catalogue says, and the turns that it had when it became a keeper.
     ghost opening: { Self → Opening };
 
     /// The turns that it has come through since, in order.
     ghost turns: { Self → List Turn };
+
+    /// How many turns there are, since it became a keeper.
+    fn front(&self) -> usize
+        ensures count { result ≡ length (turns self.now) }
+        ensures legal { IsLegalSince (opening self.now) (turns self.now) };
+
+    /// The turn of a number, from 1, or `None` where there is none.
+    fn turn_at(&self, at: usize) -> Option<TurnRef<'_>>
+        ensures { option_map turn_shown result ≡ turn_numbered (turns self.now) at };
+}
+
+/// What takes the turns of a legal journal, under a hall's lock: the journal alone, or whatever does more
+/// with each turn before it is answered.
+///
+/// `Q` is what it keeps of an ask, made before the lock is taken.
+pub trait Keeper<A: Allocator, Q: Drop>: Turns {
+    /// What that asks.
+    ghost asks: { Q → SeatMessage };
 
     /// The faults that it can give: out of memory, or a turn that couldn't be written.
     ghost faults: { TurnFault → Type 0 };
@@ -55,43 +67,41 @@ pub trait Keeper<A: Allocator, Q: Drop> {
         ensures same { IfOk result (λ own. asks own ≡ message_of ask.now) }
         ensures no_line { ask.now.line ≡ None → IsOk result };
 
-    /// The catalogue.
-    fn catalogue(&self) -> &Arc<Catalogue<A>, A>
-        ensures { arc_value result.now ≡ (opening self.now).contents };
-
-    /// How many turns there are, since it became a keeper.
-    fn front(&self) -> usize
-        ensures count { result ≡ length (turns self.now) }
-        ensures legal { IsLegalSince (opening self.now) (turns self.now) };
-
-    /// The turn of a number, from 1, or `None` where there is none.
-    fn turn_at(&self, at: usize) -> Option<TurnRef<'_>>
-        ensures { option_map turn_shown result ≡ turn_numbered (turns self.now) at };
-
-    /// The journal, with the turns that it has come through and no others.
-    ///
-    /// # Errors
-    /// Why a turn couldn't be written, where it shows its journal no more.
-    fn journal(&self) -> Result<&Journal<A>, WriteFault>
-        ensures journal { IfOk result (λ journal.
-            HasGoneOn (opening self.now) (turns self.now) journal.now) }
-        ensures legal { IsLegalSince (opening self.now) (turns self.now) }
-        ensures open { OnOk result (shut self.now ≡ None) }
-        ensures shut { IfErr result (λ why. shut self.now ≡ Some why) }
-        ensures why { IfErr result (λ why. faults (Unwritten why)) };
-
     /// One turn: what a terminal of a seat asks. What it names, and the terminal, are of the catalogue.
     ///
     /// # Errors
     /// Those of `faults`, each for its cause. There is no turn then.
     fn take(&mut self, own: Q) -> Result<Turn, TurnFault>
-        requires { IsKnownMessage (facts_of (opening self.old).contents) (asks own).message }
-        ensures turn { IfOk result (λ made. IsAdded (turns self.old) (turns self.new) (asks own) made) }
-        ensures legal { IsLegalSince (opening self.new) (turns self.new) }
+        requires { IsKnownMessage (facts_of (Self.opening self.old).contents) (asks own).message }
+        ensures turn { IfOk result (λ made.
+            IsAdded (Self.turns self.old) (Self.turns self.new) (asks own) made) }
+        ensures legal { IsLegalSince (Self.opening self.new) (Self.turns self.new) }
         ensures why { IfErr result faults }
         // That the journal is another one only a hall can tell, by a seat's last turn.
         ensures own { IfErr result IsMemoryOrUnwritten }
         ensures cause { IfErr result (causes self.old (asks own) self.new) }
-        ensures err { OnErr result (turns self.new ≡ turns self.old) }
-        ensures same { opening self.new ≡ opening self.old };
+        ensures err { OnErr result (Self.turns self.new ≡ Self.turns self.old) }
+        ensures same { Self.opening self.new ≡ Self.opening self.old };
+
+    /// Lends the journal, with the turns that it has come through and no others, to a reader.
+    ///
+    /// # Errors
+    /// Why a turn couldn't be written, where it shows its journal no more. The reader is as it was.
+    fn show<L: Look<A>>(&self, reader: &mut L) -> Result<(), WriteFault>
+        requires fits { L.fits reader.old (Self.opening self.now).contents }
+        ensures saw { OnOk result ((book : Book)
+            × HasGoneOn (Self.opening self.now) (Self.turns self.now) book
+            × L.saw reader.old book reader.new) }
+        ensures legal { IsLegalSince (Self.opening self.now) (Self.turns self.now) }
+        ensures open { OnOk result (shut self.now ≡ None) }
+        ensures shut { IfErr result (λ why. shut self.now ≡ Some why) }
+        ensures why { IfErr result (λ why. faults (Unwritten why)) }
+        ensures err { OnErr result (reader.new ≡ reader.old) };
+}
+
+/// A keeper that has its catalogue at hand, so that a hall can be opened round it.
+pub trait CataloguedKeeper<A: Allocator, Q: Drop>: Keeper<A, Q> {
+    /// The catalogue.
+    fn catalogue(&self) -> &Arc<Catalogue<A>, A>
+        ensures { arc_value result.now ≡ (Self.opening self.now).contents };
 }

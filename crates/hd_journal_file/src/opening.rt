@@ -27,6 +27,7 @@ use hd_journal::Journal;
 use hd_turn_store::{
     Alter, Connection, FileFrom, FileStore, Start, accept, catalogue, open_for_turns,
 };
+use sqlite_disk::Disk;
 use std::alloc::{AllocError, Global};
 use std::sync::Arc;
 
@@ -54,7 +55,7 @@ pub fn open<S: Start, P: Progress>(
     start: S,
     wanted: &Wanted<'_>,
     is_for_turns: bool,
-    mut journal: Journal,
+    journal: Journal,
     progress: &mut P,
 ) -> Result<DurableJournal<JournalFile<FileStore<FileFrom<S>>, S>>, OpenFault>
     requires { journal.turns ≡ [] }
@@ -75,8 +76,52 @@ pub fn open<S: Start, P: Progress>(
     ensures marked { IfOk result (λ opened. HasCleanDisk (file_state opened.table.conn)
         → IsTrue is_for_turns → HasMark open_mark (file_state opened.table.conn).now.trees) }
 {
-    let alloc = rt.alloc();
-    let (mut conn, is_new) = hd_turn_store::open(rt, path, start, wanted.digest)?;
+    let (conn, is_new) = hd_turn_store::open(rt, path, start, wanted.digest)?;
+    open_files(
+        rt.alloc(),
+        conn,
+        is_new,
+        wanted,
+        is_for_turns,
+        journal,
+        progress,
+    )
+}
+
+/// The same over files that are open: the journal was begun in them, and has no turns yet, or what the
+/// connection sees is what `F` stands for.
+///
+/// # Errors
+/// Each of `OpenFault`. The turns in the file stay as they were (`left` of `take_again`).
+fn open_files<D: Disk + Drop, F: Start, P: Progress>(
+    alloc: Global,
+    mut conn: Connection<FileStore<D>>,
+    is_new: bool,
+    wanted: &Wanted<'_>,
+    is_for_turns: bool,
+    mut journal: Journal,
+    progress: &mut P,
+) -> Result<DurableJournal<JournalFile<FileStore<D>, F>>, OpenFault>
+    requires empty { journal.turns ≡ [] }
+    requires new { HasCleanDisk (file_state conn) → IsTrue is_new → (head : Head) (rows : List KeptTurn)
+        → ¬ HoldsTurns (image_at F.Start) head rows }
+    requires begun { HasCleanDisk (file_state conn) → IsTrue is_new
+        → Holds (file_state conn) (new_head wanted.now.digest.now) [] }
+    requires seen { HasCleanDisk (file_state conn) → is_new ≡ false → (head : Head) (rows : List KeptTurn)
+        → HoldsTurns (image_at F.Start) head rows → Holds (file_state conn) head rows }
+    ensures contents { IfOk result (λ opened. opened.contents ≡ journal.contents) }
+    ensures digest { IfOk result (λ opened. opened.table.digest ≡ Some wanted.now.digest.now) }
+    ensures new { IfOk result (λ opened. HasCleanDisk (file_state opened.table.conn)
+        → IsTrue opened.table.is_new → (head : Head) (rows : List KeptTurn)
+        → ¬ HoldsTurns (image_at F.Start) head rows) }
+    ensures begun { IfOk result (λ opened. HasCleanDisk (file_state opened.table.conn)
+        → IsTrue opened.table.is_new → (opened.turns ≡ [])
+        × Holds (file_state opened.table.conn) (new_head wanted.now.digest.now) []) }
+    ensures found { IfOk result (λ opened. AreFound (image_at F.Start) opened.table.is_new wanted.now
+        (file_state opened.table.conn) opened.contents opened.turns) }
+    ensures marked { IfOk result (λ opened. HasCleanDisk (file_state opened.table.conn)
+        → IsTrue is_for_turns → HasMark open_mark (file_state opened.table.conn).now.trees) }
+{
     take_again(alloc, &mut conn, is_new, wanted, &mut journal, progress)?;
     let taken = for_turns(alloc, conn, is_for_turns)?;
     Ok(durable(alloc, taken, is_new, wanted, Some(*wanted.digest), journal)?)
@@ -86,11 +131,11 @@ pub fn open<S: Start, P: Progress>(
 ///
 /// # Errors
 /// `File`, where the mark can't be written.
-fn for_turns<S: Start>(
+fn for_turns<D: Disk + Drop>(
     alloc: Global,
-    conn: Connection<FileStore<FileFrom<S>>>,
+    conn: Connection<FileStore<D>>,
     is_for_turns: bool,
-) -> Result<Connection<FileStore<FileFrom<S>>>, OpenFault>
+) -> Result<Connection<FileStore<D>>, OpenFault>
     ensures clean { IfOk result (λ c. HasCleanDisk (file_state c) → HasCleanDisk (file_state conn)) }
     ensures same { IfOk result (λ c. HasCleanDisk (file_state c) → (head : Head) (rows : List KeptTurn)
         → Holds (file_state conn) head rows → Holds (file_state c) head rows) }

@@ -7,7 +7,7 @@ use crate::gate::{Gate, Observer, Unobserved};
 use crate::options::Options;
 use crate::standing::Standing;
 use crate::terminals::serve_terminals;
-use hd_hall::{Hall, House, Keeper};
+use hd_hall::{CataloguedKeeper, Hall, House};
 use std::alloc::Global;
 use std::marker::Brand;
 use std::net::TcpListener;
@@ -44,7 +44,7 @@ pub fn serve<
     R: Threads + Wait + Clock + Sync,
     G: Gate,
     Q: Drop + Send,
-    K: Keeper<Global, Q> + Drop + Send,
+    K: CataloguedKeeper<Global, Q> + Drop + Send,
 >(
     rt: &R,
     alloc: Global,
@@ -69,7 +69,7 @@ pub fn serve_observed<
     R: Threads + Wait + Clock + Sync,
     O: Gate + Observer,
     Q: Drop + Send,
-    K: Keeper<Global, Q> + Drop + Send,
+    K: CataloguedKeeper<Global, Q> + Drop + Send,
 >(
     rt: &R,
     alloc: Global,
@@ -93,7 +93,7 @@ fn serve_in<
     R: Threads + Wait + Clock + Sync,
     O: Gate + Observer,
     Q: Drop + Send,
-    K: Keeper<Global, Q> + Drop + Send,
+    K: CataloguedKeeper<Global, Q> + Drop + Send,
 >(
     rt: &R,
     alloc: Global,

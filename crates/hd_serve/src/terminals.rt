@@ -14,7 +14,7 @@ use crate::places::Places;
 use crate::standing::Standing;
 use crate::worker::Service;
 use crossbeam_channel::{Sender, bounded};
-use hd_hall::{Hall, House, Keeper, Seat};
+use hd_hall::{Hall, House, Keeper, Seat, Turns};
 use hd_journal::WriteFault;
 use hd_log::Event;
 use std::alloc::Global;
@@ -40,7 +40,7 @@ impl<H: House> Served<H> {
     /// # Errors
     /// `NotClosed` where the hall doesn't close; the fault of the accepting, if it ended with one;
     /// `Unwritten` where a turn couldn't be written.
-    pub fn close<Q: Drop, K: Keeper<Global, Q> + Drop>(
+    pub fn close<Q: Drop, K: Turns + Drop>(
         self,
         hall: Hall<H, Global, Q, K>,
     ) -> Result<K, ServeFault>

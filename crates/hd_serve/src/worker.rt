@@ -21,7 +21,7 @@ use hd_attend::{AttendFault, attend};
 use hd_connection::{Fallible, Output};
 use hd_exchange::profile_of;
 use hd_field::Stream;
-use hd_hall::{Counter, Hall, House, Keeper, Seat};
+use hd_hall::{Counter, Hall, House, Keeper, Seat, Turns};
 use hd_journal::{TurnFault, WriteFault};
 use hd_log::{ConnectionEvent, End, Event};
 use hd_looks::CountsReader;
@@ -34,7 +34,7 @@ use std::time::{Clock, Duration, Instant};
 
 /// What the workers of a server share.
 #[derive(Drop)]
-pub(crate) struct Service<'a, H: House, Q: Drop, K: Keeper<Global, Q>> {
+pub(crate) struct Service<'a, H: House, Q: Drop, K: Turns> {
     pub(crate) alloc: Global,
     pub(crate) hall: &'a Hall<H, Global, Q, K>,
     pub(crate) places: &'a Mutex<Places<H>>,

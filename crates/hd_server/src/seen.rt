@@ -8,11 +8,12 @@ use crate::fault::ServerFault;
 use crate::server_view::ServerView;
 use hd_door::{Door, OnStop, Service};
 use hd_durable::LastCommit;
-use hd_hall::{Hall, House, Keeper};
+use hd_hall::{CataloguedKeeper, Hall, House, Keeper};
+use hd_journal::{Journal, Look};
 use hd_page::{Page, View};
 use hd_serve::{Gate, Observer, Options, ServeFault, Served, Standing, serve_terminals};
 use hd_shown::HallView;
-use std::alloc::Global;
+use std::alloc::{Allocator, Global};
 use std::marker::Brand;
 use std::net::TcpListener;
 use std::sync::Wait;
@@ -47,7 +48,7 @@ pub fn serve_seen<
     R: Threads + Wait + Clock + Sync,
     O: Gate + Observer,
     Q: Drop + Send,
-    K: Keeper<Global, Q> + Drop + Send,
+    K: CataloguedKeeper<Global, Q> + Drop + Send,
 >(
     rt: &'x R,
     host: &'x HostRuntime,
@@ -74,7 +75,7 @@ fn serve_in<
     R: Threads + Wait + Clock + Sync,
     O: Gate + Observer,
     Q: Drop + Send,
-    K: Keeper<Global, Q> + Drop + Send,
+    K: CataloguedKeeper<Global, Q> + Drop + Send,
 >(
     rt: &'x R,
     host: &'x HostRuntime,
@@ -127,9 +128,28 @@ fn turns_of<Q: Drop, K: Keeper<Global, Q>>(keeper: &K) -> usize
     ensures { K.shut keeper.now ≡ None
         → result ≡ length ((K.opening keeper.now).begun ++ K.turns keeper.now) }
 {
-    match keeper.journal() {
-        Ok(journal) => journal.front(),
+    let mut reader = TurnsReader { turns: 0 };
+    match keeper.show(&mut reader) {
+        Ok(()) => reader.turns,
         Err(_) => 0,
+    }
+}
+
+/// What takes down how many turns a journal has.
+#[derive(Drop)]
+struct TurnsReader {
+    turns: usize,
+}
+
+impl<A: Allocator + Copy> Look<A> for TurnsReader {
+    ghost use Rattle.std.specs.Prelude.{◌≡◌, ⊤, length};
+
+    ghost fits = { λ _ _. ⊤ };
+
+    ghost saw = { λ _ book new. new.turns ≡ length book.turns };
+
+    fn look(&mut self, journal: &Journal<A>) {
+        self.turns = journal.front();
     }
 }
 

@@ -12,7 +12,7 @@ use crate::standing::state_of;
 use crate::state_reader::StateReader;
 use hd_desk::Meter;
 use hd_hall::{Hall, House};
-use hd_journal::{Journal, Keeper, OwnedAsk};
+use hd_journal::{Journal, Keeper, OwnedAsk, Turns};
 use hd_looks::PageReader;
 use hd_page::{Health, Inquiry, Outcome, State, View, ViewFault};
 use std::alloc::{AllocError, Allocator, Global};
@@ -26,7 +26,7 @@ pub struct HallView<
     H: House,
     A: Allocator = Global,
     Q: Drop = OwnedAsk<A>,
-    K: Keeper<A, Q> = Journal<A>,
+    K: Turns = Journal<A>,
 > {
     rt: &'a R,
     host: &'a HostRuntime,
@@ -37,14 +37,7 @@ pub struct HallView<
     reader: Mutex<StateReader>,
 }
 
-impl<'a, R, H: House, A: Allocator + Copy, Q: Drop, K: Keeper<A, Q> + Drop> HallView<
-    'a,
-    R,
-    H,
-    A,
-    Q,
-    K,
-> {
+impl<'a, R, H: House, A: Allocator + Copy, Q: Drop, K: Turns + Drop> HallView<'a, R, H, A, Q, K> {
     /// A view of the hall. Its journal's turns behind so many are counted by kind and outcome.
     ///
     /// # Errors
@@ -72,7 +65,7 @@ impl<'a, R, H: House, A: Allocator + Copy, Q: Drop, K: Keeper<A, Q> + Drop> Hall
 ///
 /// # Errors
 /// There is no memory for the terminals.
-fn reader_of<H: House, A: Allocator + Copy, Q: Drop, K: Keeper<A, Q> + Drop>(
+fn reader_of<H: House, A: Allocator + Copy, Q: Drop, K: Turns + Drop>(
     alloc: Global,
     hall: &Hall<H, A, Q, K>,
     begun: usize,

@@ -10,7 +10,7 @@ use hd_catalogue::Catalogue;
 use hd_command_line::{Beyond, LibraryFiles, Serve};
 use hd_door::Door;
 use hd_durable::LastCommit;
-use hd_hall::Keeper;
+use hd_hall::CataloguedKeeper;
 use hd_journal::Journal;
 use hd_log::Event;
 use hd_page_html::page;
@@ -79,7 +79,7 @@ pub(crate) fn listen_with_turns(
 pub(crate) fn serve_by<
     R: Threads + Wait + Clock + Sync,
     Q: Drop + Send,
-    K: Keeper<Global, Q> + Drop + Send,
+    K: CataloguedKeeper<Global, Q> + Drop + Send,
 >(
     rt: &R,
     host: &HostRuntime,

@@ -12,7 +12,7 @@ use crate::zone::zone_offset;
 use hd_command_line::Serve;
 use hd_door::Door;
 use hd_durable::{DurableJournal, DurableKeeper, LastCommit, TurnTable};
-use hd_hall::Keeper;
+use hd_hall::CataloguedKeeper;
 use hd_journal_file::JournalFile;
 use hd_log::Event;
 use hd_serve::Observer;

@@ -3,8 +3,8 @@
 ghost use Rattle.std.specs.Prelude.{◌≡◌, [], ℕ, None};
 
 use hd_catalogue::Catalogue;
-use hd_hall::Keeper;
-use hd_journal::{Ask, Journal, OwnedAsk, Turn, TurnFault, TurnRef, WriteFault};
+use hd_hall::{CataloguedKeeper, Keeper, Turns};
+use hd_journal::{Ask, Journal, Look, OwnedAsk, Turn, TurnFault, TurnRef, WriteFault};
 use std::alloc::{AllocError, Global};
 use std::sync::Arc;
 
@@ -24,15 +24,26 @@ impl FullDisk {
     }
 }
 
-impl Keeper<Global, OwnedAsk<Global>> for FullDisk {
-    ghost use Rattle.hd_journal.specs.Faults.{IsMemoryOrUnwritten};
+impl Turns for FullDisk {
     ghost use Rattle.hd_journal.specs.Openings.{fresh};
-
-    ghost asks = { λ ask. ask };
 
     ghost opening = { λ disk. fresh disk.journal.contents };
 
     ghost turns = { λ disk. disk.journal.turns };
+
+    fn front(&self) -> usize {
+        self.journal.front()
+    }
+
+    fn turn_at(&self, at: usize) -> Option<TurnRef<'_>> {
+        self.journal.turn_at(at)
+    }
+}
+
+impl Keeper<Global, OwnedAsk<Global>> for FullDisk {
+    ghost use Rattle.hd_journal.specs.Faults.{IsMemoryOrUnwritten};
+
+    ghost asks = { λ ask. ask };
 
     ghost faults = { IsMemoryOrUnwritten };
 
@@ -44,26 +55,20 @@ impl Keeper<Global, OwnedAsk<Global>> for FullDisk {
         OwnedAsk::of(alloc, ask)
     }
 
-    fn catalogue(&self) -> &Arc<Catalogue> {
-        self.journal.desk().catalogue()
-    }
-
-    fn front(&self) -> usize {
-        self.journal.front()
-    }
-
-    fn turn_at(&self, at: usize) -> Option<TurnRef<'_>> {
-        self.journal.turn_at(at)
-    }
-
-    fn journal(&self) -> Result<&Journal, WriteFault> {
-        Keeper::journal(&self.journal)
-    }
-
     fn take(&mut self, ask: OwnedAsk<Global>) -> Result<Turn, TurnFault> {
         if self.journal.front() >= self.room {
             return Err(TurnFault::Unwritten(WriteFault::DiskFull));
         }
         self.journal.take(ask)
+    }
+
+    fn show<L: Look<Global>>(&self, reader: &mut L) -> Result<(), WriteFault> {
+        self.journal.show(reader)
+    }
+}
+
+impl CataloguedKeeper<Global, OwnedAsk<Global>> for FullDisk {
+    fn catalogue(&self) -> &Arc<Catalogue> {
+        self.journal.desk().catalogue()
     }
 }

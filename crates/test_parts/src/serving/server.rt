@@ -4,7 +4,7 @@ ghost use Rattle.std.specs.Prelude.{◌≡◌, ◌≤◌, []};
 
 use crate::library::new_journal;
 use crate::serving::terminal::Terminal;
-use hd_hall::Keeper;
+use hd_hall::CataloguedKeeper;
 use hd_serve::{Gate, ServeFault};
 use hd_server::{Beyond, Options, ServerFault, Summary};
 use std::alloc::Global;
@@ -94,7 +94,7 @@ pub(crate) fn play_kept<
     R: Threads + Wait + Clock + Sync,
     W: Row,
     Q: Drop + Send,
-    K: Keeper<Global, Q> + Drop + Send,
+    K: CataloguedKeeper<Global, Q> + Drop + Send,
 >(
     rt: &R,
     alloc: Global,

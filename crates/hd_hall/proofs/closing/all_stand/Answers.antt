@@ -10,7 +10,7 @@ returns-then-not-stands g c =
     let within : i < length c.args.receipts.now = omega arith in (
       (λ yes. absurd (let h : false ≡ true = yes in cc)),
       (λ all.
-          let here = subst (StandsAt (g.K.Keeper.turns c.args.keeper.now)) (sym c.receipt-item.is)
+          let here = subst (StandsAt (g.T.Turns.turns c.args.journal.now)) (sym c.receipt-item.is)
           (all i x within) in
           let yes = c.stands.ensures.1 here in
           let no = c.if-not-stands.true in
@@ -20,7 +20,7 @@ returns-then-not-stands g c =
 pub loop-receipt-preserved : goal.loop-receipt-preserved
 loop-receipt-preserved g c =
     let within : c.loop-receipt.receipt-index < length c.args.receipts.now = omega arith in
-    first_more (StandsAt (g.K.Keeper.turns c.args.keeper.now)) c.loop-receipt.receipt-index
+    first_more (StandsAt (g.T.Turns.turns c.args.journal.now)) c.loop-receipt.receipt-index
     c.args.receipts.now
     c.receipt-item.result within c.receipt-item.is
     (c.stands.ensures.0 c.if-not-stands.false) c.loop-receipt.invariant

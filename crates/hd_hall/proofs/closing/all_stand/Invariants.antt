@@ -3,4 +3,4 @@ use Rattle.hd_hall.proofs.Walking.{FirstAre}
 use Rattle.hd_hall.proofs.closing.all_stand.Given as goal
 
 abbrev pub invariant-loop-receipt : goal.invariant-loop-receipt
-invariant-loop-receipt g l = FirstAre (StandsAt (g.K.Keeper.turns l.keeper)) l.receipt-index l.receipts
+invariant-loop-receipt g l = FirstAre (StandsAt (g.T.Turns.turns l.journal)) l.receipt-index l.receipts

@@ -9,7 +9,7 @@ use Rattle.hd_hall.proofs.closing.are_there.Goals as goal
 
 pub loop-seat-preserved : goal.loop-seat-preserved
 loop-seat-preserved g c =
-    let turns = (g.K.Keeper.turns c.args.keeper.now) in
+    let turns = (g.T.Turns.turns c.args.journal.now) in
     let i = c.loop-seat.seat-index in
     let seat = c.seat-item.result in
     let number : c.number-number.result ≡ seat.number = c.number-number.ensures ∙ c.number.ensures in
@@ -29,7 +29,7 @@ loop-seat-preserved g c =
 
 pub returns-then-number-last : goal.returns-then-number-last
 returns-then-number-last g c =
-    let turns = (g.K.Keeper.turns c.args.keeper.now) in
+    let turns = (g.T.Turns.turns c.args.journal.now) in
     let i = c.loop-seat.seat-index in
     let seat = c.seat-item.result in
     let within : i < length c.args.seats.now = omega arith in

@@ -4,5 +4,5 @@ use Rattle.hd_hall.proofs.closing.are_there.Given as goal
 
 abbrev pub invariant-loop-seat : goal.invariant-loop-seat
 invariant-loop-seat g l =
-    AreThere (g.K.Keeper.turns l.keeper) l.last (drop l.seat-index l.seats)
-    ↔ AreThere (g.K.Keeper.turns l.keeper) 0 l.seats
+    AreThere (g.T.Turns.turns l.journal) l.last (drop l.seat-index l.seats)
+    ↔ AreThere (g.T.Turns.turns l.journal) 0 l.seats

@@ -11,7 +11,7 @@ use Rattle.hd_hall.proofs.closing.differing.Goals as goal
 
 -- the turns are as many as the seats' shares say
 counted : (g : Over) (c : After-audit g)
-    → length (g.K.Keeper.turns c.args.keeper.now) ≡ shares c.args.seats.now
+    → length (g.T.Turns.turns c.args.journal.now) ≡ shares c.args.seats.now
 counted g c =
     let total = c.audit.ensures.whole (omega (arith, c.gather.ensures.parts, c.requires.all)) in
     omega (arith, total, c.gather.ensures.amount, c.requires.empty.0, c.requires.counted)
@@ -20,13 +20,13 @@ pub returns-then-are_there-clause-none : goal.returns-then-are_there-clause-none
 returns-then-are_there-clause-none g c =
     let counts = counted g (goal.at.returns-then-are_there-clause-none g c).After-audit in
     let there = c.are_there.ensures.0 c.if-are_there.true in
-    let here : AreThere (g.K.Keeper.turns c.args.keeper.now) 0 c.args.seats.now =
-    lent_there (g.K.Keeper.turns c.args.keeper.now) 0 c.args.seats.now
-    (subst (λ (ss : List SeatView). AreThere (g.K.Keeper.turns c.args.keeper.now) 0 ss) c.gather.ensures.lent
+    let here : AreThere (g.T.Turns.turns c.args.journal.now) 0 c.args.seats.now =
+    lent_there (g.T.Turns.turns c.args.journal.now) 0 c.args.seats.now
+    (subst (λ (ss : List SeatView). AreThere (g.T.Turns.turns c.args.journal.now) 0 ss) c.gather.ensures.lent
     there) in
     record {
       legal = c.front-front.ensures.legal;
-      once = there_permutes (g.K.Keeper.turns c.args.keeper.now) c.args.seats.now here c.gather.ensures.whole
+      once = there_permutes (g.T.Turns.turns c.args.journal.now) c.args.seats.now here c.gather.ensures.whole
           counts;
       counted = counts;
     }
@@ -37,7 +37,7 @@ returns-in-None-clause-none g c =
     let has = rw (c.gather.ensures.lent, lent_receipts) at c.in-None.ensures.none in
     record {
       legal = c.front-front.ensures.legal;
-      once = covers_permutes 0 (g.K.Keeper.turns c.args.keeper.now) (all_receipts c.args.seats.now)
+      once = covers_permutes 0 (g.T.Turns.turns c.args.journal.now) (all_receipts c.args.seats.now)
           (whole_counts c.args.seats.now c.gather.ensures.whole ∙ sym counts)
           (λ k m t is eq.
           let e : k + 1 ≡ m = omega arith in

@@ -12,14 +12,14 @@ returns-then-not-is_received-clause-some g c =
     let lacks = c.is_received.ensures.no c.if-not-is_received.true in (
       lacks.0,
       omega arith,
-      place_of (g.K.Keeper.turns c.args.keeper.now) (c.loop-at.at + 1) lacks.0
+      place_of (g.T.Turns.turns c.args.journal.now) (c.loop-at.at + 1) lacks.0
           (omega arith) lacks.1,
       lacks.2,
     )
 
 pub loop-at-preserved : goal.loop-at-preserved
 loop-at-preserved g c =
-    let turns = (g.K.Keeper.turns c.args.keeper.now) in
+    let turns = (g.T.Turns.turns c.args.journal.now) in
     let at = c.loop-at.at in
     below_more (λ (k : ℕ). (t : Turn) → slice_get turns k ≡ Some t → Contains (all_receipts c.args.seats.now)
     (record { number = k + 1; turn = t })) at c.loop-at.invariant
@@ -27,5 +27,5 @@ loop-at-preserved g c =
 
 pub returns-clause-none : goal.returns-clause-none
 returns-clause-none g c k t is =
-    let within = slice_get_within (g.K.Keeper.turns c.args.keeper.now) k t is in
+    let within = slice_get_within (g.T.Turns.turns c.args.journal.now) k t is in
     c.loop-at.invariant k (omega (arith, c.requires)) t is

@@ -6,5 +6,5 @@ use Rattle.hd_hall.proofs.closing.first_without_receipt.Given as goal
 
 abbrev pub invariant-loop-at : goal.invariant-loop-at
 invariant-loop-at g l =
-    (k : ℕ) → k < l.at → (t : Turn) → slice_get (g.K.Keeper.turns l.keeper) k ≡ Some t
+    (k : ℕ) → k < l.at → (t : Turn) → slice_get (g.T.Turns.turns l.journal) k ≡ Some t
     → Contains (all_receipts l.seats) (record { number = k + 1; turn = t })

@@ -1,7 +1,7 @@
 use Rattle.hd_server.proofs.seen.serve_seen.Given as goal
 
 abbrev pub ghosts-serve_in-H-House : goal.ghosts-serve_in-H-House
-ghosts-serve_in-H-House g a = record { opening = g.K.Keeper.opening a.keeper }
+ghosts-serve_in-H-House g a = record { opening = g.K.Turns.opening a.keeper }
 
 abbrev pub ghosts-serve_in-H-Ledger : goal.ghosts-serve_in-H-Ledger
 ghosts-serve_in-H-Ledger g a = record { name = a.blank.name; parts = a.blank.parts }

@@ -7,7 +7,7 @@ use Rattle.hd_hall.proofs.hall.Hall.look_from.Goals as goal
 
 pub returns-clause-saw : goal.returns-clause-saw
 returns-clause-saw g c =
-    let turns = g.K.Keeper.turns c.deref.result.now.keeper in
+    let turns = g.K.Turns.turns c.deref.result.now.keeper in
     shown_to g.H.House.opening turns c.args.seat.now.receipts
     (λ book. g.L.Look.saw c.args.reader.now book c.look.new.reader)
     c.look.result c.look.ensures.legal c.look.ensures.saw
@@ -20,5 +20,5 @@ returns-clause-why g c =
     (λ (rs : List Receipted). IfErr c.look.result
     (IsLookFault g.K.Keeper.faults (IsStrangeTo g.H.House.opening rs)))
     c.receipts.ensures.receipts
-    (strange_look g.H.House.opening (g.K.Keeper.turns c.deref.result.now.keeper) c.receipts.result.now
+    (strange_look g.H.House.opening (g.K.Turns.turns c.deref.result.now.keeper) c.receipts.result.now
     g.K.Keeper.faults c.look.result c.look.ensures.legal c.look.ensures.why)

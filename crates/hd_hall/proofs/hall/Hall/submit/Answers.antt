@@ -23,16 +23,16 @@ left g c = record {
 is_seat : (g : Over) (c : After-push_reserved g) → IsSeat g.H.House.opening (left g c)
 is_seat g c =
     let made = c.in_ok-made.made in
-    let given = receipt_of (g.K.Keeper.asks c.in_ok-own.own) made in
-    let before = c.deref.ensures.value ∙ c.in_ok-ready.ensures.items in
+    let given = receipt_of (g.K.Keeper.asks c.in_ok-copy.own) made in
+    let before = c.deref.ensures.value ∙ c.prepare.ensures.items in
     let next = subst (λ (rs : List Receipted). IsNextOf g.H.House.opening rs given) before
     c.in_ok-made.ensures.next in
-    let same = c.in_ok-own.ensures.same ∙ sym c.in_ok-copy.ensures.same in
+    let same = c.in_ok-copy.ensures.own ∙ sym c.in_ok-copy.ensures.copy in
     let number = ap (λ (s : SeatView). s.number) c.seat.view_is in
-    let own = ap (λ (m : SeatMessage). m.seat) c.in_ok-copy.ensures.same ∙ (c.requires.seat ∙ sym number) in
+    let own = ap (λ (m : SeatMessage). m.seat) c.in_ok-copy.ensures.copy ∙ (c.requires.seat ∙ sym number) in
     rw (
       c.push_reserved.ensures.items,
-      c.in_ok-ready.ensures.items,
+      c.prepare.ensures.items,
       c.new.ensures,
       c.in_ok-made.ensures.parts,
       c.in_ok-made.ensures.share,
@@ -45,9 +45,9 @@ is_seat g c =
 pub invariant_of-seat-2 : goal.invariant_of-seat-2
 invariant_of-seat-2 g c =
     let count = ap (λ (rs : List Receipted). length rs) c.push_reserved.ensures.items in
-    let more = length-append c.ready.new.receipts.items (c.new.result ∷ []) in (
+    let more = length-append c.prepare.new.receipts.items (c.new.result ∷ []) in (
       is_seat g (goal.at.invariant_of-seat-2 g c).After-push_reserved,
-      omega (arith, count, more, c.push_reserved.ensures.capacity, c.in_ok-ready.ensures.more),
+      omega (arith, count, more, c.push_reserved.ensures.capacity, c.in_ok-copy.ensures.more),
     )
 
 pub returns-clause-all : goal.returns-clause-all
@@ -58,7 +58,7 @@ pub returns-in_err-made-clause-why : goal.returns-in_err-made-clause-why
 returns-in_err-made-clause-why g c =
     let p = err_from_is_err_and c.from_residual-in_err-made.result c.from_residual-in_err-made.ensures.1 in
     let same : c.deref.result.now ≡ c.args.seat.now.receipts =
-    c.deref.ensures.value ∙ c.in_ok-ready.ensures.items ∙ ap (λ (s : SeatView). s.receipts) c.seat.view_is in
+    c.deref.ensures.value ∙ c.prepare.ensures.items ∙ ap (λ (s : SeatView). s.receipts) c.seat.view_is in
     rw (p.1, p.2)
     (of_lock (NeedsMemory c.args.seat.now.receipts c.args.ask.now.line) g.K.Keeper.faults
     (IsStrangeTo g.H.House.opening c.args.seat.now.receipts) c.in_err-made.field-0.0
@@ -72,7 +72,7 @@ returns-in_err-made-clause-err g c =
     let share = c.in_err-made.ensures.err in
     rw p.1 ((λ j. record {
       number = c.seat.inside.ticket;
-      receipts = c.in_ok-ready.ensures.items j;
+      receipts = c.prepare.ensures.items j;
       parts = (share j).parts;
       share = (share j).amount;
     }) ∙ c.seat.view_is)

@@ -4,16 +4,16 @@ use Rattle.hd_hall.proofs.hall.Hall.take.Goals as goal
 
 pub returns-clause-next : goal.returns-clause-next
 returns-clause-next g c =
-    next_of g.H.House.opening (g.K.Keeper.turns c.deref_mut.result.now.keeper)
-    (g.K.Keeper.turns c.submit.new.self.keeper)
+    next_of g.H.House.opening (g.K.Turns.turns c.deref_mut.result.now.keeper)
+    (g.K.Turns.turns c.submit.new.self.keeper)
     c.args.receipts.now (g.K.Keeper.asks c.args.own) c.submit.result c.submit.ensures.legal
     c.submit.ensures.turn
     c.submit.ensures.holds
 
 pub returns-clause-why : goal.returns-clause-why
 returns-clause-why g c =
-    strange_of g.H.House.opening (g.K.Keeper.turns c.deref_mut.result.now.keeper)
-    (g.K.Keeper.turns c.submit.new.self.keeper)
+    strange_of g.H.House.opening (g.K.Turns.turns c.deref_mut.result.now.keeper)
+    (g.K.Turns.turns c.submit.new.self.keeper)
     c.args.receipts.now g.K.Keeper.faults _ c.submit.result c.submit.ensures.legal c.submit.ensures.err
     c.submit.ensures.why
 

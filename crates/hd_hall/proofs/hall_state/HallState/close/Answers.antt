@@ -19,7 +19,7 @@ returns-clause-missing g c =
       locked.ours,
       subst
           (λ (o : Opening). LacksReceipt o
-          (g.K.Keeper.turns locked.keeper) c.args.seats.items c.in-Some.number)
+          (g.K.Turns.turns locked.keeper) c.args.seats.items c.in-Some.number)
           locked.ours lacks,
       rw (← c.as_mut_slice.ensures.value) c.in-Some.ensures.whole,
     )
