@@ -395,7 +395,7 @@ def main():
     parser.add_argument("--crate", help="try the wrong bodies of this crate alone")
     parser.add_argument("--list", action="store_true", help="name the wrong bodies, and the functions that they change")
     parser.add_argument("--anew", action="store_true", help="try also those that were refused before")
-    parser.add_argument("--name-goals", action="store_true", help="write into the edits that are tried what refuses them")
+    parser.add_argument("--name-goals", action="store_true", help="write into edits that name no goal what refuses them")
     parser.add_argument("--self-test", action="store_true", help="see that edits that mustn't count as refused don't")
     chosen, uses = parser.parse_args(), uses_of_all()
     if chosen.crate and chosen.crate not in uses:
@@ -411,7 +411,7 @@ def main():
             return 0
         try_kept(edits, uses, room, chosen.anew)
     for edit in edits:
-        if chosen.name_goals and edit.found:
+        if chosen.name_goals and edit.found and not edit.goal:
             name_goal(edit)
     refused = sum(edit.verdict == REFUSED for edit in edits)
     for edit in edits:
