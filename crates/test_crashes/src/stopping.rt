@@ -331,15 +331,24 @@ fn restore_journal<D: Disk + Drop>(
     disks: Files<D>,
 ) -> Option<(Journal, Files<D>)> {
     match open(rt.alloc(), disks) {
-        Ok(mut conn) => {
-            let journal = restore_from(rt, &mut conn)?;
+        Ok(conn) => {
+            let (journal, conn) = restore_over(rt, conn)?;
             Some((journal, leave(conn).close()))
         }
         Err(_) => None,
     }
 }
 
-/// The same of a database that is open.
+/// The same of a database that is open, with its connection.
+fn restore_over<S: Alter + Drop>(
+    rt: &HostRuntime,
+    mut conn: Connection<S>,
+) -> Option<(Journal, Connection<S>)> {
+    let journal = restore_from(rt, &mut conn)?;
+    Some((journal, conn))
+}
+
+/// The same of a database that stays open.
 fn restore_from<S: Alter>(rt: &HostRuntime, conn: &mut Connection<S>) -> Option<Journal> {
     let mut journal = new_journal(rt)?;
     match take_again(rt.alloc(), conn, &mut journal) {
