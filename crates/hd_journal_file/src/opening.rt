@@ -95,11 +95,11 @@ pub fn open<S: Start, P: Progress>(
 /// Each of `OpenFault`. The turns in the file stay as they were (`left` of `take_again`).
 fn open_files<D: Disk + Drop, F: Start, P: Progress>(
     alloc: Global,
-    mut conn: Connection<FileStore<D>>,
+    conn: Connection<FileStore<D>>,
     is_new: bool,
     wanted: &Wanted<'_>,
     is_for_turns: bool,
-    mut journal: Journal,
+    journal: Journal,
     progress: &mut P,
 ) -> Result<DurableJournal<JournalFile<FileStore<D>, F>>, OpenFault>
     requires empty { journal.turns ≡ [] }
@@ -122,9 +122,34 @@ fn open_files<D: Disk + Drop, F: Start, P: Progress>(
     ensures marked { IfOk result (λ opened. HasCleanDisk (file_state opened.table.conn)
         → IsTrue is_for_turns → HasMark open_mark (file_state opened.table.conn).now.trees) }
 {
-    take_again(alloc, &mut conn, is_new, wanted, &mut journal, progress)?;
+    let (conn, journal) = taken_again(alloc, conn, is_new, wanted, journal, progress)?;
     let taken = for_turns(alloc, conn, is_for_turns)?;
     Ok(durable(alloc, taken, is_new, wanted, Some(*wanted.digest), journal)?)
+}
+
+/// The connection to a file, and the journal that has taken its turns again (`take_again`).
+///
+/// # Errors
+/// `File`, `OtherCatalogue` and `Turns`.
+fn taken_again<S: Alter + Drop, P: Progress>(
+    alloc: Global,
+    mut conn: Connection<S>,
+    is_new: bool,
+    wanted: &Wanted<'_>,
+    mut journal: Journal,
+    progress: &mut P,
+) -> Result<(Connection<S>, Journal), OpenFault>
+    requires { journal.turns ≡ [] }
+    ensures clean { IfOk result (λ r. HasCleanDisk (state S.Store r.0) → HasCleanDisk (state S.Store conn)) }
+    ensures begun { IfOk result (λ r. IsTrue is_new → (r.0 ≡ conn) × (r.1 ≡ journal)) }
+    ensures taken { IfOk result (λ r. HasCleanDisk (state S.Store r.0) → is_new ≡ false → (head : Head)
+        (rows : List KeptTurn) → Holds (state S.Store conn) head rows
+        → IsTaken wanted.now (state S.Store r.0) head rows r.1.contents r.1.turns) }
+    ensures changing { IfOk result (λ r. changing (facts r.1) r.1.turns ≡ r.1.turns) }
+    ensures contents { IfOk result (λ r. r.1.contents ≡ journal.contents) }
+{
+    take_again(alloc, &mut conn, is_new, wanted, &mut journal, progress)?;
+    Ok((conn, journal))
 }
 
 /// The connection to a journal's file as it is, or, for turns, with the mark of a server that has it open.
