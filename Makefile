@@ -1,5 +1,5 @@
 # The commands of the README. All need the Rattle kit's command rt on the path.
-.PHONY: help try run day page hostile stops years terminals load install uninstall dist wrong test
+.PHONY: help try run play day page hostile stops years terminals load install uninstall dist wrong test
 
 PREFIX ?= /usr/local
 
@@ -7,6 +7,7 @@ PREFIX ?= /usr/local
 help:
 	@echo 'make try        answer the stored messages by a program that is built without proofs (two to four minutes)'
 	@echo 'make run        prove what changed (about an hour at first), build holddesk, and answer the stored messages'
+	@echo 'make play       what make test plays at a program, at one that is built without proofs (some 15 minutes)'
 	@echo 'make day        after make run: play stored messages, and kiosks, through connections of holddesk serve'
 	@echo 'make page       after make run: look at the page of a door by headless Chromium; pictures in PICTURES ($(PICTURES))'
 	@echo 'make hostile    after make run: hostile clients beside a terminal that has to be answered'
@@ -33,6 +34,25 @@ run:
 	@echo 'make run: proves the crates that changed, builds holddesk, and answers the stored messages.' >&2
 	@python3 scripts/prove.py
 	@cd crates/holddesk && out/holddesk $(STORED)
+
+# What is played at $$program: the documents' examples, sheets, a long queue, stored messages, kiosks, hostile clients,
+# terminals side by side, a door, stops by kill -9, nights, and faults of files.
+PLAYED = python3 scripts/examples.py "$$program" && python3 scripts/import_sheets.py "$$program" && \
+  python3 scripts/long_queue.py "$$program" && \
+  python3 scripts/serve_smoke.py "$$program" && python3 scripts/serve_kiosk.py "$$program" && \
+  python3 scripts/serve_hostile.py "$$program" && \
+  python3 scripts/serve_many.py --terminals 100 --seconds 3 --latest 100 "$$program" && \
+  python3 scripts/serve_door.py "$$program" && \
+  python3 scripts/serve_crash.py --rounds $(ROUNDS) "$$program" && python3 scripts/carry_rows.py "$$program" && \
+  python3 scripts/file_faults.py "$$program" && python3 scripts/catalogue_faults.py "$$program" && \
+  python3 scripts/two_years.py --days $(DAYS) "$$program"
+
+# The same soon, before an hour of proofs: at a program that is built without any, which is slower.
+play: ROUNDS = 5
+play: DAYS = 8
+play:
+	@folder=$$(mktemp -d) && trap 'rm -rf "$$folder"' EXIT && program=$$(python3 scripts/unproved.py "$$folder") && \
+	  $(PLAYED)
 
 # Stored messages through four connections of holddesk serve, as make run has built it, and the kiosks of the documents;
 # the replies are compared.
@@ -71,22 +91,21 @@ uninstall:
 dist:
 	@python3 scripts/make_dist.py $(PROGRAM)
 
-# Hostile clients against holddesk serve, as make run has built it, beside a terminal that has to be answered; the gate
-# plays them with a program built without proofs.
+# Hostile clients against holddesk serve, as make run has built it, beside a terminal that has to be answered.
 hostile:
 	@python3 scripts/serve_hostile.py
 
 # 50 stops by kill -9 of holddesk serve --journal, as make run has built it, and one before each call of holddesk carry
-# that changes a file; the gate plays 5 of the first, without proofs.
+# that changes a file; the gate plays 20 of the first, and these.
 stops:
 	@python3 scripts/serve_crash.py
 	@python3 scripts/carry_stops.py
 
-# Two years of a small library with a carry each night; the gate plays 8 days, without proofs.
+# Two years of a small library with a carry each night; the gate plays 40 days.
 years:
 	@python3 scripts/two_years.py
 
-# 1,000 terminals at once at holddesk serve, as make run has built it; the gate plays 100, without proofs.
+# 1,000 terminals at once at holddesk serve, as make run has built it; the gate plays 100.
 terminals:
 	@python3 scripts/serve_many.py
 
@@ -116,27 +135,20 @@ wrong:
 	@python3 scripts/wrong_bodies.py --self-test
 	@python3 scripts/wrong_bodies.py
 
-# The gate: the picture of the crates; the documents' examples, stored messages, kiosks, hostile clients, a door and
-# stops by kill -9, played against a program that is built without proofs for them; a seat of one hall at another,
-# which the types refuse; then all proofs, the wrong bodies that stand for a promise, the tests and the stored runs;
-# beside them and then alone the wrong bodies that a script tries, many in a check, over the libraries that rt ci has
-# proved and kept. Its last word is rt ci's once more: nothing is left to prove then, and the tests and the stored runs
-# are played again. What was proved before and hasn't changed isn't proved again, and what was refused isn't tried again.
+# The gate: the picture of the crates, and the page; a seat of one hall at another, which the types refuse; then all
+# proofs, the wrong bodies that rt ci tries, the tests and the stored runs; what is played at the program that was just
+# proved; beside the proofs and then alone the wrong bodies that a script tries, many in a check, over the libraries
+# that rt ci has proved and kept. Its last word is rt ci's once more: nothing is left to prove then, and the tests and
+# the stored runs are played again. What was proved before and hasn't changed isn't proved again, and what was refused
+# isn't tried again.
+test: ROUNDS = 20
+test: DAYS = 40
 test:
 	@python3 scripts/draw_house.py --check
 	@python3 scripts/make_page.py --check
-	@folder=$$(mktemp -d) && trap 'rm -rf "$$folder"' EXIT && program=$$(python3 scripts/unproved.py "$$folder") && \
-	  python3 scripts/examples.py "$$program" && python3 scripts/import_sheets.py "$$program" && \
-	  python3 scripts/long_queue.py "$$program" && \
-	  python3 scripts/serve_smoke.py "$$program" && python3 scripts/serve_kiosk.py "$$program" && \
-	  python3 scripts/serve_hostile.py "$$program" && \
-	  python3 scripts/serve_many.py --terminals 100 --seconds 3 --latest 100 "$$program" && \
-	  python3 scripts/serve_door.py "$$program" && \
-	  python3 scripts/serve_crash.py --rounds 5 "$$program" && python3 scripts/carry_rows.py "$$program" && \
-	  python3 scripts/file_faults.py "$$program" && python3 scripts/catalogue_faults.py "$$program" && \
-	  python3 scripts/two_years.py --days 8 "$$program"
 	@python3 scripts/foreign_seat_refused.py
 	@rt ci & proving=$$!; python3 scripts/wrong_beside.py $$proving; wait $$proving
+	@program=$(CURDIR)/$(PROGRAM) && $(PLAYED) && python3 scripts/carry_stops.py "$$program"
 	@python3 scripts/wrong_bodies.py --self-test
 	@python3 scripts/wrong_bodies.py
 	@rt ci

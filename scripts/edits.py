@@ -12,9 +12,7 @@ TRAIT = re.compile(r" *(?:pub(?:\([^)]*\))? )?(?:unsafe )?trait (\w+)")
 GENERICS = re.compile(r"<(?:[^<>]|<(?:[^<>]|<[^<>]*>)*>)*>")
 SIGNS = {"&": "Ref", "&mut": "RefMut", "[": "Slice", "()": "Unit"}  # how types are told in a path
 CONSTANT = re.compile(r" *(?:pub(?:\([^)]*\))? )?const (\w+): ")
-DEFINED = re.compile(r"(?:abbrev )?(?:pub )?([^\s():{}]+) : ")
 NO_BODY = "unreachable!()"  # what fits in the place of any body
-HOLE_OF_GOAL = "\npub {0} : goal.{0}\n{0} = ?\n"
 
 
 class Function:
@@ -38,6 +36,8 @@ class Function:
         head = head_of(lines, first, indent)
         promised = TRAIT.match(head)
         self.is_promised, owner = bool(promised), promised[1] if promised else owner_of(head)
+        own = " ".join(lines[first : body + 1]).partition(self.name)[2]
+        self.is_generic = bool(parameters_of(behind_impl(head)) | parameters_of(own)) or "impl " in own
         self.path = "::".join(it for it in (homes.get(owner, module_of(file)), owner, self.name) if it)
 
 
@@ -59,13 +59,22 @@ def head_of(lines, first, indent):
 
 def owner_of(head):
     """What stands for an impl in a path: its type, and behind it the trait, but for Drop, and the trait's types."""
-    head = re.sub(r"^.*?\bimpl\b", "", re.split(r"\{|\bwhere\b", head)[0].replace("->", "")).strip()
-    generics = GENERICS.match(head)[0] if head.startswith("<") else "<>"
-    parameters = set(re.findall(r"[<,]\s*(?:const )?(\w+)", "<" + without_generics(generics[1:-1])))
-    trait, _, owner = head.removeprefix(generics).rpartition(" for ")
+    head = behind_impl(head)
+    parameters = parameters_of(head)
+    trait, _, owner = (GENERICS.sub("", head, count=1) if head.startswith("<") else head).rpartition(" for ")
     name, _, types = trait.partition("<")
     name = name.strip().rpartition("::")[2].replace("Drop", "")
     return flat(owner, parameters) + name + flat(types, parameters)
+
+
+def behind_impl(head):
+    return re.sub(r"^.*?\bimpl\b", "", re.split(r"\{|\bwhere\b", head)[0].replace("->", "")).strip()
+
+
+def parameters_of(text):
+    """The types and constants that the text, which may begin with them, is generic in."""
+    generics = GENERICS.match(text)[0] if text.startswith("<") else "<>"
+    return set(re.findall(r"[<,]\s*(?:const )?(\w+)", "<" + without_generics(generics[1:-1])))
 
 
 def without_generics(text):
@@ -135,7 +144,8 @@ class Edit:
     def __init__(self, crate, name, pairs, homes, goal=None, others=()):
         self.crate, self.name, self.pairs, self.goal, self.others = crate, name, pairs, goal, set(others)
         self.misfit, self.verdict, self.said, self.kept, self.tries = None, None, "", None, 0
-        self.functions, self.places, self.is_apart, self.is_guided = [], set(), False, False
+        self.functions, self.places, self.is_apart = [], set(), False
+        self.is_guided, self.is_answered, self.has_own = False, False, False
         self.pruned, self.gone, self.misnamed, self.found = {}, set(), set(), None
         texts = dict(sources_of(crate))
         for file, old, new in pairs:
@@ -161,7 +171,8 @@ class Edit:
 
     def forget(self):
         """Forgets what it came to."""
-        self.verdict, self.tries, self.is_guided = None, 0, False
+        self.verdict, self.tries = None, 0
+        self.is_guided, self.is_answered, self.has_own = False, False, False
         self.pruned, self.gone, self.misnamed = {}, set(), set()
 
     def is_of(self, path):
@@ -232,38 +243,10 @@ def round_of(edits):
     return some
 
 
-def with_one_goal(text, goal, others, goals):
-    """The answers without that of this goal, which search then tries; the others that the edit makes unfit are holes."""
-    defined = {at: found[1] for at, line in enumerate(text.split("\n")) if (found := defined_in(line))}
-    left, gone = without_answers(text, {at for at, name in defined.items() if name in {goal, *others}})
-    open_ones = {name for name in gone if f"{name} : goal.{name}" in text} | set(others) - set(defined.values())
-    head = "" if "Goals as goal" in left else f"use {goals} as goal\n"
-    return head + left + "".join(HOLE_OF_GOAL.format(name) for name in sorted(open_ones - {goal}))
-
-
-def defined_in(line):
-    """What a line of an answers' file begins to define, as a match, if it does."""
-    return None if line.startswith(("use ", "--")) else DEFINED.match(line)
-
-
-def without_answers(text, lines):
-    """The file without the definitions that stand at these lines and those that name one of these, and their names.
-    Where an import is refused, all are taken out."""
-    texts, name = [["", ""]], ""
-    for at, line in enumerate(text.split("\n")):
-        found = defined_in(line)
-        if found:
-            name = found[1]
-            texts.append([name, ""])
-        texts[-1][1] += line + "\n"
-        if at in lines:
-            lines = lines - {at} | {name}
-    gone = {it for it in lines if isinstance(it, str)}
-    if "" in gone:
-        return "", {name for name, _ in texts}
-    while True:
-        words = {name: set(re.findall(r"[^\s(){}.,;]+", body)) for name, body in texts if name and name not in gone}
-        more = {name for name in words if gone & words[name]}
-        if not more:
-            return "".join(body for name, body in texts if name not in gone), gone
-        gone |= more
+def has_hints(function, crate):
+    """Whether the function, or a module that it stands in, has lemmas or definitions for the prover's tactics."""
+    sources, parts = sources_of(crate), function.file.removesuffix(".rt").split("/")
+    above = ["src/lib.rt", "src/main.rt", *("/".join(parts[:end]) + ".rt" for end in range(2, len(parts) + 1))]
+    own = [sources[function.file].split("\n")[at].strip() for at in function.told]
+    lines = [*own, *(line for file in above for line in sources.get(file, "").split("\n") if line.startswith("#!"))]
+    return any(re.match(r"#!?\[tactic\(auto, ", line) for line in lines)

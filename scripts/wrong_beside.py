@@ -18,7 +18,8 @@ from concurrent.futures import ThreadPoolExecutor
 from edits import edits_of
 from prove import said_by_rt, sums_of, uses_of_all, with_all_below
 from proved_libraries import KeptLibraries, copy_of_sources
-from wrong_bodies import Bench, kept_at, try_crate
+from workbench import Bench
+from wrong_bodies import kept_at, try_crate
 
 LANES = 2  # crates at a time: each takes up to 3 GB beside what rt ci takes
 PAUSE = 10  # seconds from one look at what is proved to the next

@@ -11,9 +11,12 @@ check looks at the edited functions alone (rattle check --only), over the proved
 of these:
 
     refused            a goal of an edited function isn't proved: one of what it promises, of what it owes to a function
-                       that it calls, or of an invariant. Arithmetic, a cast or an index alone doesn't count. Where an
-                       answer in the function's proof files doesn't fit, it is taken out, and search tries its goal;
-                       where it didn't fit for a name alone, that goal doesn't count. Where it isn't the goal that the
+                       that it calls, or of an invariant. Arithmetic, a cast or an index alone doesn't count. The goal
+                       that the edit names is tried alone: its own proof in the function's proof files no longer fits,
+                       or, where it has none, the two tactics that the prover begins with find none. Where the proof
+                       doesn't fit for a name alone, or the goal has another form, the prover tries it by all means.
+                       Where the goal is proved, or none is named, all goals are tried, without answers that don't fit;
+                       a goal whose answer didn't fit for a name alone doesn't count. Where it isn't the goal that the
                        edit names, the line says so
     PROVED             the edit means the same as what it replaces, or the contract lets it through
     NOT TELLING        it is refused, also alone, but at no such goal: for a name that is gone, say
@@ -29,15 +32,15 @@ import hashlib
 import os
 import re
 import shutil
-import subprocess
 import sys
 import tempfile
 from concurrent.futures import ThreadPoolExecutor
 
-from edits import Edit, bodies_of, edits_of, file_of, folder_of, homes_in, module_of, read, round_of, sources_of
-from edits import with_one_goal, without_answers, without_bodies, write
+from answers import by_tactics, with_one_goal, without_answers
+from edits import Edit, edits_of, file_of, folder_of, has_hints, homes_in, read, round_of, sources_of, write
 from prove import CORES, GIGABYTES, MEMORY, TOP, said_by_rt, sums_of, uses_of_all, with_all_below
 from proved_libraries import libraries_in
+from workbench import OFFERED, Bench
 
 REFUSED, PROVED, NOT_TELLING, CANNOT = "refused", "PROVED", "NOT TELLING", "CAN'T BE PUT IN"
 # goals that say only that a step is safe, and nothing of what the function does
@@ -55,136 +58,26 @@ MISNAMED = re.compile(
     r"has no field|is not in scope|has no `|was not admitted|was not checked|needs a function type"
     r"|one has `c\.(?!args)([\w-]+)[.`].*the other has `c\.(?!args|\1[.`])[\w-]+[.`]"
 )
-# the files of a function's proof, and the proof of a function that isn't looked at
-OF_A_PROOF = ("Answers.antt", "Invariants.antt", "Proof.antt")
-HOLE = """use Rattle.{crate}.{module}.Statement.{{statement}}
-
-pub {name}_spec : {{M : Type 1}} → statement M
-{name}_spec = ?
-"""
-# a line that is refused, and behind which no answers are offered: to print them is a third of a small check
-OFFERED = "no_offers"
-NO_OFFERS = f"\n{OFFERED} : nothing\n"
+# and that a goal has another form than the one that was proved
+OTHERWISE = re.compile(MISNAMED.pattern + r"|, at the start, and the other")
+# what the tactics say of a goal that they don't prove, but for one that isn't over what the function is generic in
+NOT_FOUND = re.compile(r"`grind`|`search`: no proof of `(?!\([^()\s]+ : )")
 # how often edits are tried together; what is open then is tried alone
 ROUNDS = 3
-# what --self-test tries: edits of hd_day's src/day.rt, and what each must come to
+# what --self-test tries: edits of hd_day's src/day.rt, what each must come to, and the goal that it names
 SELF_TEST = [
-    ("another_day", REFUSED, "Day { number: 0 }", "Day { number: 1 }"),
-    ("called_by_the_next", REFUSED, "        if number < DAYS {", "        if number < 7 {"),
-    ("means_the_same_and_calls_it", PROVED, "        Day::of_number(self.number.checked_add(count)?)",
+    ("another_day", REFUSED, None, "Day { number: 0 }", "Day { number: 1 }"),
+    ("another_day_at_its_goal", REFUSED, "returns", "Day { number: 0 }", "Day { number: 6 }"),
+    ("same_day_at_its_goal", PROVED, "returns", "Day { number: 0 }", "Day { number: 7 - 7 }"),
+    ("called_by_the_next", REFUSED, None, "        if number < DAYS {", "        if number < 7 {"),
+    ("means_the_same_and_calls_it", PROVED, None, "        Day::of_number(self.number.checked_add(count)?)",
      "        let later = self.number.checked_add(count)?; Day::of_number(later)"),
-    ("means_the_same", PROVED, "        if number < DAYS {", "        if !(DAYS <= number) {"),
-    ("overflow_alone", NOT_TELLING, "        self.number", "        let _ = self.number + 4_294_967_000; self.number"),
-    ("does_not_compile", CANNOT, "Day { number: 0 }", "Day { count: 0 }"),
-    ("old_text_missing", CANNOT, "Day { number: 7 }", "Day { number: 8 }"),
+    ("means_the_same", PROVED, None, "        if number < DAYS {", "        if !(DAYS <= number) {"),
+    ("overflow_alone", NOT_TELLING, None, "        self.number",
+     "        let _ = self.number + 4_294_967_000; self.number"),
+    ("does_not_compile", CANNOT, None, "Day { number: 0 }", "Day { count: 0 }"),
+    ("old_text_missing", CANNOT, None, "Day { number: 7 }", "Day { number: 8 }"),
 ]
-
-
-class Bench:
-    """A copy of a crate in which edits are checked, and the processor seconds that this took.
-
-    A proof rests on what the functions that it calls promise, and neither on their bodies nor on their proofs. So only
-    functions that are edited have theirs here: each other one has nothing in its body, and a hole for its proof."""
-
-    def __init__(self, crate, uses, libraries, room):
-        self.crate, self.top, self.room = crate, os.path.join(TOP, "crates", crate), room
-        self.seconds, self.instead, self.is_whole = 0, {}, False
-        for part in ("src", "specs", "proofs"):
-            if os.path.isdir(os.path.join(self.top, part)):
-                shutil.copytree(os.path.join(self.top, part), os.path.join(room, part))
-        self.modules = {"", *map(module_of, sources_of(crate))}
-        self.functions = bodies_of(crate)
-        self.folders = {function.path: folder_of(function.path) for function in self.functions}
-        for path in self.folders:
-            self.put_hole(path)
-        for file, text in sources_of(crate).items():
-            self.put_source(file, text, ())
-        kit = os.path.dirname(said_by_rt("doc"))
-        root = "main" if os.path.isfile(os.path.join(room, "src", "main.rt")) else "lib"
-        self.words = [f"{kit}/bin/rattle", "check", "--crate-name", crate, f"src/{root}.rt", "--jobs", "1"]
-        for use in ["std", *uses[crate]]:
-            self.words += ["--extern", f"{use}={libraries if use in uses else kit + '/rlibs'}/{use}.rlib"]
-        self.words += ["-L", f"dependency={kit}/rlibs", "-L", f"dependency={libraries}", "--incremental", "out"]
-        self.words += ["--antt-project", f"{kit}/rattle/logic/antt-project.json", "--logic-built", f"{kit}/logic_built"]
-        self.words += ["--allow-holes"]
-
-    def put_hole(self, path):
-        """Puts a hole in the place of the function's proof."""
-        folder = self.folders[path]
-        hole = HOLE.format(module=folder.replace("/", "."), crate=self.crate, name=path.rpartition("::")[2])
-        self.put_files(folder, {"Proof.antt": hole})
-
-    def put_proof(self, path, pruned, is_short):
-        """Puts the function's own proof back, without what was pruned, and with a line that spares offers."""
-        folder = self.folders[path]
-        files = [(name, os.path.join(self.top, folder, name)) for name in OF_A_PROOF]
-        texts = {name: pruned.get(f"{folder}/{name}", read(file)) for name, file in files if os.path.isfile(file)}
-        if is_short and "Proof.antt" not in texts:
-            texts["Answers.antt"] = texts.get("Answers.antt", "") + NO_OFFERS
-        self.put_files(folder, texts)
-
-    def put_source(self, file, text, paths):
-        """Writes a source file, where only the functions at these paths have their bodies."""
-        others = [function for function in self.functions if function.file == file and function.path not in paths]
-        write(os.path.join(self.room, file), text if self.is_whole else without_bodies(text, others))
-
-    def put_bodies(self):
-        """Puts all functions' bodies back."""
-        self.is_whole = True
-        for file, text in sources_of(self.crate).items():
-            self.put_source(file, text, ())
-
-    def put_files(self, folder, texts):
-        os.makedirs(os.path.join(self.room, folder), exist_ok=True)
-        for name in OF_A_PROOF:
-            file = os.path.join(self.room, folder, name)
-            if name in texts:
-                write(file, texts[name])
-            elif os.path.isfile(file):
-                os.remove(file)
-
-    def check(self, edits, is_short=True):
-        """Puts the edits in, and gives what a check of their functions says; a short one offers no proofs."""
-        pruned = {file: text for edit in edits for file, text in edit.pruned.items()}
-        paths = [path for path in self.folders if any(edit.is_of(path) for edit in edits)]
-        for path in paths:
-            self.put_proof(path, pruned, is_short)
-        sound = sources_of(self.crate)
-        texts = {function.file: sound[function.file] for function in self.functions if function.path in paths}
-        for file, old, new in (pair for edit in edits for pair in edit.pairs):
-            texts[file] = texts.get(file, sound[file]).replace(old, new)
-        for file, text in texts.items():
-            self.put_source(file, text, paths)
-        said = self.rattle({it for edit in edits for it in edit.asks()})
-        for file in texts:
-            self.put_source(file, sound[file], ())
-        for path in paths:
-            self.put_hole(path)
-        return said
-
-    def rattle(self, paths):
-        """Runs the check. For a path that fits no function, or several, its module is looked at."""
-        asked = {self.instead.get(path, path) for path in paths}
-        only = [word for path in sorted(asked) for word in ("--only", path)] if all(asked) else []
-        with open(os.path.join(self.room, "log"), "w+", encoding="utf-8", errors="replace") as log:
-            words = [*self.words, *only]
-            running = subprocess.Popen(words, cwd=self.room, stdin=subprocess.DEVNULL, stdout=log, stderr=log)
-            _, status, used = os.wait4(running.pid, 0)
-            running.returncode = os.waitstatus_to_exitcode(status)
-            self.seconds += used.ru_utime + used.ru_stime
-            log.seek(0)
-            said = log.read()
-        unknown = {path for path in asked - self.modules if f"`{path}`" in said}
-        if running.returncode != 2 or not unknown:
-            return said
-        self.instead |= {path: self.module_above(path) for path in unknown}
-        return self.rattle(paths)
-
-    def module_above(self, path):
-        """The module that the path begins with; the crate's own has no name."""
-        while path not in self.modules:
-            path = path.rpartition("::")[0]
-        return path
 
 
 def compiles(said):
@@ -202,6 +95,10 @@ def settle(edit, verdict, said):
 
 def judge(edit, said, bench):
     """Whether the log says what the edit comes to, and if so notes it."""
+    refusal = refusal_of(edit, said)
+    if refusal:
+        settle(edit, REFUSED, f"`{edit.goal}`, {place_of(edit)}: {refusal}")
+        return True
     goals = [it.groups() for it in map(OPEN_GOAL.match, said.split("\n")) if it]
     goals = [it for it in goals if edit.is_apart or (it[0], int(it[1]) - 1) in edit.places]
     telling = [it for it in goals if not is_of_safety(it) and it[3] not in edit.misnamed]
@@ -223,6 +120,29 @@ def judge(edit, said, bench):
     else:
         edit.said = next(iter([*errors, said.rstrip().rpartition("\n")[2]]))[:200]
     return edit.verdict is not None
+
+
+def misfit_of(edit, said):
+    """Why what answers the goal that the edit names doesn't fit, if it doesn't."""
+    answers = re.escape(f"{folder_of(edit.functions[0].path)}/Answers.antt")
+    start = rf"^(?:\./)?{answers}:\d+:\d+: error: `{re.escape(edit.goal)}`: "
+    found = re.search(start + r"(.*(?:\n  \(.*)?)", said, re.M)
+    return found and " ".join(found[1].split())
+
+
+def refusal_of(edit, said):
+    """Why the goal that the edit names isn't proved, if that is seen: its own proof has another type, and neither for a
+    name alone nor as a whole, or the tactics find none."""
+    misfit = edit.is_answered and misfit_of(edit, said)
+    if not misfit:
+        return None
+    is_otherwise = OTHERWISE.search(misfit.replace("before.", ""))  # what a step before is called
+    return misfit if not is_otherwise and (edit.has_own or NOT_FOUND.match(misfit)) else None
+
+
+def place_of(edit):
+    function = edit.functions[0]
+    return f"{function.file}:{function.lines[0] + 1}"
 
 
 def is_of_safety(goal):
@@ -260,23 +180,32 @@ def prune(edit, said, bench):
     return edit.pruned != before
 
 
-def guide(edit, bench):
-    """Has only the goal tried that the edit names, where it is of one function: what isn't proved besides is left open."""
+def guide(edit, bench, is_first=True):
+    """Has only the goal tried that the edit names, where it is of one function: at first by its own proof, where the
+    answers have one, or by the tactics that the prover begins with, and then by all that it tries. What isn't proved
+    besides is left open."""
     if edit.goal is None or edit.is_apart or len(edit.functions) != 1:
         return
-    folder = folder_of(edit.functions[0].path)
+    function, folder = edit.functions[0], folder_of(edit.functions[0].path)
     files = [os.path.join(bench.top, folder, name) for name in ("Answers.antt", "Proof.antt")]
     if not os.path.isfile(files[1]):
         text = read(files[0]) if os.path.isfile(files[0]) else ""
         goals = f"Rattle.{bench.crate}.{folder.replace('/', '.')}.Goals"
-        edit.is_guided, edit.pruned[f"{folder}/Answers.antt"] = True, with_one_goal(text, edit.goal, edit.others, goals)
+        left, edit.has_own = with_one_goal(text, edit.goal, edit.others, goals, is_first)
+        edit.is_answered = edit.has_own or is_first and not has_hints(function, bench.crate)
+        if edit.is_answered and not edit.has_own:
+            left = by_tactics(left, edit.goal, function)
+        edit.is_guided, edit.pruned[f"{folder}/Answers.antt"] = True, left
 
 
-def unguide(edit):
-    """Has all goals tried of an edit that isn't refused at the one that it names. Whether there are any more."""
-    was_guided = edit.is_guided
+def unguide(edit, said, bench):
+    """Has the prover try the goal that the edit names by all means, where what answers it doesn't fit and that doesn't
+    tell, or else all goals, where it isn't refused there. Whether there are any more."""
+    was_guided, is_open = edit.is_guided, edit.is_answered and misfit_of(edit, said)
     if was_guided:
-        edit.is_guided, edit.pruned = False, {}
+        edit.is_guided, edit.is_answered, edit.has_own, edit.pruned = False, False, False, {}
+    if is_open:
+        guide(edit, bench, is_first=False)
     return was_guided
 
 
@@ -287,7 +216,7 @@ def try_round(edits, bench):
     said = bench.check(edits)
     if compiles(said):
         left = [edit for edit in edits if not judge(edit, said, bench)]
-        return [edit for edit in left if unguide(edit) or prune(edit, said, bench) or len(edits) > 1]
+        return [edit for edit in left if unguide(edit, said, bench) or prune(edit, said, bench) or len(edits) > 1]
     if len(edits) == 1:
         told = next((line for line in said.split("\n") if "error" in line), said.rstrip().rpartition("\n")[2])
         settle(edits[0], CANNOT, told[:200])
@@ -337,7 +266,8 @@ def name_goal(edit):
 def kept_at(edit, sums, kit):
     """Where it is kept that the edit was refused."""
     base = os.environ.get("XDG_CACHE_HOME") or os.path.expanduser("~/.cache")
-    scripts = [read(os.path.join(TOP, "scripts", it)) for it in ("wrong_bodies.py", "edits.py")]
+    files = ("wrong_bodies.py", "workbench.py", "edits.py", "answers.py")
+    scripts = [read(os.path.join(TOP, "scripts", it)) for it in files]
     name = hashlib.sha256(repr([kit, scripts, sums[edit.crate], edit.pairs]).encode()).hexdigest()
     return os.path.join(base, "holddesk", "wrong-bodies", name)
 
@@ -369,9 +299,9 @@ def with_those_below(crates, uses):
 def self_test(uses, room):
     """Whether edits of hd_day that mean the same, don't compile and so on come to what they must."""
     homes = homes_in(sources_of("hd_day"))
-    edits = [Edit("hd_day", name, [("src/day.rt", old, new)], homes) for name, _, old, new in SELF_TEST]
+    edits = [Edit("hd_day", name, [("src/day.rt", old, new)], homes, goal) for name, _, goal, old, new in SELF_TEST]
     try_all(edits, uses, room)
-    return all(edit.verdict == wanted for edit, (_, wanted, _, _) in zip(edits, SELF_TEST))
+    return all(edit.verdict == wanted for edit, (_, wanted, *_) in zip(edits, SELF_TEST))
 
 
 def try_kept(edits, uses, room, is_anew):

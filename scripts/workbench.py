@@ -1,0 +1,127 @@
+"""A copy of a crate in which edits are checked."""
+
+import os
+import shutil
+import subprocess
+
+from edits import bodies_of, folder_of, module_of, read, sources_of, without_bodies, write
+from prove import TOP, said_by_rt
+
+# the files of a function's proof, and the proof of a function that isn't looked at
+OF_A_PROOF = ("Answers.antt", "Invariants.antt", "Proof.antt")
+HOLE = """use Rattle.{crate}.{module}.Statement.{{statement}}
+
+pub {name}_spec : {{M : Type 1}} → statement M
+{name}_spec = ?
+"""
+# a line that is refused, and behind which no answers are offered: to print them is a third of a small check
+OFFERED = "no_offers"
+NO_OFFERS = f"\n{OFFERED} : nothing\n"
+
+
+class Bench:
+    """A copy of a crate in which edits are checked, and the processor seconds that this took.
+
+    A proof rests on what the functions that it calls promise, and neither on their bodies nor on their proofs. So only
+    functions that are edited have theirs here: each other one has nothing in its body, and a hole for its proof."""
+
+    def __init__(self, crate, uses, libraries, room):
+        self.crate, self.top, self.room = crate, os.path.join(TOP, "crates", crate), room
+        self.seconds, self.instead, self.is_whole = 0, {}, False
+        for part in ("src", "specs", "proofs"):
+            if os.path.isdir(os.path.join(self.top, part)):
+                shutil.copytree(os.path.join(self.top, part), os.path.join(room, part))
+        self.modules = {"", *map(module_of, sources_of(crate))}
+        self.functions = bodies_of(crate)
+        self.folders = {function.path: folder_of(function.path) for function in self.functions}
+        for path in self.folders:
+            self.put_hole(path)
+        for file, text in sources_of(crate).items():
+            self.put_source(file, text, ())
+        kit = os.path.dirname(said_by_rt("doc"))
+        root = "main" if os.path.isfile(os.path.join(room, "src", "main.rt")) else "lib"
+        self.words = [f"{kit}/bin/rattle", "check", "--crate-name", crate, f"src/{root}.rt", "--jobs", "1"]
+        for use in ["std", *uses[crate]]:
+            self.words += ["--extern", f"{use}={libraries if use in uses else kit + '/rlibs'}/{use}.rlib"]
+        self.words += ["-L", f"dependency={kit}/rlibs", "-L", f"dependency={libraries}", "--incremental", "out"]
+        self.words += ["--antt-project", f"{kit}/rattle/logic/antt-project.json", "--logic-built", f"{kit}/logic_built"]
+        self.words += ["--allow-holes"]
+
+    def put_hole(self, path):
+        """Puts a hole in the place of the function's proof."""
+        folder = self.folders[path]
+        hole = HOLE.format(module=folder.replace("/", "."), crate=self.crate, name=path.rpartition("::")[2])
+        self.put_files(folder, {"Proof.antt": hole})
+
+    def put_proof(self, path, pruned, is_short):
+        """Puts the function's own proof back, without what was pruned, and with a line that spares offers."""
+        folder = self.folders[path]
+        files = [(name, os.path.join(self.top, folder, name)) for name in OF_A_PROOF]
+        texts = {name: read(file) for name, file in files if os.path.isfile(file)}
+        texts |= {name: pruned[f"{folder}/{name}"] for name in OF_A_PROOF if f"{folder}/{name}" in pruned}
+        if is_short and "Proof.antt" not in texts:
+            texts["Answers.antt"] = texts.get("Answers.antt", "") + NO_OFFERS
+        self.put_files(folder, texts)
+
+    def put_source(self, file, text, paths):
+        """Writes a source file, where only the functions at these paths have their bodies."""
+        others = [function for function in self.functions if function.file == file and function.path not in paths]
+        write(os.path.join(self.room, file), text if self.is_whole else without_bodies(text, others))
+
+    def put_bodies(self):
+        """Puts all functions' bodies back."""
+        self.is_whole = True
+        for file, text in sources_of(self.crate).items():
+            self.put_source(file, text, ())
+
+    def put_files(self, folder, texts):
+        os.makedirs(os.path.join(self.room, folder), exist_ok=True)
+        for name in OF_A_PROOF:
+            file = os.path.join(self.room, folder, name)
+            if name in texts:
+                write(file, texts[name])
+            elif os.path.isfile(file):
+                os.remove(file)
+
+    def check(self, edits, is_short=True):
+        """Puts the edits in, and gives what a check of their functions says; a short one offers no proofs."""
+        pruned = {file: text for edit in edits for file, text in edit.pruned.items()}
+        paths = [path for path in self.folders if any(edit.is_of(path) for edit in edits)]
+        for path in paths:
+            self.put_proof(path, pruned, is_short)
+        sound = sources_of(self.crate)
+        texts = {function.file: sound[function.file] for function in self.functions if function.path in paths}
+        for file, old, new in (pair for edit in edits for pair in edit.pairs):
+            texts[file] = texts.get(file, sound[file]).replace(old, new)
+        for file, text in texts.items():
+            self.put_source(file, text, paths)
+        said = self.rattle({it for edit in edits for it in edit.asks()})
+        for file in texts:
+            self.put_source(file, sound[file], ())
+        for path in paths:
+            self.put_hole(path)
+        return said
+
+    def rattle(self, paths):
+        """Runs the check. For a path that fits no function, or several, its module is looked at."""
+        asked = {self.instead.get(path, path) for path in paths}
+        only = [word for path in sorted(asked) for word in ("--only", path)] if all(asked) else []
+        with open(os.path.join(self.room, "log"), "w+", encoding="utf-8", errors="replace") as log:
+            words = [*self.words, *only]
+            running = subprocess.Popen(words, cwd=self.room, stdin=subprocess.DEVNULL, stdout=log, stderr=log)
+            _, status, used = os.wait4(running.pid, 0)
+            running.returncode = os.waitstatus_to_exitcode(status)
+            self.seconds += used.ru_utime + used.ru_stime
+            log.seek(0)
+            said = log.read()
+        unknown = {path for path in asked - self.modules if f"`{path}`" in said}
+        if running.returncode != 2 or not unknown:
+            return said
+        self.instead |= {path: self.module_above(path) for path in unknown}
+        return self.rattle(paths)
+
+    def module_above(self, path):
+        """The module that the path begins with; the crate's own has no name."""
+        while path not in self.modules:
+            path = path.rpartition("::")[0]
+        return path
