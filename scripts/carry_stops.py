@@ -9,8 +9,8 @@ call (--every N: before each Nth). What is left has to be the old library or the
 where it is the old one a second carry succeeds; the opening then has the same bytes as that of an undisturbed carry. In
 the same way an empty folder is begun with that opening: what is left has to be no library, which a second begin makes,
 or the whole one. At last a carry waits before each rename: until the opening has its name the old journal can't be
-opened, for what a server answered there would be lost. Needs Linux, strace and Python 3; where there is no strace it is
-told as skipped. Status 0: nothing is lost.
+opened, for what a server answered there would be lost. Needs Linux, strace and Python 3; where there is no strace, or it
+may not trace, it is told as skipped. Status 0: nothing is lost.
 """
 
 import os
@@ -131,9 +131,16 @@ def others_kept_out(program, folder):
         raise Trouble(f"a carry that waits ends with {carry.returncode}, and {tried} have tried to open its journal")
 
 
+def may_trace():
+    """Whether there is strace, and it may trace a program here."""
+    return shutil.which("strace") is not None and not subprocess.run(
+        ["strace", "-f", "-qq", "-o", os.devnull, "true"], stdin=subprocess.DEVNULL, capture_output=True, check=False
+    ).returncode
+
+
 def stops(program, every):
     """Stops a carry, and then a beginning, before each of its calls. How many there were of each."""
-    if shutil.which("strace") is None:
+    if not may_trace():
         return None
     with tempfile.TemporaryDirectory() as room:
         old, whole = os.path.join(room, "old"), os.path.join(room, "whole")
@@ -167,7 +174,7 @@ def main():
     parser.add_argument("--every", type=int, default=1, metavar="N", help="stop before each Nth call alone (1)")
     asked = parser.parse_args()
     counts = reported("carry_stops", stops, asked.program, asked.every)
-    print("carry_stops: skipped, since there is no strace" if counts is None else
+    print("carry_stops: skipped, since there is no strace that may trace" if counts is None else
           f"carry_stops: stopped before its calls up to the {counts[0]}th, the old library or the new one each time; "
           f"a beginning up to the {counts[1]}th, no library or the whole one")
 
