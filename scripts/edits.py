@@ -1,5 +1,6 @@
 """Wrong bodies as texts: edits, the functions that they change, and which of them fit into one check."""
 
+import collections
 import functools
 import os
 import re
@@ -13,6 +14,7 @@ GENERICS = re.compile(r"<(?:[^<>]|<(?:[^<>]|<[^<>]*>)*>)*>")
 SIGNS = {"&": "Ref", "&mut": "RefMut", "[": "Slice", "()": "Unit"}  # how types are told in a path
 CONSTANT = re.compile(r" *(?:pub(?:\([^)]*\))? )?const (\w+): ")
 NO_BODY = "unreachable!()"  # what fits in the place of any body
+COPY = "_copy{}"  # what a copy of a function is called behind the function's name
 
 
 class Function:
@@ -29,16 +31,34 @@ class Function:
         above = first  # a check tells of the function at its first attribute
         while above and lines[above - 1].startswith(indent + "#["):
             above -= 1
-        self.name, self.file = HEAD.match(lines[first])[1], file
+        self.name, self.file, self.block = HEAD.match(lines[first])[1], file, block_of(lines, first, indent)
         self.lines, self.head, self.told = range(first, last + 1), range(first, body), range(above, last + 1)
         self.body = range(body + 1, last)
         self.text = "\n".join(lines[first : last + 1])
-        head = head_of(lines, first, indent)
+        self.uses = uses_in(lines, self.block)
+        head = " ".join(lines[at] for at in self.block)
         promised = TRAIT.match(head)
         self.is_promised, owner = bool(promised), promised[1] if promised else owner_of(head)
+        self.is_of_trait = " for " in behind_impl(head)
         own = " ".join(lines[first : body + 1]).partition(self.name)[2]
         self.is_generic = bool(parameters_of(behind_impl(head)) | parameters_of(own)) or "impl " in own
         self.path = "::".join(it for it in (homes.get(owner, module_of(file)), owner, self.name) if it)
+
+
+    def is_recursive(self):
+        """Whether it may call itself."""
+        body = self.text.split("\n")[self.body.start - self.lines.start :]
+        return any(re.search(rf"(?:Self::|\bself\.|(?<![.:\w])){self.name}(?:::<.*>)?\(", line) for line in body)
+
+    def copied(self, text, name):
+        """The function of its file's text once more, by another name, as it can stand behind the others of the file, and
+        which of these lines it is told at."""
+        lines = text.split("\n")
+        before = ["", *(lines[at] for at in (*self.block, *self.uses))]
+        told = [lines[at] for at in self.told]
+        at = self.lines.start - self.told.start
+        told[at] = told[at].replace(f"fn {self.name}", f"fn {name}", 1)
+        return [*before, *told, *["}"] * bool(self.block)], range(len(before), len(before) + len(told))
 
 
 def module_of(file):
@@ -50,11 +70,17 @@ def folder_of(path):
     return f"proofs/{path.replace('::', '/')}"
 
 
-def head_of(lines, first, indent):
-    """The head of the impl or the trait that a method stands in."""
+def block_of(lines, first, indent):
+    """The lines of the head of the impl or the trait that a method stands in."""
     blocks = (at for at in range(first, -1, -1) if BLOCK.match(lines[at]) and not lines[at].startswith(indent))
-    begin = next(blocks, None)
-    return " ".join(lines[begin:first]) if indent and begin is not None else ""
+    begin = next(blocks, first) if indent else first
+    return range(begin, next((at + 1 for at in range(begin, first) if lines[at].endswith("{")), begin))
+
+
+def uses_in(lines, block):
+    """The lines of what the block whose head this is uses in contracts."""
+    end = lines.index("}", block.stop) if block else 0
+    return [at for at in range(block.stop, end) if lines[at].startswith("    ghost use ")]
 
 
 def owner_of(head):
@@ -119,6 +145,14 @@ def without_bodies(text, functions):
     return "\n".join(lines)
 
 
+def edited(text, file, pairs):
+    """The file's text with the new texts of its pairs, each where its old one stands in the text as it is."""
+    places = sorted(((text.index(old), len(old), new) for other, old, new in pairs if other == file), reverse=True)
+    for at, length, new in places:
+        text = text[:at] + new + text[at + length :]
+    return text
+
+
 def constant_at(lines, at):
     """The name of the constant that the line is of, if it is of one."""
     begin = next((it for it in range(at, -1, -1) if not lines[it].startswith((" ", "]", "}", ")"))), at)
@@ -139,25 +173,29 @@ def homes_in(sources):
 
 
 class Edit:
-    """A wrong body: its texts, the goal that it names, the functions and lines that it changes, and what it came to."""
+    """A wrong body: its texts, the goal that it names, the functions and lines that it changes, and what it came to.
+
+    Where several are of one function, all but one stand each in a copy of it, of a number from 1, behind the others of
+    its file and with a copy of its proof: so they go into one check."""
 
     def __init__(self, crate, name, pairs, homes, goal=None, others=()):
         self.crate, self.name, self.pairs, self.goal, self.others = crate, name, pairs, goal, set(others)
+        self.copy, self.first_line = 0, None
         self.misfit, self.verdict, self.said, self.kept, self.tries = None, None, "", None, 0
-        self.functions, self.places, self.is_apart = [], set(), False
+        self.functions, self.places, self.beside, self.is_apart = [], set(), {}, False
         self.is_guided, self.is_answered, self.has_own = False, False, False
         self.pruned, self.gone, self.misnamed, self.found = {}, set(), set(), None
-        texts = dict(sources_of(crate))
         for file, old, new in pairs:
-            if texts.get(file, "").count(old) != 1:
-                self.misfit = f"an old text stands in {file} {texts.get(file, '').count(old)} times, and not once"
+            text = sources_of(crate).get(file, "")
+            if text.count(old) != 1:
+                self.misfit = f"an old text stands in {file} {text.count(old)} times, and not once"
                 return
-            self.look(file, texts[file], old, homes)
-            texts[file] = texts[file].replace(old, new)
+            self.look(file, text, old, new, homes)
 
-    def look(self, file, text, old, homes):
-        """Notes where the old text stands: in a body, or in a constant, and then in which functions that stands. What is
-        in neither may concern other functions, so it is tried apart."""
+    def look(self, file, text, old, new, homes):
+        """Notes where the old text stands: in a body, or in a constant, and then in which functions that stands, or in a
+        comment, in whose place a new function may stand. What is in none may concern other functions, so it is tried
+        apart."""
         at = text[: text.index(old)].count("\n")
         inside = [function for function in functions_of(file, text, homes) if at in function.lines][-1:]
         is_comment = text.split("\n")[at].lstrip().startswith("//")
@@ -165,12 +203,34 @@ class Edit:
         self.is_apart |= not is_comment and not users and (not inside or at in inside[0].head)
         self.functions += [it for it in inside + users if it.path not in [other.path for other in self.functions]]
         self.places |= {(file, at), *((it.file, line) for it in inside + users for line in it.told)}
+        self.beside |= {(file, at): (file, old, new)} if is_comment and not inside else {}
 
     def __str__(self):
         return f"{self.crate}/{self.name}: {self.verdict}: {self.said}"
 
+    def fits_a_copy(self):
+        """Whether a copy of its function may have it: one of no trait, that doesn't call itself, and all that is edited."""
+        function = self.functions[0] if len(self.functions) == 1 and not self.is_apart else None
+        return function is not None and not function.is_of_trait and not function.is_recursive() and \
+            self.places == {*self.beside, *((function.file, line) for line in function.told)}
+
+    def put_at(self, copy, lines):
+        """Notes that it stands in this copy of its function, or in place, where it is 0, and at which lines of its file."""
+        self.copy, self.first_line = copy, min(lines, default=None)
+        self.places = {*self.beside, *((self.functions[0].file, line) for line in lines)}
+
+    def pairs_in_place(self):
+        """Which of its texts are put where the old ones stand: all, or those of comments, where a copy has the others."""
+        return self.beside.values() if self.copy else self.pairs
+
+    def put_back(self):
+        """Notes that it stands in place."""
+        if self.copy:
+            self.put_at(0, self.functions[0].told)
+
     def forget(self):
         """Forgets what it came to."""
+        self.put_back()
         self.verdict, self.tries = None, 0
         self.is_guided, self.is_answered, self.has_own = False, False, False
         self.pruned, self.gone, self.misnamed = {}, set(), set()
@@ -182,7 +242,8 @@ class Edit:
 
     def asks(self):
         """What a check has to look at: the edited functions, or, where it is none's text, the modules."""
-        return [it.path for it in self.functions] or sorted({module_of(file) for file, _, _ in self.pairs})
+        which = COPY.format(self.copy) if self.copy else ""
+        return [it.path + which for it in self.functions] or sorted({module_of(file) for file, _, _ in self.pairs})
 
 
 def read(path):
@@ -241,6 +302,16 @@ def round_of(edits):
         if all(fit_together(edit, other) for other in some):
             some.append(edit)
     return some
+
+
+def put_into_copies(edits, others):
+    """Has edits of one function put into copies of it, but for one where none of the others is of it."""
+    count = collections.Counter({it.path for edit in others for it in edit.functions})
+    for edit in filter(Edit.fits_a_copy, edits):
+        path = edit.functions[0].path
+        if count[path]:
+            edit.put_at(count[path], ())
+        count[path] += 1
 
 
 def has_hints(function, crate):

@@ -13,9 +13,9 @@ option. Behind them a catalogue, a journal and an opening are made under an umas
 their owner alone has to be let; and serve is started where it may write no more than some bytes into a file: that has
 to be told before it listens. A journal whose server was killed is refused without its log, and one that was ended well
 opens without it; where sqlite3 changed one of its rows it is refused, and where that only read it, it isn't. A library
-whose last number lacks a file is refused too. A folder that is begun with an opening is served and checked, and isn't
-begun again; one whose beginning was broken off is no library, and is begun again. Needs nothing but Python 3. Status 0:
-all is as it is stored.
+whose last number lacks a file is refused too; a file in its folder whose name isn't UTF-8 is passed over. A folder that
+is begun with an opening is served and checked, and isn't begun again; one whose beginning was broken off is no library,
+and is begun again. Needs nothing but Python 3. Status 0: all is as it is stored.
 """
 
 import contextlib
@@ -154,7 +154,8 @@ def serve_until_killed(program, journal):
 
 
 def compare_missing_log(program):
-    """Looks that a journal whose server was killed isn't opened without its log, and one that was ended well is."""
+    """Looks that a journal whose server was killed isn't opened without its log, and one that was ended well is; and that
+    what can't be read isn't told as one without its log."""
     with tempfile.TemporaryDirectory() as folder:
         journal = begun(program, CATALOGUE, os.path.join(folder, "journal"))
         os.remove(f"{journal}-wal")
@@ -178,6 +179,11 @@ def compare_missing_log(program):
                 raise Trouble(f"a journal with its log, and then ended: {told!r}")
             os.remove(f"{journal}-wal")
         serve_until_killed(program, journal)
+        unreadable = os.path.join(folder, "unreadable")
+        os.mkdir(unreadable)
+        told = told_of(program, unreadable, "journal", "check")
+        if told != (1, "", f"cannot read {unreadable}: Is a directory (os error 21)\n"):
+            raise Trouble(f"a folder in the place of a journal: {told!r}")
 
 
 def compare_emptied(program, journal, whole):
@@ -235,6 +241,8 @@ def compare_lost_files(program):
             if said != (1, f"the library lacks {path}\n"):
                 raise Trouble(f"a library without its {kind}: {said!r}")
             shutil.move(os.path.join(room, kind), path)
+        with open(os.path.join(os.fsencode(folder), b"S\xfcd.catalogue"), "wb"):
+            pass  # a stranger's, whose name isn't UTF-8
         for words in (["check"], ["journal", "check"]):
             said = said_of(program, *words, "--library", folder)
             compare_said(f"{words} of a library that was carried", said, (0, f"checking 0002 of {folder}\n"))

@@ -4,7 +4,7 @@ import os
 import shutil
 import subprocess
 
-from edits import bodies_of, folder_of, module_of, read, sources_of, without_bodies, write
+from edits import bodies_of, edited, folder_of, module_of, read, sources_of, without_bodies, write
 from prove import TOP, said_by_rt
 
 # the files of a function's proof, and the proof of a function that isn't looked at
@@ -53,15 +53,28 @@ class Bench:
         hole = HOLE.format(module=folder.replace("/", "."), crate=self.crate, name=path.rpartition("::")[2])
         self.put_files(folder, {"Proof.antt": hole})
 
-    def put_proof(self, path, pruned, is_short):
-        """Puts the function's own proof back, without what was pruned, and with a line that spares offers."""
+    def proof_of(self, path, pruned, is_short):
+        """The files of the function's own proof, without what was pruned, and with a line that spares offers."""
         folder = self.folders[path]
         files = [(name, os.path.join(self.top, folder, name)) for name in OF_A_PROOF]
         texts = {name: read(file) for name, file in files if os.path.isfile(file)}
         texts |= {name: pruned[f"{folder}/{name}"] for name in OF_A_PROOF if f"{folder}/{name}" in pruned}
         if is_short and "Proof.antt" not in texts:
             texts["Answers.antt"] = texts.get("Answers.antt", "") + NO_OFFERS
-        self.put_files(folder, texts)
+        return texts
+
+    def put_copy(self, edit, is_short):
+        """Puts a copy of the function that the edit is of behind the others of its file, and one of its proof."""
+        function, (path,) = edit.functions[0], edit.asks()
+        text = edited(sources_of(self.crate)[function.file], function.file, edit.pairs)
+        lines, told = function.copied(text, path.rpartition("::")[2])
+        file, folders = os.path.join(self.room, function.file), (self.folders[function.path], folder_of(path))
+        text = read(file)
+        edit.put_at(edit.copy, [text.count("\n") + at for at in told])
+        write(file, text + "\n".join(lines) + "\n")
+        own, new = (f"Rattle.{self.crate}.{folder.replace('/', '.')}." for folder in folders)
+        proof = self.proof_of(function.path, edit.pruned, is_short)
+        self.put_files(folders[1], {name: text.replace(own, new) for name, text in proof.items()})
 
     def put_source(self, file, text, paths):
         """Writes a source file, where only the functions at these paths have their bodies."""
@@ -85,21 +98,24 @@ class Bench:
 
     def check(self, edits, is_short=True):
         """Puts the edits in, and gives what a check of their functions says; a short one offers no proofs."""
-        pruned = {file: text for edit in edits for file, text in edit.pruned.items()}
-        paths = [path for path in self.folders if any(edit.is_of(path) for edit in edits)]
+        copies, others = [edit for edit in edits if edit.copy], [edit for edit in edits if not edit.copy]
+        pruned = {file: text for edit in others for file, text in edit.pruned.items()}
+        paths = [path for path in self.folders if any(edit.is_of(path) for edit in others)]
         for path in paths:
-            self.put_proof(path, pruned, is_short)
-        sound = sources_of(self.crate)
-        texts = {function.file: sound[function.file] for function in self.functions if function.path in paths}
-        for file, old, new in (pair for edit in edits for pair in edit.pairs):
-            texts[file] = texts.get(file, sound[file]).replace(old, new)
-        for file, text in texts.items():
-            self.put_source(file, text, paths)
+            self.put_files(self.folders[path], self.proof_of(path, pruned, is_short))
+        sound, pairs = sources_of(self.crate), [it for edit in edits for it in edit.pairs_in_place()]
+        files = {*(it.file for it in self.functions if it.path in paths), *(file for file, _, _ in pairs)}
+        for file in files:
+            self.put_source(file, edited(sound[file], file, pairs), paths)
+        for edit in copies:
+            self.put_copy(edit, is_short)
         said = self.rattle({it for edit in edits for it in edit.asks()})
-        for file in texts:
+        for file in files | {edit.functions[0].file for edit in copies}:
             self.put_source(file, sound[file], ())
         for path in paths:
             self.put_hole(path)
+        for edit in copies:
+            shutil.rmtree(os.path.join(self.room, folder_of(edit.asks()[0])))
         return said
 
     def rattle(self, paths):

@@ -6,9 +6,10 @@
 A wrong body is a file crates/NAME/wrong/*.edit, of the form that rt ci reads in must-fail/: a line 'file: src/x.rt',
 then pairs of lines 'old: TEXT' and 'new: TEXT'; each old text stands in that file once. A line 'goal: NAME' names the
 goal at which it is refused; what a line 'also: NAME ..' has isn't proved besides, and isn't tried. --name-goals tries
-all goals of edits that name none, and writes these lines. Edits of different functions are put in together, and a
-check looks at the edited functions alone (rattle check --only), over the proved libraries below. An edit comes to one
-of these:
+all goals of edits that name none, and writes these lines. Many edits are put in together, and a check looks at the
+edited functions alone (rattle check --only), over the proved libraries below. Of several edits of one function, of no
+trait and that doesn't call itself, all but one go into copies of it, which stand behind the others of its file with a
+copy of its proof each: what isn't refused there is tried again in place. An edit comes to one of these:
 
     refused            a goal of an edited function isn't proved: one of what it promises, of what it owes to a function
                        that it calls, or of an invariant. Arithmetic, a cast or an index alone doesn't count. The goal
@@ -37,7 +38,8 @@ import tempfile
 from concurrent.futures import ThreadPoolExecutor
 
 from answers import by_tactics, with_one_goal, without_answers
-from edits import Edit, edits_of, file_of, folder_of, has_hints, homes_in, read, round_of, sources_of, write
+from edits import Edit, edits_of, file_of, folder_of, has_hints, homes_in, put_into_copies, read, round_of, sources_of
+from edits import write
 from prove import CORES, GIGABYTES, MEMORY, TOP, said_by_rt, sums_of, uses_of_all, with_all_below
 from proved_libraries import libraries_in
 from workbench import OFFERED, Bench
@@ -61,7 +63,7 @@ MISNAMED = re.compile(
 # and that a goal has another form than the one that was proved
 OTHERWISE = re.compile(MISNAMED.pattern + r"|, at the start, and the other")
 # what the tactics say of a goal that they don't prove, but for one that isn't over what the function is generic in
-NOT_FOUND = re.compile(r"`grind`|`search`: no proof of `(?!\([^()\s]+ : )")
+NOT_FOUND = re.compile(r"`grind`|`search`: no proof of `(?!\([gc] : )")
 # how often edits are tried together; what is open then is tried alone
 ROUNDS = 3
 # what --self-test tries: edits of hd_day's src/day.rt, what each must come to, and the goal that it names
@@ -111,6 +113,7 @@ def judge(edit, said, bench):
         file, line, what, goal, _ = telling[0]
         edit.found = goal, sorted({*edit.gone, *(it[3] for it in goals)} - {goal})
         named = "" if edit.goal in (None, goal) else f" (it names `{edit.goal}`)"
+        line = int(line) - (edit.first_line - edit.functions[0].told.start if edit.copy else 0)
         settle(edit, REFUSED, f"`{goal}`{named}, {file}:{line}: {what}")
     elif not goals and not errors and are_proved(edit, bench):
         settle(edit, PROVED, "it means the same as what it replaces, or the contract lets it through")
@@ -124,7 +127,7 @@ def judge(edit, said, bench):
 
 def misfit_of(edit, said):
     """Why what answers the goal that the edit names doesn't fit, if it doesn't."""
-    answers = re.escape(f"{folder_of(edit.functions[0].path)}/Answers.antt")
+    answers = re.escape(f"{folder_of(edit.asks()[0])}/Answers.antt")
     start = rf"^(?:\./)?{answers}:\d+:\d+: error: `{re.escape(edit.goal)}`: "
     found = re.search(start + r"(.*(?:\n  \(.*)?)", said, re.M)
     return found and " ".join(found[1].split())
@@ -211,12 +214,17 @@ def unguide(edit, said, bench):
 
 def try_round(edits, bench):
     """Tries the edits in one check. Those that are still open, and can be tried otherwise."""
+    if len(edits) == 1:
+        edits[0].put_back()
     for edit in edits:
         edit.tries += 1
     said = bench.check(edits)
     if compiles(said):
         left = [edit for edit in edits if not judge(edit, said, bench)]
-        return [edit for edit in left if unguide(edit, said, bench) or prune(edit, said, bench) or len(edits) > 1]
+        left = [edit for edit in left if unguide(edit, said, bench) or prune(edit, said, bench) or len(edits) > 1]
+        for edit in left:
+            edit.put_back()
+        return left
     if len(edits) == 1:
         told = next((line for line in said.split("\n") if "error" in line), said.rstrip().rpartition("\n")[2])
         settle(edits[0], CANNOT, told[:200])
@@ -246,6 +254,8 @@ def try_together(edits, bench):
     """Tries edits of a crate, as many in a check as fit together, and what is then still open alone."""
     for edit in edits:
         guide(edit, bench)
+    guided = [edit for edit in edits if edit.is_guided and not bench.is_whole]
+    put_into_copies(guided, [edit for edit in edits if edit not in guided])
     left = edits
     while left:
         some = round_of([edit for edit in left if edit.tries < ROUNDS]) or left[:1]

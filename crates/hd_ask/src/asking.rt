@@ -12,7 +12,7 @@ use std::net::Net;
 use std::os::unix::net::UnixStream;
 use std::time::Duration;
 
-/// For how many seconds a server may give nothing that was asked for what it has.
+/// For how many seconds a read of an answer may wait, where the server isn't asked to end.
 const PATIENCE: u64 = 60;
 
 /// Asks the server at a door. Where it is asked to end, the answer is there when it has ended.

@@ -125,9 +125,9 @@ pub(crate) const EXPIRED_ABOUT: &str = "Shows the holds whose last day was befor
 /// What `show expired` does.
 pub(crate) const EXPIRED: &str = "Shows the holds whose last day was before a day
 
-The server at the door is asked for the holds whose until is earlier, by title in the order of the catalogue
-each title's in the order of its queue, some at a time: a hold that begins or ends meanwhile may be among them
-or not. Such a hold gets no copy; one that has a copy keeps it until the hold is deleted.";
+The server at the door is asked for the holds whose until is earlier, title by title as in the catalogue, and
+within a title in the order of its queue. They come some at a time: a hold that begins or ends meanwhile may
+be among them or not. Such a hold gets no copy; one that has a copy keeps it until the hold is deleted.";
 
 /// An example of `show expired`, and its exit statuses.
 pub(crate) const EXPIRED_EXAMPLE: &str = "Example:
@@ -221,5 +221,6 @@ pub(crate) const STOP_EXAMPLE: &str = "Example:
   $ holddesk stop --door /run/holddesk/door
   the server has ended
 
-Exit status: 0 it has ended; 1 a fault, printed as one line (`no server listens at PATH`, and others, which
-docs/operating.md has with what to do); 2 the command line was refused.";
+Exit status: 0 it has ended: whether well, its own last line and status say; 1 a fault, printed as one line
+(`no server listens at PATH`, and others, which docs/operating.md has with what to do); 2 the command line was
+refused.";

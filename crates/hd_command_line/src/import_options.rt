@@ -86,7 +86,7 @@ pub(crate) const COMMANDS_LIMIT: OptionWords = OptionWords {
         most: 1_000_000,
         defaults: &["1000000"],
     }),
-    help: "How many commands the desk may take in all, 1 to 1000000",
+    help: "How many commands a journal takes until the next carry, 1 to 1000000",
     ..PLAIN
 };
 

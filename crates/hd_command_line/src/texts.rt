@@ -14,7 +14,7 @@ pub(crate) const CHECK_ABOUT: &str = "Tells what a catalogue file says, or its f
 pub(crate) const CHECK: &str = "Tells what a catalogue file says, or its faults
 
 The file is read as `serve` and `replay` read it. What it says is told in ten lines: its version, the
-institution, the offset of local time, how many commands the desk may take in all, and how many branches,
+institution, the offset of local time, how many commands a journal takes, and how many branches,
 terminals, patrons, titles, titles with local priority and copies there are. With --opening what the journal
 begins with is told too.
 
@@ -95,10 +95,10 @@ beyond those that are served at once waits, and with --terminals it is closed, s
 
 When the port is bound, a line on standard error says so, with the port that the system gave where 0 was
 asked for. The desk is kept in memory, and a stop loses it: the next start begins with the catalogue. With
---journal each turn that changes something is written to that file before it is answered, and the next start
-goes on where the last one stopped. `holddesk journal begin` makes such a file: one that isn't there is a
-fault here. `holddesk journal --help` says what else there is for it. With --library the catalogue and the
-journal are those of a folder, which `holddesk journal begin --library` makes.
+--journal each command and each cancellation, also a refused one, is written to that file before it is
+answered, and the next start goes on where the last one stopped. `holddesk journal begin` makes such a file:
+one that isn't there is a fault here. `holddesk journal --help` says what else there is for it. With --library
+the catalogue and the journal are those of a folder, which `holddesk journal begin --library` makes.
 
 Self-check kiosks and lockers read a patron's card first, and want --patron-messages; those that ask for a
 password, or greet by name, want --patrons as well. Sorters that choose a bin for holds and transits want

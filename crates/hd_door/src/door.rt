@@ -4,7 +4,7 @@ use crate::fault::DoorFault;
 use crate::socket_file::{FileId, bind, remove};
 use std::alloc::Global;
 use std::fs::Files;
-use std::io;
+use std::io::{self, ErrorKind, Read};
 use std::net::{Net, Shutdown};
 use std::os::fd::OwnedFd;
 use std::os::unix::net::{UnixListener, UnixStream};
@@ -57,9 +57,11 @@ impl Door {
     }
 
     /// Holds a connection until the door is taken away, so that who waits at its other end knows when that
-    /// is. Where too many are held, or memory runs out, it is closed.
+    /// is. Those at whose other end nobody waits any more give way. Where too many wait, or memory runs out,
+    /// it is closed, and who waits is told too early that the server has ended.
     pub(crate) fn hold<R: Wait>(&self, rt: &R, connection: UnixStream) {
         let mut held = self.held.lock(rt);
+        held.retain(is_waited_for);
         if held.len() < HELD {
             let _ = held.push(connection);
         }
@@ -71,5 +73,16 @@ impl Door {
     /// Where the system refuses. The connections are ended all the same.
     pub fn remove<R: Files>(self, rt: &R, path: &str) -> io::Result<()> {
         remove(rt, path, self.file)
+    }
+}
+
+/// Whether somebody still waits at the other end of a connection that is held.
+fn is_waited_for(mut held: &UnixStream) -> bool {
+    if held.set_nonblocking(true).is_err() {
+        return false;
+    }
+    match held.read(&mut [0u8; 1]) {
+        Ok(count) => count > 0,
+        Err(error) => error.kind() == ErrorKind::WouldBlock,
     }
 }

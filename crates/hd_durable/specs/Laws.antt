@@ -1,4 +1,4 @@
--- What is proved of the turns that change something.
+-- What is proved of the changing turns.
 use Rattle.std.specs.Prelude.{◌≡◌, ◌≤◌, false, if◌then◌else◌, List, [], ◌∷◌, ◌++◌, length}
 use Rattle.hd_rules.specs.Facts.{Facts}
 use Rattle.hd_rules.specs.Turns.{Message, State}
@@ -22,8 +22,9 @@ abbrev pub ChangingTurnsAreLegal : Type 0
 ChangingTurnsAreLegal = (k : Facts) (turns : List Turn) → IsLegal k turns → IsLegal k (changing k turns)
 
 -- there is nothing more to leave out
-abbrev pub ChangingTurnsAllChange : Type 0
-ChangingTurnsAllChange = (k : Facts) (turns : List Turn) → changing k (changing k turns) ≡ changing k turns
+abbrev pub ChangingTurnsAreAllChanging : Type 0
+ChangingTurnsAreAllChanging =
+    (k : Facts) (turns : List Turn) → changing k (changing k turns) ≡ changing k turns
 
 -- what comes later adds to them at their end
 abbrev pub TheChangingTurnsOfABeginning : Type 0

@@ -85,7 +85,7 @@ impl<T: TurnTable, A: Allocator + Copy> DurableJournal<T, A> {
     }
 
     /// One turn: what a terminal of a seat asks. What it names, and the terminal, are of the journal's
-    /// catalogue. A turn that changes something is committed before it is answered.
+    /// catalogue. A changing turn is committed before it is answered.
     ///
     /// # Errors
     /// `Memory` from an open journal, which then is as it was; `Unwritten` where this turn or an earlier one
@@ -213,9 +213,15 @@ impl<T: TurnTable, A: Allocator + Copy> DurableJournal<T, A> {
         }
     }
 
-    /// The table, where all that a stop leaves is committed. The journal is dropped.
+    /// The table; what it has, and what a stop leaves of it, is as `table` says. The journal is dropped.
     pub fn into_table(self) -> T
-        ensures { result ≡ self.table }
+        ensures table { result ≡ self.table }
+        ensures catalogue { T.contents self.table ≡ self.contents }
+        ensures held { self.shut ≡ None → T.holds self.table (changing (facts_of self.contents) self.turns) }
+        ensures committed { self.shut ≡ None → (left : List TurnValue) → T.leaves self.table left
+            → left ≡ changing (facts_of self.contents) self.turns }
+        ensures left { (left : List TurnValue) → T.leaves self.table left
+            → IsLeft (facts_of self.contents) self.turns left }
     {
         let DurableJournal {
             journal: _journal,

@@ -1,7 +1,7 @@
 //! Laws. Each is the contract of a function without a body; its statement stands in `specs/Laws.antt`.
 
 ghost use Rattle.hd_durable.specs.Laws.{AStopLeavesALegalJournal, ATurnMoreIsKeptWhereItChanges};
-ghost use Rattle.hd_durable.specs.Laws.{ChangingTurnsAllChange};
+ghost use Rattle.hd_durable.specs.Laws.{ChangingTurnsAreAllChanging};
 ghost use Rattle.hd_durable.specs.Laws.{ChangingTurnsAreLegal, ChangingTurnsLeaveTheSame};
 ghost use Rattle.hd_durable.specs.Laws.{OtherTurnsChangeNothing, TheChangingTurnsOfABeginning};
 
@@ -20,9 +20,9 @@ pub fn changing_turns_are_legal()
     ensures { ChangingTurnsAreLegal }
 {}
 
-/// Of the changing turns each changes something after those before it.
-pub fn changing_turns_all_change()
-    ensures { ChangingTurnsAllChange }
+/// The changing turns of changing turns are all of them.
+pub fn changing_turns_are_all_changing()
+    ensures { ChangingTurnsAreAllChanging }
 {}
 
 /// The changing turns of a beginning of a journal are a beginning of its changing turns.
@@ -30,7 +30,7 @@ pub fn the_changing_turns_of_a_beginning()
     ensures { TheChangingTurnsOfABeginning }
 {}
 
-/// A turn more is one more of the changing turns where it changes something, and else none.
+/// A turn more is one more of the changing turns where it is changing, and else none.
 pub fn a_turn_more_is_kept_where_it_changes()
     ensures { ATurnMoreIsKeptWhereItChanges }
 {}

@@ -1,7 +1,8 @@
 //! A journal whose changing turns are committed to a table before they are answered, so that a stop, whenever
-//! it comes, leaves every turn that a terminal was answered.
+//! it comes, leaves the changing turns of all that a terminal was answered, or these and one more that nobody
+//! was answered.
 //!
-//! A turn changes something where it is no query and its message wasn't answered already; the laws here say
+//! A turn is changing where it is no query and its message wasn't answered already; the laws here say
 //! that the changing turns of a journal are all that has to be kept of it. What the table is, a trait says.
 #![tactic(auto)]
 
@@ -14,9 +15,9 @@ mod timed;
 pub use crate::journal::DurableJournal;
 pub use crate::keeper::DurableKeeper;
 pub use crate::laws::{
-    a_stop_leaves_a_legal_journal, a_turn_more_is_kept_where_it_changes, changing_turns_all_change,
-    changing_turns_are_legal, changing_turns_leave_the_same, other_turns_change_nothing,
-    the_changing_turns_of_a_beginning,
+    a_stop_leaves_a_legal_journal, a_turn_more_is_kept_where_it_changes,
+    changing_turns_are_all_changing, changing_turns_are_legal, changing_turns_leave_the_same,
+    other_turns_change_nothing, the_changing_turns_of_a_beginning,
 };
 pub use crate::table::TurnTable;
 pub use crate::timed::{LastCommit, TimedTable};

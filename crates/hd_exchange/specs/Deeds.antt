@@ -34,7 +34,8 @@ AreTurns (Looked shown ∷ did) = ⊥
 
 -- Of a library, at an office that may show a look these journals after some turns.
 module _ (k : Contents) (shows : List Turn → Book → Type 0) where
-  -- After these turns a look is shown a legal journal of the library, which has those turns.
+  -- After these turns a look is shown a legal journal of the library, of those turns, which the office may
+  -- show then.
   pub record IsShown (turns shown : List Turn) : Type 0 where
     pub book : Book
     pub turns_are : book.turns ≡ shown

@@ -110,7 +110,7 @@ impl<'a, H: House, R: Wait, A: Allocator + Copy, Q: Drop, K: Keeper<A, Q> + Drop
     /// Each of the seat's receipts was the last turn of a legal journal, which held the receipt before it.
     ghost holds = { λ c. AreNext H.opening c.seat.now.receipts };
 
-    /// Those that hold the last of them, at the number of its receipt.
+    /// Those that hold the last of them. At which number, `Hall::look_from` says.
     ghost shows = { IsShownWith H.opening };
 
     fn catalogue(&self) -> &Catalogue<A> {

@@ -5,8 +5,8 @@ ghost use Rattle.hd_journal.specs.declared.fault.TurnFault.TheVariants.{Memory, 
 
 use std::alloc::AllocError;
 
-/// Why a turn isn't made: by a journal, an office, a hall, or whatever keeps a journal. There is no turn more
-/// then.
+/// Why a turn isn't made: by a journal, an office, a hall, or whatever keeps a journal. No turn more is
+/// answered then.
 ///
 /// Which of these can come each says of itself: a journal alone gives `Memory`, and nothing else.
 #[derive(Clone, Copy, PartialEq, Eq, Debug)]
@@ -15,7 +15,8 @@ pub enum TurnFault {
     Memory,
     /// The journal, of `front` turns, lacks the last turn that this side saw: it is another journal.
     Estranged { front: usize },
-    /// The turn, or an earlier one, couldn't be written to where the turns outlive a stop.
+    /// The turn, or an earlier one, couldn't be written to where the turns outlive a stop. Whoever begins
+    /// again there may find this one all the same, though nobody was answered.
     Unwritten(WriteFault),
 }
 

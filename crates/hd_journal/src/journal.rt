@@ -115,7 +115,7 @@ impl<A: Allocator + Copy> Journal<A> {
         Ok(new.made)
     }
 
-    /// One turn, as `take`, and whether it changes something.
+    /// One turn, as `take`, and whether it is changing.
     ///
     /// # Errors
     /// `Memory`, and no other. There is no turn then.
@@ -226,7 +226,7 @@ impl<A: Allocator + Copy> Journal<A> {
         self.alloc
     }
 
-    /// Whether the turn of this ask would change something: it is no query, and it wasn't answered already.
+    /// Whether the turn of this ask would be changing: it asks for a change, and wasn't answered already.
     pub fn is_changing(&self, ask: &OwnedAsk<A>) -> bool
         ensures { result ≡ is_changing (state self.now) ask.now.message }
     {

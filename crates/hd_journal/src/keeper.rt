@@ -70,7 +70,7 @@ pub trait Keeper<A: Allocator, Q: Drop>: Turns {
     /// One turn: what a terminal of a seat asks. What it names, and the terminal, are of the catalogue.
     ///
     /// # Errors
-    /// Those of `faults`, each for its cause. There is no turn then.
+    /// Those of `faults`, each for its cause. No turn is answered then.
     fn take(&mut self, own: Q) -> Result<Turn, TurnFault>
         requires { IsKnownMessage (facts_of (Self.opening self.old).contents) (asks own).message }
         ensures turn { IfOk result (λ made.

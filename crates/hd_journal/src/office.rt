@@ -69,7 +69,7 @@ pub trait Office<A: Allocator> {
     /// Its reply is one to what was asked and names things of the catalogue.
     ///
     /// # Errors
-    /// Those of `faults`, each for its cause. There is no turn then.
+    /// Those of `faults`, each for its cause. No turn is answered then.
     fn turn(&mut self, ask: &Ask<'_>) -> Result<Turn, TurnFault>
         requires seat { ask.now.seat ≡ (keeps self.old).seat }
         requires known { IsKnownMessage (facts_of (keeps self.old).contents) (message_of ask.now).message }

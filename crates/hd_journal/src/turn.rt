@@ -24,12 +24,12 @@ impl Turn {
     }
 }
 
-/// A turn that was just made, and whether it changes something.
+/// A turn that was just made, and whether it asks for a change.
 #[derive(Clone, Copy, PartialEq, Eq, Debug)]
 pub struct NewTurn {
     /// The turn.
     pub made: Turn,
-    /// Whether it changes something: it asks for a change, and wasn't answered already.
+    /// Whether it is changing: it asks for a change, which may be refused, and wasn't answered already.
     pub is_changing: bool,
 }
 

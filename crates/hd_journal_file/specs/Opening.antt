@@ -46,14 +46,15 @@ abbrev pub AreLeftOf : State → Image → Type 0
 AreLeftOf s left = (head : Head) (rows : List KeptTurn) → Holds s head rows → HoldsTurns left head rows
 
 -- Why a file isn't opened: it is of another catalogue, which isn't accepted; a row isn't taken; its head
--- can't be read, or the digest can't be written. Out of memory needs no cause.
+-- can't be read, or the digest can't be written. Out of memory is told by the part that was, as `File` or
+-- `Turns`.
 abbrev pub RefusesFile : Wanted → Book → Head → List KeptTurn → OpenFault → Type 0
 RefusesFile wanted book head rows OtherCatalogue = ¬ MayBeTaken wanted head
 RefusesFile wanted book head rows (Turns fault) =
     MayBeTaken wanted head × RefusesRows head.format book rows 0 fault
 RefusesFile wanted book head rows (File fault) =
     IsReadingFault fault ⊎ (MayBeTaken wanted head × IsWritingFault fault)
-RefusesFile wanted book head rows Memory = Unit {0}
+RefusesFile wanted book head rows Memory = ⊥
 
 -- The other catalogue is accepted, the turns of all rows were taken again, and the digest is in the file.
 pub record IsRedated (wanted : Wanted) (book : Book) (head : Head) (rows : List KeptTurn) (db : Trees)

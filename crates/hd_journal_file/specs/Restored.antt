@@ -16,7 +16,7 @@ use Rattle.hd_journal_file.specs.declared.fault.RestoreFault.{RestoreFault}
 use Rattle.hd_journal_file.specs.declared.fault.RestoreFault.TheVariants.{Unread, Memory, NoTurn, NoChange}
 use Rattle.hd_journal_file.specs.declared.fault.RestoreFault.TheVariants.{Differs, TooMany}
 
--- It took the turn of a row, which changes something.
+-- It took the turn of a row, which is changing.
 pub record TakesRow (format : ℕ) (old new : Book) (row : KeptTurn) : Type 0 where
   pub contents : new.contents ≡ old.contents
   pub turn : Turn
@@ -24,7 +24,7 @@ pub record TakesRow (format : ℕ) (old new : Book) (row : KeptTurn) : Type 0 wh
   pub is : IsTurnRow old.contents format turn row
   pub changes : is_changing (state old) turn.message ≡ true
 
--- It took the turns of some rows, each of which changes something.
+-- It took the turns of some rows, each of which is changing.
 pub record TakesRows (format : ℕ) (old new : Book) (rows : List KeptTurn) : Type 0 where
   pub contents : new.contents ≡ old.contents
   pub made : List Turn

@@ -75,6 +75,7 @@ pub fn open<S: Start, P: Progress>(
         (file_state opened.table.conn) opened.contents opened.turns) }
     ensures marked { IfOk result (λ opened. HasCleanDisk (file_state opened.table.conn)
         → IsTrue is_for_turns → HasMark open_mark (file_state opened.table.conn).now.trees) }
+    ensures other { result ≡ Err OpenFault.OtherCatalogue → wanted.now.is_other_accepted ≡ false }
 {
     let (conn, is_new) = hd_turn_store::open(rt, path, start, wanted.digest)?;
     open_files(
@@ -121,6 +122,7 @@ fn open_files<D: Disk + Drop, F: Start, P: Progress>(
         (file_state opened.table.conn) opened.contents opened.turns) }
     ensures marked { IfOk result (λ opened. HasCleanDisk (file_state opened.table.conn)
         → IsTrue is_for_turns → HasMark open_mark (file_state opened.table.conn).now.trees) }
+    ensures other { result ≡ Err OpenFault.OtherCatalogue → wanted.now.is_other_accepted ≡ false }
 {
     let (conn, journal) = taken_again(alloc, conn, is_new, wanted, journal, progress)?;
     let taken = for_turns(alloc, conn, is_for_turns)?;
@@ -147,6 +149,7 @@ fn taken_again<S: Alter + Drop, P: Progress>(
         → IsTaken wanted.now (state S.Store r.0) head rows r.1.contents r.1.turns) }
     ensures changing { IfOk result (λ r. changing (facts r.1) r.1.turns ≡ r.1.turns) }
     ensures contents { IfOk result (λ r. r.1.contents ≡ journal.contents) }
+    ensures other { result ≡ Err OpenFault.OtherCatalogue → wanted.now.is_other_accepted ≡ false }
 {
     take_again(alloc, &mut conn, is_new, wanted, &mut journal, progress)?;
     Ok((conn, journal))
@@ -155,7 +158,7 @@ fn taken_again<S: Alter + Drop, P: Progress>(
 /// The connection to a journal's file as it is, or, for turns, with the mark of a server that has it open.
 ///
 /// # Errors
-/// `File`, where the mark can't be written.
+/// `File`, where the mark can't be written, or the file can't be read again or shows no journal.
 fn for_turns<D: Disk + Drop>(
     alloc: Global,
     conn: Connection<FileStore<D>>,
@@ -166,6 +169,7 @@ fn for_turns<D: Disk + Drop>(
         → Holds (file_state conn) head rows → Holds (file_state c) head rows) }
     ensures marked { IfOk result (λ c. HasCleanDisk (file_state c) → IsTrue is_for_turns
         → HasMark open_mark (file_state c).now.trees) }
+    ensures why { IfErr result (λ fault. (why : StoreFault) × (fault ≡ OpenFault.File why)) }
 {
     if !is_for_turns {
         return Ok(conn);

@@ -91,7 +91,7 @@ fn take_piece<S: Alter, A: Allocator + Copy>(
 }
 
 /// Takes all turns of a file again, in a journal that has none yet, of the catalogue by which they are told,
-/// and answers how many there are. Each row is then that of a turn, which changes something and comes to what
+/// and answers how many there are. Each row is then that of a turn, which is changing and comes to what
 /// the row says; `format` is the file's. `progress` is told so after each piece of at most 1,024 rows.
 ///
 /// # Errors

@@ -43,6 +43,8 @@ end_word end.Read = codes "read_failed"
 end_word end.Write = codes "write_failed"
 end_word end.LongLine = codes "long_line"
 end_word end.Memory = codes "no_memory"
+end_word end.Descriptor = codes "no_descriptor"
+end_word end.Seat = codes "no_seat"
 end_word end.Estranged = codes "estranged"
 end_word end.Unwritten = codes "journal_unwritten"
 

@@ -1,8 +1,10 @@
 //! Events.
 ghost use Rattle.std.specs.Prelude.{◌≡◌};
 ghost use Rattle.hd_log.specs.Events.{end_word, event_level, refusal_word};
+ghost use Rattle.hd_log.specs.declared.event.End.TheVariants.{Memory};
 
 use crate::level::Level;
+use std::alloc::AllocError;
 
 /// What is told of a server. Texts of which nothing is said are any bytes.
 #[derive(Clone, Copy, Debug)]
@@ -158,16 +160,20 @@ pub enum End {
     Peer,
     /// The server ends.
     Stop,
-    /// Nothing came, or nothing was taken, for the idle time.
+    /// Nothing came for the idle time.
     Idle,
-    /// A read failed.
+    /// A read failed, or the system refused the connection's options.
     Read,
-    /// A write failed.
+    /// A write failed, or nothing was taken for the idle time.
     Write,
     /// A line was too long.
     LongLine,
-    /// Out of memory, or of seats.
+    /// Out of memory.
     Memory,
+    /// No descriptor was left for it.
+    Descriptor,
+    /// No seat was left for it.
+    Seat,
     /// The journal lacks a turn that the connection was told of.
     Estranged,
     /// The journal can't be written.
@@ -201,9 +207,19 @@ impl End {
             End::Write => b"write_failed",
             End::LongLine => b"long_line",
             End::Memory => b"no_memory",
+            End::Descriptor => b"no_descriptor",
+            End::Seat => b"no_seat",
             End::Estranged => b"estranged",
             End::Unwritten => b"journal_unwritten",
         }
+    }
+}
+
+impl From<AllocError> for End {
+    ghost from_gives = { λ _ end. end ≡ Memory };
+
+    fn from(_: AllocError) -> Self {
+        Self::Memory
     }
 }
 

@@ -1,5 +1,6 @@
 -- Terminals whose clock is off: messages whose day lies too far from the server's.
-use Rattle.std.specs.Prelude.{◌≡◌, ◌≢◌, ◌<◌, ◌≤◌, ℕ, ◌+◌, ◌-◌, ℤ, List, Option, None, Some, Result, Ok, Err}
+use Rattle.std.specs.Prelude.{◌≡◌, ◌≢◌, ◌⊎◌, ◌<◌, ◌≤◌, ℕ, ◌+◌, ◌-◌, ℤ, List}
+use Rattle.std.specs.Prelude.{Option, None, Some, Result, Ok, Err}
 use Rattle.std.specs.Option.{option_copied}
 use Rattle.hd_date.specs.Stamps.{IsStamp, Stamp}
 use Rattle.hd_message.specs.declared.patron_reading.Reading.{Reading}
@@ -75,3 +76,14 @@ pub record IsOffMessage (watch : DayWatch) (body : List ℕ) (today : ℕ) (off 
   pub dated : date_read reading ≡ Some off.date.now
   pub is_off : IsOff most watch.offset today off.date.now off.days
   pub news : watch.told ≢ Some today
+
+-- Why nothing is told of a message: no day is looked at, or it has no date, or its day isn't off, or one was
+-- told already today.
+abbrev pub IsSilent : DayWatch → List ℕ → Type 0
+IsSilent watch body =
+    (watch.most ≡ None)
+    ⊎ ((reading : Reading) × IsReading watch.profile body reading × (date_read reading ≡ None))
+    ⊎ ((most : ℕ) × (today : ℕ) × (reading : Reading) × (date : List ℕ) × (watch.most ≡ Some most)
+    × IsReading watch.profile body reading × (date_read reading ≡ Some date)
+    × IsNear most watch.offset today date)
+    ⊎ ((today : ℕ) × (watch.told ≡ Some today))

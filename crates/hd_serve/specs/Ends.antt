@@ -1,6 +1,6 @@
 -- What ends a server and its connections.
 use Rattle.std.specs.Prelude.{◌≡◌, ◌⊎◌, ◌||◌, ℕ, ◌-◌, ◌/◌, ◌≤◌, Bool, true, false, Option, Some, None}
-use Rattle.std.specs.Prelude.{Result, Ok, Err, is_some}
+use Rattle.std.specs.Prelude.{Result, Ok, Err, is_some, if◌then◌else◌}
 use Rattle.hd_journal.specs.declared.fault.TurnFault.{TurnFault}
 use Rattle.hd_journal.specs.declared.fault.TurnFault.TheVariants as turn
 use Rattle.hd_journal.specs.declared.fault.WriteFault.{WriteFault}
@@ -34,6 +34,12 @@ abbrev pub end_on : Option WriteFault → Bool → End
 end_on (Some why) asked = told.Unwritten
 end_on None true = told.Stop
 end_on None false = told.Peer
+
+-- What is told of why a connection was closed that was given no place: its server, on this course, is to end,
+-- or else memory ran out.
+abbrev pub end_without_place : Course → End
+end_without_place course =
+    if is_to_end course then end_on course.unwritten course.is_asked else told.Memory
 
 -- What is told of why a connection ended, whose last read waited for too long or not, at a server on this
 -- course.

@@ -64,17 +64,18 @@ pub(crate) struct Reception<'a, R, O: Observer> {
     pub(crate) options: Options<'a>,
     pub(crate) observer: &'a O,
     pub(crate) to: Sender<Connection>,
-    /// How many have been handed on.
+    /// How many were accepted, also of those that were turned away or closed at once.
     pub(crate) session: usize,
 }
 
 impl<'a, R: Wait + Clock, O: Observer> Reception<'a, R, O> {
-    /// Hands on so many connections, or with 0 all that come, until the server is to end.
+    /// Accepts so many connections, or with 0 all that come, until the server is to end, and hands on those
+    /// that there is room for.
     ///
     /// # Errors
     /// `Unwritten` where the journal can't be written, and `CannotListen` where a connection can't be
     /// accepted, for good or 17 times in a row (`received`). Else the server was asked to end, or the last
-    /// connection has been handed on.
+    /// connection was accepted.
     pub(crate) fn accept(mut self, listener: &TcpListener) -> Result<(), ServeFault>
         ensures why { IfErr result IsOfAccepting }
     {
@@ -139,25 +140,9 @@ impl<'a, R: Wait + Clock, O: Observer> Reception<'a, R, O> {
         }
         tell_opened(&speaker, address.as_bytes(), is_beyond);
         match self.standing.enter(self.rt, &stream) {
-            Some(place) => self.hand_on(stream, place, address),
-            None => self.tell_closed(&speaker, address.as_bytes()),
+            Ok(place) => self.hand_on(stream, place, address),
+            Err(why) => tell_closed(&speaker, address.as_bytes(), why),
         }
-    }
-
-    /// Tells that a connection is closed at once: the server is to end, or there is no room for it.
-    fn tell_closed(&self, speaker: &Speaker<'_, O>, address: &[u8]) {
-        let course = self.standing.course(self.rt);
-        let why = if course.is_to_end() {
-            course.end()
-        } else {
-            End::Memory
-        };
-        speaker.tell(ConnectionEvent::Closed {
-            address,
-            why,
-            messages: 0,
-            seconds: 0,
-        });
     }
 
     /// Hands a connection on under the last number. A worker ends only when this reception is dropped, so one
@@ -181,6 +166,16 @@ fn tell_opened<O: Observer>(speaker: &Speaker<'_, O>, address: &[u8], is_waiting
     if is_waiting {
         speaker.tell(ConnectionEvent::Waiting { address });
     }
+}
+
+/// Tells that a connection was closed at once, for this reason.
+fn tell_closed<O: Observer>(speaker: &Speaker<'_, O>, address: &[u8], why: End) {
+    speaker.tell(ConnectionEvent::Closed {
+        address,
+        why,
+        messages: 0,
+        seconds: 0,
+    });
 }
 
 /// Whether a connection could not be accepted for now, or for good.

@@ -1,8 +1,8 @@
 //! Terminals whose clock is off: seeing whether the day of a message is the server's.
-ghost use Rattle.std.specs.Prelude.{◌≡◌, ◌≢◌, ◌↔◌, ℕ, IfNone, IfSome, IsTrue, None, Some};
+ghost use Rattle.std.specs.Prelude.{◌≡◌, ◌≢◌, ◌↔◌, ℕ, IfNone, IfSome, IsFalse, IsTrue, None, Some};
 ghost use Rattle.std.specs.Option.{option_copied};
-ghost use Rattle.hd_serve.specs.Days.{IsNear, IsOff, IsOffMessage, card_date, date_read, days_apart};
-ghost use Rattle.hd_serve.specs.Days.{patron_date, request_date, standard_date, unreadable_date};
+ghost use Rattle.hd_serve.specs.Days.{IsNear, IsOff, IsOffMessage, IsSilent, card_date, date_read};
+ghost use Rattle.hd_serve.specs.Days.{days_apart, patron_date, request_date, standard_date, unreadable_date};
 
 use crate::clock::present;
 use hd_date::{Day, OffsetMinutes, texts_show_one_stamp};
@@ -39,6 +39,8 @@ impl DayWatch {
     pub(crate) fn see<'l, R: Clock>(&mut self, clock: &R, body: &'l [u8]) -> Option<OffDay<'l>>
         ensures off { IfSome result (λ off. (today : ℕ) × (self.new.told ≡ Some today)
             × IsOffMessage self.old body.now today off) }
+        ensures silent { IfNone result (IsSilent self.old body.now) }
+        ensures same { IfNone result (self.new ≡ self.old) }
     {
         let most = self.most?;
         let date = date_read(&read_with(self.profile, body))?;
@@ -54,7 +56,8 @@ impl DayWatch {
     /// Whether nothing has been told today. Then it counts as told.
     fn is_news(&mut self, today: Day) -> bool
         ensures news { IsTrue result ↔ (self.old.told ≢ Some today) }
-        ensures told { self.new.told ≡ Some today }
+        ensures old { IsFalse result → self.old.told ≡ Some today }
+        ensures told { self.new ≡ record self.old { told = Some today } }
     {
         let is_news = self.told != Some(today);
         self.told = Some(today);

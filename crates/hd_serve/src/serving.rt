@@ -17,8 +17,8 @@ use std::thread::Threads;
 use std::time::Clock;
 
 /// Serves terminals over TCP, each connection as a session at a seat of its own in one hall round what keeps
-/// the journal, until so many connections have been served; then the hall is closed, and the keeper comes
-/// back. It may have turns from before; those that were made here are legal behind them.
+/// the journal, until so many connections were accepted and have ended; then the hall is closed, and the
+/// keeper comes back. It may have turns from before; those that were made here are legal behind them.
 ///
 /// The workers are threads, started before the first connection is accepted. Where not all can be had, those
 /// that can do the work. Each serves one connection at a time, whose replies are sent at once. Each session

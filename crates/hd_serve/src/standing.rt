@@ -2,7 +2,7 @@
 //! are left.
 ghost use Rattle.std.specs.Prelude.{◌≡◌, ◌+◌, ◌<◌, ◌≤◌, None, Some, IfNone, IfSome, IsTrue, OnSome, not};
 ghost use Rattle.std.specs.Prelude.{length, slice_get, slice_set, true};
-ghost use Rattle.hd_serve.specs.Ends.{end_on, first_reason, is_to_end};
+ghost use Rattle.hd_serve.specs.Ends.{end_on, end_without_place, first_reason, is_to_end};
 ghost use Rattle.hd_serve.specs.Places.{taken};
 
 use hd_journal::WriteFault;
@@ -100,11 +100,20 @@ impl Standing {
         self.now.lock(rt).course
     }
 
-    /// Notes that a connection is open: the place that it has; nothing where the server is to end, or where
-    /// no second handle can be had, or no memory.
-    pub(crate) fn enter<R: Wait>(&self, rt: &R, connection: &TcpStream) -> Option<usize> {
-        let handle = connection.try_clone().ok()?;
-        self.now.lock(rt).enter(handle)
+    /// Notes that a connection is open: the place that it has.
+    ///
+    /// # Errors
+    /// Why it is closed at once: no descriptor is left for a second handle of it, the server is to end, or
+    /// memory runs out.
+    pub(crate) fn enter<R: Wait>(&self, rt: &R, connection: &TcpStream) -> Result<usize, End> {
+        let Ok(handle) = connection.try_clone() else {
+            return Err(End::Descriptor);
+        };
+        let mut now = self.now.lock(rt);
+        match now.enter(handle) {
+            Some(place) => Ok(place),
+            None => Err(now.course.end_without_place()),
+        }
     }
 
     /// Notes that the connection at this place has ended.
@@ -161,6 +170,18 @@ impl Course {
             End::Stop
         } else {
             End::Peer
+        }
+    }
+
+    /// What is told of why a connection was closed that was given no place: the server is to end, or else
+    /// memory ran out.
+    fn end_without_place(self) -> End
+        ensures { result ≡ end_without_place self }
+    {
+        if self.is_to_end() {
+            self.end()
+        } else {
+            End::Memory
         }
     }
 }

@@ -82,7 +82,7 @@ impl<'a, H: House, Q: Drop, K: Keeper<Global, Q> + Drop> Service<'a, H, Q, K> {
     ) {
         let speaker = Speaker::new(self.alloc, observer, connection.session);
         let begin = Instant::now(rt);
-        let visited = self.serve_one(&Visit {
+        let served = self.serve_one(&Visit {
             rt,
             observer,
             speaker: &speaker,
@@ -90,44 +90,44 @@ impl<'a, H: House, Q: Drop, K: Keeper<Global, Q> + Drop> Service<'a, H, Q, K> {
         });
         self.standing.leave(rt, connection.place);
         let course = self.standing.course(rt);
+        let (why, messages) = match served {
+            Ok(visited) => (
+                end_of(visited.ended, visited.is_idle, course),
+                visited.replies,
+            ),
+            Err(why) => (why, 0),
+        };
         speaker.tell(ConnectionEvent::Closed {
             address: connection.address.as_bytes(),
-            why: end_of(visited.ended, visited.is_idle, course),
-            messages: visited.replies,
+            why,
+            messages,
             seconds: seconds_since(rt, begin),
         });
         self.notice_numbers(rt, observer);
     }
 
-    /// Serves a connection to its end, and keeps its seat: how it went. Where its options can't be set, or
-    /// there is no room to keep a seat, no session or no seat, nothing is read and nothing written.
-    fn serve_one<R: Wait + Clock, O: Gate + Observer>(&self, visit: &Visit<'_, R, O>) -> Visited {
-        match self.serve_seated(visit) {
-            Some(visited) => visited,
-            None => Visited {
-                ended: Err(AttendFault::Ended(Ended::Turn(TurnFault::Memory))),
-                is_idle: false,
-                replies: 0,
-            },
-        }
-    }
-
-    /// The same; nothing where nothing is read.
-    fn serve_seated<R: Wait + Clock, O: Gate + Observer>(
+    /// Serves a connection to its end, and keeps its seat: how it went.
+    ///
+    /// # Errors
+    /// Why nothing is read and nothing written: the system refuses its options, memory for its seat or its
+    /// session runs out, or no seat is left.
+    fn serve_one<R: Wait + Clock, O: Gate + Observer>(
         &self,
         visit: &Visit<'_, R, O>,
-    ) -> Option<Visited> {
-        prepare(&visit.connection.stream, self.options.idle).ok()?;
-        self.places.lock(visit.rt).add().ok()?;
-        let state = Session::opened(self.alloc, self.options.extensions).ok()?;
-        let heard = Stream::new(self.alloc).ok()?;
+    ) -> Result<Visited, End> {
+        let Ok(()) = prepare(&visit.connection.stream, self.options.idle) else {
+            return Err(End::Read);
+        };
+        self.places.lock(visit.rt).add()?;
+        let state = Session::opened(self.alloc, self.options.extensions)?;
+        let heard = Stream::new(self.alloc)?;
         let Some(seat) = self.hall.seat(visit.rt) else {
             self.standing.note_full(visit.rt);
-            return None;
+            return Err(End::Seat);
         };
         let (visited, seat) = self.attend_one(visit, state, heard, seat);
         self.places.lock(visit.rt).keep(seat);
-        Some(visited)
+        Ok(visited)
     }
 
     /// How it went, and the seat, when the connection has ended. Why it ended makes no difference to the

@@ -27,7 +27,7 @@ pub fn serve<R: Threads + Wait + Clock + Sync, G: Gate>(
     gate: &G,
 ) -> Result<Summary, ServerFault>
     requires turns { journal.turns ≡ [] }
-    requires workers { (1 ≤ options.now.workers) × (options.now.workers ≤ 64) }
+    requires workers { (1 ≤ options.now.workers) × (options.now.workers ≤ 9999) }
     ensures summary { IfOk result (IsSummaryOfLegal journal.contents) }
     ensures fault { IfErr result IsOfServe }
 {

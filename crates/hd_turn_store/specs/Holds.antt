@@ -13,6 +13,11 @@ pub record Holds (s : State) (h : Head) (ks : List KeptTurn) : Type 0 where
   pub outside : s.in_transaction ≡ false
   pub is_open : IsTrue s.is_open
 
+-- there is no table, index or view, and no transaction is open
+pub record IsBlank (s : State) : Type 0 where
+  pub schema : s.now.schema ≡ no_schema
+  pub outside : s.in_transaction ≡ false
+
 -- there is no row in these tables
 abbrev pub AreEmpty : List Table → Trees → Type 0
 AreEmpty tables db = AllByRecursion (λ t. db t.tree ≡ []) tables

@@ -15,7 +15,7 @@ pub use crate::columns::{COLUMNS, Column};
 pub use crate::fault::Fault;
 pub use crate::file::{leave, open};
 pub use crate::heading::{FORMAT, Heading, accept, catalogue};
-pub use crate::mark::{HEAD, end, is_ended, open_for_turns};
+pub use crate::mark::{HEADER_LENGTH, end, is_ended, open_for_turns};
 pub use crate::row::TurnRow;
 pub use crate::storing::{a_turn_is_read_of_its_values, append, begin, turns};
 pub use crate::table::{is_blank, is_journal};

@@ -24,13 +24,13 @@ const OPEN: u32 = 1;
 const ENDED: u32 = 2;
 
 /// How long SQLite's header is, with which a database file begins.
-pub const HEAD: usize = 100;
+pub const HEADER_LENGTH: usize = 100;
 
 /// What it begins with.
 const MAGIC: [u8; 16] = *b"SQLite format 3\0";
 
 /// Whether a database file with this header was ended well. It then has all of its journal without a log.
-pub fn is_ended(head: &[u8; HEAD]) -> bool
+pub fn is_ended(head: &[u8; HEADER_LENGTH]) -> bool
     ensures said { IsTrue result ↔ SaysMark head.now ended_mark }
     // The database that such a file holds without a log has the mark, or hasn't.
     ensures tied { (left : Image) (db : Trees) → head.now ≡ take 100 left.db
@@ -41,10 +41,10 @@ pub fn is_ended(head: &[u8; HEAD]) -> bool
 
 /// Whether a header has the format's name and the mark of an end: its user version, four bytes of which the
 /// highest is first.
-fn says_end(head: &[u8; HEAD]) -> bool
+fn says_end(head: &[u8; HEADER_LENGTH]) -> bool
     ensures { IsTrue result ↔ SaysMark head.now ended_mark }
 {
-    head[..16] == MAGIC[..] && head[60] == 0 && head[61] == 0 && head[62] == 0 && head[63] == 2
+    head[..16] == MAGIC[..] && u32::from_be_bytes([head[60], head[61], head[62], head[63]]) == ENDED
 }
 
 /// Commits a mark, where the file hasn't got it yet.

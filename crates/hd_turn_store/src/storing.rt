@@ -5,7 +5,7 @@ ghost use Rattle.std.specs.Prelude.{take, drop};
 ghost use Rattle.hd_turn_store.specs.Words.{HasCleanDisk, Survives, bound_value, owned, state};
 ghost use Rattle.hd_turn_store.specs.Kept.{KeptTurn, Head, cells, new_head, number_cell, piece};
 ghost use Rattle.hd_turn_store.specs.Tables.{journal_schema, no_schema};
-ghost use Rattle.hd_turn_store.specs.Holds.{Commits, HasEmpty, Holds, OnlyReads, SeesTurns};
+ghost use Rattle.hd_turn_store.specs.Holds.{Commits, HasEmpty, Holds, IsBlank, OnlyReads, SeesTurns};
 ghost use Rattle.hd_turn_store.specs.Rows.{kept, read_cells};
 ghost use Rattle.hd_turn_store.specs.Faults.{IsWritingFault, IsReadingFault, RefusesTurn};
 
@@ -23,14 +23,16 @@ use sqlite::{Alter, Connection, Error, Row, Transaction};
 const PIECE: u32 = 1024;
 
 /// Begins a journal in a database that has no table: both tables and the head, in one transaction.
-/// `digest` is the SHA-256 of the catalogue file. A database that has a table is `NotAJournal`.
+/// `digest` is the SHA-256 of the catalogue file. A database that has a table, an index or a view, or an open
+/// transaction, is `NotAJournal`.
 pub fn begin<S: Alter>(conn: &mut Connection<S>, digest: &[u8; 32]) -> Result<(), Fault>
     ensures clean { HasCleanDisk (state S.Store conn.new) → HasCleanDisk (state S.Store conn.old) }
     ensures begins { HasCleanDisk (state S.Store conn.new)
         → Commits (IsOk result) (new_head digest.now) [] (state S.Store conn.old) (state S.Store conn.new) }
     ensures index { HasCleanDisk (state S.Store conn.new)
         → OnOk result ((state S.Store conn.new).now.schema ≡ journal_schema) }
-    ensures fault { IfErr result (λ f. (f ≡ Fault.NotAJournal) ⊎ IsWritingFault f) }
+    ensures fault { IfErr result (λ f. (f ≡ Fault.NotAJournal) × ¬ IsBlank (state S.Store conn.old)
+        ⊎ IsWritingFault f) }
 {
     if !conn.is_autocommit() || !is_blank(conn.schema()) {
         return Err(Fault::NotAJournal);
@@ -58,7 +60,7 @@ fn fill<S: Alter>(tx: &mut Transaction<'_, S>, digest: &[u8; 32]) -> Result<(), 
 /// Commits one turn more. Where it fails, the file holds the turns before or these and the new one.
 ///
 /// # Errors
-/// SQLite's own, so that the operator is told why.
+/// SQLite's own, of which the caller tells out of memory, a full disk, or neither.
 pub fn append<S: Alter>(conn: &mut Connection<S>, row: &TurnRow<'_>) -> Result<(), Error>
     ensures clean { HasCleanDisk (state S.Store conn.new) → HasCleanDisk (state S.Store conn.old) }
     ensures adds { HasCleanDisk (state S.Store conn.new) → (head : Head) (ks : List KeptTurn)

@@ -1,6 +1,6 @@
 //! Whether a database has a journal's tables and nothing else, or no table yet.
 
-ghost use Rattle.std.specs.Prelude.{◌≡◌, ◌⊎◌, ◌∷◌, [], false, IsTrue, map};
+ghost use Rattle.std.specs.Prelude.{◌≡◌, ◌⊎◌, ◌∷◌, ◌↔◌, [], false, IsTrue, map};
 ghost use Rattle.hd_turn_store.specs.Tables.{IsJournal, column, column_of, no_schema, number_index, table_by};
 ghost use Rattle.sqlite.specs.Kind.TheVariants.{Integer};
 
@@ -110,7 +110,7 @@ pub fn is_journal(schema: &Schema) -> bool
 
 /// Whether a database has no table, index or view, as that of a new file.
 pub fn is_blank(schema: &Schema) -> bool
-    ensures { IsTrue result → schema.now ≡ no_schema }
+    ensures { IsTrue result ↔ schema.now ≡ no_schema }
 {
     schema.tables.is_empty() && schema.indexes.is_empty() && schema.views.is_empty()
 }

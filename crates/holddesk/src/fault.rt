@@ -22,7 +22,7 @@ pub(crate) enum Fault {
     /// What the program tells can't be written.
     #[error("cannot write")]
     CannotWrite,
-    /// Out of memory before the first connection, or for what `check` tells.
+    /// Out of memory.
     #[error("no memory")]
     Memory,
     /// There is no journal at this path.
@@ -34,7 +34,7 @@ pub(crate) enum Fault {
     /// There is no complete library in this folder.
     #[error("there is no library in {0}")]
     NoLibrary(String),
-    /// There is no such folder, or it can't be read.
+    /// There is no such folder.
     #[error("there is no folder {0}")]
     NoFolder(String),
     /// A library lacks this file, which it had.

@@ -6,7 +6,7 @@ use crate::writing::part_path;
 use hd_command_line::{LibraryFiles, Place};
 use hd_setup::cannot_read;
 use std::alloc::{AllocError, Global};
-use std::fs::{self, ReadDir};
+use std::fs::{self, DirEntry, ReadDir};
 use std::io::{self, ErrorKind};
 
 /// The paths of a library's files.
@@ -115,11 +115,10 @@ fn str_of(text: &Option<String>) -> Option<&str> {
 /// There is no folder, or it can't be read; a later period lacks a file; out of memory.
 pub(crate) fn last_period(rt: &HostRuntime, folder: &str) -> Result<Option<u32>, Fault> {
     let mut last = None;
-    for entry in names_in(rt, folder)? {
-        let Ok(entry) = entry else {
-            return Err(Fault::NoFolder(String::from_str(rt.alloc(), folder)?));
-        };
-        last = later_period(rt, folder, entry.file_name(), last)?;
+    for entry in entries_in(rt, folder)? {
+        if let Some(entry) = read_entry(rt, folder, entry)? {
+            last = later_period(rt, folder, entry.file_name(), last)?;
+        }
     }
     see_whole(rt, folder, last)?;
     Ok(last)
@@ -129,12 +128,28 @@ pub(crate) fn last_period(rt: &HostRuntime, folder: &str) -> Result<Option<u32>,
 ///
 /// # Errors
 /// There is no folder, or it can't be read; out of memory.
-fn names_in(rt: &HostRuntime, folder: &str) -> Result<ReadDir, Fault> {
+fn entries_in(rt: &HostRuntime, folder: &str) -> Result<ReadDir, Fault> {
     match fs::read_dir(rt, folder) {
-        Ok(names) => Ok(names),
+        Ok(entries) => Ok(entries),
         Err(error) if error.kind() == ErrorKind::NotFound => {
             Err(Fault::NoFolder(String::from_str(rt.alloc(), folder)?))
         }
+        Err(error) => Err(Fault::from(cannot_read(rt.alloc(), folder, &error)?)),
+    }
+}
+
+/// What was read of an entry of a folder; nothing where its name isn't UTF-8, as that of a period's file is.
+///
+/// # Errors
+/// The folder can't be read; out of memory.
+fn read_entry(
+    rt: &HostRuntime,
+    folder: &str,
+    entry: io::Result<DirEntry>,
+) -> Result<Option<DirEntry>, Fault> {
+    match entry {
+        Ok(entry) => Ok(Some(entry)),
+        Err(error) if error.kind() == ErrorKind::InvalidFilename => Ok(None),
         Err(error) => Err(Fault::from(cannot_read(rt.alloc(), folder, &error)?)),
     }
 }
@@ -177,11 +192,10 @@ fn period_of(name: &str) -> Option<u32> {
 /// # Errors
 /// One lacks a file; the folder can't be read; out of memory.
 fn see_whole(rt: &HostRuntime, folder: &str, last: Option<u32>) -> Result<(), Fault> {
-    for entry in names_in(rt, folder)? {
-        let Ok(entry) = entry else {
-            return Err(Fault::NoFolder(String::from_str(rt.alloc(), folder)?));
-        };
-        see_whole_behind(rt, folder, entry.file_name(), last)?;
+    for entry in entries_in(rt, folder)? {
+        if let Some(entry) = read_entry(rt, folder, entry)? {
+            see_whole_behind(rt, folder, entry.file_name(), last)?;
+        }
     }
     Ok(())
 }

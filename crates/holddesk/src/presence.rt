@@ -3,7 +3,7 @@
 use crate::fault::Fault;
 use crate::writing::cannot_write;
 use hd_setup::cannot_read;
-use hd_turn_store::{HEAD, is_ended};
+use hd_turn_store::{HEADER_LENGTH, is_ended};
 use std::alloc::Global;
 use std::fs::{self, File};
 use std::io::{self, ErrorKind, Read};
@@ -30,14 +30,13 @@ enum Presence {
 /// Sees that a journal lies at a path, with its log, or ended well.
 ///
 /// # Errors
-/// There is none, or one of its two files is missing.
+/// There is none, one of its two files is missing, or the system refuses it.
 pub(crate) fn see_journal(rt: &HostRuntime, path: &str) -> Result<(), Fault> {
     let log = log_path(rt.alloc(), path)?;
     match look(rt, path, log.as_str())? {
         Presence::Journal => see_readable(rt, path),
         Presence::Nothing => Err(Fault::NoJournal(String::from_str(rt.alloc(), path)?)),
-        Presence::JournalAlone if is_ended_at(rt, path) => Ok(()),
-        Presence::JournalAlone => Err(Fault::NoLog),
+        Presence::JournalAlone => see_ended(rt, path),
         Presence::LogAlone => Err(Fault::LogAlone(log)),
     }
 }
@@ -53,11 +52,16 @@ fn see_readable(rt: &HostRuntime, path: &str) -> Result<(), Fault> {
     }
 }
 
-/// Whether the file at a path says that it was ended well, so that it has all of the journal without a log.
-fn is_ended_at(rt: &HostRuntime, path: &str) -> bool {
-    match read_head(rt, path) {
-        Ok(head) => is_ended(&head),
-        Err(_) => false,
+/// Sees that a file says that it was ended well, so that it has all of the journal without a log.
+///
+/// # Errors
+/// It doesn't say so, or the system refuses it.
+fn see_ended(rt: &HostRuntime, path: &str) -> Result<(), Fault> {
+    match read_header(rt, path) {
+        Ok(header) if is_ended(&header) => Ok(()),
+        Ok(_) => Err(Fault::NoLog),
+        Err(error) if error.kind() == ErrorKind::UnexpectedEof => Err(Fault::NoLog),
+        Err(error) => Err(Fault::from(cannot_read(rt.alloc(), path, &error)?)),
     }
 }
 
@@ -65,10 +69,10 @@ fn is_ended_at(rt: &HostRuntime, path: &str) -> bool {
 ///
 /// # Errors
 /// It can't be read, or has fewer.
-fn read_head(rt: &HostRuntime, path: &str) -> io::Result<[u8; HEAD]> {
-    let mut head = [0; HEAD];
-    File::open(rt, path)?.read_exact(&mut head)?;
-    Ok(head)
+fn read_header(rt: &HostRuntime, path: &str) -> io::Result<[u8; HEADER_LENGTH]> {
+    let mut header = [0; HEADER_LENGTH];
+    File::open(rt, path)?.read_exact(&mut header)?;
+    Ok(header)
 }
 
 /// Sees that nothing lies at a path, so that a journal may be begun there.

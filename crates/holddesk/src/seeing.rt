@@ -94,7 +94,8 @@ fn range_of(rt: &HostRuntime, order: &Show<'_>) -> Result<Range, Fault> {
     Ok(Range { after, most })
 }
 
-/// How many turns the journal of the server at a door has.
+/// How many turns the journal of the server at a door has; none where it isn't shown any more, and the answer
+/// to the next question says why.
 fn turns_at(rt: &HostRuntime, door: &str) -> Result<u64, Fault> {
     let metrics = answer_at(rt, door, &Question::Metrics)?;
     Ok(number_of(metrics.body.as_slice(), b"holddesk_journal_turns ").unwrap_or(0))

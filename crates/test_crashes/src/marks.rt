@@ -1,7 +1,7 @@
 //! What the mark in a journal's file says.
 
 use crate::disks::{Disks, database};
-use hd_turn_store::{HEAD, is_ended};
+use hd_turn_store::{HEADER_LENGTH, is_ended};
 
 /// What the mark in a journal's file says.
 #[derive(Clone, Copy)]
@@ -24,8 +24,8 @@ pub(crate) fn mark_of(disks: &Disks) -> Mark {
 }
 
 /// The header of a database file. None where the file is shorter.
-fn head_of(database: &[u8]) -> Option<[u8; HEAD]> {
-    let mut head = [0; HEAD];
-    head.copy_from_slice(database.get(..HEAD)?);
+fn head_of(database: &[u8]) -> Option<[u8; HEADER_LENGTH]> {
+    let mut head = [0; HEADER_LENGTH];
+    head.copy_from_slice(database.get(..HEADER_LENGTH)?);
     Some(head)
 }
