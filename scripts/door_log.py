@@ -215,17 +215,20 @@ def compare_broken(program, catalogue, folder):
 
 
 def compare_few_files(program, folder):
-    """Has servers run out of descriptors, and go on when there are some again. A connection takes two, and with one
-    left it is closed again: so it is by chance that a connection can't be accepted, which is told."""
+    """Has servers run out of descriptors, and go on when there are some again. A connection takes two. With one left it
+    is closed again, and with none it can't be accepted: which of these comes is by chance, and either is told."""
+    lines = (rb'event=cannot_accept times=1 why=".+"', rb"event=closed connection=\d+ .* why=no_descriptor messages=0 .*")
+    seen = set()
     for attempt in range(8):
         places = ("--terminals", "64")
         with Seen(program, CATALOGUE, folder, files=48 + attempt % 2, places=places) as server:
             with contextlib.ExitStack() as terminals:
                 for _ in range(30):
                     terminals.enter_context(connect(server.port))
-                is_told = server.has_told(rb'event=cannot_accept times=1 why=".+"', 2)
+                server.has_told(b"|".join(lines), 2)
+                seen |= {line for line in lines if server.has_told(line, 0)}
             ask_at_last(server.port)
             stop(server)
-            if is_told:
+            if len(seen) == len(lines):
                 return
-    raise Trouble("that there are no descriptors is told by no server that has few")
+    raise Trouble(f"of servers that have few descriptors is told {seen}, and not all of {lines}")

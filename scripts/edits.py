@@ -153,6 +153,15 @@ def edited(text, file, pairs):
     return text
 
 
+def untried(text, function):
+    """The file's text, of as many lines, where no tactic is tried at the function's goals."""
+    lines = text.split("\n")
+    if not any(lines[at].lstrip().startswith("#[tactic(") for at in function.told):
+        at = function.lines.start
+        lines[at] = re.sub(r"^( *)", r"\1#[tactic(none)] ", lines[at])
+    return "\n".join(lines)
+
+
 def constant_at(lines, at):
     """The name of the constant that the line is of, if it is of one."""
     begin = next((it for it in range(at, -1, -1) if not lines[it].startswith((" ", "]", "}", ")"))), at)

@@ -4,7 +4,7 @@ import os
 import shutil
 import subprocess
 
-from edits import bodies_of, edited, folder_of, module_of, read, sources_of, without_bodies, write
+from edits import bodies_of, edited, folder_of, module_of, read, sources_of, untried, without_bodies, write
 from prove import TOP, said_by_rt
 
 # the files of a function's proof, and the proof of a function that isn't looked at
@@ -67,6 +67,7 @@ class Bench:
         """Puts a copy of the function that the edit is of behind the others of its file, and one of its proof."""
         function, (path,) = edit.functions[0], edit.asks()
         text = edited(sources_of(self.crate)[function.file], function.file, edit.pairs)
+        text = untried(text, function) if edit.is_answered else text
         lines, told = function.copied(text, path.rpartition("::")[2])
         file, folders = os.path.join(self.room, function.file), (self.folders[function.path], folder_of(path))
         text = read(file)
@@ -105,8 +106,12 @@ class Bench:
             self.put_files(self.folders[path], self.proof_of(path, pruned, is_short))
         sound, pairs = sources_of(self.crate), [it for edit in edits for it in edit.pairs_in_place()]
         files = {*(it.file for it in self.functions if it.path in paths), *(file for file, _, _ in pairs)}
+        answered = [edit.functions[0] for edit in others if edit.is_answered]
         for file in files:
-            self.put_source(file, edited(sound[file], file, pairs), paths)
+            text = edited(sound[file], file, pairs)
+            for function in (it for it in answered if it.file == file):
+                text = untried(text, function)
+            self.put_source(file, text, paths)
         for edit in copies:
             self.put_copy(edit, is_short)
         said = self.rattle({it for edit in edits for it in edit.asks()})
