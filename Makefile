@@ -135,20 +135,18 @@ wrong:
 	@python3 scripts/wrong_bodies.py --self-test
 	@python3 scripts/wrong_bodies.py
 
-# The gate: the picture of the crates, and the page; a seat of one hall at another, which the types refuse; then all
-# proofs, the wrong bodies that rt ci tries, the tests and the stored runs; what is played at the program that was just
-# proved; beside the proofs and then alone the wrong bodies that a script tries, many in a check, over the libraries
-# that rt ci has proved and kept. Its last word is rt ci's once more: nothing is left to prove then, and the tests and
-# the stored runs are played again. What was proved before and hasn't changed isn't proved again, and what was refused
-# isn't tried again.
+# The gate: the picture of the crates, and the page; a seat of one hall at another, which the types refuse; the script
+# that tries wrong bodies at some that mustn't count as refused; then all proofs, the wrong bodies that rt ci tries, the
+# tests and the stored runs, and beside them the wrong bodies that the script tries; what is played at the program that
+# was just proved. Its last line is rt ci's once more. What was refused before as it stands isn't tried again.
+VERDICT = out/verdict
 test: ROUNDS = 20
 test: DAYS = 40
 test:
 	@python3 scripts/draw_house.py --check
 	@python3 scripts/make_page.py --check
 	@python3 scripts/foreign_seat_refused.py
-	@rt ci & proving=$$!; python3 scripts/wrong_beside.py $$proving; wait $$proving
-	@program=$(CURDIR)/$(PROGRAM) && $(PLAYED) && python3 scripts/carry_stops.py "$$program"
 	@python3 scripts/wrong_bodies.py --self-test
-	@python3 scripts/wrong_bodies.py
-	@rt ci
+	@python3 scripts/gate.py --verdict $(VERDICT)
+	@program=$(CURDIR)/$(PROGRAM) && $(PLAYED) && python3 scripts/carry_stops.py "$$program"
+	@cat $(VERDICT)

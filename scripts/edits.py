@@ -5,7 +5,7 @@ import functools
 import os
 import re
 
-from prove import TOP
+from kept import TOP
 
 HEAD = re.compile(r' *(?:pub(?:\([^)]*\))? )?(?:const )?(?:unsafe )?(?:extern "C" )?fn (\w+)')
 BLOCK = re.compile(r" *(?:pub(?:\([^)]*\))? )?(?:unsafe )?(?:impl|trait)\b")

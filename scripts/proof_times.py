@@ -18,8 +18,8 @@ import subprocess
 import sys
 import tempfile
 
-from prove import TOP, steps_of, uses_of_all, with_all_below
-from proved_libraries import libraries_in
+from kept import TOP
+from prove import libraries_in, steps_of, uses_of_all, with_all_below
 
 MODULE = re.compile(r"Rattle-\w+-(?:proofs|specs)\.(.*)\.(\w+)$")
 

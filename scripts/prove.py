@@ -4,30 +4,26 @@
     python3 scripts/prove.py [NAME]
 
 NAME is a program of crates.txt, holddesk where it isn't given. Each crate is proved from nothing by the kit's rattle
-build, which makes a library, or the program, only of what is proved. What is proved is kept in crates/NAME/out/proved,
-each beside a sum of all that it was made of, so that the next run proves what changed and the crates above it. The
+build, which makes a library, or the program, only of what is proved. What is proved is kept below ~/.cache/holddesk
+(kept.py), by a sum of all that it was made of, so that the next run proves what changed and the crates above it. The
 program is then crates/NAME/out/NAME. This isn't the gate: that is rt ci. Needs Python 3 and rt.
 """
 
 import argparse
-import hashlib
 import os
 import shutil
 import subprocess
 import sys
+import tempfile
 import time
 from concurrent.futures import FIRST_COMPLETED, ThreadPoolExecutor, wait
 from graphlib import TopologicalSorter
 from pathlib import Path
 
-TOP = Path(__file__).resolve().parent.parent
-PARTS = ("src", "specs", "proofs")  # what a crate's proof reads
+from kept import TOP, keep, lay_out, said_by_rt, sums_of
+
 CORES, MEMORY = len(os.sched_getaffinity(0)), os.sysconf("SC_PAGE_SIZE") * os.sysconf("SC_PHYS_PAGES") / 1e9
 GIGABYTES = 4  # what a crate's proof may take: hd_journal_file takes 4.0, most take 1 to 2
-
-
-def said_by_rt(word):
-    return subprocess.run(["rt", word], check=True, capture_output=True, text=True).stdout.strip()
 
 
 def uses_of_all():
@@ -46,17 +42,6 @@ def with_all_below(name, uses, found):
     return found
 
 
-def sums_of(names, uses):
-    """Of each crate, the lowest first, a sum over all that its proof reads: kit, files, and what is below it."""
-    kit, sums = said_by_rt("version"), {}
-    for name in names:
-        paths = [path for part in PARTS for path in (TOP / "crates" / name / part).rglob("*")]
-        files = [(str(path.relative_to(TOP)), path.read_bytes()) for path in sorted(paths) if path.is_file()]
-        read = [kit, name, [(use, sums.get(use)) for use in uses[name]], files]
-        sums[name] = hashlib.sha256(repr(read).encode()).hexdigest()
-    return sums
-
-
 def steps_of(name, uses, room, jobs):
     """The commands that prove the crate over the libraries in the folder, and build it there."""
     kit, is_program = os.path.dirname(said_by_rt("doc")), (TOP / "crates" / name / "src" / "main.rt").is_file()
@@ -72,28 +57,23 @@ def steps_of(name, uses, room, jobs):
             [*link, "-o", f"{room}/{name}", f"{room}/{name}.o", f"{kit}/c/libos_c.a", f"{kit}/c/liblibc_c.a"]]
 
 
-def build(name, uses, room, jobs, now):
-    """Proves and builds the crate, and keeps the sum of what it was made of. What was said, if it isn't proved."""
-    Path(room, f"{name}.sum").unlink(missing_ok=True)
+def build(name, uses, room, jobs, total):
+    """Proves and builds the crate, and keeps it by the sum of what it was made of. What was said, if it isn't proved."""
     for step in steps_of(name, uses, room, jobs):
         ran = subprocess.run(step, cwd=TOP / "crates" / name, stdin=subprocess.DEVNULL, stdout=subprocess.PIPE,
                              stderr=subprocess.STDOUT, text=True, errors="replace", check=False)
         if ran.returncode:
             return f"prove: {name} isn't proved:\n{ran.stdout}"
-    Path(room, f"{name}.sum").write_text(now, encoding="utf-8")
+    made = Path(room, name)
+    keep(made if made.is_file() else made.with_suffix(".rlib"), name, total)
     return None
 
 
-def is_kept(name, room, now):
-    """Whether what stands in the folder was made of just what there is."""
-    kept = Path(room, f"{name}.sum")
-    return kept.is_file() and kept.read_text(encoding="utf-8") == now
-
-
 def prove(names, uses, room):
-    """Proves the crates that aren't, and says after each which of how many it is. Whether all are proved."""
+    """Lays the crates into a folder, proves those that aren't kept, and says after each which of how many it is. Whether
+    all are proved."""
     begin, sums, running, proved = time.monotonic(), sums_of(names, uses), {}, 0
-    left = [name for name in names if not is_kept(name, room, sums[name])]
+    left = [name for name in names if not lay_out(room, name, sums[name])]
     print(f"prove: {len(names) - len(left)} of {len(names)} are proved and haven't changed", file=sys.stderr)
     order = TopologicalSorter({name: [use for use in uses[name] if use in left] for name in left})
     order.prepare()
@@ -115,18 +95,27 @@ def prove(names, uses, room):
     return True
 
 
+def libraries_in(room, names, uses):
+    """A folder with the libraries of those names, for scripts that check something over them."""
+    libraries = os.path.join(room, "libraries")
+    os.makedirs(libraries)
+    if not prove(names, uses, libraries):
+        sys.exit("prove: the libraries aren't proved")
+    return libraries
+
+
 def main():
     parser = argparse.ArgumentParser(description="Proves a program and the crates below it, and builds it.")
     parser.add_argument("name", nargs="?", default="holddesk", help="a program of crates.txt (holddesk)")
     name, uses = parser.parse_args().name, uses_of_all()
     if name not in uses:
         parser.error("no such crate in crates.txt")
-    out = TOP / "crates" / name / "out"
-    (out / "proved").mkdir(parents=True, exist_ok=True)
-    if not prove(with_all_below(name, uses, []), uses, out / "proved"):
-        sys.exit(1)
-    if (out / "proved" / name).is_file():
-        shutil.copy(out / "proved" / name, out / name)
+    with tempfile.TemporaryDirectory(prefix="prove-") as room:
+        if not prove(with_all_below(name, uses, []), uses, room):
+            sys.exit(1)
+        if Path(room, name).is_file():
+            (TOP / "crates" / name / "out").mkdir(exist_ok=True)
+            shutil.copy(Path(room, name), TOP / "crates" / name / "out")
 
 
 if __name__ == "__main__":

@@ -5,7 +5,7 @@ import shutil
 import subprocess
 
 from edits import bodies_of, edited, folder_of, module_of, read, sources_of, untried, without_bodies, write
-from prove import TOP, said_by_rt
+from kept import TOP, said_by_rt
 
 # the files of a function's proof, and the proof of a function that isn't looked at
 OF_A_PROOF = ("Answers.antt", "Invariants.antt", "Proof.antt")

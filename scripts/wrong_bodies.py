@@ -40,8 +40,8 @@ from concurrent.futures import ThreadPoolExecutor
 from answers import by_tactics, with_one_goal, without_answers
 from edits import Edit, edits_of, file_of, folder_of, has_hints, homes_in, put_into_copies, read, round_of, sources_of
 from edits import write
-from prove import CORES, GIGABYTES, MEMORY, TOP, said_by_rt, sums_of, uses_of_all, with_all_below
-from proved_libraries import libraries_in
+from kept import ROOM, TOP, said_by_rt, sums_of
+from prove import CORES, GIGABYTES, MEMORY, libraries_in, uses_of_all, with_all_below
 from workbench import OFFERED, Bench
 
 REFUSED, PROVED, NOT_TELLING, CANNOT = "refused", "PROVED", "NOT TELLING", "CAN'T BE PUT IN"
@@ -275,11 +275,10 @@ def name_goal(edit):
 
 def kept_at(edit, sums, kit):
     """Where it is kept that the edit was refused."""
-    base = os.environ.get("XDG_CACHE_HOME") or os.path.expanduser("~/.cache")
     files = ("wrong_bodies.py", "workbench.py", "edits.py", "answers.py")
     scripts = [read(os.path.join(TOP, "scripts", it)) for it in files]
     name = hashlib.sha256(repr([kit, scripts, sums[edit.crate], edit.pairs]).encode()).hexdigest()
-    return os.path.join(base, "holddesk", "wrong-bodies", name)
+    return os.path.join(ROOM, "wrong-bodies", name)
 
 
 def try_all(edits, uses, room):
@@ -330,6 +329,15 @@ def try_kept(edits, uses, room, is_anew):
     print(f"{len(edits) - len(known)} tried in {minutes:.1f} processor minutes; {len(known)} were refused before")
 
 
+def said_of_all(edits):
+    """Says which edits aren't refused, and how many are. Whether all are."""
+    others = [edit for edit in edits if edit.verdict != REFUSED]
+    for edit in others:
+        print(edit)
+    print(f"wrong bodies: {len(edits) - len(others)} refused, {len(others)} not", flush=True)
+    return not others
+
+
 def main():
     parser = argparse.ArgumentParser(description="Puts wrong bodies in, and sees that the prover refuses each.")
     parser.add_argument("--crate", help="try the wrong bodies of this crate alone")
@@ -353,12 +361,7 @@ def main():
     for edit in edits:
         if chosen.name_goals and edit.found and not edit.goal:
             name_goal(edit)
-    refused = sum(edit.verdict == REFUSED for edit in edits)
-    for edit in edits:
-        if edit.verdict != REFUSED:
-            print(edit)
-    print(f"wrong bodies: {refused} refused, {len(edits) - refused} not")
-    return 0 if refused == len(edits) else 1
+    return 0 if said_of_all(edits) else 1
 
 
 if __name__ == "__main__":

@@ -1,0 +1,189 @@
+#!/usr/bin/env python3
+"""Runs rt ci, tries the wrong bodies beside it, and says what each crate cost.
+
+    python3 scripts/gate.py [--figures FILE] [--verdict FILE]
+
+What rt ci says is passed on. Each library that it has proved is kept (kept.py), and once all below a crate are, its
+wrong bodies are tried: beside rt ci of two crates at a time and at the lowest priority, since rt ci leaves processors
+free where a crate waits for another, and behind it of as many as there are processors. Those that were refused before
+as they stand aren't tried again. The file of --figures (out/gate.json) has the processor seconds by crate, of which
+gate_table.py makes a table: those of rt ci's provers and compilers are read from /proc twice a second. That of --verdict
+(out/verdict) has rt ci's last line, which is also the last one here. Needs Linux, rt and Python 3.
+
+Status 0: rt ci ends with 0, and each wrong body is refused.
+"""
+
+import argparse
+import json
+import os
+import re
+import shutil
+import subprocess
+import sys
+import tempfile
+import threading
+import time
+from concurrent.futures import ThreadPoolExecutor
+from pathlib import Path
+
+from edits import edits_of, read
+from kept import TOP, keep, lay_out, said_by_rt, sums_of
+from prove import CORES, GIGABYTES, MEMORY, uses_of_all, with_all_below
+from workbench import Bench
+from wrong_bodies import REFUSED, kept_at, said_of_all, try_crate
+
+BESIDE = 2  # crates whose wrong bodies are tried beside rt ci: each takes up to 3 GB
+PAUSE = 0.5  # seconds between two looks at the processes
+TICKS = os.sysconf("SC_CLK_TCK")
+PROVED = re.compile(r"rt: (\w+) (?:proved|is kept)")
+EDITED = re.compile(r"/rt-edit-\w+$")  # where rt ci checks a crate with an edit
+
+
+class Costs(threading.Thread):
+    """The processor seconds of the prover's processes below one, by crate, its must-fail edits apart."""
+
+    def __init__(self, process):
+        super().__init__(daemon=True)
+        self.process, self.used = process, {}
+
+    def run(self):
+        while True:
+            self.look()
+            time.sleep(PAUSE)
+
+    def look(self):
+        parents, used = {}, {}
+        for entry in filter(str.isdigit, os.listdir("/proc")):
+            try:
+                stat = Path(f"/proc/{entry}/stat").read_text(errors="replace").rpartition(")")[2].split()
+            except OSError:
+                continue  # it has ended
+            parents[int(entry)], used[int(entry)] = int(stat[1]), sum(map(int, stat[11:15])) / TICKS
+        costs = {}
+        for at, seconds in used.items():
+            line = [at]
+            while parents.get(line[-1], 0) not in (0, self.process):
+                line.append(parents[line[-1]])
+            of = parents.get(line[-1]) and next(((it, *found) for it in reversed(line) if (found := crate_of(it))), None)
+            if of:
+                costs[of] = costs.get(of, 0) + seconds
+        self.used |= costs
+
+    def by_crate(self):
+        """Of each crate the seconds of its proof, with its tests' and its compilers', and of its must-fail edits."""
+        found = {}
+        for (_, crate, what), seconds in self.used.items():
+            found.setdefault(crate, {}).setdefault(what, 0)
+            found[crate][what] += seconds
+        return found
+
+
+def crate_of(process):
+    """Which crate a process of the prover's is about, and whether its proof or an edit; None of another process."""
+    try:
+        words = Path(f"/proc/{process}/cmdline").read_text(errors="replace").split("\0")
+        folder = os.readlink(f"/proc/{process}/cwd")
+    except OSError:
+        return None
+    if not words[0].endswith("/rattle") or "--crate-name" not in words:
+        return None
+    return words[words.index("--crate-name") + 1], "must-fail" if EDITED.search(folder) else "proof"
+
+
+class WrongBodies:
+    """The wrong bodies, of which each crate's are tried once the libraries below it are there."""
+
+    def __init__(self, uses, sums, room):
+        self.uses, self.sums, self.room, self.seconds = uses, sums, room, {}
+        self.free, self.libraries = threading.Semaphore(BESIDE), os.path.join(room, "libraries")
+        self.pool, self.trying = ThreadPoolExecutor(max(1, min(CORES, int(MEMORY / GIGABYTES)))), []
+        self.edits, self.left, kit = [], {}, said_by_rt("version")
+        os.makedirs(self.libraries)
+        for crate in uses:
+            edits = edits_of(crate)
+            for edit in edits:
+                edit.kept = kept_at(edit, sums, kit)
+                if os.path.isfile(edit.kept):
+                    edit.verdict, edit.said = REFUSED, read(edit.kept)
+            self.edits += edits
+            if any(not edit.verdict for edit in edits):
+                self.left[crate] = [edit for edit in edits if not edit.verdict]
+
+    def look(self):
+        """Begins to try those of the crates that nothing is missing for any more."""
+        for crate in list(self.left):
+            below = with_all_below(crate, self.uses, [])[:-1]
+            if all(lay_out(self.libraries, name, self.sums[name]) for name in below):
+                self.trying.append(self.pool.submit(self.try_one, crate, self.left.pop(crate)))
+
+    def try_one(self, crate, edits):
+        with self.free:
+            bench = Bench(crate, self.uses, self.libraries, os.path.join(self.room, crate))
+            try_crate(edits, bench)
+            shutil.rmtree(bench.room)
+            self.seconds[crate] = bench.seconds
+
+    def finish(self):
+        """Tries the others, by all processors."""
+        self.look()
+        for crate in self.left:
+            print(f"wrong bodies: {crate}'s can't be tried, since a library below it isn't proved")
+        self.free.release(CORES)
+        for one in self.trying:
+            one.result()
+        self.pool.shutdown()
+
+
+def passed_on(process, uses, sums, wrong):
+    """Passes on what rt ci says, keeps what it has proved, and has wrong bodies tried. Its last line."""
+    last = ""
+    for line in process.stdout:
+        print(line, end="", flush=True)
+        last, proved = line, PROVED.match(line)
+        if proved and proved[1] in uses:
+            made = TOP / "crates" / proved[1] / "out"
+            for path in (made / "rlib" / f"{proved[1]}.rlib", made / proved[1]):
+                if path.exists():
+                    keep(path, proved[1], sums[proved[1]])
+            wrong.look()
+    return last
+
+
+def figures_of(costs, wrong, whole):
+    """What each crate cost, and what rt ci took in all, in processor seconds."""
+    found = costs.by_crate()
+    for crate, seconds in wrong.seconds.items():
+        found.setdefault(crate, {})["wrong"] = seconds
+    for edit in wrong.edits:
+        found.setdefault(edit.crate, {}).setdefault("bodies", 0)
+        found[edit.crate]["bodies"] += 1
+    return {"crates": found, "rt ci": whole}
+
+
+def main():
+    parser = argparse.ArgumentParser(description="Runs rt ci, and tries the wrong bodies beside it.")
+    parser.add_argument("--figures", type=Path, default=TOP / "out" / "gate.json", metavar="FILE")
+    parser.add_argument("--verdict", type=Path, default=TOP / "out" / "verdict", metavar="FILE")
+    asked, uses = parser.parse_args(), uses_of_all()
+    sums = sums_of(uses, uses)
+    with tempfile.TemporaryDirectory(prefix="gate-") as room:
+        wrong = WrongBodies(uses, sums, room)
+        process = subprocess.Popen(["rt", "ci"], cwd=TOP, stdin=subprocess.DEVNULL, stdout=subprocess.PIPE,
+                                   stderr=subprocess.STDOUT, text=True, errors="replace")
+        os.nice(19)
+        costs = Costs(process.pid)
+        costs.start()
+        last = passed_on(process, uses, sums, wrong)
+        _, status, used = os.wait4(process.pid, 0)
+        wrong.finish()
+    for path in (asked.figures, asked.verdict):
+        path.parent.mkdir(parents=True, exist_ok=True)
+    asked.figures.write_text(json.dumps(figures_of(costs, wrong, used.ru_utime + used.ru_stime), indent=1))
+    asked.verdict.write_text(last)
+    is_refused = said_of_all(wrong.edits)
+    print(last, end="")
+    sys.exit(0 if is_refused and status == 0 else 1)
+
+
+if __name__ == "__main__":
+    main()
