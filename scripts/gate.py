@@ -3,10 +3,10 @@
 
     python3 scripts/gate.py [--figures FILE] [--verdict FILE]
 
-What rt ci says is passed on. Each library that it has proved is kept (kept.py), and once all below a crate are, its
-wrong bodies are tried: beside rt ci of two crates at a time and at the lowest priority, since rt ci leaves processors
-free where a crate waits for another, and behind it of as many as there are processors. Those that were refused before
-as they stand aren't tried again. The file of --figures (out/gate.json) has the processor seconds by crate, of which
+rt ci proves as many crates at once as there are processors, each by one job, and what it says is passed on. Each library
+that it has proved is kept (kept.py), and once all below a crate are, its wrong bodies are tried: beside rt ci at the
+lowest priority, since it leaves processors free where a crate waits for another, and as memory allows. Those that were
+refused before as they stand aren't tried again. The file of --figures (out/gate.json) has the processor seconds by crate, of which
 gate_table.py makes a table: those of rt ci's provers and compilers are read from /proc twice a second. That of --verdict
 (out/verdict) has rt ci's last line, which is also the last one here. Needs Linux, rt and Python 3.
 
@@ -32,7 +32,8 @@ from prove import CORES, GIGABYTES, MEMORY, uses_of_all, with_all_below
 from workbench import Bench
 from wrong_bodies import REFUSED, kept_at, said_of_all, try_crate
 
-BESIDE = 2  # crates whose wrong bodies are tried beside rt ci: each takes up to 3 GB
+BESIDE = max(1, CORES - 1)  # crates whose wrong bodies are tried beside rt ci
+GIGABYTES_BESIDE = 8  # of memory that has to be free where one is begun: up to 3 for it, and what rt ci may come to take
 PAUSE = 0.5  # seconds between two looks at the processes
 TICKS = os.sysconf("SC_CLK_TCK")
 PROVED = re.compile(r"rt: (\w+) (?:proved|is kept)")
@@ -90,11 +91,16 @@ def crate_of(process):
     return words[words.index("--crate-name") + 1], "must-fail" if EDITED.search(folder) else "proof"
 
 
+def free_gigabytes():
+    with open("/proc/meminfo", encoding="ascii") as lines:
+        return next(int(line.split()[1]) for line in lines if line.startswith("MemAvailable:")) / 1e6
+
+
 class WrongBodies:
     """The wrong bodies, of which each crate's are tried once the libraries below it are there."""
 
     def __init__(self, uses, sums, room):
-        self.uses, self.sums, self.room, self.seconds = uses, sums, room, {}
+        self.uses, self.sums, self.room, self.seconds, self.is_alone = uses, sums, room, {}, False
         self.free, self.libraries = threading.Semaphore(BESIDE), os.path.join(room, "libraries")
         self.pool, self.trying = ThreadPoolExecutor(max(1, min(CORES, int(MEMORY / GIGABYTES)))), []
         self.edits, self.left, kit = [], {}, said_by_rt("version")
@@ -118,6 +124,8 @@ class WrongBodies:
 
     def try_one(self, crate, edits):
         with self.free:
+            while not self.is_alone and free_gigabytes() < GIGABYTES_BESIDE:
+                time.sleep(PAUSE)
             bench = Bench(crate, self.uses, self.libraries, os.path.join(self.room, crate))
             try_crate(edits, bench)
             shutil.rmtree(bench.room)
@@ -125,6 +133,7 @@ class WrongBodies:
 
     def finish(self):
         """Tries the others, by all processors."""
+        self.is_alone = True
         self.look()
         for crate in self.left:
             print(f"wrong bodies: {crate}'s can't be tried, since a library below it isn't proved")
@@ -169,7 +178,9 @@ def main():
     with tempfile.TemporaryDirectory(prefix="gate-") as room:
         wrong = WrongBodies(uses, sums, room)
         process = subprocess.Popen(["rt", "ci"], cwd=TOP, stdin=subprocess.DEVNULL, stdout=subprocess.PIPE,
-                                   stderr=subprocess.STDOUT, text=True, errors="replace")
+                                   stderr=subprocess.STDOUT, text=True, errors="replace",
+                                   # with 2 jobs in place of 1 hd_stock takes 17 % more processor time
+                                   env={**os.environ, "RT_JOBS": str(CORES)})
         os.nice(19)
         costs = Costs(process.pid)
         costs.start()
