@@ -2,12 +2,13 @@
 //!
 //! Rows of messages and replies; reads and writes of a connection; sessions whose office is estranged; two
 //! seats of a hall, and two threads; connections over memory at a hall; what no stored row says of `replay`;
-//! each request for memory refused in turn; and terminals over TCP at servers. A heading stands over the rows
-//! of each.
+//! each request for memory refused in turn; terminals over TCP at servers; and a journal's file whose disks
+//! stop at each call. A heading stands over the rows of each.
 #![tactic(auto)]
 
 mod attending;
 mod comparing;
+mod crashes;
 mod halls;
 mod library;
 mod refusals;
@@ -33,9 +34,10 @@ enum Part {
     Replay,
     Refusals,
     Serving,
+    Crashes,
 }
 
-const PARTS: [(&str, Part); 8] = [
+const PARTS: [(&str, Part); 9] = [
     ("Rows of messages", Part::Rows),
     ("Reads, writes and requests for memory", Part::Streams),
     ("Sessions", Part::Sessions),
@@ -44,6 +46,7 @@ const PARTS: [(&str, Part); 8] = [
     ("Replay", Part::Replay),
     ("Requests for memory, each refused in turn", Part::Refusals),
     ("Serving", Part::Serving),
+    ("Stops of a journal's disks", Part::Crashes),
 ];
 
 fn main(rt: HostRuntime) -> io::Result<()> {
@@ -66,6 +69,7 @@ impl Part {
             Part::Replay => replaying::play(host),
             Part::Refusals => refusals::play(rt, host),
             Part::Serving => serving::play(rt, host),
+            Part::Crashes => crashes::play(host),
         }
     }
 }

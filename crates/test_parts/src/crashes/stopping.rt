@@ -6,12 +6,12 @@ ghost use Rattle.sqlite.specs.Held.{state};
 ghost use Rattle.hd_turn_store.specs.Holds.{Holds};
 ghost use Rattle.hd_turn_store.specs.Kept.{Head, KeptTurn};
 
-use crate::disks::{Disks, OnDisks, crash, empty, open, without_log};
+use crate::crashes::disks::{Disks, OnDisks, crash, empty, open, without_log};
+use crate::crashes::marks::{Mark, mark_of};
+use crate::crashes::row::Row;
+use crate::crashes::step::Step;
+use crate::crashes::whole::Whole;
 use crate::library::new_journal;
-use crate::marks::{Mark, mark_of};
-use crate::row::Row;
-use crate::step::Step;
-use crate::whole::Whole;
 use hd_durable::{DurableJournal, TurnTable};
 use hd_journal::{Ask, Journal, OwnedAsk, SeatNo};
 use hd_journal_file::{JournalFile, Wanted, open_over, restore_turns};
@@ -243,7 +243,7 @@ fn answered_over<S: Alter + Drop>(
 ) -> Option<(usize, Connection<S>)>
     requires { HasCleanDisk (state S.Store conn) → (head : Head) × Holds (state S.Store conn) head [] }
 {
-    let mut kept = keep(rt.alloc(), conn, new_journal(rt)?)?;
+    let mut kept = keep(rt.alloc(), conn, new_journal(rt, rt.alloc())?)?;
     let answered = take_all(rt.alloc(), &mut kept, steps);
     Some((answered, kept.into_table().into_connection()))
 }
@@ -350,7 +350,7 @@ fn restore_over<S: Alter + Drop>(
 
 /// The same of a database that stays open.
 fn restore_from<S: Alter>(rt: &HostRuntime, conn: &mut Connection<S>) -> Option<Journal> {
-    let mut journal = new_journal(rt)?;
+    let mut journal = new_journal(rt, rt.alloc())?;
     match take_again(rt.alloc(), conn, &mut journal) {
         Some(()) => Some(journal),
         None => None,

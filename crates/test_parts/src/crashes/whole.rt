@@ -1,7 +1,7 @@
 //! A row whose turns are all taken.
 
+use crate::crashes::step::Step;
 use crate::library::new_journal;
-use crate::step::Step;
 use hd_journal::{Ask, Journal, OwnedAsk, SeatNo, TurnRef};
 use hd_rules::{same_asked, same_turn_reply};
 use std::alloc::Global;
@@ -27,7 +27,7 @@ impl Whole {
     /// A row whose turns are all taken. None where one isn't.
     pub(crate) fn of(rt: &HostRuntime, steps: &[Step]) -> Option<Whole> {
         let mut whole = Whole {
-            journal: new_journal(rt)?,
+            journal: new_journal(rt, rt.alloc())?,
             changing: Vec::new(rt.alloc()),
         };
         match whole.take_all(rt.alloc(), steps) {

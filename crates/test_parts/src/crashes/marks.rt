@@ -1,6 +1,6 @@
 //! What the mark in a journal's file says.
 
-use crate::disks::{Disks, database};
+use crate::crashes::disks::{Disks, database};
 use hd_turn_store::{HEADER_LENGTH, is_ended};
 
 /// What the mark in a journal's file says.

@@ -1,6 +1,6 @@
 //! The rows.
 
-use crate::step::{Act, Step};
+use crate::crashes::step::{Act, Step};
 
 /// What a terminal asks, one thing after another.
 #[derive(Clone, Copy)]

@@ -1,5 +1,5 @@
 use Rattle.std.proofs.Common.{[]}
-use Rattle.test_crashes.proofs.stopping.play_begun.Goals as goal
+use Rattle.test_parts.proofs.crashes.stopping.play_begun.Goals as goal
 
 pub play_marked-requires : goal.play_marked-requires
 play_marked-requires g c clean =

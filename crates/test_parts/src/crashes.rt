@@ -1,5 +1,4 @@
-//! Stops a journal's file at each call of its disks, and says of each row whether all that was answered came
-//! back.
+//! A journal's file, stopped at each call of its disks: whether all that was answered comes back.
 //!
 //! A row's turns are taken by a journal that is kept in a file in memory. It is begun, opened for turns and
 //! ended, and then opened for turns and ended again. The disk of its log, or that of its database, stops
@@ -7,25 +6,23 @@
 //! the machine crashes and loses what wasn't synced; the file is opened again, and its turns are taken again.
 //! They have to be the first changing turns of the row, with all that were answered; where the file says that
 //! it was ended, also without its log. Once it was opened for turns it says that, or that it is open.
-#![tactic(auto)]
-
 mod disks;
-mod library;
 mod marks;
 mod row;
 mod step;
 mod stopping;
 mod whole;
 
-use crate::row::{Row, rows};
-use crate::stopping::{WhichDisk, calls, is_read_in_the_old_format};
+use crate::crashes::row::{Row, rows};
+use crate::crashes::stopping::{WhichDisk, calls, is_read_in_the_old_format};
 use std::io;
 
-fn main(rt: HostRuntime) -> io::Result<()> {
+/// Plays the rows.
+pub(crate) fn play(rt: &HostRuntime) -> io::Result<()> {
     for row in rows() {
-        print_calls(&rt, row, WhichDisk::Log)?;
-        print_calls(&rt, row, WhichDisk::Database)?;
-        print_old_format(&rt, row)?;
+        print_calls(rt, row, WhichDisk::Log)?;
+        print_calls(rt, row, WhichDisk::Database)?;
+        print_old_format(rt, row)?;
     }
     Ok(())
 }
