@@ -8,7 +8,7 @@ HOLE_OF_GOAL = "\npub {0} : goal.{0}\n{0} = ?\n"
 USES_OF_TACTICS = "use Rattle.std.proofs.Common as common\nuse Rattle.std.proofs.lemmas.Grind as grinding\n"
 TACTICS = """
 pub {0} : goal.{0}
-{0} {1} = first_of (search common.rules, grind (common.arith, grinding.common_steps) steps 2000000)
+{2}{0} {1} = first_of (search common.rules, grind (common.arith, grinding.common_steps) steps 2000000{3})
 """
 
 
@@ -26,9 +26,16 @@ def with_one_goal(text, goal, others, goals, is_answered):
     return head + left + "".join(HOLE_OF_GOAL.format(name) for name in sorted(open_ones - needed - {goal})), bool(needed)
 
 
-def by_tactics(text, goal, function):
-    """The answers, and behind them the tactics as that of the goal, over all that the function is generic in."""
-    return USES_OF_TACTICS + text + TACTICS.format(goal, "g c" if function.is_generic else "c")
+def by_tactics(text, goal, function, lemmas, definitions):
+    """The answers, and behind them the tactics as that of the goal, over all that the function is generic in: with these
+    lemmas, each by itself, and over these definitions, each a module and a name in it."""
+    modules = list(dict.fromkeys(module for module, _ in [*lemmas, *definitions]))
+    uses = "".join(f"use {module} as hint{at}\n" for at, module in enumerate(modules))
+    told = [f"hint{modules.index(module)}.{name}" for module, name in definitions]
+    grinds = "".join(f", grind (common.arith, hint{modules.index(module)}.{name})" for module, name in lemmas)
+    unfolded = f"unfolding {' '.join(told)}\n" if told else ""
+    tactics = TACTICS.format(goal, "g c" if function.is_generic else "c", unfolded, grinds)
+    return USES_OF_TACTICS + uses + text + tactics
 
 
 def defined_in(line):

@@ -13,6 +13,7 @@ TRAIT = re.compile(r" *(?:pub(?:\([^)]*\))? )?(?:unsafe )?trait (\w+)")
 GENERICS = re.compile(r"<(?:[^<>]|<(?:[^<>]|<[^<>]*>)*>)*>")
 SIGNS = {"&": "Ref", "&mut": "RefMut", "[": "Slice", "()": "Unit"}  # how types are told in a path
 CONSTANT = re.compile(r" *(?:pub(?:\([^)]*\))? )?const (\w+): ")
+TACTIC = re.compile(r"( *)#\[tactic\(.*\)\]$")  # an attribute that says which tactics are tried
 NO_BODY = "unreachable!()"  # what fits in the place of any body
 COPY = "_copy{}"  # what a copy of a function is called behind the function's name
 
@@ -155,8 +156,10 @@ def edited(text, file, pairs):
 
 def untried(text, function):
     """The file's text, of as many lines, where no tactic is tried at the function's goals."""
-    lines = text.split("\n")
-    if not any(lines[at].lstrip().startswith("#[tactic(") for at in function.told):
+    lines, own = text.split("\n"), [at for at in function.told if TACTIC.match(text.split("\n")[at])]
+    for at in own:
+        lines[at] = TACTIC.sub(r"\1#[tactic(none)]", lines[at])
+    if not own:
         at = function.lines.start
         lines[at] = re.sub(r"^( *)", r"\1#[tactic(none)] ", lines[at])
     return "\n".join(lines)
@@ -323,10 +326,19 @@ def put_into_copies(edits, others):
         count[path] += 1
 
 
-def has_hints(function, crate):
-    """Whether the function, or a module that it stands in, has lemmas or definitions for the prover's tactics."""
+def hints_of(function, crate):
+    """The lemmas and the definitions that the function, or else the innermost module in which it stands and that has
+    some, has for the prover's tactics, by their names in proofs: each the name's module, and the name in it."""
     sources, parts = sources_of(crate), function.file.removesuffix(".rt").split("/")
-    above = ["src/lib.rt", "src/main.rt", *("/".join(parts[:end]) + ".rt" for end in range(2, len(parts) + 1))]
-    own = [sources[function.file].split("\n")[at].strip() for at in function.told]
-    lines = [*own, *(line for file in above for line in sources.get(file, "").split("\n") if line.startswith("#!"))]
-    return any(re.match(r"#!?\[tactic\(auto, ", line) for line in lines)
+    files = [*("/".join(parts[:end]) + ".rt" for end in range(len(parts), 1, -1)), "src/lib.rt", "src/main.rt"]
+    heads = [sources[function.file].split("\n")[at] for at in function.told]
+    heads += [line for file in files for line in sources.get(file, "").split("\n") if line.startswith("#![tactic(auto")]
+    head = next((line for line in heads if re.match(r" *#!?\[tactic\(auto", line)), "")
+    found = {kind: re.findall(rf"\b{kind}\(([^)]*)\)", head) for kind in ("using", "unfolding")}
+    return [[named(path.strip(), crate) for path in ",".join(paths).split(",") if path] for paths in found.values()]
+
+
+def named(path, crate):
+    """The module of a path's name in proofs, and the name in it."""
+    first, *rest, name = path.split("::")
+    return ".".join(["Rattle", crate if first == "crate" else first, *rest]), name

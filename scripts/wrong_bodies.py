@@ -1,7 +1,7 @@
 #!/usr/bin/env python3
 """Puts wrong bodies into copies of the crates, many at a time, and sees that the prover refuses each.
 
-    python3 scripts/wrong_bodies.py [--crate NAME] [--list] [--anew] [--name-goals] [--self-test]
+    python3 scripts/wrong_bodies.py [--crate NAME] [--list] [--anew] [--name-goals] [--sound] [--self-test]
 
 A wrong body is a file crates/NAME/wrong/*.edit, of the form that rt ci reads in must-fail/: a line 'file: src/x.rt',
 then pairs of lines 'old: TEXT' and 'new: TEXT'; each old text stands in that file once. A line 'goal: NAME' names the
@@ -14,7 +14,7 @@ copy of its proof each: what isn't refused there is tried again in place. An edi
     refused            a goal of an edited function isn't proved: one of what it promises, of what it owes to a function
                        that it calls, or of an invariant. Arithmetic, a cast or an index alone doesn't count. The goal
                        that the edit names is tried alone: its own proof in the function's proof files no longer fits,
-                       or, where it has none, the two tactics that the prover begins with find none. Where the proof
+                       or, where it has none, the tactics that the prover begins with find none. Where the proof
                        doesn't fit for a name alone, or the goal has another form, the prover tries it by all means.
                        Where the goal is proved, or none is named, all goals are tried, without answers that don't fit;
                        a goal whose answer didn't fit for a name alone doesn't count. Where it isn't the goal that the
@@ -23,12 +23,14 @@ copy of its proof each: what isn't refused there is tried again in place. An edi
     NOT TELLING        it is refused, also alone, but at no such goal: for a name that is gone, say
     CAN'T BE PUT IN    the old text doesn't stand there once, or the edited crate doesn't compile
 
-What was refused is kept in ~/.cache/holddesk (or below XDG_CACHE_HOME) by a sum of all that it rests on, so that
-another run, also in another clone, tries only what changed; --anew tries all. Needs Python 3 and rt. The last line is
-'wrong bodies: N refused, M not'. Status 0: M is 0.
+A goal that the tactics don't prove in the sound function either would tell nothing: --sound tries no edit, and says
+which goals that edits name are so. What was refused is kept in ~/.cache/holddesk (or below XDG_CACHE_HOME) by a sum of
+all that it rests on, so that another run, also in another clone, tries only what changed; --anew tries all. Needs
+Python 3 and rt. The last line is 'wrong bodies: N refused, M not'. Status 0: M is 0.
 """
 
 import argparse
+import copy
 import hashlib
 import os
 import re
@@ -38,7 +40,7 @@ import tempfile
 from concurrent.futures import ThreadPoolExecutor
 
 from answers import by_tactics, with_one_goal, without_answers
-from edits import Edit, edits_of, file_of, folder_of, has_hints, homes_in, put_into_copies, read, round_of, sources_of
+from edits import Edit, edits_of, file_of, folder_of, hints_of, homes_in, put_into_copies, read, round_of, sources_of
 from edits import write
 from kept import ROOM, TOP, said_by_rt, sums_of
 from prove import CORES, GIGABYTES, MEMORY, libraries_in, uses_of_all, with_all_below
@@ -195,9 +197,9 @@ def guide(edit, bench, is_first=True):
         text = read(files[0]) if os.path.isfile(files[0]) else ""
         goals = f"Rattle.{bench.crate}.{folder.replace('/', '.')}.Goals"
         left, edit.has_own = with_one_goal(text, edit.goal, edit.others, goals, is_first)
-        edit.is_answered = edit.has_own or is_first and not has_hints(function, bench.crate)
+        edit.is_answered = edit.has_own or is_first
         if edit.is_answered and not edit.has_own:
-            left = by_tactics(left, edit.goal, function)
+            left = by_tactics(left, edit.goal, function, *hints_of(function, bench.crate))
         edit.is_guided, edit.pruned[f"{folder}/Answers.antt"] = True, left
 
 
@@ -265,6 +267,40 @@ def try_together(edits, bench):
             settle(edit, NOT_TELLING, edit.said)
 
 
+def goals_as_they_are(edits, bench):
+    """Of the edits whose goal is tried by tactics one for each goal of a function, without what it changes."""
+    found = {}
+    for edit in edits:
+        guide(edit, bench)
+        if edit.is_answered and not edit.has_own:
+            sound = found.setdefault((edit.functions[0].path, edit.goal), copy.copy(edit))
+            sound.pairs, sound.beside, sound.name = [], {}, f"{edit.functions[0].path}, `{edit.goal}`"
+    return list(found.values())
+
+
+def try_as_they_are(edits, bench):
+    """Tries the goals that the edits of a crate name, and that tactics are tried at, in the functions as they are. What
+    isn't proved so, and how many there are."""
+    goals = goals_as_they_are([edit for edit in edits if not edit.misfit], bench)
+    put_into_copies(goals, [])
+    left, lost = goals, []
+    while left:
+        some = round_of(left)
+        left, said = [edit for edit in left if edit not in some], bench.check(some)
+        told = [edit for edit in some if f"fn {bench.crate}::{edit.asks()[0]}: " in said and not misfit_of(edit, said)]
+        lost += [edit for edit in some if edit not in told]
+    return [f"{bench.crate}: {edit.name}" for edit in lost], len(goals)
+
+
+def are_sound(edits, uses, room):
+    """Says which goals that the edits name aren't proved in the functions as they are. Whether all are."""
+    lost, count = [], 0
+    for found, number in over_crates(edits, uses, room, try_as_they_are).values():
+        lost, count = lost + found, count + number
+    print("\n".join([*lost, f"wrong bodies: {count - len(lost)} goals are proved in the sound functions, {len(lost)} not"]))
+    return not lost
+
+
 def name_goal(edit):
     """Writes into the edit's file at which goal it was refused, and what wasn't proved besides."""
     lines = [line for line in read(file_of(edit)).rstrip("\n").split("\n") if not line.startswith(("goal: ", "also: "))]
@@ -281,20 +317,29 @@ def kept_at(edit, sums, kit):
     return os.path.join(ROOM, "wrong-bodies", name)
 
 
-def try_all(edits, uses, room):
-    """Tries the edits, several crates side by side, those with most edits first. Each crate's processor seconds."""
+def over_crates(edits, uses, room, try_one):
+    """What comes of a crate's edits, over a bench of the crate: several crates side by side, those with most first."""
     crates = sorted({edit.crate for edit in edits}, key=lambda name: -sum(edit.crate == name for edit in edits))
     below = with_those_below([use for crate in crates for use in uses[crate] if use in uses], uses)
     libraries = libraries_in(room, below, uses)
 
-    def try_one(crate):
+    def try_over(crate):
         bench = Bench(crate, uses, libraries, os.path.join(room, crate))
-        try_crate([edit for edit in edits if edit.crate == crate], bench)
+        came = try_one([edit for edit in edits if edit.crate == crate], bench)
         shutil.rmtree(bench.room)
-        return bench.seconds
+        return came
 
     with ThreadPoolExecutor(max(1, min(CORES, int(MEMORY / GIGABYTES)))) as pool:
-        return dict(zip(crates, pool.map(try_one, crates)))
+        return dict(zip(crates, pool.map(try_over, crates)))
+
+
+def try_all(edits, uses, room):
+    """Tries the edits. Each crate's processor seconds."""
+    def seconds_of(some, bench):
+        try_crate(some, bench)
+        return bench.seconds
+
+    return over_crates(edits, uses, room, seconds_of)
 
 
 def with_those_below(crates, uses):
@@ -344,6 +389,7 @@ def main():
     parser.add_argument("--list", action="store_true", help="name the wrong bodies, and the functions that they change")
     parser.add_argument("--anew", action="store_true", help="try also those that were refused before")
     parser.add_argument("--name-goals", action="store_true", help="write into edits that name no goal what refuses them")
+    parser.add_argument("--sound", action="store_true", help="see that the goals that edits name are proved without them")
     parser.add_argument("--self-test", action="store_true", help="see that edits that mustn't count as refused don't")
     chosen, uses = parser.parse_args(), uses_of_all()
     if chosen.crate and chosen.crate not in uses:
@@ -354,6 +400,8 @@ def main():
             print("wrong bodies: the script tells them apart" if is_well else "wrong bodies: the script is wrong")
             return 0 if is_well else 1
         edits = [edit for crate in uses if chosen.crate in (None, crate) for edit in edits_of(crate)]
+        if chosen.sound:
+            return 0 if are_sound(edits, uses, room) else 1
         if chosen.list:
             print("\n".join(f"{edit.crate}/{edit.name}: {' '.join(edit.asks())}" for edit in edits))
             return 0
