@@ -1,7 +1,7 @@
 #!/usr/bin/env python3
 """Puts wrong bodies into copies of the crates, many at a time, and sees that the prover refuses each.
 
-    python3 scripts/wrong_bodies.py [--crate NAME] [--list] [--anew] [--name-goals] [--sound] [--self-test]
+    python3 scripts/wrong_bodies.py [--crate NAME] [--list] [--anew] [--name-goals] [--self-test]
 
 A wrong body is a file crates/NAME/wrong/*.edit, of the form that rt ci reads in must-fail/: a line 'file: src/x.rt',
 then pairs of lines 'old: TEXT' and 'new: TEXT'; each old text stands in that file once. A line 'goal: NAME' names the
@@ -23,14 +23,13 @@ copy of its proof each: what isn't refused there is tried again in place. An edi
     NOT TELLING        it is refused, also alone, but at no such goal: for a name that is gone, say
     CAN'T BE PUT IN    the old text doesn't stand there once, or the edited crate doesn't compile
 
-A goal that the tactics don't prove in the sound function either would tell nothing: --sound tries no edit, and says
-which goals that edits name are so. What was refused is kept in ~/.cache/holddesk (or below XDG_CACHE_HOME) by a sum of
-all that it rests on, so that another run, also in another clone, tries only what changed; --anew tries all. Needs
-Python 3 and rt. The last line is 'wrong bodies: N refused, M not'. Status 0: M is 0.
+A goal that the tactics don't prove in the sound function either would tell nothing: sound_goals.py says which are so.
+What was refused is kept in ~/.cache/holddesk (or below XDG_CACHE_HOME) by a sum of all that it rests on, so that another
+run, also in another clone, tries only what changed; --anew tries all. Needs Python 3 and rt. The last line is 'wrong
+bodies: N refused, M not'. Status 0: M is 0.
 """
 
 import argparse
-import copy
 import hashlib
 import os
 import re
@@ -267,40 +266,6 @@ def try_together(edits, bench):
             settle(edit, NOT_TELLING, edit.said)
 
 
-def goals_as_they_are(edits, bench):
-    """Of the edits whose goal is tried by tactics one for each goal of a function, without what it changes."""
-    found = {}
-    for edit in edits:
-        guide(edit, bench)
-        if edit.is_answered and not edit.has_own:
-            sound = found.setdefault((edit.functions[0].path, edit.goal), copy.copy(edit))
-            sound.pairs, sound.beside, sound.name = [], {}, f"{edit.functions[0].path}, `{edit.goal}`"
-    return list(found.values())
-
-
-def try_as_they_are(edits, bench):
-    """Tries the goals that the edits of a crate name, and that tactics are tried at, in the functions as they are. What
-    isn't proved so, and how many there are."""
-    goals = goals_as_they_are([edit for edit in edits if not edit.misfit], bench)
-    put_into_copies(goals, [])
-    left, lost = goals, []
-    while left:
-        some = round_of(left)
-        left, said = [edit for edit in left if edit not in some], bench.check(some)
-        told = [edit for edit in some if f"fn {bench.crate}::{edit.asks()[0]}: " in said and not misfit_of(edit, said)]
-        lost += [edit for edit in some if edit not in told]
-    return [f"{bench.crate}: {edit.name}" for edit in lost], len(goals)
-
-
-def are_sound(edits, uses, room):
-    """Says which goals that the edits name aren't proved in the functions as they are. Whether all are."""
-    lost, count = [], 0
-    for found, number in over_crates(edits, uses, room, try_as_they_are).values():
-        lost, count = lost + found, count + number
-    print("\n".join([*lost, f"wrong bodies: {count - len(lost)} goals are proved in the sound functions, {len(lost)} not"]))
-    return not lost
-
-
 def name_goal(edit):
     """Writes into the edit's file at which goal it was refused, and what wasn't proved besides."""
     lines = [line for line in read(file_of(edit)).rstrip("\n").split("\n") if not line.startswith(("goal: ", "also: "))]
@@ -389,7 +354,6 @@ def main():
     parser.add_argument("--list", action="store_true", help="name the wrong bodies, and the functions that they change")
     parser.add_argument("--anew", action="store_true", help="try also those that were refused before")
     parser.add_argument("--name-goals", action="store_true", help="write into edits that name no goal what refuses them")
-    parser.add_argument("--sound", action="store_true", help="see that the goals that edits name are proved without them")
     parser.add_argument("--self-test", action="store_true", help="see that edits that mustn't count as refused don't")
     chosen, uses = parser.parse_args(), uses_of_all()
     if chosen.crate and chosen.crate not in uses:
@@ -400,8 +364,6 @@ def main():
             print("wrong bodies: the script tells them apart" if is_well else "wrong bodies: the script is wrong")
             return 0 if is_well else 1
         edits = [edit for crate in uses if chosen.crate in (None, crate) for edit in edits_of(crate)]
-        if chosen.sound:
-            return 0 if are_sound(edits, uses, room) else 1
         if chosen.list:
             print("\n".join(f"{edit.crate}/{edit.name}: {' '.join(edit.asks())}" for edit in edits))
             return 0
