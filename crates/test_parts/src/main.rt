@@ -1,9 +1,10 @@
 //! Plays the parts of the house each by itself, and says of each row whether it went as it is to.
 //!
-//! Rows of messages and replies; reads and writes of a connection; sessions whose office is estranged; two
-//! seats of a hall, and two threads; connections over memory at a hall; what no stored row says of `replay`;
-//! each request for memory refused in turn; and terminals over TCP at servers. A heading stands over the rows
-//! of each.
+//! Here is what a program can't be seen to do from outside: reads and writes of a connection that fail;
+//! sessions whose office is estranged; two seats of a hall, and two threads; connections over memory at a
+//! hall; what no stored row says of `replay`; requests for memory that are refused; and terminals over TCP at
+//! servers with a gate, a keeper or a port of their own. A heading stands over the rows of each. What can be
+//! seen from outside scripts play.
 #![tactic(auto)]
 
 mod attending;
@@ -12,7 +13,6 @@ mod halls;
 mod library;
 mod refusals;
 mod replaying;
-mod rows;
 mod serving;
 mod sessions;
 mod streams;
@@ -25,7 +25,6 @@ use std::time::Clock;
 /// A part of the house, with a heading over its rows.
 #[derive(Clone, Copy)]
 enum Part {
-    Rows,
     Streams,
     Sessions,
     Hall,
@@ -35,14 +34,13 @@ enum Part {
     Serving,
 }
 
-const PARTS: [(&str, Part); 8] = [
-    ("Rows of messages", Part::Rows),
+const PARTS: [(&str, Part); 7] = [
     ("Reads, writes and requests for memory", Part::Streams),
     ("Sessions", Part::Sessions),
     ("A hall", Part::Hall),
     ("Connections at a hall", Part::Connections),
     ("Replay", Part::Replay),
-    ("Requests for memory, each refused in turn", Part::Refusals),
+    ("Requests for memory that are refused", Part::Refusals),
     ("Serving", Part::Serving),
 ];
 
@@ -58,7 +56,6 @@ impl Part {
     /// Plays its rows, by handles that wait, start threads and have a clock, and that print.
     fn play<R: Threads + Wait + Clock + Sync>(self, rt: &R, host: &HostRuntime) -> io::Result<()> {
         match self {
-            Part::Rows => rows::play(host),
             Part::Streams => streams::play(host),
             Part::Sessions => sessions::play(host),
             Part::Hall => halls::play(rt, host),

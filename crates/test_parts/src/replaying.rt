@@ -1,15 +1,17 @@
 //! What no stored row says of `replay`: long lines, long inputs, a library without terminals, and faults of
-//! the reader and the writer.
+//! the reader and the writer. Besides, a patron message by each way into `replay`.
 ghost use Rattle.std.specs.Prelude.{◌≢◌, IfErr};
 ghost use Rattle.hd_replay.specs.declared.fault.ReplayFault.TheVariants as fault;
 
 mod calls;
 mod examples;
+mod extended;
 mod long;
 mod watching;
 
 use crate::replaying::calls::{is_each_interruption_borne, is_each_read_told, is_each_write_told};
 use crate::replaying::examples::{are_lines_without_a_session_told, examples, is_answered};
+use crate::replaying::extended::{is_extended, is_not_known};
 use crate::replaying::long::{has_an_input_a_longest_length, is_a_long_line_ended};
 use crate::replaying::watching::are_replies_written_in_time;
 use hd_connection::{Input, Output};
@@ -29,7 +31,7 @@ pub(crate) fn play(rt: &HostRuntime) -> io::Result<()> {
 }
 
 /// What else is played, and whether it goes as it is to.
-fn played(rt: &HostRuntime) -> [(&'static str, bool); 7] {
+fn played(rt: &HostRuntime) -> [(&'static str, bool); 9] {
     [
         (
             "a long line ends its session",
@@ -53,6 +55,8 @@ fn played(rt: &HostRuntime) -> [(&'static str, bool); 7] {
             "replies are written before the next read",
             are_replies_written_in_time(rt),
         ),
+        ("no extensions by the service", is_not_known(rt)),
+        ("extensions over a journal", is_extended(rt) == Some(true)),
     ]
 }
 
