@@ -1,7 +1,7 @@
 #!/usr/bin/env python3
 """Plays the stored rows of messages and replies, and compares each reply byte for byte.
 
-    python3 scripts/rows.py [PROGRAM]
+    python3 scripts/rows.py [--long] [PROGRAM]
 
 PROGRAM is crates/holddesk/out/holddesk where it isn't given. A row is a script rows/NAME.row: `catalogue FILE`, `now
 DATE` and `options WORDS` say what holddesk replay is given. `> LINE` is a line of its input; the lines that answer it
@@ -11,11 +11,11 @@ says on standard error, and its status is 1. How many gaps a session has counted
 that is for readers, and isn't compared here.
 
 Played are the files of rows/catalogues, each read, or refused for the cause that stands under it; each row by replay;
-and lists of a patron, cut behind a name of each length where the reply to a 63 would be longer than it may be. Through
-connections of holddesk serve, which has no --now, go the rows that end well and that replay answers alike at another
-present, the clock's: those of which no stored reply tells the present. Their lines end with CR, and with CR LF, and
-come whole, and a byte a piece; of two rows each line comes cut in two at each byte. Needs nothing but Python 3.
-Status 0: all is as it is stored.
+inputs that stop it, by a line of no session or, with --long, by their 16 MiB; and lists of a patron, cut behind a name
+of each length where the reply to a 63 would be longer than it may be. Through connections of holddesk serve, which has
+no --now, go the rows that end well and that replay answers alike at another present, the clock's: those of which no
+stored reply tells the present. Their lines end with CR, and with CR LF, and come whole, and a byte a piece; of two rows
+each line comes cut in two at each byte. Needs nothing but Python 3. Status 0: all is as it is stored.
 """
 
 import concurrent.futures
@@ -29,7 +29,7 @@ import subprocess
 import tempfile
 import time
 
-from server import SECONDS, TOP, Server, Trouble, connect, parser_of, reported
+from server import CATALOGUE, SECONDS, TOP, Server, Trouble, connect, parser_of, reported
 
 ROWS = os.path.join(TOP, "rows")
 NOW = "20260301    120000"
@@ -39,6 +39,10 @@ CUT_IN_TWO = ("hold-and-cancellation", "repeats-and-gaps")
 PATIENCE = 20  # seconds until a reply counts as missing
 PAUSE = 0.001  # seconds between the two pieces of a line, so that the server reads the first alone
 OFFSET = datetime.timezone(datetime.timedelta(minutes=60))  # of the catalogues of all rows that end well
+
+# Inputs that stop replay: a line of no session between two others, and one line without an end.
+NO_SESSION = (b"", b"0 97", b"01 97", b"65 97", b"100 97", b"97", b"1", b"1\t97", b"a 97")
+LONGEST_INPUT = 16_777_216
 
 # What a file of the table of catalogues begins with where a line of it is `*`.
 BEGINNING = b"H|1|lib|60|100\nB|north\nT|ta|21|1\nC|a1|ta|north\n"
@@ -138,6 +142,22 @@ def replay(program, row, now=None):
     compare_output(row, output)
 
 
+def inputs(is_long):
+    """The inputs that stop replay, each with what is printed, and said on standard error."""
+    found = [(b"1 97\n" + line + b"\n1 97\n", b"1 96\n", b"input line 2: no session\n") for line in NO_SESSION]
+    if is_long:
+        found += [(b"x" * LONGEST_INPUT, b"", b"input line 1: no session\n"),
+                  (b"x" * (LONGEST_INPUT + 1), b"", b"input too long\n")]
+    return found
+
+
+def stop(program, text, output, said):
+    """Gives replay an input that stops it, and compares."""
+    wanted, found = (1, output, said), replayed(program, CATALOGUE, NOW, [], text)
+    if found != wanted:
+        raise Trouble(f"it ends and says {found!r}, wanted {wanted!r}")
+
+
 def files():
     """The files of the table of catalogues, each with what is told of it."""
     with open(os.path.join(ROWS, "catalogues"), "rb") as table:
@@ -234,7 +254,10 @@ def heard(connection, session, replies):
         piece = received(connection)
         said, has_ended = said + piece, not piece
     *lines, rest = said.split(b"\r")
-    lines += [b"without its end: " + rest] * bool(rest) + [b"ENDED"] * has_ended
+    if rest:
+        lines.append(b"without its end: " + rest)
+    if has_ended:
+        lines.append(b"ENDED")
     return [session + b" " + line for line in lines], has_ended
 
 
@@ -249,7 +272,8 @@ def hear(row, connections, end, cut, pause):
         send(connections[session], cut(message + end), pause)
         lines, has_ended = heard(connections[session], session, replies)
         printed += lines
-        ended |= {session} if has_ended else set()
+        if has_ended:
+            ended.add(session)
     for session in connections.keys() - ended:
         connections[session].shutdown(socket.SHUT_WR)
         if said := connections[session].recv(4_096):
@@ -285,23 +309,25 @@ def troubles_of(play, program, cases):
         return list(threads.map(lambda case: trouble_of(case[0], play, program, *case[1:]), cases))
 
 
+def told(count, what, failed):
+    """How many were played, of what, and which failed."""
+    return f"{count} {what}", [f"{len(failed)} of {count} {what} failed:", *failed] if failed else []
+
+
 def played(what, play, program, cases):
     """Plays cases. How many there are, of what, and which failed."""
-    failed = [trouble for trouble in troubles_of(play, program, cases) if trouble]
-    return f"{len(cases)} {what}", [f"{len(failed)} of {len(cases)} {what} failed:", *failed] if failed else []
+    return told(len(cases), what, [trouble for trouble in troubles_of(play, program, cases) if trouble])
 
 
 def at_another_present(program, rows):
-    """Of the rows that end well those that replay answers alike at another present, which are those that don't tell
-    it."""
+    """Of these rows those that replay answers alike at another present. How many rows that are, and which of them are
+    answered alike though a stored reply tells the present, or otherwise though none does."""
     now = datetime.datetime.now(OFFSET).strftime("%Y%m%d    %H%M%S")
-    chosen = [row for row in rows if row.ends_well()]
-    troubles = troubles_of(replay, program, [(row.name, row, now) for row in chosen])
-    for row, trouble in zip(chosen, troubles):
-        if bool(trouble) != row.tells_the_present():
-            raise Trouble(f"the present is told in {row.name}, and at {now!r} nothing differs" if not trouble else
-                          f"at {now!r} another reply differs than one that tells the present: {trouble}")
-    return [row for row, trouble in zip(chosen, troubles) if not trouble]
+    troubles = troubles_of(replay, program, [(row.name, row, now) for row in rows])
+    failed = [trouble or f"{row.name}: nothing differs" for row, trouble in zip(rows, troubles)
+              if bool(trouble) != row.tells_the_present()]
+    alike = [row for row, trouble in zip(rows, troubles) if not trouble]
+    return alike, told(len(rows), "of them at another present", failed)
 
 
 def cuts_of(row):
@@ -319,13 +345,15 @@ def played_lists(program):
         return played("lists", cut_list, program, cases)
 
 
-def play_all(program):
+def play_all(program, is_long):
     """Plays everything. What was played."""
     paths = sorted(glob.glob(os.path.join(ROWS, "*.row")))
     rows = [Row(os.path.basename(path).removesuffix(".row")) for path in paths]
+    through, at_another = at_another_present(program, [row for row in rows if row.ends_well()])
     groups = [played("catalogue files", read_file, program, [(repr(it[0][-60:]), *it) for it in files()]),
-              played("rows by replay", replay, program, [(row.name, row) for row in rows]), played_lists(program)]
-    through = at_another_present(program, rows)
+              played("rows by replay", replay, program, [(row.name, row) for row in rows]), at_another,
+              played("inputs that stop it", stop, program, [(f"{len(it[0])} bytes", *it) for it in inputs(is_long)]),
+              played_lists(program)]
     for way, given in WAYS.items():
         cases = [(row.name, row, *given) for row in through]
         groups.append(played(f"rows through connections ({way})", serve, program, cases))
@@ -334,11 +362,15 @@ def play_all(program):
     failed = [line for _, lines in groups for line in lines]
     if failed:
         raise Trouble("\n".join(failed))
-    return ", ".join(count for count, _ in groups)
+    return ", ".join(count for count, _ in groups) + ("" if is_long else "; no input of 16 MiB (--long)")
 
 
 def main():
-    print(f"rows: {reported('rows', play_all, parser_of(__doc__).parse_args().program)}")
+    parser = parser_of(__doc__)
+    parser.add_argument("--long", action="store_true",
+                        help="give replay inputs of 16 MiB too, minutes at a program without proofs")
+    asked = parser.parse_args()
+    print(f"rows: {reported('rows', play_all, asked.program, asked.long)}")
 
 
 if __name__ == "__main__":

@@ -1,10 +1,10 @@
 //! Plays the parts of the house each by itself, and says of each row whether it went as it is to.
 //!
-//! Here is what a program can't be seen to do from outside: reads and writes of a connection that fail;
-//! sessions whose office is estranged; two seats of a hall, and two threads; connections over memory at a
-//! hall; what no stored row says of `replay`; requests for memory that are refused; and terminals over TCP at
-//! servers with a gate, a keeper or a port of their own. A heading stands over the rows of each. What can be
-//! seen from outside scripts play.
+//! Here is what needs calls in the process: reads and writes of a connection that fail; sessions whose office
+//! is estranged; two seats of a hall, and two threads; connections over memory at a hall; faults of the reader
+//! and the writer of `replay`; requests for memory that are refused; and terminals over TCP at servers with a
+//! gate, a keeper or a port of their own. A heading stands over the rows of each. What can be seen from
+//! outside scripts play at the program itself.
 #![tactic(auto)]
 
 mod attending;
