@@ -327,7 +327,7 @@ def at_another_present(program, rows):
     failed = [trouble or f"{row.name}: nothing differs" for row, trouble in zip(rows, troubles)
               if bool(trouble) != row.tells_the_present()]
     alike = [row for row, trouble in zip(rows, troubles) if not trouble]
-    return alike, told(len(rows), "of them at another present", failed)
+    return alike, told(len(rows), "rows at another present", failed)
 
 
 def cuts_of(row):
