@@ -35,9 +35,10 @@ run:
 	@python3 scripts/prove.py
 	@cd crates/holddesk && out/holddesk $(STORED)
 
-# What is played at $$program: the documents' examples, sheets, a long queue, stored messages, kiosks, hostile clients,
-# terminals side by side, a door, stops by kill -9, nights, and faults of files.
-PLAYED = python3 scripts/examples.py "$$program" && python3 scripts/import_sheets.py "$$program" && \
+# What is played at $$program: the documents' examples, rows of messages, sheets, a long queue, stored messages, kiosks,
+# hostile clients, terminals side by side, a door, stops by kill -9, nights, and faults of files.
+PLAYED = python3 scripts/examples.py "$$program" && python3 scripts/rows.py $(LONG) "$$program" && \
+  python3 scripts/serve_rows.py "$$program" && python3 scripts/import_sheets.py "$$program" && \
   python3 scripts/long_queue.py "$$program" && \
   python3 scripts/serve_smoke.py "$$program" && python3 scripts/serve_kiosk.py "$$program" && \
   python3 scripts/serve_hostile.py "$$program" && \
@@ -142,6 +143,7 @@ wrong:
 VERDICT = out/verdict
 test: ROUNDS = 20
 test: DAYS = 40
+test: LONG = --long
 test:
 	@python3 scripts/draw_house.py --check
 	@python3 scripts/make_page.py --check

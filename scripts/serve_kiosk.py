@@ -19,7 +19,7 @@ import tempfile
 
 from server import CATALOGUE, SECONDS, TOP, Server, Trouble, ask, connect, parser_of, reported
 
-ROWS = os.path.join(TOP, "crates", "test_parts", "data")
+ROWS = os.path.join(TOP, "rows")
 TERMINALS = [f"terminal-0{number}" for number in range(1, 6)]
 ENDS = {"cr": b"\r", "crlf": b"\r\n"}
 PATRON_MESSAGES = [b"2300120260301    100000AOlib|AAp1|AC|AD1234|",

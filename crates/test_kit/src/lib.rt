@@ -15,7 +15,7 @@ mod writer;
 
 pub use crate::count::{Count, tell, verdict};
 pub use crate::fault::Fault;
-pub use crate::library::{CATALOGUE, COPIES, NOW, PATRONS, TITLES, catalogue, present};
+pub use crate::library::{COPIES, NOW, PATRONS, TITLES, catalogue, present};
 pub use crate::reader::FailingReader;
 pub use crate::refusing::Refusing;
 pub use crate::wish::Wish;

@@ -2,7 +2,7 @@
 use hd_date::{OffsetMinutes, Stamp18};
 
 /// Its catalogue file (docs/catalogue.md): two terminals, three patrons, two titles and five copies.
-pub const CATALOGUE: &[u8] = b"H|1|lib|60|100
+const CATALOGUE: &[u8] = b"H|1|lib|60|100
 B|north
 B|south
 S|t1|pw|north

@@ -1,2 +1,1 @@
-mod Knowing
 mod Pairs

@@ -1,9 +1,10 @@
 //! Plays the parts of the house each by itself, and says of each row whether it went as it is to.
 //!
-//! Rows of messages and replies; reads and writes of a connection; sessions whose office is estranged; two
-//! seats of a hall, and two threads; connections over memory at a hall; what no stored row says of `replay`;
-//! each request for memory refused in turn; terminals over TCP at servers; and a journal's file whose disks
-//! stop at each call. A heading stands over the rows of each.
+//! Here is what needs calls in the process: reads and writes of a connection that fail; sessions whose office
+//! is estranged; two seats of a hall, and two threads; connections over memory at a hall; faults of the reader
+//! and the writer of `replay`; requests for memory that are refused; terminals over TCP at servers with a
+//! gate, a keeper or a port of their own; and a journal's file whose disks stop at each call. A heading stands
+//! over the rows of each. What can be seen from outside scripts play at the program itself.
 #![tactic(auto)]
 
 mod attending;
@@ -13,7 +14,6 @@ mod halls;
 mod library;
 mod refusals;
 mod replaying;
-mod rows;
 mod serving;
 mod sessions;
 mod streams;
@@ -26,7 +26,6 @@ use std::time::Clock;
 /// A part of the house, with a heading over its rows.
 #[derive(Clone, Copy)]
 enum Part {
-    Rows,
     Streams,
     Sessions,
     Hall,
@@ -37,14 +36,13 @@ enum Part {
     Crashes,
 }
 
-const PARTS: [(&str, Part); 9] = [
-    ("Rows of messages", Part::Rows),
+const PARTS: [(&str, Part); 8] = [
     ("Reads, writes and requests for memory", Part::Streams),
     ("Sessions", Part::Sessions),
     ("A hall", Part::Hall),
     ("Connections at a hall", Part::Connections),
     ("Replay", Part::Replay),
-    ("Requests for memory, each refused in turn", Part::Refusals),
+    ("Requests for memory that are refused", Part::Refusals),
     ("Serving", Part::Serving),
     ("Stops of a journal's disks", Part::Crashes),
 ];
@@ -61,7 +59,6 @@ impl Part {
     /// Plays its rows, by handles that wait, start threads and have a clock, and that print.
     fn play<R: Threads + Wait + Clock + Sync>(self, rt: &R, host: &HostRuntime) -> io::Result<()> {
         match self {
-            Part::Rows => rows::play(host),
             Part::Streams => streams::play(host),
             Part::Sessions => sessions::play(host),
             Part::Hall => halls::play(rt, host),

@@ -3,9 +3,11 @@
 //! A catalogue file that is read, a desk that is opened, rows of messages through `replay` and by sessions, a
 //! hall and turns of its seats are played over an allocator that refuses one request: the first, then the
 //! second, and so on until a run makes all its requests and none is refused. Of each it is printed how many
-//! requests that run makes.
+//! requests that run makes. Of cancellations beside many held copies it is printed whether they make few.
 
 mod hearing;
+mod lone;
+mod memory;
 mod opening;
 mod replaying;
 mod row;
@@ -14,6 +16,7 @@ mod trial;
 
 use crate::halls::HallTrial;
 use crate::halls::row::TWO_SEATS_WITH_DIGITS;
+use crate::refusals::memory::cancel_with_little_memory;
 use crate::refusals::row::{
     CANCELLED, HOLD_AND_CANCELLATION, RECORD_MENDED, REPEATS_AND_GAPS,
     ROOM_AFTER_A_CANCELLED_RETURN, THREE_DEPENDENTS,
@@ -66,12 +69,12 @@ static TRIALS: [(&str, Trial); 13] = [
     ),
 ];
 
-/// Tries each, a hall by a handle that waits.
+/// Tries each, a hall by a handle that waits, and then the cancellations.
 pub(crate) fn play<R: Wait>(rt: &R, host: &HostRuntime) -> io::Result<()> {
     for (name, trial) in trials() {
         print_requests(host, name, trial.requests(host, rt))?;
     }
-    Ok(())
+    cancel_with_little_memory(host)
 }
 
 /// All that is tried.

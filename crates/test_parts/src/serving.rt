@@ -5,26 +5,22 @@
 
 mod failed_accept;
 mod full_disk;
-mod hundred_lines;
-mod idle;
 mod lines;
-mod present;
-mod script;
 mod server;
+mod slow_gate;
 mod terminal;
 mod two_connections;
 mod unwritten_reply;
 mod unwritten_turn;
 mod waiting;
 
-use crate::serving::script::{is_played, scripts};
 use std::io;
 use std::sync::Wait;
 use std::thread::Threads;
 use std::time::Clock;
 use test_kit::tell;
 
-/// A row with a gate, a keeper or a port of its own.
+/// A row, with a gate, a keeper or a port of its own.
 #[derive(Clone, Copy)]
 enum Row {
     TwoConnections,
@@ -32,13 +28,11 @@ enum Row {
     UnwrittenReply,
     UnwrittenTurn,
     UnwrittenBehindTheLast,
-    HundredLines,
-    Idle,
+    SlowGate,
     FailedAccept,
-    Present,
 }
 
-const ROWS: [(&str, Row); 9] = [
+const ROWS: [(&str, Row); 7] = [
     ("two connections", Row::TwoConnections),
     ("two connections at one worker", Row::TwoAtOneWorker),
     ("a reply that can't be written", Row::UnwrittenReply),
@@ -47,19 +41,14 @@ const ROWS: [(&str, Row); 9] = [
         "the same behind the last connection",
         Row::UnwrittenBehindTheLast,
     ),
-    ("100 lines in one piece", Row::HundredLines),
-    ("an idle connection", Row::Idle),
+    ("a gate before each turn, and a slow one", Row::SlowGate),
     ("a failed accept", Row::FailedAccept),
-    ("the present", Row::Present),
 ];
 
 /// Plays each row, and says whether it went as it is to. Servers are started by a handle that has a clock.
 pub(crate) fn play<R: Threads + Wait + Clock + Sync>(rt: &R, host: &HostRuntime) -> io::Result<()> {
     for (name, row) in ROWS {
         tell(host, name, row.goes(rt, host) == Some(true))?;
-    }
-    for (name, script) in scripts() {
-        tell(host, name, is_played(rt, host, script) == Some(true))?;
     }
     Ok(())
 }
@@ -73,10 +62,8 @@ impl Row {
             Row::UnwrittenReply => unwritten_reply::goes(rt, host),
             Row::UnwrittenTurn => unwritten_turn::goes(rt, host),
             Row::UnwrittenBehindTheLast => unwritten_turn::goes_behind_the_last(rt, host),
-            Row::HundredLines => hundred_lines::goes(rt, host),
-            Row::Idle => idle::goes(rt, host),
+            Row::SlowGate => slow_gate::goes(rt, host),
             Row::FailedAccept => failed_accept::goes(rt, host),
-            Row::Present => present::goes(rt, host),
         }
     }
 }

@@ -2,17 +2,22 @@
 //!
 //! The line of that turn ends its session: no reply to it is written, the replies before it are, and the
 //! session hears nothing more. A message that asks nothing of the office is answered even then.
+//!
+//! Besides, sessions at a journal alone: how many gaps one has counted, and one that has extensions.
 
+mod alone;
 mod moved;
 mod row;
 
+use crate::sessions::alone::{are_gaps_counted, is_extended};
 use crate::sessions::moved::Moved;
 use crate::sessions::row::Row;
 use hd_session::{Ended, Session};
 use std::io;
 use test_kit::{present, tell};
 
-/// Feeds the lines of each row, and says whether it ended as it is to.
+/// Feeds the lines of each row, and says whether it ended as it is to, and so of the sessions at a journal
+/// alone.
 pub(crate) fn play(rt: &HostRuntime) -> io::Result<()> {
     for row in [
         Row::LineByLine,
@@ -22,7 +27,8 @@ pub(crate) fn play(rt: &HostRuntime) -> io::Result<()> {
     ] {
         tell(rt, row.name(), is_ended(rt, row))?;
     }
-    Ok(())
+    tell(rt, "gaps counted", are_gaps_counted(rt) == Some(true))?;
+    tell(rt, "extensions", is_extended(rt) == Some(true))
 }
 
 /// Whether a row ends as it is to.

@@ -1,7 +1,7 @@
 //! Reads and writes that fail or are interrupted, each in turn.
 use crate::replaying::{read_from, write_to};
 use hd_replay::ReplayFault;
-use test_kit::{FailingReader, FailingWriter, Fault, catalogue};
+use test_kit::{FailingReader, FailingWriter, Fault};
 
 /// Lines of two sessions, the last of which nothing ends.
 const INPUT: &[u8] = b"1 9300CNt1|COpw|
@@ -34,17 +34,13 @@ const TAKEN: usize = 5;
 
 /// What is written, and how it ends, where these reads fail.
 fn replayed_reading(rt: &HostRuntime, fault: Fault) -> (Vec<u8>, Result<(), ReplayFault>) {
-    read_from(
-        rt,
-        catalogue(),
-        &mut FailingReader::new(input(), GIVEN, fault),
-    )
+    read_from(rt, &mut FailingReader::new(input(), GIVEN, fault))
 }
 
 /// What is written, and how it ends, where these writes fail.
 fn replayed_writing(rt: &HostRuntime, fault: Fault) -> (FailingWriter, Result<(), ReplayFault>) {
     let mut to = FailingWriter::in_pieces(TAKEN, fault);
-    let end = write_to(rt, catalogue(), input(), &mut to);
+    let end = write_to(rt, input(), &mut to);
     (to, end)
 }
 
@@ -99,6 +95,13 @@ pub(crate) fn is_each_write_told(rt: &HostRuntime) -> bool {
     }
     let (to, end) = replayed_writing(rt, Fault::FailsAt(writes()));
     end == Ok(()) && to.bytes() == answered()
+}
+
+/// Whether a writer that takes no byte is told as one that fails.
+pub(crate) fn is_full_writer_told(rt: &HostRuntime) -> bool {
+    let mut to = FailingWriter::in_pieces(0, Fault::None);
+    let end = write_to(rt, input(), &mut to);
+    end == Err(ReplayFault::Write) && to.bytes().is_empty()
 }
 
 /// Whether these are the first bytes of the replies, as many as so many writes can take.

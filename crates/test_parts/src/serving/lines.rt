@@ -30,15 +30,6 @@ pub(crate) const HELD_2_SECOND: &[u8] = b"161Y20260301    100000BR2|BSnorth|AOli
 /// What `ta`'s first copy is.
 pub(crate) const ITEM: &[u8] = b"1720260301    100000AOlib|ABa1|\r";
 
-/// The reply where it stands on its open shelf, and nobody has a hold of its title.
-pub(crate) const ON_SHELF: &[u8] = b"1803000120260301    100000CF0|ABa1|AJta|AQnorth|APnorth|\r";
-
-/// The reply where it stands there, and one has a hold of its title.
+/// The reply where it stands on its open shelf, and one has a hold of its title.
 pub(crate) const ON_SHELF_HELD: &[u8] =
     b"1803000120260301    100000CF1|ABa1|AJta|AQnorth|APnorth|\r";
-
-/// The cancellation of the hold of `p2`.
-pub(crate) const CANCEL_2: &[u8] = b"15-20260301    100000AOlib|AAp2|AJta|BIY|\r";
-
-/// The reply where that hold was command 2.
-pub(crate) const CANCELLED_2: &[u8] = b"161N20260301    100000AOlib|AAp2|AJta|AFCANCELLED 2|\r";

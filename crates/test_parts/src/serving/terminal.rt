@@ -1,7 +1,7 @@
 //! A terminal's end of a connection.
 
 use std::io::{self, ErrorKind, Read, Write};
-use std::net::{Shutdown, SocketAddr, TcpStream};
+use std::net::{SocketAddr, TcpStream};
 use std::time::Duration;
 
 /// For how many seconds a terminal waits for a byte.
@@ -47,7 +47,7 @@ impl Terminal {
     }
 
     /// The next byte. None where the connection ends or nothing comes in time.
-    pub(crate) fn next(&self) -> Option<u8> {
+    fn next(&self) -> Option<u8> {
         let mut one = [0u8];
         let mut reader = &self.stream;
         match reader.read(&mut one) {
@@ -61,11 +61,6 @@ impl Terminal {
         let mut one = [0u8];
         let mut reader = &self.stream;
         matches!(reader.read(&mut one), Ok(0))
-    }
-
-    /// Tells the server that no more is sent. Whether it could.
-    pub(crate) fn ends(&self) -> bool {
-        self.stream.shutdown(Shutdown::Write).is_ok()
     }
 
     /// How many bytes lie there to be read, up to 512. None where nothing comes in time.

@@ -2,13 +2,42 @@
 
 use crate::library::new_journal;
 use crate::serving::full_disk::FullDisk;
-use crate::serving::script::{Playing, unwritten_turn};
-use crate::serving::server::{Scale, open, play_kept};
+use crate::serving::lines::{HELD_1_FIRST, HOLD_1, HOLD_2, LOGGED_IN, LOGIN_1, LOGIN_2};
+use crate::serving::server::{Row, Scale, open, play_kept, two};
+use crate::serving::terminal::Terminal;
 use hd_journal::WriteFault;
-use hd_serve::ServeFault;
+use hd_serve::{Gate, ServeFault};
 use std::sync::Wait;
 use std::thread::Threads;
 use std::time::Clock;
+
+/// Two terminals at a desk that can write one turn, at a gate that lets each turn pass.
+#[derive(Drop)]
+struct Unwritten;
+
+impl Gate for Unwritten {
+    fn before(&self, _session: usize, _turn: usize) {}
+}
+
+impl Row for Unwritten {
+    fn play(&self, terminals: Vec<Terminal>) -> bool {
+        match two(terminals) {
+            Some((first, second)) => are_left(&first, &second),
+            None => false,
+        }
+    }
+}
+
+/// Whether the session whose turn can't be written ends without a reply, and so does the other, which waits
+/// for nothing.
+fn are_left(first: &Terminal, second: &Terminal) -> bool {
+    first.asks(LOGIN_1, LOGGED_IN)
+        && second.asks(LOGIN_2, LOGGED_IN)
+        && first.asks(HOLD_1, HELD_1_FIRST)
+        && first.says(HOLD_2)
+        && first.is_left()
+        && second.is_left()
+}
 
 /// The session ends without a reply, and so does every other, and the server, which would serve for ever,
 /// says that the journal can't be written, and why.
@@ -37,11 +66,7 @@ fn is_told<R: Threads + Wait + Clock + Sync>(
         idle: 0,
     };
     let keeper = FullDisk::new(new_journal(host, host.alloc())?, 1);
-    let row = Playing {
-        host,
-        steps: unwritten_turn(),
-    };
-    let (ended, is_played) = play_kept(rt, host.alloc(), opened, keeper, scale, &row);
+    let (ended, is_played) = play_kept(rt, host.alloc(), opened, keeper, scale, &Unwritten);
     let is_told = match ended {
         Err(fault) => fault == ServeFault::Unwritten(WriteFault::DiskFull),
         Ok(_) => false,

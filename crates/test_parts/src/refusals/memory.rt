@@ -1,8 +1,8 @@
 //! Memory of a cancellation: beside many held copies it makes few requests.
-use crate::rows::lone::Lone;
+use crate::refusals::lone::Lone;
 use std::alloc::{AllocError, Allocator, Global};
 use std::io;
-use test_kit::{NOW, Refusing, verdict};
+use test_kit::{Refusing, verdict};
 
 /// How many titles there are, each with one copy that is kept for a hold.
 const TITLES: u32 = 200;
@@ -15,7 +15,7 @@ const REQUESTS: u64 = 32;
 pub(crate) fn cancel_with_little_memory(rt: &HostRuntime) -> io::Result<()> {
     let refusing = Refusing::after(rt.alloc(), u64::MAX);
     let catalogue = catalogue(rt.alloc())?;
-    match Lone::open(rt, &refusing, catalogue.as_bytes(), NOW, None) {
+    match Lone::open(rt, &refusing, catalogue.as_bytes()) {
         Some(mut lone) => keep_and_cancel(rt, &refusing, &mut lone),
         None => println!(rt; "{TITLES} held copies: FAILED"),
     }

@@ -1,11 +1,12 @@
 //! A terminal alone at a journal.
 ghost use Rattle.hd_session.specs.States.{IsKnownTo};
 
-use crate::rows::library::opened;
+use crate::library::journal_of;
 use hd_date::Stamp18;
 use hd_journal::Journal;
-use hd_session::{Extensions, Session};
+use hd_session::Session;
 use std::alloc::Allocator;
+use test_kit::present;
 
 /// A terminal in a session, alone at a journal, over memory of an allocator.
 pub(crate) struct Lone<'e, A: Allocator> {
@@ -30,29 +31,19 @@ impl<'e, A: Allocator> Drop for Lone<'e, A> {
 }
 
 impl<'e, A: Allocator + Copy> Lone<'e, A> {
-    /// The terminal before any line, in the library of a catalogue's text and at this present, with what
-    /// extends its messages, if anything does. None where there is no such library or present, or no memory.
-    pub(crate) fn open(
-        rt: &HostRuntime,
-        alloc: A,
-        catalogue: &[u8],
-        now: &[u8],
-        extensions: Option<&'e Extensions<A>>,
-    ) -> Option<Lone<'e, A>> {
-        match opened(rt, alloc, catalogue, now) {
-            Some((journal, now)) => Lone::at(alloc, journal, now, extensions),
+    /// The terminal before any line, in the library of a catalogue's text. None where there is no such
+    /// library, or no memory.
+    pub(crate) fn open(rt: &HostRuntime, alloc: A, catalogue: &[u8]) -> Option<Lone<'e, A>> {
+        let now = present()?;
+        match journal_of(rt, alloc, catalogue) {
+            Some(journal) => Lone::at(alloc, journal, now),
             None => None,
         }
     }
 
     /// The terminal before any line, at this journal and this present.
-    fn at(
-        alloc: A,
-        journal: Journal<A>,
-        now: Stamp18,
-        extensions: Option<&'e Extensions<A>>,
-    ) -> Option<Lone<'e, A>> {
-        match Session::opened(alloc, extensions) {
+    fn at(alloc: A, journal: Journal<A>, now: Stamp18) -> Option<Lone<'e, A>> {
+        match Session::new(alloc) {
             Ok(session) => Some(Lone {
                 journal,
                 now,
