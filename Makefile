@@ -6,7 +6,7 @@ PREFIX ?= /usr/local
 # What there is to make.
 help:
 	@echo 'make try        answer the stored messages by a program that is built without proofs (two to four minutes)'
-	@echo 'make run        prove what changed (about an hour at first), build holddesk, and answer the stored messages'
+	@echo 'make run        prove what changed (an hour or more at first), build holddesk, and answer the stored messages'
 	@echo 'make play       what make test plays at a program, at one that is built without proofs (some 15 minutes)'
 	@echo 'make day        after make run: play stored messages, and kiosks, through connections of holddesk serve'
 	@echo 'make page       after make run: look at the page of a door by headless Chromium; pictures in PICTURES ($(PICTURES))'
@@ -19,7 +19,7 @@ help:
 	@echo 'make uninstall  take them away again'
 	@echo 'make dist       after make run: a tar.gz with all of it, for machines without the Rattle kit'
 	@echo 'make wrong      put wrong bodies in, many in a check, and see that the prover refuses each'
-	@echo 'make test       the gate: serving over TCP, all proofs, wrong bodies, tests, stored runs (two hours or more at first)'
+	@echo 'make test       the gate: all proofs from nothing, wrong bodies, tests, stored runs, and play over TCP (about two hours)'
 
 STORED = replay --catalogue data/demonstration.catalogue --now '20260301    120000' < stdin
 

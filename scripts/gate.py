@@ -73,7 +73,7 @@ class Costs(threading.Thread):
     def by_crate(self):
         """Of each crate the seconds of its proof, with its tests' and its compilers', and of its must-fail edits."""
         found = {}
-        for (_, crate, what), seconds in self.used.items():
+        for (_, crate, what), seconds in list(self.used.items()):
             found.setdefault(crate, {}).setdefault(what, 0)
             found[crate][what] += seconds
         return found
@@ -143,8 +143,9 @@ class WrongBodies:
         self.pool.shutdown()
 
 
-def passed_on(process, uses, sums, wrong):
-    """Passes on what rt ci says, keeps what it has proved, and has wrong bodies tried. Its last line."""
+def passed_on(process, uses, sums, wrong, write):
+    """Passes on what rt ci says, keeps what it has proved, has wrong bodies tried and the figures so far written. Its
+    last line."""
     last = ""
     for line in process.stdout:
         print(line, end="", flush=True)
@@ -155,18 +156,20 @@ def passed_on(process, uses, sums, wrong):
                 if path.exists():
                     keep(path, proved[1], sums[proved[1]])
             wrong.look()
+            write()
     return last
 
 
-def figures_of(costs, wrong, whole):
-    """What each crate cost, and what rt ci took in all, in processor seconds."""
+def write_figures(path, costs, wrong, whole):
+    """Writes what each crate cost, and what rt ci took in all, 0 where it hasn't ended, in processor seconds."""
     found = costs.by_crate()
-    for crate, seconds in wrong.seconds.items():
+    for crate, seconds in list(wrong.seconds.items()):
         found.setdefault(crate, {})["wrong"] = seconds
     for edit in wrong.edits:
         found.setdefault(edit.crate, {}).setdefault("bodies", 0)
         found[edit.crate]["bodies"] += 1
-    return {"crates": found, "rt ci": whole}
+    path.parent.mkdir(parents=True, exist_ok=True)
+    path.write_text(json.dumps({"crates": found, "rt ci": whole}, indent=1))
 
 
 def main():
@@ -184,12 +187,11 @@ def main():
         os.nice(19)
         costs = Costs(process.pid)
         costs.start()
-        last = passed_on(process, uses, sums, wrong)
+        last = passed_on(process, uses, sums, wrong, lambda: write_figures(asked.figures, costs, wrong, 0))
         _, status, used = os.wait4(process.pid, 0)
         wrong.finish()
-    for path in (asked.figures, asked.verdict):
-        path.parent.mkdir(parents=True, exist_ok=True)
-    asked.figures.write_text(json.dumps(figures_of(costs, wrong, used.ru_utime + used.ru_stime), indent=1))
+    write_figures(asked.figures, costs, wrong, used.ru_utime + used.ru_stime)
+    asked.verdict.parent.mkdir(parents=True, exist_ok=True)
     asked.verdict.write_text(last)
     is_refused = said_of_all(wrong.edits)
     print(last, end="")

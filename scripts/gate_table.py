@@ -23,7 +23,7 @@ def print_table(rows):
     """Prints a line for each crate, and the sums."""
     print("| Crate | Source lines | Proof | `must-fail/` | `wrong/` | Wrong bodies |\n|---|---|---|---|---|---|")
     for name, row in rows.items():
-        lines = sum(path.read_text(encoding="utf-8").count("\n") for path in (TOP / "crates" / name).rglob("src/**/*.rt"))
+        lines = sum(path.read_text(encoding="utf-8").count("\n") for path in (TOP / "crates" / name / "src").rglob("*.rt"))
         cells = [f"{row[kind]:.0f}" if kind in row else "" for kind in KINDS]
         print(f"| `{name}` | {lines} | {' | '.join(cells)} | {row.get('bodies', '')} |")
 
