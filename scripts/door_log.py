@@ -96,6 +96,9 @@ def compare_messages(program, folder):
         told = checkout.decode().format("*")
         reply = ask(first, checkout.decode().format(secret).encode()).decode()
         server.tells(f'line connection=1 text="{re.escape(told)}"', f'reply connection=1 text="{re.escape(reply)}"')
+        ask(first, f"93|0CO{secret}|CNt1|".encode())
+        server.tells(r'line connection=1 text="93\|0CO\*\|CNt1\|"', r'not_logged_in connection=1 terminal="t1" why=encrypted',
+                     r'reply connection=1 text="940"')
         with connect(server.port) as second:
             address = re.escape(f"{LOOPBACK}:{second.getsockname()[1]}")
             server.tells(f'turned_away connection=2 address="{address}"')
@@ -103,7 +106,7 @@ def compare_messages(program, folder):
                 raise Trouble("a connection that is turned away is answered")
         if heard(first):
             raise Trouble("a connection that is idle is answered")
-        server.tells(rf"closed connection=1 {at_first} why=idle messages=2 seconds=\d+")
+        server.tells(rf"closed connection=1 {at_first} why=idle messages=3 seconds=\d+")
         third, at_third = opened(server, 3)
         ask(third, LOGIN)
         server.wait_for(rb'event=reply connection=3 text="941"')

@@ -8,7 +8,7 @@ use std::alloc::AllocError;
 fn is_plain(byte: u8) -> bool
     ensures { result ≡ is_plain byte }
 {
-    32 <= byte && byte < 127 && !(byte == 34 || byte == 92)
+    b' ' <= byte && byte <= b'~' && !(byte == b'"' || byte == b'\\')
 }
 
 /// The last digit of a number in base 16.
@@ -16,7 +16,7 @@ fn hex_digit(number: u8) -> u8
     ensures { result ≡ hex_digit number }
 {
     let digit = number % 16;
-    if digit < 10 { 48 + digit } else { 87 + digit }
+    if digit < 10 { b'0' + digit } else { b'a' - 10 + digit }
 }
 
 /// Writes a byte: itself, or `\xHH`.
@@ -28,7 +28,7 @@ fn write_byte(out: &mut Vec<u8>, byte: u8) -> Result<(), AllocError>
         out.push(byte)?;
         return Ok(());
     }
-    let told = [92, 120, hex_digit(byte / 16), hex_digit(byte)];
+    let told = [b'\\', b'x', hex_digit(byte / 16), hex_digit(byte)];
     out.extend_from_slice(&told)
 }
 

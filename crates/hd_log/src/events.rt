@@ -14,7 +14,7 @@ use std::alloc::{AllocError, Global};
 /// Writes an event as one line: its fields as `key=value`, with blanks between them.
 ///
 /// What a stranger may have sent stands in quotes, and each byte that isn't printable ASCII, `"` and `\` as
-/// `\xHH`. In a line and a reply the values of AC, AD and CO are told as `*`.
+/// `\xHH`. In a line and a reply the values of AC, AD, CO, AE and DA are told as `*`.
 ///
 /// # Errors
 /// Out of memory. A beginning may be written then.

@@ -51,9 +51,9 @@ fn write_number(out: &mut Vec<u8>, number: u64) -> Result<(), AllocError>
 fn write_quoted(out: &mut Vec<u8>, text: &[u8]) -> Result<(), AllocError>
     ensures { OnOk result (out.new.items ≡ out.old.items ++ quoted text.now) }
 {
-    out.push(34)?;
+    out.push(b'"')?;
     write_escaped(out, text)?;
-    out.push(34)?;
+    out.push(b'"')?;
     Ok(())
 }
 
@@ -63,7 +63,7 @@ fn write_field(out: &mut Vec<u8>, field: &Field<'_>) -> Result<(), AllocError>
     ensures { OnOk result (out.new.items ≡ out.old.items ++ field_text (field_shown field.now)) }
 {
     write_escaped(out, field.key)?;
-    out.push(61)?;
+    out.push(b'=')?;
     write_value(out, &field.value)?;
     Ok(())
 }
@@ -78,7 +78,7 @@ fn write_fields(out: &mut Vec<u8>, fields: &[Field<'_>]) -> Result<(), AllocErro
         [first, rest @ ..] => {
             write_field(out, first)?;
             for field in rest {
-                out.push(32)?;
+                out.push(b' ')?;
                 write_field(out, field)?;
             }
             Ok(())
@@ -95,6 +95,6 @@ pub(crate) fn write_line(out: &mut Vec<u8>, fields: &[Field<'_>]) -> Result<(), 
     ensures { OnOk result (out.new.items ≡ out.old.items ++ line_text (fields_shown fields.now)) }
 {
     write_fields(out, fields)?;
-    out.push(10)?;
+    out.push(b'\n')?;
     Ok(())
 }

@@ -1,6 +1,6 @@
 //! Values that aren't told.
 ghost use Rattle.std.specs.Prelude.{◌≡◌, ◌++◌, IfOk, OnOk};
-ghost use Rattle.hd_log.specs.Masks.{is_secret, is_short, masked, next, shown};
+ghost use Rattle.hd_log.specs.Masks.{fixed_part, is_secret, is_short, left_behind, masked, next, shown, width_of};
 
 use std::alloc::{AllocError, Global};
 
@@ -25,11 +25,44 @@ pub(crate) enum Place {
     Searched(u8),
 }
 
-/// Whether the value of a field isn't told: of AC, AD and CO, which are passwords.
+/// How many bytes the fixed part has of the message in this line. A bar may be one of them.
+fn fixed_part(line: &[u8]) -> u8
+    ensures { result ≡ fixed_part line.now }
+{
+    match *line {
+        [first, second, ..] => width_of(first, second),
+        _ => 0,
+    }
+}
+
+/// How many bytes the fixed part of a message has that a terminal sends, by the digits that it begins with; 0
+/// where no message begins with them.
+fn width_of(first: u8, second: u8) -> u8
+    ensures { result ≡ width_of first second }
+{
+    match (first, second) {
+        (b'9', b'7') => 2,
+        (b'9', b'3') => 4,
+        (b'9', b'9') => 10,
+        (b'1', b'7' | b'9') | (b'2', b'5') | (b'3', b'5') | (b'6', b'5') => 20,
+        (b'0', b'1') | (b'1', b'5') => 21,
+        (b'2', b'3') => 23,
+        (b'3', b'7') => 27,
+        (b'6', b'3') => 33,
+        (b'0', b'9') => 39,
+        (b'1', b'1') | (b'2', b'9') => 40,
+        _ => 0,
+    }
+}
+
+/// Whether the value of a field isn't told: of AC, AD and CO, which are passwords, and of AE and DA, which are
+/// patrons' names.
 fn is_secret(first: u8, second: u8) -> bool
     ensures { result ≡ is_secret first second }
 {
-    (first == b'A' && (second == b'C' || second == b'D')) || (first == b'C' && second == b'O')
+    (first == b'A' && (second == b'C' || second == b'D' || second == b'E'))
+        || (first == b'C' && second == b'O')
+        || (first == b'D' && second == b'A')
 }
 
 /// Whether a field has a few bytes alone, so that another may begin behind it without a bar: BI, BO, BW, BY.
@@ -39,12 +72,12 @@ fn is_short(first: u8, second: u8) -> bool
     first == b'B' && (second == b'I' || second == b'O' || second == b'W' || second == b'Y')
 }
 
-/// Where a line is read behind this byte.
-fn next(place: Place, byte: u8) -> Place
-    ensures { result ≡ next place byte }
+/// Where a line is read behind this byte, which is one of the fixed part, or not.
+fn next(place: Place, is_fixed: bool, byte: u8) -> Place
+    ensures { result ≡ next place is_fixed byte }
 {
     if byte == BAR {
-        return Place::Begun;
+        return if is_fixed { Place::Searched(BAR) } else { Place::Begun };
     }
     match place {
         Place::Hidden => Place::Hidden,
@@ -66,6 +99,17 @@ fn next(place: Place, byte: u8) -> Place
                 Place::Searched(byte)
             }
         }
+    }
+}
+
+/// How many bytes behind a byte are of the fixed part. A value that isn't told takes none off, so that its
+/// length isn't told either.
+fn left_behind(behind: Place, left: u8) -> u8
+    ensures { result ≡ left_behind behind left }
+{
+    match behind {
+        Place::Hidden => left,
+        _ => left.saturating_sub(1),
     }
 }
 
@@ -91,10 +135,12 @@ pub(crate) fn mask(alloc: Global, line: &[u8]) -> Result<Vec<u8>, AllocError>
 {
     let mut told = Vec::new(alloc);
     let mut place = Place::Searched(0);
+    let mut left = fixed_part(line);
     for &byte in line {
-        let behind = next(place, byte);
+        let behind = next(place, left > 0, byte);
         write_shown(&mut told, place, byte, behind)?;
         place = behind;
+        left = left_behind(behind, left);
     }
     Ok(told)
 }
