@@ -31,7 +31,7 @@ pub record Waits (holds : List Hold) (h : Hold) : Type 0 where
 abbrev pub is_open : ℕ → Hold → Bool
 is_open day h = not (has_expired h.expiry day)
 
--- nor has it, and the pickup is this branch
+-- the same, and the pickup is this branch
 abbrev pub is_open_at : ℕ → ℕ → Hold → Bool
 is_open_at b day h = (h.pickup == b) && is_open day h
 

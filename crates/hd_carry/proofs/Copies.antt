@@ -2,6 +2,7 @@
 use Rattle.std.proofs.Common.{◌≡◌, refl, sym, ◌∙◌, ap, subst, ℕ, zero, suc, ◌<◌, ◌≤◌, ◌==◌, ◌⊎◌, inl, inr}
 use Rattle.std.proofs.Common.{Bool, true, false, cond, Option}
 use Rattle.std.proofs.Common.{Some, None, List, [], ◌++◌, option_map, option_and_then, eqb-true, arith}
+use Rattle.std.proofs.lemmas.Bool.{eqb-false}
 use Rattle.hd_rules.specs.declared.copies.CopyState.{CopyState}
 use Rattle.hd_rules.specs.declared.copies.CopyState.TheVariants.{Shelf, OnLoan, OnHoldShelf, InTransit}
 use Rattle.hd_rules.specs.declared.copies.HoldPlace.{HoldPlace}
@@ -63,7 +64,7 @@ module _ (k j : Facts) (r : Renumbering) (d : Desk) (stamp : ℕ) (names : IsByN
               (at ∙ ap (λ (m : ℕ). Some m) (eqb-true a (j.home x) home)));
         }
         by_home x same a at false home = record {
-          each = (at_its_home k j r d names sound.tie n e state x same, tt);
+          each = ((at_its_home k j r d names sound.tie n e state x same, eqb-false a (j.home x) home), tt);
           known = ((names.new_copy n x same, names.new_branch b a at), tt);
           placed = goes k j r d names sound.tie n e state x same free (Shelf a)
               (same_as (Shelf b) (Shelf a) is at);

@@ -17,7 +17,7 @@ pub struct Settings {
     pub version: Version,
     /// Minutes to add to universal time.
     pub offset: OffsetMinutes,
-    /// The last number that a command can have.
+    /// How many numbers a journal may give to commands.
     pub command_limit: u64,
 }
 
@@ -39,7 +39,7 @@ pub struct TitleFacts {
     pub loan_days: u32,
     /// The most renewals of a loan.
     pub renewals: u32,
-    /// Whether holds for the branch of a return go first.
+    /// Whether, where a copy is chosen for at a branch, holds that are picked up there go first.
     pub local_priority: bool,
 }
 

@@ -67,6 +67,7 @@ impl<T, M: Marking<T>, A: Allocator + Copy> ChunkList<T, M, A> {
         ensures err { OnErr result (self.new ≡ self.old) }
         ensures full { OnErr result (self.old.room < more) }
         ensures room { self.old.room ≤ self.new.room }
+        ensures kept { more ≤ self.old.room → self.new ≡ self.old }
     {
         if more <= self.room {
             return Ok(());

@@ -32,16 +32,16 @@ module _ (k : Facts) (d : Desk) where
   abbrev pub IsTaken : BranchNo → PlaceNo → Type 0
   IsTaken b place = (c : CopyNo) × StandsAt k d.copy b place c
 
-  -- the patron has a hold of the copy's title, and the copy is placed, the hold has one, or something else is
+  -- the patron has a hold of the copy's title, and the copy is placed, or the hold has one, or this is so of the hold
   abbrev pub IsGivenTwice : CopyNo → PatronNo → (Hold → Type 0) → Type 0
   IsGivenTwice c p other =
       (h : Hold) × (d.hold (k.title_of c) p ≡ Some h) × (IsPlaced c ⊎ ((h.copy ≢ None) ⊎ other h))
 
-  -- The row places a copy twice, adds a second hold of the pair, gives a stamp of the title twice, gives a
-  -- hold a second copy, or gives a place of the branch twice.
+  -- The row places a copy twice, or at its home, adds a second hold of the pair, gives a stamp of the title twice,
+  -- gives a hold a second copy, or gives a place of the branch twice.
   abbrev pub SaysTwice : OpeningRow → Type 0
   SaysTwice (row.Loan c l) = IsPlaced c
-  SaysTwice (row.OpenShelf c b) = IsPlaced c
+  SaysTwice (row.OpenShelf c b) = IsPlaced c ⊎ (b ≡ k.home c)
   SaysTwice (row.Hold t h) = (d.hold t h.patron ≢ None) ⊎ IsStampOf h.stamp (d.hold t)
   SaysTwice (row.HoldShelf c p place) = IsGivenTwice c p (λ h. IsTaken h.pickup place)
   SaysTwice (row.HoldTransit c p from) = IsGivenTwice c p (λ h. ⊥)

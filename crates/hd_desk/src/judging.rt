@@ -28,7 +28,13 @@ impl<A: Allocator + Copy> Desk<A> {
     {
         match *row {
             OpeningRow::Loan { copy, .. } => self.judge_copy(copy),
-            OpeningRow::OpenShelf { copy, .. } => self.judge_copy(copy),
+            OpeningRow::OpenShelf { copy, branch } => {
+                self.judge_copy(copy)?;
+                if branch == self.home(copy) {
+                    return Err(RowFault::Twice);
+                }
+                Ok(())
+            }
             OpeningRow::Transit { copy, .. } => self.judge_copy(copy),
             OpeningRow::Hold { title, hold } => {
                 if self.hold(title, hold.patron).is_some() {

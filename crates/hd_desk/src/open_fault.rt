@@ -8,8 +8,9 @@ use std::alloc::AllocError;
 /// Why a row of an opening may not stand behind those before it (docs/desk-rules.md, "State").
 #[derive(Clone, Copy, PartialEq, Eq, Debug)]
 pub enum RowFault {
-    /// It says what was said already: it places a copy twice, adds a second hold of a title and patron, gives
-    /// a stamp of a title or a place of a branch twice, or gives a hold a second copy.
+    /// It says what is so without it: it places a copy twice, or on the open shelf of its home, adds a second
+    /// hold of a title and patron, gives a stamp of a title or a place of a branch twice, or gives a hold a
+    /// second copy.
     Twice,
     /// It tells of a copy that is for a patron who has no hold of its title.
     NoHold,

@@ -7,8 +7,7 @@ use Rattle.hd_rules.specs.declared.holds.Hold.{Hold}
 use Rattle.hd_queue.specs.Holds.{count_before, has_stamp}
 
 -- As many holds stand before the place as have a smaller stamp, in all and in its chunk, and the hold of the
--- stamp
--- is in that chunk, if there is one.
+-- stamp is in that chunk, if there is one.
 pub record IsPlaceOf (chunks : List (List Hold)) (stamp : ℕ) (place : Place) : Type 0 where
   pub stands : IsIn chunks place
   pub count : items_before chunks place ≡ count_before (all_items chunks) stamp

@@ -104,8 +104,8 @@ kept_placed k d c p place may s e =
 pub row_keeps_sound : (k : Facts) (n : ℕ) (d : Desk) (r : OpeningRow) → Sound k n d → MayStand k d n r
     → Sound k n (with_row k.title_of d r)
 row_keeps_sound k n d (row.Loan c l) sound home = goes k n d c (OnLoan l) sound home (λ p b h. h) (λ s e. cc)
-row_keeps_sound k n d (row.OpenShelf c b) sound home =
-    goes k n d c (Shelf b) sound home (λ p x h. h) (λ s e. cc)
+row_keeps_sound k n d (row.OpenShelf c b) sound may =
+    goes k n d c (Shelf b) sound may.0 (λ p x h. h) (λ s e. cc)
 row_keeps_sound k n d (row.Hold t h) sound may = waiting_sound k n d t h sound may
 row_keeps_sound k n d (row.HoldShelf c p place) sound may =
     given_sound k n d c p (kept_at p place) sound may.home may.waits (refl, refl)

@@ -1,5 +1,5 @@
 -- The desk that a journal opens with, as a file tells it: row by row, from the desk with each copy at home.
-use Rattle.std.specs.Prelude.{◌≡◌, ◌<◌, ◌≤◌, Option, Some, None, List, [], ◌∷◌}
+use Rattle.std.specs.Prelude.{◌≡◌, ◌≢◌, ◌<◌, ◌≤◌, Option, Some, None, List, [], ◌∷◌}
 use Rattle.hd_rules.specs.Words.{OpeningRow, Hold, HoldPlace, CopyState, Shelf, OnLoan, OnHoldShelf}
 use Rattle.hd_rules.specs.Words.{InTransit, CopyCell, HoldCell, CopyHas, HoldHas}
 use Rattle.hd_rules.specs.declared.rows.OpeningRow.TheVariants as row
@@ -59,10 +59,10 @@ module _ (k : Facts) (d : Desk) where
     pub free : (x : CopyNo) (s : HoldPlace) → x < k.copies → d.copy x ≡ OnHoldShelf s →
         s.branch ≡ waits.hold.pickup → s.place ≡ place → ⊥
 
-  -- the row says nothing twice, and nothing of a hold that isn't there
+  -- the row says nothing that is so without it, and nothing of a hold that isn't there
   abbrev pub MayStand : HoldStamp → OpeningRow → Type 0
   MayStand n (row.Loan c l) = IsHome c
-  MayStand n (row.OpenShelf c b) = IsHome c
+  MayStand n (row.OpenShelf c b) = IsHome c × (b ≢ k.home c)
   MayStand n (row.Hold t h) = MayWait n t h
   MayStand n (row.HoldShelf c p place) = MayKeep c p place
   MayStand n (row.HoldTransit c p from) = IsHome c × Waits c p
