@@ -193,7 +193,7 @@ pub(crate) const WARY: OptionWords = OptionWords {
 /// That another catalogue is accepted.
 pub(crate) const ACCEPT_CATALOGUE: OptionWords = OptionWords {
     name: "accept-catalogue",
-    help: "Accept a journal of another catalogue, where each turn is answered the same with this one",
+    help: "Accept a journal of another catalogue, and of no opening, where each turn is answered the same",
     ..PLAIN
 };
 

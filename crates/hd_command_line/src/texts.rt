@@ -80,8 +80,9 @@ pub(crate) const REPLAY_EXAMPLE: &str = "Example: a hold, and its cancellation
   1 161N20260301    100000AOlib|AAp1|AJta|AFCANCELLED 1|
 
 Exit status: 0 well; 1 a fault, printed as one line (`catalogue line N: CAUSE`, `cannot read the catalogue`,
-`patrons line N: CAUSE`, `cannot read the patrons`, `bad --now`, `input line N: no session`, `input too long`,
-`cannot read`, `cannot write`, `no memory`); 2 the command line was refused.";
+`opening line N: CAUSE`, `cannot read the opening`, `patrons line N: CAUSE`, `cannot read the patrons`,
+`bad --now`, `input line N: no session`, `input too long`, `cannot read`, `cannot write`, `no memory`); 2 the
+command line was refused.";
 
 /// What `serve` does, in a line.
 pub(crate) const SERVE_ABOUT: &str = "Serves terminals that connect over TCP";
