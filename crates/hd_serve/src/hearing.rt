@@ -103,7 +103,7 @@ impl<'a, I: Input, O: Observer, R: Clock> Hearing<'a, I, O, R> {
             if let ConnectionEvent::LoggedIn { terminal } = login {
                 self.terminal = terminal_named(self.catalogue, terminal);
             }
-        } else if let Some(off) = self.days.see(self.clock, body) {
+        } else if let Some(off) = self.days.see(&|| self.clock.since_1970(), body) {
             self.speaker.tell(ConnectionEvent::ClockOff {
                 terminal: name_of(self.catalogue, self.terminal),
                 date: off.date,
