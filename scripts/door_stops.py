@@ -4,20 +4,26 @@ No script of its own. Needs nothing but Python 3.
 """
 
 import contextlib
+import os
 import re
+import socket
 import threading
 import time
 
 import morning
 from door import Seen, heard, stop
 from door_log import SOON, ask_at_last, closed, opened
-from server import CATALOGUE, Trouble, ask, begun, connect
+from server import CATALOGUE, LOOPBACK, SECONDS, Trouble, ask, begun, connect
 
 DATE = morning.NOW
 LOGIN = b"9300CNt1|COpw|"
 CHECKOUT = f"11YN{DATE}{DATE}AOlib|AAp1|ABa1|AC|".encode()
 STATUS = b"9900302.00"
-FEW = 1.0  # seconds for which a client takes nothing before it counts as full
+LONGEST = 60  # bytes of a name
+COPY = f"C|{'c' * LONGEST}|"
+ITEM = f"17{DATE}AOlib|AB{'c' * LONGEST}|".encode()
+LINES = 40_000  # that ask for the last reply again: more of it than the system keeps for who doesn't read
+WAITS = 2.0  # seconds, longer than one write waits
 LONG = 2.5  # seconds, longer than an accept that fails is tried again where no connection is open
 
 
@@ -96,7 +102,7 @@ def compare_flood(program, folder):
 def compare_flood_unwritten(program, catalogue, folder):
     """Has a client keep sending while another's turns fill a journal's file beyond what its server may write. What a
     third has said that waits isn't answered."""
-    journal = begun(program, catalogue, f"{folder}/journal")
+    journal = begun(program, catalogue, os.path.join(folder, "journal"))
     with Seen(program, catalogue, folder, "--journal", journal, largest=540_000) as server:
         server.tells(".+")
         first, at_first = opened(server, 1)
@@ -121,45 +127,60 @@ def compare_flood_unwritten(program, catalogue, folder):
                         closed(3, at_third, "journal_unwritten", 0)])
 
 
-def fill(connection):
-    """Sends lines and reads nothing, until no more are taken."""
-    connection.setblocking(False)
-    since = time.monotonic()
-    while time.monotonic() - since < FEW:
-        try:
-            connection.send((STATUS + b"\r") * 100)
-            since = time.monotonic()
-        except BlockingIOError:
-            time.sleep(0.05)
+def library_of_long_names(folder):
+    """The path of a catalogue, whose names are as long as may be, so that a reply is."""
+    path, branch, title = os.path.join(folder, "long"), "b" * LONGEST, "t" * LONGEST
+    with open(path, "w", encoding="ascii") as file:
+        file.write(f"H|1|lib|60|100\nB|{branch}\nS|t1|pw|{branch}\nP|p1|3\nT|{title}|21|1\n{COPY}{title}|{branch}\n")
+    return path
 
 
-def is_full(server, connection):
-    """Has a client read nothing that it is answered. Whether the server waits for it, also after some seconds."""
-    fill(connection)
-    time.sleep(1.5)  # longer than one write waits
-    return not server.has_told(rb"event=closed .*", 0)
+def worked(server):
+    """For how many ticks a server has worked."""
+    with open(f"/proc/{server.process.pid}/stat", encoding="ascii") as file:
+        fields = file.read().rpartition(")")[2].split()
+    return int(fields[11]) + int(fields[12])
+
+
+def unread(server):
+    """A client, and its address in the log, that has asked for more than it reads, and for which the server waits: it
+    does nothing else, for longer than one write waits."""
+    connection = socket.socket()
+    connection.setsockopt(socket.SOL_SOCKET, socket.SO_RCVBUF, 4_096)
+    connection.settimeout(SECONDS)
+    connection.connect((LOOPBACK, server.port))
+    address = re.escape(f'address="{LOOPBACK}:{connection.getsockname()[1]}"')
+    server.tells(f"opened connection=1 {address}")
+    ask(connection, LOGIN)
+    server.tells(r'logged_in connection=1 terminal="t1"')
+    connection.sendall(ITEM + b"\r" + b"97\r" * LINES)
+    before, now = None, worked(server)
+    while now != before:
+        time.sleep(WAITS)
+        before, now = now, worked(server)
+    if server.has_told(rb"event=closed .*", 0):
+        raise Trouble("a client that reads nothing is dropped before the idle time is over")
+    return connection, address
 
 
 def compare_unread(program, folder):
     """Has a client read nothing that it is answered, at a server that would wait for it for ever, and ends by its
     door."""
-    with Seen(program, CATALOGUE, folder, "--idle", "0") as server:
+    with Seen(program, library_of_long_names(folder), folder, "--idle", "0") as server:
         server.tells(".+")
-        first, at_first = opened(server, 1)
-        if not is_full(server, first):
-            raise Trouble("a client that reads nothing is dropped, which may do so for ever")
+        first, at_first = unread(server)
         _, said = ended_soon(server, lambda: stop(server))
+        first.close()
     compare_tail(said, [closed(1, at_first, "write_failed", r"[1-9]\d*")])
 
 
 def compare_unread_idle(program, folder):
-    """Has a client read nothing that it is answered, at a server that waits for it for six seconds: so long it does."""
-    with Seen(program, CATALOGUE, folder, "--idle", "6") as server:
+    """Has a client read nothing that it is answered, at a server that waits for it for eight seconds: so long it does."""
+    with Seen(program, library_of_long_names(folder), folder, "--idle", "8") as server:
         server.tells(".+")
-        first, at_first = opened(server, 1)
-        if not is_full(server, first):
-            raise Trouble("a client that reads nothing is dropped before the idle time is over")
+        first, at_first = unread(server)
         server.tells(closed(1, at_first, "write_failed", r"[1-9]\d*"))
+        first.close()
         stop(server)
 
 

@@ -7,12 +7,11 @@ PROGRAM is crates/holddesk/out/holddesk where it isn't given. A morning is playe
 and each refusal at the door is compared with what has to be there, and so is what holddesk show, status and stop print
 (serve_door.shown). Each event has to stand in the log once, with its reason, in one line of printable ASCII, and a
 password in none; so have messages of other days, and the offsets of zones. A stop ends a session and one that waits,
-and leaves a journal in one file; it comes soon, and so does the end of one whose journal can't be written, also
-where a client keeps sending, reads nothing, or waits to be served. One without descriptors waits for some. A socket
-that a kill -9 left gives way, and a live one doesn't. Clients of the door
-that are slow, silent, endless or wrong come beside a terminal, whose worst reply is printed; of a program that is
-proved it is at most 10 ms later than without them. Takes about a minute. Needs nothing but Python
-3. Status 0: all is as it has to be.
+and leaves a journal in one file; a socket that a kill -9 left gives way, and a live one doesn't. A stop comes soon, and
+so does the end of a server whose journal can't be written, also where clients keep sending, read nothing, or wait to be
+served. A server without descriptors waits for some. Clients of the door that are slow, silent, endless or wrong come
+beside a terminal, whose worst reply is printed; of a program that is proved it is at most 10 ms later than without
+them. Takes about a minute. Needs nothing but Python 3. Status 0: all is as it has to be.
 """
 
 import contextlib
