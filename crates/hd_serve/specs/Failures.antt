@@ -13,8 +13,8 @@ use Rattle.hd_serve.specs.declared.failed.Failed.TheVariants.{Lost, ForNow, ForG
 abbrev pub lost_codes : List ℕ
 lost_codes = 1 ∷ 64 ∷ 71 ∷ 92 ∷ 95 ∷ 100 ∷ 101 ∷ 112 ∷ 113 ∷ []
 
--- Those of what is lacking: memory (12, ENOMEM), a descriptor of the system's or of the process's (23, ENFILE;
--- 24, EMFILE), room for the network (105, ENOBUFS).
+-- Those of what is lacking: memory (12, ENOMEM), a descriptor of the system's or of the process's (23,
+-- ENFILE; 24, EMFILE), room for the network (105, ENOBUFS).
 abbrev pub lack_codes : List ℕ
 lack_codes = 12 ∷ 23 ∷ 24 ∷ 105 ∷ []
 

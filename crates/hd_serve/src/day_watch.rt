@@ -54,8 +54,8 @@ impl DayWatch {
         self.see_on(today, body)
     }
 
-    /// What is to be told of the body of a message today: nothing where its day isn't off, or where it was told
-    /// of an earlier one today.
+    /// What is to be told of the body of a message today: nothing where its day isn't off, or where it was
+    /// told of an earlier one today.
     fn see_on<'l>(&mut self, today: Day, body: &'l [u8]) -> Option<OffDay<'l>>
         ensures { Sees self.old self.new body.now today result }
     {

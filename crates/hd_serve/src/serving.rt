@@ -37,11 +37,11 @@ use std::time::Clock;
 ///
 /// # Errors
 /// `CannotListen` where a connection can't be accepted: those that run are served to their end, and the hall
-/// is closed. `Unwritten`, with the reason, where the keeper fails to write a turn, also where a reply can't be
-/// written either: no more connections are accepted, those that run end at their next turn or their next read,
-/// whatever has come by then, those that wait aren't begun, and the hall is closed. `NotClosed`
-/// where the hall doesn't close. `NoThread` where no thread can be had, and `Memory` where the start is out
-/// of memory: nothing was served then.
+/// is closed. `Unwritten`, with the reason, where the keeper fails to write a turn, also where a reply can't
+/// be written either: no more connections are accepted, those that run end at their next turn or their next
+/// read, whatever has come by then, those that wait aren't begun, and the hall is closed. `NotClosed` where
+/// the hall doesn't close. `NoThread` where no thread can be had, and `Memory` where the start is out of
+/// memory: nothing was served then.
 pub fn serve<
     R: Threads + Wait + Clock + Sync,
     G: Gate,

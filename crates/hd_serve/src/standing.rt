@@ -65,8 +65,8 @@ impl Standing {
     }
 
     /// Has the server end: no more connections are accepted, and none that waits is begun; what was read is
-    /// answered, and each session ends at its next read, whatever has come by then. A reply of which nothing is
-    /// taken for a second isn't written.
+    /// answered, and each session ends at its next read, whatever has come by then. A reply of which nothing
+    /// is taken for a second isn't written.
     pub fn ask_to_end<R: Wait>(&self, rt: &R) {
         let mut now = self.now.lock(rt);
         now.course.ask();

@@ -133,8 +133,8 @@ impl<'a, H: House, Q: Drop, K: Keeper<Global, Q> + Drop> Service<'a, H, Q, K> {
     }
 
     /// How it went, and the seat, when the connection has ended. Why it ended makes no difference to the
-    /// others, but where the journal couldn't be written at a turn of its session, also where a reply couldn't
-    /// be either: then the server is to end.
+    /// others, but where the journal couldn't be written at a turn of its session, also where a reply
+    /// couldn't be either: then the server is to end.
     fn attend_one<R: Wait + Clock, O: Gate + Observer>(
         &self,
         visit: &Visit<'_, R, O>,
