@@ -16,22 +16,22 @@ use Rattle.hd_serve.specs.Ends.{is_to_end}
 -- again as long as a connection is open that may give it back, and else 16 times in a row at most; any other
 -- failure ends the accepting.
 abbrev pub served : {X : Type 0} → Result X Failed → ℕ → ℕ → Result (Arrival X) ServeFault
-served (Ok connection) failed open = Ok (arrivals.Connection connection)
-served (Err Lost) failed open = Ok arrivals.Again
-served (Err ForNow) failed open =
-    if nat_lt 0 open || nat_lt failed 16 then Ok arrivals.Again else Err CannotListen
-served (Err ForGood) failed open = Err CannotListen
+served (Ok connection) failed others = Ok (arrivals.Connection connection)
+served (Err Lost) failed others = Ok arrivals.Again
+served (Err ForNow) failed others =
+    if nat_lt 0 others || nat_lt failed 16 then Ok arrivals.Again else Err CannotListen
+served (Err ForGood) failed others = Err CannotListen
 
 -- Where the journal can't be written that is reported first; a server that was asked to end accepts no more.
 abbrev pub received_on : {X : Type 0} → Option WriteFault → Bool → Result X Failed → ℕ → ℕ
     → Result (Arrival X) ServeFault
-received_on (Some why) asked came failed open = Err (Unwritten why)
-received_on None true came failed open = Ok arrivals.End
-received_on None false came failed open = served came failed open
+received_on (Some why) asked came failed others = Err (Unwritten why)
+received_on None true came failed others = Ok arrivals.End
+received_on None false came failed others = served came failed others
 
 -- on the course that the server takes
 abbrev pub received : {X : Type 0} → Course → Result X Failed → ℕ → ℕ → Result (Arrival X) ServeFault
-received course came failed open = received_on course.unwritten course.is_asked came failed open
+received course came failed others = received_on course.unwritten course.is_asked came failed others
 
 -- A failed accept is told, behind so many in a row that failed too: the first is, and the one that ends the
 -- accepting; but of a server that is to end none, since its port was shut.

@@ -100,11 +100,11 @@ impl<'a, R: Wait + Clock, O: Observer> Reception<'a, R, O> {
         ensures why { IfErr result IsOfAccepting }
     {
         let course = self.standing.course(self.rt);
-        let open = self.standing.connections(self.rt);
+        let others = self.standing.connections(self.rt);
         match came {
-            Ok(stream) => received(course, Ok(stream), failed, open),
+            Ok(stream) => received(course, Ok(stream), failed, others),
             Err(error) => {
-                let arrival = received(course, Err(kind_of(&error)), failed, open);
+                let arrival = received(course, Err(kind_of(&error)), failed, others);
                 if is_told_failed(course, failed, &arrival) {
                     self.tell_failed(&error, failed);
                 }
@@ -184,9 +184,9 @@ fn received<T: Drop>(
     course: Course,
     came: Result<T, Failed>,
     failed: u32,
-    open: usize,
+    others: usize,
 ) -> Result<Arrival<T>, ServeFault>
-    ensures { result ≡ received course came failed open }
+    ensures { result ≡ received course came failed others }
 {
     if let Some(why) = course.unwritten {
         return Err(ServeFault::Unwritten(why));
@@ -194,7 +194,7 @@ fn received<T: Drop>(
     if course.is_asked {
         return Ok(Arrival::End);
     }
-    served(came, failed, open)
+    served(came, failed, others)
 }
 
 /// The same where the server is to go on.
@@ -204,14 +204,14 @@ fn received<T: Drop>(
 fn served<T: Drop>(
     came: Result<T, Failed>,
     failed: u32,
-    open: usize,
+    others: usize,
 ) -> Result<Arrival<T>, ServeFault>
-    ensures { result ≡ served came failed open }
+    ensures { result ≡ served came failed others }
 {
     match came {
         Ok(connection) => Ok(Arrival::Connection(connection)),
         Err(Failed::Lost) => Ok(Arrival::Again),
-        Err(Failed::ForNow) if open > 0 || failed < TRIES_AGAIN => Ok(Arrival::Again),
+        Err(Failed::ForNow) if others > 0 || failed < TRIES_AGAIN => Ok(Arrival::Again),
         Err(_) => Err(ServeFault::CannotListen),
     }
 }
