@@ -186,7 +186,8 @@ fn received<T: Drop>(
     failed: u32,
     others: usize,
 ) -> Result<Arrival<T>, ServeFault>
-    ensures { result ≡ received course came failed others }
+    ensures arrival { result ≡ received course came failed others }
+    ensures why { IfErr result IsOfAccepting }
 {
     if let Some(why) = course.unwritten {
         return Err(ServeFault::Unwritten(why));
@@ -206,7 +207,8 @@ fn served<T: Drop>(
     failed: u32,
     others: usize,
 ) -> Result<Arrival<T>, ServeFault>
-    ensures { result ≡ served came failed others }
+    ensures arrival { result ≡ served came failed others }
+    ensures why { IfErr result IsOfAccepting }
 {
     match came {
         Ok(connection) => Ok(Arrival::Connection(connection)),
