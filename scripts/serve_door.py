@@ -7,10 +7,11 @@ PROGRAM is crates/holddesk/out/holddesk where it isn't given. A morning is playe
 and each refusal at the door is compared with what has to be there, and so is what holddesk show, status and stop print
 (serve_door.shown). Each event has to stand in the log once, with its reason, in one line of printable ASCII, and a
 password in none; so have messages of other days, and the offsets of zones. A stop ends a session and one that waits,
-and leaves a journal in one file; a socket that a kill -9 left gives way, and a live one doesn't. Clients of the door
-that are slow, silent, endless or wrong come beside a terminal, whose worst reply is printed; of a program that is
-proved it is at most 10 ms later than without them. Takes about a minute. Needs nothing but Python
-3. Status 0: all is as it has to be.
+and leaves a journal in one file; a socket that a kill -9 left gives way, and a live one doesn't. A stop comes soon, and
+so does the end of a server whose journal can't be written, also where clients keep sending, read nothing, or wait to be
+served. A server without descriptors waits for some. Clients of the door that are slow, silent, endless or wrong come
+beside a terminal, whose worst reply is printed; of a program that is proved it is at most 10 ms later than without
+them. Takes about a minute. Needs nothing but Python 3. Status 0: all is as it has to be.
 """
 
 import contextlib
@@ -29,6 +30,7 @@ from door_hostile import compare_hostile
 from door_log import compare_broken, compare_events, compare_few_files, compare_messages, compare_quiet
 from door_log import compare_unwritten
 from door_refusals import compare_refusals
+from door_stops import compare_flood, compare_flood_unwritten, compare_no_files, compare_unread, compare_unread_idle
 from server import SECONDS, Trouble, ask, begun, connect, parser_of, reported
 
 SHOWN = os.path.splitext(os.path.abspath(__file__))[0] + ".shown"
@@ -334,7 +336,7 @@ def compare_all(program):
     """Compares everything. What there is to tell of it, a line each."""
     program = os.path.abspath(program)
     with contextlib.ExitStack() as stack:
-        folders = [stack.enter_context(tempfile.TemporaryDirectory()) for _ in range(11)]
+        folders = [stack.enter_context(tempfile.TemporaryDirectory()) for _ in range(16)]
         library = library_with_crowd(os.path.join(folders[0], "library"))
         few = library_of(morning.CATALOGUE.replace("|60|1000", "|60|10"), os.path.join(folders[0], "few"))
         with ThreadPoolExecutor(3) as pool:
@@ -342,7 +344,9 @@ def compare_all(program):
                 (compare_seen, library, folders[1]), (compare_events, few, folders[2]), (compare_messages, folders[3]),
                 (compare_end, library, folders[4]), (compare_quiet, folders[5]), (compare_names, folders[6]),
                 (compare_few_files, folders[0]), (compare_unwritten, library, folders[7]),
-                (compare_broken, library, folders[8]), (compare_days, folders[9]), (compare_zones, folders[10]))]
+                (compare_broken, library, folders[8]), (compare_days, folders[9]), (compare_zones, folders[10]),
+                (compare_flood, folders[11]), (compare_flood_unwritten, library, folders[12]),
+                (compare_unread, folders[13]), (compare_unread_idle, folders[14]), (compare_no_files, folders[15]))]
             told = [play.result() for play in plays]
         return [line for line in told if line] + [compare_hostile(program, library, folders[1])]
 

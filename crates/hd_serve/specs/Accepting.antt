@@ -1,46 +1,43 @@
 -- Which connections are accepted.
-use Rattle.std.specs.Prelude.{◌≡◌, ◌==◌, ◌||◌, ◌<◌, ◌≤◌, nat_lt, ℕ, ℤ, pos, Bool, true, false, if◌then◌else◌}
-use Rattle.std.specs.Prelude.{Option, Some, None, Result, Ok, Err}
-use Rattle.std.specs.declared.io.ErrorKind.{ErrorKind}
-use Rattle.std.specs.declared.io.ErrorKind.TheVariants.{ConnectionAborted, ConnectionReset, Interrupted}
+use Rattle.std.specs.Prelude.{◌≡◌, ◌⊎◌, ◌||◌, ◌<◌, ◌≤◌, nat_lt, ℕ, Bool, true, false, if◌then◌else◌}
+use Rattle.std.specs.Prelude.{Option, Some, None, Result, Ok, Err, IsErr, IsFalse}
 use Rattle.hd_journal.specs.declared.fault.WriteFault.{WriteFault}
 use Rattle.hd_serve.specs.declared.accepting.Arrival.{Arrival}
 use Rattle.hd_serve.specs.declared.accepting.Arrival.TheVariants as arrivals
-use Rattle.hd_serve.specs.declared.accepting.Failed.{Failed}
-use Rattle.hd_serve.specs.declared.accepting.Failed.TheVariants.{ForNow, ForGood}
+use Rattle.hd_serve.specs.declared.failed.Failed.{Failed}
+use Rattle.hd_serve.specs.declared.failed.Failed.TheVariants.{Lost, ForNow, ForGood}
 use Rattle.hd_serve.specs.declared.fault.ServeFault.{ServeFault}
 use Rattle.hd_serve.specs.declared.fault.ServeFault.TheVariants.{CannotListen, Unwritten}
 use Rattle.hd_serve.specs.declared.standing.Course.{Course}
+use Rattle.hd_serve.specs.Ends.{is_to_end}
 
--- no descriptor is left to the system (23, ENFILE) or to the process (24, EMFILE)
-abbrev pub of_code : Option ℤ → Failed
-of_code (Some (pos n)) = if (n == 23) || (n == 24) then ForNow else ForGood
-of_code code = ForGood
-
--- A failed accept passes where the other side has gone, the call was interrupted, or no descriptor is left.
-abbrev pub kind_of : ErrorKind → Option ℤ → Failed
-kind_of ConnectionAborted code = ForNow
-kind_of ConnectionReset code = ForNow
-kind_of Interrupted code = ForNow
-kind_of kind code = of_code code
-
--- What the port gave, where so many accepts failed before it in a row: a connection is served; a failed
--- accept that passes is tried again, 16 times in a row at most; any other ends the accepting.
-abbrev pub served : {X : Type 0} → Result X Failed → ℕ → Result (Arrival X) ServeFault
-served (Ok connection) failed = Ok (arrivals.Connection connection)
-served (Err ForNow) failed = if nat_lt failed 16 then Ok arrivals.Again else Err CannotListen
-served (Err ForGood) failed = Err CannotListen
+-- What the port gave, where so many accepts failed before it in a row, and so many connections are open: a
+-- connection is served; where one was lost the next is waited for; where something is lacking it is tried
+-- again as long as a connection is open that may give it back, and else 16 times in a row at most; any other
+-- failure ends the accepting.
+abbrev pub served : {X : Type 0} → Result X Failed → ℕ → ℕ → Result (Arrival X) ServeFault
+served (Ok connection) failed others = Ok (arrivals.Connection connection)
+served (Err Lost) failed others = Ok arrivals.Again
+served (Err ForNow) failed others =
+    if nat_lt 0 others || nat_lt failed 16 then Ok arrivals.Again else Err CannotListen
+served (Err ForGood) failed others = Err CannotListen
 
 -- Where the journal can't be written that is reported first; a server that was asked to end accepts no more.
-abbrev pub received_on : {X : Type 0} → Option WriteFault → Bool → Result X Failed → ℕ
+abbrev pub received_on : {X : Type 0} → Option WriteFault → Bool → Result X Failed → ℕ → ℕ
     → Result (Arrival X) ServeFault
-received_on (Some why) asked came failed = Err (Unwritten why)
-received_on None true came failed = Ok arrivals.End
-received_on None false came failed = served came failed
+received_on (Some why) asked came failed others = Err (Unwritten why)
+received_on None true came failed others = Ok arrivals.End
+received_on None false came failed others = served came failed others
 
 -- on the course that the server takes
-abbrev pub received : {X : Type 0} → Course → Result X Failed → ℕ → Result (Arrival X) ServeFault
-received course came failed = received_on course.unwritten course.is_asked came failed
+abbrev pub received : {X : Type 0} → Course → Result X Failed → ℕ → ℕ → Result (Arrival X) ServeFault
+received course came failed others = received_on course.unwritten course.is_asked came failed others
+
+-- A failed accept is told, behind so many in a row that failed too: the first is, and the one that ends the
+-- accepting; but of a server that is to end none, since its port was shut.
+abbrev pub IsToldFailed : {X : Type 0} → Course → ℕ → Result (Arrival X) ServeFault → Type 0
+IsToldFailed course failed arrival =
+    IsFalse (is_to_end course) × ((failed ≡ 0) ⊎ IsErr arrival)
 
 -- a fault that ends the accepting: it is never out of memory then
 abbrev pub IsOfAccepting : ServeFault → Type 0

@@ -77,13 +77,20 @@ pub record IsOffMessage (watch : DayWatch) (body : List ℕ) (today : ℕ) (off 
   pub is_off : IsOff most watch.offset today off.date.now off.days
   pub news : watch.told ≢ Some today
 
--- Why nothing is told of a message: no day is looked at, or it has no date, or its day isn't off, or one was
--- told already today.
-abbrev pub IsSilent : DayWatch → List ℕ → Type 0
-IsSilent watch body =
+-- Why nothing is told of a message today: no day is looked at, or it has no date, or its day isn't off, or
+-- one was told already today.
+abbrev pub IsSilent : DayWatch → List ℕ → ℕ → Type 0
+IsSilent watch body today =
     (watch.most ≡ None)
     ⊎ ((reading : Reading) × IsReading watch.profile body reading × (date_read reading ≡ None))
-    ⊎ ((most : ℕ) × (today : ℕ) × (reading : Reading) × (date : List ℕ) × (watch.most ≡ Some most)
+    ⊎ ((most : ℕ) × (reading : Reading) × (date : List ℕ) × (watch.most ≡ Some most)
     × IsReading watch.profile body reading × (date_read reading ≡ Some date)
     × IsNear most watch.offset today date)
-    ⊎ ((today : ℕ) × (watch.told ≡ Some today))
+    ⊎ (watch.told ≡ Some today)
+
+-- What is told of a message today: that its day is off, and then it was told today; or nothing, and then all
+-- stays as it was.
+abbrev pub Sees : DayWatch → DayWatch → List ℕ → ℕ → Option OffDay → Type 0
+Sees watch watch' body today (Some off) =
+    IsOffMessage watch body today off × (watch' ≡ record watch { told = Some today })
+Sees watch watch' body today None = IsSilent watch body today × (watch' ≡ watch)

@@ -4,6 +4,7 @@ use Rattle.std.specs.Prelude.{Result, Ok, Err, is_some, if◌then◌else◌}
 use Rattle.hd_journal.specs.declared.fault.TurnFault.{TurnFault}
 use Rattle.hd_journal.specs.declared.fault.TurnFault.TheVariants as turn
 use Rattle.hd_journal.specs.declared.fault.WriteFault.{WriteFault}
+use Rattle.hd_session.specs.declared.ended.Ended.{Ended}
 use Rattle.hd_session.specs.declared.ended.Ended.TheVariants as session
 use Rattle.hd_attend.specs.declared.fault.AttendFault.{AttendFault}
 use Rattle.hd_attend.specs.declared.fault.AttendFault.TheVariants as connection
@@ -13,10 +14,10 @@ use Rattle.hd_serve.specs.declared.fault.ServeFault.{ServeFault}
 use Rattle.hd_serve.specs.declared.fault.ServeFault.TheVariants.{NotClosed, Unwritten}
 use Rattle.hd_serve.specs.declared.standing.Course.{Course}
 
--- a connection ends the server where a turn of it couldn't be written, and for no other reason
-abbrev pub stop_of : Result (Unit {0}) AttendFault → Option WriteFault
-stop_of (Err (connection.Ended (session.Turn (turn.Unwritten why)))) = Some why
-stop_of ended = None
+-- a session ends the server where a turn of it couldn't be written, and for no other reason
+abbrev pub stop_of : Option Ended → Option WriteFault
+stop_of (Some (session.Turn (turn.Unwritten why))) = Some why
+stop_of end = None
 
 -- what is told of a turn that wasn't made
 abbrev pub end_of_turn : TurnFault → End
@@ -34,6 +35,10 @@ abbrev pub end_on : Option WriteFault → Bool → End
 end_on (Some why) asked = told.Unwritten
 end_on None true = told.Stop
 end_on None false = told.Peer
+
+-- a connection that has waited is begun, or, at a server that is to end, closed for that reason
+abbrev pub begun : Course → Result (Unit {0}) End
+begun course = if is_to_end course then Err (end_on course.unwritten course.is_asked) else Ok tt
 
 -- What is told of why a connection was closed that was given no place: its server, on this course, is to end,
 -- or else memory ran out.

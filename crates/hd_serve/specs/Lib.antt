@@ -1,7 +1,9 @@
 pub mod Accepting
 pub mod Days
 pub mod Ends
+pub mod Failures
 pub mod LineFeeds
 pub mod Logins
 pub mod Places
 pub mod Told
+pub mod Waits

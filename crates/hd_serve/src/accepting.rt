@@ -1,8 +1,8 @@
 //! Accepting connections.
 ghost use Rattle.std.specs.Prelude.{◌≡◌, ◌↔◌, IfErr, IsTrue};
-ghost use Rattle.std.specs.IoError.{error_kind, raw_os_error};
-ghost use Rattle.hd_serve.specs.Accepting.{IsLast, IsOfAccepting, kind_of, of_code, received, served};
+ghost use Rattle.hd_serve.specs.Accepting.{IsLast, IsOfAccepting, IsToldFailed, received, served};
 
+use crate::failed::{Failed, kind_of};
 use crate::fault::ServeFault;
 use crate::gate::Observer;
 use crate::options::{Beyond, Options};
@@ -11,16 +11,16 @@ use crate::standing::{Course, Standing};
 use crossbeam_channel::Sender;
 use hd_log::{ConnectionEvent, End, Event};
 use std::alloc::Global;
-use std::io::{self, ErrorKind};
+use std::io;
 use std::net::{TcpListener, TcpStream};
 use std::sync::Wait;
 use std::thread;
 use std::time::{Clock, Duration};
 
-/// How often in a row a failed accept of a kind that passes is tried again.
+/// How often in a row an accept that failed for lack of something is tried again where no connection is open.
 const TRIES_AGAIN: u32 = 16;
 
-/// How many milliseconds are waited before.
+/// How many milliseconds are waited before a failed accept is tried again.
 const PAUSE_MILLISECONDS: u64 = 100;
 
 /// A connection that was accepted.
@@ -33,15 +33,6 @@ pub(crate) struct Connection {
     pub(crate) place: usize,
     /// Where it comes from, as far as it is told.
     pub(crate) address: String,
-}
-
-/// Why a connection couldn't be accepted.
-#[derive(Clone, Copy)]
-pub(crate) enum Failed {
-    /// For a reason that passes: the other side has gone, or there is no descriptor left.
-    ForNow,
-    /// For another.
-    ForGood,
 }
 
 /// What comes of what the port gave.
@@ -74,18 +65,14 @@ impl<'a, R: Wait + Clock, O: Observer> Reception<'a, R, O> {
     ///
     /// # Errors
     /// `Unwritten` where the journal can't be written, and `CannotListen` where a connection can't be
-    /// accepted, for good or 17 times in a row (`received`). Else the server was asked to end, or the last
-    /// connection was accepted.
+    /// accepted, for good, or 17 times in a row while none is open (`received`). Else the server was asked to
+    /// end, or the last connection was accepted.
     pub(crate) fn accept(mut self, listener: &TcpListener) -> Result<(), ServeFault>
         ensures why { IfErr result IsOfAccepting }
     {
         let mut failed = 0u32;
         for came in listener.incoming() {
-            match received(
-                self.standing.course(self.rt),
-                self.told(came, failed),
-                failed,
-            )? {
+            match self.arrival(came, failed)? {
                 Arrival::Connection(stream) => {
                     failed = 0;
                     self.welcome(stream);
@@ -103,22 +90,31 @@ impl<'a, R: Wait + Clock, O: Observer> Reception<'a, R, O> {
         Ok(())
     }
 
-    /// What the port gave; where it failed, the observer is told why, and how often in a row.
-    fn told(&self, came: io::Result<TcpStream>, failed: u32) -> Result<TcpStream, Failed> {
+    /// What comes of what the port gave, where so many accepts failed before in a row. Of failed accepts the
+    /// observer is told the first in a row, and the one that ends the accepting.
+    fn arrival(
+        &self,
+        came: io::Result<TcpStream>,
+        failed: u32,
+    ) -> Result<Arrival<TcpStream>, ServeFault>
+        ensures why { IfErr result IsOfAccepting }
+    {
+        let course = self.standing.course(self.rt);
+        let others = self.standing.connections(self.rt);
         match came {
-            Ok(stream) => Ok(stream),
+            Ok(stream) => received(course, Ok(stream), failed, others),
             Err(error) => {
-                self.tell_failed(&error, failed);
-                Err(kind_of(&error))
+                let arrival = received(course, Err(kind_of(&error)), failed, others);
+                if is_told_failed(course, failed, &arrival) {
+                    self.tell_failed(&error, failed);
+                }
+                arrival
             }
         }
     }
 
-    /// Tells why no connection could be accepted, unless the server is to end, which shuts the port.
+    /// Tells why no connection could be accepted, behind so many in a row that couldn't either.
     fn tell_failed(&self, error: &io::Error, failed: u32) {
-        if self.standing.course(self.rt).is_to_end() {
-            return;
-        }
         if let Ok(why) = format!(in self.alloc; "{error}") {
             self.observer.tell(&Event::CannotAccept {
                 times: u64::from(failed).saturating_add(1),
@@ -178,30 +174,8 @@ fn tell_closed<O: Observer>(speaker: &Speaker<'_, O>, address: &[u8], why: End) 
     });
 }
 
-/// Whether a connection could not be accepted for now, or for good.
-fn kind_of(error: &io::Error) -> Failed
-    ensures { result ≡ kind_of (error_kind error.now) (raw_os_error error.now) }
-{
-    match error.kind() {
-        ErrorKind::ConnectionAborted | ErrorKind::ConnectionReset | ErrorKind::Interrupted => {
-            Failed::ForNow
-        }
-        _ => of_code(error.raw_os_error()),
-    }
-}
-
-/// The same by the system's code.
-fn of_code(code: Option<i32>) -> Failed
-    ensures { result ≡ of_code code }
-{
-    match code {
-        Some(23 | 24) => Failed::ForNow,
-        _ => Failed::ForGood,
-    }
-}
-
-/// What comes of what the port gave, where the server is on this course, and so many accepts failed before in
-/// a row.
+/// What comes of what the port gave, where the server is on this course, so many accepts failed before in a
+/// row, and so many connections are open.
 ///
 /// # Errors
 /// `Unwritten` with the reason, where the journal can't be written; `CannotListen` where the port failed for
@@ -210,8 +184,10 @@ fn received<T: Drop>(
     course: Course,
     came: Result<T, Failed>,
     failed: u32,
+    others: usize,
 ) -> Result<Arrival<T>, ServeFault>
-    ensures { result ≡ received course came failed }
+    ensures arrival { result ≡ received course came failed others }
+    ensures why { IfErr result IsOfAccepting }
 {
     if let Some(why) = course.unwritten {
         return Err(ServeFault::Unwritten(why));
@@ -219,21 +195,39 @@ fn received<T: Drop>(
     if course.is_asked {
         return Ok(Arrival::End);
     }
-    served(came, failed)
+    served(came, failed, others)
 }
 
 /// The same where the server is to go on.
 ///
 /// # Errors
 /// `CannotListen` where the port failed for good, or once more than is tried again.
-fn served<T: Drop>(came: Result<T, Failed>, failed: u32) -> Result<Arrival<T>, ServeFault>
-    ensures { result ≡ served came failed }
+fn served<T: Drop>(
+    came: Result<T, Failed>,
+    failed: u32,
+    others: usize,
+) -> Result<Arrival<T>, ServeFault>
+    ensures arrival { result ≡ served came failed others }
+    ensures why { IfErr result IsOfAccepting }
 {
     match came {
         Ok(connection) => Ok(Arrival::Connection(connection)),
-        Err(Failed::ForNow) if failed < TRIES_AGAIN => Ok(Arrival::Again),
+        Err(Failed::Lost) => Ok(Arrival::Again),
+        Err(Failed::ForNow) if others > 0 || failed < TRIES_AGAIN => Ok(Arrival::Again),
         Err(_) => Err(ServeFault::CannotListen),
     }
+}
+
+/// Whether a failed accept is told, of which this comes, on this course, behind so many in a row that failed
+/// too: the first is, and the one that ends the accepting; where the server is to end, none.
+fn is_told_failed<T>(
+    course: Course,
+    failed: u32,
+    arrival: &Result<Arrival<T>, ServeFault>,
+) -> bool
+    ensures { IsTrue result ↔ IsToldFailed course failed arrival.now }
+{
+    !course.is_to_end() && (failed == 0 || arrival.is_err())
 }
 
 /// Whether no connection is accepted behind that of this number, where so many are to be; with 0 each is

@@ -1,15 +1,19 @@
 //! Terminals whose clock is off: seeing whether the day of a message is the server's.
-ghost use Rattle.std.specs.Prelude.{◌≡◌, ◌≢◌, ◌↔◌, ℕ, IfNone, IfSome, IsFalse, IsTrue, None, Some};
+ghost use Rattle.std.specs.Prelude.{◌≡◌, ◌≢◌, ◌↔◌, IfNone, IfSome, IsFalse, IsTrue, Some};
 ghost use Rattle.std.specs.Option.{option_copied};
-ghost use Rattle.hd_serve.specs.Days.{IsNear, IsOff, IsOffMessage, IsSilent, card_date, date_read};
-ghost use Rattle.hd_serve.specs.Days.{days_apart, patron_date, request_date, standard_date, unreadable_date};
+ghost use Rattle.hd_date.specs.Clock.{IsPresent};
+ghost use Rattle.hd_date.specs.Stamps.{Stamp};
+ghost use Rattle.hd_serve.specs.Days.{IsNear, IsOff, Sees, card_date, date_read, days_apart, patron_date};
+ghost use Rattle.hd_serve.specs.Days.{request_date, standard_date, unreadable_date};
+ghost use Rattle.hd_serve.specs.Told.{seconds_told};
 
 use crate::clock::present;
 use hd_date::{Day, OffsetMinutes, texts_show_one_stamp};
 use hd_message::{
     PatronRequest, Profile, Reading, Request, Unreadable, UnreadablePatron, read_with,
 };
-use std::time::Clock;
+use std::io;
+use std::time::Duration;
 
 /// A message whose day is off.
 #[derive(Clone, Copy)]
@@ -34,17 +38,29 @@ pub(crate) struct DayWatch {
 }
 
 impl DayWatch {
-    /// What is to be told of the body of a message: nothing where its day isn't off, or where it was told of
-    /// an earlier one today. The clock is asked where days are looked at, and the message has a date.
-    pub(crate) fn see<'l, R: Clock>(&mut self, clock: &R, body: &'l [u8]) -> Option<OffDay<'l>>
-        ensures off { IfSome result (λ off. (today : ℕ) × (self.new.told ≡ Some today)
-            × IsOffMessage self.old body.now today off) }
-        ensures silent { IfNone result (IsSilent self.old body.now) }
-        ensures same { IfNone result (self.new ≡ self.old) }
+    /// What is to be told of the body of a message on the day that a clock tells which is asked now.
+    pub(crate) fn see<'l, C: Fn() -> io::Result<Duration>>(
+        &mut self,
+        clock: &C,
+        body: &'l [u8],
+    ) -> Option<OffDay<'l>>
+        requires { C.IsAlwaysCallable clock.now }
+        // the clock was asked, and may have told this
+        ensures { (told : _) × C.post clock.now told × (now : Stamp)
+            × IsPresent (seconds_told told) self.old.offset now
+            × Sees self.old self.new body.now now.day result }
+    {
+        let today = present(clock, self.offset).day();
+        self.see_on(today, body)
+    }
+
+    /// What is to be told of the body of a message today: nothing where its day isn't off, or where it was
+    /// told of an earlier one today.
+    fn see_on<'l>(&mut self, today: Day, body: &'l [u8]) -> Option<OffDay<'l>>
+        ensures { Sees self.old self.new body.now today result }
     {
         let most = self.most?;
         let date = date_read(&read_with(self.profile, body))?;
-        let today = present(&|| clock.since_1970(), self.offset).day();
         let days = days_off(most, self.offset, today, date)?;
         if self.is_news(today) {
             Some(OffDay { date, days })

@@ -93,6 +93,7 @@ impl<'a, I: Input, O: Observer, R: Clock> Hearing<'a, I, O, R> {
     fn tell_line(&mut self)
         ensures { self.new.from ≡ self.old.from }
     {
+        let clock = self.clock;
         let text = self.stream.line();
         self.speaker.tell(ConnectionEvent::Line { text });
         let Some(body) = body_of(text) else {
@@ -103,7 +104,7 @@ impl<'a, I: Input, O: Observer, R: Clock> Hearing<'a, I, O, R> {
             if let ConnectionEvent::LoggedIn { terminal } = login {
                 self.terminal = terminal_named(self.catalogue, terminal);
             }
-        } else if let Some(off) = self.days.see(self.clock, body) {
+        } else if let Some(off) = self.days.see(&|| clock.since_1970(), body) {
             self.speaker.tell(ConnectionEvent::ClockOff {
                 terminal: name_of(self.catalogue, self.terminal),
                 date: off.date,

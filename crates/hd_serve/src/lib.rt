@@ -5,6 +5,7 @@ mod accepting;
 mod answering;
 mod clock;
 mod day_watch;
+mod failed;
 mod fault;
 mod gate;
 mod hearing;
@@ -19,6 +20,7 @@ mod standing;
 mod surroundings;
 mod terminals;
 mod worker;
+mod writing;
 
 pub use crate::fault::ServeFault;
 pub use crate::gate::{Gate, Observer};

@@ -31,15 +31,17 @@ use std::time::Clock;
 /// had it is closed without a reply. A read or a write that fails ends that connection alone, as one does
 /// that waits longer than the idle time; the turns that it has made stay.
 ///
-/// A connection that can't be accepted for a reason that passes, since its other side has gone or no
-/// descriptor is left, is waited for: a tenth of a second, 16 times in a row at most.
+/// Where a connection was lost before it could be accepted, the next is waited for. Where no descriptor or no
+/// memory is left to accept one, that is tried again each tenth of a second as long as a connection is open,
+/// and else 16 times in a row.
 ///
 /// # Errors
 /// `CannotListen` where a connection can't be accepted: those that run are served to their end, and the hall
-/// is closed. `Unwritten`, with the reason, where the keeper fails to write a turn: no more connections are
-/// accepted, those that run end at their next turn or their next read, and the hall is closed. `NotClosed`
-/// where the hall doesn't close. `NoThread` where no thread can be had, and `Memory` where the start is out
-/// of memory: nothing was served then.
+/// is closed. `Unwritten`, with the reason, where the keeper fails to write a turn, also where a reply can't
+/// be written either: no more connections are accepted, those that run end at their next turn or their next
+/// read, whatever has come by then, those that wait aren't begun, and the hall is closed. `NotClosed` where
+/// the hall doesn't close. `NoThread` where no thread can be had, and `Memory` where the start is out of
+/// memory: nothing was served then.
 pub fn serve<
     R: Threads + Wait + Clock + Sync,
     G: Gate,

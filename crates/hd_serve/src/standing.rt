@@ -2,7 +2,7 @@
 //! are left.
 ghost use Rattle.std.specs.Prelude.{◌≡◌, ◌+◌, ◌<◌, ◌≤◌, None, Some, IfNone, IfSome, IsTrue, OnSome, not};
 ghost use Rattle.std.specs.Prelude.{length, slice_get, slice_set, true};
-ghost use Rattle.hd_serve.specs.Ends.{end_on, end_without_place, first_reason, is_to_end};
+ghost use Rattle.hd_serve.specs.Ends.{begun, end_on, end_without_place, first_reason, is_to_end};
 ghost use Rattle.hd_serve.specs.Places.{taken};
 
 use hd_journal::WriteFault;
@@ -64,8 +64,9 @@ impl Standing {
         })
     }
 
-    /// Has the server end: no more connections are accepted, a turn that is under way is answered, and each
-    /// session ends at its next read.
+    /// Has the server end: no more connections are accepted, and none that waits is begun; what was read is
+    /// answered, and each session ends at its next read, whatever has come by then. A reply of which nothing
+    /// is taken for a second isn't written.
     pub fn ask_to_end<R: Wait>(&self, rt: &R) {
         let mut now = self.now.lock(rt);
         now.course.ask();
@@ -126,7 +127,8 @@ impl Standing {
         self.now.lock(rt).is_news()
     }
 
-    /// Has nothing more read of any connection. Whoever waits for one at the port is woken.
+    /// Wakes whoever waits to read of a connection, or for one at the port. Of a connection no more is read
+    /// then, since each reader looks at the course before (`Reading`).
     fn hang_up(&self, now: &Now) {
         for handle in now.open.iter().flatten() {
             let _ = handle.shutdown(Shutdown::Read);
@@ -158,6 +160,19 @@ impl Course {
         ensures { result ≡ is_to_end self }
     {
         self.is_asked || self.unwritten.is_some()
+    }
+
+    /// Begins a connection that has waited for a worker, unless the server is to end.
+    ///
+    /// # Errors
+    /// What is told of why it isn't begun: the server is to end.
+    pub(crate) fn begin(self) -> Result<(), End>
+        ensures { result ≡ begun self }
+    {
+        if self.is_to_end() {
+            return Err(self.end());
+        }
+        Ok(())
     }
 
     /// What is told of why a connection ended of which no more came.

@@ -16,6 +16,7 @@ use crate::reading::Reading;
 use crate::speaking::Speaker;
 use crate::standing::{Course, Standing};
 use crate::surroundings::ClockAndGate;
+use crate::writing::Writing;
 use crossbeam_channel::Receiver;
 use hd_attend::{AttendFault, attend};
 use hd_connection::{Fallible, Output};
@@ -109,12 +110,13 @@ impl<'a, H: House, Q: Drop, K: Keeper<Global, Q> + Drop> Service<'a, H, Q, K> {
     /// Serves a connection to its end, and keeps its seat: how it went.
     ///
     /// # Errors
-    /// Why nothing is read and nothing written: the system refuses its options, memory for its seat or its
-    /// session runs out, or no seat is left.
+    /// Why nothing is read and nothing written: the server is to end, the system refuses its options, memory
+    /// for its seat or its session runs out, or no seat is left.
     fn serve_one<R: Wait + Clock, O: Gate + Observer>(
         &self,
         visit: &Visit<'_, R, O>,
     ) -> Result<Visited, End> {
+        self.standing.course(visit.rt).begin()?;
         let Ok(()) = prepare(&visit.connection.stream, self.options.idle) else {
             return Err(End::Read);
         };
@@ -131,19 +133,20 @@ impl<'a, H: House, Q: Drop, K: Keeper<Global, Q> + Drop> Service<'a, H, Q, K> {
     }
 
     /// How it went, and the seat, when the connection has ended. Why it ended makes no difference to the
-    /// others, but where the journal can't be written: then the server is to end.
+    /// others, but where the journal couldn't be written at a turn of its session, also where a reply
+    /// couldn't be either: then the server is to end.
     fn attend_one<R: Wait + Clock, O: Gate + Observer>(
         &self,
         visit: &Visit<'_, R, O>,
-        state: Session<'_>,
+        mut state: Session<'_>,
         heard: Stream,
         mut seat: Seat<H>,
     ) -> (Visited, SeatWithShare<H>)
         requires seat { seat.parts ≡ 1 }
         requires state { state ≡ new_session (extensions_lent self.now.options.extensions) }
     {
-        let visited = self.attend_to(visit, state, heard, &mut seat);
-        if let Some(why) = stop_of(visited.ended) {
+        let visited = self.attend_to(visit, &mut state, heard, &mut seat);
+        if let Some(why) = stop_of(state.end()) {
             self.standing.end_unwritten(visit.rt, why);
             visit.speaker.tell_unwritten(why);
         }
@@ -154,15 +157,17 @@ impl<'a, H: House, Q: Drop, K: Keeper<Global, Q> + Drop> Service<'a, H, Q, K> {
     fn attend_to<R: Wait + Clock, O: Gate + Observer>(
         &self,
         visit: &Visit<'_, R, O>,
-        state: Session<'_>,
+        state: &mut Session<'_>,
         heard: Stream,
         seat: &mut Seat<H>,
     ) -> Visited
         requires seat { seat.old.parts ≡ 1 }
-        requires state { state ≡ new_session (extensions_lent self.now.options.extensions) }
+        requires state { state.old ≡ new_session (extensions_lent self.now.options.extensions) }
         ensures seat { seat.new.parts ≡ 1 }
     {
-        let writer = Fallible(&visit.connection.stream);
+        let stream = &visit.connection.stream;
+        let writing = Writing::new(stream, self.standing, visit.rt, self.options.idle);
+        let writer = Fallible(writing);
         if self.options.has_line_feeds {
             self.attend_by(visit, state, heard, seat, LineFeeds::new(writer))
         } else {
@@ -174,17 +179,18 @@ impl<'a, H: House, Q: Drop, K: Keeper<Global, Q> + Drop> Service<'a, H, Q, K> {
     fn attend_by<R: Wait + Clock, O: Gate + Observer, W: Output + Drop>(
         &self,
         visit: &Visit<'_, R, O>,
-        mut state: Session<'_>,
+        state: &mut Session<'_>,
         heard: Stream,
         seat: &mut Seat<H>,
         writer: W,
     ) -> Visited
         requires seat { seat.old.parts ≡ 1 }
-        requires state { state ≡ new_session (extensions_lent self.now.options.extensions) }
+        requires state { state.old ≡ new_session (extensions_lent self.now.options.extensions) }
         ensures seat { seat.new.parts ≡ 1 }
     {
         let catalogue = self.hall.catalogue();
-        let from = Fallible(Reading::new(&visit.connection.stream));
+        let stream = &visit.connection.stream;
+        let from = Fallible(Reading::new(stream, self.standing, visit.rt));
         let days = self.day_watch();
         let mut reader = Hearing::new(from, heard, catalogue, visit.speaker, visit.rt, days);
         let mut writer = Answering::new(writer, visit.speaker);
@@ -199,7 +205,7 @@ impl<'a, H: House, Q: Drop, K: Keeper<Global, Q> + Drop> Service<'a, H, Q, K> {
             &mut reader,
             &mut writer,
             &mut counter,
-            &mut state,
+            state,
             visit.connection.session,
             &surroundings,
         );
@@ -245,12 +251,13 @@ fn are_few(last: u64, most: u64) -> bool
     last >= most - most / 10
 }
 
-/// Why no more connections are to be served, where one has ended so: a turn of it couldn't be written.
-fn stop_of(ended: Result<(), AttendFault>) -> Option<WriteFault>
-    ensures { result ≡ stop_of ended }
+/// Why no more connections are to be served, where the session of one has this end, or none: a turn of it
+/// couldn't be written.
+fn stop_of(end: Option<Ended>) -> Option<WriteFault>
+    ensures { result ≡ stop_of end }
 {
-    match ended {
-        Err(AttendFault::Ended(Ended::Turn(TurnFault::Unwritten(why)))) => Some(why),
+    match end {
+        Some(Ended::Turn(TurnFault::Unwritten(why))) => Some(why),
         _ => None,
     }
 }
@@ -285,13 +292,12 @@ fn seconds_since<R: Clock>(rt: &R, begin: io::Result<Instant>) -> u64 {
     }
 }
 
-/// Has small replies sent at once, and reads and writes fail that wait longer than so many seconds.
+/// Has small replies sent at once, reads fail that wait longer than so many seconds, and writes that wait for
+/// one, which are tried again (`Writing`).
 fn prepare(stream: &TcpStream, idle: u32) -> io::Result<()> {
     stream.set_nodelay(true)?;
     if idle > 0 {
-        let limit = Some(Duration::from_secs(u64::from(idle)));
-        stream.set_read_timeout(limit)?;
-        stream.set_write_timeout(limit)?;
+        stream.set_read_timeout(Some(Duration::from_secs(u64::from(idle))))?;
     }
-    Ok(())
+    stream.set_write_timeout(Some(Duration::from_secs(1)))
 }

@@ -33,7 +33,8 @@ impl<'a> Observer for Teller<'a> {
         self.level
     }
 
-    // A line that can't be written, or for which there is no memory, is left out: nobody waits for it.
+    // A line that can't be written, or for which there is no memory, is left out. Where standard error is a
+    // pipe that is full, this waits until somebody reads of it, and so does the session of which it tells.
     fn tell(&self, event: &Event<'_>) {
         if event.level() > self.level {
             return;

@@ -28,11 +28,12 @@ enum Row {
     UnwrittenReply,
     UnwrittenTurn,
     UnwrittenBehindTheLast,
+    UnwrittenBoth,
     SlowGate,
     FailedAccept,
 }
 
-const ROWS: [(&str, Row); 7] = [
+const ROWS: [(&str, Row); 8] = [
     ("two connections", Row::TwoConnections),
     ("two connections at one worker", Row::TwoAtOneWorker),
     ("a reply that can't be written", Row::UnwrittenReply),
@@ -40,6 +41,10 @@ const ROWS: [(&str, Row); 7] = [
     (
         "the same behind the last connection",
         Row::UnwrittenBehindTheLast,
+    ),
+    (
+        "a turn and a reply before it that can't be written",
+        Row::UnwrittenBoth,
     ),
     ("a gate before each turn, and a slow one", Row::SlowGate),
     ("a failed accept", Row::FailedAccept),
@@ -62,6 +67,7 @@ impl Row {
             Row::UnwrittenReply => unwritten_reply::goes(rt, host),
             Row::UnwrittenTurn => unwritten_turn::goes(rt, host),
             Row::UnwrittenBehindTheLast => unwritten_turn::goes_behind_the_last(rt, host),
+            Row::UnwrittenBoth => unwritten_reply::goes_at_a_full_disk(rt, host),
             Row::SlowGate => slow_gate::goes(rt, host),
             Row::FailedAccept => failed_accept::goes(rt, host),
         }
