@@ -125,11 +125,12 @@ one_more {k} {turns} {turn} {row} is legal it keeps = record {
 }
 
 -- why that isn't committed
-pub unwritten : {k : Contents} (old new : State) {turn : Turn} {row : KeptTurn}
+pub unwritten : {C : Type 0} (shown : C → State) {k : Contents} (old new : C) {turn : Turn} {row : KeptTurn}
     → ((format : ℕ) → IsTurnRow k format turn row) → (fault : WriteFault)
-    → (HasCleanDisk new → IsRefusedBy old new row fault) → RefusesTurn k old turn new fault
-unwritten old new is Memory refused = tt
-unwritten old new is fault refused = inr (_, is, refused)
+    → (HasCleanDisk (shown new) → IsRefusedBy (shown old) (shown new) row fault)
+    → RefusesTurn shown k old turn new fault
+unwritten shown old new is Memory refused = inr (_, is, refused)
+unwritten shown old new is fault refused = inr (_, is, refused)
 
 -- what was kept is opened
 pub opened_is_kept : (one : OneMessage) {k : Contents} {s now : State} {left : Image} {wanted : Wanted}

@@ -97,7 +97,7 @@ module _ (items : List Row) (i : ℕ) (item : Row) (row : KeptTurn) (low : i < l
   -- it isn't taken
   pub refuses_next : {f : ℕ} {old mid : Book} (after at : ℕ) (fault : RestoreFault) → at ≡ after + i + 1
       → TakesRows f old mid (take i rows) → RefusesRow f mid row at fault → RefusesRows f old rows after fault
-  refuses_next after at (Unread why) number took refuses = refuses
+  refuses_next after at (Unread why) number took refuses = absurd refuses
   refuses_next after at TooMany number took refuses = absurd refuses
   refuses_next {f} {mid} after at fault number took refuses =
       let same : at ≡ after + length (take i rows) + 1 =

@@ -7,7 +7,7 @@ use Rattle.hd_rules.specs.Journal.{Turn}
 use Rattle.hd_catalogue.specs.Contents.{Contents}
 use Rattle.hd_journal.specs.Books.{Book}
 use Rattle.hd_turn_store.specs.Kept.{KeptTurn, Head}
-use Rattle.hd_turn_store.specs.Faults.{IsReadingFault, IsWritingFault}
+use Rattle.hd_turn_store.specs.Faults.{IsWritingFault, RefusesHead}
 use Rattle.hd_turn_store.specs.Holds.{Holds}
 use Rattle.hd_turn_store.specs.Tables.{Stores}
 use Rattle.hd_turn_store.specs.Crashes.{HoldsTurns}
@@ -46,15 +46,15 @@ abbrev pub AreLeftOf : State → Image → Type 0
 AreLeftOf s left = (head : Head) (rows : List KeptTurn) → Holds s head rows → HoldsTurns left head rows
 
 -- Why a file isn't opened: it is of another catalogue, which isn't accepted; a row isn't taken; its head
--- can't be read, or the digest can't be written. Out of memory is told by the part that was, as `File` or
--- `Turns`.
-abbrev pub RefusesFile : Wanted → Book → Head → List KeptTurn → OpenFault → Type 0
-RefusesFile wanted book head rows OtherCatalogue = ¬ MayBeTaken wanted head
-RefusesFile wanted book head rows (Turns fault) =
+-- can't be read; or the digest of a catalogue that is accepted can't be written. Out of memory is told by the
+-- part that was, as `File` or `Turns`.
+abbrev pub RefusesFile : State → State → Wanted → Book → Head → List KeptTurn → OpenFault → Type 0
+RefusesFile old new wanted book head rows OtherCatalogue = ¬ MayBeTaken wanted head
+RefusesFile old new wanted book head rows (Turns fault) =
     MayBeTaken wanted head × RefusesRows head.format book rows 0 fault
-RefusesFile wanted book head rows (File fault) =
-    IsReadingFault fault ⊎ (MayBeTaken wanted head × IsWritingFault fault)
-RefusesFile wanted book head rows Memory = ⊥
+RefusesFile old new wanted book head rows (File fault) =
+    RefusesHead old new head fault ⊎ (IsTrue wanted.is_other_accepted × IsWritingFault fault)
+RefusesFile old new wanted book head rows Memory = ⊥
 
 -- The other catalogue is accepted, the turns of all rows were taken again, and the digest is in the file.
 pub record IsRedated (wanted : Wanted) (book : Book) (head : Head) (rows : List KeptTurn) (db : Trees)

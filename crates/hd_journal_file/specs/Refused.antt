@@ -35,7 +35,10 @@ abbrev pub HasNoRow : Turn → WriteFault → Type 0
 HasNoRow turn Refused = asked_parts turn.message.asked ≡ None
 HasNoRow turn _ = ⊥
 
--- Why a turn isn't committed: out of memory; the turn has no row; or SQLite refused it.
-abbrev pub RefusesTurn : Contents → State → Turn → State → WriteFault → Type 0
-RefusesTurn k old turn new Memory = Unit {0}
-RefusesTurn k old turn new fault = HasNoRow turn fault ⊎ IsUnwritten k old turn new fault
+-- Why a turn isn't committed over a connection, which shows a state: out of memory, before SQLite was asked;
+-- the turn has no row; or SQLite refused it.
+abbrev pub RefusesTurn : {C : Type 0} → (C → State) → Contents → C → Turn → C → WriteFault → Type 0
+RefusesTurn shown k old turn new Memory =
+    (new ≡ old) ⊎ IsUnwritten k (shown old) turn (shown new) Memory
+RefusesTurn shown k old turn new fault =
+    HasNoRow turn fault ⊎ IsUnwritten k (shown old) turn (shown new) fault

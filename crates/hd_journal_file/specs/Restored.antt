@@ -57,7 +57,7 @@ RefusesRow format book row number (Differs at column) =
     (at ≡ number)
     × ((asks : RowAsks book row) × DiffersFirst format (machine_answer book asks.message).reply row column)
 RefusesRow format book row number Memory = Unit {0}
-RefusesRow format book row number (Unread fault) = IsReadingFault fault
+RefusesRow format book row number (Unread fault) = ⊥
 RefusesRow format book row number TooMany = ⊥
 
 -- It took the turns of the first of some rows, which come after `after` others, and not that of the next.

@@ -115,8 +115,8 @@ impl<S: Alter, F: Start, A: Allocator + Copy> TurnTable for JournalFile<S, F, A>
     ghost leaves = { λ file. MayLeave (image_at F.Start) file.is_new (arc_value file.catalogue)
         (state S.Store file.conn) };
 
-    ghost refuses = { λ old turn new fault. RefusesTurn (arc_value old.catalogue) (state S.Store old.conn)
-        turn (state S.Store new.conn) fault };
+    ghost refuses = { λ old turn new fault. RefusesTurn (state S.Store) (arc_value old.catalogue) old.conn
+        turn new.conn fault };
 
     fn commit(&mut self, turn: &TurnRef<'_>) -> Result<(), WriteFault> {
         a_crash_leaves_what_is_seen(&self.conn);

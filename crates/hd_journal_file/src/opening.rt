@@ -10,7 +10,7 @@ ghost use Rattle.sqlite.specs.WalFiles.{image_at};
 ghost use Rattle.hd_journal.specs.Books.{facts};
 ghost use Rattle.hd_journal.specs.Changing.{changing};
 ghost use Rattle.hd_turn_store.specs.Crashes.{HoldsTurns};
-ghost use Rattle.hd_turn_store.specs.Faults.{IsReadingFault};
+ghost use Rattle.hd_turn_store.specs.Faults.{IsReadingFault, RefusesHead};
 ghost use Rattle.hd_turn_store.specs.Holds.{Holds, OnlyReads};
 ghost use Rattle.hd_turn_store.specs.Kept.{Head, KeptTurn, new_head};
 ghost use Rattle.hd_turn_store.specs.Marks.{HasMark, open_mark};
@@ -246,8 +246,8 @@ fn take_again<S: Alter, P: Progress>(
     ensures changing { OnOk result (changing (facts journal.new) journal.new.turns ≡ journal.new.turns) }
     ensures contents { OnOk result (journal.new.contents ≡ journal.old.contents) }
     ensures why { HasCleanDisk (state S.Store conn.new) → IfErr result (λ fault. (head : Head)
-        (rows : List KeptTurn) → Holds (state S.Store conn.old) head rows
-        → RefusesFile wanted.now journal.old head rows fault) }
+        (rows : List KeptTurn) → Holds (state S.Store conn.old) head rows → RefusesFile
+        (state S.Store conn.old) (state S.Store conn.new) wanted.now journal.old head rows fault) }
     ensures other { result ≡ Err OpenFault.OtherCatalogue → wanted.now.is_other_accepted ≡ false }
     // Where it is refused a stop leaves what it could leave before: head and rows, but for a digest whose
     // write failed after all turns were taken.
@@ -289,6 +289,10 @@ fn head_of<S: Alter>(conn: &mut Connection<S>, digest: &[u8; 32]) -> Result<Foun
         → (head.format ≡ found.format) × (IsTrue found.is_same ↔ (head.catalogue ≡ digest.now))) }
     ensures why { IfErr result (λ fault. (why : StoreFault) × (fault ≡ OpenFault.File why)
         × IsReadingFault why) }
+    ensures told { HasCleanDisk (state S.Store conn.new) → IfErr result (λ fault. (head : Head)
+        (rows : List KeptTurn) → Holds (state S.Store conn.old) head rows → (why : StoreFault)
+        × (fault ≡ OpenFault.File why)
+        × RefusesHead (state S.Store conn.old) (state S.Store conn.new) head why) }
 {
     let heading = catalogue(conn)?;
     let is_same = heading.catalogue.as_slice() == digest.as_slice();

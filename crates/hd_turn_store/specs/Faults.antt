@@ -1,15 +1,19 @@
 -- Which fault an error of the database is told as.
-use Rattle.std.specs.Prelude.{◌≡◌, ℕ, List, [], ◌∷◌, ⊤, Err}
+use Rattle.std.specs.Prelude.{◌≡◌, ◌≢◌, ◌⊎◌, ◌^◌, ◌≤◌, ℕ, pos, List, [], ◌∷◌, ⊤, Err}
 use Rattle.sqlite.specs.declared.error.Error.TheVariants.{SqliteFailure, SqlInputError, InvalidColumnType}
 use Rattle.sqlite.specs.declared.error.Error.TheVariants.{IntegralValueOutOfRange, Utf8Error}
-use Rattle.hd_turn_store.specs.Words.{Blob, Error, Executes, State}
+use Rattle.hd_turn_store.specs.Words.{Blob, Error, Executes, FailsToQuery, HasCleanDisk, Int, State}
 use Rattle.hd_turn_store.specs.declared.fault.Fault.{Fault}
 use Rattle.hd_turn_store.specs.declared.fault.Fault.TheVariants.{Busy, CannotOpen, Damaged, NotAJournal}
 use Rattle.hd_turn_store.specs.declared.fault.Fault.TheVariants.{DiskFull, CannotWrite, CannotRead, Memory}
 use Rattle.hd_turn_store.specs.declared.fault.Fault.TheVariants.{UnknownFormat}
-use Rattle.hd_turn_store.specs.Kept.{KeptTurn, cells, IsKnownFormat}
-use Rattle.hd_turn_store.specs.Texts.{insert_turn_text, update_head_text}
+use Rattle.hd_turn_store.specs.Kept.{Head, KeptTurn, cells, IsKnownFormat}
+use Rattle.hd_turn_store.specs.Holds.{Holds, IsBlank}
+use Rattle.hd_turn_store.specs.Tables.{IsJournal, no_schema}
+use Rattle.hd_turn_store.specs.Texts.{insert_turn_text, select_head_text, update_head_text}
 use Rattle.sqlite.specs.declared.error.ErrorCode.TheVariants as code
+use Rattle.sqlite_trees.specs.declared.error.StoreError.{StoreError}
+use Rattle.sqlite_trees.specs.declared.error.StoreError.TheVariants as trees
 
 -- where the files are opened
 abbrev pub opening_fault : Error → Fault
@@ -26,6 +30,12 @@ abbrev pub writing_fault : Error → Fault
 writing_fault (SqliteFailure code.OutOfMemory) = Memory
 writing_fault (SqliteFailure code.DiskFull) = DiskFull
 writing_fault _ = CannotWrite
+
+-- where a mark is written
+abbrev pub mark_fault : StoreError → Fault
+mark_fault trees.OutOfMemory = Memory
+mark_fault trees.Full = DiskFull
+mark_fault _ = CannotWrite
 
 -- where something is read
 abbrev pub reading_fault : Error → Fault
@@ -62,7 +72,26 @@ RefusesDigest old new digest fault =
     (error : Error) × Executes update_head_text (Blob digest ∷ []) old new (Err error)
     × (fault ≡ writing_fault error)
 
--- Why a journal of a format is refused: a format that is unknown is told, or its head can't be read.
-abbrev pub RefusesFormat : ℕ → Fault → Type 0
-RefusesFormat format (UnknownFormat told) = (told ≡ format) × ¬ IsKnownFormat format
-RefusesFormat format fault = IsReadingFault fault
+-- what is shown of a head can't be taken: out of memory, or its format is no number of 32 bits
+abbrev pub IsUnread : Head → Fault → Type 0
+IsUnread head fault = (fault ≡ Memory) ⊎ ((fault ≡ Damaged) × (2 ^ 32 ≤ head.format))
+
+-- A journal's head can't be read: SQLite failed to show it by an error that this fault tells, or what it
+-- shows can't be taken.
+abbrev pub RefusesHead : State → State → Head → Fault → Type 0
+RefusesHead old new head fault =
+    ((error : Error) × FailsToQuery select_head_text (Int (pos 0) ∷ Int (pos 1) ∷ []) old new error
+    × (fault ≡ reading_fault error)) ⊎ IsUnread head fault
+
+-- Why a journal is refused: its format is unknown, and told, or its head can't be read.
+abbrev pub RefusesFormat : State → State → Head → Fault → Type 0
+RefusesFormat old new head fault =
+    ((fault ≡ UnknownFormat head.format) × ¬ IsKnownFormat head.format) ⊎ RefusesHead old new head fault
+
+-- Why a database is refused: it has other tables, so that it is told as no journal; it has none, and those of
+-- a journal can't be written; or its journal is refused.
+pub record RefusesDatabase (old new : State) (fault : Fault) : Type 0 where
+  pub other : old.now.schema ≢ no_schema → ¬ IsJournal old.now.schema → fault ≡ NotAJournal
+  pub blank : IsBlank old → IsWritingFault fault
+  pub journal : HasCleanDisk new → (head : Head) (ks : List KeptTurn) → Holds old head ks
+      → RefusesFormat old new head fault

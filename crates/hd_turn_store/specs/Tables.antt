@@ -2,6 +2,7 @@
 use Rattle.std.specs.Prelude.{◌≡◌, ◌⊎◌, ℕ, ◌+◌, pos, Bool, true, false, List, [], ◌∷◌, map, Some, codes}
 use Rattle.sqlite_value.specs.Keys.{plain}
 use Rattle.sqlite.specs.Kind.TheVariants.{Integer, Text, Blob}
+use Rattle.sqlite_schema.specs.declared.schema.Stamps.{Stamps}
 use Rattle.hd_turn_store.specs.Words.{Binary, Column, Index, Int, Kind, Null, Row, Schema, Table, Trees}
 use Rattle.hd_turn_store.specs.declared.columns.Column.{Column as Listed}
 use Rattle.hd_turn_store.specs.Kept.{KeptTurn, Head, cells, head_cells}
@@ -37,6 +38,16 @@ turn_columns =
     ∷ column (codes "line") Blob false ∷ column (codes "outcome") Text true
     ∷ column (codes "number") Integer false ∷ column (codes "reply") Blob true ∷ []
 
+-- no column's default reads the time
+abbrev pub no_stamps : Stamps
+no_stamps = record { places = []; terms = []; formats = [] }
+
+-- a table has no rule but that of its key
+abbrev pub HasNoRule : Table → Type 0
+HasNoRule table =
+    (table.uniques ≡ []) × (table.orders ≡ []) × (table.checks ≡ []) × (table.references ≡ [])
+    × (table.computed ≡ []) × (table.stamps ≡ no_stamps) × (table.is_counted ≡ false)
+
 -- a table whose first column is its INTEGER PRIMARY KEY, and which has no other rule
 abbrev pub table_by : List ℕ → ℕ → List ℕ → List Column → Table
 table_by name tree key columns = record {
@@ -50,7 +61,7 @@ table_by name tree key columns = record {
   checks = [];
   references = [];
   computed = [];
-  stamps = record { places = []; terms = []; formats = [] };
+  stamps = no_stamps;
   is_counted = false;
 }
 

@@ -18,7 +18,8 @@ pub use Rattle.sqlite.specs.Recovery.{Image}
 pub use Rattle.sqlite.specs.Rows.{Written}
 pub use Rattle.sqlite.specs.Schema.{Schema}
 pub use Rattle.sqlite.specs.Source.TheVariants.{Values}
-pub use Rattle.sqlite.specs.State.{CommitsShowing, Executes, HasCleanDisk, IsLive, IsUnchanged, MayCommit}
+pub use Rattle.sqlite.specs.State.{CommitsShowing, Executes, FailsToQuery, HasCleanDisk, IsLive, IsUnchanged}
+pub use Rattle.sqlite.specs.State.{MayCommit}
 pub use Rattle.sqlite.specs.State.{Opens, Runs, ShowsRows, State, Survives, Writes, mode_of, text_of}
 pub use Rattle.sqlite.specs.Steps.{IsFresh}
 pub use Rattle.sqlite.specs.Table.{Table}

@@ -1,6 +1,6 @@
 //! A journal in a file.
 
-ghost use Rattle.std.specs.Prelude.{◌≡◌, [], codes, false, true, List, IsErrAnd, IsTrue, IfOk, Ok};
+ghost use Rattle.std.specs.Prelude.{◌≡◌, [], codes, false, true, List, IfErr, IfOk, IsErrAnd, IsTrue, Ok};
 ghost use Rattle.sqlite.specs.WalFiles.{image_at};
 ghost use Rattle.sqlite_store.specs.FileStore.{state as store_state};
 ghost use Rattle.hd_turn_store.specs.Words.{HasCleanDisk, Image, IsBlankAs, IsClean, file_state, state, view};
@@ -8,6 +8,7 @@ ghost use Rattle.hd_turn_store.specs.Kept.{KeptTurn, Head, IsKnownFormat, new_he
 ghost use Rattle.hd_turn_store.specs.Tables.{IsJournal, no_schema};
 ghost use Rattle.hd_turn_store.specs.Holds.{BeginsOrReads, Holds, OnlyReads};
 ghost use Rattle.hd_turn_store.specs.Crashes.{HoldsTurns};
+ghost use Rattle.hd_turn_store.specs.Faults.{RefusesDatabase};
 
 use crate::fault::Fault;
 use crate::heading::check;
@@ -60,6 +61,7 @@ fn begin_or_check<S: Alter>(conn: &mut Connection<S>, digest: &[u8; 32]) -> Resu
     ensures known { HasCleanDisk (state S.Store conn.new) → IfOk result (λ is_new. is_new ≡ false
         → (head : Head) (ks : List KeptTurn) → Holds (state S.Store conn.old) head ks
         → IsKnownFormat head.format) }
+    ensures why { IfErr result (RefusesDatabase (state S.Store conn.old) (state S.Store conn.new)) }
 {
     if is_blank(conn.schema()) {
         return begin(conn, digest).map(|()| true);
@@ -72,7 +74,10 @@ fn readable<S: Alter + Drop>(
     conn: Connection<S>,
     digest: &[u8; 32],
 ) -> Result<(Connection<S>, bool), Fault>
-    ensures { IfOk result (λ r. BeginsOrReads digest.now r.1 (state S.Store conn) (state S.Store r.0)) }
+    ensures ok { IfOk result (λ r. BeginsOrReads digest.now r.1 (state S.Store conn) (state S.Store r.0)) }
+    // `after` is the connection as the fault found it.
+    ensures why { IfErr result (λ fault. (after : _)
+        × RefusesDatabase (state S.Store conn) (state S.Store after) fault) }
 {
     let mut conn = conn;
     let is_new = begin_or_check(&mut conn, digest)?;

@@ -1,12 +1,13 @@
 //! Which catalogue a journal is of.
 
-ghost use Rattle.std.specs.Prelude.{◌≡◌, ◌∷◌, [], List, IfOk, IfErr, IsOk, OnOk};
+ghost use Rattle.std.specs.Prelude.{◌≡◌, ◌∷◌, [], List, IfOk, IfErr, IsErrOf, IsOk, OnOk};
 ghost use Rattle.hd_turn_store.specs.Words.{HasCleanDisk, state};
 ghost use Rattle.hd_turn_store.specs.Kept.{KeptTurn, Head, head_cells, IsKnownFormat};
 ghost use Rattle.hd_turn_store.specs.Tables.{IsJournal};
 ghost use Rattle.hd_turn_store.specs.Holds.{Commits, Holds, OnlyReads};
 ghost use Rattle.hd_turn_store.specs.Rows.{read_head};
-ghost use Rattle.hd_turn_store.specs.Faults.{IsWritingFault, IsReadingFault, RefusesDigest, RefusesFormat};
+ghost use Rattle.hd_turn_store.specs.Faults.{IsReadingFault, IsUnread, IsWritingFault, RefusesDigest};
+ghost use Rattle.hd_turn_store.specs.Faults.{RefusesFormat, RefusesHead};
 
 use crate::columns::{SELECT_HEAD, UPDATE_HEAD};
 use crate::fault::Fault;
@@ -34,6 +35,8 @@ pub struct Heading {
 fn head_among(rows: &[Row]) -> Result<Heading, Fault>
     ensures head { IfOk result (λ h. (head : Head) → rows.now ≡ head_cells head ∷ [] → read_head h ≡ head) }
     ensures fault { IfErr result IsReadingFault }
+    ensures why { IfErr result (λ fault. (head : Head) → rows.now ≡ head_cells head ∷ []
+        → IsUnread head fault) }
 {
     let [row] = rows else {
         return Err(Fault::Damaged);
@@ -50,6 +53,9 @@ pub fn catalogue<S: Alter>(conn: &mut Connection<S>) -> Result<Heading, Fault>
     ensures ok { HasCleanDisk (state S.Store conn.new) → IfOk result (λ h. (head : Head) (ks : List KeptTurn)
         → Holds (state S.Store conn.old) head ks → read_head h ≡ head) }
     ensures fault { IfErr result IsReadingFault }
+    ensures why { HasCleanDisk (state S.Store conn.new) → IfErr result (λ fault. (head : Head)
+        (ks : List KeptTurn) → Holds (state S.Store conn.old) head ks
+        → RefusesHead (state S.Store conn.old) (state S.Store conn.new) head fault) }
 {
     match conn.query_all(SELECT_HEAD, &[0u32.to_sql(), 1u32.to_sql()]) {
         Ok(rows) => head_among(rows.as_slice()),
@@ -81,8 +87,10 @@ pub(crate) fn check<S: Alter>(conn: &mut Connection<S>) -> Result<(), Fault>
     ensures schema { OnOk result (IsJournal (state S.Store conn.old).now.schema) }
     ensures known { HasCleanDisk (state S.Store conn.new) → OnOk result ((head : Head) (ks : List KeptTurn)
         → Holds (state S.Store conn.old) head ks → IsKnownFormat head.format) }
+    ensures other { ¬ IsJournal (state S.Store conn.old).now.schema → IsErrOf result Fault.NotAJournal }
     ensures fault { HasCleanDisk (state S.Store conn.new) → IfErr result (λ fault. (head : Head)
-        (ks : List KeptTurn) → Holds (state S.Store conn.old) head ks → RefusesFormat head.format fault) }
+        (ks : List KeptTurn) → Holds (state S.Store conn.old) head ks
+        → RefusesFormat (state S.Store conn.old) (state S.Store conn.new) head fault) }
 {
     if !is_journal(conn.schema()) {
         return Err(Fault::NotAJournal);
@@ -93,7 +101,8 @@ pub(crate) fn check<S: Alter>(conn: &mut Connection<S>) -> Result<(), Fault>
 /// Whether the format of a journal's head is known.
 fn check_format(heading: &Heading) -> Result<(), Fault>
     ensures known { OnOk result (IsKnownFormat heading.now.format) }
-    ensures fault { IfErr result (RefusesFormat heading.now.format) }
+    ensures fault { IfErr result (λ fault. (fault ≡ Fault.UnknownFormat heading.now.format)
+        × ¬ IsKnownFormat heading.now.format) }
 {
     if heading.format == FORMAT || heading.format == OLD_FORMAT {
         Ok(())

@@ -3,7 +3,7 @@
 ghost use Rattle.std.specs.Prelude.{◌≡◌, ◌≤◌, ◌↔◌, List, [], IfErr, IfOk, IsTrue, OnOk, take};
 ghost use Rattle.hd_turn_store.specs.Words.{AreClean, HasCleanDisk, HoldsDatabase, Image, IsClean, Trees};
 ghost use Rattle.hd_turn_store.specs.Words.{doubt, file_state, outcomes, recovers, view};
-ghost use Rattle.hd_turn_store.specs.Faults.{IsWritingFault};
+ghost use Rattle.hd_turn_store.specs.Faults.{IsWritingFault, mark_fault};
 ghost use Rattle.hd_turn_store.specs.Holds.{Holds};
 ghost use Rattle.hd_turn_store.specs.Kept.{Head, KeptTurn};
 ghost use Rattle.hd_turn_store.specs.Marks.{GetsMark, HasMark, HoldsEnded, IsMarked, KeepsTurns, MayGetMark};
@@ -103,7 +103,8 @@ fn with_mark<D: Disk + Drop>(
 
 /// What is told where a mark can't be written.
 fn unmarked(error: StoreError) -> Fault
-    ensures { IsWritingFault result }
+    ensures value { result ≡ mark_fault error }
+    ensures kind { IsWritingFault result }
 {
     match error {
         StoreError::OutOfMemory => Fault::Memory,

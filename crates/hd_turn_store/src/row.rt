@@ -1,6 +1,6 @@
 //! A turn's row.
 
-ghost use Rattle.std.specs.Prelude.{◌≡◌, IfErr, IfOk};
+ghost use Rattle.std.specs.Prelude.{◌≡◌, ◌⊎◌, ◌<◌, length, IfErr, IfOk};
 ghost use Rattle.std.specs.Option.{option_copied};
 ghost use Rattle.sqlite.specs.declared.types.Value.TheVariants.{Text as Words};
 ghost use Rattle.hd_turn_store.specs.Words.{bound, bound_value, column, or_null, owned};
@@ -108,6 +108,8 @@ fn text_or_null(text: Option<&[u8]>) -> ValueRef<'_>
 pub(crate) fn value<T: FromSql>(row: &Row, at: usize) -> Result<T, Fault>
     ensures value { IfOk result (λ value. T.FromSql.reads_as (column row.now at) value) }
     ensures fault { IfErr result IsReadingFault }
+    ensures why { at < length row.now → IfErr result (λ fault. (fault ≡ Fault.Memory)
+        ⊎ ((fault ≡ Fault.Damaged) × ¬ T.FromSql.is_readable (column row.now at))) }
 {
     row.get(at).map_err(Fault::of_reading)
 }

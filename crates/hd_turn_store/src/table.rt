@@ -1,17 +1,18 @@
 //! Whether a database has a journal's tables and nothing else, or no table yet.
 
 ghost use Rattle.std.specs.Prelude.{◌≡◌, ◌⊎◌, ◌∷◌, ◌↔◌, [], false, IsTrue, map};
-ghost use Rattle.hd_turn_store.specs.Tables.{IsJournal, column, column_of, no_schema, number_index, table_by};
+ghost use Rattle.hd_turn_store.specs.Tables.{HasNoRule, IsJournal, column, column_of, no_schema, no_stamps};
+ghost use Rattle.hd_turn_store.specs.Tables.{number_index, table_by};
 ghost use Rattle.sqlite.specs.Kind.TheVariants.{Integer};
 
 use crate::columns::{COLUMNS, Column, HEAD_COLUMNS};
-use sqlite_schema::schema::{Column as Found, Index, Kind, Schema, Table};
+use sqlite_schema::schema::{Column as Found, Index, Kind, Schema, Stamps, Table};
 use sqlite_value::keys::{Collation, Order};
 use sqlite_value::value::Value;
 
 /// Whether a column is this one, of a STRICT table.
 fn is_column(found: &Found, name: &[u8], kind: Kind, is_needed: bool) -> bool
-    ensures { IsTrue result → found.now ≡ column name.now kind is_needed }
+    ensures { IsTrue result ↔ (found.now ≡ column name.now kind is_needed) }
 {
     found.name.as_slice() == name
         && found.kind == kind
@@ -23,7 +24,7 @@ fn is_column(found: &Found, name: &[u8], kind: Kind, is_needed: bool) -> bool
 
 /// Whether columns are these, in their order.
 fn are_columns(found: &[Found], wanted: &[Column]) -> bool
-    ensures { IsTrue result → found.now ≡ map column_of wanted.now }
+    ensures { IsTrue result ↔ (found.now ≡ map column_of wanted.now) }
 {
     if found.len() != wanted.len() {
         return false;
@@ -43,7 +44,7 @@ fn are_columns(found: &[Found], wanted: &[Column]) -> bool
 
 /// Whether the first column is the table's key, and these are the others.
 fn are_keyed(found: &[Found], key: &[u8], wanted: &[Column]) -> bool
-    ensures { IsTrue result → found.now ≡ column key.now Integer false ∷ map column_of wanted.now }
+    ensures { IsTrue result ↔ (found.now ≡ column key.now Integer false ∷ map column_of wanted.now) }
 {
     match found.split_first() {
         Some((first, others)) => is_column(first, key, Kind::Integer, false)
@@ -52,29 +53,41 @@ fn are_keyed(found: &[Found], key: &[u8], wanted: &[Column]) -> bool
     }
 }
 
+/// Whether no column has a default that reads the time.
+fn is_unstamped(stamps: &Stamps) -> bool
+    ensures { IsTrue result ↔ (stamps.now ≡ no_stamps) }
+{
+    stamps.places.is_empty() && stamps.terms.roots.is_empty() && stamps.formats.is_empty()
+}
+
+/// Whether a table has no rule but that of its key.
+fn is_without_rule(found: &Table) -> bool
+    ensures { IsTrue result ↔ HasNoRule found.now }
+{
+    found.uniques.is_empty()
+        && found.orders.is_empty()
+        && found.checks.roots.is_empty()
+        && found.references.is_empty()
+        && found.computed.is_empty()
+        && is_unstamped(&found.stamps)
+        && !found.is_counted
+}
+
 /// Whether a table has this key as its first column, these others, and no other rule.
 fn is_table(found: &Table, name: &[u8], tree: u32, key: &[u8], wanted: &[Column]) -> bool
-    ensures { IsTrue result → found.now ≡ table_by name.now tree key.now (map column_of wanted.now) }
+    ensures { IsTrue result ↔ (found.now ≡ table_by name.now tree key.now (map column_of wanted.now)) }
 {
     found.name.as_slice() == name
         && found.tree == tree
         && are_keyed(found.columns.as_slice(), key, wanted)
         && found.key == Some(0)
         && found.primary.as_slice() == [0].as_slice()
-        && found.uniques.is_empty()
-        && found.orders.is_empty()
-        && found.checks.roots.is_empty()
-        && found.references.is_empty()
-        && found.computed.is_empty()
-        && found.stamps.places.is_empty()
-        && found.stamps.terms.roots.is_empty()
-        && found.stamps.formats.is_empty()
-        && !found.is_counted
+        && is_without_rule(found)
 }
 
 /// Whether it is the index of turns by number.
 fn is_number_index(found: &Index) -> bool
-    ensures { IsTrue result → found.now ≡ number_index }
+    ensures { IsTrue result ↔ (found.now ≡ number_index) }
 {
     found.name.as_slice() == b"turn_number".as_slice()
         && found.tree == 2
@@ -86,7 +99,7 @@ fn is_number_index(found: &Index) -> bool
 
 /// Whether there is no index, or that of turns by number alone.
 fn are_indexes(found: &[Index]) -> bool
-    ensures { IsTrue result → (found.now ≡ number_index ∷ []) ⊎ (found.now ≡ []) }
+    ensures { IsTrue result ↔ ((found.now ≡ number_index ∷ []) ⊎ (found.now ≡ [])) }
 {
     match found {
         [] => true,
@@ -97,7 +110,7 @@ fn are_indexes(found: &[Index]) -> bool
 
 /// Whether a database has the two tables of a journal, perhaps their index, and nothing else.
 pub fn is_journal(schema: &Schema) -> bool
-    ensures { IsTrue result → IsJournal schema.now }
+    ensures { IsTrue result ↔ IsJournal schema.now }
 {
     match schema.tables.as_slice() {
         [journal, turn] => is_table(journal, b"journal", 0, b"only", &HEAD_COLUMNS)

@@ -1,11 +1,16 @@
 use Rattle.std.proofs.Common.{refl, inl, inr, IsTrue, arith}
 use Rattle.hd_lemmas.proofs.Results.{on_err}
 use Rattle.hd_journal_file.specs.Opening.{MayBeTaken}
-use Rattle.hd_journal_file.specs.declared.open_fault.OpenFault.TheVariants.{Turns}
+use Rattle.hd_journal_file.specs.declared.open_fault.OpenFault.TheVariants.{File, Turns}
 use Rattle.hd_journal_file.proofs.Results.{passes}
 use Rattle.hd_journal_file.proofs.opening.take_again.Goals as goal
 
 -- where its head can't be read
+pub returns-in_err-found-clause-why : goal.returns-in_err-found-clause-why
+returns-in_err-found-clause-why g c clean =
+    passes c.from_residual.result c.in_err-found.field-0.0 _ c.from_residual.ensures.1 (λ head rows holds.
+    let told = c.in_err-found.ensures.told clean head rows holds in rw told.1 (inl told.2))
+
 pub returns-in_err-found-clause-left : goal.returns-in_err-found-clause-left
 returns-in_err-found-clause-left g c clean =
     on_err c.from_residual.result _
@@ -33,6 +38,12 @@ returns-in_err-restore_turns-clause-left g c clean =
     (c.in_ok-found.ensures.reads.same refl early head rows holds) db may)))
 
 -- where the digest can't be written
+pub returns-in_err-accept-clause-why : goal.returns-in_err-accept-clause-why
+returns-in_err-accept-clause-why g c clean =
+    let accepted : IsTrue c.args.wanted.now.is_other_accepted = grind arith in
+    passes c.from_residual-in_err-accept.result (File c.in_err-accept.field-0.0) _
+    c.from_residual-in_err-accept.ensures.1 (λ head rows holds. inr (accepted, c.in_err-accept.ensures.fault))
+
 pub returns-in_err-accept-clause-left : goal.returns-in_err-accept-clause-left
 returns-in_err-accept-clause-left g c clean =
     let late = c.accept.ensures.clean clean in

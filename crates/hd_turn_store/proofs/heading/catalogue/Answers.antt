@@ -1,5 +1,5 @@
-use Rattle.std.proofs.Common.{◌∙◌}
-use Rattle.std.proofs.lemmas.Result.{IfOk-weaker}
+use Rattle.std.proofs.Common.{◌∙◌, inl, inr}
+use Rattle.std.proofs.lemmas.Result.{IfErr-weaker, IfOk-weaker}
 use Rattle.hd_turn_store.proofs.Queries.{finds_head, only_reads}
 use Rattle.hd_turn_store.proofs.Texts.{select_head_means}
 use Rattle.hd_turn_store.proofs.heading.catalogue.Goals as goal
@@ -19,3 +19,15 @@ returns-in-Ok-clause-ok g c clean =
     IfOk-weaker c.head_among.result _ _
     (λ heading is head ks holds. is head (c.as_slice.ensures.value ∙ finds_head _ _ _ shown head ks holds))
     c.head_among.ensures.head
+
+pub returns-in-Ok-clause-why : goal.returns-in-Ok-clause-why
+returns-in-Ok-clause-why g c clean =
+    let shown = rw (c.to_sql.ensures, c.to_sql-2.ensures) at (c.in-Ok.ensures.ok clean) in
+    IfErr-weaker c.head_among.result _ _
+    (λ fault why head ks holds.
+    inr (why head (c.as_slice.ensures.value ∙ finds_head _ _ _ shown head ks holds))) c.head_among.ensures.why
+
+pub returns-in-Err-clause-why : goal.returns-in-Err-clause-why
+returns-in-Err-clause-why g c clean head ks holds =
+    let fails = rw (c.to_sql.ensures, c.to_sql-2.ensures) at (c.in-Err.ensures.err clean) in
+    inl (c.in-Err.error, fails, c.of_reading.ensures.value)

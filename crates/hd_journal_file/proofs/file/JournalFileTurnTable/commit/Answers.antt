@@ -1,4 +1,5 @@
 use Rattle.std.proofs.Common.{inl, inr, refl}
+use Rattle.sqlite.specs.Held.{state}
 use Rattle.hd_lemmas.proofs.Results.{on_err}
 use Rattle.hd_journal_file.proofs.Held.{earlier, one_more, unwritten}
 use Rattle.hd_journal_file.proofs.Results.{passes}
@@ -7,6 +8,9 @@ use Rattle.hd_journal_file.proofs.file.JournalFileTurnTable.commit.Goals as goal
 pub returns-in_default-clause-err : goal.returns-in_default-clause-err
 returns-in_default-clause-err g c turns left legal holds leaves =
     inl (c.a_crash_leaves_what_is_seen.ensures.only _ turns left (holds leaves.0).has leaves.1)
+
+pub returns-in_default-clause-why : goal.returns-in_default-clause-why
+returns-in_default-clause-why g c = inl refl
 
 pub returns-in_default-of-clause-err : goal.returns-in_default-of-clause-err
 returns-in_default-of-clause-err g c turns left legal holds leaves =
@@ -42,4 +46,4 @@ returns-in_err-add-clause-err g c =
 pub returns-in_err-add-clause-why : goal.returns-in_err-add-clause-why
 returns-in_err-add-clause-why g c =
     passes c.from_residual.result c.in_err-add.field-0.0 _ c.from_residual.ensures.1
-    (unwritten _ _ c.turn_row-row.ensures c.in_err-add.field-0.0 c.in_err-add.ensures.why)
+    (unwritten (state g.S.Store) _ _ c.turn_row-row.ensures c.in_err-add.field-0.0 c.in_err-add.ensures.why)
