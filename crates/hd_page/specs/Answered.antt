@@ -46,8 +46,8 @@ Answers shown head m a =
     (m ≡ method_of head.method)
     × AnswersParts shown head.method head.target (list_any tells_body (map name_and_value head.fields)) a
 
--- what is answered where no head can be read: that the request is a bad one; or that it has too many fields, and
--- then a front of it and an empty line are a head that has
+-- what is answered where no head can be read: that the request is a bad one; or that it has too many
+-- fields, where a front of it and an empty line are a head that has
 abbrev pub IsUnread : List ℕ → Answer → Type 0
 IsUnread request a =
     (a ≡ refusal BadRequest) ⊎ ((a ≡ refusal FieldsTooLarge) × RequestExceeds FIELDS request)
