@@ -76,8 +76,8 @@ pub record IsJsonOf (value : Data) (text : List ℕ) : Type 0 where
   pub compact : has_float value ≡ false → text ≡ compact_text value
   pub reads : depth value ≤ max_depth → read text ≡ Some value
 
--- the text of what a row has under a name: none where it has nothing there, a text as it is told, a number by its
--- digits, and all else as JSON
+-- the text of what a row has under a name: none where it has nothing there, a text as it is told, a whole
+-- number by its digits, and all else as JSON
 abbrev pub IsCell : Option Data → List ℕ → Type 0
 IsCell None text = text ≡ []
 IsCell (Some null) text = text ≡ []
