@@ -1,9 +1,10 @@
 -- The rows of a page.
 use Rattle.std.specs.Prelude.{◌≡◌, ⊤, ℕ, List, [], ◌∷◌, ◌++◌, Option, Some, None, option_and_then, codes}
-use Rattle.std.specs.Prelude.{Contains, IsUtf8, is_some, true}
-use Rattle.serde_json.specs.Data.{Data, Items, null, string, no_items, item}
+use Rattle.std.specs.Prelude.{◌≤◌, Contains, IsUtf8, decimal, false, is_some, true}
+use Rattle.serde_json.specs.Data.{Data, Items, depth, null, number, string, unsigned, no_items, item}
 use Rattle.serde_json.specs.Find.{as_array, as_number, as_u64, get}
-use Rattle.serde_json.specs.Read.{read}
+use Rattle.serde_json.specs.Read.{max_depth, read}
+use Rattle.serde_json.specs.Written.{compact_text, has_float}
 use Rattle.hd_ask.specs.declared.fault.AskFault.{AskFault}
 use Rattle.hd_ask.specs.declared.fault.AskFault.TheVariants.{Memory, Unreadable}
 
@@ -70,9 +71,16 @@ HasRows None text rows = text ≡ 91 ∷ (rows ++ 93 ∷ [])
 HasRows (Some next) text rows =
     (object : List ℕ) × (¬ Contains object 123) × (text ≡ 91 ∷ (with_comma rows ++ 123 ∷ object))
 
--- the text of what a row has under a name: none where it has nothing there, and a text as it is told
+-- a text is this value as JSON: with no space where the value has no float, and it reads as the value
+pub record IsJsonOf (value : Data) (text : List ℕ) : Type 0 where
+  pub compact : has_float value ≡ false → text ≡ compact_text value
+  pub reads : depth value ≤ max_depth → read text ≡ Some value
+
+-- the text of what a row has under a name: none where it has nothing there, a text as it is told, a whole
+-- number by its digits, and all else as JSON
 abbrev pub IsCell : Option Data → List ℕ → Type 0
 IsCell None text = text ≡ []
 IsCell (Some null) text = text ≡ []
 IsCell (Some (string told)) text = text ≡ told
-IsCell (Some _) text = ⊤
+IsCell (Some (number (unsigned n))) text = text ≡ decimal n
+IsCell (Some value) text = IsJsonOf value text

@@ -1,8 +1,10 @@
 -- What is heard of a request.
-use Rattle.std.specs.Prelude.{◌≡◌, ◌⊎◌, ◌+◌, ◌<◌, ◌≤◌, ◌++◌, ℕ, List, Option, length}
-use Rattle.std.specs.Io.KnownBytes.{Consumes}
+use Rattle.std.specs.Prelude.{◌≡◌, ◌⊎◌, ◌<◌, ◌≤◌, ◌++◌, ⊤, ℕ, List, [], Option, length}
+use Rattle.std.specs.Io.KnownBytes.{Consumes, IsAtEnd}
 use Rattle.httparse.specs.Grammar.{HasNoRequest, ReadsRequest, RequestHead}
 use Rattle.httparse.specs.Spans.{RequestOverflows}
+use Rattle.hd_door.specs.declared.fault.HearFault.{HearFault}
+use Rattle.hd_door.specs.declared.fault.HearFault.TheVariants.{Read, Ended, Memory}
 use Rattle.hd_door.specs.declared.hearing.Heard.{Heard}
 use Rattle.hd_door.specs.declared.hearing.Heard.TheVariants.{Whole, TooLong}
 
@@ -26,3 +28,19 @@ pub record Comes (before after : Option (List ℕ)) (old new : List ℕ) : Type 
   pub behind : new ≡ old ++ came
   pub some : 0 < length came
   pub most : length new ≤ 8192
+
+-- Why no more was heard by a reader that told these bytes before and after: a read failed, for this
+-- reason; the reader has ended, and gave nothing; or memory is wanting.
+abbrev pub IsNoMore : Type 0 → Option (List ℕ) → Option (List ℕ) → HearFault → Type 0
+IsNoMore fails before after Read = fails
+IsNoMore fails before after Ended = Consumes before after [] × IsAtEnd after
+IsNoMore fails before after Memory = ⊤
+
+-- The same of a whole request: where the reader has ended, it gave fewer than 8,192 bytes, of which none
+-- make a head.
+abbrev pub HasReason : Type 0 → Option (List ℕ) → Option (List ℕ) → HearFault → Type 0
+HasReason fails before after Read = fails
+HasReason fails before after Ended =
+    (bytes : List ℕ) × Consumes before after bytes × IsAtEnd after × (length bytes < 8192)
+    × HasNoRequest bytes
+HasReason fails before after Memory = ⊤

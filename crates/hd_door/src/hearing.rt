@@ -1,8 +1,9 @@
 //! Hearing a request's head.
-ghost use Rattle.std.specs.Prelude.{◌<◌, IfSome, IsFalse, IsTrue, length};
+ghost use Rattle.std.specs.Prelude.{◌<◌, IfErr, IfOk, IsFalse, IsTrue, OnOk, length};
 ghost use Rattle.httparse.specs.Grammar.{HasNoRequest};
-ghost use Rattle.hd_door.specs.Hearing.{IsHeard, IsSettled, Comes};
+ghost use Rattle.hd_door.specs.Hearing.{Comes, HasReason, IsHeard, IsNoMore, IsSettled};
 
+use crate::fault::HearFault;
 use hd_connection::Input;
 use hd_page::FIELDS;
 use httparse::Status;
@@ -24,35 +25,43 @@ pub enum Heard {
     TooLong,
 }
 
-/// Hears a request's head, and takes no more than `MOST` bytes of it; or `None`, where it doesn't come: the
-/// connection ends or fails before, or memory runs out.
-pub fn hear<I: Input>(alloc: Global, from: &mut I) -> Option<Heard>
-    ensures { IfSome result (IsHeard (I.remaining from.old) (I.remaining from.new)) }
+/// Hears a request's head, and takes no more than `MOST` bytes of it.
+///
+/// # Errors
+/// `Read` where a read fails, `Ended` where the input ends before a whole head; `Memory`.
+#[tactic(auto, using(crate::proofs::Nothing::no_head_in_nothing))]
+pub fn hear<I: Input>(alloc: Global, from: &mut I) -> Result<Heard, HearFault>
+    ensures heard { IfOk result (IsHeard (I.remaining from.old) (I.remaining from.new)) }
+    ensures why { IfErr result (HasReason (I.fails from.new) (I.remaining from.old) (I.remaining from.new)) }
 {
     let mut request = Vec::new(alloc);
     while request.len() < MOST {
         hear_more(from, &mut request)?;
         if !wants_more(request.as_slice()) {
-            return Some(Heard::Whole(request));
+            return Ok(Heard::Whole(request));
         }
     }
-    Some(Heard::TooLong)
+    Ok(Heard::TooLong)
 }
 
-/// Reads once, behind what was read of a request; or `None`, where nothing comes.
-fn hear_more<I: Input>(from: &mut I, request: &mut Vec<u8>) -> Option<()>
+/// Reads once, behind what was read of a request.
+///
+/// # Errors
+/// As `hear`: `Ended` where nothing comes.
+fn hear_more<I: Input>(from: &mut I, request: &mut Vec<u8>) -> Result<(), HearFault>
     requires { length request.old.items < 8192 }
-    ensures { IfSome result (λ _. Comes (I.remaining from.old) (I.remaining from.new)
+    ensures comes { OnOk result (Comes (I.remaining from.old) (I.remaining from.new)
         request.old.items request.new.items) }
+    ensures why { IfErr result (IsNoMore (I.fails from.new) (I.remaining from.old) (I.remaining from.new)) }
 {
     let mut piece = [0u8; PIECE];
     let room = PIECE.min(MOST - request.len());
-    let count = from.read_some(&mut piece[..room]).ok()?;
+    let count = from.read_some(&mut piece[..room])?;
     if count == 0 {
-        return None;
+        return Err(HearFault::Ended);
     }
-    request.extend_from_slice(&piece[..count]).ok()?;
-    Some(())
+    request.extend_from_slice(&piece[..count])?;
+    Ok(())
 }
 
 /// Whether these bytes are no request's head, and more can make one of them.

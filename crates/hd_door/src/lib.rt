@@ -14,7 +14,7 @@ mod stopping;
 mod timely;
 
 pub use crate::door::Door;
-pub use crate::fault::DoorFault;
+pub use crate::fault::{DoorFault, HearFault};
 pub use crate::hearing::{Heard, MOST, hear};
 pub use crate::responding::{Response, respond};
 pub use crate::serving::{Service, serve};

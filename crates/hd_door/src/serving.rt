@@ -1,13 +1,14 @@
 //! Answering requests.
-ghost use Rattle.std.specs.Prelude.{◌≡◌, ◌≢◌, IfNone, IfSome, Some, true};
+ghost use Rattle.std.specs.Prelude.{◌≡◌, ◌≢◌, IfErr, IfOk, Ok, OnErr, true};
 ghost use Rattle.hd_page.specs.declared.answering.Sequel.TheVariants.{Stop};
-ghost use Rattle.hd_door.specs.Hearing.{IsHeard};
+ghost use Rattle.hd_door.specs.Hearing.{HasReason, IsHeard};
 ghost use Rattle.hd_door.specs.Responding.{IsResponse, WentOut};
 ghost use Rattle.hd_door.specs.declared.hearing.Heard.{Heard};
 ghost use Rattle.hd_door.specs.declared.responding.Response.{Response};
 
 use crate::connection::Connection;
 use crate::door::Door;
+use crate::fault::HearFault;
 use crate::hearing::hear;
 use crate::lingering::linger;
 use crate::responding::{Response, respond};
@@ -96,37 +97,42 @@ fn welcome<R: Wait + Clock, V: View, S: OnStop + Copy>(
 ) {
     let mut on_stop = service.on_stop;
     match attend_to(rt, service, &connection, &mut on_stop) {
-        Some(Sequel::Stop) => door.hold(rt, connection),
-        Some(Sequel::GoOn) => take_leave(rt, &connection),
-        None => {}
+        Ok(Sequel::Stop) => door.hold(rt, connection),
+        Ok(Sequel::GoOn) => take_leave(rt, &connection),
+        Err(_) => {}
     }
 }
 
 /// Answers the request that comes by a connection, as `attend` does. Its head and its answer each have their
 /// time.
+///
+/// # Errors
+/// As `attend`.
 fn attend_to<R: Clock, V: View, S: OnStop>(
     rt: &R,
     service: &Service<'_, V, S>,
     connection: &UnixStream,
     on_stop: &mut S,
-) -> Option<Sequel>
-    ensures stop { result ≡ Some Stop → S.is_called on_stop.new ≡ true }
-    ensures goes_on { result ≢ Some Stop → on_stop.new ≡ on_stop.old }
+) -> Result<Sequel, HearFault>
+    ensures stop { result ≡ Ok Stop → S.is_called on_stop.new ≡ true }
+    ensures goes_on { result ≢ Ok Stop → on_stop.new ≡ on_stop.old }
 {
     let mut from = within(rt, connection, HEAD_SECONDS);
     let mut to = within(rt, connection, ANSWER_SECONDS);
     attend(service, &mut from, &mut to, on_stop)
 }
 
-/// Answers the request that comes: what the answer was followed by; or `None`, where no request comes, or
-/// memory runs out. Nothing is written then.
+/// Answers the request that comes: what the answer was followed by.
+///
+/// # Errors
+/// As `hear`; `Memory` also where it runs out for the answer. Nothing is written then.
 fn attend<I: Input, O: Output, V: View, S: OnStop>(
     service: &Service<'_, V, S>,
     from: &mut I,
     to: &mut O,
     on_stop: &mut S,
-) -> Option<Sequel>
-    ensures answered { IfSome result (λ sequel. (heard : Heard) × (response : Response)
+) -> Result<Sequel, HearFault>
+    ensures answered { IfOk result (λ sequel. (heard : Heard) × (response : Response)
         × IsHeard (I.remaining from.old) (I.remaining from.new) heard
         × IsResponse service.now.page.policy.now (record {
           page = service.now.page.text.now;
@@ -135,14 +141,15 @@ fn attend<I: Input, O: Output, V: View, S: OnStop>(
         }) heard response
         × (sequel ≡ response.sequel)
         × WentOut (O.contents to.old) (O.contents to.new) (O.fails to.new) response.text.items) }
-    ensures silent { IfNone result (to.new ≡ to.old) }
-    ensures stop { result ≡ Some Stop → S.is_called on_stop.new ≡ true }
-    ensures goes_on { result ≢ Some Stop → on_stop.new ≡ on_stop.old }
+    ensures silent { OnErr result (to.new ≡ to.old) }
+    ensures why { IfErr result (HasReason (I.fails from.new) (I.remaining from.old) (I.remaining from.new)) }
+    ensures stop { result ≡ Ok Stop → S.is_called on_stop.new ≡ true }
+    ensures goes_on { result ≢ Ok Stop → on_stop.new ≡ on_stop.old }
 {
     let heard = hear(service.alloc, from)?;
-    let response = respond(service.alloc, &heard, &service.page, service.view).ok()?;
+    let response = respond(service.alloc, &heard, &service.page, service.view)?;
     give(&response, to, on_stop);
-    Some(response.sequel)
+    Ok(response.sequel)
 }
 
 /// Gives an answer, or where the output fails as much of it as was taken, and has the server end where that

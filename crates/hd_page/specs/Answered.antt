@@ -3,7 +3,7 @@ use Rattle.std.specs.Prelude.{◌≡◌, ◌⊎◌, ◌<◌, ◌≤◌, ℕ, Boo
 use Rattle.std.specs.Prelude.{Some, None}
 use Rattle.std.specs.List.{list_any}
 use Rattle.httparse.specs.Grammar.{HasNoRequest, ReadsRequest, RequestHead}
-use Rattle.httparse.specs.Spans.{name_and_value}
+use Rattle.httparse.specs.Spans.{RequestExceeds, name_and_value}
 use Rattle.hd_page.specs.declared.answering.TheConstants.{FIELDS}
 use Rattle.hd_page.specs.declared.answering.Sequel.{Sequel}
 use Rattle.hd_page.specs.declared.answering.Sequel.TheVariants.{GoOn, Stop}
@@ -46,9 +46,11 @@ Answers shown head m a =
     (m ≡ method_of head.method)
     × AnswersParts shown head.method head.target (list_any tells_body (map name_and_value head.fields)) a
 
--- what is answered where no head can be read
-abbrev pub IsUnread : Answer → Type 0
-IsUnread a = (a ≡ refusal BadRequest) ⊎ (a ≡ refusal FieldsTooLarge)
+-- what is answered where no head can be read: that the request is a bad one; or that it has too many
+-- fields, where a front of it and an empty line are a head that has
+abbrev pub IsUnread : List ℕ → Answer → Type 0
+IsUnread request a =
+    (a ≡ refusal BadRequest) ⊎ ((a ≡ refusal FieldsTooLarge) × RequestExceeds FIELDS request)
 
 -- behind old one reply is written, whole: it answers the request's head, or says that this has too many
 -- fields, or that none can be read
@@ -62,7 +64,7 @@ pub record IsAnswered
       → length head.fields ≤ FIELDS → Answers shown head method reply
   pub over : (head : RequestHead) (rest : List ℕ) → ReadsRequest request head rest
       → FIELDS < length head.fields → reply ≡ refusal FieldsTooLarge
-  pub unread : HasNoRequest request → IsUnread reply
+  pub unread : HasNoRequest request → IsUnread request reply
 
 -- the text of the answer to a head that is too long
 abbrev pub too_long : List ℕ → List ℕ

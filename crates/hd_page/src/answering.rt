@@ -103,7 +103,7 @@ fn reply_to<V: View>(
         head r.0 (seen r.1)) }
     ensures over { IfOk result (λ r. (head : RequestHead) (rest : List ℕ) → ReadsRequest request.now head rest
         → FIELDS < length head.fields → seen r.1 ≡ refusal Status.FieldsTooLarge) }
-    ensures unread { IfOk result (λ r. HasNoRequest request.now → IsUnread (seen r.1)) }
+    ensures unread { IfOk result (λ r. HasNoRequest request.now → IsUnread request.now (seen r.1)) }
 {
     let mut headers = [EMPTY_HEADER_SPAN; FIELDS];
     match parse_request(request, &mut headers) {

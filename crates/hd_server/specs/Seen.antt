@@ -1,8 +1,9 @@
 -- What is seen of a server.
-use Rattle.std.specs.Prelude.{◌≡◌, ℕ, Bool, true, false, Option, Some, min}
+use Rattle.std.specs.Prelude.{◌≡◌, ℕ, Bool, true, false, Some, min}
 use Rattle.hd_page.specs.declared.state.Health.{Health}
 use Rattle.hd_page.specs.declared.state.Health.TheVariants.{Well, Shut, Full}
 use Rattle.hd_page.specs.declared.state.State.{State}
+use Rattle.hd_server.specs.declared.server_view.Service.{Service}
 
 -- whether a server can do its work, by whether a connection has found no seat, and its journal's health
 abbrev pub health_of : Bool → Health → Health
@@ -11,16 +12,7 @@ health_of true Shut = Shut
 health_of true Full = Full
 health_of false health = health
 
--- what is told of a server beside its journal: whether a connection has found no seat, its connections, the
--- workers that have one in hand, the bytes of its journal's files, and how long the last commit took
-pub record Service : Type 0 where
-  pub full : Bool
-  pub connections : ℕ
-  pub busy : ℕ
-  pub bytes : Option ℕ
-  pub micros : Option ℕ
-
--- a state with that
+-- a state with what is told of the server beside its journal
 abbrev pub with_service : State → Service → State
 with_service state s = record state {
   health = health_of s.full state.health;

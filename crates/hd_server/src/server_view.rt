@@ -1,6 +1,6 @@
 //! A view of a server: of its journal, and of its service.
 ghost use Rattle.std.specs.Prelude.{◌≡◌};
-ghost use Rattle.hd_server.specs.Seen.{health_of};
+ghost use Rattle.hd_server.specs.Seen.{health_of, with_service};
 
 use hd_durable::LastCommit;
 use hd_page::{Health, Inquiry, Outcome, State, View, ViewFault};
@@ -36,14 +36,42 @@ impl<'a, R: Wait, V: View> View for ServerView<'a, R, V> {
     fn state(&self) -> State {
         let hall = self.journal.state();
         let connections = self.standing.connections(self.rt) as u64;
-        State {
-            health: health_of(self.standing.is_full(self.rt), hall.health),
-            connections: Some(connections),
-            workers_busy: Some(connections.min(u64::from(self.workers))),
-            journal_bytes: bytes_of(self.host, self.files),
-            commit_micros: self.last_commit.micros(self.rt),
-            ..hall
-        }
+        let service = Service {
+            full: self.standing.is_full(self.rt),
+            connections,
+            busy: connections.min(u64::from(self.workers)),
+            bytes: bytes_of(self.host, self.files),
+            micros: self.last_commit.micros(self.rt),
+        };
+        with_service(hall, service)
+    }
+}
+
+/// What is told of a server beside its journal.
+#[derive(Clone, Copy)]
+struct Service {
+    /// Whether a connection has found no seat.
+    full: bool,
+    connections: u64,
+    /// How many workers have one in hand.
+    busy: u64,
+    /// How many bytes the journal's files have.
+    bytes: Option<u64>,
+    /// How many microseconds the last commit took.
+    micros: Option<u64>,
+}
+
+/// A state with that.
+fn with_service(state: State, service: Service) -> State
+    ensures { result ≡ with_service state service }
+{
+    State {
+        health: health_of(service.full, state.health),
+        connections: Some(service.connections),
+        workers_busy: Some(service.busy),
+        journal_bytes: service.bytes,
+        commit_micros: service.micros,
+        ..state
     }
 }
 

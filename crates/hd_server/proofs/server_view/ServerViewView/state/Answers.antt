@@ -1,5 +1,5 @@
 use Rattle.std.specs.Prelude.{min}
-use Rattle.std.proofs.Common.{◌≡◌, ◌∙◌, Some, ap}
+use Rattle.std.proofs.Common.{◌∙◌, ap}
 use Rattle.hd_server.proofs.server_view.ServerViewView.state.Goals as goal
 
 pub returns : goal.returns
@@ -14,11 +14,5 @@ returns g c = (
     micros = c.micros.result;
   },
   c.min.ensures ∙ ap (min c.connections-connections.result) c.from.ensures,
-  (λ j. record c.state-hall.result {
-    health = c.health_of.ensures j;
-    connections = Some c.connections-connections.result;
-    workers_busy = Some c.min.result;
-    journal_bytes = c.bytes_of.result;
-    commit_micros = c.micros.result;
-  }),
+  c.with_service.ensures,
 )

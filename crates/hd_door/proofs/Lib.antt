@@ -1,0 +1,1 @@
+pub mod Nothing  -- of nothing no head is made
