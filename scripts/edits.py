@@ -190,8 +190,9 @@ class Edit:
     Where several are of one function, all but one stand each in a copy of it, of a number from 1, behind the others of
     its file and with a copy of its proof: so they go into one check."""
 
-    def __init__(self, crate, name, pairs, homes, goal=None, others=()):
+    def __init__(self, crate, name, pairs, homes, goal=None, others=(), is_hard=False):
         self.crate, self.name, self.pairs, self.goal, self.others = crate, name, pairs, goal, set(others)
+        self.is_hard = is_hard
         self.copy, self.first_line = 0, None
         self.misfit, self.verdict, self.said, self.kept, self.tries = None, None, "", None, 0
         self.functions, self.places, self.beside, self.is_apart = [], set(), {}, False
@@ -282,9 +283,11 @@ def pairs_in(text):
 
 
 def goals_in(text):
-    """The goal at which the edit is refused, where it names one, and what isn't proved besides."""
+    """The goal at which the edit is refused, where it names one, what isn't proved besides, and whether that goal takes
+    all means also where nothing is wrong."""
     goals = {key: re.findall(rf"^{key}: (.*)", text, re.M) for key in ("goal", "also")}
-    return next(iter(goals["goal"]), None), " ".join(goals["also"]).split()
+    goal, hard, _ = next(iter(goals["goal"]), "").partition(" by all means")
+    return goal or None, " ".join(goals["also"]).split(), bool(hard)
 
 
 def file_of(edit):

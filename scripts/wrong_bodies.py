@@ -5,7 +5,8 @@
 
 A wrong body is a file crates/NAME/wrong/*.edit, of the form that rt ci reads in must-fail/: a line 'file: src/x.rt',
 then pairs of lines 'old: TEXT' and 'new: TEXT'; each old text stands in that file once. A line 'goal: NAME' names the
-goal at which it is refused; what a line 'also: NAME ..' has isn't proved besides, and isn't tried. --name-goals tries
+goal at which it is refused, and ends in 'by all means' where the tactics that the prover begins with don't prove it in
+the function as it is; what a line 'also: NAME ..' has isn't proved besides, and isn't tried. --name-goals tries
 all goals of edits that name none, and writes these lines. Many edits are put in together, and a check looks at the
 edited functions alone (rattle check --only), over the proved libraries below. Of several edits of one function, of no
 trait and that doesn't call itself, all but one go into copies of it, which stand behind the others of its file with a
@@ -186,10 +187,11 @@ def prune(edit, said, bench):
 
 def guide(edit, bench, is_first=True):
     """Has only the goal tried that the edit names, where it is of one function: at first by its own proof, where the
-    answers have one, or by the tactics that the prover begins with, and then by all that it tries. What isn't proved
-    besides is left open."""
+    answers have one, or by the tactics that the prover begins with, unless these find none where nothing is wrong, and
+    then by all that it tries. What isn't proved besides is left open."""
     if edit.goal is None or edit.is_apart or len(edit.functions) != 1:
         return
+    is_first = is_first and not edit.is_hard
     function, folder = edit.functions[0], folder_of(edit.functions[0].path)
     files = [os.path.join(bench.top, folder, name) for name in ("Answers.antt", "Proof.antt")]
     if not os.path.isfile(files[1]):
