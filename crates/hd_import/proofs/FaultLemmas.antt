@@ -4,7 +4,7 @@ use Rattle.std.specs.List.{HoldsAt}
 use Rattle.std.specs.Prelude.{IfErr, Result, Ok, Err}
 use Rattle.std.specs.Result.{IsErrAnd}
 use Rattle.std.proofs.lemmas.List.{get_or_default}
-use Rattle.hd_import.specs.Columns.{all_sheets, columns_of}
+use Rattle.hd_import.specs.Columns.{all_sheets, first_column}
 use Rattle.hd_import.specs.Faults.{IsMissing, IsSheetFault}
 use Rattle.hd_import.specs.Texts.{file_of}
 use Rattle.hd_import.specs.declared.column.Column.{Column}
@@ -17,17 +17,16 @@ use Rattle.hd_import.specs.declared.sources.Source.{Source}
 use Rattle.hd_import.specs.declared.sources.Sources.{Sources}
 
 -- a file without rows lacks its first column
-missing_first : (settings : Settings) (which : Sheet) (d : Column)
-    → IsMissing settings which [] (get_or (columns_of which) 0 d)
-missing_first settings sheet.Branches d = ((0, omega arith, refl), refl, refl)
-missing_first settings sheet.Terminals d = ((0, omega arith, refl), refl, refl)
-missing_first settings sheet.Patrons d = ((0, omega arith, refl), refl, refl)
-missing_first settings sheet.Titles d = ((0, omega arith, refl), refl, refl)
-missing_first settings sheet.Copies d = ((0, omega arith, refl), refl, refl)
+missing_first : (settings : Settings) (which : Sheet) → IsMissing settings which [] (first_column which)
+missing_first settings sheet.Branches = ((0, omega arith, refl), refl, refl)
+missing_first settings sheet.Terminals = ((0, omega arith, refl), refl, refl)
+missing_first settings sheet.Patrons = ((0, omega arith, refl), refl, refl)
+missing_first settings sheet.Titles = ((0, omega arith, refl), refl, refl)
+missing_first settings sheet.Copies = ((0, omega arith, refl), refl, refl)
 
-pub first_missing : (settings : Settings) (which : Sheet) (columns : List Column) (d : Column)
-    → columns ≡ columns_of which → IsMissing settings which [] (get_or columns 0 d)
-first_missing settings which columns d are = rw are (missing_first settings which d)
+pub first_missing : (settings : Settings) (which : Sheet) (column : Column) → column ≡ first_column which
+    → IsMissing settings which [] column
+first_missing settings which column is = rw is (missing_first settings which)
 
 -- a sheet by its place
 pub sheet_at : (sheets : List Sheet) (at : ℕ) (d : Sheet) → sheets ≡ all_sheets → at < length sheets

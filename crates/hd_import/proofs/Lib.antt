@@ -3,3 +3,4 @@ pub mod QuoteLemmas
 pub mod UnusedLemmas
 pub mod WriteLemmas
 pub mod FaultLemmas
+pub mod TraceLemmas

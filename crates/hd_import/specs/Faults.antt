@@ -1,20 +1,22 @@
 -- Why sheets make no catalogue file.
-use Rattle.std.specs.Prelude.{◌≡◌, ℕ, ◌+◌, ◌<◌, true, false, List, [], ◌∷◌, Contains, IsUtf8, None}
-use Rattle.std.specs.Prelude.{◌⊎◌, length, slice_index_or, string_bytes, sum, take}
+use Rattle.std.specs.Prelude.{◌≡◌, ◌≢◌, ℕ, ◌+◌, ◌<◌, Bool, true, false, List, [], ◌∷◌, Contains, IsUtf8}
+use Rattle.std.specs.Prelude.{None, ◌⊎◌, length, slice_index_or, string_bytes, sum, take}
 use Rattle.std.specs.List.{HoldsAt}
 use Rattle.hd_catalogue.specs.Files.{IsFirstBad, lines_of}
 use Rattle.hd_catalogue.specs.Text.{is_name}
 use Rattle.hd_catalogue.specs.declared.cause.CatFault.{CatFault}
+use Rattle.hd_catalogue.specs.declared.cause.Cause.{Cause}
 use Rattle.hd_catalogue.specs.declared.cause.Cause.TheVariants as cause
-use Rattle.hd_import.specs.Columns.{all_sheets, columns_of, is_fit}
+use Rattle.hd_import.specs.Columns.{all_sheets, columns_of, first_column, is_fit, naming_columns}
 use Rattle.hd_import.specs.Quotes.{is_open_file, is_open_text}
 use Rattle.hd_import.specs.Rows.{AreRowsOfFile, Row}
-use Rattle.hd_import.specs.Texts.{IsTextOf, Table, counts_of, file_of}
+use Rattle.hd_import.specs.Texts.{IsTextOf, Table, counts_of, file_of, file_with}
 use Rattle.hd_import.specs.Values.{given, otherwise, place_of, value_of}
 use Rattle.hd_import.specs.declared.column.Column.{Column}
 use Rattle.hd_import.specs.declared.column.Sheet.{Sheet}
 use Rattle.hd_import.specs.declared.fault.Fault.{Fault}
 use Rattle.hd_import.specs.declared.fault.Fault.TheVariants as fault
+use Rattle.hd_import.specs.declared.fault.Place.{Place}
 use Rattle.hd_import.specs.declared.format.Encoding.TheVariants as encoding
 use Rattle.hd_import.specs.declared.format.Format.{Format}
 use Rattle.hd_import.specs.declared.rows.RowsFault.{RowsFault}
@@ -103,28 +105,62 @@ IsLineOfRow counts sheet row line =
     (index : ℕ) × (index < length counts) × HoldsAt (λ s. s ≡ sheet) all_sheets index
     × (row < slice_index_or counts index 0) × (line ≡ 2 + sum (take index counts) + row)
 
--- the fault names the row whose line the catalogue refuses, and the cause
-abbrev pub IsTraced : List ℕ → CatFault → Fault → Type 0
-IsTraced counts refused (fault.Double place column value) =
-    (refused.cause ≡ cause.Double) × IsLineOfRow counts place.sheet place.row refused.line
-IsTraced counts refused (fault.Unknown place column value other) =
-    (refused.cause ≡ cause.Unknown) × IsLineOfRow counts place.sheet place.row refused.line
-IsTraced counts refused (fault.TooMany place) =
-    (refused.cause ≡ cause.Limit) × IsLineOfRow counts place.sheet place.row refused.line
-IsTraced counts refused (fault.Refused told) = told ≡ refused
-IsTraced counts refused fault.Memory = Unit {0}
-IsTraced counts refused fault.Institution = ⊥
-IsTraced counts refused (fault.NotUtf8 path line) = ⊥
-IsTraced counts refused (fault.OpenQuote path line) = ⊥
-IsTraced counts refused (fault.NoColumn path column) = ⊥
-IsTraced counts refused (fault.Value place column value) = ⊥
+-- no row of a sheet has this line
+abbrev pub IsLineOfNoRow : List ℕ → ℕ → Type 0
+IsLineOfNoRow counts line = (sheet : Sheet) (row : ℕ) → IsLineOfRow counts sheet row line → ⊥
+
+-- the place is that of the row whose line this is, in the file of its sheet
+abbrev pub IsPlaceOf : Sources → List ℕ → ℕ → Place → Type 0
+IsPlaceOf sources counts line place =
+    (place.path.now ≡ (file_of sources place.sheet).path.now) × IsLineOfRow counts place.sheet place.row line
+
+-- the row of a file with this number, from 0, and the file's headings
+abbrev pub IsRowAt : Format → Source → ℕ → Row → Row → Type 0
+IsRowAt format file number headings row =
+    (rows : List Row) × AreRowsOfFile format file.bytes.now (headings ∷ rows) × (number < length rows)
+    × (row ≡ slice_index_or rows number [])
+
+-- what the row at a place has in a column
+abbrev pub IsGivenAt : Format → Sources → Place → Column → List ℕ → Type 0
+IsGivenAt format sources place column value =
+    (headings : Row) × (row : Row) × IsRowAt format (file_of sources place.sheet) place.row headings row
+    × (value ≡ given headings row column)
+
+-- whether a line is refused for what other rows are, so that its row is told
+abbrev pub is_of_rows : Cause → Bool
+is_of_rows cause.Double = true
+is_of_rows cause.Unknown = true
+is_of_rows cause.Limit = true
+is_of_rows _ = false
+
+-- The fault names the row whose line the catalogue refuses, and the cause. The catalogue's own fault is told
+-- where the line alone is at fault, or is no row's.
+abbrev pub IsTraced : Format → Sources → List ℕ → CatFault → Fault → Type 0
+IsTraced format sources counts refused (fault.Double place column value) =
+    (refused.cause ≡ cause.Double) × IsPlaceOf sources counts refused.line place
+    × (column ≡ first_column place.sheet) × IsGivenAt format sources place column (string_bytes value)
+IsTraced format sources counts refused (fault.Unknown place column value other) =
+    (refused.cause ≡ cause.Unknown) × IsPlaceOf sources counts refused.line place
+    × Contains (naming_columns place.sheet) column × (other.now ≡ (file_with sources column).path.now)
+    × IsGivenAt format sources place column (string_bytes value)
+IsTraced format sources counts refused (fault.TooMany place) =
+    (refused.cause ≡ cause.Limit) × IsPlaceOf sources counts refused.line place
+IsTraced format sources counts refused (fault.Refused told) =
+    (told ≡ refused) × (refused.cause ≢ cause.Memory)
+    × ((is_of_rows refused.cause ≡ false) ⊎ IsLineOfNoRow counts refused.line)
+IsTraced format sources counts refused fault.Memory = Unit {0}
+IsTraced format sources counts refused fault.Institution = ⊥
+IsTraced format sources counts refused (fault.NotUtf8 path line) = ⊥
+IsTraced format sources counts refused (fault.OpenQuote path line) = ⊥
+IsTraced format sources counts refused (fault.NoColumn path column) = ⊥
+IsTraced format sources counts refused (fault.Value place column value) = ⊥
 
 -- the sheets make a file that the catalogue refuses, and the fault says where and why
 abbrev pub IsCatalogueFault : Settings → Format → Sources → Fault → Type 0
 IsCatalogueFault settings format sources told =
     (tables : List Table) × (text : List ℕ) × (refused : CatFault)
     × IsTextOf settings format sources tables text × IsFirstBad (lines_of text) refused
-    × IsTraced (counts_of tables) refused told
+    × IsTraced format sources (counts_of tables) refused told
 
 -- What a fault says is so: of the institution, of a sheet's file, or of the catalogue file.
 abbrev pub IsFault : Settings → Format → Sources → Fault → Type 0

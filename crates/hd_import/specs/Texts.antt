@@ -7,6 +7,8 @@ use Rattle.hd_import.specs.Columns.{all_sheets, columns_of, is_fit, letter_of}
 use Rattle.hd_import.specs.Quotes.{is_open_file}
 use Rattle.hd_import.specs.Rows.{AreRowsOfFile, Row}
 use Rattle.hd_import.specs.Values.{value_of}
+use Rattle.hd_import.specs.declared.column.Column.{Column}
+use Rattle.hd_import.specs.declared.column.Column.TheVariants as column
 use Rattle.hd_import.specs.declared.column.Sheet.{Sheet}
 use Rattle.hd_import.specs.declared.column.Sheet.TheVariants as sheet
 use Rattle.hd_import.specs.declared.format.Format.{Format}
@@ -56,6 +58,11 @@ file_of sources sheet.Terminals = sources.terminals
 file_of sources sheet.Patrons = sources.patrons
 file_of sources sheet.Titles = sources.titles
 file_of sources sheet.Copies = sources.copies
+
+-- the file of the sheet with what a column names: of titles, where it names one, else of branches
+abbrev pub file_with : Sources → Column → Source
+file_with sources column.Title = sources.titles
+file_with sources _ = sources.branches
 
 -- how many rows each table has
 abbrev pub counts_of : List Table → List ℕ

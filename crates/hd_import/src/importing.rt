@@ -116,7 +116,7 @@ fn put_sheet<'a>(
     let Some((headings, rows)) = rows.as_slice().split_first() else {
         return Err(Fault::NoColumn {
             path: file.path,
-            column: sheet.columns()[0],
+            column: sheet.first_column(),
         });
     };
     if let Err(column) = check_headings(settings, sheet, headings) {

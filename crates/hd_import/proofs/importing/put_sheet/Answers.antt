@@ -38,7 +38,7 @@ returns-in_default-clause-refused c =
       [],
       subst (λ (rows : List Row). AreRowsOfFile c.args.format c.args.file.bytes.now rows)
           (ap (map fields_of) empty) c.in-Ok.ensures.rows,
-      first_missing c.args.settings.now c.args.sheet c.columns.result.now _ c.columns.ensures,
+      first_missing c.args.settings.now c.args.sheet c.first_column.result c.first_column.ensures,
     )
 
 pub returns-in-Err-check_headings-clause-refused : goal.returns-in-Err-check_headings-clause-refused
