@@ -40,7 +40,8 @@ same_records rules at text (r ∷ some) (o ∷ others) end past rest left a over
     let same : b.0 ≡ a.0 = cc (found, again) in
     let on : Reached rules a.0.1 a.0.2 others past left =
     subst (λ (p : Read). Reached rules p.1 p.2 others past left) same b.3 in
-    let more : some ≡ others = same_records rules a.0.1 a.0.2 some others end past rest left a.3 over on none in
+    let more : some ≡ others =
+    same_records rules a.0.1 a.0.2 some others end past rest left a.3 over on none in
     let this : r ≡ o = a.2 ∙ ap (λ (p : Read). p.0) (sym same) ∙ sym b.2 in
     cc (more, this)
 

@@ -1,6 +1,7 @@
 -- Why sheets make no catalogue file.
 use Rattle.std.specs.Prelude.{◌≡◌, ◌≢◌, ℕ, ◌+◌, ◌<◌, Bool, true, false, List, [], ◌∷◌, Contains, IsUtf8}
-use Rattle.std.specs.Prelude.{None, ◌⊎◌, length, slice_index_or, string_bytes, sum, take}
+use Rattle.std.specs.Prelude.{Some, All, ◌⊎◌, ◌++◌, find, length, map, slice_index_or, string_bytes, sum}
+use Rattle.std.specs.Prelude.{take}
 use Rattle.std.specs.List.{HoldsAt}
 use Rattle.hd_catalogue.specs.Files.{IsFirstBad, lines_of}
 use Rattle.hd_catalogue.specs.Text.{is_name}
@@ -9,9 +10,10 @@ use Rattle.hd_catalogue.specs.declared.cause.Cause.{Cause}
 use Rattle.hd_catalogue.specs.declared.cause.Cause.TheVariants as cause
 use Rattle.hd_import.specs.Columns.{all_sheets, columns_of, first_column, is_fit, naming_columns}
 use Rattle.hd_import.specs.Quotes.{is_open_file, is_open_text}
-use Rattle.hd_import.specs.Rows.{AreRowsOfFile, Row}
-use Rattle.hd_import.specs.Texts.{IsTextOf, Table, counts_of, file_of, file_with}
-use Rattle.hd_import.specs.Values.{given, otherwise, place_of, value_of}
+use Rattle.hd_import.specs.Rows.{AreRowsOfFile, IsEncoded, Row}
+use Rattle.hd_import.specs.Texts.{IsTableOf, IsTextOf, Table, counts_of, file_of, file_with}
+use Rattle.hd_import.specs.Texts.{is_fit_row}
+use Rattle.hd_import.specs.Values.{IsHeaded, given, is_missing, is_unfit, value_of}
 use Rattle.hd_import.specs.declared.column.Column.{Column}
 use Rattle.hd_import.specs.declared.column.Sheet.{Sheet}
 use Rattle.hd_import.specs.declared.fault.Fault.{Fault}
@@ -38,13 +40,14 @@ IsTextFault separator text rows_fault.Memory = Unit {0}
 abbrev pub IsRowsFault : Format → List ℕ → RowsFault → Type 0
 IsRowsFault format bytes (rows_fault.NotUtf8 valid) =
     (format.encoding ≡ encoding.Utf8) × ¬ (IsUtf8 bytes)
-IsRowsFault format bytes (rows_fault.OpenQuote place) = is_open_file format bytes ≡ true
+IsRowsFault format bytes (rows_fault.OpenQuote place) =
+    IsEncoded format bytes × (is_open_file format bytes ≡ true)
 IsRowsFault format bytes rows_fault.Memory = Unit {0}
 
--- the catalogue doesn't take what the row says in this column, one of the sheet's
+-- it is the first column of the sheet in which the catalogue doesn't take what the row says
 abbrev pub IsUnfit : Settings → Sheet → Row → Row → Column → Type 0
 IsUnfit settings sheet headings row column =
-    Contains (columns_of sheet) column × (is_fit column (value_of settings headings row column) ≡ false)
+    find (is_unfit settings headings row) (columns_of sheet) ≡ Some column
 
 abbrev pub IsValueFault : Settings → Row → Row → Column → RowFault → Type 0
 IsValueFault settings headings row column (row_fault.Value named) =
@@ -55,41 +58,54 @@ abbrev pub IsRowFault : Settings → Sheet → Row → Row → RowFault → Type
 IsRowFault settings sheet headings row (row_fault.Value column) = IsUnfit settings sheet headings row column
 IsRowFault settings sheet headings row row_fault.Memory = Unit {0}
 
--- the fault is of the row with this number, from 0
+-- the catalogue takes each value of so many rows, the first ones
+abbrev pub AreFitBefore : Settings → Sheet → Row → List Row → ℕ → Type 0
+AreFitBefore settings sheet headings rows many =
+    All (λ row. is_fit_row settings sheet headings row ≡ true) (take many rows)
+
+-- the fault is of the row with this number, from 0, and those before it are without one
 abbrev pub IsLineFault : Settings → Sheet → Row → List Row → LineFault → Type 0
 IsLineFault settings sheet headings rows fault =
-    (fault.row < length rows)
+    (fault.row < length rows) × AreFitBefore settings sheet headings rows fault.row
     × IsRowFault settings sheet headings (slice_index_or rows fault.row []) fault.fault
 
--- no heading is that of this column, one of the sheet's, and nothing stands for its values
+-- it is the first column of the sheet that is missing
 abbrev pub IsMissing : Settings → Sheet → Row → Column → Type 0
 IsMissing settings sheet headings column =
-    Contains (columns_of sheet) column × (place_of headings column ≡ None) × (otherwise settings column ≡ [])
+    find (is_missing settings headings) (columns_of sheet) ≡ Some column
+
+-- the file is in its encoding, and each quote of it is closed
+abbrev pub IsReadable : Format → List ℕ → Type 0
+IsReadable format bytes = IsEncoded format bytes × (is_open_file format bytes ≡ false)
 
 -- the headings of a sheet with these rows
 abbrev pub headings_of : List Row → Row
 headings_of [] = []
 headings_of (headings ∷ rows) = headings
 
--- a row of the file has this value in the column, and the catalogue takes none such
+-- The row of the file with this number has this value in the column, of whose values the catalogue takes none
+-- such; no column is missing, and the rows before this one are without a fault.
 abbrev pub IsUnfitAt : Settings → Format → Sheet → Source → ℕ → Column → List ℕ → Type 0
 IsUnfitAt settings format sheet file row column value =
     (headings : Row) × (rows : List Row) × AreRowsOfFile format file.bytes.now (headings ∷ rows)
-    × (row < length rows) × IsUnfit settings sheet headings (slice_index_or rows row []) column
+    × IsHeaded settings sheet headings × (row < length rows) × AreFitBefore settings sheet headings rows row
+    × IsUnfit settings sheet headings (slice_index_or rows row []) column
     × (value ≡ given headings (slice_index_or rows row []) column)
 
--- the fault is of this file of a sheet
+-- The fault is of this file of a sheet: of its encoding, else of a quote, else of a column that is missing,
+-- else of the first row with one.
 abbrev pub IsSheetFault : Settings → Format → Sheet → Source → Fault → Type 0
 IsSheetFault settings format sheet file (fault.NotUtf8 path line) =
     (path.now ≡ file.path.now) × (format.encoding ≡ encoding.Utf8) × ¬ (IsUtf8 file.bytes.now)
 IsSheetFault settings format sheet file (fault.OpenQuote path line) =
-    (path.now ≡ file.path.now) × (is_open_file format file.bytes.now ≡ true)
+    (path.now ≡ file.path.now) × IsEncoded format file.bytes.now
+    × (is_open_file format file.bytes.now ≡ true)
 IsSheetFault settings format sheet file (fault.NoColumn path column) =
-    (path.now ≡ file.path.now)
+    (path.now ≡ file.path.now) × IsReadable format file.bytes.now
     × (rows : List Row) × AreRowsOfFile format file.bytes.now rows
     × IsMissing settings sheet (headings_of rows) column
 IsSheetFault settings format sheet file (fault.Value place column value) =
-    (place.sheet ≡ sheet) × (place.path.now ≡ file.path.now)
+    (place.sheet ≡ sheet) × (place.path.now ≡ file.path.now) × IsReadable format file.bytes.now
     × IsUnfitAt settings format sheet file place.row column (string_bytes value)
 IsSheetFault settings format sheet file fault.Memory = Unit {0}
 IsSheetFault settings format sheet file fault.Institution = ⊥
@@ -162,9 +178,19 @@ IsCatalogueFault settings format sources told =
     × IsTextOf settings format sources tables text × IsFirstBad (lines_of text) refused
     × IsTraced format sources (counts_of tables) refused told
 
--- What a fault says is so: of the institution, of a sheet's file, or of the catalogue file.
+-- The fault is of a sheet, and the sheets before it, in the order of the catalogue's lines, are without one.
+pub record IsFirstSheetFault (settings : Settings) (format : Format) (sources : Sources) (told : Fault)
+    : Type 0 where
+  pub before : List Table
+  pub sheet : Sheet
+  pub after : List Sheet
+  pub order : all_sheets ≡ map (λ table. table.sheet) before ++ sheet ∷ after
+  pub earlier : All (IsTableOf settings format sources) before
+  pub here : IsSheetFault settings format sheet (file_of sources sheet) told
+
+-- What a fault says is so, and it is the first: of the institution, else of a sheet, else of the catalogue.
 abbrev pub IsFault : Settings → Format → Sources → Fault → Type 0
 IsFault settings format sources told =
     ((told ≡ fault.Institution) × (is_name settings.institution.now ≡ false))
-    ⊎ ((sheet : Sheet) × IsSheetFault settings format sheet (file_of sources sheet) told)
-    ⊎ IsCatalogueFault settings format sources told
+    ⊎ ((is_name settings.institution.now ≡ true) × IsFirstSheetFault settings format sources told)
+    ⊎ ((is_name settings.institution.now ≡ true) × IsCatalogueFault settings format sources told)
