@@ -15,17 +15,20 @@ returns-clause-refused c =
     c.in-Err.ensures.refused in
     let counted = c.as_slice.ensures.value ∙ lines.2 in
     let named : is_name c.args.settings.now.institution.now ≡ true = grind (arith, common_steps) in
-    inr (inr (named, (
-      lines.0,
-      text,
-      c.in-Err.fault,
-      lines.1,
-      bad,
-      subst
-          (λ (counts : List ℕ).
-          IsTraced c.args.format c.args.sources.now counts c.in-Err.fault c.trace.result)
-          counted (c.trace.ensures c.args.settings.now lines.0 text lines.1 counted),
-    )))
+    inr (inr (
+      named,
+      (
+        lines.0,
+        text,
+        c.in-Err.fault,
+        lines.1,
+        bad,
+        subst
+            (λ (counts : List ℕ).
+            IsTraced c.args.format c.args.sources.now counts c.in-Err.fault c.trace.result)
+            counted (c.trace.ensures c.args.settings.now lines.0 text lines.1 counted),
+      ),
+    ))
 
 pub returns-in_err-text-clause-refused : goal.returns-in_err-text-clause-refused
 returns-in_err-text-clause-refused c =

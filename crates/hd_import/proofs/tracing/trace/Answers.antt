@@ -27,9 +27,12 @@ returns c = λ settings tables text so counted.
     let within = c.in-Some-get.ensures.lookup.3.0 in
     let same = c.in-Some-get.ensures.lookup.1 in
     c.fault_at.ensures c.args.counts.now other
-    (ap (λ (f : Source). f.path.now) c.file_of-file.ensures, c.in-Some.ensures.found)
-    (map fields_of rest, read, omega (arith, within, length-map rest fields_of),
-    ap fields_of same ∙ sym (get_or-map fields_of rest c.in-Some.row row [] within))
+    (ap (λ (f : Source). f.path.now) c.file_of-file.ensures, c.in-Some.ensures.found) (
+      map fields_of rest,
+      read,
+      omega (arith, within, length-map rest fields_of),
+      ap fields_of same ∙ sym (get_or-map fields_of rest c.in-Some.row row [] within),
+    )
 
 pub returns-in_default-split_first : goal.returns-in_default-split_first
 returns-in_default-split_first c = λ settings tables text so counted.
