@@ -3,3 +3,5 @@ pub mod QuoteLemmas
 pub mod UnusedLemmas
 pub mod WriteLemmas
 pub mod FaultLemmas
+pub mod FirstLemmas
+pub mod TraceLemmas

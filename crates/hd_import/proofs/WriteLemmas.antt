@@ -1,5 +1,5 @@
 -- What is appended to a text, and the tables so far.
-use Rattle.std.proofs.Common.{◌≡◌, ℕ, ◌+◌, ◌<◌, ◌≤◌, Bool, true, false, List, [], ◌∷◌, ◌++◌, map, All, refl}
+use Rattle.std.proofs.Common.{◌≡◌, ℕ, ◌+◌, ◌<◌, ◌≤◌, Bool, true, List, [], ◌∷◌, ◌++◌, map, All, refl}
 use Rattle.std.proofs.Common.{sym, ap, ◌∙◌, append_assoc}
 use Rattle.std.proofs.Common.{get_or, length, subst, take}
 use Rattle.std.specs.List.{flat_map, list_all}
@@ -7,15 +7,15 @@ use Rattle.std.proofs.lemmas.List.{append-nil, flat_map_more, map-append, take_a
 use Rattle.std.proofs.lemmas.List.Elements.{All-nil, All-push}
 use Rattle.std.proofs.lemmas.List.Folds.{list_all-append}
 use Rattle.hd_import.specs.Columns.{all_sheets}
-use Rattle.hd_import.specs.Quotes.{is_open_file}
-use Rattle.hd_import.specs.Rows.{AreRowsOfFile, Row}
-use Rattle.hd_import.specs.Texts.{IsTableOf, IsTextOf, Table, behind_bars, counts_of, file_of, first_line}
-use Rattle.hd_import.specs.Texts.{is_fit_row, line_of, text_of_rows, text_of_table}
+use Rattle.hd_import.specs.Rows.{Row}
+use Rattle.hd_import.specs.Texts.{IsTableIn, IsTableOf, IsTextOf, Table, behind_bars, counts_of}
+use Rattle.hd_import.specs.Texts.{file_of, first_line, line_of, text_of_rows, text_of_table}
 use Rattle.hd_import.specs.Values.{value_of}
 use Rattle.hd_import.specs.declared.column.Column.{Column}
 use Rattle.hd_import.specs.declared.column.Sheet.{Sheet}
 use Rattle.hd_import.specs.declared.format.Format.{Format}
 use Rattle.hd_import.specs.declared.settings.Settings.{Settings}
+use Rattle.hd_import.specs.declared.sources.Source.{Source}
 use Rattle.hd_import.specs.declared.sources.Sources.{Sources}
 
 -- one value more
@@ -82,33 +82,25 @@ no_tables settings format sources sheets out is = record {
 
 -- one more
 pub table_step : (settings : Settings) (format : Format) (sources : Sources) (sheets : List Sheet)
-    (at : ℕ) (d : Sheet) (out new counts bytes : List ℕ) (headings : Row) (rows : List Row)
-    → at < length sheets → TablesSoFar settings format sources sheets at out counts
-    → bytes ≡ (file_of sources (get_or sheets at d)).bytes.now → AreRowsOfFile format bytes (headings ∷ rows)
-    → is_open_file format bytes ≡ false
-    → All (λ row. is_fit_row settings (get_or sheets at d) headings row ≡ true) rows
-    → new ≡ out ++ text_of_rows settings (get_or sheets at d) headings rows
-    → TablesSoFar settings format sources sheets (at + 1) new (counts ++ length rows ∷ [])
-table_step settings format sources sheets at d out new counts bytes headings rows l so file read closed fit
-    put =
-    let sheet = get_or sheets at d in
-    let table : Table = record { sheet = sheet; headings = headings; rows = rows } in
-    let is : IsTableOf settings format sources table =
-    record {
-      rows = subst (λ b. AreRowsOfFile format b (headings ∷ rows)) file read;
-      closed = subst (λ b. is_open_file format b ≡ false) file closed;
-      fit = fit;
-    } in
+    (at : ℕ) (d : Sheet) (out new counts : List ℕ) (file : Source) (table : Table) → at < length sheets
+    → TablesSoFar settings format sources sheets at out counts → file ≡ file_of sources (get_or sheets at d)
+    → table.sheet ≡ get_or sheets at d → IsTableIn settings format file table
+    → new ≡ out ++ text_of_table settings table
+    → TablesSoFar settings format sources sheets (at + 1) new (counts ++ length table.rows ∷ [])
+table_step settings format sources sheets at d out new counts file table l so is its read put =
+    let this : IsTableOf settings format sources table =
+    subst (λ f. IsTableIn settings format f table) (is ∙ ap (file_of sources) (sym its)) read in
     let start = first_line settings ++ 10 ∷ [] in
     record {
       tables = so.tables ++ table ∷ [];
       of_sheets =
           map-append (λ (t : Table). t.sheet) so.tables (table ∷ [])
-          ∙ ap (λ ss. ss ++ sheet ∷ []) so.of_sheets ∙ sym (take_more sheets at d l);
+          ∙ ap (λ ss. ss ++ table.sheet ∷ []) so.of_sheets ∙ ap (λ s. take at sheets ++ s ∷ []) its
+          ∙ sym (take_more sheets at d l);
       counted =
-          ap (λ cs. cs ++ length rows ∷ []) so.counted
+          ap (λ cs. cs ++ length table.rows ∷ []) so.counted
           ∙ sym (map-append (λ (t : Table). length t.rows) so.tables (table ∷ []));
-      each = All-push (IsTableOf settings format sources) so.tables table so.each is;
+      each = All-push (IsTableOf settings format sources) so.tables table so.each this;
       text = put ∙ ap (λ o. o ++ text_of_table settings table) so.text
           ∙ flat_map_more (text_of_table settings) start so.tables table;
     }

@@ -19,6 +19,20 @@ columns_of sheet.Patrons = column.Patron ∷ column.LoanLimit ∷ []
 columns_of sheet.Titles = column.Title ∷ column.LoanDays ∷ column.Renewals ∷ column.Priority ∷ []
 columns_of sheet.Copies = column.Copy ∷ column.Title ∷ column.Branch ∷ []
 
+-- the first of them, in which a row has the name of what it is of
+abbrev pub first_column : Sheet → Column
+first_column sheet.Branches = column.Branch
+first_column sheet.Terminals = column.Terminal
+first_column sheet.Patrons = column.Patron
+first_column sheet.Titles = column.Title
+first_column sheet.Copies = column.Copy
+
+-- the columns in which a row may name what another sheet has: of a copy its title or its branch, of any other
+-- its branch
+abbrev pub naming_columns : Sheet → List Column
+naming_columns sheet.Copies = column.Title ∷ column.Branch ∷ []
+naming_columns _ = column.Branch ∷ []
+
 -- the letter of a sheet's lines: B, S, P, T or C
 abbrev pub letter_of : Sheet → ℕ
 letter_of sheet.Branches = 66

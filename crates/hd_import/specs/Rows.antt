@@ -1,6 +1,6 @@
 -- The rows of a sheet: the records of its text, by the rules of CSV.
 use Rattle.std.specs.Prelude.{◌≡◌, ℕ, Bool, List, [], ◌∷◌, Option, None, Some, if◌then◌else◌, ◌==◌, not}
-use Rattle.std.specs.Prelude.{length, map}
+use Rattle.std.specs.Prelude.{IsUtf8, length, map}
 use Rattle.std.specs.List.{filter, flat_map, list_any}
 use Rattle.std.specs.Char.{encode_utf8}
 use Rattle.std.specs.Str as Str
@@ -20,6 +20,10 @@ Row = List (List ℕ)
 abbrev pub decoded : Encoding → List ℕ → List ℕ
 decoded encoding.Utf8 bytes = bytes
 decoded encoding.Latin1 bytes = flat_map encode_utf8 bytes
+
+-- the file's bytes are in its encoding: any are Latin-1
+abbrev pub IsEncoded : Format → List ℕ → Type 0
+IsEncoded format bytes = format.encoding ≡ encoding.Utf8 → IsUtf8 bytes
 
 abbrev pub first_line_of : List (List ℕ) → List ℕ
 first_line_of [] = []

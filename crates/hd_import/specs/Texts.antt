@@ -5,8 +5,10 @@ use Rattle.std.specs.List.{flat_map, list_all}
 use Rattle.std.specs.Fmt.{signed_decimal}
 use Rattle.hd_import.specs.Columns.{all_sheets, columns_of, is_fit, letter_of}
 use Rattle.hd_import.specs.Quotes.{is_open_file}
-use Rattle.hd_import.specs.Rows.{AreRowsOfFile, Row}
-use Rattle.hd_import.specs.Values.{value_of}
+use Rattle.hd_import.specs.Rows.{AreRowsOfFile, IsEncoded, Row}
+use Rattle.hd_import.specs.Values.{IsHeaded, value_of}
+use Rattle.hd_import.specs.declared.column.Column.{Column}
+use Rattle.hd_import.specs.declared.column.Column.TheVariants as column
 use Rattle.hd_import.specs.declared.column.Sheet.{Sheet}
 use Rattle.hd_import.specs.declared.column.Sheet.TheVariants as sheet
 use Rattle.hd_import.specs.declared.format.Format.{Format}
@@ -57,17 +59,27 @@ file_of sources sheet.Patrons = sources.patrons
 file_of sources sheet.Titles = sources.titles
 file_of sources sheet.Copies = sources.copies
 
+-- the file of the sheet with what a column names: of titles, where it names one, else of branches
+abbrev pub file_with : Sources → Column → Source
+file_with sources column.Title = sources.titles
+file_with sources _ = sources.branches
+
 -- how many rows each table has
 abbrev pub counts_of : List Table → List ℕ
 counts_of tables = map (λ table. length table.rows) tables
 
--- The table is what its sheet's file says, each of whose quotes is closed, and the catalogue takes each value
--- of it.
-pub record IsTableOf (settings : Settings) (format : Format) (sources : Sources) (table : Table)
-    : Type 0 where
-  pub rows : AreRowsOfFile format (file_of sources table.sheet).bytes.now (table.headings ∷ table.rows)
-  pub closed : is_open_file format (file_of sources table.sheet).bytes.now ≡ false
+-- The table is what the file says, which is in its encoding and each of whose quotes is closed; no column is
+-- missing, and the catalogue takes each value of a row.
+pub record IsTableIn (settings : Settings) (format : Format) (file : Source) (table : Table) : Type 0 where
+  pub encoded : IsEncoded format file.bytes.now
+  pub closed : is_open_file format file.bytes.now ≡ false
+  pub rows : AreRowsOfFile format file.bytes.now (table.headings ∷ table.rows)
+  pub headed : IsHeaded settings table.sheet table.headings
   pub fit : All (λ row. is_fit_row settings table.sheet table.headings row ≡ true) table.rows
+
+-- the table is what its sheet's file says
+abbrev pub IsTableOf : Settings → Format → Sources → Table → Type 0
+IsTableOf settings format sources table = IsTableIn settings format (file_of sources table.sheet) table
 
 -- The text is the first line, and a line for each row of these tables, which are those of all sheets.
 pub record IsTextOf (settings : Settings) (format : Format) (sources : Sources) (tables : List Table)

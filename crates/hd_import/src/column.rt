@@ -1,6 +1,7 @@
 //! Sheets and their columns.
 ghost use Rattle.std.specs.Prelude.{◌≡◌};
-ghost use Rattle.hd_import.specs.Columns.{all_sheets, columns_of, heading_of, is_fit, letter_of};
+ghost use Rattle.hd_import.specs.Columns.{all_sheets, columns_of, first_column, heading_of, is_fit};
+ghost use Rattle.hd_import.specs.Columns.{letter_of};
 
 use hd_catalogue::{is_letter, is_name, number};
 use hd_rules::{MOST_LOAN_DAYS, MOST_LOANS, MOST_RENEWALS};
@@ -75,6 +76,13 @@ impl Sheet {
             ],
             Sheet::Copies => &[Column::Copy, Column::Title, Column::Branch],
         }
+    }
+
+    /// The first of them, in which a row has the name of what it is of.
+    pub(crate) fn first_column(self) -> Column
+        ensures { result ≡ first_column self }
+    {
+        self.columns()[0]
     }
 
     /// The letter of the sheet's lines.

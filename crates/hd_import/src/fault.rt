@@ -61,7 +61,7 @@ pub enum Fault<'a> {
     TooMany {
         place: Place<'a>,
     },
-    /// The catalogue file that the sheets would make is refused for another cause.
+    /// The catalogue file that the sheets would make is refused for another cause, or in a line of no row.
     Refused(CatFault),
     /// Out of memory.
     Memory,

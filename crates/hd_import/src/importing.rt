@@ -1,11 +1,11 @@
 //! Makes a catalogue file of sheets.
-ghost use Rattle.std.specs.Prelude.{◌≡◌, ◌<◌, ◌++◌, ◌∷◌, All, IfErr, IfOk, List, false, length, map, true};
-ghost use Rattle.std.specs.Prelude.{string_bytes};
+ghost use Rattle.std.specs.Prelude.{◌≡◌, ◌<◌, ◌++◌, ◌∷◌, IfErr, IfOk, List, length, map, string_bytes};
 ghost use Rattle.hd_catalogue.specs.Files.{IsAccepted, lines_of};
-ghost use Rattle.hd_import.specs.Quotes.{is_open_file};
-ghost use Rattle.hd_import.specs.Rows.{AreRowsOfFile, Row};
-ghost use Rattle.hd_import.specs.Texts.{IsTextOf, Table, counts_of, file_of, is_fit_row, text_of_rows};
-ghost use Rattle.hd_import.specs.Faults.{IsFault, IsLineFault, IsRowsFault, IsSheetFault};
+ghost use Rattle.hd_import.specs.Rows.{AreRowsOfFile};
+ghost use Rattle.hd_import.specs.Texts.{IsTableIn, IsTextOf, Table, counts_of, text_of_table};
+ghost use Rattle.hd_import.specs.Values.{IsHeaded};
+ghost use Rattle.hd_import.specs.Faults.{IsFault, IsFirstSheetFault, IsLineFault, IsReadable, IsRowsFault};
+ghost use Rattle.hd_import.specs.Faults.{IsSheetFault};
 ghost use Rattle.csv.specs.Records.{fields_of};
 
 use crate::column::{Sheet, all_sheets};
@@ -41,6 +41,7 @@ struct Lines {
 ///
 /// # Errors
 /// The first fault: of the institution; of a sheet, in the order of the catalogue's lines; of the catalogue.
+/// Of a sheet: of its encoding; of a quote; of a column that is missing; of a row, and there of a column.
 pub fn import<'a>(
     alloc: Global,
     settings: &Settings<'_>,
@@ -73,8 +74,7 @@ fn lines_of_sheets<'a>(
     ensures lines { IfOk result (λ lines. (tables : List Table)
         × IsTextOf settings.now format sources.now tables (string_bytes lines.text)
         × (lines.counts.items ≡ counts_of tables)) }
-    ensures refused { IfErr result (λ fault. (sheet : Sheet)
-        × IsSheetFault settings.now format sheet (file_of sources.now sheet) fault) }
+    ensures refused { IfErr result (IsFirstSheetFault settings.now format sources.now) }
 {
     let mut text = String::new(alloc);
     if put_first_line(&mut text, settings).is_err() {
@@ -101,12 +101,10 @@ fn put_sheet<'a>(
     sheet: Sheet,
     file: Source<'a>,
 ) -> Result<usize, Fault<'a>>
-    ensures lines { IfOk result (λ count. (headings : Row) × (rows : List Row)
-        × AreRowsOfFile format file.entry.bytes.now (headings ∷ rows)
-        × (is_open_file format file.entry.bytes.now ≡ false)
-        × All (λ row. is_fit_row settings.now sheet headings row ≡ true) rows
-        × (string_bytes out.new ≡ string_bytes out.old ++ text_of_rows settings.now sheet headings rows)
-        × (count ≡ length rows)) }
+    ensures lines { IfOk result (λ count. (table : Table) × (table.sheet ≡ sheet)
+        × IsTableIn settings.now format file.entry table
+        × (string_bytes out.new ≡ string_bytes out.old ++ text_of_table settings.now table)
+        × (count ≡ length table.rows)) }
     ensures refused { IfErr result (IsSheetFault settings.now format sheet file.entry) }
 {
     let rows = match rows_of_file(alloc, format, file.bytes) {
@@ -116,7 +114,7 @@ fn put_sheet<'a>(
     let Some((headings, rows)) = rows.as_slice().split_first() else {
         return Err(Fault::NoColumn {
             path: file.path,
-            column: sheet.columns()[0],
+            column: sheet.first_column(),
         });
     };
     if let Err(column) = check_headings(settings, sheet, headings) {
@@ -163,6 +161,8 @@ fn fault_of_line<'a>(
     requires { fault.row < length rows.now }
     ensures { (settings : Settings)
         → IsLineFault settings sheet (fields_of headings.now) (map fields_of rows.now) fault
+        → IsHeaded settings sheet (fields_of headings.now)
+        → IsReadable format file.entry.bytes.now
         → AreRowsOfFile format file.entry.bytes.now (fields_of headings.now ∷ map fields_of rows.now)
         → IsSheetFault settings format sheet file.entry result }
 {

@@ -3,8 +3,8 @@ ghost use Rattle.std.specs.Prelude.{◌≡◌, [], ◌∷◌, ◌++◌, IfErr, I
 ghost use Rattle.std.specs.Prelude.{string_bytes};
 ghost use Rattle.std.specs.List.{filter};
 ghost use Rattle.csv.specs.Records.{fields_of};
-ghost use Rattle.hd_import.specs.Rows.{AreRowsOf, AreRowsOfFile, decoded, has_value, heads_have};
-ghost use Rattle.hd_import.specs.Rows.{separator_found, separator_of};
+ghost use Rattle.hd_import.specs.Rows.{AreRowsOf, AreRowsOfFile, IsEncoded, decoded, has_value};
+ghost use Rattle.hd_import.specs.Rows.{heads_have, separator_found, separator_of};
 ghost use Rattle.hd_import.specs.Faults.{IsRowsFault, IsTextFault};
 ghost use Rattle.hd_import.specs.Quotes.{is_open_file, is_open_text};
 ghost use Rattle.hd_import.specs.declared.format.Encoding.TheVariants as encoding;
@@ -36,6 +36,7 @@ pub(crate) fn rows_of_file(
     bytes: &[u8],
 ) -> Result<Vec<StringRecord>, RowsFault>
     ensures rows { IfOk result (λ rows. AreRowsOfFile format bytes.now (map fields_of rows.items)) }
+    ensures encoded { OnOk result (IsEncoded format bytes.now) }
     ensures closed { OnOk result (is_open_file format bytes.now ≡ false) }
     ensures refused { IfErr result (IsRowsFault format bytes.now) }
 {

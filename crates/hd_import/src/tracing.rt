@@ -1,6 +1,11 @@
 //! Where in the sheets a fault of the catalogue file comes from.
-ghost use Rattle.std.specs.Prelude.{ℕ, IfSome, List};
-ghost use Rattle.hd_import.specs.Faults.{IsLineOfRow, IsTraced};
+ghost use Rattle.std.specs.Prelude.{◌≡◌, ◌≢◌, ℕ, Contains, IfNone, IfSome, List};
+ghost use Rattle.csv.specs.Records.{fields_of};
+ghost use Rattle.hd_catalogue.specs.declared.cause.Cause.TheVariants as cause;
+ghost use Rattle.hd_import.specs.Columns.{first_column, naming_columns};
+ghost use Rattle.hd_import.specs.Faults.{IsLineOfNoRow, IsLineOfRow, IsPlaceOf, IsRowAt, IsTraced};
+ghost use Rattle.hd_import.specs.Texts.{IsTextOf, Table, counts_of, file_of, file_with};
+ghost use Rattle.hd_import.specs.declared.settings.Settings.{Settings};
 
 use crate::column::{Column, Sheet, all_sheets};
 use crate::fault::{Fault, Place};
@@ -20,7 +25,9 @@ pub(crate) fn trace<'a>(
     counts: &[usize],
     fault: CatFault,
 ) -> Fault<'a>
-    ensures { IsTraced counts.now fault result }
+    ensures { (settings : Settings) (tables : List Table) (text : List ℕ)
+        → IsTextOf settings format sources.now tables text → counts.now ≡ counts_of tables
+        → IsTraced format sources.now counts.now fault result }
 {
     if matches!(fault.cause, Cause::Memory) {
         return Fault::Memory;
@@ -50,7 +57,8 @@ pub(crate) fn trace<'a>(
 /// The sheet and the row, from 0, whose line this is, where the sheets have so many rows each. The first line
 /// is of none.
 fn row_of_line(counts: &[usize], line: usize) -> Option<(Sheet, usize)>
-    ensures { IfSome result (λ found. IsLineOfRow counts.now found.0 found.1 line) }
+    ensures found { IfSome result (λ found. IsLineOfRow counts.now found.0 found.1 line) }
+    ensures none { IfNone result (IsLineOfNoRow counts.now line) }
 {
     let sheets = all_sheets();
     let mut left = line.checked_sub(2)?;
@@ -73,10 +81,13 @@ fn fault_at<'a>(
     row: &StringRecord,
     fault: CatFault,
 ) -> Fault<'a>
-    ensures { (counts : List ℕ) → IsLineOfRow counts place.entry.sheet place.entry.row fault.line
-        → IsTraced counts fault result }
+    ensures { (counts : List ℕ) → fault.cause ≢ cause.Memory
+        → IsPlaceOf sources.now counts fault.line place.entry
+        → IsRowAt format (file_of sources.now place.entry.sheet) place.entry.row
+        (fields_of headings.now) (fields_of row.now)
+        → IsTraced format sources.now counts fault result }
 {
-    let name = place.sheet.columns()[0];
+    let name = place.sheet.first_column();
     match fault.cause {
         Cause::Double => match String::from_str(alloc, given(headings, row, name)) {
             Ok(value) => Fault::Double {
@@ -112,7 +123,9 @@ fn column_unknown(
     sheet: Sheet,
     headings: &StringRecord,
     row: &StringRecord,
-) -> Column {
+) -> Column
+    ensures { Contains (naming_columns sheet) result }
+{
     if sheet != Sheet::Copies {
         return Column::Branch;
     }
@@ -139,7 +152,9 @@ fn has_title(titles: &[StringRecord], title: &str) -> bool {
 }
 
 /// The sheet that has what a column names.
-fn file_with<'a>(sources: &Sources<'a>, column: Column) -> Source<'a> {
+fn file_with<'a>(sources: &Sources<'a>, column: Column) -> Source<'a>
+    ensures { result ≡ file_with sources.now column }
+{
     match column {
         Column::Title => sources.titles,
         _ => sources.branches,

@@ -1,7 +1,7 @@
 //! What stands in a row, by the names of the columns.
-ghost use Rattle.std.specs.Prelude.{◌≡◌, IfErr};
+ghost use Rattle.std.specs.Prelude.{◌≡◌, IfErr, OnOk};
 ghost use Rattle.csv.specs.Records.{fields_of};
-ghost use Rattle.hd_import.specs.Values.{given, is_heading, otherwise, place_of};
+ghost use Rattle.hd_import.specs.Values.{IsHeaded, given, is_heading, is_missing, otherwise, place_of};
 ghost use Rattle.hd_import.specs.Faults.{IsMissing};
 
 use crate::column::{Column, Sheet};
@@ -69,20 +69,26 @@ pub(crate) fn otherwise<'buffer>(
     }
 }
 
-/// Checks that each column of a sheet is among the headings, or has something that stands for its values. The
-/// error is the first that isn't and hasn't.
+/// Whether no heading is that of a column, and nothing stands for its values.
+fn is_missing(settings: &Settings<'_>, headings: &StringRecord, column: Column) -> bool
+    ensures { result ≡ is_missing settings.now (fields_of headings.now) column }
+{
+    let mut buffer = Buffer::new();
+    place_of(headings, column).is_none() && otherwise(settings, column, &mut buffer).is_empty()
+}
+
+/// Checks that no column of a sheet is missing. The error is the first that is.
 pub(crate) fn check_headings(
     settings: &Settings<'_>,
     sheet: Sheet,
     headings: &StringRecord,
 ) -> Result<(), Column>
+    ensures headed { OnOk result (IsHeaded settings.now sheet (fields_of headings.now)) }
     ensures refused { IfErr result (IsMissing settings.now sheet (fields_of headings.now)) }
 {
-    for column in sheet.columns() {
-        let mut buffer = Buffer::new();
-        if place_of(headings, *column).is_none()
-            && otherwise(settings, *column, &mut buffer).is_empty()
-        {
+    let columns = sheet.columns();
+    for column in columns {
+        if is_missing(settings, headings, *column) {
             return Err(*column);
         }
     }

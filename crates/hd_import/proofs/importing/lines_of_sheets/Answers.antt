@@ -1,11 +1,10 @@
 use Rattle.std.proofs.Common.{◌≡◌, ◌∷◌, ◌++◌, [], ◌∙◌, ap, string_bytes, arith}
 use Rattle.std.proofs.lemmas.Grind.{common_steps}
-use Rattle.hd_import.specs.Faults.{IsSheetFault}
-use Rattle.hd_import.specs.Texts.{file_of, first_line}
-use Rattle.hd_import.specs.declared.column.Sheet.{Sheet}
-use Rattle.hd_import.proofs.FaultLemmas.{handed_on, of_a_sheet}
+use Rattle.hd_import.specs.Faults.{IsFirstSheetFault}
+use Rattle.hd_import.specs.Texts.{first_line}
+use Rattle.hd_import.specs.declared.fault.Fault.TheVariants as fault
+use Rattle.hd_import.proofs.FaultLemmas.{handed_on, memory_first, of_this_sheet}
 use Rattle.hd_import.proofs.WriteLemmas.{all_tables, no_tables, table_step}
-use Rattle.hd_import.specs.declared.sources.Source.{Source}
 use Rattle.hd_import.proofs.importing.lines_of_sheets.Goals as goal
 
 pub loop-sheet-init : goal.loop-sheet-init
@@ -23,12 +22,12 @@ loop-sheet-preserved c =
     let put = c.in_ok-count.ensures.lines in
     let pushed : c.push.new.self.items ≡ c.loop-sheet.counts.items ++ c.in_ok-count.count ∷ [] =
     grind (arith, common_steps) in
-    rw (pushed, put.6)
+    rw (pushed, put.4)
     (table_step c.args.settings.now c.args.format c.args.sources.now c.all_sheets-sheets.result.now
     c.loop-sheet.sheet-index _
     (string_bytes c.loop-sheet.text) (string_bytes c.put_sheet.new.out) c.loop-sheet.counts.items
-    c.file_of-file.result.bytes.now put.0 put.1 c.loop-sheet-test.true
-    c.loop-sheet.invariant (ap (λ (f : Source). f.bytes.now) c.file_of-file.ensures) put.2 put.3 put.4 put.5)
+    c.file_of-file.result put.0 c.loop-sheet-test.true c.loop-sheet.invariant c.file_of-file.ensures
+    put.1 put.2 put.3)
 
 pub returns-clause-lines : goal.returns-clause-lines
 returns-clause-lines c =
@@ -40,10 +39,21 @@ returns-clause-lines c =
 pub returns-in_err-count-clause-refused : goal.returns-in_err-count-clause-refused
 returns-in_err-count-clause-refused c =
     let fault = c.in_err-count.field-0.0 in
-    let here = of_a_sheet c.args.settings.now c.args.format c.args.sources.now c.all_sheets-sheets.result.now
-    c.loop-sheet.sheet-index _
-    c.file_of-file.result fault c.file_of-file.ensures c.in_err-count.ensures.refused in
+    let here = of_this_sheet c.args.settings.now c.args.format c.args.sources.now
+    c.all_sheets-sheets.result.now c.loop-sheet.sheet-index _ (string_bytes c.loop-sheet.text)
+    c.loop-sheet.counts.items c.file_of-file.result fault c.all_sheets-sheets.ensures c.loop-sheet-test.true
+    c.loop-sheet.invariant c.file_of-file.ensures c.in_err-count.ensures.refused in
     handed_on c.from_residual.result
-    (λ told. (which : Sheet) × IsSheetFault c.args.settings.now c.args.format which
-    (file_of c.args.sources.now which) told) fault here
+    (IsFirstSheetFault c.args.settings.now c.args.format c.args.sources.now) fault here
     c.from_residual.ensures.1
+
+pub returns-then-is_err-clause-refused : goal.returns-then-is_err-clause-refused
+returns-then-is_err-clause-refused c =
+    memory_first c.args.settings.now c.args.format c.args.sources.now
+
+pub returns-then-is_err-2-clause-refused : goal.returns-then-is_err-2-clause-refused
+returns-then-is_err-2-clause-refused c =
+    of_this_sheet c.args.settings.now c.args.format c.args.sources.now c.all_sheets-sheets.result.now
+    c.loop-sheet.sheet-index _ (string_bytes c.loop-sheet.text) c.loop-sheet.counts.items
+    c.file_of-file.result fault.Memory c.all_sheets-sheets.ensures c.loop-sheet-test.true
+    c.loop-sheet.invariant c.file_of-file.ensures tt

@@ -14,13 +14,18 @@ returns-in-Ok-put_rows-clause-lines c =
     let rest = c.in-Some.rows.now in
     let split : c.in-Ok.rows.items ≡ c.in-Some.headings.now ∷ rest =
     sym c.as_slice.ensures.value ∙ c.in-Some.ensures.cases.0 in (
-      headings,
-      map fields_of rest,
-      subst (λ (rows : List Row). AreRowsOfFile c.args.format c.args.file.bytes.now rows)
-          (ap (map fields_of) split) c.in-Ok.ensures.rows,
-      c.in-Ok.ensures.closed,
-      All-map (λ (row : Row). is_fit_row c.args.settings.now c.args.sheet headings row ≡ true) fields_of rest
-          c.in-Ok-put_rows.ensures.fit,
+      record { sheet = c.args.sheet; headings = headings; rows = map fields_of rest },
+      refl,
+      record {
+        encoded = c.in-Ok.ensures.encoded;
+        closed = c.in-Ok.ensures.closed;
+        rows = subst (λ (rows : List Row). AreRowsOfFile c.args.format c.args.file.bytes.now rows)
+            (ap (map fields_of) split) c.in-Ok.ensures.rows;
+        headed = c.in_default-check_headings.ensures.headed;
+        fit =
+            All-map (λ (row : Row). is_fit_row c.args.settings.now c.args.sheet headings row ≡ true)
+            fields_of rest c.in-Ok-put_rows.ensures.fit;
+      },
       c.in-Ok-put_rows.ensures.text,
       sym (length-map rest fields_of),
     )
@@ -35,10 +40,11 @@ returns-in_default-clause-refused c =
     let empty : c.in-Ok.rows.items ≡ [] =
     sym c.as_slice.ensures.value ∙ nil_from_length c.as_slice.result.now none in (
       refl,
+      (c.in-Ok.ensures.encoded, c.in-Ok.ensures.closed),
       [],
       subst (λ (rows : List Row). AreRowsOfFile c.args.format c.args.file.bytes.now rows)
           (ap (map fields_of) empty) c.in-Ok.ensures.rows,
-      first_missing c.args.settings.now c.args.sheet c.columns.result.now _ c.columns.ensures,
+      first_missing c.args.settings.now c.args.sheet c.first_column.result c.first_column.ensures,
     )
 
 pub returns-in-Err-check_headings-clause-refused : goal.returns-in-Err-check_headings-clause-refused
@@ -48,6 +54,7 @@ returns-in-Err-check_headings-clause-refused c =
     let split : c.in-Ok.rows.items ≡ c.in-Some.headings.now ∷ rest =
     sym c.as_slice.ensures.value ∙ c.in-Some.ensures.cases.0 in (
       refl,
+      (c.in-Ok.ensures.encoded, c.in-Ok.ensures.closed),
       headings ∷ map fields_of rest,
       subst (λ (rows : List Row). AreRowsOfFile c.args.format c.args.file.bytes.now rows)
           (ap (map fields_of) split) c.in-Ok.ensures.rows,
@@ -60,5 +67,6 @@ returns-clause-refused c =
     let split : c.in-Ok.rows.items ≡ c.in-Some.headings.now ∷ rest =
     sym c.as_slice.ensures.value ∙ c.in-Some.ensures.cases.0 in
     c.fault_of_line.ensures c.args.settings.now c.in-Err-put_rows.ensures.refused
+    c.in_default-check_headings.ensures.headed (c.in-Ok.ensures.encoded, c.in-Ok.ensures.closed)
     (subst (λ (rows : List Row). AreRowsOfFile c.args.format c.args.file.bytes.now rows)
     (ap (map fields_of) split) c.in-Ok.ensures.rows)

@@ -3,6 +3,9 @@ use Rattle.csv.specs.Records.{fields_of}
 use Rattle.hd_import.specs.Columns.{is_fit, letter_of}
 use Rattle.hd_import.specs.Values.{value_of}
 use Rattle.hd_import.proofs.WriteLemmas.{fit_step, value_step}
+use Rattle.hd_import.specs.Faults.{IsRowFault}
+use Rattle.hd_import.proofs.FaultLemmas.{handed_on}
+use Rattle.hd_import.proofs.FirstLemmas.{fault_of_row}
 use Rattle.hd_import.proofs.writing.put_row.Goals as goal
 
 pub loop-column-preserved : goal.loop-column-preserved
@@ -23,3 +26,15 @@ loop-column-preserved c =
           c.loop-column-test.true
           c.loop-column.invariant.fit c.in_ok-put_value.ensures.fit;
     }
+
+pub returns-in_err-put_value-clause-refused : goal.returns-in_err-put_value-clause-refused
+returns-in_err-put_value-clause-refused c =
+    let settings = c.args.settings.now in
+    let headings = fields_of c.args.headings.now in
+    let row = fields_of c.args.row.now in
+    let told = c.in_err-put_value.field-0.0 in
+    handed_on c.from_residual.result (IsRowFault settings c.args.sheet headings row) told
+    (fault_of_row settings c.args.sheet headings row c.columns-columns.result.now c.loop-column.column-index _
+    told c.columns-columns.ensures c.loop-column-test.true c.loop-column.invariant.fit
+    c.in_err-put_value.ensures.refused)
+    c.from_residual.ensures.1

@@ -3,6 +3,7 @@ use Rattle.std.proofs.lemmas.List.{map-append, take_more}
 use Rattle.std.proofs.lemmas.List.Elements.{All-push}
 use Rattle.csv.specs.Records.{Row as Record, fields_of}
 use Rattle.hd_import.specs.Texts.{is_fit_row, text_of_rows}
+use Rattle.hd_import.proofs.FirstLemmas.{fault_of_line}
 use Rattle.hd_import.proofs.WriteLemmas.{row_more}
 use Rattle.hd_import.proofs.writing.put_rows.Goals as goal
 
@@ -28,3 +29,9 @@ loop-index-preserved c =
           (take at rows) row c.loop-index.invariant.fit
           c.in_default.ensures.fit;
     }
+
+pub returns-in-Err-clause-refused : goal.returns-in-Err-clause-refused
+returns-in-Err-clause-refused c =
+    fault_of_line c.args.settings.now c.args.sheet (fields_of c.args.headings.now) c.args.rows.now
+    c.loop-index.index c.index-rows-index.result c.in-Err.fault c.loop-index-test.true c.index-rows-index.is
+    c.loop-index.invariant.fit c.in-Err.ensures.refused
