@@ -18,15 +18,18 @@ pub(crate) fn begin_journal(rt: &HostRuntime, order: &JournalBegin<'_>) -> Resul
     }
 }
 
-/// Begins the first period of a folder that has none.
+/// Begins the first period of a folder that has none, or whose first one was broken off before anything was
+/// committed to its journal.
 fn begin_folder(rt: &HostRuntime, library: &LibraryFiles<'_>, folder: &str) -> Result<(), Fault> {
     let alloc = rt.alloc();
-    if last_period(rt, folder)?.is_some() {
-        return Err(Fault::LibraryIsThere(String::from_str(alloc, folder)?));
-    }
     let first = Paths::of_period(alloc, folder, 1)?;
     let files = first.files();
-    see_nothing(rt, files.journal.unwrap_or(""))?;
+    let nothing = see_nothing(rt, files.journal.unwrap_or(""));
+    match last_period(rt, folder)? {
+        None => nothing?,
+        Some(1) if nothing.is_ok() => {}
+        Some(_) => return Err(Fault::LibraryIsThere(String::from_str(alloc, folder)?)),
+    }
     match library.opening {
         None => begin_first(rt, library, &files),
         Some(opening) => {

@@ -62,7 +62,9 @@ fn carry_files(
     way: &Way<'_, '_, '_>,
     next: Option<&LibraryFiles<'_>>,
 ) -> Result<(), Fault> {
-    see_no_file(rt, way.into)?;
+    if next.is_none() {
+        see_no_file(rt, way.into)?;
+    }
     let library = Library::read_text(rt, &keeping.library)?;
     let before = library.digest;
     let kept = open_over(rt, Unknown, keeping, library)?;
