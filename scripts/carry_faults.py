@@ -4,12 +4,13 @@
     python3 scripts/carry_faults.py [PROGRAM]
 
 PROGRAM is crates/holddesk/out/holddesk where it isn't given. A command is held while it reads the catalogue of the
-number that it has picked, by a FIFO in the place of that file; then a carry of the same library runs to its end, and the
-command is let go on. A server has to serve the number that was carried to, journal check and show have to say that the
-library has gone on, and a second carry has to leave the first one's files alone, also while they are served. Of a carry
-that fails nothing may be told as written off; of one that doesn't, each copy once; one whose output can't be printed is
-done all the same, and says so; and what is in the way is told, also where the journal can't be ended. Of a file that has
-its name, in a folder that can't be synced, it is told that it is there. Needs Linux and Python 3. Status 0: all is so.
+number that it has picked, by a FIFO in the place of that file; then a carry of the same library runs to its end, and
+the command is let go on. A server has to serve the number that was carried to, journal check and show have to say that
+the library has gone on, and a second carry has to leave the first one's files alone, also while they are served. Of a
+carry that fails nothing may be told as written off; of one that doesn't, each copy once; one whose output can't be
+printed is done all the same, and says so; and what is in the way is told, also where the journal can't be ended. Of a
+file that has its name, in a folder that can't be synced, it is told that it is there. Needs Linux and Python 3. Status
+0: all is so.
 """
 
 import ctypes
@@ -21,8 +22,8 @@ import tempfile
 import time
 
 from file_faults import CHECKOUT, compare_said, import_words, narrow, said_of
-from server import (CATALOGUE, SECONDS, Server, Trouble, ask, begun, begun_folder, connect, parser_of, reported, said_by,
-                    without_progress)
+from server import (CATALOGUE, SECONDS, Server, Trouble, ask, begun, begun_folder, connect, parser_of, reported,
+                    said_by, without_progress)
 
 LOGIN = b"9300CNt1|COpw|"
 GONE_ON = "the library went from 0001 to 0002 meanwhile: say it again\n"
@@ -68,6 +69,17 @@ def first_catalogue(library):
 def carry_words(program, library, *more):
     """The words that carry a library's folder over to the demonstration's catalogue."""
     return [program, "carry", "--library", library, "--to", CATALOGUE, *more]
+
+
+def started(words):
+    """A command that runs, whose output is read when it has ended."""
+    return subprocess.Popen(words, stdin=subprocess.DEVNULL, stdout=subprocess.PIPE, stderr=subprocess.PIPE, text=True)
+
+
+def ended(process):
+    """What a command says that was started, as said_by tells it."""
+    printed, told = process.communicate(timeout=SECONDS)
+    return process.returncode, printed, without_progress(told)
 
 
 def carry_beside(words, held):
@@ -129,12 +141,9 @@ def compare_readers(program, room):
     for number, (words, told) in enumerate(((["check"], "checking 0001 of {}\n"), (["show", "--copies"], ""))):
         library = begun_folder(program, CATALOGUE, os.path.join(room, f"reader{number}"))
         held = first_catalogue(library)
-        reader = subprocess.Popen([program, "journal", *words, "--library", library], stdin=subprocess.DEVNULL,
-                                  stdout=subprocess.PIPE, stderr=subprocess.PIPE, text=True)
+        reader = started([program, "journal", *words, "--library", library])
         carry_beside(carry_words(program, library), held)
-        printed, said = reader.communicate(timeout=SECONDS)
-        compare_said(f"journal {words} beside a carry", (reader.returncode, printed, without_progress(said)),
-                     (1, "", told.format(library) + GONE_ON))
+        compare_said(f"journal {words} beside a carry", ended(reader), (1, "", told.format(library) + GONE_ON))
 
 
 def compare_second(program, room):
@@ -142,18 +151,17 @@ def compare_second(program, room):
     which is served meanwhile."""
     library = begun_folder(program, CATALOGUE, os.path.join(room, "second"))
     held = first_catalogue(library)
-    second = subprocess.Popen(carry_words(program, library), stdin=subprocess.DEVNULL, stdout=subprocess.PIPE,
-                              stderr=subprocess.PIPE, text=True)
+    second = started(carry_words(program, library))
     held.wait()
     compare_said("a first carry", said_of(*carry_words(program, library)), (0, ""))
     with Server(program, None, 1, "--connections", "2", "--library", library) as server:
         lend(server, "a1")
         held.let_go_on()
-        printed, said = second.communicate(timeout=SECONDS)
+        said = ended(second)
         lend(server, "a2")
         server.end()
     compare_loans(program, library, "0002", 2)
-    compare_said("a second carry", (second.returncode, printed, without_progress(said)), (1, "", GONE_ON))
+    compare_said("a second carry", said, (1, "", GONE_ON))
 
 
 def compare_second_of_files(program, room):
@@ -164,11 +172,9 @@ def compare_second_of_files(program, room):
     journal = begun(program, catalogue, os.path.join(room, "library.journal"))
     words = [program, "carry", "--catalogue", catalogue, "--journal", journal, "--to", CATALOGUE, "--into", opening]
     held = Held(catalogue)
-    second = subprocess.Popen(words, stdin=subprocess.DEVNULL, stdout=subprocess.PIPE, stderr=subprocess.PIPE, text=True)
+    second = started(words)
     carry_beside(words, held)
-    printed, said = second.communicate(timeout=SECONDS)
-    compare_said("a second carry of files", (second.returncode, printed, without_progress(said)),
-                 (1, "", f"there is a file at {opening}\n"))
+    compare_said("a second carry of files", ended(second), (1, "", f"there is a file at {opening}\n"))
 
 
 def compare_written_off(program, room):
@@ -220,8 +226,8 @@ def compare_unsynced(program, room):
     """Looks that a file that has its name, in a folder which can't be read to be synced, isn't told as unwritten."""
     folder = os.path.join(room, "unsynced")
     os.mkdir(folder, stat.S_IWUSR | stat.S_IXUSR)
-    done = subprocess.run([program, *import_words(folder)], capture_output=True, text=True, timeout=SECONDS, check=False,
-                          preexec_fn=bound_by_rights)
+    done = subprocess.run([program, *import_words(folder)], capture_output=True, text=True, timeout=SECONDS,
+                          check=False, preexec_fn=bound_by_rights)
     path = os.path.join(folder, "imported")
     why = "it isn't certain that the disk keeps it: Permission denied (os error 13)"
     compare_said("an import into a folder that can't be synced", (done.returncode, done.stderr),
@@ -241,7 +247,7 @@ def compare_all(program):
 def main():
     asked = parser_of(__doc__).parse_args()
     reported("carry_faults", compare_all, asked.program)
-    print("carry_faults: a start, a check and a second carry beside a carry lose nothing; what a carry tells has happened")
+    print("carry_faults: beside a carry a start, a check and a second carry lose nothing; what it tells has happened")
 
 
 if __name__ == "__main__":

@@ -8,9 +8,9 @@ is run on a copy of it for each of its calls that write, sync, rename or take aw
 call (--every N: before each Nth). What is left has to be the old library or the new one: journal check takes it, and
 where it is the old one a second carry succeeds; the opening then has the same bytes as that of an undisturbed carry. In
 the same way an empty folder is begun with that opening, and one without: what is left has to be no library, which a
-second begin makes, or the whole one. At last a carry waits before each rename: until the opening has its name the old journal can't be
-opened, for what a server answered there would be lost. Needs Linux, strace and Python 3; where there is no strace, or it
-may not trace, it is told as skipped. Status 0: nothing is lost.
+second begin makes, or the whole one. At last a carry waits before each rename: until the opening has its name the old
+journal can't be opened, for what a server answered there would be lost. Needs Linux, strace and Python 3; where there
+is no strace, or it may not trace, it is told as skipped. Status 0: nothing is lost.
 """
 
 import os
@@ -194,7 +194,7 @@ def main():
     counts = reported("carry_stops", stops, asked.program, asked.every)
     print("carry_stops: skipped, since there is no strace that may trace" if counts is None else
           f"carry_stops: stopped before its calls up to the {counts[0]}th, the old library or the new one each time; "
-          f"a beginning up to the {counts[1]}th, and without an opening to the {counts[2]}th, no library or the whole one")
+          f"a beginning up to the {counts[1]}th, without an opening to the {counts[2]}th, no library or the whole one")
 
 
 if __name__ == "__main__":
