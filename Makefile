@@ -45,6 +45,7 @@ PLAYED = python3 scripts/examples.py "$$program" && python3 scripts/rows.py $(LO
   python3 scripts/serve_many.py --terminals 100 --seconds 3 --latest 100 "$$program" && \
   python3 scripts/serve_door.py "$$program" && \
   python3 scripts/serve_crash.py --rounds $(ROUNDS) "$$program" && python3 scripts/carry_rows.py "$$program" && \
+  python3 scripts/carry_faults.py "$$program" && \
   python3 scripts/file_faults.py "$$program" && python3 scripts/catalogue_faults.py "$$program" && \
   python3 scripts/two_years.py --days $(DAYS) "$$program"
 

@@ -7,10 +7,10 @@ PROGRAM is crates/holddesk/out/holddesk where it isn't given. A day is played in
 is run on a copy of it for each of its calls that write, sync, rename or take away a file, and is killed before that
 call (--every N: before each Nth). What is left has to be the old library or the new one: journal check takes it, and
 where it is the old one a second carry succeeds; the opening then has the same bytes as that of an undisturbed carry. In
-the same way an empty folder is begun with that opening: what is left has to be no library, which a second begin makes,
-or the whole one. At last a carry waits before each rename: until the opening has its name the old journal can't be
-opened, for what a server answered there would be lost. Needs Linux, strace and Python 3; where there is no strace, or it
-may not trace, it is told as skipped. Status 0: nothing is lost.
+the same way an empty folder is begun with that opening, and one without: what is left has to be no library, which a
+second begin makes, or the whole one. At last a carry waits before each rename: until the opening has its name the old
+journal can't be opened, for what a server answered there would be lost. Needs Linux, strace and Python 3; where there
+is no strace, or it may not trace, it is told as skipped. Status 0: nothing is lost.
 """
 
 import os
@@ -112,6 +112,18 @@ def stop_begin(program, folder, number, path):
     return True
 
 
+def stop_first(program, folder, number):
+    """Begins a folder without an opening and kills that before its call of this number. Whether there was one."""
+    words = [program, "journal", "begin", "--library", folder, "--catalogue", CATALOGUE]
+    if not is_killed(words, number):
+        return False
+    if said_by([program, "journal", "check", "--library", folder])[0]:
+        ended_well(words)
+    if not checked(program, folder).startswith("turns: 0\n"):
+        raise Trouble(f"before call {number} of a first begin the journal isn't the new one")
+    return True
+
+
 def others_kept_out(program, folder):
     """Carries a folder over while others try to open its journal, which has to fail until the opening is there."""
     words = ["strace", "-f", "-qq", "-o", os.devnull, "-e", f"trace={RENAMES}", "-e",
@@ -138,8 +150,26 @@ def may_trace():
     ).returncode
 
 
+def calls_of(room, every, stop, old=None):
+    """Stops a command before each of its calls, each time in a folder of its own, which is a copy of an old one or
+    empty. How many there were."""
+    number = 1
+    while True:
+        folder = os.path.join(room, str(number))
+        if old is None:
+            os.mkdir(folder)
+        else:
+            shutil.copytree(old, folder)
+        is_stopped = stop(folder, number)
+        shutil.rmtree(folder)
+        if not is_stopped:
+            return number
+        number += every
+
+
 def stops(program, every):
-    """Stops a carry, and then a beginning, before each of its calls. How many there were of each."""
+    """Stops a carry, and then a beginning with an opening and one without, before each of its calls. How many there
+    were of each."""
     if not may_trace():
         return None
     with tempfile.TemporaryDirectory() as room:
@@ -152,21 +182,9 @@ def stops(program, every):
         shutil.copytree(old, waiting)
         others_kept_out(program, waiting)
         given = os.path.join(whole, "0002.opening")
-        carried = begun = 1
-        while True:
-            folder = os.path.join(room, str(carried))
-            shutil.copytree(old, folder)
-            if not stop(program, folder, carried, opening(whole)):
-                break
-            shutil.rmtree(folder)
-            carried += every
-        while True:
-            folder = os.path.join(room, f"begun{begun}")
-            os.mkdir(folder)
-            if not stop_begin(program, folder, begun, given):
-                return carried, begun
-            shutil.rmtree(folder)
-            begun += every
+        return (calls_of(room, every, lambda folder, number: stop(program, folder, number, opening(whole)), old),
+                calls_of(room, every, lambda folder, number: stop_begin(program, folder, number, given)),
+                calls_of(room, every, lambda folder, number: stop_first(program, folder, number)))
 
 
 def main():
@@ -176,7 +194,7 @@ def main():
     counts = reported("carry_stops", stops, asked.program, asked.every)
     print("carry_stops: skipped, since there is no strace that may trace" if counts is None else
           f"carry_stops: stopped before its calls up to the {counts[0]}th, the old library or the new one each time; "
-          f"a beginning up to the {counts[1]}th, no library or the whole one")
+          f"a beginning up to the {counts[1]}th, without an opening to the {counts[2]}th, no library or the whole one")
 
 
 if __name__ == "__main__":

@@ -13,9 +13,11 @@ option. Behind them a catalogue, a journal and an opening are made under an umas
 their owner alone has to be let; and serve is started where it may write no more than some bytes into a file: that has
 to be told before it listens. A journal whose server was killed is refused without its log, and one that was ended well
 opens without it; where sqlite3 changed one of its rows it is refused, and where that only read it, it isn't. A library
-whose last number lacks a file is refused too; a file in its folder whose name isn't UTF-8 is passed over. A folder that
-is begun with an opening is served and checked, and isn't begun again; one whose beginning was broken off is no library,
-and is begun again. Needs nothing but Python 3. Status 0: all is as it is stored.
+whose last number lacks a file is refused too, also beside an opening that has no name yet, and isn't begun over another
+catalogue; a file in its folder whose name isn't UTF-8 is passed over. A folder that is begun with an opening is served
+and checked, and isn't begun again; one whose beginning was broken off is no library, and is begun again. A journal that
+can't be begun is told with path and reason, and a file that is no opening is refused by journal views too. Needs nothing
+but Python 3. Status 0: all is as it is stored.
 """
 
 import contextlib
@@ -241,6 +243,7 @@ def compare_lost_files(program):
             if said != (1, f"the library lacks {path}\n"):
                 raise Trouble(f"a library without its {kind}: {said!r}")
             shutil.move(os.path.join(room, kind), path)
+        compare_leftover(program, folder)
         with open(os.path.join(os.fsencode(folder), b"S\xfcd.catalogue"), "wb"):
             pass  # a stranger's, whose name isn't UTF-8
         for words in (["check"], ["journal", "check"]):
@@ -250,6 +253,7 @@ def compare_lost_files(program):
         said = said_of(program, "journal", "check", "--library", folder)
         compare_said("a library whose carry was broken off", said, (0, f"checking 0001 of {folder}\n"))
         compare_first_catalogue(program, os.path.join(room, "first"))
+        compare_first_journal(program, room)
         away = os.path.join(room, "away")
         said = said_of(program, "journal", "begin", "--catalogue", CATALOGUE, "--library", away)
         if said != (1, f"there is no folder {away}\n"):
@@ -270,6 +274,52 @@ def compare_first_catalogue(program, path):
         compare_said(f"{words} without a catalogue", said, (1, f"the library lacks {folder}/0001.catalogue\n"))
     if os.path.exists(os.path.join(folder, "0001.catalogue")):
         raise Trouble("a library that isn't begun got a catalogue")
+
+
+def compare_leftover(program, folder):
+    """Looks that an opening that has its name and another one beside it, as a carry leaves that is broken off, don't
+    hide that the number lacks its journal."""
+    journal, part = os.path.join(folder, "0002.journal"), os.path.join(folder, "0002.opening.part")
+    shutil.move(journal, f"{journal}.aside")
+    with open(part, "wb"):
+        pass
+    said = said_of(program, "journal", "check", "--library", folder)
+    compare_said("a library without its journal, beside a part", said, (1, f"the library lacks {journal}\n"))
+    os.remove(part)
+    shutil.move(f"{journal}.aside", journal)
+
+
+def compare_first_journal(program, room):
+    """Looks that a library that has lost its first journal says so, is begun anew with the catalogue that it has, as
+    where the beginning was broken off, and isn't with another one."""
+    folder, other = begun_folder(program, CATALOGUE, os.path.join(room, "lost")), os.path.join(room, "other")
+    journal, catalogue = os.path.join(folder, "0001.journal"), os.path.join(folder, "0001.catalogue")
+    with open(CATALOGUE, "rb") as file, open(other, "wb") as copy:
+        whole = file.read()
+        copy.write(whole + b"C|b9|tb|north\n")
+    for path in (journal, f"{journal}-wal"):
+        os.remove(path)
+    for words in (["journal", "check"], ["serve", "--listen", f"{LOOPBACK}:0", "--workers", "1"],
+                  ["carry", "--to", CATALOGUE]):
+        said = said_of(program, *words, "--library", folder)
+        compare_said(f"{words} without a journal", said, (1, f"the library lacks {journal}\n"))
+    begin = ["journal", "begin", "--library", folder, "--catalogue"]
+    compare_said("begin with another catalogue", said_of(program, *begin, other), (1, f"there is a file at {catalogue}\n"))
+    with open(catalogue, "rb") as file:
+        if file.read() != whole or os.path.exists(journal):
+            raise Trouble("a library that isn't begun got another catalogue, or a journal")
+    compare_said("begin with the same catalogue", said_of(program, *begin, CATALOGUE), (0, ""))
+
+
+def compare_paths(program):
+    """Looks that a journal that can't be begun is told with path and reason, and that views are printed of no file that
+    isn't an opening."""
+    with tempfile.TemporaryDirectory() as folder:
+        journal = os.path.join(folder, "away", "journal")
+        compare_said("a journal in no folder", told_of(program, journal, "journal", "begin"),
+                     (1, "", f"cannot write {journal}: No such file or directory (os error 2)\n"))
+    compare_said("views of a catalogue", said_by([program, "journal", "views", "--opening", CATALOGUE]),
+                 (1, "", "opening line 1: HEADER\n"))
 
 
 def begin_words(folder, opening):
@@ -353,6 +403,7 @@ def main():
         reported("file_faults", compare_changed, asked.program)
         reported("file_faults", compare_lost_files, asked.program)
         reported("file_faults", compare_begun_folder, asked.program)
+        reported("file_faults", compare_paths, asked.program)
         print(f"file_faults: {made} files made for their owner alone; starts that can't write, lack a file or a log, or "
               "have a journal that somebody else changed, say so; a folder is begun with an opening")
 

@@ -78,20 +78,23 @@ def begun_folder(program, catalogue, folder):
 
 
 class Server:
-    """A server that listens. It is killed where it hasn't ended when the block that it is used in ends."""
+    """A server that listens. It is killed where it hasn't ended when the block that it is used in ends. What is to be
+    done meanwhile is done as soon as it is started, and told has the lines that it said before it listened."""
 
-    def __init__(self, program, catalogue, workers, *words):
+    def __init__(self, program, catalogue, workers, *words, meanwhile=None):
         self.process = subprocess.Popen(serve_words(program, catalogue, workers, *words), stdin=subprocess.DEVNULL,
                                         stdout=subprocess.PIPE, stderr=subprocess.PIPE, text=True)
-        told = []
+        self.told = []
+        if meanwhile is not None:
+            meanwhile()
         for line in self.process.stderr:
             listens = re.fullmatch(rf"listening on {re.escape(LOOPBACK)}:(\d+), {workers} workers?\n", line)
             if listens:
                 self.port = int(listens[1])
                 return
-            told.append(line)
+            self.told.append(line)
         self.kill()
-        raise Trouble(f"the server doesn't listen, and says {told!r}")
+        raise Trouble(f"the server doesn't listen, and says {self.told!r}")
 
     def __enter__(self):
         return self

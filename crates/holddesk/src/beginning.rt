@@ -1,13 +1,13 @@
 //! What `journal begin` does.
 
+use crate::ending::end_kept;
 use crate::fault::Fault;
 use crate::folder::{Paths, last_period};
-use crate::keeping::end_kept;
-use crate::presence::{remove_journal, see_no_file, see_nothing};
-use crate::writing::{name_part, own_file, part_path, write_part, write_whole};
+use crate::presence::{remove_journal, see_no_file, see_no_other, see_nothing};
+use crate::writing::{cannot_write, name_part, own_file, part_path, write_part, write_whole};
 use hd_command_line::{JournalBegin, LibraryFiles};
 use hd_setup::{Library, read_file};
-use hd_turn_store::{Fault as StoreFault, Unknown, open};
+use hd_turn_store::{Unknown, open};
 
 /// Begins a journal's file where there is none, or the first period of a folder that has none. An opening
 /// makes it number 2, as if a period before had ended so.
@@ -18,15 +18,18 @@ pub(crate) fn begin_journal(rt: &HostRuntime, order: &JournalBegin<'_>) -> Resul
     }
 }
 
-/// Begins the first period of a folder that has none.
+/// Begins the first period of a folder that has none, or whose first one was broken off before anything was
+/// committed to its journal.
 fn begin_folder(rt: &HostRuntime, library: &LibraryFiles<'_>, folder: &str) -> Result<(), Fault> {
     let alloc = rt.alloc();
-    if last_period(rt, folder)?.is_some() {
-        return Err(Fault::LibraryIsThere(String::from_str(alloc, folder)?));
-    }
     let first = Paths::of_period(alloc, folder, 1)?;
     let files = first.files();
-    see_nothing(rt, files.journal.unwrap_or(""))?;
+    let nothing = see_nothing(rt, files.journal.unwrap_or(""));
+    match last_period(rt, folder)? {
+        None => nothing?,
+        Some(1) if nothing.is_ok() => {}
+        Some(_) => return Err(Fault::LibraryIsThere(String::from_str(alloc, folder)?)),
+    }
     match library.opening {
         None => begin_first(rt, library, &files),
         Some(opening) => {
@@ -36,7 +39,8 @@ fn begin_folder(rt: &HostRuntime, library: &LibraryFiles<'_>, folder: &str) -> R
     }
 }
 
-/// Begins the first period of a folder, whose files these are: a copy of the catalogue, and a journal.
+/// Begins the first period of a folder, whose files these are: a copy of the catalogue, and a journal. A
+/// beginning that was broken off has left the same copy; another catalogue is that of a journal that was lost.
 fn begin_first(
     rt: &HostRuntime,
     library: &LibraryFiles<'_>,
@@ -44,6 +48,7 @@ fn begin_first(
 ) -> Result<(), Fault> {
     let catalogue = read_file(rt, "catalogue", library.catalogue)?;
     drop(Library::of_catalogue(rt, catalogue.as_slice())?.with_text()?);
+    see_no_other(rt, files.catalogue, catalogue.as_slice())?;
     write_whole(rt, files.catalogue, catalogue.as_slice())?;
     begin_file(rt, files)
 }
@@ -62,6 +67,7 @@ fn begin_opened(
     let catalogue = read_file(rt, "catalogue", library.catalogue)?;
     let opening = read_file(rt, "opening", opening)?;
     let digest = digest_of_opened(rt, catalogue.as_slice(), opening.as_slice())?;
+    see_no_other(rt, files.catalogue, catalogue.as_slice())?;
     let part = part_path(rt.alloc(), into)?;
     write_part(rt, part.as_str(), opening.as_slice())?;
     write_whole(rt, files.catalogue, catalogue.as_slice())?;
@@ -118,8 +124,8 @@ pub(crate) fn begin_anew(rt: &HostRuntime, path: &str, digest: &[u8; 32]) -> Res
 /// Begins the journal of a library with this digest at a path. All of it is then in the database file, which
 /// its owner alone may read and write.
 fn begin_at(rt: &HostRuntime, path: &str, digest: &[u8; 32]) -> Result<(), Fault> {
-    if own_file(rt, path).is_err() {
-        return Err(Fault::from(StoreFault::CannotOpen));
+    if let Err(error) = own_file(rt, path) {
+        return Err(cannot_write(rt.alloc(), path, &error)?);
     }
     let (conn, _) = open(rt, path, Unknown, digest)?;
     end_kept(conn)

@@ -2,13 +2,14 @@
 
 use crate::fault::Fault;
 use crate::writing::{part_path, write_part};
-use crate::written_off::{listed_copies, tell_written_off};
+use crate::written_off::{listed_copies, push_written_off};
 use hd_carry::{CarryFault, Obstacle, carry, is_carried_over, obstacle_text};
 use hd_catalogue::Catalogue;
 use hd_desk::Desk;
 use hd_journal::Journal;
 use hd_rules::{CopyNo, OpeningRow};
 use hd_setup::{Library, SetupFault};
+use std::alloc::{AllocError, Global};
 
 /// Which way a desk is to be carried over.
 #[derive(Clone, Copy)]
@@ -21,15 +22,11 @@ pub(crate) struct Way<'to, 'off, 'into> {
     pub(crate) into: &'into str,
 }
 
-/// What was carried over.
-#[derive(Clone, Copy)]
+/// What was carried over, as soon as the opening has its name.
+#[derive(Drop)]
 pub(crate) struct Carried {
-    /// How many turns the journal has.
-    pub(crate) turns: usize,
-    /// The last number that was given.
-    pub(crate) last: u32,
-    /// The SHA-256 of the file that the journal begins with.
-    pub(crate) before: [u8; 32],
+    /// The lines that tell it.
+    pub(crate) told: Vec<u8>,
     /// The SHA-256 of the opening file.
     pub(crate) digest: [u8; 32],
 }
@@ -50,13 +47,25 @@ pub(crate) fn carry_desk(
     let last = last_number(journal)?;
     let written_off = listed_copies(rt, desk.catalogue(), way.write_off)?;
     let digest = written_opening(rt, desk, last, way, written_off.as_slice())?;
-    tell_written_off(rt, desk, written_off.as_slice())?;
-    Ok(Carried {
-        turns: journal.front(),
-        last,
-        before,
-        digest,
-    })
+    let mut told = Vec::new(rt.alloc());
+    push_written_off(&mut told, desk, written_off.as_slice())?;
+    let numbers = numbers_of(rt.alloc(), journal.front(), last, before, digest)?;
+    told.extend_from_slice(numbers.as_bytes())?;
+    Ok(Carried { told, digest })
+}
+
+/// The lines of how many turns a journal has, of the last number that was given, and of the SHA-256 of the files
+/// that it begins with, and the next one does.
+fn numbers_of(
+    alloc: Global,
+    turns: usize,
+    last: u32,
+    before: [u8; 32],
+    digest: [u8; 32],
+) -> Result<String, AllocError> {
+    let old = hex::encode(alloc, before)?;
+    let new = hex::encode(alloc, digest)?;
+    format!(in alloc; "turns: {turns}\nlast number: {last}\nold: {old}\nnew: {new}\n")
 }
 
 /// Writes the opening of a desk beside its path: its digest. What was written is read back, and its desk

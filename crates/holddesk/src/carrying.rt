@@ -1,52 +1,43 @@
 //! What `carry` does: it ends a journal, and writes how the next one begins.
 
 use crate::beginning::begin_anew;
-use crate::carried::{Carried, Way, carry_desk};
+use crate::carried::{Way, carry_desk};
 use crate::ending::end_journal;
 use crate::fault::Fault;
-use crate::folder::{Paths, last_period};
+use crate::folder::Paths;
 use crate::keeping::{Keeping, open_over};
 use crate::presence::see_no_file;
 use crate::writing::{name_part, part_path, write_whole};
-use hd_command_line::{Carry, LibraryFiles, Place};
+use hd_command_line::{Carry, LibraryFiles};
 use hd_journal::Journal;
 use hd_setup::{Library, read_file};
 use hd_turn_store::Unknown;
+use std::io::Write;
 
-/// Carries a library over to another catalogue: into an opening file, or to the next period of its folder.
+/// Carries a library over to another catalogue: into an opening file, or to the next period of its folder, which
+/// is a copy of the catalogue, a journal, and at last the opening, whose name makes it complete.
 pub(crate) fn carry_over(rt: &HostRuntime, order: &Carry<'_>) -> Result<(), Fault> {
-    match &order.library {
-        Place::Files(files) => {
+    let old = Paths::of(rt, &order.library)?;
+    match old.of_next(rt.alloc())? {
+        Some(new) => carry_period(rt, &old, &new.files(), order),
+        None => {
             let catalogue = read_file(rt, "catalogue", order.to)?;
             let way = way_of(order, catalogue.as_slice(), order.into.unwrap_or(""));
-            carry_files(rt, files, &way, None)
+            carry_files(rt, &Keeping::of(&old), &way, None)
         }
-        Place::Folder(folder) => carry_folder(rt, folder, order),
     }
-}
-
-/// Carries the last period of a folder over to the next one: a copy of the catalogue, a journal, and at last
-/// the opening, whose name makes it complete.
-fn carry_folder(rt: &HostRuntime, folder: &str, order: &Carry<'_>) -> Result<(), Fault> {
-    let alloc = rt.alloc();
-    let Some(period) = last_period(rt, folder)? else {
-        return Err(Fault::NoLibrary(String::from_str(alloc, folder)?));
-    };
-    let old = Paths::of_period(alloc, folder, period)?;
-    let new = Paths::of_period(alloc, folder, period.saturating_add(1))?;
-    carry_period(rt, &old.files(), &new.files(), order)
 }
 
 /// Carries a period over to the next one, whose files these are.
 fn carry_period(
     rt: &HostRuntime,
-    old: &LibraryFiles<'_>,
+    old: &Paths,
     new: &LibraryFiles<'_>,
     order: &Carry<'_>,
 ) -> Result<(), Fault> {
     let catalogue = read_file(rt, "catalogue", order.to)?;
     let way = way_of(order, catalogue.as_slice(), new.opening.unwrap_or(""));
-    carry_files(rt, old, &way, Some(new))
+    carry_files(rt, &Keeping::of(old), &way, Some(new))
 }
 
 /// Which way a desk is to be carried over to this catalogue file's bytes, into this opening file.
@@ -63,29 +54,31 @@ fn way_of<'to, 'off, 'into>(
 }
 
 /// Carries the desk of a library's journal over, into a next period, if there is to be one, and then ends the
-/// journal. Until the opening has its name no server can take turns of the old journal, which would be lost.
+/// journal. From its opening on to its end nobody else has the journal open: no server takes a turn of it, which
+/// would be lost, and no other carry writes the same files.
 fn carry_files(
     rt: &HostRuntime,
-    files: &LibraryFiles<'_>,
+    keeping: &Keeping<'_>,
     way: &Way<'_, '_, '_>,
     next: Option<&LibraryFiles<'_>>,
 ) -> Result<(), Fault> {
-    see_no_file(rt, way.into)?;
-    let keeping = Keeping {
-        library: *files,
-        is_other_accepted: false,
-        is_for_turns: false,
-    };
-    let library = Library::read_text(rt, files)?;
+    if next.is_none() {
+        see_no_file(rt, way.into)?;
+    }
+    let library = Library::read_text(rt, &keeping.library)?;
     let before = library.digest;
-    let kept = open_over(rt, Unknown, &keeping, library)?;
+    let kept = open_over(rt, Unknown, keeping, library)?;
     let carried = carry_journal(rt, kept.answered_journal()?, before, way, next);
-    end_journal(kept)?;
-    carried
+    let ended = end_journal(kept);
+    carried?;
+    if let Err(fault) = ended {
+        let _told = eprintln!(rt; "carried over, but the journal before isn't ended: {fault}");
+    }
+    Ok(())
 }
 
 /// Carries the desk of a journal over: the files of the next period, if there is to be one, and at last the
-/// opening's name.
+/// opening's name. Another carry may have written that before the journal was opened.
 fn carry_journal(
     rt: &HostRuntime,
     journal: &Journal,
@@ -93,24 +86,22 @@ fn carry_journal(
     way: &Way<'_, '_, '_>,
     next: Option<&LibraryFiles<'_>>,
 ) -> Result<(), Fault> {
+    see_no_file(rt, way.into)?;
     let carried = carry_desk(rt, journal, before, way)?;
     if let Some(next) = next {
         write_whole(rt, next.catalogue, way.to)?;
         begin_anew(rt, next.journal.unwrap_or(""), &carried.digest)?;
     }
-    name_opening(rt, way, &carried)
-}
-
-/// Gives the opening that lies beside its path its name, and tells what was carried over.
-fn name_opening(rt: &HostRuntime, way: &Way<'_, '_, '_>, carried: &Carried) -> Result<(), Fault> {
-    let alloc = rt.alloc();
-    let before = hex::encode(alloc, carried.before)?;
-    let now = hex::encode(alloc, carried.digest)?;
     let part = part_path(rt.alloc(), way.into)?;
     name_part(rt, part.as_str(), way.into)?;
-    println!(rt;
-        "turns: {}\nlast number: {}\nold: {before}\nnew: {now}",
-        carried.turns, carried.last
-    )?;
+    tell_carried(rt, carried.told.as_slice());
     Ok(())
+}
+
+/// Prints what was carried over. Where that can't be, the library has gone on all the same, and standard error is
+/// told so.
+fn tell_carried(rt: &HostRuntime, told: &[u8]) {
+    if rt.stdout().write_all(told).is_err() {
+        let _told = eprintln!(rt; "carried over, but what was carried over can't be printed");
+    }
 }

@@ -1,10 +1,9 @@
 //! Ending the file of a journal.
 
 use crate::fault::Fault;
-use crate::keeping::end_kept;
 use hd_durable::DurableJournal;
 use hd_journal_file::JournalFile;
-use hd_turn_store::{Alter, Connection, FileStore, Start};
+use hd_turn_store::{Alter, Connection, FileStore, Start, end};
 use sqlite_disk::Disk;
 
 /// Ends the file of a journal well: all its turns are then in the database file alone.
@@ -12,6 +11,27 @@ pub(crate) fn end_journal<D: Disk + Drop, F: Start>(
     journal: DurableJournal<JournalFile<FileStore<D>, F>>,
 ) -> Result<(), Fault> {
     end_kept(connection_of(journal))
+}
+
+/// The fault for which the file of a journal is ended. That it can't be ended well isn't told beside it: its
+/// log then has what it lacks.
+pub(crate) fn ended_for<D: Disk + Drop, F: Start>(
+    journal: DurableJournal<JournalFile<FileStore<D>, F>>,
+    fault: Fault,
+) -> Fault {
+    let _ended = end_journal(journal);
+    fault
+}
+
+/// Ends a journal's file well, by its connection.
+pub(crate) fn end_kept<D: Disk + Drop>(conn: Connection<FileStore<D>>) -> Result<(), Fault> {
+    match end(conn) {
+        Ok(_) => Ok(()),
+        Err((fault, store)) => {
+            drop(store.close());
+            Err(Fault::from(fault))
+        }
+    }
 }
 
 /// The connection to a journal's file, which is left.

@@ -40,6 +40,9 @@ pub(crate) enum Fault {
     /// A library lacks this file, which it had.
     #[error("the library lacks {0}")]
     Lacks(String),
+    /// The library has gone on meanwhile, as from 0001 to 0002, so that what would be done to it would be lost.
+    #[error("the library went {0} meanwhile: say it again")]
+    GoneOn(String),
     /// There is one in this folder, where one was to be begun.
     #[error("there is a library in {0}")]
     LibraryIsThere(String),
@@ -72,6 +75,17 @@ pub(crate) enum Fault {
     /// A file can't be written at this path.
     #[error("cannot write {0}")]
     CannotWriteFile(String),
+    /// A file has its name, and its folder can't be synced.
+    #[error("{path} has its name, but it isn't certain that the disk keeps it: {why}")]
+    NotCertain {
+        /// The file's path.
+        path: String,
+        /// The system's reason.
+        why: String,
+    },
+    /// The system doesn't tell how time goes on.
+    #[error("the system has no clock")]
+    NoClock,
     /// A journal's log is missing, which may have had the last turns.
     #[error("the journal's log is missing")]
     NoLog,
@@ -181,6 +195,7 @@ impl<T: Drop> From<AllocFailed<T>> for Fault {
     }
 }
 
+/// What fails is a write of what the program tells: of a file, a socket or the clock each caller says so.
 impl From<io::Error> for Fault {
     fn from(_: io::Error) -> Fault {
         Fault::CannotWrite

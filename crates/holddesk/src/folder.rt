@@ -9,10 +9,45 @@ use std::alloc::{AllocError, Global};
 use std::fs::{self, DirEntry, ReadDir};
 use std::io::{self, ErrorKind};
 
+/// A period of a folder.
+pub(crate) struct Period {
+    folder: String,
+    number: u32,
+}
+
+// Written out, so that a caller's proof sees one call and not the drop of each field.
+impl Drop for Period {
+    fn drop(self) {
+        let Period {
+            folder: _folder,
+            number: _number,
+        } = self;
+    }
+}
+
+impl Period {
+    /// Sees that this is still the last complete period of its folder. While its journal is open that stays so,
+    /// since a carry to the next one opens it.
+    ///
+    /// # Errors
+    /// It isn't; a later period lacks a file; the folder can't be read; out of memory.
+    pub(crate) fn see_last(&self, rt: &HostRuntime) -> Result<(), Fault> {
+        let number = self.number;
+        match last_period(rt, self.folder.as_str())? {
+            None => Err(no_library(rt, self.folder.as_str())?),
+            Some(last) if last == number => Ok(()),
+            Some(last) => {
+                let way = format!(in rt.alloc(); "from {number:04} to {last:04}")?;
+                Err(Fault::GoneOn(way))
+            }
+        }
+    }
+}
+
 /// The paths of a library's files.
 pub(crate) struct Paths {
-    /// The period that they are of, and its folder, where they are of one.
-    period: Option<String>,
+    /// The period that they are of, where they are of one.
+    period: Option<Period>,
     catalogue: String,
     opening: Option<String>,
     journal: Option<String>,
@@ -55,8 +90,19 @@ impl Paths {
     /// The paths of the last complete period of a folder.
     fn of_last_period(rt: &HostRuntime, folder: &str) -> Result<Paths, Fault> {
         match last_period(rt, folder)? {
-            None => Err(Fault::NoLibrary(String::from_str(rt.alloc(), folder)?)),
+            None => Err(no_library(rt, folder)?),
             Some(period) => Ok(Paths::of_period(rt.alloc(), folder, period)?),
+        }
+    }
+
+    /// The paths of the period behind the one that they are of, where they are of one.
+    pub(crate) fn of_next(&self, alloc: Global) -> Result<Option<Paths>, AllocError> {
+        match &self.period {
+            None => Ok(None),
+            Some(Period { folder, number }) => {
+                let next = number.saturating_add(1);
+                Ok(Some(Paths::of_period(alloc, folder.as_str(), next)?))
+            }
         }
     }
 
@@ -68,7 +114,10 @@ impl Paths {
             Some(format!(in alloc; "{folder}/{period:04}.opening")?)
         };
         Ok(Paths {
-            period: Some(format!(in alloc; "{period:04} of {folder}")?),
+            period: Some(Period {
+                folder: String::from_str(alloc, folder)?,
+                number: period,
+            }),
             catalogue: format!(in alloc; "{folder}/{period:04}.catalogue")?,
             opening,
             journal: Some(format!(in alloc; "{folder}/{period:04}.journal")?),
@@ -77,10 +126,15 @@ impl Paths {
 
     /// Says on standard error what is done with the period that they are of, where they are of a folder.
     pub(crate) fn tell<R: Eprint>(&self, rt: &R, done: &str) -> io::Result<()> {
-        if let Some(period) = &self.period {
-            eprintln!(rt; "{done} {period}")?;
+        if let Some(Period { folder, number }) = &self.period {
+            eprintln!(rt; "{done} {number:04} of {folder}")?;
         }
         Ok(())
+    }
+
+    /// The period that they are of, where they are of one.
+    pub(crate) fn numbered(&self) -> Option<&Period> {
+        self.period.as_ref()
     }
 
     /// The files at these paths.
@@ -122,6 +176,22 @@ pub(crate) fn last_period(rt: &HostRuntime, folder: &str) -> Result<Option<u32>,
     }
     see_whole(rt, folder, last)?;
     Ok(last)
+}
+
+/// The fault of a folder that has no complete period: what its first one lacks, where that has its catalogue.
+/// The journal was lost then, or the beginning was broken off.
+///
+/// # Errors
+/// Out of memory.
+fn no_library(rt: &HostRuntime, folder: &str) -> Result<Fault, AllocError> {
+    let first = Paths::of_period(rt.alloc(), folder, 1)?;
+    let files = first.files();
+    match files.journal {
+        Some(journal) if is_there(rt, files.catalogue) => {
+            Ok(Fault::Lacks(String::from_str(rt.alloc(), journal)?))
+        }
+        _ => Ok(Fault::NoLibrary(String::from_str(rt.alloc(), folder)?)),
+    }
 }
 
 /// What lies in a folder.
@@ -216,8 +286,8 @@ fn see_whole_behind(
 }
 
 /// Sees that a period that isn't complete is one that a carry, or a beginning, was broken off at. A carry
-/// writes the opening beside its path first, and gives it its name last; the beginning of the first period
-/// writes the catalogue first.
+/// writes the opening beside its path first, and gives it its name last, so that one which has its name was
+/// whole; the beginning of the first period writes the catalogue first.
 ///
 /// # Errors
 /// It lacks a file that it had; out of memory.
@@ -227,7 +297,7 @@ fn see_whole_period(rt: &HostRuntime, paths: &Paths) -> Result<(), Fault> {
         return see_file(rt, files.catalogue);
     };
     let part = part_path(rt.alloc(), opening)?;
-    if is_there(rt, part.as_str()) {
+    if is_there(rt, part.as_str()) && !is_there(rt, opening) {
         return Ok(());
     }
     for path in [Some(files.catalogue), files.opening, files.journal] {

@@ -17,11 +17,7 @@ use std::io;
 pub(crate) fn check_journal(rt: &HostRuntime, order: &JournalCheck<'_>) -> Result<(), Fault> {
     let paths = Paths::of(rt, &order.library)?;
     paths.tell(rt, "checking")?;
-    let keeping = Keeping {
-        library: paths.files(),
-        is_other_accepted: false,
-        is_for_turns: false,
-    };
+    let keeping = Keeping::of(&paths);
     let kept = match open_kept(rt, Unknown, &keeping) {
         Err(Fault::Journal(OpenFault::OtherCatalogue)) if order.is_other_accepted => {
             open_with_other(rt, &keeping)?
@@ -44,6 +40,7 @@ fn open_with_other(rt: &HostRuntime, keeping: &Keeping<'_>) -> Result<KeptJourna
         Unknown,
         &Keeping {
             library,
+            period: keeping.period,
             is_other_accepted: true,
             is_for_turns: false,
         },

@@ -1,14 +1,15 @@
 //! A journal that is kept in a file.
 
+use crate::ending::ended_for;
 use crate::fault::Fault;
+use crate::folder::{Paths, Period};
 use crate::presence::see_journal;
 use crate::retaking::Retaking;
 use hd_command_line::LibraryFiles;
 use hd_durable::DurableJournal;
 use hd_journal_file::{JournalFile, OpenFault, Wanted, open};
 use hd_setup::Library;
-use hd_turn_store::{Connection, FileFrom, FileStore, Start, end};
-use sqlite_disk::Disk;
+use hd_turn_store::{FileFrom, FileStore, Start};
 use std::io;
 
 /// A journal whose changing turns are committed to a file before they are answered.
@@ -19,6 +20,8 @@ pub(crate) type KeptJournal<S> = DurableJournal<JournalFile<FileStore<FileFrom<S
 pub(crate) struct Keeping<'a> {
     /// The library's files.
     pub(crate) library: LibraryFiles<'a>,
+    /// The period that they are of, where they are of one: it has to be the last one of its folder.
+    pub(crate) period: Option<&'a Period>,
     /// Whether a journal that was written with another catalogue is accepted, where each of its turns is
     /// answered the same with this one.
     pub(crate) is_other_accepted: bool,
@@ -27,9 +30,30 @@ pub(crate) struct Keeping<'a> {
 }
 
 impl<'a> Keeping<'a> {
+    /// A library at these paths, whose journal takes no turns, and was written with its catalogue.
+    pub(crate) fn of(paths: &'a Paths) -> Keeping<'a> {
+        Keeping {
+            library: paths.files(),
+            period: paths.numbered(),
+            is_other_accepted: false,
+            is_for_turns: false,
+        }
+    }
+
     /// The path of the journal's file.
     pub(crate) fn journal(&self) -> &'a str {
         self.library.journal.unwrap_or("")
+    }
+
+    /// Sees that the period that the files are of is still the last one of its folder.
+    ///
+    /// # Errors
+    /// Those of `Period::see_last`.
+    fn see_last(&self, rt: &HostRuntime) -> Result<(), Fault> {
+        match self.period {
+            Some(period) => period.see_last(rt),
+            None => Ok(()),
+        }
     }
 }
 
@@ -44,7 +68,11 @@ pub(crate) fn open_kept<S: Start>(
     open_over(rt, start, keeping, library)
 }
 
-/// Opens a journal's file, which has to be there, over its library, which was read.
+/// Opens a journal's file, which has to be there, over its library, which was read. Until it is open a carry may
+/// end, and the library have gone on to the next period: what is done to this one would then be lost.
+///
+/// # Errors
+/// It is refused; its period isn't the last one of its folder any more.
 pub(crate) fn open_over<S: Start>(
     rt: &HostRuntime,
     start: S,
@@ -52,7 +80,11 @@ pub(crate) fn open_over<S: Start>(
     library: Library,
 ) -> Result<KeptJournal<S>, Fault> {
     see_journal(rt, keeping.journal())?;
-    take_again(rt, start, keeping, library)
+    let kept = take_again(rt, start, keeping, library)?;
+    match keeping.see_last(rt) {
+        Ok(()) => Ok(kept),
+        Err(fault) => Err(ended_for(kept, fault)),
+    }
 }
 
 /// Takes the turns of a journal's file again, over its library.
@@ -86,15 +118,4 @@ fn take_again<S: Start>(
 fn opened_told<T: Drop>(opened: Result<T, OpenFault>, told: io::Result<()>) -> Result<T, Fault> {
     told?;
     Ok(opened?)
-}
-
-/// Ends a journal's file well: all its turns are then in the database file alone.
-pub(crate) fn end_kept<D: Disk + Drop>(conn: Connection<FileStore<D>>) -> Result<(), Fault> {
-    match end(conn) {
-        Ok(_) => Ok(()),
-        Err((fault, store)) => {
-            drop(store.close());
-            Err(Fault::from(fault))
-        }
-    }
 }

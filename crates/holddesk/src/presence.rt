@@ -101,6 +101,19 @@ pub(crate) fn see_no_file(rt: &HostRuntime, path: &str) -> Result<(), Fault> {
     }
 }
 
+/// Sees that there is no file with other bytes at a path.
+///
+/// # Errors
+/// There is one, or it can't be read.
+pub(crate) fn see_no_other(rt: &HostRuntime, path: &str, bytes: &[u8]) -> Result<(), Fault> {
+    match fs::read(rt, path) {
+        Ok(there) if there.as_slice() == bytes => Ok(()),
+        Ok(_) => Err(Fault::FileIsThere(String::from_str(rt.alloc(), path)?)),
+        Err(error) if error.kind() == ErrorKind::NotFound => Ok(()),
+        Err(error) => Err(Fault::from(cannot_read(rt.alloc(), path, &error)?)),
+    }
+}
+
 /// Takes a journal's file and its log away, where they are there.
 ///
 /// # Errors

@@ -1,5 +1,6 @@
 //! What is told while a journal's turns are taken again.
 
+use crate::fault::Fault;
 use hd_journal_file::Progress;
 use std::io::{self, IsTerminal};
 use std::time::{Duration, Instant};
@@ -25,15 +26,18 @@ impl<'r> Retaking<'r> {
     ///
     /// # Errors
     /// Standard error can't be written, or there is no clock.
-    pub(crate) fn begin(rt: &'r HostRuntime) -> io::Result<Retaking<'r>> {
+    pub(crate) fn begin(rt: &'r HostRuntime) -> Result<Retaking<'r>, Fault> {
         let is_terminal = rt.stderr().is_terminal();
         if is_terminal {
             eprint!(rt; "taking the journal's turns again")?;
         }
+        let Ok(last) = Instant::now(rt) else {
+            return Err(Fault::NoClock);
+        };
         Ok(Retaking {
             rt,
             is_terminal,
-            last: Instant::now(rt)?,
+            last,
         })
     }
 

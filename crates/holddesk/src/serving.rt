@@ -18,7 +18,7 @@ use hd_serve::{Observer, ServeFault, serve_observed};
 use hd_server::{ServerFault, Sight, Summary, serve_seen, summary_of};
 use hd_session::Extensions;
 use hd_setup::{Library, extensions_of, options_of};
-use std::alloc::Global;
+use std::alloc::{AllocError, Global};
 use std::io;
 use std::net::{SocketAddr, TcpListener};
 use std::sync::Wait;
@@ -122,32 +122,43 @@ fn listen(
     };
     match TcpListener::bind(rt, address) {
         Ok(listener) => {
-            tell_start(rt, &listener, places_of(order), catalogue)?;
-            tell_listening(rt, &teller, &listener, order.workers)?;
+            match listener.local_addr() {
+                Ok(address) => tell_listening(rt, &teller, address, order, catalogue)?,
+                Err(error) => return Err(cannot_listen(rt, &teller, order.listen, &error)?),
+            }
             Ok(listener)
         }
-        Err(error) => {
-            let why = format!(in rt.alloc(); "{error}")?;
-            tell_deaf(&teller, order.listen, why.as_str());
-            Err(Fault::from(ServeFault::CannotListen))
-        }
+        Err(error) => Err(cannot_listen(rt, &teller, order.listen, &error)?),
     }
 }
 
-/// Tells the observer where the server listens.
+/// Says on standard error where the server listens and what its catalogue has, and tells the observer.
 fn tell_listening(
     rt: &HostRuntime,
     teller: &Teller<'_>,
-    listener: &TcpListener,
-    workers: u32,
+    address: SocketAddr,
+    order: &Serve<'_>,
+    catalogue: &Catalogue,
 ) -> Result<(), Fault> {
-    let address = listener.local_addr()?;
+    tell_start(rt, address, places_of(order), catalogue)?;
     let address = format!(in rt.alloc(); "{address}")?;
     teller.tell(&Event::Listening {
         address: address.as_bytes(),
-        workers: u64::from(workers),
+        workers: u64::from(order.workers),
     });
     Ok(())
+}
+
+/// The fault that the server doesn't listen at an address, where the observer is told the system's reason.
+fn cannot_listen(
+    rt: &HostRuntime,
+    teller: &Teller<'_>,
+    address: &str,
+    error: &io::Error,
+) -> Result<Fault, AllocError> {
+    let why = format!(in rt.alloc(); "{error}")?;
+    tell_deaf(teller, address, why.as_str());
+    Ok(Fault::from(ServeFault::CannotListen))
 }
 
 /// Tells the observer why the server doesn't listen.
@@ -170,11 +181,10 @@ fn places_of(order: &Serve<'_>) -> Counted<'static> {
 /// Says on standard error where the server listens and what its catalogue has.
 fn tell_start<R: Eprint>(
     rt: &R,
-    listener: &TcpListener,
+    address: SocketAddr,
     places: Counted<'_>,
     catalogue: &Catalogue,
 ) -> io::Result<()> {
-    let address = listener.local_addr()?;
     eprintln!(rt; "listening on {address}, {places}")?;
     eprintln!(rt;
         "the catalogue has {}, {}, {}, {}, {}",

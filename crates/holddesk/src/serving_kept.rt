@@ -1,9 +1,10 @@
 //! Serving terminals with a journal that is kept in a file.
 
 use crate::door::open_door;
+use crate::ending::end_kept;
 use crate::fault::Fault;
 use crate::folder::Paths;
-use crate::keeping::{Keeping, end_kept, open_over};
+use crate::keeping::{Keeping, open_over};
 use crate::observing::Teller;
 use crate::presence::log_path;
 use crate::serving::{Serving, listen_with_turns, serve_by, serve_in_memory, tell_end};
@@ -23,6 +24,9 @@ use sqlite_disk::Disk;
 use std::sync::Wait;
 use std::thread::Threads;
 use std::time::Clock;
+
+/// How often a start begins again where the library has gone on to its next period meanwhile.
+const MOST_AGAIN: u32 = 8;
 
 /// Serves terminals over a library as the words of the command line say, and, where there is to be one, opens
 /// a door at which the server is seen. Whoever asks it there to end hears when it has. Of a file that
@@ -59,8 +63,25 @@ fn serve_at_door<R: Threads + Wait + Clock + Sync>(
     served
 }
 
-/// Serves terminals over a library, with its journal in memory or in a file.
+/// Serves terminals over a library. Where a carry ended while this period was read, it begins with the next one:
+/// what would be answered of this one would be lost.
 fn serve_library<R: Threads + Wait + Clock + Sync>(
+    rt: &R,
+    host: &HostRuntime,
+    order: &Serve<'_>,
+    door: Option<&Door>,
+) -> Result<(), Fault> {
+    for _ in 0..MOST_AGAIN {
+        match serve_place(rt, host, order, door) {
+            Err(Fault::GoneOn(_)) => {}
+            served => return served,
+        }
+    }
+    serve_place(rt, host, order, door)
+}
+
+/// Serves terminals over a library as it is, with its journal in memory or in a file.
+fn serve_place<R: Threads + Wait + Clock + Sync>(
     rt: &R,
     host: &HostRuntime,
     order: &Serve<'_>,
@@ -74,6 +95,7 @@ fn serve_library<R: Threads + Wait + Clock + Sync>(
     }
     let keeping = Keeping {
         library,
+        period: paths.numbered(),
         is_other_accepted: order.is_other_accepted,
         is_for_turns: true,
     };

@@ -17,12 +17,7 @@ use std::alloc::Global;
 /// Lists what is at the desk of a journal's file, each turn of it taken again and compared.
 pub(crate) fn show_journal(rt: &HostRuntime, order: &JournalShow<'_>) -> Result<(), Fault> {
     let paths = Paths::of(rt, &order.library)?;
-    let keeping = Keeping {
-        library: paths.files(),
-        is_other_accepted: false,
-        is_for_turns: false,
-    };
-    let kept = open_kept(rt, Unknown, &keeping)?;
+    let kept = open_kept(rt, Unknown, &Keeping::of(&paths))?;
     let mut table = Table::new(rt.alloc(), heads_of(&order.listing));
     let listed = list(
         rt.alloc(),

@@ -2,7 +2,8 @@
 
 use crate::fault::Fault;
 use hd_command_line::{JournalViews, VIEWS};
-use hd_setup::read_file;
+use hd_opening::{OpeningCause, OpeningFault};
+use hd_setup::{SetupFault, read_file};
 use std::alloc::{AllocError, Global};
 use std::io::Write;
 
@@ -11,17 +12,45 @@ const OPENED: &[u8] = b"-- The loans that the journal began with.
 CREATE TEMP TABLE opened (copy TEXT NOT NULL, patron TEXT NOT NULL, until TEXT NOT NULL);
 ";
 
+/// How an opening file begins.
+const HEADER: &[u8] = b"H|opening|1|";
+
 /// Prints the views of a journal's file, and the loans of its opening file, if it has one.
+///
+/// # Errors
+/// The opening file can't be read, or has another first line; the output can't be written.
 pub(crate) fn print_views(rt: &HostRuntime, order: &JournalViews<'_>) -> Result<(), Fault> {
+    let loans = match order.opening {
+        Some(path) => read_loans(rt, path)?,
+        None => Vec::new(rt.alloc()),
+    };
     rt.stdout().write_all(opened())?;
-    if let Some(path) = order.opening {
-        let file = read_file(rt, "opening", path)?;
-        let loans = loans_of(rt.alloc(), file.as_slice())?;
-        rt.stdout().write_all(loans.as_slice())?;
-    }
+    rt.stdout().write_all(loans.as_slice())?;
     rt.stdout().write_all(b"\n")?;
     rt.stdout().write_all(views())?;
     Ok(())
+}
+
+/// The statements that insert the loans of the opening file at a path.
+///
+/// # Errors
+/// It can't be read, or has another first line than an opening file.
+fn read_loans(rt: &HostRuntime, path: &str) -> Result<Vec<u8>, Fault> {
+    let file = read_file(rt, "opening", path)?;
+    if file.as_slice().starts_with(header()) {
+        Ok(loans_of(rt.alloc(), file.as_slice())?)
+    } else {
+        let fault = OpeningFault {
+            line: 1,
+            cause: OpeningCause::Header,
+        };
+        Err(Fault::from(SetupFault::Opening(fault)))
+    }
+}
+
+/// How an opening file begins, by a call too.
+fn header() -> &'static [u8] {
+    HEADER
 }
 
 /// The views. The proof of a function that calls this has one name for them, and that of one that names the

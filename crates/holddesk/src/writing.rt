@@ -47,11 +47,17 @@ pub(crate) fn write_part(rt: &HostRuntime, part: &str, bytes: &[u8]) -> Result<(
 /// Gives a file that was written beside its path its name, and has the disk keep that.
 ///
 /// # Errors
-/// The system refuses it.
+/// The system refuses it: the name, or to have the disk keep it; then the file has its name.
 pub(crate) fn name_part(rt: &HostRuntime, part: &str, path: &str) -> Result<(), Fault> {
-    match rename_synced(rt, part, path) {
+    if let Err(error) = fs::rename(rt, part, path) {
+        return Err(cannot_write(rt.alloc(), path, &error)?);
+    }
+    match sync_folder_of(rt, path) {
         Ok(()) => Ok(()),
-        Err(error) => Err(cannot_write(rt.alloc(), path, &error)?),
+        Err(error) => Err(Fault::NotCertain {
+            path: String::from_str(rt.alloc(), path)?,
+            why: format!(in rt.alloc(); "{error}")?,
+        }),
     }
 }
 
@@ -117,10 +123,9 @@ fn write_synced(rt: &HostRuntime, path: &str, bytes: &[u8]) -> io::Result<()> {
     file.sync_all()
 }
 
-/// Renames a file, and waits until its folder has that.
-fn rename_synced(rt: &HostRuntime, from: &str, to: &str) -> io::Result<()> {
-    fs::rename(rt, from, to)?;
-    let folder = match to.rsplit_once('/') {
+/// Waits until the disk has the names of a file's folder.
+fn sync_folder_of(rt: &HostRuntime, path: &str) -> io::Result<()> {
+    let folder = match path.rsplit_once('/') {
         Some(("", _)) => "/",
         Some((folder, _)) => folder,
         None => ".",

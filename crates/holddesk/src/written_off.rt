@@ -9,8 +9,8 @@ use hd_setup::read_list;
 use std::alloc::AllocError;
 use std::io::Write;
 
-/// The copies whose names stand in a file, one a line. What is no copy's name is told on standard error, and
-/// passed over.
+/// The copies whose names stand in a file, one a line, each once. What is no copy's name is told on standard
+/// error, and passed over.
 ///
 /// # Errors
 /// The file can't be read; out of memory.
@@ -23,16 +23,32 @@ pub(crate) fn listed_copies(
     let Some(path) = path else {
         return Ok(copies);
     };
+    let mut is_listed = vec![in rt.alloc(); false; catalogue.copies()]?;
     let file = read_list(rt, path)?;
     for line in file.as_slice().split(|byte| *byte == b'\n') {
         let name = line.strip_suffix(b"\r").unwrap_or(line);
         match catalogue.copy(name) {
-            Some(copy) => copies.push(copy)?,
+            Some(copy) => {
+                if note(&mut is_listed, copy) {
+                    copies.push(copy)?;
+                }
+            }
             None if name.is_empty() => {}
             None => tell_no_copy(rt, name)?,
         }
     }
     Ok(copies)
+}
+
+/// Notes a copy. Whether that is for the first time.
+fn note(notes: &mut [bool], copy: CopyNo) -> bool {
+    let number = copy.number() as usize;
+    if number >= notes.len() {
+        return true;
+    }
+    let is_first = !notes[number];
+    notes[number] = true;
+    is_first
 }
 
 /// Tells that a name is no copy's.
@@ -45,27 +61,25 @@ fn tell_no_copy(rt: &HostRuntime, name: &[u8]) -> Result<(), Fault> {
     Ok(())
 }
 
-/// Tells which loans are dropped, a line for each.
-pub(crate) fn tell_written_off(
-    rt: &HostRuntime,
+/// Adds which loans are dropped, a line for each.
+pub(crate) fn push_written_off(
+    lines: &mut Vec<u8>,
     desk: &Desk,
     copies: &[CopyNo],
-) -> Result<(), Fault> {
+) -> Result<(), AllocError> {
     let catalogue: &Catalogue = desk.catalogue();
     for copy in copies {
         if (copy.number() as usize) < catalogue.copies()
             && let CopyState::OnLoan(loan) = desk.copy(*copy)
         {
-            let mut line = Vec::new(rt.alloc());
-            push_written_off(&mut line, catalogue, *copy, loan.patron)?;
-            rt.stdout().write_all(line.as_slice())?;
+            push_loan(lines, catalogue, *copy, loan.patron)?;
         }
     }
     Ok(())
 }
 
 /// Adds the line of a copy whose loan to a patron is dropped.
-fn push_written_off(
+fn push_loan(
     line: &mut Vec<u8>,
     catalogue: &Catalogue,
     copy: CopyNo,
