@@ -95,7 +95,7 @@ def main():
             f"{sum(1 for row in stored if row.gaps)} of them with gaps",
             play("catalogue files", read_file, [(repr(it[0][-60:]), *it) for it in rows.files()]),
             play("inputs that stop it", stop, [(repr(line), line) for line in NO_SESSION]),
-            play("lists", cut_list, [(f"behind {length} bytes", "n" * length) for length in range(1, LONGEST_NAME + 1)])]
+            play("lists", cut_list, [(f"behind {size} bytes", "n" * size) for size in range(1, LONGEST_NAME + 1)])]
     print(f"model_rows: {', '.join(told)}: the model answers as is stored")
 
 
