@@ -8,7 +8,7 @@ DATE` and `options WORDS` say what holddesk replay is given. `> LINE` is a line 
 stand under it: `< LINE` whole, `<~ SESSION PART` some reply of that session with that part (several of these in a row
 speak of one reply), `<* SESSION` some reply of that session. Where replay doesn't end well, `error LINE` is what it
 says on standard error, and its status is 1. How many gaps a session has counted (`gaps SESSION NUMBER`) no reply tells:
-that is for readers, and isn't compared here.
+that isn't compared here, but by model_rows.py, of the model.
 
 Played are the files of rows/catalogues, each read, or refused for the cause that stands under it; each row by replay;
 inputs that stop it, by a line of no session or, with --long, by their 16 MiB; and lists of a patron, cut behind a name
@@ -33,7 +33,7 @@ from server import CATALOGUE, SECONDS, TOP, Server, Trouble, connect, parser_of,
 
 ROWS = os.path.join(TOP, "rows")
 NOW = "20260301    120000"
-MARKS = (b"catalogue", b"now", b"options", b"error", b"status", b"gaps")
+MARKS = (b"catalogue", b"now", b"options", b"error", b"status")
 REPLIES = (b"<", b"<~", b"<*")
 CUT_IN_TWO = ("hold-and-cancellation", "repeats-and-gaps")
 PATIENCE = 20  # seconds until a reply counts as missing
@@ -57,10 +57,11 @@ LONGEST_NAME, LONGEST_REPLY = 60, 2_038
 
 
 class Row:
-    """A row: its name, what stands behind each mark, and its lines, each with the replies that stand under it."""
+    """A row: its name, what stands behind each mark, its lines, each with the replies that stand under it, and how many
+    gaps its sessions have counted."""
 
     def __init__(self, name):
-        self.name, self.values, self.lines = name, {}, []
+        self.name, self.values, self.lines, self.gaps = name, {}, [], []
         with open(os.path.join(ROWS, f"{name}.row"), "rb") as file:
             stored = [line.partition(b" ") for line in file.read().split(b"\n") if line]
         before = b""
@@ -71,6 +72,8 @@ class Row:
                 self.lines[-1][1][-1].append((mark, text))
             elif mark in REPLIES:
                 self.lines[-1][1].append([(mark, text)])
+            elif mark == b"gaps":
+                self.gaps.append(tuple(map(int, text.split())))
             elif mark in MARKS:
                 self.values[mark] = text
             else:
