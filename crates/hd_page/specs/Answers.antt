@@ -4,7 +4,7 @@ use Rattle.hd_json.specs.Texts.{Member, array_text}
 use Rattle.hd_page.specs.declared.reply.Status.TheVariants.{Ok, Accepted, BadRequest, NotFound, Unavailable}
 use Rattle.hd_page.specs.declared.reply.Media.TheVariants.{Html, Json, Metrics}
 use Rattle.hd_page.specs.declared.state.Health.{Health}
-use Rattle.hd_page.specs.declared.state.Health.TheVariants.{Well, Shut, Full}
+use Rattle.hd_page.specs.declared.state.Health.TheVariants.{Well, Shut, Full, Gone}
 use Rattle.hd_page.specs.declared.state.State.{State}
 use Rattle.hd_page.specs.declared.view.ViewFault.{ViewFault}
 use Rattle.hd_page.specs.Faults.{fault_text}
@@ -35,6 +35,7 @@ abbrev pub health_answer : Health → Answer
 health_answer Well = words Ok (codes "ok")
 health_answer Shut = words Unavailable (codes "the journal is shut")
 health_answer Full = words Unavailable (codes "no seat can be had")
+health_answer Gone = words Unavailable (codes "the journal's file is gone")
 
 -- the state, for Prometheus
 abbrev pub metrics_answer : State → Answer

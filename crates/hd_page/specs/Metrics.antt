@@ -3,7 +3,7 @@ use Rattle.std.specs.Prelude.{ℕ, ◌+◌, ◌/◌, ◌%◌, List, [], ◌∷�
 use Rattle.std.specs.Prelude.{codes, decimal}
 use Rattle.std.specs.List.{concat, flat_map}
 use Rattle.hd_page.specs.declared.state.Health.{Health}
-use Rattle.hd_page.specs.declared.state.Health.TheVariants.{Well, Shut, Full}
+use Rattle.hd_page.specs.declared.state.Health.TheVariants.{Well, Shut, Full, Gone}
 use Rattle.hd_page.specs.declared.state.Tally.{Tally}
 use Rattle.hd_page.specs.declared.state.Turns.{Turns}
 use Rattle.hd_page.specs.declared.state.State.{State}
@@ -23,6 +23,7 @@ abbrev pub well : Health → ℕ
 well Well = 1
 well Shut = 0
 well Full = 0
+well Gone = 0
 
 -- the gauges
 abbrev pub gauges : State → List (List ℕ × Option ℕ)

@@ -31,7 +31,7 @@ fn well(health: Health) -> u64
 {
     match health {
         Health::Well => 1,
-        Health::Shut | Health::Full => 0,
+        Health::Shut | Health::Full | Health::Gone => 0,
     }
 }
 

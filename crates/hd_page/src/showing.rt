@@ -121,6 +121,7 @@ fn show_health(alloc: Global, health: Health) -> Result<Reply, AllocError>
         Health::Well => say(alloc, Status::Ok, b"ok"),
         Health::Shut => say(alloc, Status::Unavailable, b"the journal is shut"),
         Health::Full => say(alloc, Status::Unavailable, b"no seat can be had"),
+        Health::Gone => say(alloc, Status::Unavailable, b"the journal's file is gone"),
     }
 }
 

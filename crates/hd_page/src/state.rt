@@ -9,6 +9,8 @@ pub enum Health {
     Shut,
     /// No seat can be had: as many were opened as may be.
     Full,
+    /// The journal's file is gone from its path: what is answered is lost when the server ends.
+    Gone,
 }
 
 /// How many turns of one kind ended in which way.

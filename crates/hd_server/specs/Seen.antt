@@ -1,21 +1,22 @@
 -- What is seen of a server.
-use Rattle.std.specs.Prelude.{◌≡◌, ℕ, Bool, true, false, Some, min}
+use Rattle.std.specs.Prelude.{◌≡◌, ℕ, Bool, Some, min, if◌then◌else◌}
 use Rattle.hd_page.specs.declared.state.Health.{Health}
-use Rattle.hd_page.specs.declared.state.Health.TheVariants.{Well, Shut, Full}
+use Rattle.hd_page.specs.declared.state.Health.TheVariants.{Well, Shut, Full, Gone}
 use Rattle.hd_page.specs.declared.state.State.{State}
 use Rattle.hd_server.specs.declared.server_view.Service.{Service}
 
--- whether a server can do its work, by whether a connection has found no seat, and its journal's health
-abbrev pub health_of : Bool → Health → Health
-health_of true Well = Full
-health_of true Shut = Shut
-health_of true Full = Full
-health_of false health = health
+-- whether a server can do its work, by whether its journal's file is gone, whether a connection has found no seat,
+-- and its journal's health
+abbrev pub health_of : Bool → Bool → Health → Health
+health_of is_gone is_full Well = if is_gone then Gone else if is_full then Full else Well
+health_of is_gone is_full Shut = Shut
+health_of is_gone is_full Full = Full
+health_of is_gone is_full Gone = Gone
 
 -- a state with what is told of the server beside its journal
 abbrev pub with_service : State → Service → State
 with_service state s = record state {
-  health = health_of s.full state.health;
+  health = health_of s.gone s.full state.health;
   connections = Some s.connections;
   workers_busy = Some s.busy;
   journal_bytes = s.bytes;

@@ -37,6 +37,7 @@ impl<'a, R: Wait, V: View> View for ServerView<'a, R, V> {
         let hall = self.journal.state();
         let connections = self.standing.connections(self.rt) as u64;
         let service = Service {
+            gone: is_gone(self.host, self.files),
             full: self.standing.is_full(self.rt),
             connections,
             busy: connections.min(u64::from(self.workers)),
@@ -50,6 +51,8 @@ impl<'a, R: Wait, V: View> View for ServerView<'a, R, V> {
 /// What is told of a server beside its journal.
 #[derive(Clone, Copy)]
 struct Service {
+    /// Whether the journal's file is gone.
+    gone: bool,
     /// Whether a connection has found no seat.
     full: bool,
     connections: u64,
@@ -66,7 +69,7 @@ fn with_service(state: State, service: Service) -> State
     ensures { result ≡ with_service state service }
 {
     State {
-        health: health_of(service.full, state.health),
+        health: health_of(service.gone, service.full, state.health),
         connections: Some(service.connections),
         workers_busy: Some(service.busy),
         journal_bytes: service.bytes,
@@ -75,13 +78,23 @@ fn with_service(state: State, service: Service) -> State
     }
 }
 
-/// Whether a server can do its work, by whether a connection has found no seat, and its journal's health.
-fn health_of(is_full: bool, journal: Health) -> Health
-    ensures { result ≡ health_of is_full journal }
+/// Whether a server can do its work, by whether its journal's file is gone, whether a connection has found no
+/// seat, and its journal's health.
+fn health_of(is_gone: bool, is_full: bool, journal: Health) -> Health
+    ensures { result ≡ health_of is_gone is_full journal }
 {
     match journal {
+        Health::Well if is_gone => Health::Gone,
         Health::Well if is_full => Health::Full,
         health => health,
+    }
+}
+
+/// Whether the first of the files, the journal's own, isn't at its path.
+fn is_gone(host: &HostRuntime, files: &[&str]) -> bool {
+    match files.first() {
+        Some(path) => fs::metadata(host, *path).is_err(),
+        None => false,
     }
 }
 
