@@ -237,6 +237,15 @@ def compare_counted(path, counts):
         raise Trouble(f"since it began there are {found!r}, wanted {wanted!r}")
 
 
+def compare_gone(program, path, journal):
+    """Moves the file of a server's journal away, which has to be told, and back."""
+    os.rename(journal, journal + ".moved")
+    gone, status = asked_by(program, "status", path)
+    os.rename(journal + ".moved", journal)
+    if "the journal's file is gone" not in gone or status != 1 or asked_by(program, "status", path)[1] != 0:
+        raise Trouble(f"of a server whose journal's file is gone status says {gone!r}, {status}")
+
+
 def compare_end(program, catalogue, folder):
     """Has a server end with a session and one that waits, and looks at what it leaves; then kills one, and starts
     others on the same files."""
@@ -262,6 +271,7 @@ def compare_end(program, catalogue, folder):
         for message in (LOGIN, twice):
             reply = ask(terminal, message)
         compare_counted(server.path, {"checkout": (1, 0, 0)})
+        compare_gone(program, server.path, journal)
         server.process.kill()
         server.process.wait(SECONDS)
     if not os.path.exists(server.path):
