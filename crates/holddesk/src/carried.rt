@@ -54,8 +54,8 @@ pub(crate) fn carry_desk(
     Ok(Carried { told, digest })
 }
 
-/// The lines of how many turns a journal has, of the last number that was given, and of the SHA-256 of the files
-/// that it begins with, and the next one does.
+/// The lines of how many turns a journal has, of the last number that was given, and of the SHA-256 of the
+/// files that it begins with, and the next one does.
 fn numbers_of(
     alloc: Global,
     turns: usize,

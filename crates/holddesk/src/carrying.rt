@@ -14,8 +14,8 @@ use hd_setup::{Library, read_file};
 use hd_turn_store::Unknown;
 use std::io::Write;
 
-/// Carries a library over to another catalogue: into an opening file, or to the next period of its folder, which
-/// is a copy of the catalogue, a journal, and at last the opening, whose name makes it complete.
+/// Carries a library over to another catalogue: into an opening file, or to the next period of its folder,
+/// which is a copy of the catalogue, a journal, and at last the opening, whose name makes it complete.
 pub(crate) fn carry_over(rt: &HostRuntime, order: &Carry<'_>) -> Result<(), Fault> {
     let old = Paths::of(rt, &order.library)?;
     match old.of_next(rt.alloc())? {
@@ -54,8 +54,8 @@ fn way_of<'to, 'off, 'into>(
 }
 
 /// Carries the desk of a library's journal over, into a next period, if there is to be one, and then ends the
-/// journal. From its opening on to its end nobody else has the journal open: no server takes a turn of it, which
-/// would be lost, and no other carry writes the same files.
+/// journal. From its opening on to its end nobody else has the journal open: no server takes a turn of it,
+/// which would be lost, and no other carry writes the same files.
 fn carry_files(
     rt: &HostRuntime,
     keeping: &Keeping<'_>,
@@ -98,8 +98,8 @@ fn carry_journal(
     Ok(())
 }
 
-/// Prints what was carried over. Where that can't be, the library has gone on all the same, and standard error is
-/// told so.
+/// Prints what was carried over. Where that can't be, the library has gone on all the same, and standard error
+/// is told so.
 fn tell_carried(rt: &HostRuntime, told: &[u8]) {
     if rt.stdout().write_all(told).is_err() {
         let _told = eprintln!(rt; "carried over, but what was carried over can't be printed");

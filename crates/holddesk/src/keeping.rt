@@ -68,8 +68,8 @@ pub(crate) fn open_kept<S: Start>(
     open_over(rt, start, keeping, library)
 }
 
-/// Opens a journal's file, which has to be there, over its library, which was read. Until it is open a carry may
-/// end, and the library have gone on to the next period: what is done to this one would then be lost.
+/// Opens a journal's file, which has to be there, over its library, which was read. Until it is open a carry
+/// may end, and the library have gone on to the next period: what is done to this one would then be lost.
 ///
 /// # Errors
 /// It is refused; its period isn't the last one of its folder any more.

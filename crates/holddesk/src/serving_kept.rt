@@ -63,8 +63,8 @@ fn serve_at_door<R: Threads + Wait + Clock + Sync>(
     served
 }
 
-/// Serves terminals over a library. Where a carry ended while this period was read, it begins with the next one:
-/// what would be answered of this one would be lost.
+/// Serves terminals over a library. Where a carry ended while this period was read, it begins with the next
+/// one: what would be answered of this one would be lost.
 fn serve_library<R: Threads + Wait + Clock + Sync>(
     rt: &R,
     host: &HostRuntime,
