@@ -11,11 +11,10 @@ use crate::standing::{Course, Standing};
 use crossbeam_channel::Sender;
 use hd_log::{ConnectionEvent, End, Event};
 use std::alloc::Global;
-use std::io;
 use std::net::{TcpListener, TcpStream};
 use std::sync::Wait;
-use std::thread;
 use std::time::{Clock, Duration};
+use std::{io, thread};
 
 /// How often in a row an accept that failed for lack of something is tried again where no connection is open.
 const TRIES_AGAIN: u32 = 16;
@@ -220,11 +219,7 @@ fn served<T: Drop>(
 
 /// Whether a failed accept is told, of which this comes, on this course, behind so many in a row that failed
 /// too: the first is, and the one that ends the accepting; where the server is to end, none.
-fn is_told_failed<T>(
-    course: Course,
-    failed: u32,
-    arrival: &Result<Arrival<T>, ServeFault>,
-) -> bool
+fn is_told_failed<T>(course: Course, failed: u32, arrival: &Result<Arrival<T>, ServeFault>) -> bool
     ensures { IsTrue result ↔ IsToldFailed course failed arrival.now }
 {
     !course.is_to_end() && (failed == 0 || arrival.is_err())

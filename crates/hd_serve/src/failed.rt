@@ -64,7 +64,14 @@ fn of_code(code: i32) -> Failed
     ensures { result ≡ of_code code }
 {
     match code {
-        EPERM | ENONET | EPROTO | ENOPROTOOPT | EOPNOTSUPP | ENETDOWN | ENETUNREACH | EHOSTDOWN
+        EPERM
+        | ENONET
+        | EPROTO
+        | ENOPROTOOPT
+        | EOPNOTSUPP
+        | ENETDOWN
+        | ENETUNREACH
+        | EHOSTDOWN
         | EHOSTUNREACH => Failed::Lost,
         ENOMEM | ENFILE | EMFILE | ENOBUFS => Failed::ForNow,
         _ => Failed::ForGood,

@@ -47,7 +47,9 @@ impl<'a> Row for Broken<'a> {
         let Some((first, second)) = two(terminals) else {
             return false;
         };
-        self.is_cut(first, CHECKOUT) && second.asks(LOGIN_1, LOGGED_IN) && second.asks(CHECKOUT, CHECKED_OUT)
+        self.is_cut(first, CHECKOUT)
+            && second.asks(LOGIN_1, LOGGED_IN)
+            && second.asks(CHECKOUT, CHECKED_OUT)
     }
 }
 
