@@ -9,7 +9,7 @@ N scripts, in turn of each focus that is named, or of all: standard; undo (cance
 (lines sent again); options (kiosks and sorters); opening; lists (long ones, of patrons); files (with faults); mixed.
 Where something differs the script is made as short as it can be while it still differs, and printed as commands of a
 shell that play it by hand. First the same is done with the model and copies of it that each have a mistake: one that
-isn't seen within a few hundred scripts ends the script with status 1. --wrong does that alone, and says by which script
+isn't seen within a hundred scripts ends the script with status 1. --wrong does that alone, and says by which script
 each was seen; it needs no program. Needs nothing but Python 3. Status 0: nothing differs.
 """
 
@@ -24,7 +24,7 @@ from server import Trouble, parser_of, reported
 
 SCRIPTS, SEED = 800, 1
 MOST_DIFFERENCES = 3  # then it stops
-SCRIPTS_FOR_MISTAKES = 400  # within so many each has to be seen
+SCRIPTS_FOR_MISTAKES = 100  # within so many each has to be seen
 OPENLY = {byte: chr(byte) for byte in range(0x20, 0x7F)} | {ord("%"): "%%", ord("\\"): r"\\", ord("'"): r"\047"}
 FILES = ("catalogue", "patrons", "opening")
 

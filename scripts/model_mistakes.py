@@ -47,15 +47,13 @@ MISTAKES = (
             '        self.last = max((it.number for it in self.survivors), default=0)\n'
             '        return "cancelled", target.number'),
     Mistake("a line without a digit leaves the kept one", "turns.py", "self.kept.pop(terminal, None)", "pass"),
-    Mistake("a refused line isn't kept", "turns.py", "        if line is not None:\n            self.kept[terminal] =",
-            '        if line is not None and outcome[0] != "refused":\n            self.kept[terminal] ='),
     Mistake("a login that isn't taken ends the one before", "sessions.py", 'return b"940"\n        session.terminal',
             'session.terminal = None\n            return b"940"\n        session.terminal'),
     Mistake("of a repeated field the last counts", "lines.py",
             "fields.setdefault(identifier, part[start:end])", "fields[identifier] = part[start:end]"),
     Mistake("a copy due on the day is overdue", "kiosks.py", ".due < day]", ".due <= day]"),
-    Mistake("a list may be a byte longer", "kiosks.py", "> LONGEST_REPLY", "> LONGEST_REPLY + 1"),
-    Mistake("a number of a file may have leading zeros", "files.py", 'len(text) > 1 and text[:1] == b"0"', "False"),
+    Mistake("a list goes on behind an item that doesn't fit", "kiosks.py", "break", "continue"),
+    Mistake("a name of a catalogue may be defined twice", "files.py", 'refuse(b"DOUBLE", values[1] in table)', "pass"),
 )
 
 

@@ -98,8 +98,8 @@ def repeats(draw):
     library.terminals = dict(list(library.terminals.items())[:2])
     script.log_in_all()
     script.play(draw.choice((30, 80, 150)), {
-        script.likely_command: 30, script.likely_cancellation: 10, script.again: 35, script.item: 12, script.resend: 8,
-        script.login: 2, script.of_patron: 5})
+        script.likely_command: 30, script.likely_cancellation: 10, script.again: 25, script.again_behind_another: 10,
+        script.item: 12, script.resend: 8, script.login: 2, script.of_patron: 5})
     script.ask_for_all()
     return case._replace(script=script.lines)
 

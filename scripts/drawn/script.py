@@ -127,8 +127,7 @@ class Script:
         """An earlier line, most often a late one, now and then from another session."""
         if not self.lines:
             return
-        changing = [line for line in self.lines[-8:] if line.partition(b" ")[2][:2] in CHANGING]
-        chance = self.draw.random()
+        changing, chance = self.late_changing(), self.draw.random()
         if chance < 0.4 and changing:
             line = self.draw.choice(changing[-3:])
         else:
@@ -136,6 +135,16 @@ class Script:
         if self.draw.random() < 0.3:
             line = b"%d " % self.session() + line.partition(b" ")[2]
         self.lines.append(line)
+
+    def late_changing(self):
+        """Those of the last lines that ask for a change."""
+        return [line for line in self.lines[-8:] if line.partition(b" ")[2][:2] in CHANGING]
+
+    def again_behind_another(self):
+        """The last line that asked for a change, behind another command, which may be another terminal's."""
+        changing = self.late_changing()
+        self.likely_command()
+        self.lines += changing[-1:]
 
     def resend(self):
         if self.draw.random() < 0.2:
