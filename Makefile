@@ -35,9 +35,11 @@ run:
 	@python3 scripts/prove.py
 	@cd crates/holddesk && out/holddesk $(STORED)
 
-# What is played at $$program: the documents' examples, rows of messages, sheets, a long queue, stored messages, kiosks,
-# hostile clients, terminals side by side, a door, stops by kill -9, nights, and faults of files.
+# What is played at $$program: the documents' examples, rows of messages, scripts drawn at random beside a model, sheets,
+# a long queue, stored messages, kiosks, hostile clients, terminals side by side, a door, stops by kill -9, nights, and
+# faults of files.
 PLAYED = python3 scripts/examples.py "$$program" && python3 scripts/rows.py $(LONG) "$$program" && \
+  python3 scripts/model_rows.py && python3 scripts/at_random.py --scripts $(SCRIPTS) "$$program" && \
   python3 scripts/serve_rows.py "$$program" && python3 scripts/import_sheets.py "$$program" && \
   python3 scripts/long_queue.py "$$program" && \
   python3 scripts/serve_smoke.py "$$program" && python3 scripts/serve_kiosk.py "$$program" && \
@@ -52,6 +54,7 @@ PLAYED = python3 scripts/examples.py "$$program" && python3 scripts/rows.py $(LO
 # The same soon, before an hour of proofs: at a program that is built without any, which is slower.
 play: ROUNDS = 5
 play: DAYS = 8
+play: SCRIPTS = 200
 play:
 	@folder=$$(mktemp -d) && trap 'rm -rf "$$folder"' EXIT && program=$$(python3 scripts/unproved.py "$$folder") && \
 	  $(PLAYED)
@@ -144,6 +147,7 @@ wrong:
 VERDICT = out/verdict
 test: ROUNDS = 20
 test: DAYS = 40
+test: SCRIPTS = 700
 test: LONG = --long
 test:
 	@python3 scripts/draw_house.py --check

@@ -14,6 +14,7 @@ each was seen; it needs no program. Needs nothing but Python 3. Status 0: nothin
 """
 
 import os
+import shlex
 import tempfile
 
 from drawn.cases import FOCUSES, case_by, given_by, text_of
@@ -22,10 +23,10 @@ from model_mistakes import models_with_mistakes
 from rows import replayed
 from server import Trouble, parser_of, reported
 
-SCRIPTS, SEED = 800, 1
+SCRIPTS, SEED = 700, 1
 MOST_DIFFERENCES = 3  # then it stops
 SCRIPTS_FOR_MISTAKES = 100  # within so many each has to be seen
-OPENLY = {byte: chr(byte) for byte in range(0x20, 0x7F)} | {ord("%"): "%%", ord("\\"): r"\\", ord("'"): r"\047"}
+OPENLY = {byte: chr(byte) for byte in range(0x20, 0x7F)} | {0x0A: r"\n", 0x25: "%%", 0x27: r"\047", 0x5C: r"\\"}
 FILES = ("catalogue", "patrons", "opening")
 
 
@@ -74,32 +75,41 @@ def fewer(items, first, still):
     return items
 
 
+def with_fewer(case, name, first, differs):
+    """A case with as few lines of its script or a file as still differs."""
+    items = fewer(getattr(case, name), first, lambda rest: differs(case._replace(**{name: rest})))
+    return case._replace(**{name: items})
+
+
+def with_shorter_line(case, at, differs):
+    """A case with as few parts of a line of its script as still differs."""
+    def with_parts(parts):
+        return case._replace(script=[*case.script[:at], b"|".join(parts), *case.script[at + 1:]])
+
+    return with_parts(fewer(case.script[at].split(b"|"), 1, lambda parts: differs(with_parts(parts))))
+
+
 def shortened(case, differs):
     """A case of which as little is left as still differs: lines, options, and parts of the messages."""
-    def with_fewer(case, name, first):
-        items = fewer(getattr(case, name), first, lambda rest: differs(case._replace(**{name: rest})))
-        return case._replace(**{name: items})
-
     for _ in range(2):
         for change in ({"opening": None}, {"patrons": None}, {"sorter_fields": False}, {"patron_messages": False}):
             without = case._replace(**change)
-            if without != case and not (without.patrons and not without.patron_messages) and differs(without):
+            is_given = without.patron_messages or without.patrons is None  # the file needs the messages
+            if without != case and is_given and differs(without):
                 case = without
-        case = with_fewer(case, "script", 0)
+        case = with_fewer(case, "script", 0, differs)
         for name in FILES:
             if getattr(case, name):
-                case = with_fewer(case, name, 1)
-    for at, line in enumerate(case.script):
-        def with_line(parts, at=at, case=case):
-            return case._replace(script=[*case.script[:at], b"|".join(parts), *case.script[at + 1:]])
-
-        case = with_line(fewer(line.split(b"|"), 1, lambda parts: differs(with_line(parts))))
+                case = with_fewer(case, name, 1, differs)
+    for at in range(len(case.script)):
+        case = with_shorter_line(case, at, differs)
     return case
 
 
 def openly(text):
-    """Bytes as printf of a shell writes them."""
-    return "".join(OPENLY.get(byte, f"\\{byte:03o}") for byte in text)
+    """Bytes as the format of a shell's printf."""
+    told = "".join(OPENLY.get(byte, f"\\{byte:03o}") for byte in text)
+    return r"\055" + told[1:] if told.startswith("-") else told
 
 
 def by_hand(program, case, wanted, found):
@@ -108,11 +118,12 @@ def by_hand(program, case, wanted, found):
     for name, text in (*((name, getattr(given, name)) for name in FILES), ("messages", text_of(case.script))):
         if text is not None:
             lines += ["{", *(f"  printf '{openly(line)}'" for line in text.splitlines(True) or [b""]), f"}} > {name}"]
-    words = " ".join(words_of(case, str))
-    lines.append(f"{program} replay --catalogue catalogue --now '{case.now.decode()}' {words} < messages")
+    words = [program, "replay", "--catalogue", "catalogue", "--now", case.now.decode(), *words_of(case, str)]
+    lines.append(f"{shlex.join(words)} < messages")
     for who, said in (("the model", wanted), ("the program", found)):
-        lines.append(f"# {who} ends with {said.status} and says {said.fault!r}:")
-        lines += [f"#   {openly(line)}" for line in said.output.splitlines()]
+        lines.append(f"# {who} ends with {said.status}, and says:")
+        lines += [f"#   {openly(line)}" for line in said.output.split(b"\n")[:-1]]
+        lines += [f"#   on standard error: {openly(said.fault)}"] if said.fault is not None else []
     return "\n".join(lines)
 
 
