@@ -16,7 +16,11 @@ fn hex_digit(number: u8) -> u8
     ensures { result ≡ hex_digit number }
 {
     let digit = number % 16;
-    if digit < 10 { b'0' + digit } else { b'a' - 10 + digit }
+    if digit < 10 {
+        b'0' + digit
+    } else {
+        b'a' - 10 + digit
+    }
 }
 
 /// Writes a byte: itself, or `\xHH`.

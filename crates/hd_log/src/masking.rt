@@ -77,7 +77,11 @@ fn next(place: Place, is_fixed: bool, byte: u8) -> Place
     ensures { result ≡ next place is_fixed byte }
 {
     if byte == BAR {
-        return if is_fixed { Place::Searched(BAR) } else { Place::Begun };
+        return if is_fixed {
+            Place::Searched(BAR)
+        } else {
+            Place::Begun
+        };
     }
     match place {
         Place::Hidden => Place::Hidden,
