@@ -35,8 +35,8 @@ run:
 	@python3 scripts/prove.py
 	@cd crates/holddesk && out/holddesk $(STORED)
 
-# What is played at $$program: the documents' examples, rows of messages, scripts drawn at random beside a model, sheets,
-# a long queue, stored messages, kiosks, hostile clients, terminals side by side, a door, stops by kill -9, nights, and
+# What is played at $$program: the documents' examples, rows of messages, scripts at random beside a model, sheets, a
+# long queue, stored messages, kiosks, hostile clients, terminals side by side, a door, stops by kill -9, nights, and
 # faults of files.
 PLAYED = python3 scripts/examples.py "$$program" && python3 scripts/rows.py $(LONG) "$$program" && \
   python3 scripts/model_rows.py && python3 scripts/at_random.py --scripts $(SCRIPTS) "$$program" && \

@@ -5,8 +5,8 @@
 
 PROGRAM is crates/holddesk/out/holddesk where it isn't given. The model of scripts/model is written apart from the
 program; each reply, each fault and each status has to be as it says, byte for byte. What is drawn is told by the seed:
-N scripts, in turn of each focus that is named, or of all: standard; undo (cancellations of cancellations); repeats
-(lines sent again); options (kiosks and sorters); opening; lists (long ones, of patrons); files (with faults); mixed.
+N scripts, in turn of each focus that is named, or of all: standard; undo (very many cancellations); repeats (lines sent
+again); options (kiosks and sorters); opening; lists (long ones, of patrons); files (with faults); mixed.
 Where something differs the script is made as short as it can be while it still differs, and printed as commands of a
 shell that play it by hand. First the same is done with the model and copies of it that each have a mistake: one that
 isn't seen within a hundred scripts ends the script with status 1. --wrong does that alone, and says by which script
@@ -30,13 +30,16 @@ OPENLY = {byte: chr(byte) for byte in range(0x20, 0x7F)} | {0x0A: r"\n", 0x25: "
 FILES = ("catalogue", "patrons", "opening")
 
 
-def said_by_model(case):
-    return replay(given_by(case), text_of(case.script))
+def said_by_model(case, by=replay):
+    """What a model says, its fault as it stands on standard error."""
+    said = by(given_by(case), text_of(case.script))
+    return said._replace(fault=b"" if said.fault is None else said.fault + b"\n")
 
 
 def words_of(case, path_of):
     """The options of replay beside the catalogue and the present; path_of says where a file is."""
-    words = ["--patron-messages"] * case.patron_messages + ["--sorter-fields"] * case.sorter_fields
+    options = {"--patron-messages": case.patron_messages, "--sorter-fields": case.sorter_fields}
+    words = [word for word, is_given in options.items() if is_given]
     for name in ("patrons", "opening"):
         if getattr(case, name) is not None:
             words += [f"--{name}", path_of(name)]
@@ -57,7 +60,7 @@ def said_by_program(program, case):
 
         status, output, said = replayed(program, path_of("catalogue"), case.now.decode(), words_of(case, path_of),
                                         text_of(case.script))
-    return Said(output, said.removesuffix(b"\n") if said else None, status)
+    return Said(output, said, status)
 
 
 def fewer(items, first, still):
@@ -123,7 +126,7 @@ def by_hand(program, case, wanted, found):
     for who, said in (("the model", wanted), ("the program", found)):
         lines.append(f"# {who} ends with {said.status}, and says:")
         lines += [f"#   {openly(line)}" for line in said.output.split(b"\n")[:-1]]
-        lines += [f"#   on standard error: {openly(said.fault)}"] if said.fault is not None else []
+        lines += [f"#   on standard error: {openly(line)}" for line in said.fault.splitlines()]
     return "\n".join(lines)
 
 
@@ -152,7 +155,7 @@ def play(program, scripts, seed, focuses):
 def is_seen(model, case, wanted):
     """Whether a model with a mistake says something else of a case, or finds that its own replies don't stand."""
     try:
-        return model.replay(given_by(case), text_of(case.script)) != wanted
+        return said_by_model(case, model.replay) != wanted
     except AssertionError:
         return True
 

@@ -52,7 +52,7 @@ MISTAKES = (
     Mistake("of a repeated field the last counts", "lines.py",
             "fields.setdefault(identifier, part[start:end])", "fields[identifier] = part[start:end]"),
     Mistake("a copy due on the day is overdue", "kiosks.py", ".due < day]", ".due <= day]"),
-    Mistake("a list goes on behind an item that doesn't fit", "kiosks.py", "break", "continue"),
+    Mistake("a list has no end", "kiosks.py", "len(reply) + len(item) > LONGEST_REPLY", "False"),
     Mistake("a name of a catalogue may be defined twice", "files.py", 'refuse(b"DOUBLE", values[1] in table)', "pass"),
 )
 

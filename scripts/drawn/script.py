@@ -18,15 +18,15 @@ SHORT_BODIES = (b"", b"1", b"99", b"9900302.00", b"98", b"00", b"23", b"25", b"1
 
 
 class Script:
-    """The lines of sessions of a library; given is what replay is given with them."""
+    """The lines of sessions of a library; given is what replay is given beside them."""
 
     def __init__(self, draw, library, given):
-        self.draw, self.library, self.lines = draw, library, []
+        self.draw, self.library, self.lines, self.read = draw, library, [], 0
         self.messages = Messages(draw, library)
         self.sessions = draw.choice(([1, 1, 1, 2, 2, 3], [1]))
         self.weights = dict(zip(COMMANDS, draw.choice(WEIGHTS)))
         try:
-            self.program, self.read = Replay(given), 0
+            self.program = Replay(given)
         except Fault:
             self.program = None
 
@@ -99,11 +99,12 @@ class Script:
     def likely_cancellation(self):
         """The cancellation of a survivor, by a session that stands as its terminal."""
         machine = self.machine()
-        survivors = machine.survivors if machine else []
-        near = survivors[-self.draw.choice((1, 3, 6, 12, 100)):]
-        survivor = self.draw.choice(near) if near else None
+        if machine is None or not machine.survivors:
+            self.any_command()
+            return
+        survivor = self.draw.choice(machine.survivors[-self.draw.choice((1, 3, 6, 12, 100)):])
         standing = [number for number, session in self.program.sessions.items()
-                    if session.terminal == survivor.terminal] if near else []
+                    if session.terminal == survivor.terminal]
         if not standing:
             self.any_command()
             return
