@@ -108,7 +108,7 @@ class Library:
             if kind == "L" and self.patrons:
                 due = draw.choice((b"20260301", b"20260228", b"20260401", b"99991231"))
                 yield b"L|%s|%s|%s|%d" % (copy, draw.choice(list(self.patrons)), due, draw.choice((0, 0, 1, 99)))
-            elif kind == "O" and branch != home:
+            elif kind == "O" and (branch != home or draw.random() < 0.1):
                 yield b"O|%s|%s" % (copy, branch)
             elif kind == "U":
                 yield b"U|%s|%s|%s" % (copy, branch, draw.choice(self.branches))

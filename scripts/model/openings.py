@@ -73,7 +73,7 @@ class Opening:
         if kind in (b"K", b"W"):
             value = self.tied(values)
         else:
-            refuse(b"DOUBLE", copy in self.placed)
+            refuse(b"DOUBLE", copy in self.placed or kind == b"O" and values[2] == self.catalogue.home_of(copy))
             value = self.untied(values)
         self.desk.copies[copy] = value
         self.placed.add(copy)
