@@ -7,6 +7,7 @@ returns g c = (
   c.state-hall.result,
   c.state-hall.ensures,
   record {
+    gone = c.is_gone.result;
     full = c.is_full.result;
     connections = c.connections-connections.result;
     busy = c.min.result;
