@@ -16,8 +16,8 @@ pub fn rows_carry_a_desk_over()
     ensures { RowsCarryADeskOver }
 {}
 
-/// Where anything is in the way, but that the numbers are used up, there is no desk to which the old one could be
-/// carried over.
+/// Where anything is in the way, but that the numbers are used up, there is no desk to which the old one
+/// could be carried over.
 pub fn obstacles_are_real()
     ensures { ObstaclesAreReal }
 {}

@@ -116,8 +116,8 @@ impl<A: Allocator + Copy> Catalogue<A> {
         self.titles.facts(number).unwrap().renewals
     }
 
-    /// Whether a title has local priority: where a copy is chosen for at a branch, holds that are picked up there
-    /// go first.
+    /// Whether a title has local priority: where a copy is chosen for at a branch, holds that are picked up
+    /// there go first.
     pub fn priority(&self, title: TitleNo) -> bool
         requires { title < (facts_of self.now).titles }
         ensures { result ≡ (facts_of self.now).priority title }

@@ -29,8 +29,8 @@ use std::sync::Arc;
 /// The holds of all titles of a library: at most one a title and patron, those of a title in order of stamp
 /// (docs/desk-rules.md, "State").
 ///
-/// Only `open` and `ready` take memory: a title four bytes, a queue once room is made for a hold of it, and a hold
-/// sixteen more in its patron's list, for which room is made in all lists at once, for some holds ahead.
+/// Only `open` and `ready` take memory: a title four bytes, a queue once room is made for a hold of it, and a
+/// hold sixteen more in its patron's list, for which room is made in all lists at once, for some holds ahead.
 #[derive(Drop)]
 pub struct Holds<A: Allocator = Global> {
     catalogue: Arc<Catalogue<A>, A>,

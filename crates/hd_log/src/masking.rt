@@ -1,6 +1,7 @@
 //! Values that aren't told.
 ghost use Rattle.std.specs.Prelude.{◌≡◌, ◌++◌, IfOk, OnOk};
-ghost use Rattle.hd_log.specs.Masks.{fixed_part, is_secret, is_short, left_behind, masked, next, shown, width_of};
+ghost use Rattle.hd_log.specs.Masks.{fixed_part, is_secret, is_short, left_behind, masked, next, shown};
+ghost use Rattle.hd_log.specs.Masks.{width_of};
 
 use std::alloc::{AllocError, Global};
 
@@ -55,8 +56,8 @@ fn width_of(first: u8, second: u8) -> u8
     }
 }
 
-/// Whether the value of a field isn't told: of AC, AD and CO, which are passwords, and of AE and DA, which are
-/// patrons' names.
+/// Whether the value of a field isn't told: of AC, AD and CO, which are passwords, and of AE and DA, which
+/// are patrons' names.
 fn is_secret(first: u8, second: u8) -> bool
     ensures { result ≡ is_secret first second }
 {

@@ -33,8 +33,8 @@ pub fn repeated_values_fit_their_body()
         readable_bytes message ≤ length body }
 {}
 
-/// What a terminal writes for a message, with these fields in one order and no others, is read as a request with
-/// just its values, and as nothing else; no value has a bar.
+/// What a terminal writes for a message, with these fields in one order and no others, is read as a request
+/// with just its values, and as nothing else; no value has a bar.
 pub fn requests_are_read_back()
     ensures checkout { (v : CheckoutValues) → IsCheckoutWritable v →
         IsReadBack (body_of (checkout_fixed v) (checkout_fields v)) (StatesCheckout v) }

@@ -13,8 +13,8 @@ use std::alloc::Global;
 /// What a catalogue file says, with this offset in place of its own.
 ///
 /// # Errors
-/// The file is refused, or out of memory; `NotMoved` where what was written for it isn't read as that, which never
-/// came and which no clause rules out.
+/// The file is refused, or out of memory; `NotMoved` where what was written for it isn't read as that, which
+/// no clause rules out.
 pub fn read_at(alloc: Global, file: &[u8], offset: OffsetMinutes) -> Result<Catalogue, ReadFault>
     ensures read { IfOk result (IsReadAt (lines_of file.now) offset) }
     ensures rows { IfOk result (λ catalogue. catalogue.opening ≡ no_rows) }

@@ -40,7 +40,7 @@ fn begin_folder(rt: &HostRuntime, library: &LibraryFiles<'_>, folder: &str) -> R
 }
 
 /// Begins the first period of a folder, whose files these are: a copy of the catalogue, and a journal. A
-/// beginning that was broken off has left the same copy; another catalogue is that of a journal that was lost.
+/// beginning that was broken off has left the same copy; another catalogue is of a journal that was lost.
 fn begin_first(
     rt: &HostRuntime,
     library: &LibraryFiles<'_>,

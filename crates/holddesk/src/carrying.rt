@@ -98,8 +98,8 @@ fn carry_journal(
     Ok(())
 }
 
-/// Prints what was carried over. Where that can't be, the library has gone on all the same, and standard error
-/// is told so.
+/// Prints what was carried over. Where that can't be, the library has gone on all the same, and standard
+/// error is told so.
 fn tell_carried(rt: &HostRuntime, told: &[u8]) {
     if rt.stdout().write_all(told).is_err() {
         let _told = eprintln!(rt; "carried over, but what was carried over can't be printed");

@@ -40,7 +40,7 @@ pub(crate) enum Fault {
     /// A library lacks this file, which it had.
     #[error("the library lacks {0}")]
     Lacks(String),
-    /// The library has gone on meanwhile, as from 0001 to 0002, so that what would be done to it would be lost.
+    /// The library has gone on meanwhile, as from 0001 to 0002: what would be done to it would be lost.
     #[error("the library went {0} meanwhile: say it again")]
     GoneOn(String),
     /// There is one in this folder, where one was to be begun.

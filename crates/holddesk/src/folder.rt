@@ -26,8 +26,8 @@ impl Drop for Period {
 }
 
 impl Period {
-    /// Sees that this is still the last complete period of its folder. While its journal is open that stays so,
-    /// since a carry to the next one opens it.
+    /// Sees that this is still the last complete period of its folder. While its journal is open that stays
+    /// so, since a carry to the next one opens it.
     ///
     /// # Errors
     /// It isn't; a later period lacks a file; the folder can't be read; out of memory.
