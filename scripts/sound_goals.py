@@ -6,8 +6,8 @@
 A wrong body names the goal at which it is refused. Where that has no proof of its own in the function's proof files, the
 tactics that the prover begins with are tried at it, and where they find none the body counts as refused. That tells
 something only if they find one in the function as it is: so each such goal is tried here in a copy of its function, or
-in place, and nothing is changed. A wrong body whose goal isn't proved so has to name another, or none. Needs Python 3
-and rt. Status 0: all are proved.
+in place, and nothing is changed. A wrong body whose goal isn't proved so has to name another, or to say 'by all means'
+behind it, and isn't looked at then. Needs Python 3 and rt. Status 0: all are proved.
 """
 
 import argparse
