@@ -280,7 +280,7 @@ def kept_at(edit, sums, kit):
     """Where it is kept that the edit was refused."""
     files = ("wrong_bodies.py", "workbench.py", "edits.py", "answers.py")
     scripts = [read(os.path.join(TOP, "scripts", it)) for it in files]
-    name = hashlib.sha256(repr([kit, scripts, sums[edit.crate], edit.pairs, edit.goal]).encode()).hexdigest()
+    name = hashlib.sha256(repr([kit, scripts, sums[edit.crate], edit.pairs, edit.goal, edit.is_hard]).encode()).hexdigest()
     return os.path.join(ROOM, "wrong-bodies", name)
 
 
