@@ -280,8 +280,8 @@ def kept_at(edit, sums, kit):
     """Where it is kept that the edit was refused."""
     files = ("wrong_bodies.py", "workbench.py", "edits.py", "answers.py")
     scripts = [read(os.path.join(TOP, "scripts", it)) for it in files]
-    name = hashlib.sha256(repr([kit, scripts, sums[edit.crate], edit.pairs, edit.goal, edit.is_hard]).encode()).hexdigest()
-    return os.path.join(ROOM, "wrong-bodies", name)
+    rests_on = [kit, scripts, sums[edit.crate], edit.pairs, edit.goal, edit.is_hard]
+    return os.path.join(ROOM, "wrong-bodies", hashlib.sha256(repr(rests_on).encode()).hexdigest())
 
 
 def over_crates(edits, uses, room, try_one):
