@@ -18,8 +18,8 @@ help:
 	@echo 'make install    after make run: program, manual page, docs and systemd units, below PREFIX ($(PREFIX)) and DESTDIR'
 	@echo 'make uninstall  take them away again'
 	@echo 'make dist       after make run: a tar.gz with all of it, for machines without the Rattle kit'
-	@echo 'make wrong      put wrong bodies in, many in a check, and see that the prover refuses each'
-	@echo 'make test       the gate: all proofs from nothing, wrong bodies, tests, stored runs, and play over TCP (about two hours)'
+	@echo 'make wrong      put wrong bodies in that are new or changed, many in a check, and see that the prover refuses each'
+	@echo 'make test       the gate: all proofs, wrong bodies, tests, stored runs, and play over TCP (about two hours where nothing is kept)'
 
 STORED = replay --catalogue data/demonstration.catalogue --now '20260301    120000' < stdin
 
@@ -135,15 +135,19 @@ bench/out/large.catalogue: scripts/make_library.py
 	@python3 scripts/make_library.py --out $@
 
 # The wrong bodies of crates/*/wrong, each of which the prover has to refuse, and first a test of the script that tries
-# them. Those of crates/*/must-fail are tried by rt ci.
+# them. What it has refused is noted in crates/*/wrong/refused, and what is noted there isn't tried again while all that
+# it rests on is as it was; with ANEW=--anew all are tried. Those of crates/*/must-fail are tried by rt ci.
+ANEW =
 wrong:
+	@python3 scripts/refused_sums.py
 	@python3 scripts/wrong_bodies.py --self-test
-	@python3 scripts/wrong_bodies.py
+	@python3 scripts/wrong_bodies.py $(ANEW)
 
-# The gate: the picture of the crates, and the page; a seat of one hall at another, which the types refuse; the script
-# that tries wrong bodies at some that mustn't count as refused; then all proofs, the wrong bodies that rt ci tries, the
-# tests and the stored runs, and beside them the wrong bodies that the script tries; what is played at the program that
-# was just proved. Its last line is rt ci's once more. What was refused before as it stands isn't tried again.
+# The gate: the picture of the crates, and the page; a seat of one hall at another, which the types refuse; the sums by
+# which refused wrong bodies are noted; the script that tries wrong bodies at some that mustn't count as refused; then
+# all proofs, the wrong bodies that rt ci tries, the tests and the stored runs, and beside them wrong bodies that the
+# script tries: those that aren't noted as refused, and a tenth of the others, or all with ANEW=--anew; what is played
+# at the program that was just proved. Its last line is rt ci's once more.
 VERDICT = out/verdict
 test: ROUNDS = 20
 test: DAYS = 40
@@ -153,7 +157,8 @@ test:
 	@python3 scripts/draw_house.py --check
 	@python3 scripts/make_page.py --check
 	@python3 scripts/foreign_seat_refused.py
+	@python3 scripts/refused_sums.py
 	@python3 scripts/wrong_bodies.py --self-test
-	@python3 scripts/gate.py --verdict $(VERDICT)
+	@python3 scripts/gate.py $(ANEW) --verdict $(VERDICT)
 	@program=$(CURDIR)/$(PROGRAM) && $(PLAYED) && python3 scripts/carry_stops.py "$$program"
 	@cat $(VERDICT)

@@ -129,6 +129,7 @@ def sources_of(crate):
     return {os.path.relpath(path, top): read(path) for path in paths if path.endswith(".rt")}
 
 
+@functools.cache
 def bodies_of(crate):
     """The functions of the crate, but for those of traits."""
     sources = sources_of(crate)
@@ -194,8 +195,8 @@ class Edit:
         self.crate, self.name, self.pairs, self.goal, self.others = crate, name, pairs, goal, set(others)
         self.is_hard = is_hard
         self.copy, self.first_line = 0, None
-        self.misfit, self.verdict, self.said, self.kept, self.tries = None, None, "", None, 0
-        self.functions, self.places, self.beside, self.is_apart = [], set(), {}, False
+        self.misfit, self.verdict, self.said, self.is_beside_all, self.tries = None, None, "", False, 0
+        self.functions, self.places, self.beside, self.is_apart, self.is_alone = [], set(), {}, False, False
         self.is_guided, self.is_answered, self.has_own = False, False, False
         self.pruned, self.gone, self.misnamed, self.found = {}, set(), set(), None
         for file, old, new in pairs:
@@ -208,12 +209,13 @@ class Edit:
     def look(self, file, text, old, new, homes):
         """Notes where the old text stands: in a body, or in a constant, and then in which functions that stands, or in a
         comment, in whose place a new function may stand. What is in none may concern other functions, so it is tried
-        apart."""
+        apart; a constant may be spoken of by what other functions promise, so it is tried alone."""
         at = text[: text.index(old)].count("\n")
         inside = [function for function in functions_of(file, text, homes) if at in function.lines][-1:]
         is_comment = text.split("\n")[at].lstrip().startswith("//")
         users = [] if inside or is_comment else users_of(constant_at(text.split("\n"), at), self.crate, homes)
         self.is_apart |= not is_comment and not users and (not inside or at in inside[0].head)
+        self.is_alone |= self.is_apart or bool(users)
         self.functions += [it for it in inside + users if it.path not in [other.path for other in self.functions]]
         self.places |= {(file, at), *((it.file, line) for it in inside + users for line in it.told)}
         self.beside |= {(file, at): (file, old, new)} if is_comment and not inside else {}
@@ -223,7 +225,7 @@ class Edit:
 
     def fits_a_copy(self):
         """Whether a copy of its function may have it: one of no trait, that doesn't call itself, and all that is edited."""
-        function = self.functions[0] if len(self.functions) == 1 and not self.is_apart else None
+        function = self.functions[0] if len(self.functions) == 1 and not self.is_alone else None
         return function is not None and not function.is_of_trait and not function.is_recursive() and \
             self.places == {*self.beside, *((function.file, line) for line in function.told)}
 
@@ -303,10 +305,10 @@ def edits_of(crate):
 
 
 def fit_together(one, other):
-    """Whether two edits go into one check: neither is tried apart, and they are of different functions. One may call the
+    """Whether two edits go into one check: neither is tried alone, and they are of different functions. One may call the
     other: a proof rests on what a function promises and not on its body, and a caller of one that is refused has an open
     goal only where it is itself otherwise than it should be."""
-    return not (one.is_apart or other.is_apart or one.places & other.places)
+    return not (one.is_alone or other.is_alone or one.places & other.places)
 
 
 def round_of(edits):

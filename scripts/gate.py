@@ -1,14 +1,16 @@
 #!/usr/bin/env python3
 """Runs rt ci, tries the wrong bodies beside it, and says what each crate cost.
 
-    python3 scripts/gate.py [--figures FILE] [--verdict FILE]
+    python3 scripts/gate.py [--anew] [--figures FILE] [--verdict FILE]
 
 rt ci proves as many crates at once as there are processors, each by one job, and what it says is passed on. Each library
 that it has proved is kept (kept.py), and once all below a crate are, its wrong bodies are tried: beside rt ci at the
-lowest priority, since it leaves processors free where a crate waits for another, and as memory allows. Those that were
-refused before as they stand aren't tried again. The file of --figures (out/gate.json) has the processor seconds by crate, of which
-gate_table.py makes a table: those of rt ci's provers and compilers are read from /proc twice a second. That of --verdict
-(out/verdict) has rt ci's last line, which is also the last one here. Needs Linux, rt and Python 3.
+lowest priority, since it leaves processors free where a crate waits for another, and as memory allows. Those that are
+known to be refused as they stand (refused.py) aren't tried again, but for those of some crates, other ones each day, so
+that all come in ten days; what is refused is noted. With --anew nothing that was proved or refused before counts. The
+file of --figures (out/gate.json) has the processor seconds by crate, of which gate_table.py makes a table: those of rt
+ci's provers and compilers are read from /proc twice a second. That of --verdict (out/verdict) has rt ci's last line,
+which is also the last one here. Needs Linux, rt and Python 3.
 
 Status 0: rt ci ends with 0, and each wrong body is refused.
 """
@@ -24,13 +26,15 @@ import tempfile
 import threading
 import time
 from concurrent.futures import ThreadPoolExecutor
+from datetime import datetime, timezone
 from pathlib import Path
 
-from edits import edits_of, read
+from edits import edits_of
 from kept import TOP, keep, lay_out, said_by_rt, sums_of
 from prove import CORES, GIGABYTES, MEMORY, uses_of_all, with_all_below
+from refused import Grounds, due_on
 from workbench import Bench
-from wrong_bodies import REFUSED, kept_at, said_of_all, try_crate
+from wrong_bodies import REFUSED, refused_of, said_of_all, try_crate
 
 BESIDE = max(1, CORES - 1)  # crates whose wrong bodies are tried beside rt ci
 GIGABYTES_BESIDE = 8  # of memory that has to be free where one is begun: up to 3 for it, and what rt ci may come to take
@@ -99,21 +103,28 @@ def free_gigabytes():
 class WrongBodies:
     """The wrong bodies, of which each crate's are tried once the libraries below it are there."""
 
-    def __init__(self, uses, sums, room):
+    def __init__(self, uses, sums, room, is_anew):
         self.uses, self.sums, self.room, self.seconds, self.is_alone = uses, sums, room, {}, False
         self.free, self.libraries = threading.Semaphore(BESIDE), os.path.join(room, "libraries")
         self.pool, self.trying = ThreadPoolExecutor(max(1, min(CORES, int(MEMORY / GIGABYTES)))), []
-        self.edits, self.left, kit = [], {}, said_by_rt("version")
+        self.edits, self.grounds = [edit for crate in uses for edit in edits_of(crate)], Grounds(uses)
+        self.left = self.to_try(uses if is_anew else due_on(datetime.now(timezone.utc).date(), self.edits))
         os.makedirs(self.libraries)
-        for crate in uses:
-            edits = edits_of(crate)
-            for edit in edits:
-                edit.kept = kept_at(edit, sums, kit)
-                if os.path.isfile(edit.kept):
-                    edit.verdict, edit.said = REFUSED, read(edit.kept)
-            self.edits += edits
-            if any(not edit.verdict for edit in edits):
-                self.left[crate] = [edit for edit in edits if not edit.verdict]
+
+    def to_try(self, due):
+        """Those that aren't known to be refused, or are of crates that are due, by crate, and says how many these are."""
+        left, known = {}, 0
+        for edit in self.edits:
+            is_known = self.grounds.is_known(edit)
+            if is_known and edit.crate not in due:
+                edit.verdict = REFUSED
+            else:
+                left.setdefault(edit.crate, []).append(edit)
+                known += is_known
+        count = sum(map(len, left.values()))
+        print(f"wrong bodies: {count} of {len(self.edits)} are tried: {count - known} that aren't known to be refused, and "
+              f"{known} again", flush=True)
+        return left
 
     def look(self):
         """Begins to try those of the crates that nothing is missing for any more."""
@@ -130,6 +141,7 @@ class WrongBodies:
             try_crate(edits, bench)
             shutil.rmtree(bench.room)
             self.seconds[crate] = bench.seconds
+            self.grounds.note(crate, refused_of(crate, self.edits))
 
     def finish(self):
         """Tries the others, by all processors."""
@@ -174,13 +186,15 @@ def write_figures(path, costs, wrong, whole):
 
 def main():
     parser = argparse.ArgumentParser(description="Runs rt ci, and tries the wrong bodies beside it.")
+    parser.add_argument("--anew", action="store_true", help="prove and try also what was proved or refused before")
     parser.add_argument("--figures", type=Path, default=TOP / "out" / "gate.json", metavar="FILE")
     parser.add_argument("--verdict", type=Path, default=TOP / "out" / "verdict", metavar="FILE")
     asked, uses = parser.parse_args(), uses_of_all()
     sums = sums_of(uses, uses)
     with tempfile.TemporaryDirectory(prefix="gate-") as room:
-        wrong = WrongBodies(uses, sums, room)
-        process = subprocess.Popen(["rt", "ci"], cwd=TOP, stdin=subprocess.DEVNULL, stdout=subprocess.PIPE,
+        wrong = WrongBodies(uses, sums, room, asked.anew)
+        words = ["rt", "ci", *["--anew"] * (asked.anew and "--anew" in said_by_rt("help"))]  # some kits keep nothing
+        process = subprocess.Popen(words, cwd=TOP, stdin=subprocess.DEVNULL, stdout=subprocess.PIPE,
                                    stderr=subprocess.STDOUT, text=True, errors="replace",
                                    # with 2 jobs in place of 1 hd_stock takes 17 % more processor time
                                    env={**os.environ, "RT_JOBS": str(CORES)})

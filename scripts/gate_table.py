@@ -3,8 +3,8 @@
 
     python3 scripts/gate_table.py [--across N] [FILE]
 
-FILE has the figures (out/gate.json). Those of wrong bodies that were refused before are missing in it: so it wants a
-run of gate.py with XDG_CACHE_HOME at an empty folder. With --across the table is a small one, of so many crates across:
+FILE has the figures (out/gate.json). Those of what was proved or refused before are missing in it: so it wants a run of
+gate.py --anew. With --across the table is a small one, of so many crates across:
 of each its proof, with its tests' and its compilers', and behind a + all its wrong bodies. Needs Python 3.
 """
 

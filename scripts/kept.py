@@ -1,4 +1,4 @@
-"""What is proved and kept, below ~/.cache/holddesk or XDG_CACHE_HOME: libraries, programs, and refused wrong bodies.
+"""What is proved and kept, below ~/.cache/holddesk or XDG_CACHE_HOME: libraries and programs.
 
 A library stands in a folder of its own, whose name has a sum of all that its proof reads, so that every clone finds it
 and none takes it for another. No verdict of rt ci rests on what is kept: rt ci proves each crate from nothing.

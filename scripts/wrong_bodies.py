@@ -25,13 +25,12 @@ copy of its proof each: what isn't refused there is tried again in place. An edi
     CAN'T BE PUT IN    the old text doesn't stand there once, or the edited crate doesn't compile
 
 A goal that the tactics don't prove in the sound function either would tell nothing: sound_goals.py says which are so.
-What was refused is kept in ~/.cache/holddesk (or below XDG_CACHE_HOME) by a sum of all that it rests on, so that another
-run, also in another clone, tries only what changed; --anew tries all. Needs Python 3 and rt. The last line is 'wrong
-bodies: N refused, M not'. Status 0: M is 0.
+What was refused is noted in crates/*/wrong/refused by a sum of all that it rests on (refused.py), so that another run
+tries only what changed; --anew tries all. Needs Python 3 and rt. The last line is 'wrong bodies: N refused, M not'.
+Status 0: M is 0.
 """
 
 import argparse
-import hashlib
 import os
 import re
 import shutil
@@ -42,8 +41,9 @@ from concurrent.futures import ThreadPoolExecutor
 from answers import by_tactics, with_one_goal, without_answers
 from edits import Edit, edits_of, file_of, folder_of, hints_of, homes_in, put_into_copies, read, round_of, sources_of
 from edits import write
-from kept import ROOM, TOP, said_by_rt, sums_of
+from kept import TOP
 from prove import CORES, GIGABYTES, MEMORY, libraries_in, uses_of_all, with_all_below
+from refused import Grounds
 from workbench import OFFERED, Bench
 
 REFUSED, PROVED, NOT_TELLING, CANNOT = "refused", "PROVED", "NOT TELLING", "CAN'T BE PUT IN"
@@ -89,12 +89,9 @@ def compiles(said):
 
 
 def settle(edit, verdict, said):
-    """Notes what the edit came to, says it, and keeps that it was refused."""
+    """Notes what the edit came to, and says it."""
     edit.verdict, edit.said = verdict, said
     print(edit, flush=True)
-    if verdict == REFUSED and edit.kept:
-        os.makedirs(os.path.dirname(edit.kept), exist_ok=True)
-        write(edit.kept, said)
 
 
 def judge(edit, said, bench):
@@ -242,6 +239,7 @@ def try_round(edits, bench):
 def try_crate(edits, bench):
     """Tries all edits of a crate. What isn't refused is tried once more beside the bodies of all functions."""
     for edit in edits:
+        edit.is_beside_all = False
         if edit.misfit:
             settle(edit, CANNOT, edit.misfit)
     try_together([edit for edit in edits if not edit.misfit], bench)
@@ -250,6 +248,7 @@ def try_crate(edits, bench):
         bench.put_bodies()
         for edit in left:
             edit.forget()
+            edit.is_beside_all = True
         try_together(left, bench)
 
 
@@ -276,14 +275,6 @@ def name_goal(edit):
     write(file_of(edit), "\n".join(lines) + "\n")
 
 
-def kept_at(edit, sums, kit):
-    """Where it is kept that the edit was refused."""
-    files = ("wrong_bodies.py", "workbench.py", "edits.py", "answers.py")
-    scripts = [read(os.path.join(TOP, "scripts", it)) for it in files]
-    rests_on = [kit, scripts, sums[edit.crate], edit.pairs, edit.goal, edit.is_hard]
-    return os.path.join(ROOM, "wrong-bodies", hashlib.sha256(repr(rests_on).encode()).hexdigest())
-
-
 def over_crates(edits, uses, room, try_one):
     """What comes of a crate's edits, over a bench of the crate: several crates side by side, those with most first."""
     crates = sorted({edit.crate for edit in edits}, key=lambda name: -sum(edit.crate == name for edit in edits))
@@ -300,10 +291,11 @@ def over_crates(edits, uses, room, try_one):
         return dict(zip(crates, pool.map(try_over, crates)))
 
 
-def try_all(edits, uses, room):
-    """Tries the edits. Each crate's processor seconds."""
+def try_all(edits, uses, room, note=lambda crate: None):
+    """Tries the edits, and has noted what came of each crate's. Each crate's processor seconds."""
     def seconds_of(some, bench):
         try_crate(some, bench)
+        note(bench.crate)
         return bench.seconds
 
     return over_crates(edits, uses, room, seconds_of)
@@ -325,20 +317,21 @@ def self_test(uses, room):
     return all(edit.verdict == wanted for edit, (_, wanted, *_) in zip(edits, SELF_TEST))
 
 
-def try_kept(edits, uses, room, is_anew):
-    """Tries the edits, but for those that were refused before as they stand."""
-    sums, kit = sums_of(with_those_below({edit.crate for edit in edits}, uses), uses), said_by_rt("version")
+def refused_of(crate, edits):
+    return [edit for edit in edits if edit.crate == crate and edit.verdict == REFUSED]
+
+
+def try_new(edits, uses, room, is_anew):
+    """Tries the edits, but for those that are known to be refused as they stand, and notes which are refused."""
+    grounds = Grounds(uses)
     for edit in edits:
-        edit.kept = kept_at(edit, sums, kit)
-        if not is_anew and os.path.isfile(edit.kept):
-            edit.verdict, edit.said = REFUSED, read(edit.kept)
-    known = [edit for edit in edits if edit.verdict == REFUSED]
-    seconds = try_all([edit for edit in edits if edit not in known], uses, room) if len(known) < len(edits) else {}
+        edit.verdict = REFUSED if not is_anew and grounds.is_known(edit) else None
+    left = [edit for edit in edits if not edit.verdict]
+    seconds = try_all(left, uses, room, lambda crate: grounds.note(crate, refused_of(crate, edits))) if left else {}
     for crate, used in seconds.items():
-        tried = sum(edit.crate == crate and edit not in known for edit in edits)
-        print(f"{crate}: {tried} tried in {used:.0f} processor seconds")
+        print(f"{crate}: {sum(edit.crate == crate for edit in left)} tried in {used:.0f} processor seconds")
     minutes = sum(seconds.values()) / 60
-    print(f"{len(edits) - len(known)} tried in {minutes:.1f} processor minutes; {len(known)} were refused before")
+    print(f"{len(left)} tried in {minutes:.1f} processor minutes; {len(edits) - len(left)} were refused before")
 
 
 def said_of_all(edits):
@@ -369,7 +362,7 @@ def main():
         if chosen.list:
             print("\n".join(f"{edit.crate}/{edit.name}: {' '.join(edit.asks())}" for edit in edits))
             return 0
-        try_kept(edits, uses, room, chosen.anew)
+        try_new(edits, uses, room, chosen.anew)
     for edit in edits:
         if chosen.name_goals and edit.found and not edit.goal:
             name_goal(edit)
