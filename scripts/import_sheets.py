@@ -8,12 +8,14 @@ demonstration catalogue of version 2 in docs/catalogue.md, byte for byte, howeve
 or tabs, every value in quotes, CR LF, a mark of UTF-8, headings in capitals, columns in another order, blanks around the
 values, an empty last row, and names that are in UTF-8 or Latin-1. `check` has to tell of it what it has, and `import`
 the headings that it didn't use. A quote that is closed, or stands in a value, has to be read. Then each of some faults
-has to be told as one line, by file, line and column, and the catalogue file has to stay as it was. Needs nothing but
-Python 3. Status 0: all is as it should be.
+has to be told as one line, by file, line and column, and the catalogue file has to stay as it was. Where there is no
+fault it has to be replaced; but a FIFO, a folder, a socket, a link or one of the sheets in its place has to be refused,
+with nothing changed or written beside it. Needs nothing but Python 3. Status 0: all is as it should be.
 """
 
 import csv
 import os
+import socket
 import subprocess
 import tempfile
 
@@ -78,6 +80,41 @@ READ = [
     ("patrons", "patron,LOAN LIMIT,Patron,town", "p3,1,p9,Ely", "Patron, town"),
 ]
 
+PLACE = "library.catalogue"
+IRREGULAR = "it is no regular file"
+
+
+def bind(place):
+    """Makes a socket's file."""
+    with socket.socket(socket.AF_UNIX) as made:
+        made.bind(place)
+
+
+def copies_beside(place):
+    """The path of the sheet of copies in a place's folder."""
+    return os.path.join(os.path.dirname(place), "copies.csv")
+
+
+def lead(place):
+    """Moves the sheet of copies to a place, and has its path lead there."""
+    os.rename(copies_beside(place), place)
+    os.symlink(place, copies_beside(place))
+
+
+# What is kept, what makes it in a catalogue's place, the path that is given, and why it is kept.
+KEPT = [
+    ("a FIFO", os.mkfifo, PLACE, IRREGULAR),
+    ("a folder", os.mkdir, PLACE, IRREGULAR),
+    ("a folder by its slash", os.mkdir, f"{PLACE}/", IRREGULAR),
+    ("a socket", bind, PLACE, IRREGULAR),
+    ("a link to a file", lambda place: os.symlink("branches.csv", place), PLACE, IRREGULAR),
+    ("a link to nothing", lambda place: os.symlink("nothing", place), PLACE, IRREGULAR),
+    *((f"the sheet of {sheet}", None, f"{sheet}.csv", f"it is the sheet of {sheet}") for sheet in SHEETS),
+    ("a sheet by another path", None, "././titles.csv", "it is the sheet of titles"),
+    ("a sheet by another name", lambda place: os.link(copies_beside(place), place), PLACE, "it is the sheet of copies"),
+    ("what a sheet's link leads to", lead, PLACE, "it is the sheet of copies"),
+]
+
 
 def wanted():
     """The demonstration catalogue of version 2, as docs/catalogue.md has it."""
@@ -135,10 +172,10 @@ def run(program, folder, *words):
                           umask=0o077)
 
 
-def import_in(program, folder, *words):
+def import_in(program, folder, *words, into=PLACE):
     """Imports the sheets of a folder."""
     named = [word for name in SHEETS for word in (f"--{name}", f"{name}.csv")]
-    return run(program, folder, "import", *named, "--into", "library.catalogue", *SETTINGS, *words)
+    return run(program, folder, "import", *named, "--into", into, *SETTINGS, *words)
 
 
 def write(folder, name, text):
@@ -199,8 +236,7 @@ def play_defaults(program, catalogue):
 def play_read(program, catalogue, sheet, first, last, heading):
     """Quotes that are closed, or are of a value, are read, and the headings that aren't used are told."""
     with tempfile.TemporaryDirectory() as folder:
-        for name in SHEETS:
-            write(folder, f"{name}.csv", dressed(example(name), ",", csv.QUOTE_MINIMAL, "\n").encode())
+        write_examples(folder)
         lines = read(folder, f"{sheet}.csv").decode().splitlines()
         write(folder, f"{sheet}.csv", "\n".join([first, *lines[1:-1], last, ""]).encode())
         done = import_in(program, folder)
@@ -228,6 +264,41 @@ def play_fault(program, sheet, line, text, said):
                                                                      + ["library.catalogue"]))
 
 
+def state_of(folder):
+    """Of each file of a folder which one it is, its mode and length, and when it was changed."""
+    found = {it.name: it.stat(follow_symlinks=False) for it in os.scandir(folder)}
+    return {name: (it.st_ino, it.st_mode, it.st_size, it.st_ctime_ns) for name, it in found.items()}
+
+
+def write_examples(folder):
+    for name in SHEETS:
+        write(folder, f"{name}.csv", dressed(example(name), ",", csv.QUOTE_MINIMAL, "\n").encode())
+
+
+def play_kept(program, name, make, into, why):
+    """What isn't a catalogue file that may be replaced stays as it is, and nothing is written beside it."""
+    with tempfile.TemporaryDirectory() as folder:
+        write_examples(folder)
+        if make:
+            make(os.path.join(folder, PLACE))
+        before = state_of(folder)
+        done = import_in(program, folder, into=into)
+        compare(f"into {name}", (done.returncode, done.stdout, done.stderr),
+                (1, b"", f"cannot write {into}: {why}\n".encode()))
+        compare(f"the folder with {name}", state_of(folder), before)
+
+
+def play_replaced(program, catalogue):
+    """A catalogue file that is there is replaced, as each night."""
+    with tempfile.TemporaryDirectory() as folder:
+        write_examples(folder)
+        write(folder, PLACE, b"what was there\n")
+        done = import_in(program, folder)
+        compare("into a file", (done.returncode, done.stdout, done.stderr), (0, imported(UNUSED), b""))
+        compare("the catalogue that is replaced", read(folder, PLACE), catalogue)
+        compare("its folder", sorted(os.listdir(folder)), sorted([PLACE, *(f"{name}.csv" for name in SHEETS)]))
+
+
 def play(program):
     program = os.path.abspath(program)
     catalogue = wanted()
@@ -239,11 +310,15 @@ def play(program):
         play_read(program, catalogue, *sheet)
     for fault in FAULTS:
         play_fault(program, *fault)
+    play_replaced(program, catalogue)
+    for kept in KEPT:
+        play_kept(program, *kept)
 
 
 def main():
     reported("import_sheets", play, parser_of(__doc__).parse_args().program)
-    print(f"import_sheets: the example makes the demonstration catalogue, and {len(FAULTS)} faults are told")
+    print(f"import_sheets: the example makes the demonstration catalogue, {len(FAULTS)} faults are told, and in "
+          f"{len(KEPT)} ways it isn't written over what is there")
 
 
 if __name__ == "__main__":

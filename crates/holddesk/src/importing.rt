@@ -10,6 +10,8 @@ use hd_import::{
 };
 use hd_setup::{SetupFault, read_list};
 use std::alloc::{AllocError, Global};
+use std::fs::{self, Metadata};
+use std::os::unix::fs::MetadataExt;
 
 /// The files of the sheets, as they were read.
 struct Sheets {
@@ -36,6 +38,7 @@ impl Drop for Sheets {
 /// Makes a catalogue file of sheets, puts it in its place, and tells what it has, and what of the sheets it
 /// doesn't.
 pub(crate) fn import_sheets(rt: &HostRuntime, order: &Import<'_>) -> Result<(), Fault> {
+    see_replaceable(rt, order)?;
     let sheets = read_sheets(rt, order)?;
     let Imported { text, catalogue } = imported(rt.alloc(), order, &sheets)?;
     write_whole(rt, order.into, text.as_bytes())?;
@@ -48,6 +51,49 @@ pub(crate) fn import_sheets(rt: &HostRuntime, order: &Import<'_>) -> Result<(), 
         catalogue.copies()
     )?;
     tell_unused(rt, order, &sheets)
+}
+
+/// Sees that the catalogue file may take the place of what is at its path. Where nothing is there it may; where
+/// the system doesn't tell what is there, it says why when the file is written.
+///
+/// # Errors
+/// What is there isn't replaced.
+fn see_replaceable(rt: &HostRuntime, order: &Import<'_>) -> Result<(), Fault> {
+    let path = order.into;
+    let Ok(file) = fs::symlink_metadata(rt, path) else {
+        return Ok(());
+    };
+    match why_kept(rt, order, &file) {
+        Some(why) => Err(Fault::CannotWriteFile(format!(in rt.alloc(); "{path}: {why}")?)),
+        None => Ok(()),
+    }
+}
+
+/// Why a file isn't replaced, if it isn't: it is a device, a folder, a link or the like, or one of the sheets.
+fn why_kept(rt: &HostRuntime, order: &Import<'_>, file: &Metadata) -> Option<&'static str> {
+    if !file.is_file() {
+        return Some("it is no regular file");
+    }
+    for (sheet, why) in [
+        (order.branches, "it is the sheet of branches"),
+        (order.terminals, "it is the sheet of terminals"),
+        (order.patrons, "it is the sheet of patrons"),
+        (order.titles, "it is the sheet of titles"),
+        (order.copies, "it is the sheet of copies"),
+    ] {
+        if is_at(rt, sheet, file) {
+            return Some(why);
+        }
+    }
+    None
+}
+
+/// Whether a path leads to this file.
+fn is_at(rt: &HostRuntime, path: &str, file: &Metadata) -> bool {
+    match fs::metadata(rt, path) {
+        Ok(there) => there.dev() == file.dev() && there.ino() == file.ino(),
+        Err(_) => false,
+    }
 }
 
 /// Tells which headings of the sheets aren't used, in a line for each sheet that has such.
