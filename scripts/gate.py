@@ -41,7 +41,7 @@ GIGABYTES_BESIDE = 8  # of memory that has to be free where one is begun: up to 
 PAUSE = 0.5  # seconds between two looks at the processes
 TICKS = os.sysconf("SC_CLK_TCK")
 PROVED = re.compile(r"rt: (\w+) (?:proved|is kept)")
-EDITED = re.compile(r"/rt-edit-\w+$")  # where rt ci checks a crate with an edit
+EDITED = re.compile(r"/rt-edits?-")  # where rt ci checks a crate with an edit, or what edits are tried over
 
 
 class Costs(threading.Thread):
