@@ -3,7 +3,6 @@
 //! Peers close, fall silent, or send a line that is too long; reads and writes fail, or are interrupted, at
 //! each call in turn; lines come with damage at each of their bytes. What is written and which turns are made
 //! is compared with a session that is fed the same bytes, in one piece, at a journal alone.
-mod alone;
 mod damage;
 mod ends;
 mod failing;

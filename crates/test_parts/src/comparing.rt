@@ -5,38 +5,55 @@ use hd_rules::{CopyState, Hold, ItemView, same_asked, same_turn_reply};
 use std::alloc::Allocator;
 use test_kit::{COPIES, PATRONS, TITLES};
 
+/// Which seats the turns of two journals are to be of.
+#[derive(Clone, Copy)]
+pub(crate) enum Seats {
+    /// Each of the same.
+    Same,
+    /// Of any.
+    Any,
+}
+
 /// Whether two journals have the same turns, the same records of the same survivors, and the same desk.
 pub(crate) fn are_alike<A: Allocator + Copy, B: Allocator + Copy>(
     one: &Journal<A>,
     other: &Journal<B>,
 ) -> bool {
-    have_same_turns(one, other)
+    have_same_turns(one, other, Seats::Same)
         && have_same_records(one, other)
         && are_desks_alike(one.desk(), other.desk())
 }
 
-/// Whether two journals have the same turns.
-fn have_same_turns<A: Allocator + Copy, B: Allocator + Copy>(
+/// Whether two journals have the same turns, of such seats.
+pub(crate) fn have_same_turns<A: Allocator + Copy, B: Allocator + Copy>(
     one: &Journal<A>,
     other: &Journal<B>,
+    seats: Seats,
 ) -> bool {
     for at in 1..=one.front() {
-        let (Some(turn), Some(twin)) = (one.turn_at(at), other.turn_at(at)) else {
-            return false;
-        };
-        if !(turn.seat == twin.seat && is_same_but_for_its_seat(&turn, &twin)) {
+        if !is_same_turn(one.turn_at(at), other.turn_at(at), seats) {
             return false;
         }
     }
     one.front() == other.front()
 }
 
-/// Whether two turns are the same, but for their seats.
-pub(crate) fn is_same_but_for_its_seat(one: &TurnRef<'_>, other: &TurnRef<'_>) -> bool {
-    one.terminal == other.terminal
-        && one.line == other.line
-        && same_asked(&one.asked, &other.asked)
-        && same_turn_reply(&one.reply, &other.reply)
+/// Whether there are two turns, and they are the same, of such seats.
+pub(crate) fn is_same_turn(
+    one: Option<TurnRef<'_>>,
+    other: Option<TurnRef<'_>>,
+    seats: Seats,
+) -> bool {
+    match (one, other) {
+        (Some(turn), Some(twin)) => {
+            (matches!(seats, Seats::Any) || turn.seat == twin.seat)
+                && turn.terminal == twin.terminal
+                && turn.line == twin.line
+                && same_asked(&turn.asked, &twin.asked)
+                && same_turn_reply(&turn.reply, &twin.reply)
+        }
+        _ => false,
+    }
 }
 
 /// Whether two journals have the same records under the same numbers, and no others.
@@ -45,25 +62,25 @@ fn have_same_records<A: Allocator + Copy, B: Allocator + Copy>(
     other: &Journal<B>,
 ) -> bool {
     for number in 1..=one.last() {
-        match (one.record(number), other.record(number)) {
-            (Some(record), Some(twin)) => {
-                if !is_same_record(&record, &twin) {
-                    return false;
-                }
-            }
-            (None, None) => {}
-            _ => return false,
+        if !is_same_record(one.record(number), other.record(number)) {
+            return false;
         }
     }
     one.last() == other.last()
 }
 
-/// Whether two records are the same.
-fn is_same_record(one: &RecordRef<'_>, other: &RecordRef<'_>) -> bool {
-    one.survivor == other.survivor
-        && one.reply == other.reply
-        && one.findings == other.findings
-        && one.changes == other.changes
+/// Whether two records are the same, or there is neither.
+fn is_same_record(one: Option<RecordRef<'_>>, other: Option<RecordRef<'_>>) -> bool {
+    match (one, other) {
+        (Some(record), Some(twin)) => {
+            record.survivor == twin.survivor
+                && record.reply == twin.reply
+                && record.findings == twin.findings
+                && record.changes == twin.changes
+        }
+        (None, None) => true,
+        _ => false,
+    }
 }
 
 /// Whether two desks of the library have, and show, the same of each copy, and the same holds.
@@ -71,17 +88,16 @@ pub(crate) fn are_desks_alike<A: Allocator + Copy, B: Allocator + Copy>(
     one: &Desk<A>,
     other: &Desk<B>,
 ) -> bool {
-    have_same_copies(one, other) && have_same_holds(one, other)
-}
-
-/// Whether two desks have and show the same of each copy.
-fn have_same_copies<A: Allocator + Copy, B: Allocator + Copy>(
-    one: &Desk<A>,
-    other: &Desk<B>,
-) -> bool {
     for name in COPIES {
         if copy(one, name) != copy(other, name) {
             return false;
+        }
+    }
+    for title in TITLES {
+        for patron in PATRONS {
+            if hold(one, title, patron) != hold(other, title, patron) {
+                return false;
+            }
         }
     }
     true
@@ -91,21 +107,6 @@ fn have_same_copies<A: Allocator + Copy, B: Allocator + Copy>(
 fn copy<A: Allocator + Copy>(desk: &Desk<A>, name: &[u8]) -> Option<(CopyState, ItemView)> {
     let copy = desk.catalogue().copy(name)?;
     Some((desk.copy(copy), desk.item(copy)))
-}
-
-/// Whether each patron has the same holds at two desks.
-fn have_same_holds<A: Allocator + Copy, B: Allocator + Copy>(
-    one: &Desk<A>,
-    other: &Desk<B>,
-) -> bool {
-    for title in TITLES {
-        for patron in PATRONS {
-            if hold(one, title, patron) != hold(other, title, patron) {
-                return false;
-            }
-        }
-    }
-    true
 }
 
 /// The hold of the title that the patron has.

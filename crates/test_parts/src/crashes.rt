@@ -7,42 +7,45 @@
 //! They have to be the first changing turns of the row, with all that were answered; where the file says that
 //! it was ended, also without its log. Once it was opened for turns it says that, or that it is open.
 mod disks;
+mod leaving;
 mod marks;
 mod row;
-mod step;
 mod stopping;
 mod whole;
 
 use crate::crashes::row::{Row, rows};
 use crate::crashes::stopping::{WhichDisk, calls, is_read_in_the_old_format};
+use crate::crashes::whole::Whole;
 use std::io;
+use test_kit::{tell, verdict};
 
 /// Plays the rows.
 pub(crate) fn play(rt: &HostRuntime) -> io::Result<()> {
     for row in rows() {
-        print_calls(rt, row, WhichDisk::Log)?;
-        print_calls(rt, row, WhichDisk::Database)?;
-        print_old_format(rt, row)?;
+        match Whole::of(rt, row.steps) {
+            Some(whole) => play_row(rt, &whole, row)?,
+            None => tell(rt, row.name, false)?,
+        }
     }
     Ok(())
 }
 
-/// Prints a row's name, how many calls one of the disks gets, and whether what was answered outlived a stop
-/// before each.
-fn print_calls(rt: &HostRuntime, row: &Row, disk: WhichDisk) -> io::Result<()> {
+/// Plays a row, beside its turns that are all taken.
+fn play_row(rt: &HostRuntime, whole: &Whole, row: &Row) -> io::Result<()> {
+    print_calls(rt, whole, row, WhichDisk::Log)?;
+    print_calls(rt, whole, row, WhichDisk::Database)?;
     let name = row.name;
-    let of = disk.name();
-    match calls(rt, row, disk) {
-        Some(calls) => println!(rt; "{name}: stopped before each of {calls} calls of the {of}: ok"),
-        None => println!(rt; "{name}: stops of the {of}: FAILED"),
-    }
+    let verdict = verdict(is_read_in_the_old_format(rt, whole, row));
+    println!(rt; "{name}: read in the old format: {verdict}")
 }
 
-/// Prints a row's name, and whether its turns are taken again from a file of the format before.
-fn print_old_format(rt: &HostRuntime, row: &Row) -> io::Result<()> {
+/// Prints a row's name, how many calls one of the disks gets, and whether what was answered outlived a stop
+/// before each.
+fn print_calls(rt: &HostRuntime, whole: &Whole, row: &Row, disk: WhichDisk) -> io::Result<()> {
     let name = row.name;
-    match is_read_in_the_old_format(rt, row) {
-        Some(true) => println!(rt; "{name}: read in the old format: ok"),
-        _ => println!(rt; "{name}: read in the old format: FAILED"),
+    let of = disk.name();
+    match calls(rt, whole, row, disk) {
+        Some(calls) => println!(rt; "{name}: stopped before each of {calls} calls of the {of}: ok"),
+        None => println!(rt; "{name}: stops of the {of}: FAILED"),
     }
 }

@@ -7,6 +7,7 @@
 //! over the rows of each. What can be seen from outside scripts play at the program itself.
 #![tactic(auto)]
 
+mod alone;
 mod attending;
 mod comparing;
 mod crashes;
@@ -17,6 +18,7 @@ mod replaying;
 mod serving;
 mod sessions;
 mod streams;
+mod wishes;
 
 use std::io;
 use std::sync::Wait;
@@ -36,7 +38,7 @@ enum Part {
     Crashes,
 }
 
-const PARTS: [(&str, Part); 8] = [
+static PARTS: [(&str, Part); 8] = [
     ("Reads, writes and requests for memory", Part::Streams),
     ("Sessions", Part::Sessions),
     ("A hall", Part::Hall),
@@ -48,11 +50,16 @@ const PARTS: [(&str, Part); 8] = [
 ];
 
 fn main(rt: HostRuntime) -> io::Result<()> {
-    for (heading, part) in PARTS {
+    for (heading, part) in parts() {
         println!(rt; "{heading}")?;
         part.play(&rt, &rt)?;
     }
     Ok(())
+}
+
+/// All parts.
+fn parts() -> &'static [(&'static str, Part)] {
+    &PARTS
 }
 
 impl Part {

@@ -6,12 +6,10 @@
 //! requests that run makes. Of cancellations beside many held copies it is printed whether they make few.
 
 mod hearing;
-mod lone;
 mod memory;
 mod opening;
 mod replaying;
 mod row;
-mod terminal;
 mod trial;
 
 use crate::halls::HallTrial;
@@ -65,7 +63,7 @@ static TRIALS: [(&str, Trial); 13] = [
     ("a new hall", Trial::Hall(HallTrial::New)),
     (
         "two seats of a hall",
-        Trial::Hall(HallTrial::Row(TWO_SEATS_WITH_DIGITS)),
+        Trial::Hall(HallTrial::Row(&TWO_SEATS_WITH_DIGITS)),
     ),
 ];
 

@@ -33,7 +33,7 @@ enum Row {
     FailedAccept,
 }
 
-const ROWS: [(&str, Row); 8] = [
+static ROWS: [(&str, Row); 8] = [
     ("two connections", Row::TwoConnections),
     ("two connections at one worker", Row::TwoAtOneWorker),
     ("a reply that can't be written", Row::UnwrittenReply),
@@ -52,10 +52,15 @@ const ROWS: [(&str, Row); 8] = [
 
 /// Plays each row, and says whether it went as it is to. Servers are started by a handle that has a clock.
 pub(crate) fn play<R: Threads + Wait + Clock + Sync>(rt: &R, host: &HostRuntime) -> io::Result<()> {
-    for (name, row) in ROWS {
+    for (name, row) in rows() {
         tell(host, name, row.goes(rt, host) == Some(true))?;
     }
     Ok(())
+}
+
+/// The rows.
+fn rows() -> &'static [(&'static str, Row)] {
+    &ROWS
 }
 
 impl Row {
@@ -65,8 +70,8 @@ impl Row {
             Row::TwoConnections => two_connections::goes(rt, host),
             Row::TwoAtOneWorker => two_connections::waits(rt, host),
             Row::UnwrittenReply => unwritten_reply::goes(rt, host),
-            Row::UnwrittenTurn => unwritten_turn::goes(rt, host),
-            Row::UnwrittenBehindTheLast => unwritten_turn::goes_behind_the_last(rt, host),
+            Row::UnwrittenTurn => unwritten_turn::goes(rt, host, 0),
+            Row::UnwrittenBehindTheLast => unwritten_turn::goes(rt, host, 2),
             Row::UnwrittenBoth => unwritten_reply::goes_at_a_full_disk(rt, host),
             Row::SlowGate => slow_gate::goes(rt, host),
             Row::FailedAccept => failed_accept::goes(rt, host),

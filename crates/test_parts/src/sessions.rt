@@ -5,76 +5,68 @@
 //!
 //! Besides, sessions at a journal alone: how many gaps one has counted, and one that has extensions.
 
-mod alone;
 mod moved;
 mod row;
 
-use crate::sessions::alone::{are_gaps_counted, is_extended};
+use crate::alone::{Alone, fed_alone};
+use crate::attending::lines::lines;
+use crate::library::extensions;
 use crate::sessions::moved::Moved;
-use crate::sessions::row::Row;
-use hd_session::{Ended, Session};
+use crate::sessions::row::{Row, rows};
+use hd_session::Session;
 use std::io;
-use test_kit::{present, tell};
+use test_kit::{catalogue, present, tell};
+
+/// How many of the lines of the row *repeats and gaps* carry another digit than the one after the last.
+const GAPS: u64 = 2;
+
+/// A login, and a message that asks for a patron, with their password.
+const LOGIN_AND_PATRON: &[u8] = b"9300CNt1|COpw|\r2300120260301    100000AOlib|AAp1|AC|AD1234|\r";
+
+/// The replies: the password is theirs.
+const LOGGED_IN_AND_NAMED: &[u8] =
+    b"941\r24              00120260301    100000AOlib|AAp1|AEAda|BLY|CQY|\r";
 
 /// Feeds the lines of each row, and says whether it ended as it is to, and so of the sessions at a journal
 /// alone.
 pub(crate) fn play(rt: &HostRuntime) -> io::Result<()> {
-    for row in [
-        Row::LineByLine,
-        Row::OnePiece,
-        Row::AfterTheEnd,
-        Row::NothingAsked,
-    ] {
-        tell(rt, row.name(), is_ended(rt, row))?;
+    for row in rows() {
+        tell(rt, row.name, is_ended(rt, row) == Some(true))?;
     }
-    tell(rt, "gaps counted", are_gaps_counted(rt) == Some(true))?;
-    tell(rt, "extensions", is_extended(rt) == Some(true))
+    tell(rt, "gaps counted", are_gaps_counted(rt))?;
+    tell(rt, "extensions", is_extended(rt))
 }
 
-/// Whether a row ends as it is to.
-fn is_ended(rt: &HostRuntime, row: Row) -> bool {
-    match hear(rt, row.first(), row.then()) {
-        Some(heard) => heard.is(row.replies(), row.end()),
-        None => false,
-    }
-}
-
-/// What two pieces came to: all that was written, how many turns were made, and what the second was answered.
-struct Heard {
-    text: Vec<u8>,
-    turns: usize,
-    end: Option<Ended>,
-}
-
-// Written out, so that a caller's proof sees one call and not the drop of each field.
-impl Drop for Heard {
-    fn drop(self) {
-        let Heard {
-            text: _text,
-            turns: _turns,
-            end: _end,
-        } = self;
-    }
-}
-
-impl Heard {
-    /// Whether this was written, one turn was made, and the second piece was answered so.
-    fn is(&self, replies: &[u8], end: Option<Ended>) -> bool {
-        self.text.as_slice() == replies && self.turns == 1 && self.end == end
-    }
-}
-
-/// Feeds two pieces to a new session. None where there is none.
-fn hear(rt: &HostRuntime, first: &[u8], then: &[u8]) -> Option<Heard> {
+/// Whether a new session that is fed a row's two pieces ends as it is to, with one turn. None where there is
+/// no memory.
+fn is_ended(rt: &HostRuntime, row: &Row) -> Option<bool> {
     let now = present()?;
     let mut session = Session::new(rt.alloc()).ok()?;
     let mut office = Moved::new(rt)?;
     let mut text = Vec::new(rt.alloc());
-    let _ = session.feed(first, &now, &mut office, &mut text);
-    let end = session.feed(then, &now, &mut office, &mut text).err();
-    Some(Heard {
-        text,
-        turns: office.turns(),
-        end,
-    })
+    let _ = session.feed(row.first, &now, &mut office, &mut text);
+    let end = session.feed(row.then, &now, &mut office, &mut text).err();
+    Some(text.as_slice() == row.replies && office.turns() == 1 && end == row.end)
+}
+
+/// Whether a session that hears the lines of the row *repeats and gaps* has counted the gaps.
+fn are_gaps_counted(rt: &HostRuntime) -> bool {
+    match fed_alone(rt, lines()) {
+        Some(alone) => alone.session.end().is_none() && alone.session.gaps() == GAPS,
+        None => false,
+    }
+}
+
+/// Whether a session with extensions answers a patron message.
+fn is_extended(rt: &HostRuntime) -> bool {
+    let Some(extensions) = extensions(rt.alloc()) else {
+        return false;
+    };
+    match Alone::open(rt, rt.alloc(), catalogue(), Some(&extensions)) {
+        Some(mut alone) => {
+            alone.send(LOGIN_AND_PATRON);
+            alone.session.end().is_none() && alone.text.as_slice() == LOGGED_IN_AND_NAMED
+        }
+        None => false,
+    }
 }

@@ -6,35 +6,33 @@ use test_kit::{FailingReader, FailingWriter, Fault, Refusing, tell};
 
 /// Plays each, and says whether it went as it is to.
 pub(crate) fn play(rt: &HostRuntime) -> io::Result<()> {
-    for (name, is_well) in played(rt) {
-        tell(rt, name, is_well)?;
-    }
-    Ok(())
-}
-
-/// What is played, and whether it goes as it is to.
-fn played(rt: &HostRuntime) -> [(&'static str, bool); 7] {
-    [
-        (
-            "an interrupted call is tried again sixteen times",
-            is_interrupted(16, true),
-        ),
-        ("no more than sixteen times", is_interrupted(17, false)),
-        (
-            "some bytes are read and all are written",
-            are_read_and_written(),
-        ),
-        ("a read fails and takes no byte", is_read_failed()),
-        (
-            "a write is interrupted and takes no byte",
-            is_write_interrupted(),
-        ),
-        (
-            "the request after the count is refused",
-            is_refused_after_the_count(rt),
-        ),
-        ("what it was told last counts", is_refused_as_told_last(rt)),
-    ]
+    tell(
+        rt,
+        "an interrupted call is tried again sixteen times",
+        is_interrupted(16, true),
+    )?;
+    tell(rt, "no more than sixteen times", is_interrupted(17, false))?;
+    tell(
+        rt,
+        "some bytes are read and all are written",
+        are_read_and_written(),
+    )?;
+    tell(rt, "a read fails and takes no byte", is_read_failed())?;
+    tell(
+        rt,
+        "a write is interrupted and takes no byte",
+        is_write_interrupted(),
+    )?;
+    tell(
+        rt,
+        "the request after the count is refused",
+        is_refused_after_the_count(rt),
+    )?;
+    tell(
+        rt,
+        "what it was told last counts",
+        is_refused_as_told_last(rt),
+    )
 }
 
 /// Is interrupted so often, and then gives or takes one byte at each call.

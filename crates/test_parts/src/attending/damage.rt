@@ -1,10 +1,10 @@
 //! Lines that come with damage.
 
-use crate::attending::alone::feed_alone;
+use crate::alone::fed_alone;
 use crate::attending::hall::play;
 use crate::attending::lines::{RETURN, lines};
 use crate::attending::wire::{Then, Wire};
-use std::alloc::{AllocError, Global};
+use std::alloc::Global;
 use std::io;
 use std::sync::Wait;
 use test_kit::Count;
@@ -58,32 +58,32 @@ fn played<R: Wait>(rt: &R, host: &HostRuntime, damages: &[Damage]) -> Count {
 }
 
 /// Whether a connection whose line comes with damage there ends well, with the replies and the turns of a
-/// session alone.
+/// terminal alone.
 fn is_borne<R: Wait>(rt: &R, host: &HostRuntime, damage: Damage, at: usize) -> Option<bool> {
-    let bytes = damaged_lines(host.alloc(), damage, at).ok()?;
-    let wire = Wire::new(bytes.as_slice(), Then::Closes);
-    let outcome = play(rt, host, &wire)?;
-    let alone = feed_alone(host, bytes.as_slice())?;
+    let bytes = damaged_lines(host.alloc(), damage, at);
+    let outcome = play(rt, host, &Wire::new(bytes.as_slice(), Then::Closes))?;
+    let alone = fed_alone(host, bytes.as_slice())?;
     Some(
         outcome.end.is_ok()
-            && alone.end.is_ok()
+            && alone.session.end().is_none()
             && outcome.text.as_slice() == alone.text.as_slice()
             && outcome.has_turns_of(&alone),
     )
 }
 
-/// The lines, of which one comes with damage there.
-fn damaged_lines(alloc: Global, damage: Damage, at: usize) -> Result<Vec<u8>, AllocError> {
+/// The lines, of which one comes with damage there. For want of memory they lack bytes, on either way.
+fn damaged_lines(alloc: Global, damage: Damage, at: usize) -> Vec<u8> {
     let lines = lines();
     let (before, rest) = lines.split_at(at.min(lines.len()));
-    let mut bytes = Vec::from_slice(alloc, before)?;
+    let mut bytes = Vec::new(alloc);
+    let _ = bytes.extend_from_slice(before);
     let lost = match damage {
         Damage::CutOff => rest.iter().position(|byte| *byte == RETURN).unwrap_or(0),
         Damage::Byte(byte) => {
-            bytes.push(byte)?;
+            let _ = bytes.push(byte);
             1
         }
     };
-    bytes.extend_from_slice(rest.get(lost..).unwrap_or(b""))?;
-    Ok(bytes)
+    let _ = bytes.extend_from_slice(rest.get(lost..).unwrap_or(b""));
+    bytes
 }

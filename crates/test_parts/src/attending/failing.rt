@@ -1,6 +1,6 @@
 //! Reads and writes that fail.
 
-use crate::attending::alone::feed_alone;
+use crate::alone::{Alone, fed_alone};
 use crate::attending::hall::play;
 use crate::attending::lines::{first_lines, is_return, lines, replies};
 use crate::attending::outcome::Outcome;
@@ -124,8 +124,8 @@ fn calls(side: Side) -> usize {
     }
 }
 
-/// Whether a connection whose call of this number fails ends so, with the turns of a session alone that is
-/// given what came before the fault, and with its replies, or where a write failed a beginning of them.
+/// Whether a connection whose call of this number fails ends so, with the turns of a terminal alone that
+/// sends what came before the fault, and with its replies, or where a write failed a beginning of them.
 fn is_told<R: Wait>(rt: &R, host: &HostRuntime, row: &Row, call: usize) -> Option<bool> {
     let (reads, writes) = row.side.faults(row.how.at(call));
     let wire = Wire {
@@ -135,7 +135,7 @@ fn is_told<R: Wait>(rt: &R, host: &HostRuntime, row: &Row, call: usize) -> Optio
         writes,
     };
     let outcome = play(rt, host, &wire)?;
-    let alone = feed_alone(host, bytes_before(&outcome, call))?;
+    let alone = fed_alone(host, bytes_before(&outcome, call))?;
     Some(outcome.end == row.end && outcome.has_turns_of(&alone) && is_text(&outcome, &alone))
 }
 
@@ -154,8 +154,8 @@ fn replies_in(outcome: &Outcome) -> usize {
     outcome.text.iter().filter(|byte| is_return(byte)).count()
 }
 
-/// Whether all is written that a session alone writes, or where a write failed a beginning and not all.
-fn is_text(outcome: &Outcome, alone: &Outcome) -> bool {
+/// Whether all is written that a terminal alone is answered, or where a write failed a beginning and not all.
+fn is_text(outcome: &Outcome, alone: &Alone<'_>) -> bool {
     let (text, whole) = (outcome.text.as_slice(), alone.text.as_slice());
     if outcome.end == Err(AttendFault::Write) {
         whole.starts_with(text) && text.len() < whole.len()

@@ -1,9 +1,10 @@
 //! A row whose turns are all taken.
 
-use crate::crashes::step::Step;
+use crate::comparing::{Seats, is_same_turn};
+use crate::crashes::row::Step;
 use crate::library::new_journal;
-use hd_journal::{Ask, Journal, OwnedAsk, SeatNo, TurnRef};
-use hd_rules::{same_asked, same_turn_reply};
+use crate::wishes::take;
+use hd_journal::Journal;
 use std::alloc::Global;
 
 /// The journal of a row without a file.
@@ -24,26 +25,26 @@ impl Drop for Whole {
 }
 
 impl Whole {
-    /// A row whose turns are all taken. None where one isn't.
+    /// A row whose turns are all taken. None where there is no journal.
     pub(crate) fn of(rt: &HostRuntime, steps: &[Step]) -> Option<Whole> {
-        let mut whole = Whole {
-            journal: new_journal(rt, rt.alloc())?,
-            changing: Vec::new(rt.alloc()),
-        };
-        match whole.take_all(rt.alloc(), steps) {
-            Some(()) => Some(whole),
+        match new_journal(rt, rt.alloc()) {
+            Some(journal) => {
+                let changing = Vec::new(rt.alloc());
+                let mut whole = Whole { journal, changing };
+                whole.take_all(rt.alloc(), steps);
+                Some(whole)
+            }
             None => None,
         }
     }
 
-    /// Takes the turns of a row.
-    fn take_all(&mut self, alloc: Global, steps: &[Step]) -> Option<()> {
+    /// Takes the turns of a row. One that isn't taken is none of its turns then.
+    fn take_all(&mut self, alloc: Global, steps: &[Step]) {
         for step in steps {
-            if take(alloc, &mut self.journal, step)? {
-                self.changing.push(self.journal.front()).ok()?;
+            if take(alloc, &mut self.journal, &step.names, step.deed, step.line) == Some(true) {
+                let _ = self.changing.push(self.journal.front());
             }
         }
-        Some(())
     }
 
     /// How many of the first turns change something.
@@ -58,42 +59,11 @@ impl Whole {
             let Some(number) = numbers.get(at - 1) else {
                 return false;
             };
-            if !is_same_turn(journal, at, &self.journal, *number) {
+            let whole = self.journal.turn_at(*number);
+            if !is_same_turn(journal.turn_at(at), whole, Seats::Same) {
                 return false;
             }
         }
         true
     }
-}
-
-/// Takes the turn of a step: whether it changes something.
-fn take(alloc: Global, journal: &mut Journal, step: &Step) -> Option<bool> {
-    let wish = step.wish(journal.desk().catalogue())?;
-    let ask = Ask::new(SeatNo::new(0), wish.terminal, wish.asked, step.line);
-    let own = OwnedAsk::of(alloc, &ask).ok()?;
-    let is_changing = journal.is_changing(&own);
-    match journal.take(own) {
-        Ok(_) => Some(is_changing),
-        Err(_) => None,
-    }
-}
-
-/// Whether the turn of a number in one journal is that of another number in the other.
-fn is_same_turn(one: &Journal, at: usize, other: &Journal, number: usize) -> bool {
-    let Some(first) = one.turn_at(at) else {
-        return false;
-    };
-    let Some(second) = other.turn_at(number) else {
-        return false;
-    };
-    is_same(&first, &second)
-}
-
-/// Whether two turns are the same.
-fn is_same(one: &TurnRef<'_>, other: &TurnRef<'_>) -> bool {
-    one.seat == other.seat
-        && one.terminal == other.terminal
-        && one.line == other.line
-        && same_asked(&one.asked, &other.asked)
-        && same_turn_reply(&one.reply, &other.reply)
 }

@@ -1,14 +1,14 @@
 //! What the seats ask.
-ghost use Rattle.std.specs.Prelude.{◌≡◌, IfSome};
+ghost use Rattle.std.specs.Prelude.{◌≡◌};
 ghost use Rattle.test_kit.specs.Wishes.{IsOf};
 
 use crate::halls::row::{Row, Step, Told};
-use hd_catalogue::Catalogue;
+use crate::wishes::{Deed, Names};
 use hd_hall::{Ask, Hall, HallFault, House, Seat};
-use hd_rules::{Action, Asked, Cancel, Command, HoldKind, Refusal, TurnReply};
+use hd_rules::{Refusal, TurnReply};
 use std::alloc::Allocator;
 use std::sync::Wait;
-use test_kit::{Wish, present};
+use test_kit::Wish;
 
 /// Asks what a row asks, from its two seats, and once more what is refused as out of memory: whether
 /// something was. None where a reply isn't the row's.
@@ -29,8 +29,8 @@ pub(crate) fn ask_both<H: House, R: Wait, A: Allocator + Copy>(
     Some(is_first_refused || is_second_refused)
 }
 
-/// Asks what a step asks from a seat, and once more where that is refused as out of memory: whether it was.
-/// None where the reply isn't the step's.
+/// Asks for the hold of a step from a seat, and once more where that is refused as out of memory: whether it
+/// was. None where the reply isn't the step's, or the seat was changed by what was refused.
 fn step<H: House, R: Wait, A: Allocator + Copy>(
     rt: &R,
     hall: &Hall<H, A>,
@@ -40,39 +40,34 @@ fn step<H: House, R: Wait, A: Allocator + Copy>(
     requires { seat.old.parts ≡ 1 }
     ensures { seat.new.parts ≡ 1 }
 {
-    let wish = hold(hall.catalogue(), step.terminal, step.patron)?;
-    let (reply, was_refused) = ask_again(rt, hall, seat, &wish, step.line)?;
-    is_told(&reply, step.told).then_some(was_refused)
+    let receipts = seat.receipts().len();
+    let first = ask(rt, hall, seat, &step.names, Deed::Hold, step.line);
+    if is_memory(&first) && seat.receipts().len() == receipts {
+        let again = ask(rt, hall, seat, &step.names, Deed::Hold, step.line);
+        return is_told(&again, step.told).then_some(true);
+    }
+    is_told(&first, step.told).then_some(false)
 }
 
-/// Asks this from a seat, and once more where it is refused as out of memory: the reply, and whether it
-/// was. None where that is refused too, or the seat was changed by the first.
-fn ask_again<H: House, R: Wait, A: Allocator + Copy>(
+/// Asks this from a seat, with a line where it carries a sequence digit: the reply. None where the hall's
+/// catalogue lacks a name.
+pub(crate) fn ask<H: House, R: Wait, A: Allocator + Copy>(
     rt: &R,
     hall: &Hall<H, A>,
     seat: &mut Seat<H, A>,
-    wish: &Wish,
+    names: &Names,
+    deed: Deed,
     line: Option<&[u8]>,
-) -> Option<(TurnReply, bool)>
-    requires part { seat.old.parts ≡ 1 }
-    requires known { IsOf H.opening.contents wish.now }
+) -> Option<Result<TurnReply, HallFault>>
+    requires { seat.old.parts ≡ 1 }
     ensures { seat.new.parts ≡ 1 }
 {
-    let receipts = seat.receipts().len();
-    match ask(rt, hall, seat, wish, line) {
-        Ok(reply) => Some((reply, false)),
-        Err(HallFault::Memory) if seat.receipts().len() == receipts => {
-            match ask(rt, hall, seat, wish, line) {
-                Ok(reply) => Some((reply, true)),
-                Err(_) => None,
-            }
-        }
-        Err(_) => None,
-    }
+    let wish = names.wish(hall.catalogue(), deed)?;
+    Some(submit(rt, hall, seat, &wish, line))
 }
 
-/// Asks this from a seat, with a line where it carries a sequence digit: the reply.
-pub(crate) fn ask<H: House, R: Wait, A: Allocator + Copy>(
+/// The same by the numbers of the hall's catalogue.
+fn submit<H: House, R: Wait, A: Allocator + Copy>(
     rt: &R,
     hall: &Hall<H, A>,
     seat: &mut Seat<H, A>,
@@ -90,73 +85,16 @@ pub(crate) fn ask<H: House, R: Wait, A: Allocator + Copy>(
     }
 }
 
-/// The hold of any copy of `ta` by a patron, to be fetched at `north`, as the terminal of this name asks it.
-pub(crate) fn hold<A: Allocator + Copy>(
-    catalogue: &Catalogue<A>,
-    terminal: &[u8],
-    patron: &[u8],
-) -> Option<Wish>
-    ensures { IfSome result (IsOf catalogue.now) }
-{
-    hold_of(catalogue, terminal, patron, b"ta")
+/// Whether what was asked was refused as out of memory.
+fn is_memory(asked: &Option<Result<TurnReply, HallFault>>) -> bool {
+    matches!(asked, Some(Err(HallFault::Memory)))
 }
 
-/// The same of any title.
-pub(crate) fn hold_of<A: Allocator + Copy>(
-    catalogue: &Catalogue<A>,
-    terminal: &[u8],
-    patron: &[u8],
-    title: &[u8],
-) -> Option<Wish>
-    ensures { IfSome result (IsOf catalogue.now) }
-{
-    let terminal = catalogue.terminal(terminal, b"pw")?;
-    let patron = catalogue.patron(patron)?;
-    let title = catalogue.title(title)?;
-    let pickup = catalogue.branch(b"north")?;
-    let day = present()?.day();
-    Some(Wish {
-        terminal,
-        asked: Asked::Command(Command {
-            day,
-            action: Action::Add {
-                patron,
-                title,
-                kind: HoldKind::Any,
-                pickup,
-                expiry: None,
-            },
-        }),
-    })
-}
-
-/// The cancellation of that hold.
-pub(crate) fn no_hold<A: Allocator + Copy>(
-    catalogue: &Catalogue<A>,
-    terminal: &[u8],
-    patron: &[u8],
-) -> Option<Wish>
-    ensures { IfSome result (IsOf catalogue.now) }
-{
-    let terminal = catalogue.terminal(terminal, b"pw")?;
-    let patron = catalogue.patron(patron)?;
-    let title = catalogue.title(b"ta")?;
-    Some(Wish {
-        terminal,
-        asked: Asked::Cancel(Cancel::Add(patron, title)),
-    })
-}
-
-/// Whether this comes of a hold.
-fn is_told(reply: &TurnReply, told: Told) -> bool {
-    match told {
-        Told::Number(wanted) => match reply {
-            TurnReply::Done { number, .. } => *number == wanted,
-            _ => false,
-        },
-        Told::HoldExists => match reply {
-            TurnReply::Refused(Refusal::HoldExists) => true,
-            _ => false,
-        },
+/// Whether this came of a hold.
+fn is_told(asked: &Option<Result<TurnReply, HallFault>>, told: Told) -> bool {
+    match (asked, told) {
+        (Some(Ok(TurnReply::Done { number, .. })), Told::Number(wanted)) => *number == wanted,
+        (Some(Ok(TurnReply::Refused(Refusal::HoldExists))), Told::HoldExists) => true,
+        _ => false,
     }
 }

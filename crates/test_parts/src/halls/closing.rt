@@ -1,11 +1,12 @@
 //! Two seats of a hall, opened and handed in.
-ghost use Rattle.std.specs.Prelude.{◌≡◌, ◌∷◌, [], IfSome};
+ghost use Rattle.std.specs.Prelude.{◌≡◌, IfSome};
 ghost use Rattle.hd_hall.specs.Seats.{EachSeat};
 
 use crate::halls::row::Closing;
 use hd_hall::{Hall, House, NotClosed, Seat};
 use hd_journal::Journal;
 use std::alloc::{AllocError, Allocator};
+use std::mem;
 use std::sync::Wait;
 
 /// Opens two seats.
@@ -20,82 +21,74 @@ pub(crate) fn seats<H: House, R: Wait, A: Allocator + Copy>(
     Some((one, two))
 }
 
-/// Closes a hall with its two seats, handed in so. None where that doesn't go as it is to.
-pub(crate) fn close<H: House, A: Allocator + Copy>(
-    alloc: A,
-    hall: Hall<H, A>,
-    one: Seat<H, A>,
-    two: Seat<H, A>,
+/// Has the one seat stand for the other and the other way round, where the second is handed in first.
+pub(crate) fn put_in_order<H: House, A: Allocator + Copy>(
+    one: &mut Seat<H, A>,
+    two: &mut Seat<H, A>,
     closing: Closing,
-) -> Option<Journal<A>>
-    requires parts { H.parts ≡ 4294967296 }
-    requires one { one.parts ≡ 1 }
-    requires two { two.parts ≡ 1 }
+)
+    requires one { one.old.parts ≡ 1 }
+    requires two { two.old.parts ≡ 1 }
+    ensures one { one.new.parts ≡ 1 }
+    ensures two { two.new.parts ≡ 1 }
 {
-    match closing {
-        Closing::InOrder => close_with_both(alloc, hall, one, two),
-        Closing::OutOfOrder => close_with_both(alloc, hall, two, one),
-        Closing::FirstAlone => close_with_one(alloc, hall, one, two),
-        Closing::SecondAlone => close_with_one(alloc, hall, two, one),
+    if matches!(closing, Closing::OutOfOrder | Closing::SecondAlone) {
+        mem::swap(one, two);
     }
 }
 
-/// Closes a hall with both seats at once.
-fn close_with_both<H: House, A: Allocator + Copy>(
+/// Closes a hall with its two seats, which stand in the order in which they are handed in: the journal. None
+/// where that doesn't go as it is to, as where there is no memory to hand in both.
+pub(crate) fn close<H: House, A: Allocator + Copy>(
     alloc: A,
     hall: Hall<H, A>,
     first: Seat<H, A>,
     last: Seat<H, A>,
+    closing: Closing,
 ) -> Option<Journal<A>>
     requires parts { H.parts ≡ 4294967296 }
     requires first { first.parts ≡ 1 }
     requires last { last.parts ≡ 1 }
 {
-    match both(alloc, first, last) {
-        Some(seats) => closed(hall, seats),
-        None => None,
+    let mut seats = Vec::new(alloc);
+    let _ = add(&mut seats, first);
+    match closing {
+        Closing::InOrder | Closing::OutOfOrder => close_with(hall, seats, last),
+        Closing::FirstAlone | Closing::SecondAlone => match hall.close(seats) {
+            Err(
+                NotClosed::SeatMissing {
+                    hall,
+                    seats,
+                    opened: 2,
+                },
+            ) => close_with(hall, seats, last),
+            _ => None,
+        },
     }
 }
 
-/// The journal of a hall that closes with these seats. None where it doesn't close.
-fn closed<H: House, A: Allocator + Copy>(
+/// Closes a hall with these seats and one more.
+fn close_with<H: House, A: Allocator + Copy>(
     hall: Hall<H, A>,
-    seats: Vec<Seat<H, A>, A>,
+    mut seats: Vec<Seat<H, A>, A>,
+    last: Seat<H, A>,
 ) -> Option<Journal<A>>
     requires parts { H.parts ≡ 4294967296 }
     requires seats { EachSeat seats.items (λ s. s.parts ≡ 1) }
+    requires last { last.parts ≡ 1 }
 {
+    let _ = add(&mut seats, last);
     match hall.close(seats) {
         Ok(journal) => Some(journal),
         Err(_) => None,
     }
 }
 
-/// Closes a hall with one seat alone, which is told that the other is missing, and then with both.
-fn close_with_one<H: House, A: Allocator + Copy>(
-    alloc: A,
-    hall: Hall<H, A>,
-    first: Seat<H, A>,
-    last: Seat<H, A>,
-) -> Option<Journal<A>>
-    requires parts { H.parts ≡ 4294967296 }
-    requires first { first.parts ≡ 1 }
-    requires last { last.parts ≡ 1 }
-{
-    match one_is_missing(alloc, hall, first) {
-        Some((hall, mut seats)) => match add(&mut seats, last) {
-            Ok(()) => closed(hall, seats),
-            Err(_) => None,
-        },
-        None => None,
-    }
-}
-
-/// Adds a seat to a list.
+/// Adds a seat to a list. Where it isn't added, it is missing, and its hall doesn't close.
 ///
 /// # Errors
 /// Out of memory.
-fn add<H: House, A: Allocator + Copy>(
+pub(crate) fn add<H: House, A: Allocator + Copy>(
     seats: &mut Vec<Seat<H, A>, A>,
     last: Seat<H, A>,
 ) -> Result<(), AllocError>
@@ -105,51 +98,4 @@ fn add<H: House, A: Allocator + Copy>(
 {
     seats.push(last)?;
     Ok(())
-}
-
-/// Hands in one seat of two: the hall that isn't closed, and the seat as it was. None where it is told
-/// otherwise.
-fn one_is_missing<H: House, A: Allocator + Copy>(
-    alloc: A,
-    hall: Hall<H, A>,
-    seat: Seat<H, A>,
-) -> Option<(Hall<H, A>, Vec<Seat<H, A>, A>)>
-    requires parts { H.parts ≡ 4294967296 }
-    requires seat { seat.parts ≡ 1 }
-    ensures { IfSome result (λ back. back.1.items ≡ seat ∷ []) }
-{
-    let seats = alone(alloc, seat)?;
-    match hall.close(seats) {
-        Err(
-            NotClosed::SeatMissing {
-                hall,
-                seats,
-                opened: 2,
-            },
-        ) => Some((hall, seats)),
-        _ => None,
-    }
-}
-
-/// A list of one seat.
-fn alone<H: House, A: Allocator + Copy>(alloc: A, seat: Seat<H, A>) -> Option<Vec<Seat<H, A>, A>>
-    ensures { IfSome result (λ seats. seats.items ≡ seat ∷ []) }
-{
-    let mut seats = Vec::new(alloc);
-    seats.push(seat).ok()?;
-    Some(seats)
-}
-
-/// A list of two seats.
-fn both<H: House, A: Allocator + Copy>(
-    alloc: A,
-    first: Seat<H, A>,
-    last: Seat<H, A>,
-) -> Option<Vec<Seat<H, A>, A>>
-    ensures { IfSome result (λ seats. seats.items ≡ first ∷ last ∷ []) }
-{
-    let mut seats = Vec::new(alloc);
-    seats.push(first).ok()?;
-    seats.push(last).ok()?;
-    Some(seats)
 }

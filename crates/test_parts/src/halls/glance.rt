@@ -2,15 +2,13 @@
 
 use crate::comparing::hold;
 use hd_desk::Desk;
-use hd_hall::{Hall, House, Seat};
 use hd_journal::{Journal, Look};
 use hd_rules::{CopyState, PatronNo};
 use std::alloc::Allocator;
-use std::sync::Wait;
 use test_kit::{COPIES, TITLES, present};
 
 /// How many of a patron's holds are kept, how many wait, and whether that agrees with all copies and holds of
-/// the same desk; and how many turns there are.
+/// the same desk; and how many turns there are. Of a patron that isn't seen it doesn't agree.
 #[derive(Clone, Copy)]
 pub(crate) struct Seen {
     pub(crate) kept: u32,
@@ -21,9 +19,24 @@ pub(crate) struct Seen {
 
 /// A look at a patron of this name, and what it saw.
 #[derive(Clone, Copy)]
-struct Glance {
+pub(crate) struct Glance {
     patron: &'static [u8],
-    seen: Option<Seen>,
+    pub(crate) seen: Seen,
+}
+
+impl Glance {
+    /// Before the look.
+    pub(crate) fn at(patron: &'static [u8]) -> Glance {
+        Glance {
+            patron,
+            seen: Seen {
+                kept: 0,
+                waiting: 0,
+                is_whole: false,
+                turns: 0,
+            },
+        }
+    }
 }
 
 impl<A: Allocator + Copy> Look<A> for Glance {
@@ -32,31 +45,10 @@ impl<A: Allocator + Copy> Look<A> for Glance {
     ghost saw = { λ old book new. Unit {0} };
 
     fn look(&mut self, journal: &Journal<A>) {
-        self.seen = seen_in(journal, self.patron);
+        if let Some(seen) = seen_in(journal, self.patron) {
+            self.seen = seen;
+        }
     }
-}
-
-/// What a look at the hall sees of a patron.
-pub(crate) fn glance_at<H: House, R: Wait, A: Allocator + Copy>(
-    rt: &R,
-    hall: &Hall<H, A>,
-    patron: &'static [u8],
-) -> Option<Seen> {
-    let mut glance = Glance { patron, seen: None };
-    hall.look(rt, &mut glance).ok()?;
-    glance.seen
-}
-
-/// What a look from a seat sees of a patron.
-pub(crate) fn glance_from<H: House, R: Wait, A: Allocator + Copy>(
-    rt: &R,
-    hall: &Hall<H, A>,
-    seat: &Seat<H, A>,
-    patron: &'static [u8],
-) -> Option<Seen> {
-    let mut glance = Glance { patron, seen: None };
-    hall.look_from(rt, seat, &mut glance).ok()?;
-    glance.seen
 }
 
 /// What a journal shows of a patron.

@@ -1,7 +1,8 @@
 //! Rows of two seats at a hall.
 
+use crate::wishes::{Names, ONE};
+
 /// A row: what the first seat asks, then what the second asks, and how the two are handed in.
-#[derive(Clone, Copy)]
 pub(crate) struct Row {
     /// As it is printed.
     pub(crate) name: &'static str,
@@ -12,11 +13,10 @@ pub(crate) struct Row {
     pub(crate) survivors: usize,
 }
 
-/// A hold of any copy of `ta`, to be fetched at `north`, and what comes of it.
+/// A hold, and what comes of it.
 #[derive(Clone, Copy)]
 pub(crate) struct Step {
-    pub(crate) terminal: &'static [u8],
-    pub(crate) patron: &'static [u8],
+    pub(crate) names: Names,
     /// The message's line, where it carries a sequence digit.
     pub(crate) line: Option<&'static [u8]>,
     pub(crate) told: Told,
@@ -44,17 +44,22 @@ pub(crate) enum Closing {
     SecondAlone,
 }
 
+/// The second terminal for the second patron, about the same title.
+pub(crate) const OTHER: Names = Names {
+    terminal: b"t2",
+    patron: b"p2",
+    ..ONE
+};
+
 /// Each patron's hold is accepted.
 const HELD_BY_1: Step = Step {
-    terminal: b"t1",
-    patron: b"p1",
+    names: ONE,
     line: None,
     told: Told::Number(1),
 };
 
 const HELD_BY_2: Step = Step {
-    terminal: b"t2",
-    patron: b"p2",
+    names: OTHER,
     line: None,
     told: Told::Number(2),
 };

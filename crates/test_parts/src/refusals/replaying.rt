@@ -10,20 +10,15 @@ use test_kit::{NOW, Refusing, catalogue};
 /// there were. None where it doesn't end well with all that is written without a refusal or, where a request
 /// is refused, as out of memory and with a beginning of that.
 pub(crate) fn replay_row(rt: &HostRuntime, row: &Row, passed: u64) -> Option<u64> {
-    let input = replay_lines(rt.alloc(), row.messages).ok()?;
-    let whole = replay_lines(rt.alloc(), row.replies).ok()?;
-    replay_text(rt, input.as_slice(), whole.as_slice(), passed)
-}
-
-/// The same with the row's lines as `replay` is given them, and all that it writes.
-fn replay_text(rt: &HostRuntime, input: &[u8], whole: &[u8], passed: u64) -> Option<u64> {
+    let input = replay_lines(rt.alloc(), row.messages);
+    let whole = replay_lines(rt.alloc(), row.replies);
     let memory = Refusing::after(rt.alloc(), passed);
     let mut written = Vec::new(rt.alloc());
-    let end = end_of(rt, &memory, input, &mut written);
+    let end = end_of(rt, &memory, input.as_slice(), &mut written);
     let requests = memory.requests();
     let is_well = match end {
-        Ok(()) => requests <= passed && written.as_slice() == whole,
-        Err(fault) => requests > passed && is_borne(fault, written.as_slice(), whole),
+        Ok(()) => requests <= passed && written.as_slice() == whole.as_slice(),
+        Err(fault) => requests > passed && is_borne(fault, written.as_slice(), whole.as_slice()),
     };
     is_well.then_some(requests)
 }

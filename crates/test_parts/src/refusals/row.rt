@@ -1,6 +1,6 @@
 //! Rows of messages of one session, and the replies to them.
 use crate::attending::lines::{LINES, REPLIES, is_return};
-use std::alloc::{AllocError, Global};
+use std::alloc::Global;
 
 /// A row of messages of one session.
 #[derive(Clone, Copy)]
@@ -33,15 +33,16 @@ pub(crate) fn split_behind(text: &[u8], number: usize) -> (&[u8], &[u8]) {
     text.split_at(length.min(text.len()))
 }
 
-/// Messages as `replay` is given them, or replies as it writes them: each a line of session 1.
-pub(crate) fn replay_lines(alloc: Global, text: &[u8]) -> Result<Vec<u8>, AllocError> {
+/// Messages as `replay` is given them, or replies as it writes them: each a line of session 1. For want of
+/// memory they lack bytes, and nothing goes as it is to.
+pub(crate) fn replay_lines(alloc: Global, text: &[u8]) -> Vec<u8> {
     let mut lines = Vec::new(alloc);
     for line in text.split_inclusive(is_return) {
-        lines.extend_from_slice(b"1 ")?;
-        lines.extend_from_slice(line.strip_suffix(b"\r").unwrap_or(b""))?;
-        lines.push(b'\n')?;
+        let _ = lines.extend_from_slice(b"1 ");
+        let _ = lines.extend_from_slice(line.strip_suffix(b"\r").unwrap_or(b""));
+        let _ = lines.push(b'\n');
     }
-    Ok(lines)
+    lines
 }
 
 /// A hold, its cancellation, and where its copy is.

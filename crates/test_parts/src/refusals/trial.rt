@@ -5,7 +5,6 @@ use crate::refusals::opening::{open_desk, read_catalogue};
 use crate::refusals::replaying::replay_row;
 use crate::refusals::row::Row;
 use std::sync::Wait;
-use test_kit::Refusing;
 
 /// How many runs a trial has at most: more requests than any of them makes.
 const MOST: u64 = 100_000;
@@ -46,19 +45,7 @@ impl Trial {
             Trial::Desk => open_desk(rt, passed),
             Trial::Replay(row) => replay_row(rt, row, passed),
             Trial::Session(row) => hear_row(rt, row, passed),
-            Trial::Hall(trial) => requests_of_a_hall(rt, waits, trial, passed),
+            Trial::Hall(trial) => try_hall(waits, rt, trial, passed),
         }
     }
-}
-
-/// Tries this at a hall: how many requests there were.
-fn requests_of_a_hall<R: Wait>(
-    rt: &HostRuntime,
-    waits: &R,
-    trial: HallTrial,
-    passed: u64,
-) -> Option<u64> {
-    let memory = Refusing::after(rt.alloc(), u64::MAX);
-    let tried = try_hall(waits, rt, &memory, trial, passed)?;
-    Some(tried.requests)
 }

@@ -1,7 +1,7 @@
 //! Reads and writes that fail or are interrupted, each in turn.
-use crate::replaying::{read_from, write_to};
-use hd_replay::ReplayFault;
-use test_kit::{FailingReader, FailingWriter, Fault};
+use crate::replaying::write_to;
+use hd_replay::{ReplayFault, replay};
+use test_kit::{FailingReader, FailingWriter, Fault, NOW, catalogue};
 
 /// Lines of two sessions, the last of which nothing ends.
 const INPUT: &[u8] = b"1 9300CNt1|COpw|
@@ -32,16 +32,60 @@ const GIVEN: usize = 7;
 /// How many bytes a writer of few bytes takes at a call.
 const TAKEN: usize = 5;
 
-/// What is written, and how it ends, where these reads fail.
-fn replayed_reading(rt: &HostRuntime, fault: Fault) -> (Vec<u8>, Result<(), ReplayFault>) {
-    read_from(rt, &mut FailingReader::new(input(), GIVEN, fault))
+/// Which calls fail.
+#[derive(Clone, Copy)]
+pub(crate) enum Side {
+    Reads,
+    Writes,
 }
 
-/// What is written, and how it ends, where these writes fail.
-fn replayed_writing(rt: &HostRuntime, fault: Fault) -> (FailingWriter, Result<(), ReplayFault>) {
-    let mut to = FailingWriter::in_pieces(TAKEN, fault);
-    let end = write_to(rt, input(), &mut to);
-    (to, end)
+impl Side {
+    /// How many calls there are where none fails. Reads come to the end of the input: those that give bytes,
+    /// and one that gives none. Writes take all that is answered; the reply to the last line is written after
+    /// the read that gives nothing.
+    fn calls(self) -> usize {
+        match self {
+            Side::Reads => input().len().div_ceil(GIVEN).saturating_add(1),
+            Side::Writes => {
+                let first = answered_among(input().len()).len();
+                let last = answered().len().saturating_sub(first);
+                first.div_ceil(TAKEN).saturating_add(last.div_ceil(TAKEN))
+            }
+        }
+    }
+
+    /// What is told of a call that fails.
+    fn fault(self) -> ReplayFault {
+        match self {
+            Side::Reads => ReplayFault::Read,
+            Side::Writes => ReplayFault::Write,
+        }
+    }
+
+    /// What is written, and how it ends, where the calls of this side fail.
+    fn replayed(self, rt: &HostRuntime, fault: Fault) -> (FailingWriter, Result<(), ReplayFault>) {
+        let (reads, writes) = match self {
+            Side::Reads => (fault, Fault::None),
+            Side::Writes => (Fault::None, fault),
+        };
+        let mut from = FailingReader::new(input(), GIVEN, reads);
+        let mut to = FailingWriter::in_pieces(TAKEN, writes);
+        let end = replay(rt, catalogue(), NOW, &mut from, &mut to);
+        (to, end)
+    }
+
+    /// Whether so much is written up to a call that failed: the replies to the lines that were given before
+    /// the read, or a beginning of the replies, as many bytes as so many writes can take.
+    fn is_written(self, written: &[u8], call: usize) -> bool {
+        match self {
+            Side::Reads => written == answered_among(call.saturating_mul(GIVEN)),
+            Side::Writes => {
+                answered().starts_with(written)
+                    && call <= written.len()
+                    && written.len() <= call.saturating_mul(TAKEN)
+            }
+        }
+    }
 }
 
 /// The replies to the lines that end among the first so many bytes of the input.
@@ -56,44 +100,15 @@ pub(crate) fn answered_among(bytes: usize) -> &'static [u8] {
     answered.get(..length).unwrap_or(answered)
 }
 
-/// How many reads come to the end of the input: those that give bytes, and one that gives none.
-fn reads() -> usize {
-    input().len().div_ceil(GIVEN).saturating_add(1)
-}
-
-/// How many writes take all that is answered. The reply to the last line is written after the read that gives
-/// nothing.
-fn writes() -> usize {
-    let first = answered_among(input().len());
-    let last = answered().get(first.len()..).unwrap_or(b"");
-    first
-        .len()
-        .div_ceil(TAKEN)
-        .saturating_add(last.len().div_ceil(TAKEN))
-}
-
-/// Whether each read that fails is told, with the replies to the lines that were given before.
-pub(crate) fn is_each_read_told(rt: &HostRuntime) -> bool {
-    for call in 0..reads() {
-        let (out, end) = replayed_reading(rt, Fault::FailsAt(call));
-        let given = call.saturating_mul(GIVEN);
-        if !(end == Err(ReplayFault::Read) && out.as_slice() == answered_among(given)) {
+/// Whether each call that fails is told, with what was written before it; and one behind the last isn't made.
+pub(crate) fn is_each_fault_told(rt: &HostRuntime, side: Side) -> bool {
+    for call in 0..side.calls() {
+        let (to, end) = side.replayed(rt, Fault::FailsAt(call));
+        if !(end == Err(side.fault()) && side.is_written(to.bytes(), call)) {
             return false;
         }
     }
-    let (out, end) = replayed_reading(rt, Fault::FailsAt(reads()));
-    end == Ok(()) && out.as_slice() == answered()
-}
-
-/// Whether each write that fails is told, with a beginning of the replies written.
-pub(crate) fn is_each_write_told(rt: &HostRuntime) -> bool {
-    for call in 0..writes() {
-        let (to, end) = replayed_writing(rt, Fault::FailsAt(call));
-        if !(end == Err(ReplayFault::Write) && is_beginning(to.bytes(), call)) {
-            return false;
-        }
-    }
-    let (to, end) = replayed_writing(rt, Fault::FailsAt(writes()));
+    let (to, end) = side.replayed(rt, Fault::FailsAt(side.calls()));
     end == Ok(()) && to.bytes() == answered()
 }
 
@@ -104,39 +119,15 @@ pub(crate) fn is_full_writer_told(rt: &HostRuntime) -> bool {
     end == Err(ReplayFault::Write) && to.bytes().is_empty()
 }
 
-/// Whether these are the first bytes of the replies, as many as so many writes can take.
-fn is_beginning(written: &[u8], writes: usize) -> bool {
-    answered().starts_with(written)
-        && writes <= written.len()
-        && written.len() <= writes.saturating_mul(TAKEN)
-}
-
 /// Whether each call that is interrupted 16 times in a row goes on as if nothing was, and one that is
 /// interrupted 17 times is reported as failed.
-pub(crate) fn is_each_interruption_borne(rt: &HostRuntime) -> bool {
-    for call in 0..reads() {
-        if !is_interrupted_read_told(rt, call) {
-            return false;
-        }
-    }
-    for call in 0..writes() {
-        if !is_interrupted_write_told(rt, call) {
+pub(crate) fn are_interruptions_borne(rt: &HostRuntime, side: Side) -> bool {
+    for call in 0..side.calls() {
+        let (to, end) = side.replayed(rt, Fault::InterruptedAt { call, times: 16 });
+        let (_, told) = side.replayed(rt, Fault::InterruptedAt { call, times: 17 });
+        if !(end == Ok(()) && to.bytes() == answered() && told == Err(side.fault())) {
             return false;
         }
     }
     true
-}
-
-/// Whether an interrupted read is borne 16 times in a row, and no more.
-fn is_interrupted_read_told(rt: &HostRuntime, call: usize) -> bool {
-    let (out, end) = replayed_reading(rt, Fault::InterruptedAt { call, times: 16 });
-    let (_, told) = replayed_reading(rt, Fault::InterruptedAt { call, times: 17 });
-    end == Ok(()) && out.as_slice() == answered() && told == Err(ReplayFault::Read)
-}
-
-/// Whether an interrupted write is borne 16 times in a row, and no more.
-fn is_interrupted_write_told(rt: &HostRuntime, call: usize) -> bool {
-    let (to, end) = replayed_writing(rt, Fault::InterruptedAt { call, times: 16 });
-    let (_, told) = replayed_writing(rt, Fault::InterruptedAt { call, times: 17 });
-    end == Ok(()) && to.bytes() == answered() && told == Err(ReplayFault::Write)
 }

@@ -3,8 +3,10 @@
 ghost use Rattle.std.specs.Prelude.{◌≡◌, ◌≤◌, []};
 
 use crate::library::new_journal;
+use crate::serving::full_disk::FullDisk;
 use crate::serving::terminal::Terminal;
 use hd_hall::CataloguedKeeper;
+use hd_journal::WriteFault;
 use hd_serve::{Gate, ServeFault};
 use hd_server::{Beyond, Options, ServerFault, Summary};
 use std::alloc::Global;
@@ -90,7 +92,7 @@ pub(crate) fn play<R: Threads + Wait + Clock + Sync, W: Row>(
 }
 
 /// The same from whatever keeps a journal without turns: what comes back.
-pub(crate) fn play_kept<
+fn play_kept<
     R: Threads + Wait + Clock + Sync,
     W: Row,
     Q: Drop + Send,
@@ -119,6 +121,27 @@ pub(crate) fn play_kept<
         { hd_serve::serve(rt, alloc, listener, keeper, &options, row) },
         || row.play(terminals),
     )
+}
+
+/// Serves so many terminals from a desk that can write one turn, while they play the row: whether the server
+/// says that the journal can't be written, and why, and all went as it is to.
+pub(crate) fn is_unwritten_told<R: Threads + Wait + Clock + Sync, W: Row>(
+    rt: &R,
+    host: &HostRuntime,
+    terminals: u32,
+    scale: Scale,
+    row: &W,
+) -> Option<bool>
+    requires workers { (1 ≤ scale.workers) × (scale.workers ≤ 64) }
+{
+    let opened = open(host, terminals)?;
+    let keeper = FullDisk::new(new_journal(host, host.alloc())?, 1);
+    let (ended, is_played) = play_kept(rt, host.alloc(), opened, keeper, scale, row);
+    let is_told = match ended {
+        Err(fault) => fault == ServeFault::Unwritten(WriteFault::DiskFull),
+        Ok(_) => false,
+    };
+    Some(is_played && is_told)
 }
 
 /// How terminals are to be served at this scale.

@@ -74,16 +74,13 @@ impl Terminal {
         self.stream.set_nonblocking(true).is_ok()
     }
 
-    /// Adds the bytes that have come to some. None where the connection ended or failed, or for want of
-    /// memory.
-    pub(crate) fn overhears(&self, heard: &mut Vec<u8>) -> Option<()> {
+    /// Adds the bytes that have come to some. Whether the connection goes on, and there is memory.
+    pub(crate) fn overhears(&self, heard: &mut Vec<u8>) -> bool {
         let mut piece = [0u8; GLANCE];
         let mut reader = &self.stream;
         match reader.read(&mut piece) {
-            Ok(0) => None,
-            Ok(count) => heard.extend_from_slice(&piece[..count]).ok(),
-            Err(error) if error.kind() == ErrorKind::WouldBlock => Some(()),
-            Err(_) => None,
+            Ok(count) => count > 0 && heard.extend_from_slice(&piece[..count]).is_ok(),
+            Err(error) => error.kind() == ErrorKind::WouldBlock,
         }
     }
 }

@@ -62,19 +62,20 @@ impl<'a> Meeting<'a> {
         }
     }
 
-    /// Listens to both until their holds are answered, in turns that sleep. None where they aren't in time.
-    fn listen(&self, first: &mut Listening, second: &mut Listening) -> Option<()> {
+    /// Listens to both until their holds are answered, in turns that sleep. Whether they are in time.
+    fn listen(&self, first: &mut Listening, second: &mut Listening) -> bool {
         for _ in 0..self.turns {
-            first.listen()?;
-            second.listen()?;
+            if !(first.listen() && second.listen()) {
+                return false;
+            }
             self.note(1, first);
             self.note(2, second);
             if first.is_whole() && second.is_whole() {
-                return Some(());
+                return true;
             }
             nap(self.host);
         }
-        None
+        false
     }
 
     /// Tells the gate where this session is the other one, and its hold has been answered.
@@ -95,24 +96,22 @@ impl<'a> Meeting<'a> {
 }
 
 impl Listening {
-    /// A terminal that logs in and holds. None where it can't.
-    fn new(alloc: Global, terminal: Terminal, login: &[u8], hold: &[u8]) -> Option<Listening> {
-        if terminal.says(login) && terminal.says(hold) && terminal.is_hasty() {
-            Some(Listening {
-                terminal,
-                heard: Vec::new(alloc),
-            })
-        } else {
-            None
+    /// A terminal that has heard nothing.
+    fn new(alloc: Global, terminal: Terminal) -> Listening {
+        Listening {
+            terminal,
+            heard: Vec::new(alloc),
         }
     }
 
-    /// Hears what has come. None where the connection ended.
-    fn listen(&mut self) -> Option<()> {
-        if self.is_whole() {
-            return Some(());
-        }
-        self.terminal.overhears(&mut self.heard)
+    /// Logs in and holds. Whether it could.
+    fn says(&self, login: &[u8], hold: &[u8]) -> bool {
+        self.terminal.says(login) && self.terminal.says(hold) && self.terminal.is_hasty()
+    }
+
+    /// Hears what has come. Whether the connection goes on.
+    fn listen(&mut self) -> bool {
+        self.is_whole() || self.terminal.overhears(&mut self.heard)
     }
 
     /// Whether its login and its hold are answered. All replies to holds are equally long here.
@@ -143,20 +142,17 @@ impl<'a> Gate for Meeting<'a> {
 }
 
 impl<'a> Row for Meeting<'a> {
-    fn play(&self, terminals: Vec<Terminal>) -> bool {
-        self.meet(terminals) == Some(true)
-    }
-}
-
-impl<'a> Meeting<'a> {
     /// Both hold, and stay until both are answered.
-    fn meet(&self, terminals: Vec<Terminal>) -> Option<bool> {
-        let alloc = self.host.alloc();
-        let (first, second) = two(terminals)?;
-        let mut first = Listening::new(alloc, first, LOGIN_1, HOLD_1)?;
-        let mut second = Listening::new(alloc, second, LOGIN_2, HOLD_2)?;
-        self.listen(&mut first, &mut second)?;
-        Some(self.are_told(&first, &second))
+    fn play(&self, terminals: Vec<Terminal>) -> bool {
+        let Some((first, second)) = two(terminals) else {
+            return false;
+        };
+        let mut first = Listening::new(self.host.alloc(), first);
+        let mut second = Listening::new(self.host.alloc(), second);
+        first.says(LOGIN_1, HOLD_1)
+            && second.says(LOGIN_2, HOLD_2)
+            && self.listen(&mut first, &mut second)
+            && self.are_told(&first, &second)
     }
 }
 

@@ -1,14 +1,11 @@
 //! A reply that can't be written, and the line sent again on another connection; and one before a turn that
 //! can't be written either.
 
-use crate::library::new_journal;
-use crate::serving::full_disk::FullDisk;
 use crate::serving::lines::{LOGGED_IN, LOGIN_1};
-use crate::serving::server::{Row, Scale, is_well, one, open, play, play_kept, two};
+use crate::serving::server::{Row, Scale, is_unwritten_told, is_well, one, open, play, two};
 use crate::serving::terminal::Terminal;
 use crate::serving::waiting::{TURNS, has_unread_in_time, is_up_within};
-use hd_journal::WriteFault;
-use hd_serve::{Gate, ServeFault};
+use hd_serve::Gate;
 use std::sync::Wait;
 use std::sync::atomic::{AtomicBool, Ordering};
 use std::thread::Threads;
@@ -117,18 +114,10 @@ pub(crate) fn goes_at_a_full_disk<R: Threads + Wait + Clock + Sync>(
     rt: &R,
     host: &HostRuntime,
 ) -> Option<bool> {
-    let opened = open(host, 1)?;
     let scale = Scale {
         workers: 1,
         connections: 1,
         idle: 0,
     };
-    let keeper = FullDisk::new(new_journal(host, host.alloc())?, 1);
-    let row = BrokenBetween(Broken::new(host));
-    let (ended, is_played) = play_kept(rt, host.alloc(), opened, keeper, scale, &row);
-    let is_told = match ended {
-        Err(fault) => fault == ServeFault::Unwritten(WriteFault::DiskFull),
-        Ok(_) => false,
-    };
-    Some(is_played && is_told)
+    is_unwritten_told(rt, host, 1, scale, &BrokenBetween(Broken::new(host)))
 }

@@ -1,12 +1,9 @@
 //! A turn that can't be written.
 
-use crate::library::new_journal;
-use crate::serving::full_disk::FullDisk;
 use crate::serving::lines::{HELD_1_FIRST, HOLD_1, HOLD_2, LOGGED_IN, LOGIN_1, LOGIN_2};
-use crate::serving::server::{Row, Scale, open, play_kept, two};
+use crate::serving::server::{Row, Scale, is_unwritten_told, two};
 use crate::serving::terminal::Terminal;
-use hd_journal::WriteFault;
-use hd_serve::{Gate, ServeFault};
+use hd_serve::Gate;
 use std::sync::Wait;
 use std::thread::Threads;
 use std::time::Clock;
@@ -39,37 +36,18 @@ fn are_left(first: &Terminal, second: &Terminal) -> bool {
         && second.is_left()
 }
 
-/// The session ends without a reply, and so does every other, and the server, which would serve for ever,
-/// says that the journal can't be written, and why.
-pub(crate) fn goes<R: Threads + Wait + Clock + Sync>(rt: &R, host: &HostRuntime) -> Option<bool> {
-    is_told(rt, host, 0)
-}
-
-/// The same where the server has accepted all connections that it was to, and would end well.
-pub(crate) fn goes_behind_the_last<R: Threads + Wait + Clock + Sync>(
-    rt: &R,
-    host: &HostRuntime,
-) -> Option<bool> {
-    is_told(rt, host, 2)
-}
-
-/// Whether a server that is to accept so many connections says why the journal can't be written.
-fn is_told<R: Threads + Wait + Clock + Sync>(
+/// The session ends without a reply, and so does every other, and the server says that the journal can't be
+/// written, and why: where it would serve for ever, and also where it has accepted all connections that it was
+/// to, and would end well.
+pub(crate) fn goes<R: Threads + Wait + Clock + Sync>(
     rt: &R,
     host: &HostRuntime,
     connections: u32,
 ) -> Option<bool> {
-    let opened = open(host, 2)?;
     let scale = Scale {
         workers: 2,
         connections,
         idle: 0,
     };
-    let keeper = FullDisk::new(new_journal(host, host.alloc())?, 1);
-    let (ended, is_played) = play_kept(rt, host.alloc(), opened, keeper, scale, &Unwritten);
-    let is_told = match ended {
-        Err(fault) => fault == ServeFault::Unwritten(WriteFault::DiskFull),
-        Ok(_) => false,
-    };
-    Some(is_played && is_told)
+    is_unwritten_told(rt, host, 2, scale, &Unwritten)
 }

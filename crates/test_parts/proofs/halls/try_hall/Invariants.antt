@@ -1,5 +1,5 @@
 use Rattle.hd_journal.specs.Openings.{fresh}
-use Rattle.test_parts.proofs.halls.try_picked.Given as goal
+use Rattle.test_parts.proofs.halls.try_hall.Given as goal
 
 abbrev pub ghosts-try_at-H-House : goal.ghosts-try_at-H-House
 ghosts-try_at-H-House g a = record { opening = fresh a.journal.contents }

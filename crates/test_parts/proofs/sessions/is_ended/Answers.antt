@@ -1,7 +1,7 @@
 use Rattle.std.proofs.Common.{rules, subst, sym}
 use Rattle.hd_journal.specs.Offices.{Keeps}
 use Rattle.hd_session.specs.States.{IsKnownTo}
-use Rattle.test_parts.proofs.sessions.hear.Goals as goal
+use Rattle.test_parts.proofs.sessions.is_ended.Goals as goal
 
 pub feed-requires-2 : goal.feed-requires-2
 feed-requires-2 c =
