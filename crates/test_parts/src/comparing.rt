@@ -31,29 +31,34 @@ pub(crate) fn have_same_turns<A: Allocator + Copy, B: Allocator + Copy>(
     seats: Seats,
 ) -> bool {
     for at in 1..=one.front() {
-        if !is_same_turn(one.turn_at(at), other.turn_at(at), seats) {
+        if !is_same_turn(one, at, other, at, seats) {
             return false;
         }
     }
     one.front() == other.front()
 }
 
-/// Whether there are two turns, and they are the same, of such seats.
-pub(crate) fn is_same_turn(
-    one: Option<TurnRef<'_>>,
-    other: Option<TurnRef<'_>>,
+/// Whether the turn of a number in one journal is that of a number in another, of such seats.
+pub(crate) fn is_same_turn<A: Allocator + Copy, B: Allocator + Copy>(
+    one: &Journal<A>,
+    at: usize,
+    other: &Journal<B>,
+    number: usize,
     seats: Seats,
 ) -> bool {
-    match (one, other) {
-        (Some(turn), Some(twin)) => {
-            (matches!(seats, Seats::Any) || turn.seat == twin.seat)
-                && turn.terminal == twin.terminal
-                && turn.line == twin.line
-                && same_asked(&turn.asked, &twin.asked)
-                && same_turn_reply(&turn.reply, &twin.reply)
-        }
+    match (one.turn_at(at), other.turn_at(number)) {
+        (Some(turn), Some(twin)) => are_same_turns(&turn, &twin, seats),
         _ => false,
     }
+}
+
+/// Whether two turns are the same, of such seats.
+fn are_same_turns(one: &TurnRef<'_>, other: &TurnRef<'_>, seats: Seats) -> bool {
+    (matches!(seats, Seats::Any) || one.seat == other.seat)
+        && one.terminal == other.terminal
+        && one.line == other.line
+        && same_asked(&one.asked, &other.asked)
+        && same_turn_reply(&one.reply, &other.reply)
 }
 
 /// Whether two journals have the same records under the same numbers, and no others.
@@ -62,25 +67,25 @@ fn have_same_records<A: Allocator + Copy, B: Allocator + Copy>(
     other: &Journal<B>,
 ) -> bool {
     for number in 1..=one.last() {
-        if !is_same_record(one.record(number), other.record(number)) {
-            return false;
+        match (one.record(number), other.record(number)) {
+            (Some(record), Some(twin)) => {
+                if !is_same_record(&record, &twin) {
+                    return false;
+                }
+            }
+            (None, None) => {}
+            _ => return false,
         }
     }
     one.last() == other.last()
 }
 
-/// Whether two records are the same, or there is neither.
-fn is_same_record(one: Option<RecordRef<'_>>, other: Option<RecordRef<'_>>) -> bool {
-    match (one, other) {
-        (Some(record), Some(twin)) => {
-            record.survivor == twin.survivor
-                && record.reply == twin.reply
-                && record.findings == twin.findings
-                && record.changes == twin.changes
-        }
-        (None, None) => true,
-        _ => false,
-    }
+/// Whether two records are the same.
+fn is_same_record(one: &RecordRef<'_>, other: &RecordRef<'_>) -> bool {
+    one.survivor == other.survivor
+        && one.reply == other.reply
+        && one.findings == other.findings
+        && one.changes == other.changes
 }
 
 /// Whether two desks of the library have, and show, the same of each copy, and the same holds.

@@ -59,8 +59,7 @@ impl Whole {
             let Some(number) = numbers.get(at - 1) else {
                 return false;
             };
-            let whole = self.journal.turn_at(*number);
-            if !is_same_turn(journal.turn_at(at), whole, Seats::Same) {
+            if !is_same_turn(journal, at, &self.journal, *number, Seats::Same) {
                 return false;
             }
         }
