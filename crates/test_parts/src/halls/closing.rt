@@ -54,16 +54,45 @@ pub(crate) fn close<H: House, A: Allocator + Copy>(
     let _ = add(&mut seats, first);
     match closing {
         Closing::InOrder | Closing::OutOfOrder => close_with(hall, seats, last),
-        Closing::FirstAlone | Closing::SecondAlone => match hall.close(seats) {
-            Err(
-                NotClosed::SeatMissing {
-                    hall,
-                    seats,
-                    opened: 2,
-                },
-            ) => close_with(hall, seats, last),
-            _ => None,
-        },
+        Closing::FirstAlone | Closing::SecondAlone => close_behind(hall, seats, last),
+    }
+}
+
+/// Closes a hall with one seat alone, which is told that the other is missing, and then with both.
+fn close_behind<H: House, A: Allocator + Copy>(
+    hall: Hall<H, A>,
+    seats: Vec<Seat<H, A>, A>,
+    last: Seat<H, A>,
+) -> Option<Journal<A>>
+    requires parts { H.parts ≡ 4294967296 }
+    requires seats { EachSeat seats.items (λ s. s.parts ≡ 1) }
+    requires last { last.parts ≡ 1 }
+{
+    match one_is_missing(hall, seats) {
+        Some((hall, seats)) => close_with(hall, seats, last),
+        None => None,
+    }
+}
+
+/// Hands in one seat of two: the hall that isn't closed, and the seat as it was. None where it is told
+/// otherwise.
+fn one_is_missing<H: House, A: Allocator + Copy>(
+    hall: Hall<H, A>,
+    seats: Vec<Seat<H, A>, A>,
+) -> Option<(Hall<H, A>, Vec<Seat<H, A>, A>)>
+    requires parts { H.parts ≡ 4294967296 }
+    requires seats { EachSeat seats.items (λ s. s.parts ≡ 1) }
+    ensures { IfSome result (λ back. back.1.items ≡ seats.items) }
+{
+    match hall.close(seats) {
+        Err(
+            NotClosed::SeatMissing {
+                hall,
+                seats,
+                opened: 2,
+            },
+        ) => Some((hall, seats)),
+        _ => None,
     }
 }
 
