@@ -4,7 +4,6 @@
 //! two threads, a seat each, hold and cancel 200 times. After each, every copy and every hold is compared
 //! with a fresh desk to which the survivors came. Last, patrons are looked at beside two threads that write.
 ghost use Rattle.std.specs.Prelude.{◌≡◌, []};
-ghost use Rattle.hd_journal.specs.Openings.{fresh};
 
 mod asking;
 mod clash;
@@ -15,13 +14,13 @@ mod looks;
 pub(crate) mod row;
 
 use crate::halls::asking::ask_both;
-use crate::halls::clash::is_clash_well;
+use crate::halls::clash::two_terminals_clash;
 use crate::halls::closing::{close, put_in_order, seats};
 use crate::halls::freshness::is_as_fresh;
-use crate::halls::looks::are_looks_well;
+use crate::halls::looks::look_beside;
 use crate::halls::row::{Row, rows};
 use crate::library::new_journal;
-use hd_hall::{Hall, House};
+use hd_hall::{CataloguedKeeper, Hall, House, Keeper};
 use hd_journal::Journal;
 use std::alloc::{Allocator, Global};
 use std::io;
@@ -40,58 +39,81 @@ pub(crate) enum HallTrial {
     Row(&'static Row),
 }
 
-/// What two threads do at a hall.
-#[derive(Clone, Copy)]
-enum Beside {
-    /// Each holds and cancels.
-    Clash,
-    /// The one writes, at two seats, and the other looks.
-    Looks,
-}
-
 /// Plays each row, and says whether it went as it is to. The threads are started by a handle of its own.
 pub(crate) fn play<R: Threads + Wait + Sync>(rt: &R, host: &HostRuntime) -> io::Result<()> {
     for row in rows() {
         let requests = try_hall(rt, host, HallTrial::Row(row), u64::MAX);
         tell(host, row.name, requests.is_some())?;
     }
-    let is_well = is_well_beside(rt, host, Beside::Clash);
-    tell(host, "two terminals clash", is_well)?;
-    let is_well = is_well_beside(rt, host, Beside::Looks);
-    tell(host, "looks beside two terminals that write", is_well)
+    tell(host, "two terminals clash", is_clash_well(rt, host))?;
+    let name = "looks beside two terminals that write";
+    tell(host, name, are_looks_well(rt, host))
 }
 
-/// Whether what two threads do at a new hall goes as it is to.
-fn is_well_beside<R: Threads + Wait + Sync>(rt: &R, host: &HostRuntime, what: Beside) -> bool {
+/// Whether two threads make 200 turns, and leave the journal as a fresh desk would be after its survivors.
+fn is_clash_well<R: Threads + Wait + Sync>(rt: &R, host: &HostRuntime) -> bool {
+    let Some(journal) = new_journal(host, host.alloc()) else {
+        return false;
+    };
+    let blank = Blank::new(4_294_967_296);
+    match clash_at::<Brand, R, _, _>(rt, host.alloc(), journal, blank) {
+        Some(journal) => journal.front() == 200 && is_as_fresh(host, host.alloc(), &journal),
+        None => false,
+    }
+}
+
+/// The keeper of a hall of this house at which two terminals clash.
+fn clash_at<
+    H: House + Send + Sync,
+    R: Threads + Wait + Sync,
+    Q: Drop + Send,
+    K: CataloguedKeeper<Global, Q> + Drop + Send,
+>(rt: &R, alloc: Global, keeper: K, blank: Blank) -> Option<K>
+    requires turns { K.turns keeper ≡ [] }
+    requires opening { K.opening keeper ≡ H.opening }
+    requires name { blank.name ≡ H.name }
+    requires parts { (blank.parts ≡ H.parts) × (H.parts ≡ 4294967296) }
+{
+    match Hall::<H, Global, Q, K>::new(alloc, keeper, blank) {
+        Ok(hall) => two_terminals_clash(rt, alloc, hall),
+        Err(_) => None,
+    }
+}
+
+/// Whether all looks see what they are to beside two terminals that write.
+fn are_looks_well<R: Threads + Wait + Sync>(rt: &R, host: &HostRuntime) -> bool {
     match new_journal(host, host.alloc()) {
         Some(journal) => {
             let blank = Blank::new(4_294_967_296);
-            is_well_at::<Brand, R>(rt, host, journal, blank, what)
+            looks_at::<Brand, R, _, _>(rt, host.alloc(), journal, blank)
         }
         None => false,
     }
 }
 
 /// The same at a hall of this house.
-fn is_well_at<H: House + Send + Sync, R: Threads + Wait + Sync>(
-    rt: &R,
-    host: &HostRuntime,
-    journal: Journal,
-    blank: Blank,
-    what: Beside,
-) -> bool
-    requires journal { journal.turns ≡ [] }
-    requires opening { fresh journal.contents ≡ H.opening }
+fn looks_at<
+    H: House + Send + Sync,
+    R: Threads + Wait + Sync,
+    Q: Drop + Send,
+    K: CataloguedKeeper<Global, Q> + Drop + Send,
+>(rt: &R, alloc: Global, keeper: K, blank: Blank) -> bool
+    requires turns { K.turns keeper ≡ [] }
+    requires opening { K.opening keeper ≡ H.opening }
     requires name { blank.name ≡ H.name }
     requires parts { (blank.parts ≡ H.parts) × (H.parts ≡ 4294967296) }
 {
-    match Hall::<H>::new(host.alloc(), journal, blank) {
-        Ok(hall) => match what {
-            Beside::Clash => is_clash_well(rt, host, hall),
-            Beside::Looks => are_looks_well(rt, &hall),
-        },
+    match Hall::<H, Global, Q, K>::new(alloc, keeper, blank) {
+        Ok(hall) => look_beside(rt, &hall),
         Err(_) => false,
     }
+}
+
+/// What a trial came to: how many requests for memory there were, and what kept the journal of a hall that was
+/// closed.
+struct Tried<K> {
+    requests: u64,
+    keeper: Option<K>,
 }
 
 /// Tries this at a new hall, by a handle that waits, and refuses the request for memory before which so many
@@ -104,55 +126,81 @@ pub(crate) fn try_hall<R: Wait>(
     passed: u64,
 ) -> Option<u64> {
     let memory = Refusing::after(host.alloc(), u64::MAX);
-    match new_journal(host, &memory) {
-        Some(journal) => {
-            let blank = Blank::new(4_294_967_296);
-            try_at::<Brand, R, _>(rt, host, &memory, &memory, journal, blank, trial, passed)
-        }
-        None => None,
-    }
+    let journal = new_journal(host, &memory)?;
+    let blank = Blank::new(4_294_967_296);
+    let Tried { requests, keeper } = try_at::<Brand, R, _, _, _>(
+        rt, &memory, &memory, journal, blank, trial, passed,
+    )?;
+    let is_well = match (trial, &keeper) {
+        (HallTrial::New, None) => true,
+        (HallTrial::Row(row), Some(journal)) => is_left_by(host, &memory, journal, row),
+        _ => false,
+    };
+    is_well.then_some(requests)
 }
 
-/// The same at a hall of this house, round this journal over this memory.
-fn try_at<H: House, R: Wait, A: Allocator + Copy>(
+/// Whether a row's two turns and its survivors are a journal's, and it is as a fresh desk would be after them.
+fn is_left_by<A: Allocator + Copy>(
+    rt: &HostRuntime,
+    alloc: A,
+    journal: &Journal<A>,
+    row: &Row,
+) -> bool {
+    journal.front() == 2
+        && journal.survivors().count() == row.survivors
+        && is_as_fresh(rt, alloc, journal)
+}
+
+/// Tries this at a hall of this house over this memory.
+fn try_at<H: House, R: Wait, A: Allocator + Copy, Q: Drop, K: CataloguedKeeper<A, Q> + Drop>(
     rt: &R,
-    host: &HostRuntime,
     memory: &Refusing<Global>,
     alloc: A,
-    journal: Journal<A>,
+    keeper: K,
     blank: Blank,
     trial: HallTrial,
     passed: u64,
-) -> Option<u64>
-    requires journal { journal.turns ≡ [] }
-    requires opening { fresh journal.contents ≡ H.opening }
+) -> Option<Tried<K>>
+    requires turns { K.turns keeper ≡ [] }
+    requires opening { K.opening keeper ≡ H.opening }
     requires name { blank.name ≡ H.name }
     requires parts { (blank.parts ≡ H.parts) × (H.parts ≡ 4294967296) }
 {
     memory.refuse_after(passed);
-    let made = Hall::<H, A>::new(alloc, journal, blank);
+    let made = Hall::<H, A, Q, K>::new(alloc, keeper, blank);
     let requests = memory.requests();
     match made {
         Ok(hall) => match trial {
-            HallTrial::New => (requests <= passed).then_some(requests),
-            HallTrial::Row(row) => try_row(rt, host, memory, alloc, hall, row, passed),
+            HallTrial::New => not_closed(requests, requests <= passed),
+            HallTrial::Row(row) => try_row(rt, memory, alloc, hall, row, passed),
         },
-        Err(_) => (requests > passed).then_some(requests),
+        Err(_) => not_closed(requests, requests > passed),
+    }
+}
+
+/// So many requests, where all is well and no hall was closed.
+fn not_closed<K>(requests: u64, is_well: bool) -> Option<Tried<K>> {
+    if is_well {
+        Some(Tried {
+            requests,
+            keeper: None,
+        })
+    } else {
+        None
     }
 }
 
 /// Plays a row at a hall over this memory, and refuses the request for memory before which so many are passed
 /// on. None where the row goes otherwise, or where memory ran out at another time than when a request was
-/// refused, or the journal isn't as a fresh desk would be after the row's survivors.
-fn try_row<H: House, R: Wait, A: Allocator + Copy>(
+/// refused.
+fn try_row<H: House, R: Wait, A: Allocator + Copy, Q: Drop, K: Keeper<A, Q> + Drop>(
     rt: &R,
-    host: &HostRuntime,
     memory: &Refusing<Global>,
     alloc: A,
-    hall: Hall<H, A>,
+    hall: Hall<H, A, Q, K>,
     row: &Row,
     passed: u64,
-) -> Option<u64>
+) -> Option<Tried<K>>
     requires { H.parts ≡ 4294967296 }
 {
     let (mut one, mut two) = seats(rt, &hall)?;
@@ -161,13 +209,10 @@ fn try_row<H: House, R: Wait, A: Allocator + Copy>(
     let requests = memory.requests();
     memory.refuse_after(u64::MAX);
     put_in_order(&mut one, &mut two, row.closing);
-    let is_left = match close(alloc, hall, one, two, row.closing) {
-        Some(journal) => {
-            journal.front() == 2
-                && journal.survivors().count() == row.survivors
-                && is_as_fresh(host, alloc, &journal)
-        }
-        None => false,
-    };
-    (is_left && told == Some(requests > passed)).then_some(requests)
+    let keeper = close(alloc, hall, one, two, row.closing);
+    if told == Some(requests > passed) {
+        Some(Tried { requests, keeper })
+    } else {
+        None
+    }
 }

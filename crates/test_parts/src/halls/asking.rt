@@ -4,7 +4,7 @@ ghost use Rattle.test_kit.specs.Wishes.{IsOf};
 
 use crate::halls::row::{Row, Step, Told};
 use crate::wishes::{Deed, Names};
-use hd_hall::{Ask, Hall, HallFault, House, Seat};
+use hd_hall::{Ask, Hall, HallFault, House, Keeper, Seat};
 use hd_rules::{Refusal, TurnReply};
 use std::alloc::Allocator;
 use std::sync::Wait;
@@ -12,9 +12,9 @@ use test_kit::Wish;
 
 /// Asks what a row asks, from its two seats, and once more what is refused as out of memory: whether
 /// something was. None where a reply isn't the row's.
-pub(crate) fn ask_both<H: House, R: Wait, A: Allocator + Copy>(
+pub(crate) fn ask_both<H: House, R: Wait, A: Allocator + Copy, Q: Drop, K: Keeper<A, Q> + Drop>(
     rt: &R,
-    hall: &Hall<H, A>,
+    hall: &Hall<H, A, Q, K>,
     one: &mut Seat<H, A>,
     two: &mut Seat<H, A>,
     row: &Row,
@@ -31,9 +31,9 @@ pub(crate) fn ask_both<H: House, R: Wait, A: Allocator + Copy>(
 
 /// Asks for the hold of a step from a seat, and once more where that is refused as out of memory: whether it
 /// was. None where the reply isn't the step's, or the seat was changed by what was refused.
-fn step<H: House, R: Wait, A: Allocator + Copy>(
+fn step<H: House, R: Wait, A: Allocator + Copy, Q: Drop, K: Keeper<A, Q> + Drop>(
     rt: &R,
-    hall: &Hall<H, A>,
+    hall: &Hall<H, A, Q, K>,
     seat: &mut Seat<H, A>,
     step: &Step,
 ) -> Option<bool>
@@ -51,9 +51,9 @@ fn step<H: House, R: Wait, A: Allocator + Copy>(
 
 /// Asks this from a seat, with a line where it carries a sequence digit: the reply. None where the hall's
 /// catalogue lacks a name.
-pub(crate) fn ask<H: House, R: Wait, A: Allocator + Copy>(
+pub(crate) fn ask<H: House, R: Wait, A: Allocator + Copy, Q: Drop, K: Keeper<A, Q> + Drop>(
     rt: &R,
-    hall: &Hall<H, A>,
+    hall: &Hall<H, A, Q, K>,
     seat: &mut Seat<H, A>,
     names: &Names,
     deed: Deed,
@@ -67,9 +67,9 @@ pub(crate) fn ask<H: House, R: Wait, A: Allocator + Copy>(
 }
 
 /// The same by the numbers of the hall's catalogue.
-fn submit<H: House, R: Wait, A: Allocator + Copy>(
+fn submit<H: House, R: Wait, A: Allocator + Copy, Q: Drop, K: Keeper<A, Q> + Drop>(
     rt: &R,
-    hall: &Hall<H, A>,
+    hall: &Hall<H, A, Q, K>,
     seat: &mut Seat<H, A>,
     wish: &Wish,
     line: Option<&[u8]>,

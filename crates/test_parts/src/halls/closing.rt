@@ -3,16 +3,15 @@ ghost use Rattle.std.specs.Prelude.{◌≡◌, IfSome};
 ghost use Rattle.hd_hall.specs.Seats.{EachSeat};
 
 use crate::halls::row::Closing;
-use hd_hall::{Hall, House, NotClosed, Seat};
-use hd_journal::Journal;
+use hd_hall::{Hall, House, NotClosed, Seat, Turns};
 use std::alloc::{AllocError, Allocator};
 use std::mem;
 use std::sync::Wait;
 
 /// Opens two seats.
-pub(crate) fn seats<H: House, R: Wait, A: Allocator + Copy>(
+pub(crate) fn seats<H: House, R: Wait, A: Allocator + Copy, Q: Drop, K: Turns + Drop>(
     rt: &R,
-    hall: &Hall<H, A>,
+    hall: &Hall<H, A, Q, K>,
 ) -> Option<(Seat<H, A>, Seat<H, A>)>
     ensures { IfSome result (λ two. (two.0.parts ≡ 1) × (two.1.parts ≡ 1)) }
 {
@@ -37,15 +36,15 @@ pub(crate) fn put_in_order<H: House, A: Allocator + Copy>(
     }
 }
 
-/// Closes a hall with its two seats, which stand in the order in which they are handed in: the journal. None
+/// Closes a hall with its two seats, which stand in the order in which they are handed in: its keeper. None
 /// where that doesn't go as it is to, as where there is no memory to hand in both.
-pub(crate) fn close<H: House, A: Allocator + Copy>(
+pub(crate) fn close<H: House, A: Allocator + Copy, Q: Drop, K: Turns + Drop>(
     alloc: A,
-    hall: Hall<H, A>,
+    hall: Hall<H, A, Q, K>,
     first: Seat<H, A>,
     last: Seat<H, A>,
     closing: Closing,
-) -> Option<Journal<A>>
+) -> Option<K>
     requires parts { H.parts ≡ 4294967296 }
     requires first { first.parts ≡ 1 }
     requires last { last.parts ≡ 1 }
@@ -59,11 +58,11 @@ pub(crate) fn close<H: House, A: Allocator + Copy>(
 }
 
 /// Closes a hall with one seat alone, which is told that the other is missing, and then with both.
-fn close_behind<H: House, A: Allocator + Copy>(
-    hall: Hall<H, A>,
+fn close_behind<H: House, A: Allocator + Copy, Q: Drop, K: Turns + Drop>(
+    hall: Hall<H, A, Q, K>,
     seats: Vec<Seat<H, A>, A>,
     last: Seat<H, A>,
-) -> Option<Journal<A>>
+) -> Option<K>
     requires parts { H.parts ≡ 4294967296 }
     requires seats { EachSeat seats.items (λ s. s.parts ≡ 1) }
     requires last { last.parts ≡ 1 }
@@ -76,10 +75,10 @@ fn close_behind<H: House, A: Allocator + Copy>(
 
 /// Hands in one seat of two: the hall that isn't closed, and the seat as it was. None where it is told
 /// otherwise.
-fn one_is_missing<H: House, A: Allocator + Copy>(
-    hall: Hall<H, A>,
+fn one_is_missing<H: House, A: Allocator + Copy, Q: Drop, K: Turns + Drop>(
+    hall: Hall<H, A, Q, K>,
     seats: Vec<Seat<H, A>, A>,
-) -> Option<(Hall<H, A>, Vec<Seat<H, A>, A>)>
+) -> Option<(Hall<H, A, Q, K>, Vec<Seat<H, A>, A>)>
     requires parts { H.parts ≡ 4294967296 }
     requires seats { EachSeat seats.items (λ s. s.parts ≡ 1) }
     ensures { IfSome result (λ back. back.1.items ≡ seats.items) }
@@ -97,18 +96,18 @@ fn one_is_missing<H: House, A: Allocator + Copy>(
 }
 
 /// Closes a hall with these seats and one more.
-fn close_with<H: House, A: Allocator + Copy>(
-    hall: Hall<H, A>,
+fn close_with<H: House, A: Allocator + Copy, Q: Drop, K: Turns + Drop>(
+    hall: Hall<H, A, Q, K>,
     mut seats: Vec<Seat<H, A>, A>,
     last: Seat<H, A>,
-) -> Option<Journal<A>>
+) -> Option<K>
     requires parts { H.parts ≡ 4294967296 }
     requires seats { EachSeat seats.items (λ s. s.parts ≡ 1) }
     requires last { last.parts ≡ 1 }
 {
     let _ = add(&mut seats, last);
     match hall.close(seats) {
-        Ok(journal) => Some(journal),
+        Ok(keeper) => Some(keeper),
         Err(_) => None,
     }
 }

@@ -9,8 +9,9 @@ ghost use Rattle.std.specs.Prelude.{◌≡◌};
 use crate::halls::asking::ask;
 use crate::halls::glance::{Glance, Seen};
 use crate::wishes::{Deed, Names, ONE};
-use hd_hall::{Hall, House, Seat};
+use hd_hall::{Hall, House, Keeper, Seat};
 use hd_rules::TurnReply;
+use std::alloc::Global;
 use std::sync::Wait;
 use std::thread::{Threads, join};
 
@@ -26,10 +27,12 @@ const TWO: Names = Names {
 };
 
 /// Whether all looks see what they are to, and the two terminals make all of their turns.
-pub(crate) fn are_looks_well<H: House + Send + Sync, R: Threads + Wait + Sync>(
-    rt: &R,
-    hall: &Hall<H>,
-) -> bool {
+pub(crate) fn look_beside<
+    H: House + Send + Sync,
+    R: Threads + Wait + Sync,
+    Q: Drop + Send,
+    K: Keeper<Global, Q> + Drop + Send,
+>(rt: &R, hall: &Hall<H, Global, Q, K>) -> bool {
     let (seen, written) = join(
         rt,
         || -> bool { look_often(rt, hall) },
@@ -39,7 +42,10 @@ pub(crate) fn are_looks_well<H: House + Send + Sync, R: Threads + Wait + Sync>(
 }
 
 /// Looks at both patrons, again and again: whether no half of a turn is seen.
-fn look_often<H: House, R: Wait>(rt: &R, hall: &Hall<H>) -> bool {
+fn look_often<H: House, R: Wait, Q: Drop, K: Keeper<Global, Q> + Drop>(
+    rt: &R,
+    hall: &Hall<H, Global, Q, K>,
+) -> bool {
     let mut well = true;
     for _ in 0..500 {
         let one = glance_at(rt, hall, ONE.patron);
@@ -50,14 +56,23 @@ fn look_often<H: House, R: Wait>(rt: &R, hall: &Hall<H>) -> bool {
 }
 
 /// What a look at the hall sees of a patron.
-fn glance_at<H: House, R: Wait>(rt: &R, hall: &Hall<H>, patron: &'static [u8]) -> Seen {
+fn glance_at<H: House, R: Wait, Q: Drop, K: Keeper<Global, Q> + Drop>(
+    rt: &R,
+    hall: &Hall<H, Global, Q, K>,
+    patron: &'static [u8],
+) -> Seen {
     let mut glance = Glance::at(patron);
     let _ = hall.look(rt, &mut glance);
     glance.seen
 }
 
 /// Has the two terminals write, each in a thread of its own: whether each sees its turns.
-fn write_both<H: House + Send + Sync, R: Threads + Wait + Sync>(rt: &R, hall: &Hall<H>) -> bool {
+fn write_both<
+    H: House + Send + Sync,
+    R: Threads + Wait + Sync,
+    Q: Drop + Send,
+    K: Keeper<Global, Q> + Drop + Send,
+>(rt: &R, hall: &Hall<H, Global, Q, K>) -> bool {
     let (one, two) = join(
         rt,
         || -> bool { write(rt, hall, &ONE) },
@@ -67,7 +82,11 @@ fn write_both<H: House + Send + Sync, R: Threads + Wait + Sync>(rt: &R, hall: &H
 }
 
 /// Has a terminal write at a seat of its own: whether it sees each of its turns.
-fn write<H: House, R: Wait>(rt: &R, hall: &Hall<H>, names: &Names) -> bool {
+fn write<H: House, R: Wait, Q: Drop, K: Keeper<Global, Q> + Drop>(
+    rt: &R,
+    hall: &Hall<H, Global, Q, K>,
+    names: &Names,
+) -> bool {
     match hall.seat(rt) {
         Some(mut seat) => write_often(rt, hall, &mut seat, names),
         None => false,
@@ -76,7 +95,12 @@ fn write<H: House, R: Wait>(rt: &R, hall: &Hall<H>, names: &Names) -> bool {
 
 /// Asks in each round, from a seat, for a hold, the return of a copy, which is then kept for it, and the end
 /// of the hold: whether each turn is seen from there.
-fn write_often<H: House, R: Wait>(rt: &R, hall: &Hall<H>, seat: &mut Seat<H>, names: &Names) -> bool
+fn write_often<H: House, R: Wait, Q: Drop, K: Keeper<Global, Q> + Drop>(
+    rt: &R,
+    hall: &Hall<H, Global, Q, K>,
+    seat: &mut Seat<H>,
+    names: &Names,
+) -> bool
     requires { seat.old.parts ≡ 1 }
     ensures { seat.new.parts ≡ 1 }
 {
@@ -92,9 +116,9 @@ fn write_often<H: House, R: Wait>(rt: &R, hall: &Hall<H>, seat: &mut Seat<H>, na
 
 /// Asks this from a seat: whether it is done, and a look from there then sees so many holds of the patron
 /// that are kept, and so many that wait.
-fn is_seen<H: House, R: Wait>(
+fn is_seen<H: House, R: Wait, Q: Drop, K: Keeper<Global, Q> + Drop>(
     rt: &R,
-    hall: &Hall<H>,
+    hall: &Hall<H, Global, Q, K>,
     seat: &mut Seat<H>,
     names: &Names,
     deed: Deed,
