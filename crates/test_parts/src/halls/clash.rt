@@ -54,7 +54,12 @@ fn side_by_side<
 }
 
 /// Holds and cancels 50 times from a seat.
-fn ask_often<H: House, R: Wait>(rt: &R, hall: &Hall<H>, mut seat: Seat<H>, names: &Names) -> Seat<H>
+fn ask_often<H: House, R: Wait, Q: Drop, K: Keeper<Global, Q> + Drop>(
+    rt: &R,
+    hall: &Hall<H, Global, Q, K>,
+    mut seat: Seat<H>,
+    names: &Names,
+) -> Seat<H>
     requires { seat.parts ≡ 1 }
     ensures { result.parts ≡ 1 }
 {
