@@ -146,9 +146,13 @@ fn is_left_by<A: Allocator + Copy>(
     journal: &Journal<A>,
     row: &Row,
 ) -> bool {
-    journal.front() == 2
-        && journal.survivors().count() == row.survivors
-        && is_as_fresh(rt, alloc, journal)
+    let mut survivors = journal.survivors();
+    for _ in 0..row.survivors {
+        if survivors.next().is_none() {
+            return false;
+        }
+    }
+    survivors.next().is_none() && journal.front() == 2 && is_as_fresh(rt, alloc, journal)
 }
 
 /// Tries this at a hall of this house over this memory.
