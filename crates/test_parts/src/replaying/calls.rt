@@ -62,13 +62,14 @@ impl Side {
         }
     }
 
-    /// What is written, and how it ends, where the calls of this side fail.
+    /// What is written, and how it ends, where the calls of this side fail. Where writes do, one read gives all,
+    /// so that replies are written together.
     fn replayed(self, rt: &HostRuntime, fault: Fault) -> (FailingWriter, Result<(), ReplayFault>) {
-        let (reads, writes) = match self {
-            Side::Reads => (fault, Fault::None),
-            Side::Writes => (Fault::None, fault),
+        let (given, reads, writes) = match self {
+            Side::Reads => (GIVEN, fault, Fault::None),
+            Side::Writes => (usize::MAX, Fault::None, fault),
         };
-        let mut from = FailingReader::new(input(), GIVEN, reads);
+        let mut from = FailingReader::new(input(), given, reads);
         let mut to = FailingWriter::in_pieces(TAKEN, writes);
         let end = replay(rt, catalogue(), NOW, &mut from, &mut to);
         (to, end)
