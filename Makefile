@@ -5,7 +5,7 @@ PREFIX ?= /usr/local
 
 # What there is to make.
 help:
-	@echo 'make try        answer the stored messages by a program that is built without proofs (two to four minutes)'
+	@echo 'make try        answer the stored messages by a program that is built without proofs (two to five minutes)'
 	@echo 'make run        prove what changed (an hour or more at first), build holddesk, and answer the stored messages'
 	@echo 'make play       what make test plays at a program, at one that is built without proofs (some 15 minutes)'
 	@echo 'make day        after make run: play stored messages, and kiosks, through connections of holddesk serve'
@@ -25,7 +25,7 @@ STORED = replay --catalogue data/demonstration.catalogue --now '20260301    1200
 
 # The main job, soon: the stored messages, answered by a program that is built without any proof.
 try:
-	@echo 'make try: builds holddesk unproved, in two to four minutes, and answers the stored messages.' >&2
+	@echo 'make try: builds holddesk unproved, in two to five minutes, and answers the stored messages.' >&2
 	@echo 'Nothing is proved by this: make run proves every function first.' >&2
 	@cd crates/holddesk && rt try -- $(STORED)
 
