@@ -1,12 +1,16 @@
 # The commands of the README. All need the Rattle kit's command rt on the path.
-.PHONY: help try run play day page hostile stops years terminals load install uninstall dist wrong test
+.PHONY: help try run check quick play day page hostile stops years terminals load install uninstall dist wrong test
 
 PREFIX ?= /usr/local
 
 # What there is to make.
 help:
 	@echo 'make try        answer the stored messages by a program that is built without proofs (two to five minutes)'
-	@echo 'make run        prove what changed (an hour or more at first), build holddesk, and answer the stored messages'
+	@echo 'make run        prove what changed and what is above it (an hour or more at first; after any change the program'
+	@echo '                again, some 42 processor minutes), build holddesk, and answer the stored messages'
+	@echo 'make check      CRATE=NAME, and ONLY=MODULE or ONLY=MODULE::FUNCTION: check a crate over kept libraries (seconds)'
+	@echo 'make quick      check the crates that changed against origin/HEAD, or REV=, try their wrong bodies, and play rows and'
+	@echo '                examples at a program that is built without proofs, and kept (about five minutes)'
 	@echo 'make play       what make test plays at a program, at one that is built without proofs (some 15 minutes)'
 	@echo 'make day        after make run: play stored messages, and kiosks, through connections of holddesk serve'
 	@echo 'make page       after make run: look at the page of a door by headless Chromium; pictures in PICTURES ($(PICTURES))'
@@ -19,7 +23,7 @@ help:
 	@echo 'make uninstall  take them away again'
 	@echo 'make dist       after make run: a tar.gz with all of it, for machines without the Rattle kit'
 	@echo 'make wrong      put wrong bodies in that are new or changed, many in a check, and see that the prover refuses each'
-	@echo 'make test       the gate: all proofs, wrong bodies, tests, stored runs, and play over TCP (about two hours where nothing is kept)'
+	@echo 'make test       the gate: all proofs, wrong bodies, tests, stored runs, and play over TCP (more than two hours where nothing is kept)'
 
 STORED = replay --catalogue data/demonstration.catalogue --now '20260301    120000' < stdin
 
@@ -35,6 +39,20 @@ run:
 	@python3 scripts/prove.py
 	@cd crates/holddesk && out/holddesk $(STORED)
 
+# One crate, as make check CRATE=hd_looks ONLY=copies: over the proved libraries below it, which are proved where they
+# aren't kept. FLAGS has other words for rattle check.
+CRATE =
+ONLY =
+FLAGS =
+check:
+	@test -n "$(CRATE)" || { echo 'make check: say which crate, as CRATE=hd_looks' >&2; exit 1; }
+	@python3 scripts/check.py $(CRATE) $(ONLY:%=--only %) $(FLAGS)
+
+# What changed against a commit, soon; it isn't the gate.
+REV = origin/HEAD
+quick:
+	@python3 scripts/quick.py --rev $(REV)
+
 # What is played at $$program: the documents' examples, rows of messages, scripts at random beside a model, sheets, a
 # long queue, stored messages, kiosks, hostile clients, terminals side by side, a door, stops by kill -9, nights, and
 # faults of files.
@@ -47,7 +65,7 @@ PLAYED = python3 scripts/examples.py "$$program" && python3 scripts/rows.py $(LO
   python3 scripts/serve_many.py --terminals 100 --seconds 3 --latest 100 "$$program" && \
   python3 scripts/serve_door.py "$$program" && \
   python3 scripts/serve_crash.py --rounds $(ROUNDS) "$$program" && python3 scripts/carry_rows.py "$$program" && \
-  python3 scripts/carry_faults.py "$$program" && \
+  python3 scripts/carry_faults.py "$$program" && python3 scripts/join_rows.py "$$program" && \
   python3 scripts/file_faults.py "$$program" && python3 scripts/catalogue_faults.py "$$program" && \
   python3 scripts/two_years.py --days $(DAYS) "$$program"
 
@@ -79,7 +97,7 @@ install:
 	@test -x $(PROGRAM) || { echo 'make install: say make run first, which builds the program' >&2; exit 1; }
 	install -D -m 755 $(PROGRAM) $(BELOW)/bin/holddesk
 	install -D -m 644 man/holddesk.1 $(BELOW)/share/man/man1/holddesk.1
-	install -D -m 644 -t $(BELOW)/share/doc/holddesk README.md LICENSE crates/holddesk/data/demonstration.catalogue
+	install -D -m 644 -t $(BELOW)/share/doc/holddesk README.md CONTRIBUTING.md LICENSE crates/holddesk/data/demonstration.catalogue
 	install -D -m 644 -t $(BELOW)/share/doc/holddesk/docs docs/*.md docs/*.svg
 	install -D -m 644 -t $(BELOW)/share/doc/holddesk/examples examples/stunnel-*.conf
 	install -D -m 644 -t $(BELOW)/share/doc/holddesk/examples/export examples/export/*.csv
@@ -139,15 +157,17 @@ bench/out/large.catalogue: scripts/make_library.py
 # it rests on is as it was; with ANEW=--anew all are tried. Those of crates/*/must-fail are tried by rt ci.
 ANEW =
 wrong:
+	@python3 scripts/refused.py
 	@python3 scripts/refused_sums.py
 	@python3 scripts/wrong_bodies.py --self-test
 	@python3 scripts/wrong_bodies.py $(ANEW)
 
-# The gate: the picture of the crates, and the page; a seat of one hall at another, which the types refuse; the sums by
-# which refused wrong bodies are noted; the script that tries wrong bodies at some that mustn't count as refused; then
-# all proofs, the wrong bodies that rt ci tries, the tests and the stored runs, and beside them wrong bodies that the
-# script tries: those that aren't noted as refused, and a tenth of the others, or all with ANEW=--anew; what is played
-# at the program that was just proved. Its last line is rt ci's once more.
+# The gate: the picture of the crates, the page, and what a change costs, by the table of crates; a seat of one hall at
+# another, which the types refuse; the sums by which refused wrong bodies are noted, and what is proved is kept; the
+# script that tries wrong bodies at some that mustn't count as refused; then all proofs, the wrong bodies that rt ci
+# tries, the tests and the stored runs, and beside them wrong bodies that the script tries: those that aren't noted as
+# refused, and a tenth of the others, or all with ANEW=--anew; what is played at the program that was just proved. Its
+# last line is rt ci's once more.
 VERDICT = out/verdict
 test: ROUNDS = 20
 test: DAYS = 40
@@ -156,9 +176,12 @@ test: LONG = --long
 test:
 	@python3 scripts/draw_house.py --check
 	@python3 scripts/make_page.py --check
+	@python3 scripts/where_to_change.py --check
 	@python3 scripts/foreign_seat_refused.py
 	@python3 scripts/refused_sums.py
+	@python3 scripts/kept_sums.py
 	@python3 scripts/wrong_bodies.py --self-test
 	@python3 scripts/gate.py $(ANEW) --verdict $(VERDICT)
-	@program=$(CURDIR)/$(PROGRAM) && $(PLAYED) && python3 scripts/carry_stops.py "$$program"
+	@program=$(CURDIR)/$(PROGRAM) && $(PLAYED) && python3 scripts/carry_stops.py "$$program" && \
+	  python3 scripts/faults.py "$$program"
 	@cat $(VERDICT)

@@ -93,10 +93,10 @@ fn of(comparison: &Comparison, connections: usize) -> Command {
     serve(&comparison.program, &comparison.catalogue, connections)
 }
 
-/// The command that starts holddesk for so many connections, each with a worker.
+/// The command that starts holddesk, which tells no events, for so many connections, each with a worker.
 pub fn serve(program: &str, catalogue: &str, connections: usize) -> Command {
     let mut command = Command::new(program);
-    command.args(["serve", "--catalogue", catalogue]);
+    command.args(["serve", "--catalogue", catalogue, "--log", "quiet"]);
     serving(command, connections)
 }
 

@@ -6,15 +6,16 @@
 PROGRAM is crates/holddesk/out/holddesk where it isn't given. A command is held while it reads the catalogue of the
 number that it has picked, by a FIFO in the place of that file; then a carry of the same library runs to its end, and
 the command is let go on. A server has to serve the number that was carried to, journal check and show have to say that
-the library has gone on, and a second carry has to leave the first one's files alone, also while they are served. Of a
-carry that fails nothing may be told as written off; of one that doesn't, each copy once; one whose output can't be
-printed is done all the same, and says so; and what is in the way is told, also where the journal can't be ended. Of a
-file that has its name, in a folder that can't be synced, it is told that it is there. Needs Linux and Python 3. Status
-0: all is so.
+the library has gone on, and a second carry, or a second beginning with an opening, has to leave the first one's files
+alone, also while they are served. A link in the place of an opening isn't followed. Of a carry that fails nothing may
+be told as written off; of one that doesn't, each copy once; one whose output can't be printed is done all the same, and
+says so; and what is in the way is told, also where the journal can't be ended. Of a file that has its name, in a folder
+that can't be synced, it is told that it is there. Needs Linux and Python 3. Status 0: all is so.
 """
 
 import ctypes
 import errno
+import hashlib
 import os
 import stat
 import subprocess
@@ -164,6 +165,44 @@ def compare_second(program, room):
     compare_said("a second carry", said, (1, "", GONE_ON))
 
 
+def compare_second_begin(program, room):
+    """Looks that a second beginning with an opening, which found no library before the first one ended, leaves the
+    library alone, which is served meanwhile."""
+    library, opening = os.path.join(room, "begun"), os.path.join(room, "first.opening")
+    os.mkdir(library)
+    with open(CATALOGUE, "rb") as catalogue, open(opening, "w", encoding="ascii") as file:
+        file.write(f"H|opening|1|0|{hashlib.sha256(catalogue.read()).hexdigest()}\n")
+    words = [program, "journal", "begin", "--library", library, "--catalogue", CATALOGUE, "--opening", opening]
+    held = Held(opening)
+    second = started(words)
+    held.wait()
+    compare_said("a first beginning", said_of(*words), (0, ""))
+    with Server(program, None, 1, "--connections", "2", "--library", library) as server:
+        lend(server, "a1")
+        held.let_go_on()
+        said = ended(second)
+        lend(server, "a2")
+        server.end()
+    compare_loans(program, library, "0002", 2)
+    compare_said("a second beginning", said, (1, "", f"there is a file at {os.path.join(library, '0002.opening')}\n"))
+
+
+def compare_linked(program, room):
+    """Looks that a carry writes to no file to which a link leads from where its opening is to be written."""
+    library, other = begun_folder(program, CATALOGUE, os.path.join(room, "linked")), os.path.join(room, "other")
+    with open(other, "w", encoding="ascii") as file:
+        file.write("other\n")
+    os.chmod(other, 0o644)
+    part = os.path.join(library, "0002.opening.part")
+    os.symlink(other, part)
+    compare_said("a carry beside a link", said_by(carry_words(program, library)),
+                 (1, "", f"cannot write {part}: it is no regular file\n"))
+    with open(other, encoding="ascii") as file:
+        compare_said("what a link leads to", (file.read(), stat.S_IMODE(os.stat(other).st_mode)), ("other\n", 0o644))
+    os.remove(part)
+    compare_said("a carry without a link", said_of(*carry_words(program, library)), (0, ""))
+
+
 def compare_second_of_files(program, room):
     """Looks that a second carry of files that are named one by one writes no opening over that of the first one."""
     catalogue, opening = os.path.join(room, "library.catalogue"), os.path.join(room, "next.opening")
@@ -239,8 +278,9 @@ def compare_unsynced(program, room):
 def compare_all(program):
     """Plays all of it."""
     with tempfile.TemporaryDirectory() as room:
-        for compare in (compare_start, compare_readers, compare_second, compare_second_of_files, compare_written_off,
-                        compare_unprinted, compare_obstacles, compare_unsynced):
+        for compare in (compare_start, compare_readers, compare_second, compare_second_begin, compare_linked,
+                        compare_second_of_files, compare_written_off, compare_unprinted, compare_obstacles,
+                        compare_unsynced):
             compare(program, room)
 
 

@@ -8,9 +8,11 @@ is run on a copy of it for each of its calls that write, sync, rename or take aw
 call (--every N: before each Nth). What is left has to be the old library or the new one: journal check takes it, and
 where it is the old one a second carry succeeds; the opening then has the same bytes as that of an undisturbed carry. In
 the same way an empty folder is begun with that opening, and one without: what is left has to be no library, which a
-second begin makes, or the whole one. At last a carry waits before each rename: until the opening has its name the old
-journal can't be opened, for what a server answered there would be lost. Needs Linux, strace and Python 3; where there
-is no strace, or it may not trace, it is told as skipped. Status 0: nothing is lost.
+second begin makes, or the whole one. A carry waits before each rename: until the opening has its name the old journal
+can't be opened, for what a server answered there would be lost. One whose opening is altered before it is read back has
+to end as not carried over. A beginning with an opening waits before each rename too, and a second one beside it is
+refused. Needs Linux, strace and Python 3; where there is no strace, or it may not trace, it is told as skipped. Status
+0: nothing is lost.
 """
 
 import os
@@ -143,6 +145,40 @@ def others_kept_out(program, folder):
         raise Trouble(f"a carry that waits ends with {carry.returncode}, and {tried} have tried to open its journal")
 
 
+def altered_refused(program, folder):
+    """Alters the opening of a carry when it is written and before it is read back, which the carry has to see."""
+    part, plain = os.path.join(folder, "0002.opening.part"), [program, "carry", "--library", folder, "--to", CATALOGUE]
+    words = ["strace", "-f", "-qq", "-o", os.devnull, "-e", "trace=fsync", "-e", f"inject=fsync:delay_exit={WAITED}",
+             *plain]
+    with subprocess.Popen(words, stdout=subprocess.DEVNULL, stderr=subprocess.PIPE, text=True) as carry:
+        while carry.poll() is None and not (os.path.exists(part) and os.path.getsize(part)):
+            time.sleep(0.05)
+        time.sleep(WAITED / 4_000_000)  # it is written by one call, and then synced
+        with open(part, "r+b") as file:
+            file.write(b"h")
+        said = carry.stderr.read()
+    if carry.returncode != 1 or not said.endswith("not carried over\n"):
+        raise Trouble(f"a carry whose opening was altered ends with {carry.returncode} and says {said!r}")
+    checked(program, folder)
+    ended_well(plain)
+
+
+def second_begin_kept_out(program, folder, path):
+    """Begins a folder with an opening while another beginning of it waits before each rename, which is refused."""
+    os.mkdir(folder)
+    begin = [program, "journal", "begin", "--library", folder, "--catalogue", CATALOGUE, "--opening", path]
+    words = ["strace", "-f", "-qq", "-o", os.devnull, "-e", f"trace={RENAMES}", "-e",
+             f"inject={RENAMES}:delay_enter={WAITED}", *begin]
+    with subprocess.Popen(words, stdout=subprocess.DEVNULL, stderr=subprocess.DEVNULL) as first:
+        while first.poll() is None and not os.path.exists(os.path.join(folder, "0002.catalogue.part")):
+            time.sleep(0.05)
+        second = said_by(begin)
+    if first.returncode or second != (1, "", "another program has the journal open\n"):
+        raise Trouble(f"a beginning ends with {first.returncode}, and one beside it with {second}")
+    if not checked(program, folder).startswith("turns: 0\n"):
+        raise Trouble("the journal of a beginning beside another isn't the new one")
+
+
 def may_trace():
     """Whether there is strace, and it may trace a program here."""
     return shutil.which("strace") is not None and not subprocess.run(
@@ -182,6 +218,10 @@ def stops(program, every):
         shutil.copytree(old, waiting)
         others_kept_out(program, waiting)
         given = os.path.join(whole, "0002.opening")
+        altered = os.path.join(room, "altered")
+        shutil.copytree(old, altered)
+        altered_refused(program, altered)
+        second_begin_kept_out(program, os.path.join(room, "second"), given)
         return (calls_of(room, every, lambda folder, number: stop(program, folder, number, opening(whole)), old),
                 calls_of(room, every, lambda folder, number: stop_begin(program, folder, number, given)),
                 calls_of(room, every, lambda folder, number: stop_first(program, folder, number)))

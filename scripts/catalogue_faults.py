@@ -8,8 +8,8 @@ what it shows, `>` is a line of it, in which \\xNN is a byte, `-` says that its 
 where that isn't 600, `!` is a line of standard error behind the file's name, and `=` the last line of one that is
 refused. serve has to tell that line alone. A file without `=` is accepted: then each `!` is a warning, and the ten
 lines of check are printed. Besides, a file with 30 faults is told 20 of them, and one that isn't there is told with its
-path and why by check, and by replay and serve in a line that is the same for all paths. Needs nothing but Python 3.
-Status 0: all is as it is stored.
+path and why by check, and by replay and serve in a line that is the same for all paths, behind an event of serve that
+has both. Needs nothing but Python 3. Status 0: all is as it is stored.
 """
 
 import os
@@ -91,8 +91,8 @@ def play_missing(program):
               (["check", "--catalogue", CATALOGUE, "--opening", "o"], f"{warned}cannot read the opening o: {why}\n"),
               (["check", "--catalogue", CATALOGUE, "--patrons", "p"], f"{warned}cannot read the patrons p: {why}\n"),
               (["replay", "--catalogue", NAME, "--now", "20260301    120000"], one_line),
-              (serve, one_line),
-              ([*serve, "--log", "events"], f'event=cannot_read file="{NAME}" why="{why}"\n{one_line}')]
+              ([*serve, "--log", "quiet"], one_line),
+              (serve, f'event=cannot_read file="{NAME}" why="{why}"\n{one_line}')]
     with tempfile.TemporaryDirectory() as folder:
         for words, wanted in faults:
             done = run(program, folder, *words)

@@ -33,7 +33,9 @@ class Seen:
         wanted[at:at + 2] = places
 
         def limit():
-            """Has the server open and write no more than it may. A write that goes too far is to fail, not to kill."""
+            """Has the server open and write no more than it may. A write that goes too far is to fail, not to kill. The
+            umask takes no right from what the server makes."""
+            os.umask(0)
             signal.signal(signal.SIGXFSZ, signal.SIG_IGN)
             for kind, most in ((resource.RLIMIT_NOFILE, files), (resource.RLIMIT_FSIZE, largest)):
                 if most is not None:

@@ -138,7 +138,7 @@ def compare_zone_faults(program, library, folder):
               (library, missing, f"cannot read the zone {missing}: No such file or directory"),
               (bad, zone_file(os.path.join(folder, "good"), "EST5"), "catalogue line 3: UNKNOWN\n")]
     for catalogue, zone, fault in faults:
-        done = subprocess.run(serve_words(program, catalogue, 1, "--zone", zone), capture_output=True, text=True,
-                              timeout=SECONDS, check=False)
+        words = serve_words(program, catalogue, 1, "--zone", zone, "--log", "quiet")
+        done = subprocess.run(words, capture_output=True, text=True, timeout=SECONDS, check=False)
         if (done.returncode, done.stdout) != (1, "") or not done.stderr.startswith(fault) or done.stderr.count("\n") != 1:
             raise Trouble(f"with the zone {zone} a server ends with {done.returncode} and says {done.stderr!r}")

@@ -35,8 +35,8 @@ def closed(number, address, why, messages):
 
 def compare_events(program, catalogue, folder):
     """Has each event of terminals' connections happen, one after the other, and compares the log."""
-    refused = [("CNnobody|COpw", '"nobody"', "unknown_terminal"), ("CNt1|COnot", '"t1"', "wrong_password"),
-               ("CN\1\n\x7f\"\\\xff|COpw", r'"\x01\x0a\x7f\x22\x5c\xff"', "unknown_terminal"), ("CNt1", '""', "unreadable")]
+    refused = [("CNnobody|COpw", '""', "unknown_terminal"), ("CNt1|COnot", '"t1"', "wrong_password"),
+               ("CNt1 COpw|CO", '""', "unknown_terminal"), ("CNt1", '""', "unreadable")]
     with Seen(program, catalogue, folder, "--idle", str(SECONDS)) as server:
         server.tells(rf'listening address="{LOOPBACK}:{server.port}" workers=2')
         first, at_first = opened(server, 1)
@@ -120,7 +120,9 @@ def compare_messages(program, folder):
 
 
 def compare_quiet(program, folder):
-    """Looks that nothing is told of a server that is to be quiet, and that others can't listen where it does."""
+    """Looks that nothing is told of a server that is to be quiet, and that others can't listen where it does. Beside
+    its door there is nothing but what was there."""
+    os.mkdir(os.path.join(folder, ".0"))
     with Seen(program, CATALOGUE, folder, "--log", "quiet") as server:
         with connect(server.port) as connection:
             ask(connection, b"9300CNnobody|COpw|")
@@ -140,6 +142,8 @@ def compare_quiet(program, folder):
                 raise Trouble(f"with the door {path} a server ends with {done.returncode} and says {done.stderr!r}")
         if read(server.path, "/health")[0] != 200 or os.stat(server.path).st_mode & 0o777 != 0o600:
             raise Trouble("a live door doesn't answer any more, or others may use it")
+        if sorted(os.listdir(folder)) != [".0", "door"]:
+            raise Trouble(f"beside a door there is more than was: {os.listdir(folder)}")
         if told := [line for line in stop(server)[1] if line.startswith("event=")]:
             raise Trouble(f"a server that is to be quiet tells {told!r}")
 

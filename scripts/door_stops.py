@@ -1,4 +1,5 @@
-"""What clients do to hold a server that is to end, and one that has no descriptors, for serve_door.py.
+"""What clients do to hold a server that is to end, one that has no descriptors, and one that doesn't answer, for
+serve_door.py.
 
 No script of its own. Needs nothing but Python 3.
 """
@@ -7,6 +8,7 @@ import contextlib
 import os
 import re
 import socket
+import subprocess
 import threading
 import time
 
@@ -24,6 +26,7 @@ COPY = f"C|{'c' * LONGEST}|"
 ITEM = f"17{DATE}AOlib|AB{'c' * LONGEST}|".encode()
 LINES = 40_000  # that ask for the last reply again: more of it than the system keeps for who doesn't read
 WAITS = 2.0  # seconds, longer than one write waits
+PATIENCE = 60  # seconds that an answer is waited for
 LONG = 2.5  # seconds, longer than an accept that fails is tried again where no connection is open
 
 
@@ -200,3 +203,23 @@ def compare_no_files(program, folder):
             stop(server)
             if times > 1:
                 raise Trouble(f"{times} times is told that there is no descriptor: {server.told!r}")
+
+
+def compare_patience(program, folder):
+    """Asks where somebody listens who doesn't answer: a question is given up after a minute, and a stop isn't."""
+    path = os.path.join(folder, "silent")
+    with socket.socket(socket.AF_UNIX) as silent:
+        silent.bind(path)
+        silent.listen()
+        begins = time.monotonic()
+        question, end = (subprocess.Popen([program, word, "--door", path], stdout=subprocess.PIPE,
+                                          stderr=subprocess.STDOUT) for word in ("status", "stop"))
+        question.communicate(timeout=SECONDS)
+        taken = time.monotonic() - begins
+        with contextlib.suppress(subprocess.TimeoutExpired):
+            end.wait(WAITS)
+        waits = end.poll() is None
+    end.communicate(timeout=SECONDS)  # its connection has ended with who listened
+    if not PATIENCE - 1 < taken < PATIENCE + SOON or question.returncode != 1 or not waits:
+        raise Trouble(f"without an answer a question is given up after {taken:.1f} s with {question.returncode}, and a "
+                      f"stop {'waits' if waits else 'too'}")

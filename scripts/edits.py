@@ -1,6 +1,7 @@
 """Wrong bodies as texts: edits, the functions that they change, and which of them fit into one check."""
 
 import collections
+import copy
 import functools
 import os
 import re
@@ -16,6 +17,10 @@ CONSTANT = re.compile(r" *(?:pub(?:\([^)]*\))? )?const (\w+): ")
 TACTIC = re.compile(r"( *)#\[tactic\(.*\)\]$")  # an attribute that says which tactics are tried
 NO_BODY = "unreachable!()"  # what fits in the place of any body
 COPY = "_copy{}"  # what a copy of a function is called behind the function's name
+# by what means a goal is tried, as it stands behind its name: by the tactics, by these with the facts that its answer in
+# proofs/ is made of, or by all that the prover has
+BY_TACTICS, BY_FACTS, BY_ALL = "", "by its facts", "by all means"
+SOUND = 1_000  # the number of a copy that has no edit
 
 
 class Function:
@@ -191,14 +196,12 @@ class Edit:
     Where several are of one function, all but one stand each in a copy of it, of a number from 1, behind the others of
     its file and with a copy of its proof: so they go into one check."""
 
-    def __init__(self, crate, name, pairs, homes, goal=None, others=(), is_hard=False):
+    def __init__(self, crate, name, pairs, homes, goal=None, others=(), means=BY_TACTICS):
         self.crate, self.name, self.pairs, self.goal, self.others = crate, name, pairs, goal, set(others)
-        self.is_hard = is_hard
-        self.copy, self.first_line = 0, None
-        self.misfit, self.verdict, self.said, self.is_beside_all, self.tries = None, None, "", False, 0
+        self.means, self.is_sought, self.is_control = means, goal is None, False
+        self.copy, self.first_line, self.misfit, self.is_beside_all = 0, None, None, False
         self.functions, self.places, self.beside, self.is_apart, self.is_alone = [], set(), {}, False, False
-        self.is_guided, self.is_answered, self.has_own = False, False, False
-        self.pruned, self.gone, self.misnamed, self.found = {}, set(), set(), None
+        self.forget()
         for file, old, new in pairs:
             text = sources_of(crate).get(file, "")
             if text.count(old) != 1:
@@ -244,11 +247,28 @@ class Edit:
             self.put_at(0, self.functions[0].told)
 
     def forget(self):
-        """Forgets what it came to."""
+        """Forgets what it came to, and what was seen of it."""
         self.put_back()
-        self.verdict, self.tries = None, 0
-        self.is_guided, self.is_answered, self.has_own = False, False, False
-        self.pruned, self.gone, self.misnamed = {}, set(), set()
+        self.verdict, self.kind, self.said, self.found, self.tries = None, None, "", None, 0
+        # the goal that is tried alone, by what means, what was said of it, those that may be tried, and those that were and
+        # tell nothing
+        self.aim, self.by, self.refusal, self.hopes, self.passed = None, BY_ALL, None, [], set()
+        # its proof files where they differ, the same with the answers that fit, those that don't, and goals left open
+        self.pruned, self.fitting, self.gone, self.left_open = {}, {}, set(), set()
+
+    @property
+    def is_hard(self):
+        """By what means its goal is tried, where not by the tactics alone."""
+        return self.means
+
+    @property
+    def is_answered(self):
+        """Whether what is tried stands in the place of an answer."""
+        return self.by != BY_ALL
+
+    def key(self):
+        """Of what function it tries which goal, and by what means."""
+        return self.functions[0].path, self.aim, self.by
 
     def is_of(self, path):
         """Whether a check has to look at this function."""
@@ -285,23 +305,41 @@ def pairs_in(text):
 
 
 def goals_in(text):
-    """The goal at which the edit is refused, where it names one, what isn't proved besides, and whether that goal takes
-    all means also where nothing is wrong."""
+    """The goal at which the edit is refused, where it names one, what isn't proved besides, and by what means it is tried."""
     goals = {key: re.findall(rf"^{key}: (.*)", text, re.M) for key in ("goal", "also")}
-    goal, hard, _ = next(iter(goals["goal"]), "").partition(" by all means")
-    return goal or None, " ".join(goals["also"]).split(), bool(hard)
+    goal, *means = next(iter(goals["goal"]), "").split(" ", 1)
+    return goal or None, " ".join(goals["also"]).split(), "".join(means)
 
 
 def file_of(edit):
     return os.path.join(TOP, "crates", edit.crate, "wrong", edit.name + ".edit")
 
 
-def edits_of(crate):
-    folder = os.path.join(TOP, "crates", crate, "wrong")
+def controls_of(crate):
+    """Bodies of the crate that mean the same as the right ones, each at a goal that a wrong one names."""
+    controls = edits_of(crate, "same")
+    for control in controls:
+        control.is_control = True
+    return controls
+
+
+def edits_of(crate, part="wrong"):
+    folder = os.path.join(TOP, "crates", crate, part)
     names = sorted(os.listdir(folder)) if os.path.isdir(folder) else []
     texts = {name.removesuffix(".edit"): read(os.path.join(folder, name)) for name in names if name.endswith(".edit")}
     homes = homes_in(sources_of(crate)) if texts else {}
     return [Edit(crate, name, pairs_in(text), homes, *goals_in(text)) for name, text in texts.items()]
+
+
+def sound_of(edit, asked):
+    """The function that the edit is of as it is, in a copy where that may be: what is tried at the goals asked for."""
+    sound = copy.copy(edit)
+    sound.pairs, sound.beside, sound.is_alone, sound.asked = [], {}, False, asked
+    sound.pruned, sound.by = {}, BY_TACTICS
+    sound.put_at(0, sound.functions[0].told)
+    if sound.fits_a_copy():
+        sound.put_at(SOUND, ())
+    return sound
 
 
 def fit_together(one, other):

@@ -35,7 +35,8 @@ from server import parser_of, reported, without_progress
 from serve_kiosk import part_of
 from unproved import free_port
 
-PAGES = ["README.md", *(f"docs/{name}.md" for name in ("operating", "catalogue", "opening", "patrons", "protocol"))]
+GUIDES = ["operating", "daily", "faults", "security", "catalogue", "opening", "patrons", "protocol"]
+PAGES = ["README.md", *(f"docs/{name}.md" for name in GUIDES)]
 # the parts of protocol.md whose tables serve_kiosk.py plays
 KIOSK_PARTS = ["Patron messages", "Sorter fields"]
 LIBRARY = "/var/lib/holddesk"
@@ -341,7 +342,7 @@ def play_day(stage, command):
 def looked_at(stage):
     """A server with a door, which has had a day."""
     door = stage.place(DOOR)
-    with Server(stage.program, CATALOGUE, 1, "--door", door, "--log", "quiet") as server:
+    with Server(stage.program, CATALOGUE, 1, "--door", door) as server:
         with connect(server.port) as connection:
             for message in SEEN:
                 ask(connection, message)

@@ -12,7 +12,8 @@ one line of standard error; status 1, and nothing is printed then, nor is a fold
 option. Behind them a catalogue, a journal and an opening are made under an umask that lets everyone read and write, and
 their owner alone has to be let; and serve is started where it may write no more than some bytes into a file: that has
 to be told before it listens. A journal whose server was killed is refused without its log, and one that was ended well
-opens without it; where sqlite3 changed one of its rows it is refused, and where that only read it, it isn't. A library
+opens without it; where sqlite3 changed one of its rows it is refused, and where that only read it, it isn't. Of two
+journals the turns of each lie in the file at its path. A library
 whose last number lacks a file is refused too, also beside an opening that has no name yet, and isn't begun over another
 catalogue; a file in its folder whose name isn't UTF-8 is passed over. A folder that is begun with an opening is served
 and checked, and isn't begun again; one whose beginning was broken off is no library, and is begun again. A journal that
@@ -220,6 +221,21 @@ def compare_changed(program):
                 raise Trouble(f"behind {work} of sqlite3: {told!r}")
 
 
+def compare_own_files(program):
+    """Looks that a journal's turns lie in the file at its path: of two journals one takes a turn, and the other none."""
+    with tempfile.TemporaryDirectory() as folder:
+        journals = [begun(program, CATALOGUE, os.path.join(folder, name)) for name in ("one", "other")]
+        serve_until_killed(program, journals[0])
+        for journal, turns in zip(journals, (1, 0)):
+            told = told_of(program, journal, "journal", "check")
+            if told[0] != 0 or not told[1].startswith(f"turns: {turns}\n"):
+                raise Trouble(f"of two journals the one with turns: {turns}: {told!r}")
+            with contextlib.closing(sqlite3.connect(journal)) as connection:
+                found = connection.execute("SELECT count(*) FROM turn").fetchone()[0]
+            if found != turns:
+                raise Trouble(f"the file of the journal with turns: {turns} has {found}")
+
+
 def said_of(program, *words):
     """What a command says: its status and its standard error."""
     status, _, told = said_by([program, *words])
@@ -252,6 +268,7 @@ def compare_lost_files(program):
         os.rename(os.path.join(folder, "0002.opening"), os.path.join(folder, "0002.opening.part"))
         said = said_of(program, "journal", "check", "--library", folder)
         compare_said("a library whose carry was broken off", said, (0, f"checking 0001 of {folder}\n"))
+        compare_untold(program, folder)
         compare_first_catalogue(program, os.path.join(room, "first"))
         compare_first_journal(program, room)
         away = os.path.join(room, "away")
@@ -263,6 +280,17 @@ def compare_lost_files(program):
             pass  # it is empty then, beside the log of a journal that was ended well
         if told_of(program, journal, "journal", "check") != (1, "", f"there is no journal at {journal}\n"):
             raise Trouble("an empty file is taken for a journal")
+
+
+def compare_untold(program, folder):
+    """Looks that an opening isn't taken for missing where the system doesn't tell whether it is there, as of a link to
+    itself. Its carry was broken off: without it the library is what it was before."""
+    opening = os.path.join(folder, "0002.opening")
+    os.symlink("0002.opening", opening)
+    said = said_of(program, "journal", "check", "--library", folder)
+    compare_said("a library with a link to itself", said,
+                 (1, f"cannot read {opening}: Too many levels of symbolic links (os error 40)\n"))
+    os.remove(opening)
 
 
 def compare_first_catalogue(program, path):
@@ -318,6 +346,11 @@ def compare_paths(program):
         journal = os.path.join(folder, "away", "journal")
         compare_said("a journal in no folder", told_of(program, journal, "journal", "begin"),
                      (1, "", f"cannot write {journal}: No such file or directory (os error 2)\n"))
+        pipe = os.path.join(folder, "pipe")
+        os.mkfifo(pipe, 0o640)
+        compare_said("a journal in the place of a pipe", told_of(program, pipe, "journal", "begin"),
+                     (1, "", f"there is a file at {pipe}\n"))
+        compare_said("the mode of a pipe", stat.S_IMODE(os.stat(pipe).st_mode), 0o640)
     compare_said("views of a catalogue", said_by([program, "journal", "views", "--opening", CATALOGUE]),
                  (1, "", "opening line 1: HEADER\n"))
 
@@ -401,6 +434,7 @@ def main():
         reported("file_faults", compare_narrow_start, asked.program)
         reported("file_faults", compare_missing_log, asked.program)
         reported("file_faults", compare_changed, asked.program)
+        reported("file_faults", compare_own_files, asked.program)
         reported("file_faults", compare_lost_files, asked.program)
         reported("file_faults", compare_begun_folder, asked.program)
         reported("file_faults", compare_paths, asked.program)

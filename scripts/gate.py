@@ -7,12 +7,14 @@ rt ci proves as many crates at once as there are processors, each by one job, an
 that it has proved is kept (kept.py), and once all below a crate are, its wrong bodies are tried: beside rt ci at the
 lowest priority, since it leaves processors free where a crate waits for another, and as memory allows. Those that are
 known to be refused as they stand (refused.py) aren't tried again, but for those of some crates, other ones each day, so
-that all come in ten days; what is refused is noted. With --anew nothing that was proved or refused before counts. The
-file of --figures (out/gate.json) has the processor seconds by crate, of which gate_table.py makes a table: those of rt
-ci's provers and compilers are read from /proc twice a second. That of --verdict (out/verdict) has rt ci's last line,
-which is also the last one here. Needs Linux, rt and Python 3.
+that all come in ten days; what is refused is noted. One that was refused once, and whose edit is gone, or has another
+text that isn't refused, is told. With --anew nothing that was proved or refused before counts. rt ci works on the files
+themselves: where one is changed meanwhile, what was proved of it isn't kept, and that is told. The file of --figures
+(out/gate.json) has the processor seconds by crate, of which gate_table.py makes a table: those of rt ci's provers and
+compilers are read from /proc twice a second. That of --verdict (out/verdict) has rt ci's last line, which is also the
+last one here. Needs Linux, rt and Python 3.
 
-Status 0: rt ci ends with 0, and each wrong body is refused.
+Status 0: rt ci ends with 0, each wrong body is refused, none is gone that was refused, and no file was changed meanwhile.
 """
 
 import argparse
@@ -30,15 +32,16 @@ from datetime import datetime, timezone
 from pathlib import Path
 
 from edits import edits_of
-from kept import TOP, keep, lay_out, said_by_rt, sums_of
+from kept import TOP, keep, linked, said_by_rt, sums_of
 from prove import CORES, GIGABYTES, MEMORY, uses_of_all, with_all_below
-from refused import Grounds, due_on
+from refused import Grounds, is_due, lost_of, stamps_of
 from workbench import Bench
-from wrong_bodies import REFUSED, refused_of, said_of_all, try_crate
+from wrong_bodies import NOT_TRIED, REFUSED, refused_of, said_of_all, try_crate
 
 BESIDE = max(1, CORES - 1)  # crates whose wrong bodies are tried beside rt ci
 GIGABYTES_BESIDE = 8  # of memory that has to be free where one is begun: up to 3 for it, and what rt ci may come to take
 PAUSE = 0.5  # seconds between two looks at the processes
+MINUTES = 100  # after so many no wrong body is tried, but with --anew
 TICKS = os.sysconf("SC_CLK_TCK")
 PROVED = re.compile(r"rt: (\w+) (?:proved|is kept)")
 EDITED = re.compile(r"/rt-edits?-")  # where rt ci checks a crate with an edit, or what edits are tried over
@@ -103,50 +106,60 @@ def free_gigabytes():
 class WrongBodies:
     """The wrong bodies, of which each crate's are tried once the libraries below it are there."""
 
-    def __init__(self, uses, sums, room, is_anew):
-        self.uses, self.sums, self.room, self.seconds, self.is_alone = uses, sums, room, {}, False
+    def __init__(self, uses, room, is_anew):
+        self.uses, self.room, self.seconds, self.is_alone = uses, room, {}, False
+        self.end = None if is_anew else time.monotonic() + 60 * MINUTES
         self.free, self.libraries = threading.Semaphore(BESIDE), os.path.join(room, "libraries")
         self.pool, self.trying = ThreadPoolExecutor(max(1, min(CORES, int(MEMORY / GIGABYTES)))), []
         self.edits, self.grounds = [edit for crate in uses for edit in edits_of(crate)], Grounds(uses)
-        self.left = self.to_try(uses if is_anew else due_on(datetime.now(timezone.utc).date(), self.edits))
+        self.sums = sums_of(uses, uses)  # after the grounds, which tell whether a file is changed from then on
+        today = datetime.now(timezone.utc).date()
+        self.left = self.to_try([crate for crate in uses if is_anew or is_due(crate, today)])
         os.makedirs(self.libraries)
 
     def to_try(self, due):
         """Those that aren't known to be refused, or are of crates that are due, by crate, and says how many these are."""
         left, known = {}, 0
         for edit in self.edits:
-            is_known = self.grounds.is_known(edit)
-            if is_known and edit.crate not in due:
+            edit.is_noted = self.grounds.is_known(edit)
+            if edit.is_noted and edit.crate not in due:
                 edit.verdict = REFUSED
             else:
                 left.setdefault(edit.crate, []).append(edit)
-                known += is_known
+                known += edit.is_noted
         count = sum(map(len, left.values()))
         print(f"wrong bodies: {count} of {len(self.edits)} are tried: {count - known} that aren't known to be refused, and "
               f"{known} again", flush=True)
         return left
 
+    def take(self, name, made):
+        """Takes a library that rt ci has proved, and begins to try the wrong bodies that no library is missing for any
+        more. One that another run has kept may be another build."""
+        shutil.copytree(made, os.path.join(self.libraries, made.name), copy_function=linked)
+        self.look()
+
     def look(self):
-        """Begins to try those of the crates that nothing is missing for any more."""
         for crate in list(self.left):
             below = with_all_below(crate, self.uses, [])[:-1]
-            if all(lay_out(self.libraries, name, self.sums[name]) for name in below):
+            if all(os.path.isdir(os.path.join(self.libraries, f"{name}.rlib")) for name in below):
                 self.trying.append(self.pool.submit(self.try_one, crate, self.left.pop(crate)))
 
     def try_one(self, crate, edits):
         with self.free:
             while not self.is_alone and free_gigabytes() < GIGABYTES_BESIDE:
                 time.sleep(PAUSE)
-            bench = Bench(crate, self.uses, self.libraries, os.path.join(self.room, crate))
+            bench = Bench(crate, self.uses, self.libraries, os.path.join(self.room, crate), self.end)
             try_crate(edits, bench)
             shutil.rmtree(bench.room)
             self.seconds[crate] = bench.seconds
+            for edit in edits:
+                if edit.verdict == NOT_TRIED and edit.is_noted:
+                    edit.verdict = REFUSED
             self.grounds.note(crate, refused_of(crate, self.edits))
 
     def finish(self):
         """Tries the others, by all processors."""
         self.is_alone = True
-        self.look()
         for crate in self.left:
             print(f"wrong bodies: {crate}'s can't be tried, since a library below it isn't proved")
         self.free.release(CORES)
@@ -155,21 +168,36 @@ class WrongBodies:
         self.pool.shutdown()
 
 
-def passed_on(process, uses, sums, wrong, write):
+def passed_on(process, wrong, write):
     """Passes on what rt ci says, keeps what it has proved, has wrong bodies tried and the figures so far written. Its
     last line."""
     last = ""
     for line in process.stdout:
         print(line, end="", flush=True)
         last, proved = line, PROVED.match(line)
-        if proved and proved[1] in uses:
-            made = TOP / "crates" / proved[1] / "out"
-            for path in (made / "rlib" / f"{proved[1]}.rlib", made / proved[1]):
-                if path.exists():
-                    keep(path, proved[1], sums[proved[1]])
-            wrong.look()
+        if proved and proved[1] in wrong.uses:
+            keep_proved(proved[1], wrong)
             write()
     return last
+
+
+def keep_proved(name, wrong):
+    """Keeps a crate that rt ci has proved, if no file that the proof reads was changed since the sums were made."""
+    made = TOP / "crates" / name / "out"
+    for path in (made / "rlib" / f"{name}.rlib", made / name):
+        if path.exists() and wrong.grounds.is_as_it_was(name):
+            keep(path, name, wrong.sums[name])
+            if path.is_dir():
+                wrong.take(name, path)
+
+
+def said_of_losses(wrong):
+    """Says which wrong bodies are gone that were refused once, and which crates were changed meanwhile. Whether none."""
+    lost = lost_of(wrong.uses, wrong.edits, [edit for edit in wrong.edits if edit.verdict == REFUSED])
+    changed = [crate for crate in wrong.uses if stamps_of(crate) != wrong.grounds.stamps[crate]]
+    lost += [f"{crate} was changed meanwhile, so it isn't kept: run the gate once more" for crate in changed]
+    print("".join(f"{line}\n" for line in lost), end="", flush=True)
+    return not lost
 
 
 def write_figures(path, costs, wrong, whole):
@@ -189,10 +217,9 @@ def main():
     parser.add_argument("--anew", action="store_true", help="prove and try also what was proved or refused before")
     parser.add_argument("--figures", type=Path, default=TOP / "out" / "gate.json", metavar="FILE")
     parser.add_argument("--verdict", type=Path, default=TOP / "out" / "verdict", metavar="FILE")
-    asked, uses = parser.parse_args(), uses_of_all()
-    sums = sums_of(uses, uses)
+    asked = parser.parse_args()
     with tempfile.TemporaryDirectory(prefix="gate-") as room:
-        wrong = WrongBodies(uses, sums, room, asked.anew)
+        wrong = WrongBodies(uses_of_all(), room, asked.anew)
         words = ["rt", "ci", *["--anew"] * (asked.anew and "--anew" in said_by_rt("help"))]  # some kits keep nothing
         process = subprocess.Popen(words, cwd=TOP, stdin=subprocess.DEVNULL, stdout=subprocess.PIPE,
                                    stderr=subprocess.STDOUT, text=True, errors="replace",
@@ -201,15 +228,15 @@ def main():
         os.nice(19)
         costs = Costs(process.pid)
         costs.start()
-        last = passed_on(process, uses, sums, wrong, lambda: write_figures(asked.figures, costs, wrong, 0))
+        last = passed_on(process, wrong, lambda: write_figures(asked.figures, costs, wrong, 0))
         _, status, used = os.wait4(process.pid, 0)
         wrong.finish()
     write_figures(asked.figures, costs, wrong, used.ru_utime + used.ru_stime)
     asked.verdict.parent.mkdir(parents=True, exist_ok=True)
     asked.verdict.write_text(last)
-    is_refused = said_of_all(wrong.edits)
+    is_refused, is_whole = said_of_all(wrong.edits), said_of_losses(wrong)
     print(last, end="")
-    sys.exit(0 if is_refused and status == 0 else 1)
+    sys.exit(0 if is_refused and is_whole and status == 0 else 1)
 
 
 if __name__ == "__main__":

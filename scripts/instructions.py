@@ -3,11 +3,12 @@
 
     python3 scripts/instructions.py [PROGRAM] [--messages N] [--only WORD] [--functions N]
 
-PROGRAM is crates/holddesk/out/holddesk where it isn't given; it has to be the one that make run builds, since callgrind
-can't run a program with a sanitizer. Each row is a mixed day of N messages (20,000) that holddesk replay answers: the
-instructions, and the writes that miss the last cache, which are about its new lines, of the day less those of a day
-with one login, so that the load is taken off. They are the same on a busy machine, so that two builds can be compared.
---functions tells also which functions the instructions of a row are of, so many of them. Needs Python 3 and valgrind.
+PROGRAM is crates/holddesk/out/holddesk where it isn't given; it has to be the one that make run builds, or one that
+measure/optimised.py does, since callgrind can't run a program with a sanitizer. Each row is a mixed day of N messages
+(20,000) that holddesk replay answers: the instructions, and the writes that miss the last cache, which are about its new
+lines, of the day less those of a day with one login, so that the load is taken off. They are the same on a busy machine,
+so that two builds can be compared. --functions tells also which functions the instructions of a row are of, so many of
+them. Needs Python 3 and valgrind.
 """
 
 import os

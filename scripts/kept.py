@@ -8,6 +8,7 @@ import hashlib
 import os
 import shutil
 import subprocess
+import sys
 import tempfile
 from pathlib import Path
 
@@ -21,12 +22,31 @@ def said_by_rt(word):
     return subprocess.run(["rt", word], check=True, capture_output=True, text=True).stdout.strip()
 
 
-def sums_of(names, uses):
-    """Of each crate, the lowest first, a sum over all that its proof reads: kit, files, and what is below it."""
+def files_of(name, parts=PARTS, top=TOP):
+    """The paths of the files that a crate's proof reads. A link among them ends the run, since no sum tells what a folder
+    has that a link leads to."""
+    places = [top / "crates" / name / part for part in parts]
+    paths = sorted(path for place in places for path in place.rglob("*"))
+    for path in (*places, *paths):
+        if path.is_symlink():
+            sys.exit(f"{path.relative_to(top)} is a link: put the files themselves there")
+    return [path for path in paths if path.is_file()]
+
+
+def copy_sources(names, room):
+    """Copies what the proofs of these crates read into a folder, where nobody changes it."""
+    for name in names:
+        for part in PARTS:
+            if (TOP / "crates" / name / part).is_dir():
+                shutil.copytree(TOP / "crates" / name / part, Path(room, "crates", name, part), symlinks=True)
+
+
+def sums_of(names, uses, top=TOP, parts=PARTS):
+    """Of each crate, the lowest first, a sum over all that its proof reads: kit, files, and what is below it. The crates
+    stand below the top, and only these parts of them count."""
     kit, sums = said_by_rt("version"), {}
     for name in names:
-        paths = [path for part in PARTS for path in (TOP / "crates" / name / part).rglob("*")]
-        files = [(str(path.relative_to(TOP)), path.read_bytes()) for path in sorted(paths) if path.is_file()]
+        files = [(str(path.relative_to(top)), path.read_bytes()) for path in files_of(name, parts, top)]
         read = [kit, name, [(use, sums.get(use)) for use in uses[name]], files]
         sums[name] = hashlib.sha256(repr(read).encode()).hexdigest()
     return sums

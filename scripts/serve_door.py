@@ -9,7 +9,8 @@ and each refusal at the door is compared with what has to be there, and so is wh
 password in none; so have messages of other days, and the offsets of zones. A stop ends a session and one that waits,
 and leaves a journal in one file; a socket that a kill -9 left gives way, and a live one doesn't. A stop comes soon, and
 so does the end of a server whose journal can't be written, also where clients keep sending, read nothing, or wait to be
-served. A server without descriptors waits for some. Clients of the door that are slow, silent, endless or wrong come
+served. A server without descriptors waits for some. Where nobody answers, status gives up after a minute, and
+stop doesn't. Clients of the door that are slow, silent, endless or wrong come
 beside a terminal, whose worst reply is printed; of a program that is proved it is at most 10 ms later than without
 them. Takes about a minute. Needs nothing but Python 3. Status 0: all is as it has to be.
 """
@@ -30,7 +31,8 @@ from door_hostile import compare_hostile
 from door_log import compare_broken, compare_events, compare_few_files, compare_messages, compare_quiet
 from door_log import compare_unwritten
 from door_refusals import compare_refusals
-from door_stops import compare_flood, compare_flood_unwritten, compare_no_files, compare_unread, compare_unread_idle
+from door_stops import compare_flood, compare_flood_unwritten, compare_no_files, compare_patience
+from door_stops import compare_unread, compare_unread_idle
 from server import SECONDS, Trouble, ask, begun, connect, parser_of, reported
 
 SHOWN = os.path.splitext(os.path.abspath(__file__))[0] + ".shown"
@@ -238,12 +240,16 @@ def compare_counted(path, counts):
 
 
 def compare_gone(program, path, journal):
-    """Moves the file of a server's journal away, which has to be told, and back."""
-    os.rename(journal, journal + ".moved")
-    gone, status = asked_by(program, "status", path)
-    os.rename(journal + ".moved", journal)
-    if "the journal's file is gone" not in gone or status != 1 or asked_by(program, "status", path)[1] != 0:
-        raise Trouble(f"of a server whose journal's file is gone status says {gone!r}, {status}")
+    """Moves the file of a server's journal away, and puts a copy in its place, which both have to be told; then moves it
+    back."""
+    for is_replaced in (False, True):
+        os.rename(journal, journal + ".moved")
+        if is_replaced:
+            shutil.copy(journal + ".moved", journal)
+        gone, status = asked_by(program, "status", path)
+        os.replace(journal + ".moved", journal)
+        if "the journal's file is gone" not in gone or status != 1 or asked_by(program, "status", path)[1] != 0:
+            raise Trouble(f"of a server whose journal's file is gone status says {gone!r}, {status}")
 
 
 def compare_end(program, catalogue, folder):
@@ -346,12 +352,12 @@ def compare_all(program):
     """Compares everything. What there is to tell of it, a line each."""
     program = os.path.abspath(program)
     with contextlib.ExitStack() as stack:
-        folders = [stack.enter_context(tempfile.TemporaryDirectory()) for _ in range(16)]
+        folders = [stack.enter_context(tempfile.TemporaryDirectory()) for _ in range(17)]
         library = library_with_crowd(os.path.join(folders[0], "library"))
         few = library_of(morning.CATALOGUE.replace("|60|1000", "|60|10"), os.path.join(folders[0], "few"))
-        with ThreadPoolExecutor(3) as pool:
+        with ThreadPoolExecutor(4) as pool:  # the first of them only waits, for a minute
             plays = [pool.submit(play, program, *given) for play, *given in (
-                (compare_seen, library, folders[1]), (compare_events, few, folders[2]), (compare_messages, folders[3]),
+                (compare_patience, folders[16]), (compare_seen, library, folders[1]), (compare_events, few, folders[2]), (compare_messages, folders[3]),
                 (compare_end, library, folders[4]), (compare_quiet, folders[5]), (compare_names, folders[6]),
                 (compare_few_files, folders[0]), (compare_unwritten, library, folders[7]),
                 (compare_broken, library, folders[8]), (compare_days, folders[9]), (compare_zones, folders[10]),

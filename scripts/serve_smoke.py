@@ -10,10 +10,12 @@ Status 0: all is as it is stored.
 """
 
 import os
+import re
 import socket
 import subprocess
 
-from server import CATALOGUE, SECONDS, Server, Trouble, connect, parser_of, replies_from, reported, serve_words
+from server import (CATALOGUE, LOOPBACK, SECONDS, Server, Trouble, connect, parser_of, replies_from, reported,
+                    serve_words)
 
 STORED = os.path.splitext(os.path.abspath(__file__))[0]
 SESSIONS = 4
@@ -60,7 +62,8 @@ def compare_serve(program, messages, replies, is_cut):
     with Server(program, CATALOGUE, SESSIONS, "--connections", str(SESSIONS), "--idle", str(SECONDS)) as server:
         second = subprocess.run(serve_words(program, CATALOGUE, 1, port=server.port), capture_output=True, text=True,
                                 timeout=SECONDS, check=False)
-        if (second.returncode, second.stdout, second.stderr) != (1, "", "cannot listen\n"):
+        wanted = rf'event=cannot_listen address="{re.escape(LOOPBACK)}:{server.port}" why=".*in use.*"\ncannot listen\n'
+        if (second.returncode, second.stdout) != (1, "") or not re.fullmatch(wanted, second.stderr):
             raise Trouble(f"at a port in use a second server ends with {second.returncode} and says {second.stderr!r}")
         play({number: connect(server.port) for number in range(1, SESSIONS + 1)}, messages, replies, is_cut)
         status, printed, said = server.end()

@@ -78,12 +78,14 @@ def begun_folder(program, catalogue, folder):
 
 
 class Server:
-    """A server that listens. It is killed where it hasn't ended when the block that it is used in ends. What is to be
-    done meanwhile is done as soon as it is started, and told has the lines that it said before it listened."""
+    """A server that listens, and tells no events. It is killed where it hasn't ended when the block that it is used in
+    ends. What is to be done meanwhile is done as soon as it is started, and told has the lines that it said before it
+    listened."""
 
     def __init__(self, program, catalogue, workers, *words, meanwhile=None):
-        self.process = subprocess.Popen(serve_words(program, catalogue, workers, *words), stdin=subprocess.DEVNULL,
-                                        stdout=subprocess.PIPE, stderr=subprocess.PIPE, text=True)
+        self.process = subprocess.Popen(serve_words(program, catalogue, workers, "--log", "quiet", *words),
+                                        stdin=subprocess.DEVNULL, stdout=subprocess.PIPE, stderr=subprocess.PIPE,
+                                        text=True)
         self.told = []
         if meanwhile is not None:
             meanwhile()

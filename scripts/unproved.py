@@ -3,8 +3,9 @@
 
     python3 scripts/unproved.py FOLDER
 
-leaves the program in the folder, as holddesk, and prints its path. It takes some minutes. Until rt try can keep the
-program that it builds, that is started as a server, and copied while it runs. Needs Linux, rt and Python 3.
+leaves the program in the folder, which is made where it isn't there, as holddesk, and prints its path. It takes some
+minutes. Until rt try can keep the program that it builds, that is started as a server, and copied while it runs. Needs
+Linux, rt and Python 3.
 """
 
 import argparse
@@ -69,6 +70,7 @@ def copied(words, folder):
 
 def built(folder):
     """The path of the program, which is built into the folder."""
+    os.makedirs(folder, exist_ok=True)
     port = free_port()
     catalogue = os.path.relpath(CATALOGUE, FOLDER)
     server = subprocess.Popen(

@@ -3,7 +3,9 @@
 import os
 import shutil
 import subprocess
+import time
 
+from answers import answered_in
 from edits import bodies_of, edited, folder_of, module_of, read, sources_of, untried, without_bodies, write
 from kept import TOP, said_by_rt
 
@@ -25,15 +27,18 @@ class Bench:
     A proof rests on what the functions that it calls promise, and neither on their bodies nor on their proofs. So only
     functions that are edited have theirs here: each other one has nothing in its body, and a hole for its proof."""
 
-    def __init__(self, crate, uses, libraries, room):
-        self.crate, self.top, self.room = crate, os.path.join(TOP, "crates", crate), room
+    def __init__(self, crate, uses, libraries, room, end=None):
+        self.crate, self.top, self.room, self.end = crate, os.path.join(TOP, "crates", crate), room, end
         self.seconds, self.instead, self.is_whole = 0, {}, False
+        # which goals are proved in functions as they are, and functions that are then tried in place, not in a copy
+        self.sound, self.in_place = {}, set()
         for part in ("src", "specs", "proofs"):
             if os.path.isdir(os.path.join(self.top, part)):
                 shutil.copytree(os.path.join(self.top, part), os.path.join(room, part))
         self.modules = {"", *map(module_of, sources_of(crate))}
         self.functions = bodies_of(crate)
         self.folders = {function.path: folder_of(function.path) for function in self.functions}
+        self.by_hand = {path for path in self.folders if os.path.isfile(self.file_of(path, "Proof.antt"))}
         for path in self.folders:
             self.put_hole(path)
         for file, text in sources_of(crate).items():
@@ -47,6 +52,23 @@ class Bench:
         self.words += ["--antt-project", f"{kit}/rattle/logic/antt-project.json", "--logic-built", f"{kit}/logic_built"]
         self.words += ["--allow-holes"]
 
+    def is_over(self):
+        """Whether no check is to be begun any more."""
+        return self.end is not None and time.monotonic() > self.end
+
+    def file_of(self, path, name):
+        """A file of the function's own proof."""
+        return os.path.join(self.top, self.folders[path], name)
+
+    def answers_of(self, path):
+        """The text of the function's own answers."""
+        file = self.file_of(path, "Answers.antt")
+        return read(file) if os.path.isfile(file) else ""
+
+    def answered_in(self, path):
+        """The goals of a function that have an answer written by hand."""
+        return answered_in(self.answers_of(path))
+
     def put_hole(self, path):
         """Puts a hole in the place of the function's proof."""
         folder = self.folders[path]
@@ -56,7 +78,7 @@ class Bench:
     def proof_of(self, path, pruned, is_short):
         """The files of the function's own proof, without what was pruned, and with a line that spares offers."""
         folder = self.folders[path]
-        files = [(name, os.path.join(self.top, folder, name)) for name in OF_A_PROOF]
+        files = [(name, self.file_of(path, name)) for name in OF_A_PROOF]
         texts = {name: read(file) for name, file in files if os.path.isfile(file)}
         texts |= {name: pruned[f"{folder}/{name}"] for name in OF_A_PROOF if f"{folder}/{name}" in pruned}
         if is_short and "Proof.antt" not in texts:

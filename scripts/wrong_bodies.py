@@ -1,36 +1,52 @@
 #!/usr/bin/env python3
 """Puts wrong bodies into copies of the crates, many at a time, and sees that the prover refuses each.
 
-    python3 scripts/wrong_bodies.py [--crate NAME] [--list] [--anew] [--name-goals] [--self-test]
+    python3 scripts/wrong_bodies.py [--crate NAME] [--list] [--anew] [--name-goals] [--self-test] [--controls]
 
 A wrong body is a file crates/NAME/wrong/*.edit, of the form that rt ci reads in must-fail/: a line 'file: src/x.rt',
 then pairs of lines 'old: TEXT' and 'new: TEXT'; each old text stands in that file once. A line 'goal: NAME' names the
-goal at which it is refused, and ends in 'by all means' where the tactics that the prover begins with don't prove it in
-the function as it is; what a line 'also: NAME ..' has isn't proved besides, and isn't tried. --name-goals tries
-all goals of edits that name none, and writes these lines. Many edits are put in together, and a check looks at the
-edited functions alone (rattle check --only), over the proved libraries below. Of several edits of one function, of no
-trait and that doesn't call itself, all but one go into copies of it, which stand behind the others of its file with a
-copy of its proof each: what isn't refused there is tried again in place. An edit comes to one of these:
+goal at which it is refused; what a line 'also: NAME ..' has isn't proved besides, and isn't tried.
 
-    refused            a goal of an edited function isn't proved: one of what it promises, of what it owes to a function
-                       that it calls, or of an invariant. Arithmetic, a cast or an index alone doesn't count. The goal
-                       that the edit names is tried alone: its own proof in the function's proof files no longer fits,
-                       or, where it has none, the tactics that the prover begins with find none. Where the proof
-                       doesn't fit for a name alone, or the goal has another form, the prover tries it by all means.
-                       Where the goal is proved, or none is named, all goals are tried, without answers that don't fit;
-                       a goal whose answer didn't fit for a name alone doesn't count. Where it isn't the goal that the
-                       edit names, the line says so
+The goal is tried alone. An answer that was written for it by hand never counts by itself: it may no longer fit though
+the body means the same. By what means the goal is tried stands behind its name:
+
+    (nothing)       the tactics that the prover begins with, with the lemmas that the function names for them, or, where
+                    there is an answer written by hand, with those that it names
+    by its facts    the tactics, with the facts that the answer is made of; where one can't be stated with the edit, that
+                    tells nothing
+    by all means    all that the prover has
+
+An edit is refused where its goal isn't proved so, and one of these holds:
+
+    proved without the edit    the same means prove the goal in the function as it is. They are tried at it in the same
+                               check, once a function and goal; by all means it is proved with its crate, where no
+                               answer to it stands in proofs/, and the check sees that it is there, or, where the edit
+                               adds a way out, that the same promise is there at others, and so proved at each
+    false at values            the prover tells values at which the goal is false
+
+Arithmetic, a cast, an index or a step that isn't to be come to doesn't count. An edit comes to one of these:
+
+    refused            at its goal, or at another one of the edited function where its goal is proved: the line says so
     PROVED             the edit means the same as what it replaces, or the contract lets it through
-    NOT TELLING        it is refused, also alone, but at no such goal: for a name that is gone, say
+    NOT TELLING        it isn't proved, but neither of the two holds, or it isn't for a name that is gone, say
     CAN'T BE PUT IN    the old text doesn't stand there once, or the edited crate doesn't compile
+    NOT TRIED          there was no time left (gate.py)
 
-A goal that the tactics don't prove in the sound function either would tell nothing: sound_goals.py says which are so.
+Many edits are put in together, and a check looks at the edited functions alone (rattle check --only), over the proved
+libraries below. Of several edits of one function, of no trait and that doesn't call itself, all but one go into copies
+of it, which stand behind the others of its file: what isn't refused there is tried again in place. --name-goals tries
+all goals of edits that name none, or one that tells nothing, and writes the lines. With a crate's edits those of
+crates/NAME/same/*.edit are tried, bodies that mean the same as the right ones: where one of them counts as refused, no
+edit of the crate does. --controls tries all these, and rewordings of the functions whose goal has an answer written by
+hand.
+
 What was refused is noted in crates/*/wrong/refused by a sum of all that it rests on (refused.py), so that another run
-tries only what changed; --anew tries all. Needs Python 3 and rt. The last line is 'wrong bodies: N refused, M not'.
-Status 0: M is 0.
+tries only what changed; --anew tries all. Needs Python 3 and rt. The last line is 'wrong bodies: N refused, K not'.
+Status 0: K is 0.
 """
 
 import argparse
+import collections
 import os
 import re
 import shutil
@@ -38,34 +54,16 @@ import sys
 import tempfile
 from concurrent.futures import ThreadPoolExecutor
 
-from answers import by_tactics, with_one_goal, without_answers
-from edits import Edit, edits_of, file_of, folder_of, hints_of, homes_in, put_into_copies, read, round_of, sources_of
-from edits import write
-from kept import TOP
+from edits import Edit, controls_of, edits_of, file_of, folder_of, homes_in, put_into_copies, read, round_of, sound_of
+from edits import sources_of, write
+from judging import CANNOT, NOT_TELLING, PROVED, REFUSED
+from judging import aim, answers_for, compiles, decide, is_by_hand, last_of, learn, look, may_aim, settle, waits
 from prove import CORES, GIGABYTES, MEMORY, libraries_in, uses_of_all, with_all_below
 from refused import Grounds
-from workbench import OFFERED, Bench
+from rewordings import rewordings_of
+from workbench import Bench
 
-REFUSED, PROVED, NOT_TELLING, CANNOT = "refused", "PROVED", "NOT TELLING", "CAN'T BE PUT IN"
-# goals that say only that a step is safe, and nothing of what the function does
-SAFETY = re.compile(r"(overflow|cast|index|bounds|slice|div|rem|shift|neg|unwrap|expect)(_\w+)?(-|$)")
-OPEN_GOAL = re.compile(
-    r"(?:note: )?(?:\./)?(src/[^:]+):(\d+):\d+: (?:it is not proved that |`search` (?=found no proof ))"
-    r"(.*?) \(`([^`]+)`\)(.*)"
-)
-# how the line of a goal goes on that is false for some values, and that of one where search ended at a limit
-FALSE, LIMIT = "allow values at which", "gave up at one of its limits"
-# how a function's line goes on that isn't proved
-UNPROVED = re.compile(r": (not proved|no proof|could not tell)")
-# what is said of an answer that doesn't fit only because a step or a goal has another name, or is gone
-MISNAMED = re.compile(
-    r"has no field|is not in scope|has no `|was not admitted|was not checked|needs a function type"
-    r"|one has `c\.(?!args)([\w-]+)[.`].*the other has `c\.(?!args|\1[.`])[\w-]+[.`]"
-)
-# and that a goal has another form than the one that was proved
-OTHERWISE = re.compile(MISNAMED.pattern + r"|, at the start, and the other")
-# what the tactics say of a goal that they don't prove, but for one that isn't over what the function is generic in
-NOT_FOUND = re.compile(r"`grind`|`search`: no proof of `(?!\([gc] : )")
+NOT_TRIED = "NOT TRIED"
 # how often edits are tried together; what is open then is tried alone
 ROUNDS = 3
 # what --self-test tries: edits of hd_day's src/day.rt, what each must come to, and the goal that it names
@@ -84,194 +82,114 @@ SELF_TEST = [
 ]
 
 
-def compiles(said):
-    return re.match(r"(only|logic)=", said.rstrip("\n").rpartition("\n")[2]) is not None
-
-
-def settle(edit, verdict, said):
-    """Notes what the edit came to, and says it."""
-    edit.verdict, edit.said = verdict, said
-    print(edit, flush=True)
-
-
-def judge(edit, said, bench):
-    """Whether the log says what the edit comes to, and if so notes it."""
-    refusal = refusal_of(edit, said)
-    if refusal:
-        settle(edit, REFUSED, f"`{edit.goal}`, {place_of(edit)}: {refusal}")
-        return True
-    goals = [it.groups() for it in map(OPEN_GOAL.match, said.split("\n")) if it]
-    goals = [it for it in goals if edit.is_apart or (it[0], int(it[1]) - 1) in edit.places]
-    telling = [it for it in goals if not is_of_safety(it) and it[3] not in edit.misnamed]
-    telling.sort(key=lambda it: (it[3] != edit.goal, FALSE not in it[4], LIMIT in it[4]))
-    if edit.is_guided and edit.goal not in {it[3] for it in telling}:
-        return False
-    errors = re.findall(r"^(?:\./)?((?:src|proofs)/\S+: error.*)", said, re.M)
-    errors = [line for line in errors if line.startswith(tuple(folders_of(edit))) and OFFERED not in line]
-    if telling:
-        file, line, what, goal, _ = telling[0]
-        edit.found = goal, sorted({*edit.gone, *(it[3] for it in goals)} - {goal})
-        named = "" if edit.goal in (None, goal) else f" (it names `{edit.goal}`)"
-        line = int(line) - (edit.first_line - edit.functions[0].told.start if edit.copy else 0)
-        settle(edit, REFUSED, f"`{goal}`{named}, {file}:{line}: {what}")
-    elif not goals and not errors and are_proved(edit, bench):
-        settle(edit, PROVED, "it means the same as what it replaces, or the contract lets it through")
-    elif goals:
-        named = " (its answer names what the edit took away)" if goals[0][3] in edit.misnamed else ""
-        edit.said = f"`{goals[0][3]}` alone{named}, {goals[0][0]}:{goals[0][1]}: {goals[0][2]}"
-    else:
-        edit.said = next(iter([*errors, said.rstrip().rpartition("\n")[2]]))[:200]
-    return edit.verdict is not None
-
-
-def misfit_of(edit, said):
-    """Why what answers the goal that the edit names doesn't fit, if it doesn't."""
-    answers = re.escape(f"{folder_of(edit.asks()[0])}/Answers.antt")
-    start = rf"^(?:\./)?{answers}:\d+:\d+: error: `{re.escape(edit.goal)}`: "
-    found = re.search(start + r"(.*(?:\n  \(.*)?)", said, re.M)
-    return found and " ".join(found[1].split())
-
-
-def refusal_of(edit, said):
-    """Why the goal that the edit names isn't proved, if that is seen: its own proof has another type, and neither for a
-    name alone nor as a whole, or the tactics find none."""
-    misfit = edit.is_answered and misfit_of(edit, said)
-    if not misfit:
-        return None
-    is_otherwise = OTHERWISE.search(misfit.replace("before.", ""))  # what a step before is called
-    return misfit if not is_otherwise and (edit.has_own or NOT_FOUND.match(misfit)) else None
-
-
-def place_of(edit):
-    function = edit.functions[0]
-    return f"{function.file}:{function.lines[0] + 1}"
-
-
-def is_of_safety(goal):
-    """Whether it says only that a step is safe, or that a loop ends."""
-    return bool(SAFETY.match(goal[3])) or goal[2].startswith("the loop ends")
-
-
-def are_proved(edit, bench):
-    """Whether a check of the edit alone says that the edited functions are proved, as far as holes tell."""
-    said = bench.check([edit], is_short=False)
-    told = [line for line in said.split("\n") if line.startswith(f"fn {bench.crate}::")]
-    if not edit.is_apart:
-        paths = tuple(f"fn {bench.crate}::{function.path}: " for function in edit.functions)
-        told = [line for line in told if line.startswith(paths)]
-    is_told = edit.is_apart or len(told) == len(edit.functions) > 0
-    return compiles(said) and is_told and not any(UNPROVED.search(line) for line in told)
-
-
-def folders_of(edit):
-    """The folders of proofs/ that are of the edited functions."""
-    return ["proofs/"] if edit.is_apart else [folder_of(function.path) + "/" for function in edit.functions]
-
-
-def prune(edit, said, bench):
-    """Takes out of the edited functions' proof files the answers that the log refuses. Whether there were any more."""
-    folders, before = folders_of(edit), dict(edit.pruned)
-    errors = re.findall(r"^(?:\./)?(proofs/\S+/Answers\.antt):(\d+):\d+: error: (.*)", said, re.M)
-    errors = [it for it in errors if it[0].startswith(tuple(folders)) and OFFERED not in it[2]]
-    for file in {file for file, _, _ in errors}:
-        text = edit.pruned[file] if file in edit.pruned else read(os.path.join(bench.top, file))
-        own = [(int(line) - 1, what) for other, line, what in errors if other == file]
-        edit.pruned[file], gone = without_answers(text, {line for line, _ in own})
-        edit.gone |= gone
-        edit.misnamed |= gone - without_answers(text, {line for line, what in own if not MISNAMED.search(what)})[1]
-    return edit.pruned != before
-
-
-def guide(edit, bench, is_first=True):
-    """Has only the goal tried that the edit names, where it is of one function: at first by its own proof, where the
-    answers have one, or by the tactics that the prover begins with, unless these find none where nothing is wrong, and
-    then by all that it tries. What isn't proved besides is left open."""
-    if edit.goal is None or edit.is_apart or len(edit.functions) != 1:
-        return
-    is_first = is_first and not edit.is_hard
-    function, folder = edit.functions[0], folder_of(edit.functions[0].path)
-    files = [os.path.join(bench.top, folder, name) for name in ("Answers.antt", "Proof.antt")]
-    if not os.path.isfile(files[1]):
-        text = read(files[0]) if os.path.isfile(files[0]) else ""
-        goals = f"Rattle.{bench.crate}.{folder.replace('/', '.')}.Goals"
-        left, edit.has_own = with_one_goal(text, edit.goal, edit.others, goals, is_first)
-        edit.is_answered = edit.has_own or is_first
-        if edit.is_answered and not edit.has_own:
-            left = by_tactics(left, edit.goal, function, *hints_of(function, bench.crate))
-        edit.is_guided, edit.pruned[f"{folder}/Answers.antt"] = True, left
-
-
-def unguide(edit, said, bench):
-    """Has the prover try the goal that the edit names by all means, where what answers it doesn't fit and that doesn't
-    tell, or else all goals, where it isn't refused there. Whether there are any more."""
-    was_guided, is_open = edit.is_guided, edit.is_answered and misfit_of(edit, said)
-    if was_guided:
-        edit.is_guided, edit.is_answered, edit.has_own, edit.pruned = False, False, False, {}
-    if is_open:
-        guide(edit, bench, is_first=False)
-    return was_guided
-
-
-def try_round(edits, bench):
-    """Tries the edits in one check. Those that are still open, and can be tried otherwise."""
-    if len(edits) == 1:
+def try_round(edits, sounds, bench):
+    """Tries the edits in one check, and with them functions as they are. The edits that are still open, and can be tried
+    otherwise."""
+    if len(edits) == 1 and not sounds:
         edits[0].put_back()
     for edit in edits:
         edit.tries += 1
-    said = bench.check(edits)
+    said = bench.check([*edits, *sounds])
     if compiles(said):
-        left = [edit for edit in edits if not judge(edit, said, bench)]
-        left = [edit for edit in left if unguide(edit, said, bench) or prune(edit, said, bench) or len(edits) > 1]
+        bench.in_place |= {sound.functions[0].path for sound in sounds if not learn(sound, said, bench)}
+        left = [edit for edit in edits if look(edit, said, bench, len(edits) > 1)]
         for edit in left:
             edit.put_back()
         return left
-    if len(edits) == 1:
-        told = next((line for line in said.split("\n") if "error" in line), said.rstrip().rpartition("\n")[2])
+    if len(edits) == 1 and not sounds:
+        told = next((line for line in said.split("\n") if "error" in line), last_of(said))
         settle(edits[0], CANNOT, told[:200])
         return []
     places = {(file, int(line) - 1) for file, line in re.findall(r"^(?:\./)?(src/[^:]+):(\d+):\d+: error", said, re.M)}
-    blamed = [edit for edit in edits if places & edit.places] or edits
+    lost = [sound for sound in sounds if places & sound.places or not edits]
+    for sound in lost:
+        give_up(sound, bench)
+    blamed = [edit for edit in edits if places & edit.places] or ([] if lost else edits)
     rest = [edit for edit in edits if edit not in blamed]
-    left = [edit for one in blamed for edit in try_round([one], bench)]
-    return left + (try_round(rest, bench) if rest else [])
+    left = [edit for one in blamed for edit in try_round([one], [], bench)]
+    return left + (try_round(rest, [sound for sound in sounds if sound not in lost], bench) if rest else [])
+
+
+def give_up(sound, bench):
+    """Has a function as it is tried in place, where a copy doesn't compile, and else none of its goals proved."""
+    bench.in_place.add(sound.functions[0].path)
+    if not sound.copy:
+        bench.sound |= {(sound.functions[0].path, goal, by): False for goal, by in sound.asked.items()}
+
+
+def sounds_of(edits, bench):
+    """The functions as they are, each to be tried at the goals that its edits are tried at, where nothing is known yet."""
+    asked = {}
+    for edit in edits:
+        if edit.aim and edit.key() not in bench.sound and not is_by_hand(edit, bench):
+            asked.setdefault(edit.functions[0].path, (edit, {}))[1].setdefault(edit.aim, edit.by)
+    sounds = [sound_of(edit, goals) for edit, goals in asked.values()]
+    for sound in sounds:
+        function = sound.functions[0]
+        if function.path in bench.in_place:
+            sound.put_back()
+        sound.pruned[f"{folder_of(function.path)}/Answers.antt"] = answers_for(function, bench, sound.asked)
+    return sounds
+
+
+def try_together(edits, bench):
+    """Tries edits of a crate, as many in a check as fit together, and what is then still open alone."""
+    bench.sound, bench.in_place = {}, set()
+    for edit in edits:
+        if edit.goal and may_aim(edit, bench):
+            aim(edit, edit.goal, edit.means, bench)
+    aimed = [edit for edit in edits if edit.aim and not bench.is_whole]
+    put_into_copies(aimed, [edit for edit in edits if edit not in aimed])
+    left = list(edits)
+    while left and not bench.is_over():
+        ready, sounds = [edit for edit in left if not waits(edit, bench)], sounds_of(left, bench)
+        some = round_of([*sounds, *(edit for edit in ready if edit.tries < ROUNDS)]) or ready[:1]
+        came = try_round([it for it in some if it in ready], [it for it in some if it not in ready], bench)
+        left = [edit for edit in left if edit not in some] + came
+        left = [edit for edit in left if edit.refusal is None or waits(edit, bench) or decide(edit, bench)]
+    for edit in left:
+        settle(edit, NOT_TRIED, "there was no time left; make wrong tries it")
 
 
 def try_crate(edits, bench):
-    """Tries all edits of a crate. What isn't refused is tried once more beside the bodies of all functions."""
+    """Tries all edits of a crate. What isn't refused is tried once more beside the bodies of all functions, but for what
+    tells nothing at a goal. Where a body that means the same as the right one counts as refused, none does."""
     for edit in edits:
         edit.is_beside_all = False
         if edit.misfit:
             settle(edit, CANNOT, edit.misfit)
-    try_together([edit for edit in edits if not edit.misfit], bench)
-    left = [edit for edit in edits if not edit.misfit and edit.verdict != REFUSED]
+    controls = sound_controls_of(bench.crate)
+    try_together([edit for edit in [*controls, *edits] if not edit.misfit], bench)
+    left = [edit for edit in edits if edit.verdict not in (CANNOT, REFUSED, NOT_TRIED) and not edit.passed]
     if left:
         bench.put_bodies()
         for edit in left:
             edit.forget()
             edit.is_beside_all = True
         try_together(left, bench)
+    for control in controls:
+        for edit in edits if control.verdict != PROVED else ():
+            verdict = NOT_TRIED if control.verdict == NOT_TRIED else NOT_TELLING
+            settle(edit, verdict, f"a body that means the same isn't seen to, {control.name}: {control.said}")
 
 
-def try_together(edits, bench):
-    """Tries edits of a crate, as many in a check as fit together, and what is then still open alone."""
-    for edit in edits:
-        guide(edit, bench)
-    guided = [edit for edit in edits if edit.is_guided and not bench.is_whole]
-    put_into_copies(guided, [edit for edit in edits if edit not in guided])
-    left = edits
-    while left:
-        some = round_of([edit for edit in left if edit.tries < ROUNDS]) or left[:1]
-        left = [edit for edit in left if edit not in some] + try_round(some, bench)
-    for edit in edits:
-        if not edit.verdict:
-            settle(edit, NOT_TELLING, edit.said)
+def sound_controls_of(crate):
+    """Bodies of the crate that mean the same as the right ones, and which of them can't be put in."""
+    controls = controls_of(crate)
+    for control in controls:
+        if control.misfit:
+            settle(control, CANNOT, control.misfit)
+    return controls
 
 
 def name_goal(edit):
-    """Writes into the edit's file at which goal it was refused, and what wasn't proved besides."""
+    """Writes into the edit's file at which goal it was refused, and what wasn't proved besides, where it names another."""
+    if not edit.found or edit.found[::2] == (edit.goal, edit.means):
+        return
     lines = [line for line in read(file_of(edit)).rstrip("\n").split("\n") if not line.startswith(("goal: ", "also: "))]
-    goal, others = edit.found
-    lines += [f"goal: {goal}", *[f"also: {' '.join(others)}"] * bool(others)]
+    edit.goal, others, edit.means = edit.found
+    lines += [f"goal: {edit.goal} {edit.means}".rstrip(), *[f"also: {' '.join(others)}"] * bool(others)]
+    edit.others = set(others)
     write(file_of(edit), "\n".join(lines) + "\n")
 
 
@@ -317,17 +235,38 @@ def self_test(uses, room):
     return all(edit.verdict == wanted for edit, (_, wanted, *_) in zip(edits, SELF_TEST))
 
 
+def controls_hold(edits, uses, room):
+    """Whether no body counts as refused that means the same as a right one: those of crates/*/same, and rewordings of
+    the functions at goals that these edits name and that have an answer written by hand."""
+    def try_over(some, bench):
+        controls = [*sound_controls_of(bench.crate), *rewordings_of(some, bench)]
+        try_together([control for control in controls if not control.misfit], bench)
+        return controls
+
+    tried = [control for controls in over_crates(edits, uses, room, try_over).values() for control in controls]
+    count = {verdict: sum(control.verdict == verdict for control in tried) for verdict in (PROVED, REFUSED, CANNOT)}
+    print(f"wrong bodies: of {len(tried)} bodies that mean the same as the right ones {count[REFUSED]} count as refused; "
+          f"{count[CANNOT]} can't be put in")
+    return not count[REFUSED] and not any(control.misfit for control in tried)
+
+
 def refused_of(crate, edits):
     return [edit for edit in edits if edit.crate == crate and edit.verdict == REFUSED]
 
 
-def try_new(edits, uses, room, is_anew):
+def try_new(edits, uses, room, is_anew, names_goals):
     """Tries the edits, but for those that are known to be refused as they stand, and notes which are refused."""
     grounds = Grounds(uses)
+
+    def note(crate):
+        for edit in refused_of(crate, edits) if names_goals else ():
+            name_goal(edit)
+        grounds.note(crate, refused_of(crate, edits))
+
     for edit in edits:
         edit.verdict = REFUSED if not is_anew and grounds.is_known(edit) else None
     left = [edit for edit in edits if not edit.verdict]
-    seconds = try_all(left, uses, room, lambda crate: grounds.note(crate, refused_of(crate, edits))) if left else {}
+    seconds = try_all(left, uses, room, note) if left else {}
     for crate, used in seconds.items():
         print(f"{crate}: {sum(edit.crate == crate for edit in left)} tried in {used:.0f} processor seconds")
     minutes = sum(seconds.values()) / 60
@@ -339,6 +278,8 @@ def said_of_all(edits):
     others = [edit for edit in edits if edit.verdict != REFUSED]
     for edit in others:
         print(edit)
+    kinds = collections.Counter(edit.kind for edit in edits if edit.kind)
+    print("tried now: " + "; ".join(f"{kind}: {count}" for kind, count in kinds.items()))
     print(f"wrong bodies: {len(edits) - len(others)} refused, {len(others)} not", flush=True)
     return not others
 
@@ -350,6 +291,7 @@ def main():
     parser.add_argument("--anew", action="store_true", help="try also those that were refused before")
     parser.add_argument("--name-goals", action="store_true", help="write into edits that name no goal what refuses them")
     parser.add_argument("--self-test", action="store_true", help="see that edits that mustn't count as refused don't")
+    parser.add_argument("--controls", action="store_true", help="see that bodies that mean the same don't count as refused")
     chosen, uses = parser.parse_args(), uses_of_all()
     if chosen.crate and chosen.crate not in uses:
         parser.error("no such crate in crates.txt")
@@ -359,13 +301,14 @@ def main():
             print("wrong bodies: the script tells them apart" if is_well else "wrong bodies: the script is wrong")
             return 0 if is_well else 1
         edits = [edit for crate in uses if chosen.crate in (None, crate) for edit in edits_of(crate)]
+        if chosen.controls:
+            return 0 if controls_hold(edits, uses, room) else 1
         if chosen.list:
             print("\n".join(f"{edit.crate}/{edit.name}: {' '.join(edit.asks())}" for edit in edits))
             return 0
-        try_new(edits, uses, room, chosen.anew)
-    for edit in edits:
-        if chosen.name_goals and edit.found and not edit.goal:
-            name_goal(edit)
+        for edit in edits:
+            edit.is_sought |= chosen.name_goals
+        try_new(edits, uses, room, chosen.anew, chosen.name_goals)
     return 0 if said_of_all(edits) else 1
 
 

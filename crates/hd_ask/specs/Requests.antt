@@ -1,5 +1,5 @@
 -- Questions, and the requests that ask them.
-use Rattle.std.specs.Prelude.{ℕ, List, [], ◌∷◌, ◌++◌, codes, decimal}
+use Rattle.std.specs.Prelude.{ℕ, List, [], ◌∷◌, ◌++◌, ◌*◌, Option, Some, None, codes, decimal}
 use Rattle.std.specs.List.{concat}
 use Rattle.percent_encoding.specs.Percent.{percent_encode}
 use Rattle.hd_page.specs.declared.view.Inquiry.{Inquiry}
@@ -60,3 +60,10 @@ method_text Stop = codes "POST "
 unfoldable pub request_text : Question → List ℕ
 request_text question =
     method_text question ++ (concat (target_pieces question) ++ FIELDS.now)
+
+-- how many nanoseconds a read of the answer may wait: 60 seconds, and where the server is to end any number
+abbrev pub patience : Question → Option ℕ
+patience Health = Some (60 * 1_000_000_000)
+patience Metrics = Some (60 * 1_000_000_000)
+patience (See inquiry) = Some (60 * 1_000_000_000)
+patience Stop = None

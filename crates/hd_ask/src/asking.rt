@@ -1,7 +1,9 @@
 //! Asking a server.
-ghost use Rattle.std.specs.Prelude.{◌≡◌};
+ghost use Rattle.std.specs.Prelude.{◌≡◌, option_map};
+ghost use Rattle.std.specs.Duration.{as_nanos};
 ghost use Rattle.std.specs.IoError.{error_kind};
 ghost use Rattle.hd_ask.specs.Connecting.{fault_by};
+ghost use Rattle.hd_ask.specs.Requests.{patience};
 
 use crate::answer::{Answer, read_answer};
 use crate::fault::AskFault;
@@ -48,10 +50,20 @@ fn fault_of(error: &io::Error) -> AskFault
     }
 }
 
-/// Says a request. The server may let us wait so long, or, where it is to end, as long as that takes.
+/// Says a request, and sets how long a read of its answer may wait.
 fn say(mut server: &UnixStream, question: &Question<'_>, request: &[u8]) -> io::Result<()> {
-    if *question != Question::Stop {
-        server.set_read_timeout(Some(Duration::from_secs(PATIENCE)))?;
-    }
+    server.set_read_timeout(patience(question))?;
     server.write_all(request)
+}
+
+/// How long a read of an answer may wait: a minute, and as long as it takes where the server is to end.
+fn patience(question: &Question<'_>) -> Option<Duration>
+    ensures { option_map as_nanos result ≡ patience question.now }
+{
+    match question {
+        Question::Stop => None,
+        Question::Health | Question::Metrics | Question::See(_) => {
+            Some(Duration::from_secs(PATIENCE))
+        }
+    }
 }

@@ -1,5 +1,6 @@
 //! An office whose turns are announced.
-ghost use Rattle.std.specs.Prelude.{◌≡◌};
+ghost use Rattle.std.specs.Prelude.{◌≡◌, ◌+◌, min, IsTrue};
+ghost use Rattle.hd_attend.specs.Announcements.{AreAnnounced};
 
 use crate::surroundings::Surroundings;
 use hd_catalogue::Catalogue;
@@ -7,7 +8,8 @@ use hd_exchange::{Ask, Office, SeatNo, Turn, TurnFault};
 use hd_journal::Look;
 use std::alloc::Allocator;
 
-/// An office that a session asks, each of whose turns is announced to the session's surroundings beforehand.
+/// An office that a session asks, each of whose turns is announced to the session's surroundings beforehand:
+/// all up to the last were, each by its number.
 #[derive(Drop)]
 pub(crate) struct AnnouncedOffice<'a, O, S: Surroundings> {
     office: &'a mut O,
@@ -15,6 +17,7 @@ pub(crate) struct AnnouncedOffice<'a, O, S: Surroundings> {
     session: usize,
     /// The number of the last turn, or 0. At the greatest value it stays.
     turn: usize,
+    ghost announced: { AreAnnounced (S.is_announced surroundings.now session) turn },
 }
 
 impl<'a, O, S: Surroundings> AnnouncedOffice<'a, O, S> {
@@ -34,6 +37,16 @@ impl<'a, O, S: Surroundings> AnnouncedOffice<'a, O, S> {
             session,
             turn: 0,
         }
+    }
+
+    /// Announces the next turn: its number, which is one more.
+    fn announce(&self) -> usize
+        ensures next { result ≡ min (self.now.turn + 1) usize.MAX }
+        ensures announced { IsTrue (S.is_announced self.now.surroundings.now self.now.session result) }
+    {
+        let turn = self.turn.saturating_add(1);
+        self.surroundings.before_turn(self.session, turn);
+        turn
     }
 }
 
@@ -71,8 +84,7 @@ impl<'a, A: Allocator, O: Office<A>, S: Surroundings> Office<A> for AnnouncedOff
     }
 
     fn turn(&mut self, ask: &Ask<'_>) -> Result<Turn, TurnFault> {
-        self.turn = self.turn.saturating_add(1);
-        self.surroundings.before_turn(self.session, self.turn);
+        self.turn = self.announce();
         self.office.turn(ask)
     }
 }

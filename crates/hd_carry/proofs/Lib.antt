@@ -17,8 +17,3 @@ pub mod Real
 pub mod Exact
 pub mod Once
 pub mod Next
-pub mod Deciding
-pub mod SameHolds
-pub mod Back
-pub mod Compared
-pub mod Walked

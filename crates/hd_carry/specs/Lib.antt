@@ -7,5 +7,3 @@ pub mod Telling
 pub mod Laws
 pub mod Faults
 pub mod InTheWay
-pub mod Same
-pub mod CarriedOver

@@ -73,7 +73,7 @@ pub fn carry<A: Allocator + Copy>(
 }
 
 /// The titles of each desk have their queues.
-pub(crate) fn keeps_its_queues<A: Allocator + Copy>(desk: &Desk<A>)
+fn keeps_its_queues<A: Allocator + Copy>(desk: &Desk<A>)
     ensures { AreQueuesOf (facts desk.now) (desk_of desk.now) (queues_of desk.now) }
 {
     let _titles = desk.titles();
@@ -97,7 +97,7 @@ fn names_known_things<A: Allocator + Copy>(desk: &Desk<A>)
 }
 
 /// The new numbers of the names of a desk's catalogue, no two of which are equal.
-pub(crate) fn numbers_of<A: Allocator + Copy>(
+fn numbers_of<A: Allocator + Copy>(
     alloc: A,
     old: &Desk<A>,
     new: &Catalogue<A>,

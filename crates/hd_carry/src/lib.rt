@@ -6,9 +6,7 @@
 #![tactic(auto)]
 
 mod adding;
-mod before;
 mod carrying;
-mod comparing;
 mod copy_rows;
 mod counting;
 mod fault;
@@ -18,12 +16,10 @@ mod names;
 mod obstacle;
 mod obstacles;
 mod part;
-mod same;
 mod telling;
 mod writing_off;
 
 pub use crate::carrying::carry;
-pub use crate::comparing::is_carried_over;
 pub use crate::fault::CarryFault;
 pub use crate::laws::{
     names_keep_to_themselves, obstacles_are_exact, obstacles_are_real, rows_carry_a_desk_over,

@@ -235,7 +235,7 @@ fn copy_named<A: Allocator + Copy>(
 }
 
 /// Whether a title has this number.
-pub(crate) fn is_number(title: Option<TitleNo>, number: TitleNo) -> bool
+fn is_number(title: Option<TitleNo>, number: TitleNo) -> bool
     ensures { result ≡ is_number title number }
 {
     match title {

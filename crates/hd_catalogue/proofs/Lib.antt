@@ -4,3 +4,4 @@ pub mod FileLemmas
 pub mod FoundLemmas
 pub mod ShortLemmas
 pub mod NamesLemmas
+pub mod LongerLemmas

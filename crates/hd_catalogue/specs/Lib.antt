@@ -10,3 +10,4 @@ pub mod Files
 pub mod Reading
 pub mod Causes
 pub mod Openings
+pub mod Longer

@@ -2,6 +2,7 @@
 ghost use Rattle.std.specs.Prelude.{◌≡◌, ℕ, List};
 ghost use Rattle.hd_catalogue.specs.Contents.{Contents, WithoutRowsIsFresh};
 ghost use Rattle.hd_catalogue.specs.Files.{IsAccepted, IsFirstBad};
+ghost use Rattle.hd_catalogue.specs.Longer.{AnExtendedCatalogueGrows};
 
 use crate::cause::{CatFault, Cause};
 
@@ -18,4 +19,10 @@ pub fn accepted_or_refused()
 /// Where no rows are told and no number was given before, each copy is at home, and there are no holds.
 pub fn without_rows_is_fresh()
     ensures { WithoutRowsIsFresh }
+{}
+
+/// A catalogue with more names behind the last of each kind, whose new copies arrive behind the rows of the
+/// opening, is one that has grown.
+pub fn an_extended_catalogue_grows()
+    ensures { AnExtendedCatalogueGrows }
 {}

@@ -22,7 +22,7 @@ mod values;
 
 pub use crate::catalogue::Catalogue;
 pub use crate::cause::{CatFault, Cause};
-pub use crate::law::{accepted_or_refused, without_rows_is_fresh};
+pub use crate::law::{accepted_or_refused, an_extended_catalogue_grows, without_rows_is_fresh};
 pub use crate::lines::{FirstLine, first_line};
 pub use crate::opening::OpeningFault;
 pub use crate::text::{is_letter, is_long, is_name, number};

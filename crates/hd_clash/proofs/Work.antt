@@ -5,8 +5,8 @@ use Rattle.std.proofs.Math.Nat.{min-le_left}
 use Rattle.hd_rules.specs.declared.cells.Change.{Change}
 use Rattle.hd_rules.specs.declared.questions.Finding.{Finding}
 use Rattle.hd_rules.specs.Facts.{Facts}
-use Rattle.hd_footprint.specs.Meter.{Counts, with_one_more}
-use Rattle.hd_footprint.specs.declared.count.Count.TheVariants.{Compared}
+use Rattle.hd_meter.specs.Meter.{Counts, with_one_more}
+use Rattle.hd_meter.specs.declared.count.Count.TheVariants.{Compared}
 use Rattle.hd_clash.specs.Clash.{clashes}
 use Rattle.hd_clash.specs.Work.{with_comparisons, clash_work, AtMostFourEach}
 

@@ -33,5 +33,5 @@ pub(crate) const CARRY_EXAMPLE: &str =
 old and new are the SHA-256 of the files that the two journals begin with: of the opening, or of the first
 catalogue.
 
-Exit status: 0 well; 1 something is in the way, or a fault, printed as one line (docs/operating.md has them
+Exit status: 0 well; 1 something is in the way, or a fault, printed as one line (docs/faults.md has them
 all); 2 the command line was refused.";

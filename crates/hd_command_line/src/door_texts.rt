@@ -21,7 +21,7 @@ pub(crate) const COPY_EXAMPLE: &str = "Example:
   a1    ta     on loan                     p1      2026-03-22
 
 Exit status: 0 well; 1 a fault, printed as one line (`there is no copy NAME`, `no server listens at PATH`, and
-others, which docs/operating.md has with what to do); 2 the command line was refused.";
+others, which docs/faults.md has with what to do); 2 the command line was refused.";
 
 /// What `show title` does, in a line.
 pub(crate) const TITLE_ABOUT: &str = "Shows who waits for a title, in order";
@@ -41,7 +41,7 @@ pub(crate) const TITLE_EXAMPLE: &str = "Example:
   1         p2      2      any           north          a2
 
 Exit status: 0 well; 1 a fault, printed as one line (`there is no title NAME`, `no server listens at PATH`,
-and others, which docs/operating.md has with what to do); 2 the command line was refused.";
+and others, which docs/faults.md has with what to do); 2 the command line was refused.";
 
 /// What `show patron` does, in a line.
 pub(crate) const PATRON_ABOUT: &str = "Shows what a patron has, and what they wait for";
@@ -60,7 +60,7 @@ pub(crate) const PATRON_EXAMPLE: &str = "Example:
   copy  a1    ta     2026-03-22  0
 
 Exit status: 0 well; 1 a fault, printed as one line (`there is no patron NAME`, `no server listens at PATH`,
-and others, which docs/operating.md has with what to do); 2 the command line was refused.";
+and others, which docs/faults.md has with what to do); 2 the command line was refused.";
 
 /// What `show shelf` does, in a line.
 pub(crate) const SHELF_ABOUT: &str = "Shows the hold shelf of a branch";
@@ -79,7 +79,7 @@ pub(crate) const SHELF_EXAMPLE: &str = "Example:
   1      a2    ta     p2
 
 Exit status: 0 well; 1 a fault, printed as one line (`there is no branch NAME`, `no server listens at PATH`,
-and others, which docs/operating.md has with what to do); 2 the command line was refused.";
+and others, which docs/faults.md has with what to do); 2 the command line was refused.";
 
 /// What `show transit` does, in a line.
 pub(crate) const TRANSIT_ABOUT: &str = "Shows what is on its way to a branch";
@@ -98,7 +98,7 @@ pub(crate) const TRANSIT_EXAMPLE: &str = "Example:
   b1    tb     north   south  p3
 
 Exit status: 0 well; 1 a fault, printed as one line (`there is no branch NAME`, `no server listens at PATH`,
-and others, which docs/operating.md has with what to do); 2 the command line was refused.";
+and others, which docs/faults.md has with what to do); 2 the command line was refused.";
 
 /// What `show overdue` does, in a line.
 pub(crate) const OVERDUE_ABOUT: &str = "Shows the loans that were due before a day";
@@ -117,7 +117,7 @@ pub(crate) const OVERDUE_EXAMPLE: &str = "Example:
   a1    ta     p1      2026-03-22  0
 
 Exit status: 0 well; 1 a fault, printed as one line (`DAY is no day`, `no server listens at PATH`, and others,
-which docs/operating.md has with what to do); 2 the command line was refused.";
+which docs/faults.md has with what to do); 2 the command line was refused.";
 
 /// What `show expired` does, in a line.
 pub(crate) const EXPIRED_ABOUT: &str = "Shows the holds whose last day was before a day";
@@ -137,7 +137,7 @@ pub(crate) const EXPIRED_EXAMPLE: &str = "Example:
   tb     p3      3      any           south   2026-03-15  b1
 
 Exit status: 0 well; 1 a fault, printed as one line (`DAY is no day`, `no server listens at PATH`, and others,
-which docs/operating.md has with what to do); 2 the command line was refused.";
+which docs/faults.md has with what to do); 2 the command line was refused.";
 
 /// What `show turns` does, in a line.
 pub(crate) const TURNS_ABOUT: &str = "Shows what was asked of the desk, and what it came to";
@@ -159,7 +159,7 @@ pub(crate) const TURNS_EXAMPLE: &str = "Example: the last three turns
   5     t1        checkin  2026-03-01          a2    ta     done     5
 
 Exit status: 0 well; 1 a fault, printed as one line (`no server listens at PATH`, and others, which
-docs/operating.md has with what to do); 2 the command line was refused.";
+docs/faults.md has with what to do); 2 the command line was refused.";
 
 /// What `show command` does, in a line.
 pub(crate) const COMMAND_ABOUT: &str =
@@ -183,7 +183,7 @@ pub(crate) const COMMAND_EXAMPLE: &str = "Example: a hold, for which command 5 h
   after                       p2            ta                         north
 
 Exit status: 0 well; 1 a fault, printed as one line (`there is no command NUMBER`, `no server listens at
-PATH`, and others, which docs/operating.md has with what to do); 2 the command line was refused.";
+PATH`, and others, which docs/faults.md has with what to do); 2 the command line was refused.";
 
 /// What `status` does, in a line.
 pub(crate) const STATUS_ABOUT: &str = "Tells whether a server can do its work, and its numbers";
@@ -203,7 +203,7 @@ pub(crate) const STATUS_EXAMPLE: &str = "Example:
   health: ok
 
 Exit status: 0 it can do its work; 1 it can't, or a fault, printed as one line (`no server listens at PATH`,
-and others, which docs/operating.md has with what to do); 2 the command line was refused.";
+and others, which docs/faults.md has with what to do); 2 the command line was refused.";
 
 /// What `stop` does, in a line.
 pub(crate) const STOP_ABOUT: &str = "Ends a server, and waits until it has ended";
@@ -222,5 +222,5 @@ pub(crate) const STOP_EXAMPLE: &str = "Example:
   the server has ended
 
 Exit status: 0 it has ended: whether well, its own last line and status say; 1 a fault, printed as one line
-(`no server listens at PATH`, and others, which docs/operating.md has with what to do); 2 the command line was
+(`no server listens at PATH`, and others, which docs/faults.md has with what to do); 2 the command line was
 refused.";

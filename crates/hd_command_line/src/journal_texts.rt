@@ -1,7 +1,8 @@
 //! What the help of `journal` says, and the views that it prints.
 
 /// What `journal` does, in a line.
-pub(crate) const JOURNAL_ABOUT: &str = "Begins a journal's file, checks it, or prints views of it";
+pub(crate) const JOURNAL_ABOUT: &str =
+    "Begins a journal's file, checks it, has names join it, or prints views of it";
 
 /// What `journal begin` does, in a line.
 pub(crate) const JOURNAL_BEGIN_ABOUT: &str = "Begins a journal's file, which isn't there yet";
@@ -32,7 +33,7 @@ pub(crate) const JOURNAL_BEGIN_EXAMPLE: &str = "Example:
   begun: library/0002.journal
 
 Exit status: 0 well; 1 a fault, printed as one line (`there is a journal at FILE`, `there is a library in
-DIR`, and those of the catalogue, the opening and a journal's file, which docs/operating.md has with what to
+DIR`, and those of the catalogue, the opening and a journal's file, which docs/faults.md has with what to
 do); 2 the command line was refused.";
 
 /// What `journal check` does, in a line.
@@ -56,7 +57,7 @@ pub(crate) const JOURNAL_CHECK_EXAMPLE: &str = "Example:
   copies on hold shelves: 0
   copies in transit: 0
 
-Exit status: 0 well; 1 a fault, printed as one line (docs/operating.md has them all); 2 the command line was
+Exit status: 0 well; 1 a fault, printed as one line (docs/faults.md has them all); 2 the command line was
 refused.";
 
 /// What `journal views` does, in a line.

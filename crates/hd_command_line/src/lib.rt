@@ -10,6 +10,7 @@ mod door_parsing;
 mod door_texts;
 mod import_options;
 mod import_texts;
+mod join_texts;
 mod journal_texts;
 mod options;
 mod orders;
@@ -20,7 +21,8 @@ mod words;
 
 pub use crate::journal_texts::VIEWS;
 pub use crate::orders::{
-    Beyond, Carry, Check, Extended, Import, JournalBegin, JournalCheck, JournalShow, JournalViews,
-    Kiosks, LibraryFiles, Listing, Log, Order, Place, Replay, SeenTopic, Serve, Show, Status, Stop,
+    Beyond, Carry, Check, Extended, Import, JournalBegin, JournalCheck, JournalJoin, JournalShow,
+    JournalViews, Kiosks, LibraryFiles, Listing, Log, Order, Place, Replay, SeenTopic, Serve, Show,
+    Status, Stop,
 };
 pub use crate::parsing::parse;

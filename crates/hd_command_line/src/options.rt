@@ -34,6 +34,12 @@ pub(crate) const CATALOGUE_OR_FOLDER: OptionWords = OptionWords {
     ..CATALOGUE
 };
 
+/// The catalogue file whose names are to join a library.
+pub(crate) const CATALOGUE_THAT_JOINS: OptionWords = OptionWords {
+    help: "The whole catalogue as it is now; the names of it that the library lacks join",
+    ..CATALOGUE_ALWAYS
+};
+
 /// The opening file.
 pub(crate) const OPENING: OptionWords = OptionWords {
     name: "opening",
@@ -49,6 +55,13 @@ pub(crate) const FOLDER: OptionWords = OptionWords {
     help: "The folder of a library's numbered files, of which the last complete ones are meant",
     conflicts: &["journal"],
     ..PLAIN
+};
+
+/// A library's folder, which has to be told.
+pub(crate) const FOLDER_ALWAYS: OptionWords = OptionWords {
+    is_required: true,
+    conflicts: &[],
+    ..FOLDER
 };
 
 /// A library's folder, in the place of its files.
@@ -131,7 +144,7 @@ pub(crate) const LOG: OptionWords = OptionWords {
         words: &["quiet", "events", "messages"],
         defaults: &[],
     }),
-    help: "What to tell on standard error; without it: events where there is a door, else quiet",
+    help: "What to tell on standard error; without it: events",
     ..PLAIN
 };
 

@@ -17,6 +17,8 @@ pub enum Order<'a> {
     JournalBegin(JournalBegin<'a>),
     /// To check a journal's file.
     JournalCheck(JournalCheck<'a>),
+    /// To have names join a library.
+    JournalJoin(JournalJoin<'a>),
     /// To list what is at the desk of a journal's file.
     JournalShow(JournalShow<'a>),
     /// To print views of a journal's file.
@@ -47,6 +49,8 @@ pub struct LibraryFiles<'a> {
     pub opening: Option<&'a str>,
     /// The journal's file, where it is kept in one.
     pub journal: Option<&'a str>,
+    /// The file of the names that joined it, where it lies in a folder. There may be none.
+    pub joined: Option<&'a str>,
 }
 
 /// What of the extensions is switched on. Each is off where nothing is said, and then no byte of a reply
@@ -203,6 +207,15 @@ pub struct JournalCheck<'a> {
     /// Whether a journal that was written with another catalogue is accepted, where each of its turns is
     /// answered the same with this one.
     pub is_other_accepted: bool,
+}
+
+/// What `journal join` is asked to do.
+#[derive(Clone, Copy)]
+pub struct JournalJoin<'a> {
+    /// The folder of the library.
+    pub folder: &'a str,
+    /// The path of the catalogue file whose names are to join it.
+    pub catalogue: &'a str,
 }
 
 /// What `journal show` is asked to do.

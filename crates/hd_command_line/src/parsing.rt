@@ -1,15 +1,15 @@
 //! Reading the words of the command line.
 ghost use Rattle.std.specs.Prelude.{◌≡◌, IfNone, IfSome, IsFalse, IsTrue, None, Some, codes};
 ghost use Rattle.hd_command_line.specs.declared.orders.Beyond.TheVariants.{TurnAway, Wait};
-ghost use Rattle.hd_command_line.specs.declared.orders.Log.TheVariants.{Events, Quiet};
+ghost use Rattle.hd_command_line.specs.declared.orders.Log.TheVariants.{Events};
 ghost use Rattle.hd_command_line.specs.Logs.{log_named};
 ghost use Rattle.std.specs.Str.{bytes_eq};
 
 use crate::building::program;
 use crate::door_parsing::{show_of, status_of, stop_of};
 use crate::orders::{
-    Beyond, Carry, Check, Extended, Import, JournalBegin, JournalCheck, JournalShow, JournalViews,
-    Kiosks, LibraryFiles, Listing, Log, Order, Place, Replay, Serve,
+    Beyond, Carry, Check, Extended, Import, JournalBegin, JournalCheck, JournalJoin, JournalShow,
+    JournalViews, Kiosks, LibraryFiles, Listing, Log, Order, Place, Replay, Serve,
 };
 use clap::{ArgMatches, Error};
 use std::alloc::Global;
@@ -50,6 +50,7 @@ fn journal_order_of<'a>(found: &ArgMatches<'a>) -> Order<'a> {
     match found.subcommand() {
         Some(("begin", found)) => journal_begin_of(found),
         Some(("check", found)) => journal_check_of(found),
+        Some(("join", found)) => journal_join_of(found),
         Some(("show", found)) => journal_show_of(found),
         Some((_, found)) => journal_views_of(found),
         None => journal_views_of(found),
@@ -75,6 +76,7 @@ fn files_of<'a>(found: &ArgMatches<'a>) -> LibraryFiles<'a> {
         catalogue: text_of(found, "catalogue"),
         opening: found.get_str("opening"),
         journal: found.get_str("journal"),
+        joined: None,
     }
 }
 
@@ -118,7 +120,6 @@ fn kiosks_of(are_answered: bool, patrons: Option<&str>) -> Option<Kiosks<'_>>
 
 /// What `serve` is asked to do by what was found.
 fn serve_of<'a>(found: &ArgMatches<'a>) -> Order<'a> {
-    let door = found.get_str("door");
     let terminals = found.get_one::<u32>("terminals");
     Order::Serve(Serve {
         library: place_of(found),
@@ -131,8 +132,8 @@ fn serve_of<'a>(found: &ArgMatches<'a>) -> Order<'a> {
         has_line_feeds: has_line_feeds(found.get_str("replies-end").unwrap_or("cr")),
         is_wary: found.get_flag("journal-wary"),
         is_other_accepted: found.get_flag("accept-catalogue"),
-        door,
-        log: log_of(found.get_str("log"), door.is_some()),
+        door: found.get_str("door"),
+        log: log_of(found.get_str("log")),
         days_off: found.get_one::<u32>("days-off"),
         zone: found.get_str("zone"),
     })
@@ -151,17 +152,14 @@ fn beyond_of(are_terminals: bool) -> Beyond
     }
 }
 
-/// What is told while a server runs: as this word says, or else events where people can look at it by a door,
-/// and nothing where they can't.
-fn log_of(word: Option<&str>, has_door: bool) -> Log
+/// What is told while a server runs: as this word says, and events where nothing is said.
+fn log_of(word: Option<&str>) -> Log
     ensures said { IfSome word.entry (λ level. result ≡ log_named level.now) }
-    ensures with_door { IfNone word.entry (IsTrue has_door → result ≡ Events) }
-    ensures without_door { IfNone word.entry (IsFalse has_door → result ≡ Quiet) }
+    ensures unsaid { IfNone word.entry (result ≡ Events) }
 {
     match word {
         Some(word) => log_named(word),
-        None if has_door => Log::Events,
-        None => Log::Quiet,
+        None => Log::Events,
     }
 }
 
@@ -236,6 +234,14 @@ fn journal_check_of<'a>(found: &ArgMatches<'a>) -> Order<'a> {
     Order::JournalCheck(JournalCheck {
         library: place_of(found),
         is_other_accepted: found.get_flag("accept-catalogue"),
+    })
+}
+
+/// What `journal join` is asked to do by what was found.
+fn journal_join_of<'a>(found: &ArgMatches<'a>) -> Order<'a> {
+    Order::JournalJoin(JournalJoin {
+        folder: text_of(found, "library"),
+        catalogue: text_of(found, "catalogue"),
     })
 }
 

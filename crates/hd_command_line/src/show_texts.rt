@@ -22,5 +22,5 @@ pub(crate) const JOURNAL_SHOW_EXAMPLE: &str = "Example:
   p2      2      any     south   2026-04-01
 
 Exit status: 0 well; 1 a fault, printed as one line (`there is no title NAME`, `there is no branch NAME`, `DAY
-is no day`, and those of a journal's file, which docs/operating.md has with what to do); 2 the command line
+is no day`, and those of a journal's file, which docs/faults.md has with what to do); 2 the command line
 was refused.";

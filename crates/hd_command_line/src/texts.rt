@@ -113,9 +113,11 @@ connection whose messages lie further from the server's day; none is refused for
 
 With --door people look at the server while it runs, by `holddesk show` and `holddesk status` or a browser
 behind a proxy, and `holddesk stop` ends it well: its Unix socket is for the server's own user alone. A
-socket that an earlier server left is replaced. --log quiet tells what is told without a door; events has a
-line for each thing that happens to a connection or the journal; messages has each line and reply too,
-without passwords.";
+socket that an earlier server left is replaced.
+
+Standard error has a line for each thing that happens to the server, a connection or the journal: --log
+events, the default. messages has each line and reply too, without passwords. quiet has what the start says and
+the faults alone.";
 
 /// An example of `serve`, and its exit statuses.
 pub(crate) const SERVE_EXAMPLE: &str =
@@ -124,11 +126,15 @@ pub(crate) const SERVE_EXAMPLE: &str =
   $ holddesk serve --catalogue demonstration.catalogue --listen 127.0.0.1:6001 --workers 4 --connections 1 &
   listening on 127.0.0.1:6001, 4 workers
   the catalogue has 2 branches, 2 terminals, 3 patrons, 2 titles, 5 copies
+  event=listening address=\"127.0.0.1:6001\" workers=4
   $ printf '9300CNt1|COpw|\\r1720260301    100000AOlib|ABa1|\\r' | nc -N 127.0.0.1 6001 | tr '\\r' '\\n'
   941
   1803000120260301    100000CF0|ABa1|AJta|AQnorth|APnorth|
+  event=opened connection=1 address=\"127.0.0.1:40312\"
+  event=logged_in connection=1 terminal=\"t1\"
+  event=closed connection=1 address=\"127.0.0.1:40312\" why=peer messages=2 seconds=0
   closed: 1 turns, 0 survivors
 
 Exit status: 0 well; 1 a fault, printed as one line (`catalogue line N: CAUSE`, `cannot read the catalogue`,
 the same of `opening` and `patrons`, `cannot listen`, `cannot write`, `not closed`, `no thread`, `no memory`,
-and those of a journal's file, which docs/operating.md has with what to do); 2 the command line was refused.";
+and those of a journal's file, which docs/faults.md has with what to do); 2 the command line was refused.";

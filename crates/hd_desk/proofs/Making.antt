@@ -20,8 +20,8 @@ use Rattle.hd_rules.specs.Sound.{IsFit, EachOnIsFit}
 use Rattle.hd_catalogue.specs.Contents.{Contents, facts_of}
 use Rattle.hd_copies.specs.Standing.{standing, IsWelcome}
 use Rattle.hd_holds.specs.Held.{patron_hold, IsWelcome as IsWelcomeHold}
-use Rattle.hd_footprint.specs.Meter.{Counts, with_one_more}
-use Rattle.hd_footprint.specs.declared.count.Count.TheVariants.{Written}
+use Rattle.hd_meter.specs.Meter.{Counts, with_one_more}
+use Rattle.hd_meter.specs.declared.count.Count.TheVariants.{Written}
 use Rattle.hd_desk.specs.DeskValue.{DeskValue}
 use Rattle.hd_desk.specs.Desks.{contents, desk_of, facts}
 use Rattle.hd_inverse.specs.Cells.{AreApart, AreKnownChanges, HaveRoom, MayHave}

@@ -8,8 +8,8 @@ ghost use Rattle.hd_rules.specs.Known.{IsKnownAction};
 ghost use Rattle.hd_rules.specs.Record.{findings};
 ghost use Rattle.hd_rules.specs.Sound.{Sound};
 ghost use Rattle.hd_rules.specs.Step.{plan};
-ghost use Rattle.hd_footprint.specs.Meter.{with_one_more};
-ghost use Rattle.hd_footprint.specs.declared.count.Count.TheVariants.{Step};
+ghost use Rattle.hd_meter.specs.Meter.{with_one_more};
+ghost use Rattle.hd_meter.specs.declared.count.Count.TheVariants.{Step};
 ghost use Rattle.hd_desk.specs.Accepting.{IsAccepted};
 ghost use Rattle.hd_desk.specs.Asking.{ending_of, told_with};
 ghost use Rattle.hd_inverse.specs.Cells.{CanBeUndone};
@@ -86,7 +86,7 @@ impl<A: Allocator + Copy> Desk<A> {
     {
         laws();
         done.changes.clear();
-        let mut inquiry = Inquiry::new(self);
+        let mut inquiry = Inquiry::new(done.changes.allocator(), self);
         let reply = inquiry.follow(number, command, &mut done.changes)?;
         done.findings = inquiry.into_findings();
         Ok(reply)

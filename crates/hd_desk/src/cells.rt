@@ -8,7 +8,7 @@ ghost use Rattle.hd_rules.specs.Desk.{after, put, same_cell, value as value_in};
 ghost use Rattle.hd_rules.specs.Known.{IsKnownCell};
 ghost use Rattle.hd_rules.specs.Same.{same_value};
 ghost use Rattle.hd_rules.specs.Sound.{EachOnIsFit, IsFit};
-ghost use Rattle.hd_footprint.specs.Meter.{Counts};
+ghost use Rattle.hd_meter.specs.Meter.{Counts};
 ghost use Rattle.hd_inverse.specs.Cells.{AreApart, AreKnownChanges, HaveRoom, MayHave};
 ghost use Rattle.hd_inverse.specs.Work.{after_writes};
 ghost use Rattle.hd_desk.specs.Desks.{contents, desk_of, facts};

@@ -3,6 +3,7 @@ ghost use Rattle.std.specs.Prelude.{◌≡◌, []};
 
 use hd_footprint::{Findings, Footprint};
 use hd_rules::{Change, Finding};
+use std::alloc::Global;
 use std::marker::Model;
 
 /// What an accepted command did, and what it asked. It stands where the desk's caller wants it, so that the
@@ -22,13 +23,13 @@ impl Model for Done {
 }
 
 impl Done {
-    /// Nothing is done yet.
-    pub fn new() -> Done
+    /// Nothing is done yet. The allocator is never asked for memory.
+    pub fn new(alloc: Global) -> Done
         ensures { result ≡ record { changes = []; findings = [] } }
     {
         Done {
-            changes: Footprint::new(),
-            findings: Findings::new(),
+            changes: Footprint::new(alloc),
+            findings: Findings::new(alloc),
         }
     }
 

@@ -51,15 +51,15 @@ impl<'a, A: Allocator> Model for Inquiry<'a, A> {
 }
 
 impl<'a, A: Allocator + Copy> Inquiry<'a, A> {
-    /// Nothing is asked yet.
-    pub(crate) fn new(desk: &'a Desk<A>) -> Inquiry<'a, A>
+    /// Nothing is asked yet. The allocator is never asked for memory.
+    pub(crate) fn new(alloc: Global, desk: &'a Desk<A>) -> Inquiry<'a, A>
         ensures start { result ≡ record { desk = desk.now; asked = [] } }
         ensures kept { IsKeptDesk (facts desk.now) (desk_of desk.now) }
     {
         let _ = &desk.copies;
         Inquiry {
             desk,
-            findings: Findings::new(),
+            findings: Findings::new(alloc),
         }
     }
 

@@ -5,3 +5,4 @@ pub mod Heading
 pub mod Faults
 pub mod Odd
 pub mod Texts
+pub mod Nearest

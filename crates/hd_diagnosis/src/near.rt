@@ -1,10 +1,20 @@
 //! Names that are nearly others.
 ghost use Rattle.std.specs.Prelude.{◌≡◌, IfOk, IfSome, true};
 ghost use Rattle.hd_diagnosis.specs.Names.{is_defined};
+ghost use Rattle.hd_diagnosis.specs.Nearest.{nearer};
 
 use crate::defined::Defined;
 use std::alloc::{AllocError, Global};
 use strsim::osa_distance;
+
+/// A name that may have been meant.
+#[derive(Clone, Copy)]
+struct Near {
+    /// Its place among the names that are there.
+    place: usize,
+    /// How many edits lead to it.
+    edits: usize,
+}
 
 /// The name that is nearest to one that isn't there, where it is near enough for a slip: the first of those
 /// that the fewest edits lead to.
@@ -21,25 +31,30 @@ pub(crate) fn nearest<'a>(
     let Ok(name) = str::from_utf8(name) else {
         return Ok(None);
     };
-    let mut best = usize::MAX;
-    let mut place = 0usize;
-    for index in 0..names.count() {
-        let edits = match names.name_at(index) {
+    let mut near = None;
+    for place in 0..names.count() {
+        let edits = match names.name_at(place) {
             Some(other) => edits_to(alloc, name, other)?,
             None => None,
         };
-        if let Some(edits) = edits
-            && edits < best
-        {
-            best = edits;
-            place = index;
+        if let Some(edits) = edits {
+            near = Some(nearer(near, Near { place, edits }));
         }
     }
-    Ok(if best < usize::MAX {
-        names.name_at(place)
-    } else {
-        None
+    Ok(match near {
+        Some(near) => names.name_at(near.place),
+        None => None,
     })
+}
+
+/// The nearer of two names, where there was one before: the next only where fewer edits lead to it.
+fn nearer(before: Option<Near>, next: Near) -> Near
+    ensures { result ≡ nearer before next }
+{
+    match before {
+        Some(before) if before.edits <= next.edits => before,
+        _ => next,
+    }
 }
 
 /// How many edits lead from a name to another, where they are few enough for a slip in one place: an

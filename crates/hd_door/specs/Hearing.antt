@@ -5,8 +5,8 @@ use Rattle.httparse.specs.Grammar.{HasNoRequest, ReadsRequest, RequestHead}
 use Rattle.httparse.specs.Spans.{RequestOverflows}
 use Rattle.hd_door.specs.declared.fault.HearFault.{HearFault}
 use Rattle.hd_door.specs.declared.fault.HearFault.TheVariants.{Read, Ended, Memory}
-use Rattle.hd_door.specs.declared.hearing.Heard.{Heard}
-use Rattle.hd_door.specs.declared.hearing.Heard.TheVariants.{Whole, TooLong}
+use Rattle.hd_door.specs.declared.hearing.RequestText.{RequestText}
+use Rattle.hd_door.specs.declared.hearing.RequestText.TheVariants.{Whole, TooLong}
 
 -- a request begins with a whole head, or none of at most 64 fields can come of it
 abbrev pub IsSettled : List ℕ → Type 0
@@ -15,7 +15,7 @@ IsSettled request =
 
 -- What was heard by a reader that told these bytes before and after: all that it gave, at most 8,192 bytes.
 -- It is a request, or else as many bytes, of which none make a head.
-abbrev pub IsHeard : Option (List ℕ) → Option (List ℕ) → Heard → Type 0
+abbrev pub IsHeard : Option (List ℕ) → Option (List ℕ) → RequestText → Type 0
 IsHeard before after (Whole request) =
     Consumes before after request.items × (length request.items ≤ 8192) × IsSettled request.items
 IsHeard before after TooLong =

@@ -1,3 +1,4 @@
 pub mod Hearing
+pub mod Lingering
 pub mod Responding
 pub mod SocketFiles

@@ -28,13 +28,13 @@ pub struct Door {
 
 impl Door {
     /// Opens a door at a path: a socket's file that its owner alone may use. The file of a socket at which
-    /// nobody listens any more gives way.
+    /// nobody listens any more gives way. Beside it a folder is made, and removed again.
     ///
     /// # Errors
     /// `Live` where somebody listens at the path, and `OtherFile` where another file is there, which stays;
-    /// `Refused`, with the reason, where the system refuses.
+    /// `Refused`, with the reason, where the path is too long or the system refuses.
     pub fn open<R: Files + Net>(rt: &R, alloc: Global, path: &str) -> Result<Door, DoorFault> {
-        let (listener, file) = bind(rt, path)?;
+        let (listener, file) = bind(rt, alloc, path)?;
         let handle = UnixStream::from(OwnedFd::from(listener.try_clone()?));
         Ok(Door {
             listener,

@@ -18,7 +18,7 @@ const PIECE: usize = 1_024;
 
 /// What was heard of a request.
 #[derive(Drop)]
-pub enum Heard {
+pub enum RequestText {
     /// Its whole head and what came with it, or bytes that no more can make a head.
     Whole(Vec<u8>),
     /// As many bytes as are taken, and no head.
@@ -30,7 +30,7 @@ pub enum Heard {
 /// # Errors
 /// `Read` where a read fails, `Ended` where the input ends before a whole head; `Memory`.
 #[tactic(auto, using(crate::proofs::Nothing::no_head_in_nothing))]
-pub fn hear<I: Input>(alloc: Global, from: &mut I) -> Result<Heard, HearFault>
+pub fn hear<I: Input>(alloc: Global, from: &mut I) -> Result<RequestText, HearFault>
     ensures heard { IfOk result (IsHeard (I.remaining from.old) (I.remaining from.new)) }
     ensures why { IfErr result (HasReason (I.fails from.new) (I.remaining from.old) (I.remaining from.new)) }
 {
@@ -38,10 +38,10 @@ pub fn hear<I: Input>(alloc: Global, from: &mut I) -> Result<Heard, HearFault>
     while request.len() < MOST {
         hear_more(from, &mut request)?;
         if !wants_more(request.as_slice()) {
-            return Ok(Heard::Whole(request));
+            return Ok(RequestText::Whole(request));
         }
     }
-    Ok(Heard::TooLong)
+    Ok(RequestText::TooLong)
 }
 
 /// Reads once, behind what was read of a request.

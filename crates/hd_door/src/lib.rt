@@ -7,6 +7,7 @@ mod door;
 mod fault;
 mod hearing;
 mod lingering;
+mod private_folder;
 mod responding;
 mod serving;
 mod socket_file;
@@ -15,7 +16,7 @@ mod timely;
 
 pub use crate::door::Door;
 pub use crate::fault::{DoorFault, HearFault};
-pub use crate::hearing::{Heard, MOST, hear};
+pub use crate::hearing::{MOST, RequestText, hear};
 pub use crate::responding::{Response, respond};
 pub use crate::serving::{Service, serve};
 pub use crate::stopping::OnStop;

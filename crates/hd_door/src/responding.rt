@@ -2,7 +2,7 @@
 ghost use Rattle.std.specs.Prelude.{IfOk};
 ghost use Rattle.hd_door.specs.Responding.{IsResponse};
 
-use crate::hearing::Heard;
+use crate::hearing::RequestText;
 use hd_page::{Page, Sequel, View, answer, answer_too_long};
 use std::alloc::{AllocError, Global};
 
@@ -21,7 +21,7 @@ pub struct Response {
 /// Out of memory.
 pub fn respond<V: View>(
     alloc: Global,
-    heard: &Heard,
+    heard: &RequestText,
     page: &Page<'_>,
     view: &V,
 ) -> Result<Response, AllocError>
@@ -30,8 +30,8 @@ pub fn respond<V: View>(
 {
     let mut text = Vec::new(alloc);
     let sequel = match heard {
-        Heard::Whole(request) => answer(alloc, request.as_slice(), page, view, &mut text)?,
-        Heard::TooLong => {
+        RequestText::Whole(request) => answer(alloc, request.as_slice(), page, view, &mut text)?,
+        RequestText::TooLong => {
             answer_too_long(alloc, page, &mut text)?;
             Sequel::GoOn
         }

@@ -1,9 +1,10 @@
 //! Answering requests.
-ghost use Rattle.std.specs.Prelude.{◌≡◌, ◌≢◌, IfErr, IfOk, Ok, OnErr, true};
+ghost use Rattle.std.specs.Prelude.{◌*◌, ◌≡◌, ◌≢◌, IfErr, IfOk, None, Ok, OnErr, true};
+ghost use Rattle.std.specs.Duration.{as_nanos};
 ghost use Rattle.hd_page.specs.declared.answering.Sequel.TheVariants.{Stop};
 ghost use Rattle.hd_door.specs.Hearing.{HasReason, IsHeard};
 ghost use Rattle.hd_door.specs.Responding.{IsResponse, WentOut};
-ghost use Rattle.hd_door.specs.declared.hearing.Heard.{Heard};
+ghost use Rattle.hd_door.specs.declared.hearing.RequestText.{RequestText};
 ghost use Rattle.hd_door.specs.declared.responding.Response.{Response};
 
 use crate::connection::Connection;
@@ -132,7 +133,7 @@ fn attend<I: Input, O: Output, V: View, S: OnStop>(
     to: &mut O,
     on_stop: &mut S,
 ) -> Result<Sequel, HearFault>
-    ensures answered { IfOk result (λ sequel. (heard : Heard) × (response : Response)
+    ensures answered { IfOk result (λ sequel. (heard : RequestText) × (response : Response)
         × IsHeard (I.remaining from.old) (I.remaining from.new) heard
         × IsResponse service.now.page.policy.now (record {
           page = service.now.page.text.now;
@@ -177,7 +178,10 @@ fn within<'a, R: Clock>(
     rt: &'a R,
     connection: &'a UnixStream,
     seconds: u64,
-) -> Timely<'a, R, &'a UnixStream> {
+) -> Timely<'a, R, &'a UnixStream>
+    ensures seconds { as_nanos result.within ≡ seconds * 1_000_000_000 }
+    ensures later { result.deadline ≡ None }
+{
     Timely {
         rt,
         within: Duration::from_secs(seconds),

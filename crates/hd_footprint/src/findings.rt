@@ -1,35 +1,36 @@
 //! What one command asked and found.
 ghost use Rattle.std.specs.Prelude.{◌≡◌, ◌<◌, ◌≤◌, [], ◌∷◌, ◌++◌, length};
 
-use arrayvec::ArrayVec;
 use hd_rules::Finding;
+use smallvec::SmallVec;
+use std::alloc::Global;
 use std::marker::Model;
 
 /// The questions that one command asks with their noted answers, in order: at most four (docs/desk-rules.md).
-/// They stand in the value itself, and no call takes memory.
+/// They are kept in the value itself, so that no call asks the allocator for memory.
 #[derive(Drop, Debug)]
 pub struct Findings {
-    findings: ArrayVec<Finding, 4>,
+    findings: SmallVec<Finding, 4>,
 }
 
 impl Model for Findings {
-    ghost use Rattle.std.specs.Prelude.{List, ◌≤◌, length};
+    ghost use Rattle.std.specs.Prelude.{List, ◌≡◌, ◌≤◌, length};
     ghost use Rattle.hd_rules.specs.declared.questions.Finding.{Finding};
 
     ghost Value = { List Finding };
 
     ghost view = { λ f. f.findings.items };
 
-    ghost invariant = { λ f. length f.findings.items ≤ 4 };
+    ghost invariant = { λ f. (f.findings.capacity ≡ 4) × (length f.findings.items ≤ 4) };
 }
 
 impl Findings {
     /// No questions.
-    pub fn new() -> Findings
+    pub fn new(alloc: Global) -> Findings
         ensures { result ≡ [] }
     {
         Findings {
-            findings: ArrayVec::new(),
+            findings: SmallVec::new(alloc),
         }
     }
 
@@ -40,7 +41,7 @@ impl Findings {
     {
         // Taken apart, since the checker of borrows can't follow one that is handed on whole.
         let Finding { question, noted } = finding;
-        self.findings.push(Finding { question, noted });
+        self.findings.push_reserved(Finding { question, noted });
     }
 
     /// The questions with their noted answers, in order.

@@ -1,35 +1,36 @@
 //! The changes of one command.
 ghost use Rattle.std.specs.Prelude.{◌≡◌, ◌<◌, ◌≤◌, [], ◌∷◌, ◌++◌, length};
 
-use arrayvec::ArrayVec;
 use hd_rules::Change;
+use smallvec::SmallVec;
+use std::alloc::Global;
 use std::marker::Model;
 
-/// The changes that one command makes, in order: at most four (docs/desk-rules.md). They stand in the value
-/// itself, and no call takes memory.
+/// The changes that one command makes, in order: at most four (docs/desk-rules.md). They are kept in the value
+/// itself, so that no call asks the allocator for memory.
 #[derive(Drop, Debug)]
 pub struct Footprint {
-    changes: ArrayVec<Change, 4>,
+    changes: SmallVec<Change, 4>,
 }
 
 impl Model for Footprint {
-    ghost use Rattle.std.specs.Prelude.{List, ◌≤◌, length};
+    ghost use Rattle.std.specs.Prelude.{List, ◌≡◌, ◌≤◌, length};
     ghost use Rattle.hd_rules.specs.declared.cells.Change.{Change};
 
     ghost Value = { List Change };
 
     ghost view = { λ f. f.changes.items };
 
-    ghost invariant = { λ f. length f.changes.items ≤ 4 };
+    ghost invariant = { λ f. (f.changes.capacity ≡ 4) × (length f.changes.items ≤ 4) };
 }
 
 impl Footprint {
     /// No changes.
-    pub fn new() -> Footprint
+    pub fn new(alloc: Global) -> Footprint
         ensures { result ≡ [] }
     {
         Footprint {
-            changes: ArrayVec::new(),
+            changes: SmallVec::new(alloc),
         }
     }
 
@@ -47,7 +48,12 @@ impl Footprint {
     {
         // Taken apart, since the checker of borrows can't follow one that is handed on whole.
         let Change { cell, old, new } = change;
-        self.changes.push(Change { cell, old, new });
+        self.changes.push_reserved(Change { cell, old, new });
+    }
+
+    /// The allocator, which would be asked for memory only if there were more than four.
+    pub fn allocator(&self) -> Global {
+        *self.changes.allocator()
     }
 
     /// The changes, in order.

@@ -1,13 +1,11 @@
-//! What a command did: what it found, what it changed, and the work that it took.
+//! What a command did: what it asked and found, what it changed, and whether its findings clash with changes.
 #![tactic(auto)]
 
-mod count;
 mod findings;
 mod footprint;
-mod meter;
 
-pub use crate::count::Count;
 pub use crate::findings::Findings;
 pub use crate::footprint::Footprint;
-pub use crate::meter::Meter;
-pub use hd_rules::{Change, Finding, Noted, Question};
+pub use hd_clash::clashes;
+pub use hd_meter::{Count, Meter};
+pub use hd_rules::{Answer, Cell, Change, Finding, Noted, Question, Value};

@@ -14,6 +14,11 @@ pub record AreTurnsOf (o : Opening) (turns : List Turn) (seats : List SeatView) 
   pub once : IsPermutation (with_numbers 0 turns) (all_receipts seats)
   pub counted : length turns ≡ shares seats
 
+-- In so many parts of a ledger, which are all that it has, as many turns are counted as these. So no seat has a
+-- part.
+abbrev pub AreAllParts : ℕ → ℕ → ℕ → List Turn → Type 0
+AreAllParts all parts amount turns = (parts ≡ all) × (amount ≡ length turns)
+
 -- There is a turn of that number, and no seat has a receipt for it.
 abbrev pub IsLacking : List Turn → List SeatView → ℕ → Type 0
 IsLacking turns seats number =

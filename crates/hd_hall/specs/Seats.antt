@@ -59,6 +59,10 @@ with_receipt s r = record {
   share = s.share + 1;
 }
 
+-- The seat has its part of the ledger, and what is asked is asked from the seat of this number: its own.
+abbrev pub IsAskedFrom : SeatView → ℕ → Type 0
+IsAskedFrom s number = (s.parts ≡ 1) × (number ≡ s.number)
+
 abbrev pub EachSeat : List SeatView → (SeatView → Type 0) → Type 0
 EachSeat seats P = (k : ℕ) (s : SeatView) → slice_get seats k ≡ Some s → P s
 

@@ -6,7 +6,7 @@ ghost use Rattle.std.specs.List.{All, Contains};
 ghost use Rattle.hd_rules.specs.Journal.{Turn};
 ghost use Rattle.hd_journal.specs.Books.{turn_numbered};
 ghost use Rattle.hd_journal.specs.Shown.{turn_shown};
-ghost use Rattle.hd_hall.specs.Closings.{AreThere, AreTurnsOf, IsLacking, LacksReceipt};
+ghost use Rattle.hd_hall.specs.Closings.{AreAllParts, AreThere, AreTurnsOf, IsLacking, LacksReceipt};
 ghost use Rattle.hd_hall.specs.Receipts.{StandsAt};
 ghost use Rattle.hd_hall.specs.Seats.{EachSeat, IsWhole, all_receipts, with_part, without_part, shares};
 
@@ -18,7 +18,8 @@ use hd_journal::{TurnRef, Turns};
 use std::alloc::Allocator;
 use std::sync::ledger::{Book, Share};
 
-/// The number of a turn of which no seat has the receipt. With `None` the turns are the receipts.
+/// The number of a turn of which no seat has the receipt. With `None` the turns are the receipts, and the rest
+/// has all parts of the ledger.
 pub(crate) fn differing<H: House, A: Allocator, T: Turns>(
     journal: &T,
     book: &mut Book<H>,
@@ -27,14 +28,16 @@ pub(crate) fn differing<H: House, A: Allocator, T: Turns>(
 ) -> Option<usize>
     requires seats { EachSeat seats.old (λ s. s.parts ≡ 1) }
     requires counted { book.old.total ≡ length (T.turns journal.now) }
-    requires empty { (rest.old.amount ≡ 0) × (0 < rest.old.parts) }
-    requires all { H.parts ≤ rest.old.parts + length seats.old }
+    // nothing is counted in the rest, and with the seats it has all parts
+    requires all { (rest.old.amount ≡ 0) × (0 < rest.old.parts)
+        × (H.parts ≤ rest.old.parts + length seats.old) }
     ensures none { IfNone result (AreTurnsOf (T.opening journal.now) (T.turns journal.now) seats.old) }
     ensures some { IfSome result (LacksReceipt (T.opening journal.now) (T.turns journal.now) seats.old) }
     ensures same { OnSome result (seats.new ≡ seats.old) }
     ensures whole { EachSeat seats.old IsWhole }
     // no seat is there whose part the ledger hasn't
-    ensures apart { rest.old.parts + length seats.old ≤ H.parts }
+    ensures apart { (rest.old.parts + length seats.old ≤ H.parts)
+        × IfNone result (AreAllParts H.parts rest.new.parts rest.new.amount (T.turns journal.now)) }
 {
     gather(rest, seats);
     audit(book, rest);

@@ -5,12 +5,12 @@ ghost use Rattle.std.specs.Prelude.{length, vec_capacity};
 ghost use Rattle.std.specs.Arc.{arc_value};
 ghost use Rattle.hd_catalogue.specs.Contents.{facts_of};
 ghost use Rattle.hd_rules.specs.Messages.{IsKnownMessage, turn_with_reply, message_of};
-ghost use Rattle.hd_hall.specs.Closings.{AreTurnsOf};
+ghost use Rattle.hd_hall.specs.Closings.{AreAllParts, AreTurnsOf};
 ghost use Rattle.hd_journal.specs.Books.{Book};
 ghost use Rattle.hd_hall.specs.Faults.{IsLockFault, IsLookFault, IsSubmitFault, NeedsMemory};
 ghost use Rattle.hd_hall.specs.Looking.{IsShownTo};
 ghost use Rattle.hd_hall.specs.Receipts.{receipt_of, receipt_shown};
-ghost use Rattle.hd_hall.specs.Seats.{EachSeat, HasRoom, IsWhole, with_receipt};
+ghost use Rattle.hd_hall.specs.Seats.{EachSeat, HasRoom, IsAskedFrom, IsWhole, with_receipt};
 ghost use Rattle.hd_hall.specs.Submitting.{AreNext, IsNextOf, IsStrangeTo};
 
 use crate::hall_state::HallState;
@@ -46,6 +46,17 @@ impl<H: House, A: Allocator, Q: Drop, K: Turns + Drop> Drop for Hall<H, A, Q, K>
             shared: _shared,
         } = self;
     }
+}
+
+/// A hall that has closed: what kept its journal, and all parts of its ledger.
+///
+/// Each seat that was opened has one part as long as it is there (`no_seat_is_left`).
+#[derive(Drop)]
+pub struct Closed<H: House, K: Turns> {
+    /// What kept the journal.
+    pub keeper: K,
+    /// The parts of the ledger: those of the seats, and those that no seat had.
+    pub ledger: Share<H>,
 }
 
 /// Why a hall did not close. The seats come back as they were.
@@ -117,7 +128,8 @@ impl<H: House, A: Allocator + Copy, Q: Drop, K: Turns + Drop> Hall<H, A, Q, K> {
     }
 
     /// The journal, whose turns are the receipts of these seats, each once. The seats are all that the hall
-    /// has opened (`HallState::close`, clause `all`). It takes no memory.
+    /// has opened: with their parts the ledger has all of its parts again, so no other seat has one. It takes
+    /// no memory.
     ///
     /// Each receipt is compared with the journal's turn of its number. Where the seats stand in the order of
     /// their numbers, this is all that is compared; else each turn's receipt is looked for.
@@ -125,11 +137,13 @@ impl<H: House, A: Allocator + Copy, Q: Drop, K: Turns + Drop> Hall<H, A, Q, K> {
     /// # Errors
     /// `SeatMissing` exactly where fewer seats are handed in than were opened, and `ReceiptDiffers` where
     /// some turn has no receipt. The seats come back as they were.
-    pub fn close(self, seats: Vec<Seat<H, A>, A>) -> Result<K, NotClosed<H, A, Q, K>>
+    pub fn close(self, seats: Vec<Seat<H, A>, A>) -> Result<Closed<H, K>, NotClosed<H, A, Q, K>>
         requires parts { H.parts ≡ 4294967296 }
         requires seats { EachSeat seats.items (λ s. s.parts ≡ 1) }
-        ensures turns { IfOk result (λ keeper. AreTurnsOf H.opening (K.turns keeper) seats.items) }
-        ensures opening { IfOk result (λ keeper. K.opening keeper ≡ H.opening) }
+        ensures all { IfOk result (λ closed.
+            AreAllParts H.parts closed.ledger.parts closed.ledger.amount (K.turns closed.keeper)) }
+        ensures turns { IfOk result (λ closed. AreTurnsOf H.opening (K.turns closed.keeper) seats.items) }
+        ensures opening { IfOk result (λ closed. K.opening closed.keeper ≡ H.opening) }
         ensures in_order { OnOk result (EachSeat seats.items IsWhole) }
         ensures missing { IfErr result (λ why. Misses H.opening why seats.items) }
     {
@@ -161,8 +175,7 @@ impl<H: House, A: Allocator + Copy, Q: Drop, K: Keeper<A, Q> + Drop> Hall<H, A, 
         seat: &mut Seat<H, A>,
         ask: &Ask<'l>,
     ) -> Result<Receipt<'l>, TurnFault>
-        requires part { seat.old.parts ≡ 1 }
-        requires seat { ask.now.seat ≡ seat.old.number }
+        requires seat { IsAskedFrom seat.old ask.now.seat }
         requires known { IsKnownMessage (facts_of H.opening.contents) (message_of ask.now).message }
         ensures turn { IfOk result (λ receipt.
             (receipt_shown receipt).turn ≡ turn_with_reply (message_of ask.now) receipt.turn.reply) }
@@ -259,8 +272,8 @@ impl<H: House, A: Allocator + Copy, Q: Drop, K: Keeper<A, Q> + Drop> Hall<H, A, 
         requires known { IsKnownMessage (facts_of H.opening.contents) (K.asks own).message }
         ensures next { IfOk result (λ made.
             IsNextOf H.opening receipts.now (receipt_of (K.asks own) made)) }
-        ensures share { OnOk result (share.new.amount ≡ share.old.amount + 1) }
-        ensures parts { share.new.parts ≡ share.old.parts }
+        ensures share { OnOk result
+            ((share.new.parts ≡ share.old.parts) × (share.new.amount ≡ share.old.amount + 1)) }
         ensures why { IfErr result (IsLockFault K.faults (IsStrangeTo H.opening receipts.now)) }
         ensures err { OnErr result (share.new ≡ share.old) }
     {

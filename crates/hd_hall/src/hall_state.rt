@@ -10,13 +10,13 @@ ghost use Rattle.hd_journal.specs.Keepers.{IsAdded};
 ghost use Rattle.hd_journal.specs.Looks.{HasGoneOn};
 ghost use Rattle.hd_journal.specs.Openings.{IsLegalSince};
 ghost use Rattle.hd_journal.specs.declared.fault.TurnFault.TheVariants.{Unwritten};
-ghost use Rattle.hd_hall.specs.Closings.{AreTurnsOf};
+ghost use Rattle.hd_hall.specs.Closings.{AreAllParts, AreTurnsOf};
 ghost use Rattle.hd_hall.specs.Faults.{IsLockFault, IsLookFault};
 ghost use Rattle.hd_hall.specs.Receipts.{HoldsLast, LacksLast, StandsAt, last_receipt};
 ghost use Rattle.hd_hall.specs.Seats.{EachSeat, IsWhole};
 
 use crate::closing::differing;
-use crate::hall::{Hall, NotClosed};
+use crate::hall::{Closed, Hall, NotClosed};
 use crate::house::House;
 use crate::seat::Seat;
 use crate::stored_receipt::StoredReceipt;
@@ -88,14 +88,14 @@ impl<H: House, A: Allocator, Q: Drop, K: Keeper<A, Q>> HallState<H, A, Q, K> {
         share: &mut Share<H>,
         own: Q,
     ) -> Result<Turn, TurnFault>
-        requires part { 0 < share.old.parts }
-        requires known { IsKnownMessage (facts_of H.opening.contents) (K.asks own).message }
+        requires asked { (0 < share.old.parts)
+            × IsKnownMessage (facts_of H.opening.contents) (K.asks own).message }
         ensures legal { IsLegalSince H.opening (K.turns self.new.keeper) }
         ensures turn { IfOk result (λ made.
             IsAdded (K.turns self.old.keeper) (K.turns self.new.keeper) (K.asks own) made) }
         ensures holds { OnOk result (HoldsLast (K.turns self.old.keeper) receipts.now) }
-        ensures share { OnOk result (share.new.amount ≡ share.old.amount + 1) }
-        ensures parts { share.new.parts ≡ share.old.parts }
+        ensures share { OnOk result
+            ((share.new.parts ≡ share.old.parts) × (share.new.amount ≡ share.old.amount + 1)) }
         ensures why { IfErr result (IsLockFault K.faults (λ front.
             (front ≡ length (K.turns self.old.keeper))
             × LacksLast (K.turns self.old.keeper) receipts.now)) }
@@ -181,14 +181,14 @@ impl<H: House, A: Allocator, Q: Drop, K: Turns + Drop> HallState<H, A, Q, K> {
         alloc: A,
         catalogue: Arc<Catalogue<A>, A>,
         mut seats: Vec<Seat<H, A>, A>,
-    ) -> Result<K, NotClosed<H, A, Q, K>>
-        requires catalogue { arc_value catalogue ≡ H.opening.contents }
-        requires parts { H.parts ≡ 4294967296 }
+    ) -> Result<Closed<H, K>, NotClosed<H, A, Q, K>>
+        requires house { (arc_value catalogue ≡ H.opening.contents) × (H.parts ≡ 4294967296) }
         requires seats { EachSeat seats.items (λ s. s.parts ≡ 1) }
-        // the seats that were opened are all there
-        ensures all { OnOk result (length seats.items ≡ self.tickets.given) }
-        ensures turns { IfOk result (λ keeper. AreTurnsOf H.opening (K.turns keeper) seats.items) }
-        ensures opening { IfOk result (λ keeper. K.opening keeper ≡ H.opening) }
+        // the seats that were opened are all there, and with them all parts of the ledger
+        ensures all { IfOk result (λ closed. (length seats.items ≡ self.tickets.given)
+            × AreAllParts H.parts closed.ledger.parts closed.ledger.amount (K.turns closed.keeper)) }
+        ensures turns { IfOk result (λ closed. AreTurnsOf H.opening (K.turns closed.keeper) seats.items) }
+        ensures opening { IfOk result (λ closed. K.opening closed.keeper ≡ H.opening) }
         ensures in_order { OnOk result (EachSeat seats.items IsWhole) }
         ensures missing { IfErr result (λ why. Misses H.opening why seats.items) }
         // it is told that one is missing where one is, and how many were opened
@@ -215,7 +215,10 @@ impl<H: House, A: Allocator, Q: Drop, K: Turns + Drop> HallState<H, A, Q, K> {
         } = self;
         let mut rest = tickets.into_rest();
         match differing(&keeper, &mut book, &mut rest, seats.as_mut_slice()) {
-            None => Ok(keeper),
+            None => Ok(Closed {
+                keeper,
+                ledger: rest,
+            }),
             Some(number) => Err(NotClosed::ReceiptDiffers {
                 keeper,
                 seats,

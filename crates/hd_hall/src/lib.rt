@@ -12,9 +12,9 @@ mod stored_receipt;
 mod tickets;
 
 pub use crate::counter::Counter;
-pub use crate::hall::{Hall, NotClosed};
+pub use crate::hall::{Closed, Hall, NotClosed};
 pub use crate::house::House;
 pub use crate::receipt::Receipt;
-pub use crate::seat::Seat;
+pub use crate::seat::{Seat, no_seat_is_left};
 pub use crate::stored_receipt::StoredReceipt;
 pub use hd_journal::{Ask, CataloguedKeeper, Keeper, TurnFault as HallFault, TurnRef, Turns};

@@ -29,10 +29,11 @@ pub struct Seat<H: House, A: Allocator = Global> {
 impl<H: House, A: Allocator> Drop for Seat<H, A> {
     fn drop(self) {
         let Seat {
-            ticket: _ticket,
+            ticket,
             receipts: _receipts,
             share: _share,
         } = self;
+        ticket.retire();
     }
 }
 
@@ -97,6 +98,17 @@ impl<H: House, A: Allocator> Seat<H, A> {
         let count = self.receipts.len() as u64;
         all.give(&mut self.share, 1, count);
     }
+}
+
+/// No seat of a ledger has a part where all parts are in another's hand. So none is left of a hall that has
+/// closed (`Hall::close`). It does nothing.
+pub fn no_seat_is_left<H: House, A: Allocator>(ledger: &mut Share<H>, seat: &mut Seat<H, A>)
+    requires { ledger.old.parts ≡ H.parts }
+    ensures none { seat.old.parts ≡ 0 }
+    ensures ledger { (ledger.new.parts ≡ ledger.old.parts) × (ledger.new.amount ≡ ledger.old.amount) }
+    ensures seat { seat.new ≡ seat.old }
+{
+    seat.share.give(ledger, 0, 0);
 }
 
 /// Makes room for one receipt more: for sixteen, where there are as many as there was room for.

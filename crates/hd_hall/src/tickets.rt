@@ -11,19 +11,11 @@ use std::sync::ledger::Share;
 pub(crate) const SEATS: u32 = 4_294_967_295;
 
 /// The number of a seat. No other seat of its house has it, since only `Tickets` give numbers.
+///
+/// It can't be dropped: one that was given goes with its seat.
 pub(crate) struct Ticket<H: House> {
     number: SeatNo,
     of: PhantomData<H>,
-}
-
-// Written out, so that a caller's proof sees one call and not the drop of each field.
-impl<H: House> Drop for Ticket<H> {
-    fn drop(self) {
-        let Ticket {
-            number: _number,
-            of: _of,
-        } = self;
-    }
 }
 
 impl<H: House> Model for Ticket<H> {
@@ -38,6 +30,14 @@ impl<H: House> Ticket<H> {
         ensures { result ≡ self.now }
     {
         self.number
+    }
+
+    /// Lets it go, with its seat.
+    pub(crate) fn retire(self) {
+        let Ticket {
+            number: _number,
+            of: _of,
+        } = self;
     }
 }
 

@@ -9,8 +9,8 @@ use Rattle.hd_rules.specs.Facts.{Facts}
 use Rattle.hd_rules.specs.Desk.{Desk, put, take_back, same_cell}
 use Rattle.hd_rules.specs.Run.{Elsewhere}
 use Rattle.hd_rules.specs.Sound.{IsFit, EachBackIsFit}
-use Rattle.hd_footprint.specs.Meter.{Counts, with_one_more}
-use Rattle.hd_footprint.specs.declared.count.Count.TheVariants.{Written}
+use Rattle.hd_meter.specs.Meter.{Counts, with_one_more}
+use Rattle.hd_meter.specs.declared.count.Count.TheVariants.{Written}
 use Rattle.hd_catalogue.specs.Contents.{Contents, facts_of}
 use Rattle.hd_inverse.specs.Cells.{AreApart, AreKnownChanges, HaveRoom, MayHave}
 use Rattle.hd_inverse.specs.Work.{after_writes}

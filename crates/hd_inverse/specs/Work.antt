@@ -1,7 +1,7 @@
 -- Writes, counted.
 use Rattle.std.specs.Prelude.{ℕ, zero, suc}
-use Rattle.hd_footprint.specs.Meter.{Counts, with_one_more}
-use Rattle.hd_footprint.specs.declared.count.Count.TheVariants.{Written}
+use Rattle.hd_meter.specs.Meter.{Counts, with_one_more}
+use Rattle.hd_meter.specs.declared.count.Count.TheVariants.{Written}
 
 -- the counts after so many writes
 abbrev pub after_writes : ℕ → Counts → Counts

@@ -6,5 +6,5 @@ mod undoing;
 
 pub use crate::cells::Cells;
 pub use crate::undoing::undo;
-pub use hd_footprint::{Count, Meter};
+pub use hd_meter::{Count, Meter};
 pub use hd_rules::{Cell, Change, Value};

@@ -7,7 +7,7 @@ ghost use Rattle.hd_inverse.specs.Cells.{AreApart, AreKnownChanges, HaveRoom};
 ghost use Rattle.hd_inverse.specs.Work.{after_writes};
 
 use crate::cells::Cells;
-use hd_footprint::{Count, Meter};
+use hd_meter::{Count, Meter};
 use hd_rules::Change;
 use std::alloc::AllocError;
 

@@ -13,7 +13,7 @@ use Rattle.hd_rules.specs.Machine.{kept_reply, reply_again, answered_unless, wit
 use Rattle.hd_rules.specs.Journal.{Turn, state_after}
 use Rattle.hd_catalogue.specs.Contents.{Contents, facts_of}
 use Rattle.hd_desk.specs.Desks.{Opens}
-use Rattle.hd_footprint.specs.Meter.{Counts}
+use Rattle.hd_meter.specs.Meter.{Counts}
 use Rattle.hd_journal.specs.declared.turn.Turn.{Turn as OneTurn}
 use Rattle.hd_rules.specs.Messages.{asking, is_query}
 use Rattle.hd_journal.specs.Changing.{is_changing}

@@ -11,3 +11,4 @@ pub mod Searching
 pub mod Withdrawing
 pub mod Keeping
 pub mod Replying
+pub mod Growing

@@ -1,8 +1,8 @@
 -- Counts that only rise.
 use Rattle.std.proofs.Common.{◌≡◌, refl, sym, ◌∙◌, ap, List, [], ◌∷◌, ◌++◌}
-use Rattle.hd_footprint.specs.Meter.{Counts, with_one_more}
-use Rattle.hd_footprint.specs.declared.count.Count.{Count}
-use Rattle.hd_footprint.specs.declared.count.Count.TheVariants.{Step}
+use Rattle.hd_meter.specs.Meter.{Counts, with_one_more}
+use Rattle.hd_meter.specs.declared.count.Count.{Count}
+use Rattle.hd_meter.specs.declared.count.Count.TheVariants.{Step}
 use Rattle.hd_journal.specs.Working.{all_added, OnlyRise}
 
 -- nothing is counted

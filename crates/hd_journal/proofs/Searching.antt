@@ -6,7 +6,7 @@ use Rattle.hd_rules.specs.Facts.{Facts, first_number}
 use Rattle.hd_rules.specs.Record.{Record}
 use Rattle.hd_rules.specs.Run.{IsAmong, Rising, run, step}
 use Rattle.hd_rules.specs.Target.{Split}
-use Rattle.hd_footprint.specs.Meter.{Counts}
+use Rattle.hd_meter.specs.Meter.{Counts}
 use Rattle.hd_clash.specs.About.{touches}
 use Rattle.hd_records.specs.Looks.{IsWalk, after_walk, questions_of}
 use Rattle.hd_records.specs.RecordsValue.{RecordsValue}

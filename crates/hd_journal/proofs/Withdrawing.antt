@@ -16,7 +16,7 @@ use Rattle.hd_rules.specs.Searches.{target}
 use Rattle.hd_rules.specs.Turns.{Kept}
 use Rattle.hd_rules.specs.Machine.{answered_cancel, answered_target}
 use Rattle.hd_catalogue.specs.Contents.{Contents, facts_of}
-use Rattle.hd_footprint.specs.Meter.{Counts}
+use Rattle.hd_meter.specs.Meter.{Counts}
 use Rattle.hd_inverse.specs.Work.{after_writes}
 use Rattle.hd_clash.specs.About.{touches}
 use Rattle.hd_clash.specs.Clash.{first_clash}

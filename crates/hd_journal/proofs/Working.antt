@@ -9,8 +9,8 @@ use Rattle.hd_rules.specs.declared.questions.Finding.{Finding}
 use Rattle.hd_rules.specs.Facts.{Facts}
 use Rattle.hd_rules.specs.Record.{Record}
 use Rattle.hd_rules.specs.Run.{outcome_of, run, step}
-use Rattle.hd_footprint.specs.Meter.{Counts, with_one_more, one_higher}
-use Rattle.hd_footprint.specs.declared.count.Count.TheVariants.{Look, Compared, Written}
+use Rattle.hd_meter.specs.Meter.{Counts, with_one_more, one_higher}
+use Rattle.hd_meter.specs.declared.count.Count.TheVariants.{Look, Compared, Written}
 use Rattle.hd_inverse.specs.Work.{after_writes}
 use Rattle.hd_clash.specs.About.{touches}
 use Rattle.hd_clash.specs.Clash.{clashes, some_clash}

@@ -11,7 +11,7 @@ use Rattle.hd_rules.specs.Replies.{IsReplyTo}
 use Rattle.hd_rules.specs.Run.{IsAmong}
 use Rattle.hd_catalogue.specs.Contents.{Contents, facts_of}
 use Rattle.hd_desk.specs.Desks.{Opens}
-use Rattle.hd_footprint.specs.Meter.{Counts}
+use Rattle.hd_meter.specs.Meter.{Counts}
 use Rattle.hd_journal.specs.declared.turn.Turn.{Turn as Made}
 use Rattle.hd_journal.specs.SurvivorRun.{SurvivorRun, state_at}
 use Rattle.hd_journal.specs.Working.{IsWork, OnlyRise}

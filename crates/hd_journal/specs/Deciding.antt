@@ -9,7 +9,7 @@ use Rattle.hd_rules.specs.Run.{run, step}
 use Rattle.hd_rules.specs.Searches.{target}
 use Rattle.hd_rules.specs.Target.{Split}
 use Rattle.hd_catalogue.specs.Contents.{Contents}
-use Rattle.hd_footprint.specs.Meter.{Counts}
+use Rattle.hd_meter.specs.Meter.{Counts}
 use Rattle.hd_clash.specs.Clash.{first_clash}
 use Rattle.hd_clash.specs.Records.{AreRecords}
 use Rattle.hd_records.specs.Looks.{questions_of}

@@ -13,3 +13,4 @@ pub mod Openings
 pub mod Keepers
 pub mod Faults
 pub mod Looks
+pub mod Growing

@@ -17,9 +17,9 @@ use Rattle.hd_rules.specs.Record.{Record, IsRecordAt}
 use Rattle.hd_rules.specs.Run.{IsAmong, outcome_of, run, step}
 use Rattle.hd_rules.specs.declared.commands.Survivor.{Survivor}
 use Rattle.hd_rules.specs.Turns.{State, next_survivor}
-use Rattle.hd_footprint.specs.Meter.{Counts, with_one_more}
-use Rattle.hd_footprint.specs.declared.count.Count.{Count}
-use Rattle.hd_footprint.specs.declared.count.Count.TheVariants.{Step}
+use Rattle.hd_meter.specs.Meter.{Counts, with_one_more}
+use Rattle.hd_meter.specs.declared.count.Count.{Count}
+use Rattle.hd_meter.specs.declared.count.Count.TheVariants.{Step}
 use Rattle.hd_inverse.specs.Work.{after_writes}
 use Rattle.hd_clash.specs.About.{touches}
 use Rattle.hd_clash.specs.Records.{AreRecords}

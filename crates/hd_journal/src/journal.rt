@@ -6,6 +6,7 @@ ghost use Rattle.hd_records.specs.Shown.{record_shown as shown_record};
 ghost use Rattle.hd_journal.specs.Dependents.{IsFirstDependent};
 ghost use Rattle.hd_journal.specs.Stored.{IsRecordOf};
 ghost use Rattle.hd_rules.specs.Known.{IsKnownAction, IsKnownCancel};
+ghost use Rattle.hd_rules.specs.Growth.{IsGrownDesk, IsGrownState, Grows};
 ghost use Rattle.hd_rules.specs.Run.{run};
 ghost use Rattle.hd_rules.specs.Sound.{Sound};
 ghost use Rattle.hd_desk.specs.Desks.{Opens, contents, desk_of};
@@ -18,7 +19,7 @@ ghost use Rattle.hd_journal.specs.Working.{IsDependenceWork};
 
 use crate::ask::OwnedAsk;
 use crate::fault::TurnFault;
-use crate::laws::journal_laws;
+use crate::laws::{journal_laws, journals_grow};
 use crate::survivor_run::SurvivorRun;
 use crate::turn::{NewTurn, Turn, TurnRef};
 use crate::turn_log::TurnLog;
@@ -73,8 +74,9 @@ impl<A: Allocator> Model for Journal<A> {
 
 impl<A: Allocator + Copy> Journal<A> {
     /// A journal without turns, over a desk as `Desk::open` gave it. It counts its work by the meter, from
-    /// there on.
-    pub fn new(alloc: A, desk: Desk<A>, meter: Meter) -> Journal<A>
+    /// there on. `inline` is never asked for memory: it comes with lists of at most four, which are kept in
+    /// place.
+    pub fn new(alloc: A, inline: Global, desk: Desk<A>, meter: Meter) -> Journal<A>
         requires desk { desk_of desk ≡ (facts_of (contents desk)).opening.desk }
         requires opens { Opens (facts_of (contents desk)) }
         ensures new { result ≡ record { contents = contents desk; turns = []; work = meter } }
@@ -84,10 +86,28 @@ impl<A: Allocator + Copy> Journal<A> {
         prove!(0 < desk.catalogue().command_limit());
         Journal {
             alloc,
-            run: SurvivorRun::new(alloc, desk),
+            run: SurvivorRun::new(alloc, inline, desk),
             log: TurnLog::new(alloc),
             meter,
         }
+    }
+
+    /// Goes on with a desk of another catalogue, to which its own has grown: all turns stay, word for word, and
+    /// so does what is kept of them.
+    pub fn grow(&mut self, desk: Desk<A>)
+        requires grows { Grows (facts self.old) (facts_of (contents desk)) }
+        requires grown { IsGrownDesk (facts self.old) (facts_of (contents desk)) (state self.old).desk
+            (desk_of desk) }
+        ensures contents { self.new.contents ≡ contents desk }
+        ensures turns { self.new.turns ≡ self.old.turns }
+        ensures work { self.new.work ≡ self.old.work }
+        ensures state { IsGrownState (facts self.old) (facts self.new) (state self.old) (state self.new) }
+        ensures legal { IsLegalBook self.new.contents self.new.turns }
+    {
+        journal_laws();
+        journals_grow();
+        let _range = desk.catalogue().opening();
+        self.run.grow(desk);
     }
 
     /// One turn: what a terminal of a seat asks. What it names, and the terminal, are of the journal's
@@ -224,13 +244,6 @@ impl<A: Allocator + Copy> Journal<A> {
     {
         journal_laws();
         self.alloc
-    }
-
-    /// Whether the turn of this ask would be changing: it asks for a change, and wasn't answered already.
-    pub fn is_changing(&self, ask: &OwnedAsk<A>) -> bool
-        ensures { result ≡ is_changing (state self.now) ask.now.message }
-    {
-        !ask.is_query() && self.log.kept_reply(ask).is_none()
     }
 
     /// How many turns there are.

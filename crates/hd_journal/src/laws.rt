@@ -1,6 +1,7 @@
 //! What is known of cancellations, and of legal journals.
 
 ghost use Rattle.hd_journal.specs.Laws.{JournalLaws, CancellationLaws};
+ghost use Rattle.hd_journal.specs.Growing.{JournalsGrow};
 
 use hd_clash::{
     records_are_about_their_commands, records_are_known, records_split,
@@ -38,3 +39,8 @@ pub(crate) fn journal_laws()
     a_legal_journal_is_the_run_of_its_survivors();
     headline();
 }
+
+/// What a journal is, it is under a catalogue that has grown, with the same turns. It does nothing.
+pub fn journals_grow()
+    ensures { JournalsGrow }
+{}

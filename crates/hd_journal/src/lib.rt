@@ -27,6 +27,7 @@ pub use crate::entry::Entry;
 pub use crate::fault::{TurnFault, TurnFault as Fault, TurnFault as OfficeFault, WriteFault};
 pub use crate::journal::Journal;
 pub use crate::keeper::{CataloguedKeeper, Keeper, Turns};
+pub use crate::laws::journals_grow;
 pub use crate::look::Look;
 pub use crate::office::Office;
 pub use crate::opening::{open, share};

@@ -8,7 +8,7 @@ ghost use Rattle.hd_journal.specs.Books.{IsLegalBook};
 use crate::journal::Journal;
 use hd_catalogue::Catalogue;
 use hd_desk::{Desk, Meter, OpenFault};
-use std::alloc::{AllocError, Allocator};
+use std::alloc::{AllocError, Allocator, Global};
 use std::sync::Arc;
 
 /// The catalogue, for the desk and whoever else reads it.
@@ -24,13 +24,15 @@ pub fn share<A: Allocator>(
     Ok(Arc::new(alloc, catalogue)?)
 }
 
-/// A journal without turns, over the desk that the catalogue's opening rows tell.
+/// A journal without turns, over the desk that the catalogue's opening rows tell. `inline` is never asked for
+/// memory: it comes with lists of at most four, which are kept in place.
 ///
 /// # Errors
 /// `Row` for the first row that may not stand behind those before it, and why; `Memory`. Over a catalogue
 /// without rows it can only be `Memory`.
 pub fn open<A: Allocator + Copy>(
     alloc: A,
+    inline: Global,
     meter: Meter,
     catalogue: Catalogue<A>,
 ) -> Result<Journal<A>, OpenFault>
@@ -41,5 +43,5 @@ pub fn open<A: Allocator + Copy>(
     ensures fresh { catalogue.opening.rows ≡ [] → IfErr result (λ fault. fault ≡ Memory) }
 {
     let desk = Desk::open(alloc, share(alloc, catalogue)?)?;
-    Ok(Journal::new(alloc, desk, meter))
+    Ok(Journal::new(alloc, inline, desk, meter))
 }

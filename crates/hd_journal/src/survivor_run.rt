@@ -11,18 +11,19 @@ ghost use Rattle.hd_desk.specs.Desks.{Opens, contents, desk_of, facts};
 ghost use Rattle.hd_journal.specs.SurvivorRun.{IsCarriedOut, Submitted, Withdrawn, state_alone};
 ghost use Rattle.hd_records.specs.Shown.{record_shown};
 ghost use Rattle.hd_journal.specs.Dependents.{IsFirstDependent};
+ghost use Rattle.hd_journal.specs.Growing.{IsGrownTo, over};
 ghost use Rattle.hd_journal.specs.Stored.{IsRecordOf};
 ghost use Rattle.hd_journal.specs.Working.{IsCancellationWork, IsDependenceWork, IsWork, OnlyRise};
 ghost use Rattle.hd_journal.specs.Working.{command_work};
 
 use crate::ask::OwnedAsk;
 use crate::deciding::{decide, first_dependent};
-use crate::laws::laws;
+use crate::laws::{journals_grow, laws};
 use hd_desk::{Desk, Done, Meter, Refused};
 use hd_inverse::undo;
 use hd_records::{NewRecord, RecordRef, Records, Survivors};
 use hd_rules::{Asked, Cancel, Command, CopyNo, Reply, Survivor, TerminalNo, TurnReply};
-use std::alloc::{AllocError, Allocator};
+use std::alloc::{AllocError, Allocator, Global};
 use std::marker::Model;
 
 /// The records of the survivors with the last number given, and the desk of their run.
@@ -62,8 +63,9 @@ impl<A: Allocator> Model for SurvivorRun<A> {
 }
 
 impl<A: Allocator + Copy> SurvivorRun<A> {
-    /// No survivors, at the desk that the catalogue's journal opens with.
-    pub(crate) fn new(alloc: A, desk: Desk<A>) -> SurvivorRun<A>
+    /// No survivors, at the desk that the catalogue's journal opens with. `inline` is never asked for memory: it
+    /// comes with lists of at most four changes and findings, which are kept in place.
+    pub(crate) fn new(alloc: A, inline: Global, desk: Desk<A>) -> SurvivorRun<A>
         requires desk { desk_of desk ≡ (facts desk).opening.desk }
         requires opens { Opens (facts desk) }
         ensures { result
@@ -73,7 +75,7 @@ impl<A: Allocator + Copy> SurvivorRun<A> {
         SurvivorRun {
             desk,
             records: Records::new(alloc, before),
-            done: Done::new(),
+            done: Done::new(inline),
         }
     }
 
@@ -85,6 +87,15 @@ impl<A: Allocator + Copy> SurvivorRun<A> {
     {
         laws();
         &self.desk
+    }
+
+    /// Goes on with a desk of another catalogue, to which its own has grown. Nothing is walked.
+    pub(crate) fn grow(&mut self, desk: Desk<A>)
+        requires { IsGrownTo self.old (contents desk) (desk_of desk) }
+        ensures { self.new ≡ over (contents desk) self.old }
+    {
+        journals_grow();
+        self.desk = desk;
     }
 
     /// The survivors, by number.

@@ -18,7 +18,7 @@ use Rattle.hd_turn_store.specs.Rows.{read_cells}
 use Rattle.sqlite.specs.Order.{Row}
 use Rattle.sqlite.specs.State.{State}
 use Rattle.hd_journal_file.specs.Restored.{DiffersFirst, RefusesRow, RefusesRows, RowAsks, TakesRow}
-use Rattle.hd_journal_file.specs.Restored.{TakesRows}
+use Rattle.hd_journal_file.specs.Restored.{HearsCounts, TakesRows}
 use Rattle.hd_journal_file.specs.declared.fault.OutcomeColumn.{OutcomeColumn}
 use Rattle.hd_journal_file.specs.declared.fault.RestoreFault.{RestoreFault}
 use Rattle.hd_journal_file.specs.declared.fault.RestoreFault.TheVariants.{Unread, Memory, Differs}
@@ -71,6 +71,21 @@ takes_then {f} {old} {rows} {more} some next = record {
   are = rows_join old.contents f some.made next.made rows more some.are (rw (← some.contents) next.are);
   changes = λ all. next.changes (some.changes all);
 }
+
+pub one_longer : {f : ℕ} {old new : Book} {row : KeptTurn} → TakesRow f old new row
+    → length new.turns ≡ length old.turns + 1
+one_longer {old} one = rw one.turns (length-append old.turns (one.turn ∷ []))
+
+-- somebody who was told counts is told one more
+pub hears_then : {P : Type 0} (hears : P → ℕ → P → Type 0) (counts : List ℕ) (from all next : ℕ)
+    (old mid new : P) → HearsCounts hears old from counts all mid → all < next → hears mid next new
+    → HearsCounts hears old from (counts ++ next ∷ []) next new
+hears_then hears [] from all next old mid new it more heard =
+    let low : from < next = rw it.1 more in
+    let told : hears old next new = rw (← it.0) heard in
+    (low, (new, told, (refl, refl)))
+hears_then hears (count ∷ counts) from all next old mid new it more heard =
+    (it.0, (it.1.0, it.1.1, hears_then hears counts count all next it.1.0 mid new it.1.2 more heard))
 
 -- the rows of a journal that had no turn
 pub all_rows : {f : ℕ} {old new : Book} {rows : List KeptTurn} → old.turns ≡ [] → TakesRows f old new rows

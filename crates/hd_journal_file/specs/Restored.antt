@@ -1,5 +1,5 @@
 -- A journal that takes the rows of a file again.
-use Rattle.std.specs.Prelude.{◌≡◌, ◌≢◌, ℕ, ◌+◌, ◌^◌, ◌≤◌, true, false, List, [], ◌∷◌, ◌++◌, length}
+use Rattle.std.specs.Prelude.{◌≡◌, ◌≢◌, ℕ, ◌+◌, ◌^◌, ◌<◌, ◌≤◌, true, false, List, [], ◌∷◌, ◌++◌, length}
 use Rattle.hd_rules.specs.Journal.{Turn}
 use Rattle.hd_rules.specs.Turns.{Message}
 use Rattle.hd_rules.specs.declared.replies.TurnReply.{TurnReply}
@@ -31,6 +31,22 @@ pub record TakesRows (format : ℕ) (old new : Book) (rows : List KeptTurn) : Ty
   pub turns : new.turns ≡ old.turns ++ made
   pub are : AreTurnRows old.contents format made rows
   pub changes : changing (facts old) old.turns ≡ old.turns → changing (facts new) new.turns ≡ new.turns
+
+-- A journal has taken the turns of a whole file: each of them is changing.
+pub record HasTaken (old new : Book) : Type 0 where
+  pub contents : new.contents ≡ old.contents
+  pub changes : changing (facts new) new.turns ≡ new.turns
+
+-- Somebody is told each of these counts, one after the other; `hears` says what a call tells. Each is more
+-- than the one before, which at first is `from`, and the last one is `all`.
+abbrev pub HearsCounts : {P : Type 0} → (P → ℕ → P → Type 0) → P → ℕ → List ℕ → ℕ → P → Type 0
+HearsCounts hears old from [] all new = (new ≡ old) × (from ≡ all)
+HearsCounts {P} hears old from (count ∷ counts) all new =
+    (from < count) × ((next : P) × hears old count next × HearsCounts hears next count counts all new)
+
+-- Somebody is told how many turns are taken, up to all of them.
+abbrev pub HearsUpTo : {P : Type 0} → (P → ℕ → P → Type 0) → ℕ → P → P → Type 0
+HearsUpTo hears all old new = (counts : List ℕ) × HearsCounts hears old 0 counts all new
 
 -- The first column of a row that says something else than what a turn came to. In the format before this one
 -- that of the reply isn't looked at.

@@ -1,7 +1,7 @@
 //! Opening a journal's file.
 
-ghost use Rattle.std.specs.Prelude.{◌≡◌, ◌⊎◌, ◌↔◌, [], codes, false, Err, IfErr, IfOk, IfSome, IsErrAnd};
-ghost use Rattle.std.specs.Prelude.{IsOk, IsTrue, List, OnErr, OnOk, Some};
+ghost use Rattle.std.specs.Prelude.{◌≡◌, ◌⊎◌, ◌↔◌, [], false, Err, IfErr, IfOk, IfSome, IsOk, IsTrue};
+ghost use Rattle.std.specs.Prelude.{List, MatchResult, OnErr, OnOk, Some};
 ghost use Rattle.sqlite.specs.Files.{file_state};
 ghost use Rattle.sqlite.specs.Held.{state};
 ghost use Rattle.sqlite.specs.State.{HasCleanDisk};
@@ -10,13 +10,15 @@ ghost use Rattle.sqlite.specs.WalFiles.{image_at};
 ghost use Rattle.hd_journal.specs.Books.{facts};
 ghost use Rattle.hd_journal.specs.Changing.{changing};
 ghost use Rattle.hd_turn_store.specs.Crashes.{HoldsTurns};
-ghost use Rattle.hd_turn_store.specs.Faults.{IsReadingFault, RefusesHead};
+ghost use Rattle.hd_turn_store.specs.Faults.{IsReadingFault, RefusesHead, opening_fault};
 ghost use Rattle.hd_turn_store.specs.Holds.{Holds, OnlyReads};
-ghost use Rattle.hd_turn_store.specs.Kept.{Head, KeptTurn, new_head};
+ghost use Rattle.hd_turn_store.specs.Kept.{Head, KeptTurn};
 ghost use Rattle.hd_turn_store.specs.Marks.{HasMark, open_mark};
 ghost use Rattle.hd_turn_store.specs.declared.fault.Fault.{Fault as StoreFault};
-ghost use Rattle.hd_turn_store.specs.declared.fault.Fault.TheVariants as store;
-ghost use Rattle.hd_journal_file.specs.Opening.{AreFound, IsRedated, IsTaken, RefusesFile};
+ghost use Rattle.hd_journal_file.specs.Opening.{AreFound, BegunOrSeen, IsBegun, IsFileOf, TakesAgain};
+ghost use Rattle.hd_journal_file.specs.Opening.{IsRedated, IsTaken, RefusesConnected, RefusesFile};
+ghost use Rattle.hd_journal_file.specs.Opening.{RefusesJournal, RefusesOpenFile, RefusesOver};
+ghost use Rattle.hd_journal_file.specs.Restored.{HasTaken};
 
 use crate::file::JournalFile;
 use crate::open_fault::OpenFault;
@@ -25,7 +27,7 @@ use crate::restoring::restore_turns;
 use hd_durable::DurableJournal;
 use hd_journal::Journal;
 use hd_turn_store::{
-    Alter, Connection, FileFrom, FileStore, Start, accept, catalogue, open_for_turns,
+    Alter, Connection, FileFrom, FileStore, OpenResult, Start, accept, catalogue, open_for_turns,
 };
 use sqlite_disk::Disk;
 use std::alloc::{AllocError, Global};
@@ -44,56 +46,45 @@ pub struct Wanted<'a> {
 /// Opens a journal's file, or begins one where there is none: a journal with the turns that the file holds,
 /// each taken again and compared, whose changing turns are committed to the file from now on.
 ///
-/// `journal` has no turns, and its catalogue is the one that is wanted. `progress` is told how many turns are
-/// taken again. Where it is opened for turns, the file says so once they are (`open_for_turns` of the store).
+/// `connected` is what SQLite answered as the files were opened (`connect` of the store). `journal` has no
+/// turns, and its catalogue is the one that is wanted. `progress` is told how many turns are taken again.
+/// Where it is opened for turns, the file says so once they are (`open_for_turns` of the store).
 ///
 /// # Errors
-/// Each of `OpenFault`. The turns in the file stay as they were (`left` of `take_again`).
+/// Each of `OpenFault`: what SQLite answered where it isn't connected (*opening_fault*), or why the journal
+/// isn't opened (*RefusesConnected*). The turns in the file stay as they were (`left` of `take_again`).
 pub fn open<S: Start, P: Progress>(
-    rt: &HostRuntime,
-    path: &str,
-    start: S,
+    alloc: Global,
+    connected: OpenResult<S>,
     wanted: &Wanted<'_>,
     is_for_turns: bool,
     journal: Journal,
     progress: &mut P,
 ) -> Result<DurableJournal<JournalFile<FileStore<FileFrom<S>>, S>>, OpenFault>
-    requires { journal.turns ≡ [] }
+    requires empty { journal.turns ≡ [] }
     ensures contents { IfOk result (λ opened. opened.contents ≡ journal.contents) }
     ensures digest { IfOk result (λ opened. opened.table.digest ≡ Some wanted.now.digest.now) }
-    // Of the path no clause says more: what its files hold is `S`.
-    ensures memory { path.now ≡ codes ":memory:"
-        → IsErrAnd result (λ fault. fault ≡ OpenFault.File store.CannotOpen) }
     // One is begun only where the files held none, and is of the wanted catalogue.
-    ensures new { IfOk result (λ opened. HasCleanDisk (file_state opened.table.conn)
-        → IsTrue opened.table.is_new → (head : Head) (rows : List KeptTurn)
-        → ¬ HoldsTurns (image_at S.Start) head rows) }
     ensures begun { IfOk result (λ opened. HasCleanDisk (file_state opened.table.conn)
-        → IsTrue opened.table.is_new → (opened.turns ≡ [])
-        × Holds (file_state opened.table.conn) (new_head wanted.now.digest.now) []) }
+        → IsTrue opened.table.is_new → IsBegun (image_at S.Start) wanted.now
+        (file_state opened.table.conn) opened.turns) }
     ensures found { IfOk result (λ opened. AreFound (image_at S.Start) opened.table.is_new wanted.now
         (file_state opened.table.conn) opened.contents opened.turns) }
     ensures marked { IfOk result (λ opened. HasCleanDisk (file_state opened.table.conn)
         → IsTrue is_for_turns → HasMark open_mark (file_state opened.table.conn).now.trees) }
-    ensures other { result ≡ Err OpenFault.OtherCatalogue → wanted.now.is_other_accepted ≡ false }
+    ensures why { IfErr result (λ fault. MatchResult connected
+        (λ d. RefusesConnected d.conn is_for_turns wanted.now journal fault)
+        (λ e. fault ≡ OpenFault.File (opening_fault e.0))) }
 {
-    let (conn, is_new) = hd_turn_store::open(rt, path, start, wanted.digest)?;
-    open_files(
-        rt.alloc(),
-        conn,
-        is_new,
-        wanted,
-        is_for_turns,
-        journal,
-        progress,
-    )
+    let (conn, is_new) = hd_turn_store::open(connected, wanted.digest)?;
+    open_files(alloc, conn, is_new, wanted, is_for_turns, journal, progress)
 }
 
 /// The same over files that are open: the journal was begun in them, and has no turns yet, or what the
 /// connection sees is what `F` stands for.
 ///
 /// # Errors
-/// Each of `OpenFault`. The turns in the file stay as they were (`left` of `take_again`).
+/// Each of `OpenFault` (*RefusesOver*). The turns in the file stay as they were (`left` of `take_again`).
 fn open_files<D: Disk + Drop, F: Start, P: Progress>(
     alloc: Global,
     conn: Connection<FileStore<D>>,
@@ -104,25 +95,17 @@ fn open_files<D: Disk + Drop, F: Start, P: Progress>(
     progress: &mut P,
 ) -> Result<DurableJournal<JournalFile<FileStore<D>, F>>, OpenFault>
     requires empty { journal.turns ≡ [] }
-    requires new { HasCleanDisk (file_state conn) → IsTrue is_new → (head : Head) (rows : List KeptTurn)
-        → ¬ HoldsTurns (image_at F.Start) head rows }
-    requires begun { HasCleanDisk (file_state conn) → IsTrue is_new
-        → Holds (file_state conn) (new_head wanted.now.digest.now) [] }
-    requires seen { HasCleanDisk (file_state conn) → is_new ≡ false → (head : Head) (rows : List KeptTurn)
-        → HoldsTurns (image_at F.Start) head rows → Holds (file_state conn) head rows }
+    requires file { BegunOrSeen (image_at F.Start) is_new wanted.now (file_state conn) }
     ensures contents { IfOk result (λ opened. opened.contents ≡ journal.contents) }
     ensures digest { IfOk result (λ opened. opened.table.digest ≡ Some wanted.now.digest.now) }
-    ensures new { IfOk result (λ opened. HasCleanDisk (file_state opened.table.conn)
-        → IsTrue opened.table.is_new → (head : Head) (rows : List KeptTurn)
-        → ¬ HoldsTurns (image_at F.Start) head rows) }
     ensures begun { IfOk result (λ opened. HasCleanDisk (file_state opened.table.conn)
-        → IsTrue opened.table.is_new → (opened.turns ≡ [])
-        × Holds (file_state opened.table.conn) (new_head wanted.now.digest.now) []) }
+        → IsTrue opened.table.is_new → IsBegun (image_at F.Start) wanted.now
+        (file_state opened.table.conn) opened.turns) }
     ensures found { IfOk result (λ opened. AreFound (image_at F.Start) opened.table.is_new wanted.now
         (file_state opened.table.conn) opened.contents opened.turns) }
     ensures marked { IfOk result (λ opened. HasCleanDisk (file_state opened.table.conn)
         → IsTrue is_for_turns → HasMark open_mark (file_state opened.table.conn).now.trees) }
-    ensures other { result ≡ Err OpenFault.OtherCatalogue → wanted.now.is_other_accepted ≡ false }
+    ensures why { IfErr result (RefusesOver conn is_new is_for_turns wanted.now journal) }
 {
     let (conn, journal) = taken_again(alloc, conn, is_new, wanted, journal, progress)?;
     let taken = for_turns(alloc, conn, is_for_turns)?;
@@ -149,7 +132,8 @@ fn taken_again<S: Alter + Drop, P: Progress>(
         → IsTaken wanted.now (state S.Store r.0) head rows r.1.contents r.1.turns) }
     ensures changing { IfOk result (λ r. changing (facts r.1) r.1.turns ≡ r.1.turns) }
     ensures contents { IfOk result (λ r. r.1.contents ≡ journal.contents) }
-    ensures other { result ≡ Err OpenFault.OtherCatalogue → wanted.now.is_other_accepted ≡ false }
+    ensures why { IfErr result (λ fault. (is_new ≡ false)
+        × RefusesJournal S.Store conn wanted.now journal fault) }
 {
     take_again(alloc, &mut conn, is_new, wanted, &mut journal, progress)?;
     Ok((conn, journal))
@@ -169,7 +153,7 @@ fn for_turns<D: Disk + Drop>(
         → Holds (file_state conn) head rows → Holds (file_state c) head rows) }
     ensures marked { IfOk result (λ c. HasCleanDisk (file_state c) → IsTrue is_for_turns
         → HasMark open_mark (file_state c).now.trees) }
-    ensures why { IfErr result (λ fault. (why : StoreFault) × (fault ≡ OpenFault.File why)) }
+    ensures why { IfErr result (λ fault. IsTrue is_for_turns × RefusesOpenFile conn fault) }
 {
     if !is_for_turns {
         return Ok(conn);
@@ -202,22 +186,15 @@ pub fn open_over<S: Alter + Drop, F: Start, P: Progress>(
         → (head : Head) × Holds (state S.Store conn) head [] }
     requires seen { HasCleanDisk (state S.Store conn) → is_new ≡ false → (head : Head) (rows : List KeptTurn)
         → HoldsTurns (image_at F.Start) head rows → Holds (state S.Store conn) head rows }
-    ensures contents { IfOk result (λ opened. opened.contents ≡ journal.contents) }
-    ensures told { IfOk result (λ opened. opened.table.is_new ≡ is_new) }
-    // Of which catalogue file one is that was begun, it isn't told.
-    ensures digest { IfOk result (λ opened. is_new ≡ false
-        → opened.table.digest ≡ Some wanted.now.digest.now) }
-    ensures clean { IfOk result (λ opened. HasCleanDisk (state S.Store opened.table.conn)
-        → HasCleanDisk (state S.Store conn)) }
+    ensures file { IfOk result (λ opened. IsFileOf journal.contents opened.contents is_new
+        opened.table.is_new wanted.now opened.table.digest) }
     // A journal that was just begun is left as it is.
-    ensures new { IfOk result (λ opened. IsTrue is_new → (opened.turns ≡ []) × (opened.table.conn ≡ conn)) }
-    ensures taken { IfOk result (λ opened. HasCleanDisk (state S.Store opened.table.conn) → is_new ≡ false
-        → (head : Head) (rows : List KeptTurn) → Holds (state S.Store conn) head rows
-        → IsTaken wanted.now (state S.Store opened.table.conn) head rows opened.contents opened.turns) }
-    ensures found { IfOk result (λ opened. AreFound (image_at F.Start) opened.table.is_new wanted.now
-        (state S.Store opened.table.conn) opened.contents opened.turns) }
-    ensures other { result ≡ Err OpenFault.OtherCatalogue → wanted.now.is_other_accepted ≡ false }
-    ensures memory { IsTrue is_new → IfErr result (λ fault. fault ≡ OpenFault.Memory) }
+    ensures new { IsTrue is_new → MatchResult result
+        (λ opened. (opened.turns ≡ []) × (opened.table.conn ≡ conn)) (λ fault. fault ≡ OpenFault.Memory) }
+    ensures taken { IfOk result (λ opened. TakesAgain (image_at F.Start) opened.table.is_new wanted.now
+        (state S.Store conn) (state S.Store opened.table.conn) opened.contents opened.turns) }
+    ensures why { IfErr result (λ fault. ((is_new ≡ false)
+        × RefusesJournal S.Store conn wanted.now journal fault) ⊎ (fault ≡ OpenFault.Memory)) }
 {
     take_again(alloc, &mut conn, is_new, wanted, &mut journal, progress)?;
     let digest = (!is_new).then_some(*wanted.digest);
@@ -243,8 +220,7 @@ fn take_again<S: Alter, P: Progress>(
     ensures taken { HasCleanDisk (state S.Store conn.new) → is_new ≡ false → OnOk result ((head : Head)
         (rows : List KeptTurn) → Holds (state S.Store conn.old) head rows
         → IsTaken wanted.now (state S.Store conn.new) head rows journal.new.contents journal.new.turns) }
-    ensures changing { OnOk result (changing (facts journal.new) journal.new.turns ≡ journal.new.turns) }
-    ensures contents { OnOk result (journal.new.contents ≡ journal.old.contents) }
+    ensures book { OnOk result (HasTaken journal.old journal.new) }
     ensures why { HasCleanDisk (state S.Store conn.new) → IfErr result (λ fault. (head : Head)
         (rows : List KeptTurn) → Holds (state S.Store conn.old) head rows → RefusesFile
         (state S.Store conn.old) (state S.Store conn.new) wanted.now journal.old head rows fault) }
@@ -272,7 +248,7 @@ fn take_again<S: Alter, P: Progress>(
 
 /// What is found in the head of a journal's file.
 #[derive(Clone, Copy)]
-struct Found {
+struct FileHead {
     format: u32,
     /// Whether it is of the wanted catalogue.
     is_same: bool,
@@ -282,7 +258,7 @@ struct Found {
 ///
 /// # Errors
 /// `File`, where its head can't be read.
-fn head_of<S: Alter>(conn: &mut Connection<S>, digest: &[u8; 32]) -> Result<Found, OpenFault>
+fn head_of<S: Alter>(conn: &mut Connection<S>, digest: &[u8; 32]) -> Result<FileHead, OpenFault>
     ensures reads { OnlyReads (IsOk result) (state S.Store conn.old) (state S.Store conn.new) }
     ensures found { HasCleanDisk (state S.Store conn.new) → IfOk result (λ found. (head : Head)
         (rows : List KeptTurn) → Holds (state S.Store conn.old) head rows
@@ -296,7 +272,7 @@ fn head_of<S: Alter>(conn: &mut Connection<S>, digest: &[u8; 32]) -> Result<Foun
 {
     let heading = catalogue(conn)?;
     let is_same = heading.catalogue.as_slice() == digest.as_slice();
-    Ok(Found {
+    Ok(FileHead {
         format: heading.format,
         is_same,
     })
@@ -321,8 +297,7 @@ fn durable<S: Alter + Drop, F: Start>(
         journal.turns }
     requires told { is_new ≡ false → digest ≡ Some wanted.now.digest.now }
     requires change { changing (facts journal) journal.turns ≡ journal.turns }
-    ensures contents { IfOk result (λ kept. kept.contents ≡ journal.contents) }
-    ensures turns { IfOk result (λ kept. kept.turns ≡ journal.turns) }
+    ensures book { IfOk result (λ kept. (kept.contents ≡ journal.contents) × (kept.turns ≡ journal.turns)) }
     ensures file { IfOk result (λ kept. (kept.table.conn ≡ conn) × (kept.table.is_new ≡ is_new)) }
     ensures digest { IfOk result (λ kept. kept.table.digest ≡ digest) }
     ensures found { IfOk result (λ kept. AreFound (image_at F.Start) kept.table.is_new wanted.now

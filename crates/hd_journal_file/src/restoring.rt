@@ -3,14 +3,13 @@
 ghost use Rattle.std.specs.Prelude.{◌≡◌, ◌+◌, ◌≤◌, [], List, IfErr, IfOk, IsOk, OnOk, drop, length, take};
 ghost use Rattle.sqlite.specs.State.{HasCleanDisk};
 ghost use Rattle.sqlite.specs.Held.{state};
-ghost use Rattle.sqlite.specs.Tree.{Trees};
-ghost use Rattle.hd_journal.specs.Books.{IsLegalBook, facts};
-ghost use Rattle.hd_journal.specs.Changing.{changing};
+ghost use Rattle.hd_journal.specs.Books.{IsLegalBook};
 ghost use Rattle.hd_turn_row.specs.Rows.{AreTurnRows};
 ghost use Rattle.hd_turn_store.specs.Holds.{Holds, OnlyReads};
 ghost use Rattle.hd_turn_store.specs.Kept.{Head, KeptTurn, piece};
 ghost use Rattle.hd_turn_store.specs.Rows.{kept};
-ghost use Rattle.hd_journal_file.specs.Restored.{RefusesRow, RefusesRows, TakesRow, TakesRows};
+ghost use Rattle.hd_journal_file.specs.Restored.{HasTaken, HearsUpTo, RefusesRow, RefusesRows};
+ghost use Rattle.hd_journal_file.specs.Restored.{TakesRow, TakesRows};
 
 use crate::fault::RestoreFault;
 use crate::progress::Progress;
@@ -66,6 +65,7 @@ fn take_piece<S: Alter, A: Allocator + Copy>(
         → (last ≡ after + length (take piece (drop after rows)))
         × TakesRows format journal.old journal.new (take piece (drop after rows))) }
     ensures more { IfOk result (λ last. after ≤ last) }
+    ensures count { IfOk result (λ last. last + length journal.old.turns ≡ after + length journal.new.turns) }
     ensures why { HasCleanDisk (state S.Store conn.new) → IfErr result (λ fault. (head : Head)
         (rows : List KeptTurn) → Holds (state S.Store conn.old) head rows
         → RefusesRows format journal.old (take piece (drop after rows)) after fault) }
@@ -92,7 +92,8 @@ fn take_piece<S: Alter, A: Allocator + Copy>(
 
 /// Takes all turns of a file again, in a journal that has none yet, of the catalogue by which they are told,
 /// and answers how many there are. Each row is then that of a turn, which is changing and comes to what
-/// the row says; `format` is the file's. `progress` is told so after each piece of at most 1,024 rows.
+/// the row says; `format` is the file's. After each piece of at most 1,024 rows `progress` is told how many
+/// are taken so far.
 ///
 /// # Errors
 /// The first row that isn't such, and what is wrong with it. The journal is to be dropped then; the file is
@@ -106,21 +107,17 @@ pub fn restore_turns<S: Alter, A: Allocator + Copy, P: Progress>(
     progress: &mut P,
 ) -> Result<usize, RestoreFault>
     requires { journal.old.turns ≡ [] }
-    ensures clean { HasCleanDisk (state S.Store conn.new) → HasCleanDisk (state S.Store conn.old) }
+    ensures reads { OnlyReads (IsOk result) (state S.Store conn.old) (state S.Store conn.new) }
     ensures rows { HasCleanDisk (state S.Store conn.new) → OnOk result ((head : Head) (rows : List KeptTurn)
-        → Holds (state S.Store conn.old) head rows → Holds (state S.Store conn.new) head rows
-        × AreTurnRows journal.new.contents format journal.new.turns rows) }
+        → Holds (state S.Store conn.old) head rows
+        → AreTurnRows journal.new.contents format journal.new.turns rows) }
     ensures number { IfOk result (λ number. number ≡ length journal.new.turns) }
-    ensures changing { OnOk result (changing (facts journal.new) journal.new.turns ≡ journal.new.turns) }
-    ensures contents { OnOk result (journal.new.contents ≡ journal.old.contents) }
+    ensures taken { OnOk result (HasTaken journal.old journal.new) }
     ensures legal { OnOk result (IsLegalBook journal.new.contents journal.new.turns) }
+    ensures told { IfOk result (λ number. HearsUpTo P.hears number progress.old progress.new) }
     ensures why { HasCleanDisk (state S.Store conn.new) → IfErr result (λ fault. (head : Head)
         (rows : List KeptTurn) → Holds (state S.Store conn.old) head rows
         → RefusesRows format journal.old rows 0 fault) }
-    // What a stop leaves of the file is what it could leave before.
-    ensures crash { HasCleanDisk (state S.Store conn.new) → (head : Head) (rows : List KeptTurn)
-        → Holds (state S.Store conn.old) head rows → (db : Trees) → (state S.Store conn.new).may_leave db
-        → (state S.Store conn.old).may_leave db }
 {
     let mut at = 0;
     for _piece in 0..u32::MAX {

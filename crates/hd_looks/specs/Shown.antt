@@ -7,7 +7,7 @@ use Rattle.hd_rules.specs.Facts.{Facts}
 use Rattle.hd_rules.specs.Record.{Record}
 use Rattle.hd_catalogue.specs.Contents.{Contents, facts_of}
 use Rattle.hd_desk.specs.Asking.{AreQueuesOf, IsQueueOf}
-use Rattle.hd_footprint.specs.Meter.{Counts}
+use Rattle.hd_meter.specs.Meter.{Counts}
 use Rattle.hd_journal.specs.Books.{Book, facts, state}
 use Rattle.hd_journal.specs.Dependents.{IsFirstDependent}
 use Rattle.hd_journal.specs.Stored.{IsRecordOf}

@@ -1,9 +1,11 @@
 //! Reads an opening file.
-ghost use Rattle.std.specs.Prelude.{◌≡◌, ◌+◌, IfErr, IfOk, length};
+ghost use Rattle.std.specs.Prelude.{◌≡◌, ◌+◌, ◌++◌, ◌∷◌, ◌≤◌, [], IfErr, IfOk, OnErr, OnOk, length};
+ghost use Rattle.std.specs.Prelude.{vec_capacity, vec_len};
 ghost use Rattle.hd_catalogue.specs.Contents.{told_by};
 ghost use Rattle.hd_catalogue.specs.Files.{lines_of};
 ghost use Rattle.hd_opening.specs.Files.{IsFirstBad, Tells};
 ghost use Rattle.hd_opening.specs.Lines.{row_said, values_said};
+ghost use Rattle.hd_opening.specs.declared.cause.OpeningCause.TheVariants.{Memory};
 
 use crate::cause::{OpeningCause, OpeningFault};
 use crate::first::read_first;
@@ -49,16 +51,35 @@ pub fn read<A: Allocator + Copy>(
                 });
             }
         };
-        if rows.push(row).is_err() {
+        if let Err(cause) = keep(&mut rows, row) {
             return Err(OpeningFault {
                 line: number,
-                cause: OpeningCause::Memory,
+                cause,
             });
         }
         rest = next.after;
     }
     rows.shrink_to_fit();
     Ok(Opening { rows, last })
+}
+
+/// Keeps a row behind those before it.
+///
+/// # Errors
+/// `Memory`: they fill the room that there is, and there is no more.
+fn keep<A: Allocator + Copy>(
+    rows: &mut Vec<OpeningRow, A>,
+    row: OpeningRow,
+) -> Result<(), OpeningCause>
+    ensures kept { OnOk result (rows.new.items ≡ rows.old.items ++ row ∷ []) }
+    ensures same { OnErr result (rows.new.items ≡ rows.old.items) }
+    ensures cause { IfErr result (λ cause. cause ≡ Memory) }
+    ensures full { OnErr result (vec_capacity rows.old ≤ vec_len rows.old) }
+{
+    if rows.push(row).is_err() {
+        return Err(OpeningCause::Memory);
+    }
+    Ok(())
 }
 
 /// What a line after the first says.

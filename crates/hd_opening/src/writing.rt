@@ -1,8 +1,9 @@
 //! Writes an opening file.
 ghost use Rattle.std.specs.Prelude.{◌≡◌, ◌++◌, ◌∷◌, [], All, IfOk, List, OnOk, ℕ};
 ghost use Rattle.hd_catalogue.specs.Contents.{facts_of, told_by};
+ghost use Rattle.hd_catalogue.specs.Files.{lines_of};
 ghost use Rattle.hd_rules.specs.Known.{IsKnownRow};
-ghost use Rattle.hd_opening.specs.Files.{IsOpeningText, heading_line};
+ghost use Rattle.hd_opening.specs.Files.{AreInLimits, IsDigest, IsOpeningText, Tells, heading_line};
 ghost use Rattle.hd_opening.specs.Pieces.{ArePieceTexts, IsKnownPiece, IsPieceText, IsWithLine, admits_piece};
 ghost use Rattle.hd_opening.specs.Pieces.{admits_text, behind_bars, copy_piece, day_piece};
 
@@ -15,11 +16,32 @@ use itoa::Buffer;
 use std::alloc::{AllocError, Allocator};
 
 /// The text of an opening file: its first line, and a line for each row, in order. `last` is the last number
-/// that was given before, and `digest` the SHA-256 of the catalogue's file.
+/// that was given before, and `digest` the SHA-256 of the catalogue's file. Where a line can say each, `read`
+/// reads the same from it.
 ///
 /// # Errors
 /// Out of memory.
 pub fn write<A: Allocator + Copy>(
+    alloc: A,
+    catalogue: &Catalogue<A>,
+    rows: &[OpeningRow],
+    last: u32,
+    digest: &[u8; 32],
+) -> Result<Vec<u8, A>, AllocError>
+    requires known { All (IsKnownRow (facts_of catalogue.now)) rows.now }
+    ensures text { IfOk result (λ text. IsOpeningText catalogue.now digest.now (told_by rows.now last)
+        text.items) }
+    ensures read_back { IsDigest digest.now → AreInLimits (told_by rows.now last) → IfOk result (λ text.
+        Tells catalogue.now digest.now (lines_of text.items) (told_by rows.now last)) }
+{
+    opening_text(alloc, catalogue, rows, last, digest)
+}
+
+/// The text of an opening file, as `write`.
+///
+/// # Errors
+/// Out of memory.
+fn opening_text<A: Allocator + Copy>(
     alloc: A,
     catalogue: &Catalogue<A>,
     rows: &[OpeningRow],

@@ -9,7 +9,7 @@ use Rattle.std.proofs.lemmas.List.Sums.{AllPass-from_list_all}
 use Rattle.std.proofs.lemmas.Fmt.{decimal_by_steps}
 use Rattle.httparse.specs.Grammar.{Field, IsField, is_token_byte, is_value_byte, IsResponseHead}
 use Rattle.hd_page.specs.declared.reply.Status.{Status}
-use Rattle.hd_page.specs.declared.reply.Status.TheVariants.{Ok, Accepted, BadRequest, NotFound, OnlyRead}
+use Rattle.hd_page.specs.declared.reply.Status.TheVariants.{Ok, Accepted, BadRequest, Forbidden, NotFound, OnlyRead}
 use Rattle.hd_page.specs.declared.reply.Status.TheVariants.{OnlyPosted, TooLarge, FieldsTooLarge, Unavailable}
 use Rattle.hd_page.specs.declared.reply.Media.{Media}
 use Rattle.hd_page.specs.declared.reply.Media.TheVariants.{Html, Json, Metrics, Plain}
@@ -74,6 +74,7 @@ allow_fields : (status : Status) → All IsField (allow_of status)
 allow_fields Ok = All-nil IsField
 allow_fields Accepted = All-nil IsField
 allow_fields BadRequest = All-nil IsField
+allow_fields Forbidden = All-nil IsField
 allow_fields NotFound = All-nil IsField
 allow_fields OnlyRead = allow_field (codes "GET, HEAD") refl
 allow_fields OnlyPosted = allow_field (codes "POST") refl
@@ -109,6 +110,7 @@ head_digits : (status : Status) → (length (digits_of status) ≡ 3) × AllPass
 head_digits Ok = (refl, AllPass-from_list_all is_ascii_digit (codes "200") refl)
 head_digits Accepted = (refl, AllPass-from_list_all is_ascii_digit (codes "202") refl)
 head_digits BadRequest = (refl, AllPass-from_list_all is_ascii_digit (codes "400") refl)
+head_digits Forbidden = (refl, AllPass-from_list_all is_ascii_digit (codes "403") refl)
 head_digits NotFound = (refl, AllPass-from_list_all is_ascii_digit (codes "404") refl)
 head_digits OnlyRead = (refl, AllPass-from_list_all is_ascii_digit (codes "405") refl)
 head_digits OnlyPosted = (refl, AllPass-from_list_all is_ascii_digit (codes "405") refl)
@@ -120,6 +122,7 @@ head_phrase : (status : Status) → AllPass is_value_byte (phrase_of status)
 head_phrase Ok = AllPass-from_list_all is_value_byte (phrase_of Ok) refl
 head_phrase Accepted = AllPass-from_list_all is_value_byte (phrase_of Accepted) refl
 head_phrase BadRequest = AllPass-from_list_all is_value_byte (phrase_of BadRequest) refl
+head_phrase Forbidden = AllPass-from_list_all is_value_byte (phrase_of Forbidden) refl
 head_phrase NotFound = AllPass-from_list_all is_value_byte (phrase_of NotFound) refl
 head_phrase OnlyRead = AllPass-from_list_all is_value_byte (phrase_of OnlyRead) refl
 head_phrase OnlyPosted = AllPass-from_list_all is_value_byte (phrase_of OnlyPosted) refl

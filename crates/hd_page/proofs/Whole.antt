@@ -5,7 +5,7 @@ use Rattle.std.proofs.lemmas.Grind.{flat_map-append}
 use Rattle.httparse.specs.Ascii.{crlf_bytes}
 use Rattle.httparse.specs.Grammar.{print_field, print_response}
 use Rattle.hd_page.specs.declared.reply.Status.{Status}
-use Rattle.hd_page.specs.declared.reply.Status.TheVariants.{Ok, Accepted, BadRequest, NotFound, OnlyRead}
+use Rattle.hd_page.specs.declared.reply.Status.TheVariants.{Ok, Accepted, BadRequest, Forbidden, NotFound, OnlyRead}
 use Rattle.hd_page.specs.declared.reply.Status.TheVariants.{OnlyPosted, TooLarge, FieldsTooLarge, Unavailable}
 use Rattle.hd_page.specs.declared.reply.Media.{Media}
 use Rattle.hd_page.specs.declared.reply.Method.{Method}
@@ -18,6 +18,7 @@ status_parts : (s : Status) → status_text s ≡ digits_of s ++ 32 ∷ phrase_o
 status_parts Ok = refl
 status_parts Accepted = refl
 status_parts BadRequest = refl
+status_parts Forbidden = refl
 status_parts NotFound = refl
 status_parts OnlyRead = refl
 status_parts OnlyPosted = refl
@@ -29,6 +30,7 @@ allow_parts : (s : Status) → allow_text s ≡ flat_map print_field (allow_of s
 allow_parts Ok = refl
 allow_parts Accepted = refl
 allow_parts BadRequest = refl
+allow_parts Forbidden = refl
 allow_parts NotFound = refl
 allow_parts OnlyRead = refl
 allow_parts OnlyPosted = refl

@@ -1,17 +1,17 @@
 -- How requests are answered.
 use Rattle.std.specs.Prelude.{◌≡◌, ◌⊎◌, ◌<◌, ◌≤◌, ℕ, Bool, true, false, List, ◌++◌, length, map, Option}
 use Rattle.std.specs.Prelude.{Some, None}
-use Rattle.std.specs.List.{list_any}
 use Rattle.httparse.specs.Grammar.{HasNoRequest, ReadsRequest, RequestHead}
 use Rattle.httparse.specs.Spans.{RequestExceeds, name_and_value}
 use Rattle.hd_page.specs.declared.answering.TheConstants.{FIELDS}
+use Rattle.hd_page.specs.declared.asking.Told.{Told}
 use Rattle.hd_page.specs.declared.answering.Sequel.{Sequel}
 use Rattle.hd_page.specs.declared.answering.Sequel.TheVariants.{GoOn, Stop}
 use Rattle.hd_page.specs.declared.reply.Method.{Method}
 use Rattle.hd_page.specs.declared.reply.Method.TheVariants.{Get}
 use Rattle.hd_page.specs.declared.reply.Status.{Status}
-use Rattle.hd_page.specs.declared.reply.Status.TheVariants.{Accepted, BadRequest, TooLarge, FieldsTooLarge}
-use Rattle.hd_page.specs.Asking.{is_stop, method_of, refused_method, tells_body}
+use Rattle.hd_page.specs.declared.reply.Status.TheVariants.{Accepted, BadRequest, FieldsTooLarge}
+use Rattle.hd_page.specs.Asking.{is_stop, method_of, refused_fields, refused_method, told_by}
 use Rattle.hd_page.specs.Replies.{Answer, refusal, reply_text}
 use Rattle.hd_page.specs.Shows.{Shown, IsShown, IsLost}
 
@@ -25,26 +25,27 @@ abbrev pub AnswersTarget : Shown → Bool → List ℕ → Answer → Type 0
 AnswersTarget shown true target a = a ≡ refusal Accepted
 AnswersTarget shown false target a = IsShown shown target a ⊎ IsLost target a
 
--- the answer to a method that is allowed, with a body or without
-abbrev pub AnswersAllowed : Shown → List ℕ → Bool → Answer → Type 0
-AnswersAllowed shown target true a = a ≡ refusal TooLarge
-AnswersAllowed shown target false a = AnswersTarget shown (is_stop target) target a
+-- the answer to a request whose method is allowed, where its fields are refused so
+abbrev pub AnswersFields : Option Status → Shown → List ℕ → Answer → Type 0
+AnswersFields (Some status) shown target a = a ≡ refusal status
+AnswersFields None shown target a = AnswersTarget shown (is_stop target) target a
 
--- the answer to a method, where it is refused so
-abbrev pub AnswersMethod : Option Status → Shown → List ℕ → Bool → Answer → Type 0
-AnswersMethod (Some status) shown target body a = a ≡ refusal status
-AnswersMethod None shown target body a = AnswersAllowed shown target body a
+-- the answer to a request, where its method is refused so
+abbrev pub AnswersMethod : Option Status → Shown → List ℕ → Told → Answer → Type 0
+AnswersMethod (Some status) shown target told a = a ≡ refusal status
+AnswersMethod None shown target told a =
+    AnswersFields (refused_fields (is_stop target) told) shown target a
 
--- the answer to a request of this method and target, with a body or without
-abbrev pub AnswersParts : Shown → List ℕ → List ℕ → Bool → Answer → Type 0
-AnswersParts shown method target body a =
-    AnswersMethod (refused_method (is_stop target) method) shown target body a
+-- the answer to a request of this method and target, whose fields tell this
+abbrev pub AnswersParts : Shown → List ℕ → List ℕ → Told → Answer → Type 0
+AnswersParts shown method target told a =
+    AnswersMethod (refused_method (is_stop target) method) shown target told a
 
 -- the answer to a request of this head, and whether its body is sent
 abbrev pub Answers : Shown → RequestHead → Method → Answer → Type 0
 Answers shown head m a =
     (m ≡ method_of head.method)
-    × AnswersParts shown head.method head.target (list_any tells_body (map name_and_value head.fields)) a
+    × AnswersParts shown head.method head.target (told_by (map name_and_value head.fields)) a
 
 -- what is answered where no head can be read: that the request is a bad one; or that it has too many
 -- fields, where a front of it and an empty line are a head that has

@@ -2,7 +2,7 @@
 use Rattle.std.specs.Prelude.{ℕ, List, [], ◌∷◌, ◌++◌, Some, codes, decimal}
 use Rattle.httparse.specs.Grammar.{Field, crlf, ResponseHead}
 use Rattle.hd_page.specs.declared.reply.Status.{Status}
-use Rattle.hd_page.specs.declared.reply.Status.TheVariants.{Ok, Accepted, BadRequest, NotFound, OnlyRead}
+use Rattle.hd_page.specs.declared.reply.Status.TheVariants.{Ok, Accepted, BadRequest, Forbidden, NotFound, OnlyRead}
 use Rattle.hd_page.specs.declared.reply.Status.TheVariants.{OnlyPosted, TooLarge, FieldsTooLarge, Unavailable}
 use Rattle.hd_page.specs.declared.reply.Media.{Media}
 use Rattle.hd_page.specs.Replies.{media_text}
@@ -16,6 +16,7 @@ abbrev pub digits_of : Status → List ℕ
 digits_of Ok = codes "200"
 digits_of Accepted = codes "202"
 digits_of BadRequest = codes "400"
+digits_of Forbidden = codes "403"
 digits_of NotFound = codes "404"
 digits_of OnlyRead = codes "405"
 digits_of OnlyPosted = codes "405"
@@ -28,6 +29,7 @@ abbrev pub phrase_of : Status → List ℕ
 phrase_of Ok = codes "OK"
 phrase_of Accepted = codes "Accepted"
 phrase_of BadRequest = codes "Bad Request"
+phrase_of Forbidden = codes "Forbidden"
 phrase_of NotFound = codes "Not Found"
 phrase_of OnlyRead = codes "Method Not Allowed"
 phrase_of OnlyPosted = codes "Method Not Allowed"

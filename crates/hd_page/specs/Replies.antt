@@ -1,7 +1,7 @@
 -- Replies, and their texts.
 use Rattle.std.specs.Prelude.{ℕ, List, [], ◌++◌, codes, decimal, length}
 use Rattle.hd_page.specs.declared.reply.Status.{Status}
-use Rattle.hd_page.specs.declared.reply.Status.TheVariants.{Ok, Accepted, BadRequest, NotFound, OnlyRead}
+use Rattle.hd_page.specs.declared.reply.Status.TheVariants.{Ok, Accepted, BadRequest, Forbidden, NotFound, OnlyRead}
 use Rattle.hd_page.specs.declared.reply.Status.TheVariants.{OnlyPosted, TooLarge, FieldsTooLarge, Unavailable}
 use Rattle.hd_page.specs.declared.reply.Media.{Media}
 use Rattle.hd_page.specs.declared.reply.Media.TheVariants.{Html, Json, Metrics, Plain}
@@ -14,6 +14,7 @@ abbrev pub status_text : Status → List ℕ
 status_text Ok = codes "200 OK"
 status_text Accepted = codes "202 Accepted"
 status_text BadRequest = codes "400 Bad Request"
+status_text Forbidden = codes "403 Forbidden"
 status_text NotFound = codes "404 Not Found"
 status_text OnlyRead = codes "405 Method Not Allowed"
 status_text OnlyPosted = codes "405 Method Not Allowed"

@@ -3,12 +3,11 @@ ghost use Rattle.std.specs.Prelude.{◌≡◌, ◌<◌, ◌≤◌, IfOk, List, �
 ghost use Rattle.httparse.specs.Grammar.{HasNoRequest, ReadsRequest, RequestHead};
 ghost use Rattle.httparse.specs.Spans.{IsRequestWithin, header_bytes, span_bytes};
 ghost use Rattle.hd_page.specs.Answered.{IsAnswered, IsUnread, Answers, AnswersParts, sequel_of, too_long};
-ghost use Rattle.std.specs.List.{list_any};
-ghost use Rattle.hd_page.specs.Asking.{method_of, tells_body};
+ghost use Rattle.hd_page.specs.Asking.{method_of, told_by};
 ghost use Rattle.hd_page.specs.Replies.{refusal, reply_text};
 ghost use Rattle.hd_page.specs.Seen.{seen};
 
-use crate::asking::{has_body, is_stop, method_of, refused_method};
+use crate::asking::{Told, is_stop, method_of, refused_fields, refused_method, told_by};
 use crate::page::Page;
 use crate::reply::{Method, Reply, Status, refuse, write_reply};
 use crate::showing::show_target;
@@ -46,18 +45,18 @@ fn reply_to_parts<V: View>(
     view: &V,
     method: &[u8],
     target: &[u8],
-    body: bool,
+    told: Told,
 ) -> Result<Reply, AllocError>
     ensures { IfOk result (λ r. AnswersParts
         (record { page = page.now.text.now; shows = V.shows view.now; tells = V.tells view.now })
-        method.now target.now body (seen r)) }
+        method.now target.now told (seen r)) }
 {
     let stop = is_stop(target);
     if let Some(status) = refused_method(stop, method) {
         return refuse(alloc, status);
     }
-    if body {
-        return refuse(alloc, Status::TooLarge);
+    if let Some(status) = refused_fields(stop, told) {
+        return refuse(alloc, status);
     }
     if stop {
         return refuse(alloc, Status::Accepted);
@@ -79,13 +78,13 @@ fn reply_to_head<V: View>(
     ensures parts { IfOk result (λ r. AnswersParts
         (record { page = page.now.text.now; shows = V.shows view.now; tells = V.tells view.now })
         (span_bytes request.now head.now.method) (span_bytes request.now head.now.path)
-        (list_any tells_body (map (header_bytes request.now) (take head.now.headers headers.now)))
+        (told_by (map (header_bytes request.now) (take head.now.headers headers.now)))
         (seen r.1)) }
 {
     let method = head.method.of(request);
     let target = head.path.of(request);
-    let body = has_body(request, &headers[..head.headers]);
-    let reply = reply_to_parts(alloc, page, view, method, target, body)?;
+    let told = told_by(request, &headers[..head.headers]);
+    let reply = reply_to_parts(alloc, page, view, method, target, told)?;
     Ok((method_of(method), reply))
 }
 

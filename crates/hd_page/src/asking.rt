@@ -1,11 +1,20 @@
 //! What a request's head asks for.
 ghost use Rattle.std.specs.Prelude.{◌≡◌, All, length, map};
-ghost use Rattle.std.specs.List.{list_any};
 ghost use Rattle.httparse.specs.Spans.{IsHeaderWithin, header_bytes};
-ghost use Rattle.hd_page.specs.Asking.{is_called, is_stop, method_of, refused_method, tells_body};
+ghost use Rattle.hd_page.specs.Asking.{is_called, is_page_name, is_stop, method_of, refused_fields};
+ghost use Rattle.hd_page.specs.Asking.{refused_method, tells_body, told_by};
 
 use crate::reply::{Method, Status};
 use httparse::spans::HeaderSpan;
+
+/// What the fields of a request tell.
+#[derive(Clone, Copy, Debug, PartialEq, Eq)]
+pub(crate) struct Told {
+    /// A body follows.
+    pub(crate) has_body: bool,
+    /// A page in a browser asks.
+    pub(crate) is_of_page: bool,
+}
 
 /// Whether a target is that of a stop.
 pub(crate) fn is_stop(target: &[u8]) -> bool
@@ -57,16 +66,41 @@ fn tells_body(name: &[u8], value: &[u8]) -> bool
         || (is_called(b"content-length", name) && !(value == b"0".as_slice()))
 }
 
-/// Whether one of the fields says that a body follows.
-pub(crate) fn has_body(request: &[u8], headers: &[HeaderSpan]) -> bool
+/// Whether a browser says by a field of this name which page asks. No other client sends one.
+fn is_page_name(name: &[u8]) -> bool
+    ensures { result ≡ is_page_name name.now }
+{
+    is_called(b"origin", name) || is_called(b"sec-fetch-site", name)
+}
+
+/// What the fields of a request tell.
+pub(crate) fn told_by(request: &[u8], headers: &[HeaderSpan]) -> Told
     requires { All (IsHeaderWithin (length request.now)) headers.now }
-    ensures { result ≡ list_any tells_body (map (header_bytes request.now) headers.now) }
+    ensures { result ≡ told_by (map (header_bytes request.now) headers.now) }
 {
     let mut has_body = false;
+    let mut is_of_page = false;
     for header in headers {
         let name = header.name.of(request);
         let value = header.value.of(request);
         has_body = has_body || tells_body(name, value);
+        is_of_page = is_of_page || is_page_name(name);
     }
-    has_body
+    Told {
+        has_body,
+        is_of_page,
+    }
+}
+
+/// How a request is refused whose method is allowed: with a body, and where a page asks for a stop.
+pub(crate) fn refused_fields(stop: bool, told: Told) -> Option<Status>
+    ensures { result ≡ refused_fields stop told }
+{
+    if told.has_body {
+        Some(Status::TooLarge)
+    } else if stop && told.is_of_page {
+        Some(Status::Forbidden)
+    } else {
+        None
+    }
 }

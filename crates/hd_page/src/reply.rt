@@ -16,6 +16,8 @@ pub enum Status {
     Accepted,
     /// 400: no head can be read, a query isn't of the form, or there is no such day.
     BadRequest,
+    /// 403: a page in a browser asks for a stop.
+    Forbidden,
     /// 404: nothing has this path or name.
     NotFound,
     /// 405, where GET and HEAD are allowed.
@@ -69,6 +71,7 @@ impl Status {
             Status::Ok => b"200 OK",
             Status::Accepted => b"202 Accepted",
             Status::BadRequest => b"400 Bad Request",
+            Status::Forbidden => b"403 Forbidden",
             Status::NotFound => b"404 Not Found",
             Status::OnlyRead | Status::OnlyPosted => b"405 Method Not Allowed",
             Status::TooLarge => b"413 Content Too Large",

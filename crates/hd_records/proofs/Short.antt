@@ -5,8 +5,8 @@ use Rattle.std.proofs.Common.{length}
 use Rattle.hd_rules.specs.declared.cells.Change.{Change}
 use Rattle.hd_rules.specs.Facts.{Facts}
 use Rattle.hd_rules.specs.Record.{Record}
-use Rattle.hd_footprint.specs.Meter.{Counts, with_one_more, one_higher}
-use Rattle.hd_footprint.specs.declared.count.Count.TheVariants.{Look}
+use Rattle.hd_meter.specs.Meter.{Counts, with_one_more, one_higher}
+use Rattle.hd_meter.specs.declared.count.Count.TheVariants.{Look}
 use Rattle.hd_clash.specs.Clash.{some_clash}
 use Rattle.hd_clash.specs.Work.{AtMostFourEach, ComparisonsAreFew, clash_work}
 use Rattle.hd_records.specs.Looks.{IsWalk, after_looks, after_walk, questions_of}

@@ -29,7 +29,7 @@ use crate::walking;
 use arrayvec::ArrayVec;
 use hd_catalogue::Catalogue;
 use hd_clash::{CommandKeys, only_touched_records_shift, the_first_clash_is_touched};
-use hd_footprint::Meter;
+use hd_meter::Meter;
 use hd_rules::{Cancel, Change, Command, TerminalNo};
 use std::alloc::{AllocError, Allocator, Global};
 use std::marker::Model;

@@ -17,8 +17,8 @@ use crate::record_view::RecordView;
 use crate::targets::is_target;
 use hd_catalogue::Catalogue;
 use hd_clash::has_clash;
-use hd_footprint::{Count, Meter};
 use hd_index::{Union, unions_have_each_once};
+use hd_meter::{Count, Meter};
 use hd_rules::{Cancel, Change, TerminalNo, the_target_is_the_newest};
 use std::alloc::Allocator;
 

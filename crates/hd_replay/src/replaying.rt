@@ -98,7 +98,7 @@ fn replay_catalogue<A: Allocator + Copy, R: Input, W: Output>(
     ensures why { IfErr result (HasReason (R.fails from.new) (W.fails to.new)) }
 {
     let extensions = no_extensions();
-    match hd_journal::open(alloc, Meter::new(rt), catalogue) {
+    match hd_journal::open(alloc, rt.alloc(), Meter::new(rt), catalogue) {
         Ok(journal) => replay_over(alloc, journal, now, Some(&extensions), from, to),
         Err(_) => Err(ReplayFault::Memory),
     }

@@ -43,7 +43,7 @@ record Familiar (k : Facts) (d : Desk) (plan : Plan) : Type 0 where
   pub all : AllFamiliar k d plan
 
 -- what the commands rest on
-record Given (k : Facts) (d : Desk) : Type 0 where
+pub record Given (k : Facts) (d : Desk) : Type 0 where
   pub range : AreInRange k
   pub desk : IsKnownDesk k d
 
@@ -79,15 +79,15 @@ accepted k d n cs r changes reply =
     either k d (nat_lt (last_number k) n) _ _ refused (record { all = (familiar_real k cs changes, reply) })
 
 -- what is answered
-copy_known : (k : Facts) (d : Desk) (c : ℕ) (old : CopyState) → Given k d → c < k.copies → d.copy c ≡ old
+pub copy_known : (k : Facts) (d : Desk) (c : ℕ) (old : CopyState) → Given k d → c < k.copies → d.copy c ≡ old
     → IsKnownState k old
 copy_known k d c old g in_c is = subst (IsKnownState k) is (g.desk.copies c in_c)
 
-hold_known : (k : Facts) (d : Desk) (t p : ℕ) (o : Option Hold) → Given k d → t < k.titles → p < k.patrons
+pub hold_known : (k : Facts) (d : Desk) (t p : ℕ) (o : Option Hold) → Given k d → t < k.titles → p < k.patrons
     → d.hold t p ≡ o → IsKnownHeld k o
 hold_known k d t p o g in_t in_p is = subst (IsKnownHeld k) is (g.desk.holds t p in_t in_p)
 
-choice_known : (k : Facts) (d : Desk) (c b day : ℕ) (o : Option Hold) → Given k d → c < k.copies
+pub choice_known : (k : Facts) (d : Desk) (c b day : ℕ) (o : Option Hold) → Given k d → c < k.copies
     → choice k d c b day ≡ o → IsKnownHeld k o
 choice_known k d c b day None g in_c is = tt
 choice_known k d c b day (Some h) g in_c is =
@@ -202,7 +202,7 @@ off_line_familiar k d n p c due old held (Some q) g in_p in_c in_q = either k d 
     )
     (g.range.title_of c in_c)))
 
-tied_patron : (k : Facts) (s : CopyState) (o : Option ℕ) → IsKnownState k s → tied_to s ≡ o
+pub tied_patron : (k : Facts) (s : CopyState) (o : Option ℕ) → IsKnownState k s → tied_to s ≡ o
     → IsKnownPatron k o
 tied_patron k s None known is = tt
 tied_patron k s (Some q) known is = tied_known k s q known is

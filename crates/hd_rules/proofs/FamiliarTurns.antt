@@ -47,7 +47,7 @@ after_known k d (c ∷ cs) known fine =
     after_known k (put d c.cell c.new) cs (put_known k d c.cell c.new known (fine c (inl refl)).1)
     (λ change among. fine change (inr among))
 
-step_known : (k : Facts) (d : Desk) (s : Survivor) → AreInRange k → IsKnownDesk k d
+pub step_known : (k : Facts) (d : Desk) (s : Survivor) → AreInRange k → IsKnownDesk k d
     → IsKnownAction k s.command.action → IsKnownDesk k (step k d s)
 step_known k d s range known fine = by_outcome (outcome_of k d s) refl
   where
@@ -56,7 +56,7 @@ step_known k d s range known fine = by_outcome (outcome_of k d s) refl
         (known_done k d s.number s.command done range known fine is).changes
     by_outcome (Err r) is = known
 
-run_known : (k : Facts) (d : Desk) (ss : List Survivor) → AreInRange k → IsKnownDesk k d
+pub run_known : (k : Facts) (d : Desk) (ss : List Survivor) → AreInRange k → IsKnownDesk k d
     → ((s : Survivor) → IsAmong s ss → IsKnownAction k s.command.action) → IsKnownDesk k (run_from k d ss)
 run_known k d [] range known fine = known
 run_known k d (s ∷ ss) range known fine =
@@ -67,11 +67,11 @@ run_known k d (s ∷ ss) range known fine =
 abbrev AllAskKnown : Facts → List Turn → Type 0
 AllAskKnown k turns = (turn : Turn) → IsAmong turn turns → IsKnown k turn.message.asked
 
-survivor_known : (k : Facts) (turns : List Turn) (s : Survivor) (done : Done) → AllAskKnown k turns
+pub survivor_known : (k : Facts) (turns : List Turn) (s : Survivor) (done : Done) → AllAskKnown k turns
     → WasTold turns s done.reply → IsKnownAction k s.command.action
 survivor_known k turns s done all told = subst (IsKnown k) told.asked (all told.turn told.among)
 
-desk_known : (k : Facts) (turns : List Turn) (s : State) → AreInRange k → IsKnownDesk k k.opening.desk
+pub desk_known : (k : Facts) (turns : List Turn) (s : State) → AreInRange k → IsKnownDesk k k.opening.desk
     → AllAskKnown k turns → IsRunOfSurvivors k turns s → IsKnownDesk k s.desk
 desk_known k turns s range opened all is =
     subst (IsKnownDesk k) (sym is.desk) (run_known k k.opening.desk s.survivors range opened
@@ -156,7 +156,7 @@ turn_fine k s m reply next range desk kept known (inl h) = record {
 turn_fine k s m reply next range desk kept known (inr h) =
     new_fine k s m m.asked reply next range desk kept known h.1
 
-ask_more : (k : Facts) (past : List Turn) (turn : Turn) → AllAskKnown k past → IsKnown k turn.message.asked
+pub ask_more : (k : Facts) (past : List Turn) (turn : Turn) → AllAskKnown k past → IsKnown k turn.message.asked
     → AllAskKnown k (past ++ turn ∷ [])
 ask_more k past turn all known x among = cases (among_either x past (turn ∷ []) among)
   where

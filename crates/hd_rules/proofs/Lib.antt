@@ -43,3 +43,9 @@ pub mod Orders
 pub mod Listed
 pub mod Filters
 pub mod AtPickup
+pub mod Growing
+pub mod Grown
+pub mod GrownTurns
+pub mod GrownOpening
+pub mod GrownArrivals
+pub mod GrownTwice

@@ -22,6 +22,7 @@ use Rattle.hd_rules.specs.Journal.{Turn, state_after, IsLegal, replied_from, IsR
 use Rattle.hd_rules.specs.Headline.{Headline}
 use Rattle.hd_rules.specs.Rows.{with_row, with_rows, MayStand, EachMayStand}
 use Rattle.hd_rules.specs.Carry.{Renumbering, IsByNames, IsCarriedOver}
+use Rattle.hd_rules.specs.Growth.{IsGrownDesk, Grows, ArriveBehind, IsGrownState, AreOfCatalogue}
 use Rattle.hd_rules.specs.Record.{Record, IsRecord, IsKeptOf, mended_record}
 use Rattle.hd_rules.specs.Replies.{IsReplyTo}
 use Rattle.hd_rules.specs.Known.{IsKnownAction, IsKnownDesk, IsKnownDone, IsKnown, IsKnownJournal, IsKnownRow}
@@ -176,6 +177,31 @@ abbrev pub ACarriedDeskIsSound : Type 0
 ACarriedDeskIsSound =
     (k j : Facts) (r : Renumbering) (n : CommandNo) (d e : Desk) → IsByNames k j r → Sound k n d →
     AreInRange j → IsCarriedOver r k j d e → Sound j n e × IsKnownDesk j e
+
+-- A journal goes on under a catalogue that has grown, with all its turns, word for word.
+pub record AJournalMayGrow : Type 0 where
+  -- a list of turns that ask of the first catalogue's things is legal under both or under neither
+  pub legal : (k j : Facts) (turns : List Turn) → Grows k j → AreOfCatalogue k turns →
+      IsLegal k turns ↔ IsLegal j turns
+  -- it leads to the same state, but for what is new
+  pub state : (k j : Facts) (turns : List Turn) → Grows k j → AreOfCatalogue k turns → IsLegal k turns →
+      IsGrownState k j (state_after k turns) (state_after j turns)
+  -- with the same records
+  pub records : (k j : Facts) (turns : List Turn) → Grows k j → AreOfCatalogue k turns → IsLegal k turns →
+      (s : Survivor) (r : Record) → IsAmong s (state_after k turns).survivors →
+      IsRecord k (state_after k turns).survivors s r → IsRecord j (state_after j turns).survivors s r
+  -- such a list asks of the other's things alone, too
+  pub asks : (k j : Facts) (turns : List Turn) → Grows k j → AreInRange j → AreOfCatalogue k turns →
+      AreOfCatalogue j turns
+  -- the other's journal may begin, if it was so
+  pub opens : (k j : Facts) → Grows k j → AreInRange k → IsKnownDesk k k.opening.desk → MayOpen k → MayOpen j
+  -- it is so where each new copy's arrival stands behind the rows of the opening
+  pub arrivals : (k j : Facts) (rows : List OpeningRow) → AreInRange k → AreInRange j → ArriveBehind k j rows →
+      Grows k j
+  -- one that has grown twice has grown
+  pub twice : (k j i : Facts) → Grows k j → Grows j i → Grows k i
+  -- a desk has grown to one other, and no more
+  pub only : (k j : Facts) (d e f : Desk) → IsGrownDesk k j d e → IsGrownDesk k j d f → e ≡ f
 
 -- The desk with each copy at home is one that a journal may open with.
 abbrev pub AFreshDeskMayOpen : Type 0

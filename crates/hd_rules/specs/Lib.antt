@@ -32,6 +32,7 @@ pub mod Known  -- numbers that a catalogue has given
 pub mod Messages  -- what a seat's terminal asks in one turn
 pub mod Rows  -- the desk that a journal opens with, as a file tells it
 pub mod Carry  -- what goes over to a journal of another catalogue
+pub mod Growth  -- a catalogue that gets more names while its journal goes on
 pub mod Views  -- what is told of a patron: the lists of their loans and holds, and a page of one
 pub mod Replies  -- which replies a message may get
 pub mod RefusalTexts  -- the texts of refusals

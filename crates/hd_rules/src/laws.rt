@@ -3,7 +3,7 @@
 ghost use Rattle.hd_rules.specs.Laws.{ACarriedDeskIsSound, AFreshDeskMayOpen, AKeptHoldIsAtItsPickup};
 ghost use Rattle.hd_rules.specs.Laws.{ChargedAreCounted, KeptAndWaitingAreTheHolds, ListedOnce};
 ghost use Rattle.hd_rules.specs.Laws.{RowsTellASoundDesk};
-ghost use Rattle.hd_rules.specs.Laws.{ALegalJournalIsTheRunOfItsSurvivors, ChoiceIsTheFirstCandidate};
+ghost use Rattle.hd_rules.specs.Laws.{AJournalMayGrow, ALegalJournalIsTheRunOfItsSurvivors, ChoiceIsTheFirstCandidate};
 ghost use Rattle.hd_rules.specs.Laws.{CommandsKeepDesksSound, CommandsRestOnTheirAnswers};
 ghost use Rattle.hd_rules.specs.Laws.{EachTurnIsDetermined, KnownRowsTellAKnownDesk, LegalJournalsGoOn};
 ghost use Rattle.hd_rules.specs.Laws.{PlaceIsTheLeastFree};
@@ -125,4 +125,10 @@ pub fn kept_and_waiting_are_the_holds()
 /// In a sound desk the copy of a kept hold stands on the hold shelf of its pickup, for the patron.
 pub fn a_kept_hold_is_at_its_pickup()
     ensures { AKeptHoldIsAtItsPickup }
+{}
+
+/// A list of turns that ask of a catalogue's things alone is legal under one that has more names behind them
+/// exactly where it is legal, and leads to the same state but for what is new, with the same records.
+pub fn a_journal_may_grow()
+    ensures { AJournalMayGrow }
 {}

@@ -27,8 +27,8 @@ pub use crate::copies::{CopyState, HoldPlace, Loan, Transit};
 pub use crate::equality::{same_asked, same_turn_reply};
 pub use crate::holds::{Hold, HoldKind};
 pub use crate::laws::{
-    a_carried_desk_is_sound, a_fresh_desk_may_open, a_kept_hold_is_at_its_pickup,
-    a_legal_journal_is_the_run_of_its_survivors, charged_are_counted,
+    a_carried_desk_is_sound, a_fresh_desk_may_open, a_journal_may_grow,
+    a_kept_hold_is_at_its_pickup, a_legal_journal_is_the_run_of_its_survivors, charged_are_counted,
     choice_is_the_first_candidate, commands_keep_desks_sound, commands_rest_on_their_answers,
     each_turn_is_determined, headline, kept_and_waiting_are_the_holds,
     known_rows_tell_a_known_desk, legal_journals_go_on, listed_once, place_is_the_least_free,

@@ -66,16 +66,16 @@ first_reason None why = why
 first_reason (Some before) why = before
 
 -- What a server answers whose hall has closed: the fault of its accepting, or else why its journal couldn't
--- be written, or else what keeps the journal.
-abbrev pub answered : {K : Type 0} → Result (Unit {0}) ServeFault → Option WriteFault → K
-    → Result K ServeFault
-answered (Err fault) unwritten keeper = Err fault
-answered (Ok _) (Some why) keeper = Err (Unwritten why)
-answered (Ok _) None keeper = Ok keeper
+-- be written, or else the closed hall.
+abbrev pub answered : {T : Type 0} → Result (Unit {0}) ServeFault → Option WriteFault → T
+    → Result T ServeFault
+answered (Err fault) unwritten closed = Err fault
+answered (Ok _) (Some why) closed = Err (Unwritten why)
+answered (Ok _) None closed = Ok closed
 
 -- What is told at the end of a server, where its accepting ended so and its journal couldn't be written for
--- this reason, or could: that its hall doesn't close, or what it answers with what kept the journal.
-abbrev pub IsEnd : {K : Type 0} → Result (Unit {0}) ServeFault → Option WriteFault → Result K ServeFault
+-- this reason, or could: that its hall doesn't close, or what it answers with the closed hall.
+abbrev pub IsEnd : {T : Type 0} → Result (Unit {0}) ServeFault → Option WriteFault → Result T ServeFault
     → Type 0
-IsEnd {K = K} accepted unwritten end =
-    (end ≡ Err NotClosed) ⊎ ((keeper : K) × (end ≡ answered accepted unwritten keeper))
+IsEnd {T = T} accepted unwritten end =
+    (end ≡ Err NotClosed) ⊎ ((closed : T) × (end ≡ answered accepted unwritten closed))

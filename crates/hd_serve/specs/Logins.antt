@@ -35,10 +35,16 @@ IsWhy k r None = (terminal : ℕ) × (login_terminal k r ≡ Some terminal)
 IsWhy k r (Some why.Encrypted) = (r.clear ≡ false) × (login_terminal k r ≡ None)
 IsWhy k r (Some unknown) = (login_terminal k r ≡ None) × IsWhyUnknown k r.name.now unknown
 
--- it is told with the terminal's name, and as taken where no why is
+-- what is told of a name that a login gave: the name, where it is a terminal's, and else nothing
+abbrev pub IsKnownName : Contents → List ℕ → List ℕ → Type 0
+IsKnownName k name told = (HasTerminal k name × (told ≡ name)) ⊎ ((¬ HasTerminal k name) × (told ≡ []))
+
+-- It is told as taken, with the terminal's name, where no why is; and else with the name that it gave, if
+-- that is a terminal's.
 abbrev pub IsToldOf : Contents → LoginRequest → ConnectionEvent → Type 0
 IsToldOf k r (LoggedIn terminal) = (terminal.now ≡ r.name.now) × IsWhy k r None
-IsToldOf k r (NotLoggedIn terminal reason) = (terminal.now ≡ r.name.now) × IsWhy k r (Some reason)
+IsToldOf k r (NotLoggedIn terminal reason) =
+    IsKnownName k r.name.now terminal.now × IsWhy k r (Some reason)
 IsToldOf k r what = ⊥
 
 -- it is told as a login that can't be read, with no name

@@ -1,5 +1,7 @@
 -- How long a connection is waited for.
-use Rattle.std.specs.Prelude.{◌≡◌, ◌⊎◌, ℕ, ◌<◌, Bool, true, false, IsTrue, IsFalse}
+use Rattle.std.specs.Prelude.{◌≡◌, ◌⊎◌, ℕ, ◌*◌, ◌<◌, Bool, true, false, Option, Some, None, IsTrue, IsFalse}
+use Rattle.std.specs.Duration.{as_nanos}
+use Rattle.std.specs.declared.time.Duration.{Duration}
 use Rattle.std.specs.declared.io.ErrorKind.{ErrorKind}
 use Rattle.std.specs.declared.io.ErrorKind.TheVariants.{WouldBlock, TimedOut}
 use Rattle.hd_serve.specs.Ends.{is_to_end}
@@ -17,3 +19,8 @@ is_late kind = false
 abbrev pub IsWaitedFor : Course → ErrorKind → ℕ → ℕ → Type 0
 IsWaitedFor course kind seconds idle =
     IsTrue (is_late kind) × IsFalse (is_to_end course) × ((idle ≡ 0) ⊎ (seconds < idle))
+
+-- A read waits for so many seconds at most as a connection may be idle; with 0 it may wait for ever.
+abbrev pub IsLongestWait : ℕ → Option Duration → Type 0
+IsLongestWait idle None = idle ≡ 0
+IsLongestWait idle (Some wait) = (0 < idle) × (as_nanos wait ≡ idle * 1_000_000_000)

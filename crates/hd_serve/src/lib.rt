@@ -26,5 +26,5 @@ pub use crate::fault::ServeFault;
 pub use crate::gate::{Gate, Observer};
 pub use crate::options::{Beyond, Options};
 pub use crate::serving::{serve, serve_observed};
-pub use crate::standing::Standing;
+pub use crate::standing::{AskedToEnd, Standing};
 pub use crate::terminals::{Served, serve_terminals};

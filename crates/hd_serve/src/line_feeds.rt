@@ -1,10 +1,10 @@
 //! A line feed behind each carriage return.
 ghost use Rattle.std.specs.Prelude.{◌≡◌, ◌==◌, ◌&&◌, ◌+◌, ◌<◌, ◌≤◌, [], false, length, take};
-ghost use Rattle.std.specs.Prelude.{◌++◌, IfErr, IfOk, MatchResult, OnOk};
+ghost use Rattle.std.specs.Prelude.{◌++◌, Bool, IfErr, IfOk, MatchResult, OnOk, true};
 ghost use Rattle.hd_serve.specs.LineFeeds.{Gives, IsFirstPart, bytes_of, owed, told};
 
 use arrayvec::ArrayVec;
-use hd_connection::{Output, WriteFailed};
+use hd_connection::{Fallible, Output, WriteFailed};
 use hd_field::line;
 use std::io::{self, ErrorKind, Write};
 
@@ -97,6 +97,20 @@ impl<W: Output> LineFeeds<W> {
         }
         Ok(())
     }
+}
+
+/// What replies are written to.
+pub(crate) trait ReplyWriter: Output {
+    /// Whether it sends a line feed behind each carriage return; else it sends what it is given.
+    ghost has_line_feeds: { Bool };
+}
+
+impl<W: Output> ReplyWriter for LineFeeds<W> {
+    ghost has_line_feeds = { true };
+}
+
+impl<W: Write> ReplyWriter for Fallible<W> {
+    ghost has_line_feeds = { false };
 }
 
 impl<W: Output> Write for LineFeeds<W> {

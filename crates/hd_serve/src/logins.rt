@@ -3,7 +3,7 @@ ghost use Rattle.std.specs.Prelude.{◌≡◌, ◌<◌, ◌≤◌, [], IfNone, I
 ghost use Rattle.hd_catalogue.specs.Contents.{facts_of, terminal_name};
 ghost use Rattle.hd_guard.specs.Trailer.{IsWrong};
 ghost use Rattle.hd_serve.specs.Logins.{HasTerminal, IsBody, IsNamed, IsNoLogin, IsToldOf, IsToldOfBody};
-ghost use Rattle.hd_serve.specs.Logins.{IsWhy, IsWhyUnknown};
+ghost use Rattle.hd_serve.specs.Logins.{IsKnownName, IsWhy, IsWhyUnknown};
 
 use hd_catalogue::Catalogue;
 use hd_guard::{Guarded, trailer};
@@ -37,14 +37,31 @@ pub(crate) fn body_of(line: &[u8]) -> Option<&[u8]>
     }
 }
 
-/// What is told of a login: that it is taken exactly where a session takes it.
+/// What is told of a login: that it is taken exactly where a session takes it. Where it isn't, the name that
+/// it gave is told only if it is a terminal's.
 fn login_told<'a>(catalogue: &Catalogue, request: &LoginRequest<'a>) -> ConnectionEvent<'a>
     ensures { IsToldOf catalogue.now request.now result }
 {
-    let terminal = request.name;
     match why_refused(catalogue, request) {
-        None => ConnectionEvent::LoggedIn { terminal },
-        Some(why) => ConnectionEvent::NotLoggedIn { terminal, why },
+        None => ConnectionEvent::LoggedIn {
+            terminal: request.name,
+        },
+        Some(why) => ConnectionEvent::NotLoggedIn {
+            terminal: known_name(catalogue, request.name),
+            why,
+        },
+    }
+}
+
+/// A name that is a terminal's, and else nothing: where a bar is missing, a password stands in what was sent
+/// as a name.
+fn known_name<'a>(catalogue: &Catalogue, name: &'a [u8]) -> &'a [u8]
+    ensures { IsKnownName catalogue.now name.now result.now }
+{
+    if is_terminal(catalogue, name) {
+        name
+    } else {
+        b""
     }
 }
 

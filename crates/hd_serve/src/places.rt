@@ -14,12 +14,20 @@ pub(crate) struct SeatWithShare<H: House> {
     ghost part: { seat.parts ≡ 1 },
 }
 
-impl<H: House> SeatWithShare<H> {
+/// The seat of a connection that has ended. It can't be dropped: it is kept (`Places::keep`).
+pub(crate) struct ServedSeat<H: House> {
+    held: SeatWithShare<H>,
+}
+
+impl<H: House> ServedSeat<H> {
     /// A seat that has its share.
-    pub(crate) fn new(seat: Seat<H>) -> SeatWithShare<H>
+    pub(crate) fn new(seat: Seat<H>) -> ServedSeat<H>
         requires { seat.parts ≡ 1 }
+        ensures { result.held.seat ≡ seat }
     {
-        SeatWithShare { seat }
+        ServedSeat {
+            held: SeatWithShare { seat },
+        }
     }
 }
 
@@ -57,13 +65,14 @@ impl<H: House> Places<H> {
     }
 
     /// Keeps a seat in its place. There is one, since room is made before each seat is opened.
-    pub(crate) fn keep(&mut self, held: SeatWithShare<H>)
+    pub(crate) fn keep(&mut self, served: ServedSeat<H>)
         // the seat of number n stands at place n, from 1, and all others where they stood
-        ensures kept { held.seat.number - 1 < length self.old.places.items → self.new.places.items
-            ≡ slice_set self.old.places.items (held.seat.number - 1) (Some held) }
-        ensures none { length self.old.places.items ≤ held.seat.number - 1 → self.new.places.items
+        ensures kept { served.held.seat.number - 1 < length self.old.places.items → self.new.places.items
+            ≡ slice_set self.old.places.items (served.held.seat.number - 1) (Some served.held) }
+        ensures none { length self.old.places.items ≤ served.held.seat.number - 1 → self.new.places.items
             ≡ self.old.places.items }
     {
+        let ServedSeat { held } = served;
         let number = held.seat.number().number() as usize;
         if let Some(place) = self.places.get_mut(number.saturating_sub(1)) {
             *place = Some(held);

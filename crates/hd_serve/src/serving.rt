@@ -7,7 +7,7 @@ use crate::gate::{Gate, Observer, Unobserved};
 use crate::options::Options;
 use crate::standing::Standing;
 use crate::terminals::serve_terminals;
-use hd_hall::{CataloguedKeeper, Hall, House};
+use hd_hall::{CataloguedKeeper, Closed, Hall, House};
 use std::alloc::Global;
 use std::marker::Brand;
 use std::net::TcpListener;
@@ -120,5 +120,9 @@ fn serve_in<
         return Err(ServeFault::Memory);
     };
     let served = serve_terminals(rt, alloc, &hall, listener, &standing, options, observer)?;
-    served.close(hall)
+    let Closed {
+        keeper,
+        ledger: _ledger,
+    } = served.close(hall)?;
+    Ok(keeper)
 }

@@ -41,6 +41,18 @@ pub struct Standing {
     port: TcpStream,
 }
 
+/// That a turn couldn't be written, for this reason. It can't be dropped: it ends its server
+/// (`Standing::end_unwritten`).
+pub(crate) struct UnwrittenTurn {
+    pub(crate) why: WriteFault,
+}
+
+/// That a server was asked to end: `Standing::ask_to_end` alone gives it.
+#[derive(Clone, Copy)]
+pub struct AskedToEnd {
+    _of: (),
+}
+
 impl Standing {
     /// Of a server that begins, at a port that is to be listened at.
     ///
@@ -67,10 +79,11 @@ impl Standing {
     /// Has the server end: no more connections are accepted, and none that waits is begun; what was read is
     /// answered, and each session ends at its next read, whatever has come by then. A reply of which nothing
     /// is taken for a second isn't written.
-    pub fn ask_to_end<R: Wait>(&self, rt: &R) {
+    pub fn ask_to_end<R: Wait>(&self, rt: &R) -> AskedToEnd {
         let mut now = self.now.lock(rt);
         now.course.ask();
         self.hang_up(&now);
+        AskedToEnd { _of: () }
     }
 
     /// How many connections are open: those that are served, and those that wait for a worker.
@@ -88,9 +101,10 @@ impl Standing {
         self.now.lock(rt).is_full = true;
     }
 
-    /// Has the server end as `ask_to_end` does, since the journal can't be written for this reason, unless
-    /// there was one before.
-    pub(crate) fn end_unwritten<R: Wait>(&self, rt: &R, why: WriteFault) {
+    /// Has the server end as `ask_to_end` does, since a turn couldn't be written. Its reason is the server's,
+    /// unless there was one before.
+    pub(crate) fn end_unwritten<R: Wait>(&self, rt: &R, unwritten: UnwrittenTurn) {
+        let UnwrittenTurn { why } = unwritten;
         let mut now = self.now.lock(rt);
         now.course.note(why);
         self.hang_up(&now);

@@ -1,6 +1,6 @@
 //! Serving terminals in a hall.
 ghost use Rattle.std.specs.Prelude.{◌≡◌, ◌≤◌, IfErr, IfOk, Ok};
-ghost use Rattle.hd_hall.specs.Closings.{AreTurnsOf};
+ghost use Rattle.hd_hall.specs.Closings.{AreAllParts, AreTurnsOf};
 ghost use Rattle.hd_hall.specs.Seats.{EachSeat};
 ghost use Rattle.hd_journal.specs.Openings.{IsLegalSince};
 ghost use Rattle.hd_serve.specs.Ends.{IsEnd, answered};
@@ -14,7 +14,7 @@ use crate::places::Places;
 use crate::standing::Standing;
 use crate::worker::Service;
 use crossbeam_channel::{Sender, bounded};
-use hd_hall::{Hall, House, Keeper, Seat, Turns};
+use hd_hall::{Closed, Hall, House, Keeper, Seat, Turns};
 use hd_journal::WriteFault;
 use hd_log::Event;
 use std::alloc::Global;
@@ -35,7 +35,8 @@ pub struct Served<H: House> {
 
 impl<H: House> Served<H> {
     /// Closes the hall in which they were served: what keeps its journal, whose turns since it was opened are
-    /// legal, and just those that the connections were told, each once.
+    /// legal, and just those that the connections were told, each once. All parts of the hall's ledger come
+    /// back, with as many turns counted: so no connection is left out.
     ///
     /// # Errors
     /// `NotClosed` where the hall doesn't close; the fault of the accepting, if it ended with one;
@@ -43,11 +44,14 @@ impl<H: House> Served<H> {
     pub fn close<Q: Drop, K: Turns + Drop>(
         self,
         hall: Hall<H, Global, Q, K>,
-    ) -> Result<K, ServeFault>
+    ) -> Result<Closed<H, K>, ServeFault>
         requires parts { H.parts ≡ 4294967296 }
-        ensures opening { IfOk result (λ closed. K.opening closed ≡ H.opening) }
-        ensures legal { IfOk result (λ closed. IsLegalSince H.opening (K.turns closed)) }
-        ensures told { IfOk result (λ closed. AreTurnsOf H.opening (K.turns closed) self.seats.items) }
+        ensures opening { IfOk result (λ closed. K.opening closed.keeper ≡ H.opening) }
+        ensures legal { IfOk result (λ closed. IsLegalSince H.opening (K.turns closed.keeper)) }
+        ensures told { IfOk result (λ closed.
+            AreTurnsOf H.opening (K.turns closed.keeper) self.seats.items) }
+        ensures all { IfOk result (λ closed.
+            AreAllParts H.parts closed.ledger.parts closed.ledger.amount (K.turns closed.keeper)) }
         ensures end { IsEnd self.accepted self.unwritten result }
     {
         let Served {
@@ -55,29 +59,29 @@ impl<H: House> Served<H> {
             unwritten,
             seats,
         } = self;
-        let Ok(keeper) = hall.close(seats) else {
+        let Ok(closed) = hall.close(seats) else {
             return Err(ServeFault::NotClosed);
         };
-        answer(accepted, unwritten, keeper)
+        answer(accepted, unwritten, closed)
     }
 }
 
 /// What a server answers whose hall has closed, where its accepting ended so, and, if its journal couldn't be
 /// written, why.
-fn answer<K: Drop>(
+fn answer<T: Drop>(
     accepted: Result<(), ServeFault>,
     unwritten: Option<WriteFault>,
-    keeper: K,
-) -> Result<K, ServeFault>
-    ensures answer { result ≡ answered accepted unwritten keeper }
-    ensures keeper { IfOk result (λ closed. closed ≡ keeper) }
+    closed: T,
+) -> Result<T, ServeFault>
+    ensures answer { result ≡ answered accepted unwritten closed }
+    ensures closed { IfOk result (λ same. same ≡ closed) }
 {
     if let Err(fault) = accepted {
         return Err(fault);
     }
     match unwritten {
         Some(why) => Err(ServeFault::Unwritten(why)),
-        None => Ok(keeper),
+        None => Ok(closed),
     }
 }
 

@@ -1,6 +1,7 @@
 //! Serving one connection after another.
-ghost use Rattle.std.specs.Prelude.{◌≡◌, ◌↔◌, IsTrue};
+ghost use Rattle.std.specs.Prelude.{◌≡◌, ◌↔◌, IsTrue, option_map};
 ghost use Rattle.hd_serve.specs.Ends.{AreFew, end_of, stop_of};
+ghost use Rattle.hd_serve.specs.Waits.{IsLongestWait};
 ghost use Rattle.hd_exchange.specs.Extensions.{extensions_lent};
 ghost use Rattle.hd_session.specs.Sessions.{new_session};
 
@@ -9,21 +10,21 @@ use crate::answering::Answering;
 use crate::day_watch::DayWatch;
 use crate::gate::{Gate, Observer};
 use crate::hearing::Hearing;
-use crate::line_feeds::LineFeeds;
+use crate::line_feeds::{LineFeeds, ReplyWriter};
 use crate::options::Options;
-use crate::places::{Places, SeatWithShare};
+use crate::places::{Places, ServedSeat};
 use crate::reading::Reading;
 use crate::speaking::Speaker;
-use crate::standing::{Course, Standing};
+use crate::standing::{Course, Standing, UnwrittenTurn};
 use crate::surroundings::ClockAndGate;
 use crate::writing::Writing;
 use crossbeam_channel::Receiver;
 use hd_attend::{AttendFault, attend};
-use hd_connection::{Fallible, Output};
+use hd_connection::Fallible;
 use hd_exchange::profile_of;
 use hd_field::Stream;
 use hd_hall::{Counter, Hall, House, Keeper, Seat, Turns};
-use hd_journal::{TurnFault, WriteFault};
+use hd_journal::TurnFault;
 use hd_log::{ConnectionEvent, End, Event};
 use hd_looks::CountsReader;
 use hd_session::{Ended, Session};
@@ -141,16 +142,17 @@ impl<'a, H: House, Q: Drop, K: Keeper<Global, Q> + Drop> Service<'a, H, Q, K> {
         mut state: Session<'_>,
         heard: Stream,
         mut seat: Seat<H>,
-    ) -> (Visited, SeatWithShare<H>)
+    ) -> (Visited, ServedSeat<H>)
         requires seat { seat.parts ≡ 1 }
         requires state { state ≡ new_session (extensions_lent self.now.options.extensions) }
     {
         let visited = self.attend_to(visit, &mut state, heard, &mut seat);
-        if let Some(why) = stop_of(state.end()) {
-            self.standing.end_unwritten(visit.rt, why);
+        if let Some(unwritten) = stop_of(state.end()) {
+            let why = unwritten.why;
+            self.standing.end_unwritten(visit.rt, unwritten);
             visit.speaker.tell_unwritten(why);
         }
-        (visited, SeatWithShare::new(seat))
+        (visited, ServedSeat::new(seat))
     }
 
     /// How a connection went that is attended to at a seat.
@@ -175,8 +177,9 @@ impl<'a, H: House, Q: Drop, K: Keeper<Global, Q> + Drop> Service<'a, H, Q, K> {
         }
     }
 
-    /// The same, where the replies are given to this writer.
-    fn attend_by<R: Wait + Clock, O: Gate + Observer, W: Output + Drop>(
+    /// The same, where the replies are given to this writer, which sends line feeds where the options have
+    /// them.
+    fn attend_by<R: Wait + Clock, O: Gate + Observer, W: ReplyWriter + Drop>(
         &self,
         visit: &Visit<'_, R, O>,
         state: &mut Session<'_>,
@@ -186,6 +189,7 @@ impl<'a, H: House, Q: Drop, K: Keeper<Global, Q> + Drop> Service<'a, H, Q, K> {
     ) -> Visited
         requires seat { seat.old.parts ≡ 1 }
         requires state { state.old ≡ new_session (extensions_lent self.now.options.extensions) }
+        requires writer { W.has_line_feeds ≡ self.now.options.has_line_feeds }
         ensures seat { seat.new.parts ≡ 1 }
     {
         let catalogue = self.hall.catalogue();
@@ -194,11 +198,7 @@ impl<'a, H: House, Q: Drop, K: Keeper<Global, Q> + Drop> Service<'a, H, Q, K> {
         let days = self.day_watch();
         let mut reader = Hearing::new(from, heard, catalogue, visit.speaker, visit.rt, days);
         let mut writer = Answering::new(writer, visit.speaker);
-        let surroundings = ClockAndGate {
-            clock: visit.rt,
-            offset: catalogue.offset(),
-            gate: visit.observer,
-        };
+        let surroundings = ClockAndGate::of(catalogue, visit.rt, visit.observer);
         let mut counter = Counter::new(visit.rt, self.hall, seat);
         let ended = attend(
             visit.rt,
@@ -253,11 +253,11 @@ fn are_few(last: u64, most: u64) -> bool
 
 /// Why no more connections are to be served, where the session of one has this end, or none: a turn of it
 /// couldn't be written.
-fn stop_of(end: Option<Ended>) -> Option<WriteFault>
-    ensures { result ≡ stop_of end }
+fn stop_of(end: Option<Ended>) -> Option<UnwrittenTurn>
+    ensures { option_map (λ unwritten. unwritten.why) result ≡ stop_of end }
 {
     match end {
-        Some(Ended::Turn(TurnFault::Unwritten(why))) => Some(why),
+        Some(Ended::Turn(TurnFault::Unwritten(why))) => Some(UnwrittenTurn { why }),
         _ => None,
     }
 }
@@ -296,8 +296,17 @@ fn seconds_since<R: Clock>(rt: &R, begin: io::Result<Instant>) -> u64 {
 /// one, which are tried again (`Writing`).
 fn prepare(stream: &TcpStream, idle: u32) -> io::Result<()> {
     stream.set_nodelay(true)?;
-    if idle > 0 {
-        stream.set_read_timeout(Some(Duration::from_secs(u64::from(idle))))?;
-    }
+    stream.set_read_timeout(longest_wait(idle))?;
     stream.set_write_timeout(Some(Duration::from_secs(1)))
+}
+
+/// For how long a read waits at most, of a connection that may be idle for so many seconds; with 0 for ever.
+fn longest_wait(idle: u32) -> Option<Duration>
+    ensures { IsLongestWait idle result }
+{
+    if idle > 0 {
+        Some(Duration::from_secs(u64::from(idle)))
+    } else {
+        None
+    }
 }

@@ -1,8 +1,8 @@
 //! Having a server end.
-ghost use Rattle.std.specs.Prelude.{◌≡◌};
+ghost use Rattle.std.specs.Prelude.{◌≡◌, is_some};
 
 use hd_door::OnStop;
-use hd_serve::Standing;
+use hd_serve::{AskedToEnd, Standing};
 use std::alloc::AllocError;
 use std::sync::Wait;
 
@@ -10,8 +10,8 @@ use std::sync::Wait;
 pub(crate) struct AskToEnd<'a, R> {
     pub(crate) rt: &'a R,
     pub(crate) standing: &'a Standing,
-    /// Whether it was called.
-    pub(crate) is_called: bool,
+    /// That the server was asked, where it was.
+    pub(crate) asked: Option<AskedToEnd>,
 }
 
 impl<'a, R> Clone for AskToEnd<'a, R> {
@@ -19,7 +19,7 @@ impl<'a, R> Clone for AskToEnd<'a, R> {
         Ok(AskToEnd {
             rt: self.rt,
             standing: self.standing,
-            is_called: self.is_called,
+            asked: self.asked,
         })
     }
 }
@@ -27,10 +27,9 @@ impl<'a, R> Clone for AskToEnd<'a, R> {
 impl<'a, R> Copy for AskToEnd<'a, R> {}
 
 impl<'a, R: Wait> OnStop for AskToEnd<'a, R> {
-    ghost is_called = { λ ask. ask.is_called };
+    ghost is_called = { λ ask. is_some ask.asked };
 
     fn call(&mut self) {
-        self.standing.ask_to_end(self.rt);
-        self.is_called = true;
+        self.asked = Some(self.standing.ask_to_end(self.rt));
     }
 }

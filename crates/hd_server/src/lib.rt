@@ -3,6 +3,7 @@
 
 mod ending;
 mod fault;
+mod file_identity;
 mod replaying;
 mod seen;
 mod server_view;
@@ -13,7 +14,7 @@ pub use crate::fault::ServerFault;
 pub use crate::replaying::replay;
 pub use crate::seen::{Sight, serve_seen};
 pub use crate::serving::serve;
-pub use crate::summary::{Summary, summary_of};
+pub use crate::summary::{ClosedJournal, Summary, summary_of};
 pub use hd_attend::{AttendFault, Surroundings, attend};
 pub use hd_replay::ReplayFault;
 pub use hd_serve::{Beyond, Gate, Observer, Options, ServeFault};

@@ -5,10 +5,11 @@ ghost use Rattle.hd_server.specs.Ends.{IsOfServe};
 
 use crate::ending::AskToEnd;
 use crate::fault::ServerFault;
+use crate::file_identity::{FileIdentity, first_identity};
 use crate::server_view::ServerView;
 use hd_door::{Door, OnStop, Service};
 use hd_durable::LastCommit;
-use hd_hall::{CataloguedKeeper, Hall, House, Keeper};
+use hd_hall::{CataloguedKeeper, Closed, Hall, House, Keeper};
 use hd_journal::{Journal, Look};
 use hd_page::{Page, View};
 use hd_serve::{Gate, Observer, Options, ServeFault, Served, Standing, serve_terminals};
@@ -105,6 +106,7 @@ fn serve_in<
         door: sight.door,
         page: sight.page,
         files: sight.files,
+        begun: first_identity(host, sight.files),
         last_commit: sight.last_commit,
         standing: &standing,
         workers: options.workers,
@@ -120,7 +122,11 @@ fn serve_in<
             requires workers { (1 ≤ options.now.workers) × (options.now.workers ≤ 9999) }
         { serve_terminals(rt, alloc, &hall, listener, &standing, options, observer) },
     )??;
-    served.close(hall)
+    let Closed {
+        keeper,
+        ledger: _ledger,
+    } = served.close(hall)?;
+    Ok(keeper)
 }
 
 /// How many turns a journal has, if it is shown.
@@ -159,6 +165,8 @@ struct Seen<'a> {
     door: &'a Door,
     page: Page<'a>,
     files: &'a [&'a str],
+    /// Which file the journal's own was when the server began.
+    begun: Option<FileIdentity>,
     last_commit: &'a LastCommit,
     standing: &'a Standing,
     workers: u32,
@@ -191,6 +199,7 @@ fn beside_door<
         standing: seen.standing,
         workers: seen.workers,
         files: seen.files,
+        begun: seen.begun,
         last_commit: seen.last_commit,
     };
     let service = Service {
@@ -200,7 +209,7 @@ fn beside_door<
         on_stop: AskToEnd {
             rt,
             standing: seen.standing,
-            is_called: false,
+            asked: None,
         },
     };
     beside(rt, seen.door, &service, work)

@@ -1,7 +1,8 @@
 //! A view of a server: of its journal, and of its service.
-ghost use Rattle.std.specs.Prelude.{◌≡◌};
+ghost use Rattle.std.specs.Prelude.{◌≡◌, min};
 ghost use Rattle.hd_server.specs.Seen.{health_of, with_service};
 
+use crate::file_identity::{FileIdentity, first_identity, has_gone};
 use hd_durable::LastCommit;
 use hd_page::{Health, Inquiry, Outcome, State, View, ViewFault};
 use hd_serve::Standing;
@@ -18,6 +19,8 @@ pub(crate) struct ServerView<'a, R, V> {
     pub(crate) workers: u32,
     /// The paths of the files in which the journal is kept.
     pub(crate) files: &'a [&'a str],
+    /// Which file the journal's own was when the server began.
+    pub(crate) begun: Option<FileIdentity>,
     /// How long the last commit to them took.
     pub(crate) last_commit: &'a LastCommit,
 }
@@ -37,10 +40,10 @@ impl<'a, R: Wait, V: View> View for ServerView<'a, R, V> {
         let hall = self.journal.state();
         let connections = self.standing.connections(self.rt) as u64;
         let service = Service {
-            gone: is_gone(self.host, self.files),
+            gone: is_gone(self.host, self.files, self.begun),
             full: self.standing.is_full(self.rt),
             connections,
-            busy: connections.min(u64::from(self.workers)),
+            busy: busy_workers(connections, self.workers),
             bytes: bytes_of(self.host, self.files),
             micros: self.last_commit.micros(self.rt),
         };
@@ -62,6 +65,13 @@ struct Service {
     bytes: Option<u64>,
     /// How many microseconds the last commit took.
     micros: Option<u64>,
+}
+
+/// How many of so many workers have a connection in hand: one for each connection, or all of them.
+fn busy_workers(connections: u64, workers: u32) -> u64
+    ensures { result ≡ min connections workers }
+{
+    connections.min(u64::from(workers))
 }
 
 /// A state with that.
@@ -90,12 +100,10 @@ fn health_of(is_gone: bool, is_full: bool, journal: Health) -> Health
     }
 }
 
-/// Whether the first of the files, the journal's own, isn't at its path.
-fn is_gone(host: &HostRuntime, files: &[&str]) -> bool {
-    match files.first() {
-        Some(path) => fs::metadata(host, *path).is_err(),
-        None => false,
-    }
+/// Whether the first of the files, the journal's own, isn't at its path any more, where this one was when the
+/// server began.
+fn is_gone(host: &HostRuntime, files: &[&str], begun: Option<FileIdentity>) -> bool {
+    !files.is_empty() && has_gone(begun, first_identity(host, files))
 }
 
 /// How many bytes files have, as far as they are there; nothing of no files.

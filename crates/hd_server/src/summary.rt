@@ -3,6 +3,16 @@ ghost use Rattle.hd_server.specs.Summaries.{IsSummary};
 
 use hd_journal::Journal;
 
+/// What is left of a server with a journal in memory: the journal that its closed hall gave back, and its
+/// numbers.
+#[derive(Drop)]
+pub struct ClosedJournal {
+    /// The journal.
+    pub journal: Journal,
+    /// Its numbers.
+    pub summary: Summary,
+}
+
 /// What a closed hall's journal holds.
 #[derive(Clone, Copy, Debug, PartialEq, Eq)]
 pub struct Summary {

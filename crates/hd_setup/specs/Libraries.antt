@@ -1,8 +1,10 @@
 -- Libraries: which one is of some files.
-use Rattle.std.specs.Prelude.{◌≡◌, ◌↔◌, ℤ, ℕ, IsTrue, IsUtf8, Option, None, Some, List}
+use Rattle.std.specs.Prelude.{◌≡◌, ◌↔◌, ◌⊎◌, ℤ, ℕ, IsTrue, IsUtf8, Option, None, Some, List, ◌++◌}
+use Rattle.std.specs.Str.Lines.{lines}
 use Rattle.sha2.specs.Sha256.{sha256}
 use Rattle.hd_catalogue.specs.Contents.{Contents}
 use Rattle.hd_catalogue.specs.Files.{IsAccepted, lines_of}
+use Rattle.hd_joining.specs.Joining.{IsWhole, grown_from}
 use Rattle.hd_opening.specs.Files.{Tells}
 use Rattle.hd_zone.specs.Moved.{IsReadAt}
 use Rattle.hd_setup.specs.declared.library.Library.{Library}
@@ -38,3 +40,28 @@ abbrev pub IsOfFiles : {Path : Type 0} → Option ℤ → Option Path → Librar
 IsOfFiles offset None library = IsOfSomeCatalogue offset library
 IsOfFiles offset (Some path) library =
     (before : Library) × IsOfSomeCatalogue offset before × IsOpened before library
+
+-- What is said by the text of a catalogue file with lines behind its own.
+pub record IsGrown (offset : Option ℤ) (file added : List ℕ) (grown : Contents) : Type 0 where
+  pub text : List ℕ
+  pub behind : IsWhole file → lines_of text ≡ lines_of file ++ lines added
+  pub says : SaysAt offset (lines_of text) grown
+
+-- The library is another one whose catalogue file has these bytes, with lines behind its own that joined it: the
+-- arrivals of its new copies are behind the rows of its opening, and the digest is the same.
+pub record IsJoinedBy (offset : Option ℤ) (before : Library) (file added : List ℕ) (library : Library) : Type 0
+  where
+    pub grown : Contents
+    pub is : IsGrown offset file added grown
+    pub catalogue : library.catalogue ≡ grown_from before.catalogue grown
+    pub digest : library.digest ≡ before.digest
+
+-- It is that one itself, where nothing joined it, or that one with lines that did.
+abbrev pub IsWithJoined : Option ℤ → Library → Library → Type 0
+IsWithJoined offset before library =
+    (library ≡ before) ⊎ ((file : List ℕ) × (added : List ℕ) × IsJoinedBy offset before file added library)
+
+-- A library of files, with what joined it.
+abbrev pub IsJoinedOfFiles : {Path : Type 0} → Option ℤ → Option Path → Library → Type 0
+IsJoinedOfFiles offset opening library =
+    (before : Library) × IsOfFiles offset opening before × IsWithJoined offset before library

@@ -1,4 +1,7 @@
 //! Why a library isn't set up, or what is read beside it.
+ghost use Rattle.std.specs.Prelude.{◌≡◌};
+ghost use Rattle.hd_setup.specs.Faults.{fault_of_desk, fault_of_opening, line_of};
+ghost use Rattle.hd_setup.specs.declared.fault.SetupFault.TheVariants.{UnfitRow};
 
 use hd_catalogue::{CatFault, OpeningFault as UnfitOpening};
 use hd_desk::{OpenFault as DeskFault, RowFault};
@@ -61,6 +64,9 @@ pub enum SetupFault {
     /// The patrons' file is refused.
     #[error("{0}")]
     Patrons(PatronsFault),
+    /// The file of the names that joined a library has other bytes than were written.
+    #[error("the names that joined were changed: {0}")]
+    JoinedChanged(String),
     /// Out of memory.
     #[error("no memory")]
     Memory,
@@ -90,6 +96,8 @@ impl From<ReadFault> for SetupFault {
 }
 
 impl From<DeskFault> for SetupFault {
+    ghost from_gives = { λ why fault. fault ≡ fault_of_desk why };
+
     fn from(fault: DeskFault) -> SetupFault {
         match fault {
             DeskFault::Memory => SetupFault::Memory,
@@ -105,18 +113,29 @@ impl From<DeskFault> for SetupFault {
 }
 
 impl From<UnfitOpening> for SetupFault {
+    ghost from_gives = { λ why fault. fault ≡ fault_of_opening why };
+
     fn from(fault: UnfitOpening) -> SetupFault {
         match fault {
             UnfitOpening::Last => SetupFault::UnfitRow { line: 1 },
-            UnfitOpening::Row { index } => SetupFault::UnfitRow {
-                line: line_of(index),
-            },
+            UnfitOpening::Row { index } => unfit_row(index),
         }
     }
 }
 
+/// The fault that the row has a number out of its bounds that has so many before it.
+fn unfit_row(rows: usize) -> SetupFault
+    ensures { result ≡ UnfitRow (line_of rows) }
+{
+    SetupFault::UnfitRow {
+        line: line_of(rows),
+    }
+}
+
 /// The line of an opening file on which the row stands that has so many before it.
-fn line_of(rows: usize) -> usize {
+fn line_of(rows: usize) -> usize
+    ensures { result ≡ line_of rows }
+{
     rows.saturating_add(2)
 }
 

@@ -5,6 +5,7 @@
 mod extending;
 mod fault;
 mod inquiry;
+mod joined;
 mod library;
 mod options;
 mod reading;
@@ -13,6 +14,7 @@ mod zone;
 pub use crate::extending::{extensions_of, is_extended, read_patrons};
 pub use crate::fault::SetupFault;
 pub use crate::inquiry::inquiry_of;
+pub use crate::joined::{joined_file, joined_lines};
 pub use crate::library::Library;
 pub use crate::options::options_of;
 pub use crate::reading::{cannot_read, read_file, read_list};

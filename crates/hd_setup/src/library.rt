@@ -1,15 +1,19 @@
 //! A library, by its files.
-ghost use Rattle.std.specs.Prelude.{◌≡◌, [], IfOk, IsTrue, None};
+ghost use Rattle.std.specs.Prelude.{◌≡◌, [], IfErr, IfOk, IsFalse, IsTrue, None};
 ghost use Rattle.hd_catalogue.specs.Contents.{told_by};
 ghost use Rattle.hd_catalogue.specs.Files.{lines_of};
-ghost use Rattle.hd_setup.specs.Libraries.{IsOfCatalogue, IsOfFiles, IsOfSomeCatalogue, IsOpened};
-ghost use Rattle.hd_setup.specs.Libraries.{IsOpenedBy, SaysAt};
+ghost use Rattle.hd_setup.specs.Libraries.{IsGrown, IsJoinedBy, IsJoinedOfFiles, IsOfCatalogue};
+ghost use Rattle.hd_setup.specs.Libraries.{IsOfFiles};
+ghost use Rattle.hd_setup.specs.Libraries.{IsOfSomeCatalogue, IsOpened, IsOpenedBy, IsWithJoined, SaysAt};
+ghost use Rattle.hd_setup.specs.declared.fault.SetupFault.TheVariants.{CatalogueIsNoText};
 
 use crate::fault::SetupFault;
+use crate::joined::joined_lines;
 use crate::reading::read_file;
 use hd_catalogue::{Catalogue, OffsetMinutes, OpeningRow};
 use hd_command_line::LibraryFiles;
 use hd_desk::Meter;
+use hd_joining::{grown_text, with_arrivals};
 use hd_journal::Journal;
 use hd_opening::Opening;
 use hd_zone::read_at;
@@ -33,7 +37,7 @@ impl Library {
     /// # Errors
     /// A file can't be read, or is refused.
     pub fn read(rt: &HostRuntime, files: &LibraryFiles<'_>) -> Result<Library, SetupFault>
-        ensures files { IfOk result (IsOfFiles None files.now.opening) }
+        ensures files { IfOk result (IsJoinedOfFiles None files.now.opening) }
     {
         Library::read_at(rt, files, None)
     }
@@ -48,6 +52,20 @@ impl Library {
         files: &LibraryFiles<'_>,
         offset: Option<OffsetMinutes>,
     ) -> Result<Library, SetupFault>
+        ensures files { IfOk result (IsJoinedOfFiles offset files.now.opening) }
+    {
+        Library::before_join(rt, files, offset)?.and_joined(rt, files, offset)
+    }
+
+    /// Reads a library without the names that joined it.
+    ///
+    /// # Errors
+    /// Those of `read`.
+    fn before_join(
+        rt: &HostRuntime,
+        files: &LibraryFiles<'_>,
+        offset: Option<OffsetMinutes>,
+    ) -> Result<Library, SetupFault>
         ensures files { IfOk result (IsOfFiles offset files.now.opening) }
     {
         let library = Library::of_path(rt, files.catalogue, offset)?;
@@ -57,12 +75,64 @@ impl Library {
         }
     }
 
+    /// The library with the names that joined it, where there are such: its catalogue file is read again, with
+    /// their lines behind its own.
+    ///
+    /// # Errors
+    /// A file can't be read, or is refused.
+    pub fn and_joined(
+        self,
+        rt: &HostRuntime,
+        files: &LibraryFiles<'_>,
+        offset: Option<OffsetMinutes>,
+    ) -> Result<Library, SetupFault>
+        ensures { IfOk result (IsWithJoined offset self) }
+    {
+        let Some(path) = files.joined else {
+            return Ok(self);
+        };
+        let Some(lines) = joined_lines(rt, path)? else {
+            return Ok(self);
+        };
+        let file = read_file(rt, "catalogue", files.catalogue)?;
+        self.joined_by(rt, file.as_slice(), lines.as_slice(), offset)
+    }
+
+    /// The library whose catalogue file has these bytes, with lines behind its own that joined it. The opening's
+    /// rows stay, and behind them each copy that joined is on its way to its home. The digest stays.
+    ///
+    /// # Errors
+    /// What the lines make of the catalogue is refused.
+    pub fn joined_by(
+        self,
+        rt: &HostRuntime,
+        file: &[u8],
+        lines: &[u8],
+        offset: Option<OffsetMinutes>,
+    ) -> Result<Library, SetupFault>
+        ensures { IfOk result (IsJoinedBy offset self file.now lines.now) }
+    {
+        let alloc = rt.alloc();
+        let (digest, is_text) = (self.digest, self.is_text);
+        let Library { catalogue, .. } = self;
+        let (copies, last) = (catalogue.copies(), catalogue.last_before());
+        let rows = Vec::from_slice(alloc, catalogue.opening())?;
+        drop(catalogue);
+        let grown = grown_catalogue(alloc, file, lines, offset)?;
+        let rows = with_arrivals(rows, &grown, copies)?;
+        Ok(Library {
+            catalogue: grown.with_opening(rows, last)?,
+            digest,
+            is_text: is_text && str::from_utf8(lines).is_ok(),
+        })
+    }
+
     /// Reads a library whose names are text.
     ///
     /// # Errors
     /// Those of `read`, and that the catalogue is no text.
     pub fn read_text(rt: &HostRuntime, files: &LibraryFiles<'_>) -> Result<Library, SetupFault>
-        ensures files { IfOk result (IsOfFiles None files.now.opening) }
+        ensures files { IfOk result (IsJoinedOfFiles None files.now.opening) }
         ensures text { IfOk result (λ library. IsTrue library.is_text) }
     {
         Library::read(rt, files)?.with_text()
@@ -117,6 +187,7 @@ impl Library {
     /// They aren't.
     pub fn with_text(self) -> Result<Library, SetupFault>
         ensures text { IfOk result (λ library. (library ≡ self) × IsTrue self.is_text) }
+        ensures no_text { IfErr result (λ fault. (fault ≡ CatalogueIsNoText) × IsFalse self.is_text) }
     {
         if self.is_text {
             Ok(self)
@@ -182,7 +253,7 @@ impl Library {
     {
         let Library { catalogue, .. } = self;
         let alloc = rt.alloc();
-        Ok(hd_journal::open(alloc, Meter::new(rt), catalogue)?)
+        Ok(hd_journal::open(alloc, alloc, Meter::new(rt), catalogue)?)
     }
 }
 
@@ -201,4 +272,20 @@ fn catalogue_of(
         Some(offset) => Ok(read_at(alloc, file, offset)?),
         None => Ok(Catalogue::read(alloc, file)?),
     }
+}
+
+/// What a catalogue file says with lines behind its own; where there is an offset, with that in place of its own.
+///
+/// # Errors
+/// It is refused.
+fn grown_catalogue(
+    alloc: Global,
+    file: &[u8],
+    lines: &[u8],
+    offset: Option<OffsetMinutes>,
+) -> Result<Catalogue, SetupFault>
+    ensures { IfOk result (IsGrown offset file.now lines.now) }
+{
+    let text = grown_text(alloc, file, lines)?;
+    catalogue_of(alloc, text.as_slice(), offset)
 }

@@ -2,6 +2,7 @@
 
 use crate::fault::SetupFault;
 use std::alloc::{AllocError, Global};
+use std::io::ErrorKind;
 use std::{fs, io};
 
 /// The bytes of a file of a library. Its kind is a word for it, as `catalogue`.
@@ -26,6 +27,18 @@ pub fn read_file(rt: &HostRuntime, kind: &'static str, path: &str) -> Result<Vec
 pub fn read_list(rt: &HostRuntime, path: &str) -> Result<Vec<u8>, SetupFault> {
     match fs::read(rt, path) {
         Ok(file) => Ok(file),
+        Err(error) => Err(cannot_read(rt.alloc(), path, &error)?),
+    }
+}
+
+/// The bytes of another file, where there is one.
+///
+/// # Errors
+/// `CannotReadFile`, with the path and the system's reason.
+pub(crate) fn read_if_there(rt: &HostRuntime, path: &str) -> Result<Option<Vec<u8>>, SetupFault> {
+    match fs::read(rt, path) {
+        Ok(file) => Ok(Some(file)),
+        Err(error) if error.kind() == ErrorKind::NotFound => Ok(None),
         Err(error) => Err(cannot_read(rt.alloc(), path, &error)?),
     }
 }

@@ -1,13 +1,14 @@
 //! The offset of a zone, by its file.
 ghost use Rattle.std.specs.Prelude.{IfOk};
+ghost use Rattle.hd_setup.specs.Moments.{IsOffsetThen};
 ghost use Rattle.hd_zone.specs.Zones.{IsOffsetAt};
 
 use crate::fault::SetupFault;
 use hd_catalogue::OffsetMinutes;
 use hd_zone::{ZoneFault, offset_at};
 use std::alloc::{AllocError, Global};
-use std::fs;
-use std::time::Clock;
+use std::time::{Clock, Duration};
+use std::{fs, io};
 
 /// The offset that the zone whose file is at a path has now, by the system's clock.
 ///
@@ -24,11 +25,27 @@ pub fn offset_now<R: Clock>(
         Ok(file) => file,
         Err(error) => return Err(unread(path, format!(in alloc; "{error}"), alloc)),
     };
-    let told = match rt.since_1970() {
-        Ok(since) => since.as_secs(),
-        Err(error) => return Err(unread(path, format!(in alloc; "{error}"), alloc)),
-    };
-    offset_told(alloc, path, file.as_slice(), told)
+    offset_by(alloc, path, file.as_slice(), &|| rt.since_1970())
+}
+
+/// The offset that a zone's file has at the moment that a clock tells, which is asked now.
+///
+/// # Errors
+/// The clock can't be read, or the file has none: its path and why.
+fn offset_by<C: Fn() -> io::Result<Duration>>(
+    alloc: Global,
+    path: &str,
+    file: &[u8],
+    clock: &C,
+) -> Result<OffsetMinutes, SetupFault>
+    requires { C.IsAlwaysCallable clock.now }
+    // the clock was asked, and may have told this
+    ensures { (told : _) × C.post clock.now told × IfOk result (IsOffsetThen file.now told) }
+{
+    match clock() {
+        Ok(since) => offset_told(alloc, path, file, since.as_secs()),
+        Err(error) => Err(unread(path, format!(in alloc; "{error}"), alloc)),
+    }
 }
 
 /// The offset that a zone's file has, where so many seconds have gone since 1970.

@@ -7,7 +7,7 @@ use Rattle.std.proofs.lemmas.List.{get_or-set_same, get_or-set_other}
 use Rattle.hd_rules.specs.Messages.{is_query}
 use Rattle.hd_rules.specs.Journal.{Turn}
 use Rattle.hd_journal.specs.Books.{turn_numbered}
-use Rattle.hd_shown.specs.declared.tallied.Tallied.{Tallied}
+use Rattle.hd_shown.specs.declared.tallied.TurnTallies.{TurnTallies}
 use Rattle.hd_shown.specs.Tallies.{Counted, counted, counted_with, last_with}
 use Rattle.hd_shown.specs.Counting.{IsOf, last_in, noted, seen_in, tallies_then}
 
@@ -39,7 +39,7 @@ last_noted turns numbers turn n below is = by_test (is_query turn.message.asked)
     by_test false = λ j t. at t (t == place) refl j
 
 -- one turn more
-pub one_more : (turns : List Turn) (old new : Tallied) (turn : Turn) (n : ℕ)
+pub one_more : (turns : List Turn) (old new : TurnTallies) (turn : Turn) (n : ℕ)
     → Some turn ≡ turn_numbered turns n → n ≡ old.place + 1 → old.place < length turns
     → new.begun ≡ old.begun → new.place ≡ n → new.turns ≡ tallies_then turns old turn n
     → length new.last.items ≡ length old.last.items

@@ -12,7 +12,7 @@ use Rattle.hd_page.specs.declared.state.State.{State}
 use Rattle.hd_page.specs.declared.state.Turns.{Turns}
 use Rattle.hd_shown.specs.declared.state_reader.StateReader.{StateReader}
 use Rattle.hd_shown.specs.declared.tallied.TheConstants.{MOST_TALLIED}
-use Rattle.hd_shown.specs.declared.tallied.Tallied.{Tallied}
+use Rattle.hd_shown.specs.declared.tallied.TurnTallies.{TurnTallies}
 use Rattle.hd_shown.specs.Standing.{state_of}
 use Rattle.hd_shown.specs.Tallies.{Counted, counted, counted_with}
 
@@ -30,21 +30,21 @@ abbrev pub HasRoom : List Turn → ℕ → Type 0
 HasRoom turns room = (n : ℕ) (turn : Turn) → turn_numbered turns n ≡ Some turn → turn.message.terminal < room
 
 -- what was counted of a journal that has these turns
-abbrev pub seen_in : List Turn → Tallied → Counted
+abbrev pub seen_in : List Turn → TurnTallies → Counted
 seen_in turns t = record { tallies = t.turns; last = last_in turns t.last.items }
 
 -- The beginning of these turns was counted, and there is room for the terminals of all.
-pub record IsOf (turns : List Turn) (t : Tallied) : Type 0 where
+pub record IsOf (turns : List Turn) (t : TurnTallies) : Type 0 where
   pub within : t.place ≤ length turns
   pub room : HasRoom turns (length t.last.items)
   pub is : seen_in turns t ≡ counted t.begun turns t.place
 
 -- The tallies when the turn of a number is counted too.
-abbrev pub tallies_then : List Turn → Tallied → Turn → ℕ → Turns
+abbrev pub tallies_then : List Turn → TurnTallies → Turn → ℕ → Turns
 tallies_then turns t turn n = (counted_with (nat_lt t.begun n) (seen_in turns t) (Some turn)).tallies
 
 -- What was counted before of these turns has gone on in them, by as many as a look goes through.
-pub record GoesOn (turns : List Turn) (old new : Tallied) : Type 0 where
+pub record GoesOn (turns : List Turn) (old new : TurnTallies) : Type 0 where
   pub begun : new.begun ≡ old.begun
   pub on : IsOf turns old → IsOf turns new
   pub far : old.place ≤ length turns → new.place ≡ min (old.place + MOST_TALLIED) (length turns)

@@ -18,8 +18,8 @@ use Rattle.hd_looks.specs.declared.topic.Topic.{Topic}
 use Rattle.hd_looks.specs.declared.topic.Topic.TheVariants as about
 use Rattle.hd_looks.specs.PageValue.{PageValue}
 use Rattle.hd_looks.specs.Shown.{IsShown, IsTopicOf}
-use Rattle.hd_shown.specs.declared.sought.Sought.{Sought}
-use Rattle.hd_shown.specs.declared.sought.Sought.TheVariants.{Known, NoName, NoDay}
+use Rattle.hd_shown.specs.declared.sought.Lookup.{Lookup}
+use Rattle.hd_shown.specs.declared.sought.Lookup.TheVariants.{Known, NoName, NoDay}
 use Rattle.hd_shown.specs.Naming.{ArePage}
 
 -- the number, or the greatest of 32 bits: no list has so many entries
@@ -27,12 +27,12 @@ abbrev pub capped : ℕ → ℕ
 capped n = min n 4294967295
 
 -- where a name has a number, this is looked up
-abbrev pub if_named : Option ℕ → (ℕ → Topic) → Sought
+abbrev pub if_named : Option ℕ → (ℕ → Topic) → Lookup
 if_named None topic = NoName
 if_named (Some n) topic = Known (topic n)
 
 -- what is looked up by a name
-abbrev pub named_sought : Contents → Named → List ℕ → ℕ → Sought
+abbrev pub named_sought : Contents → Named → List ℕ → ℕ → Lookup
 named_sought k by.Copy name after = if_named (copy_number k name) about.Copy
 named_sought k by.Queue name after = if_named (title_number k name) (λ t. about.Queue t (capped after))
 named_sought k by.Patron name after = if_named (patron_number k name) (λ p. about.Patron p (capped after))
@@ -47,21 +47,21 @@ dated_topic Overdue day after = about.Copies (list.Overdue day) (capped after)
 dated_topic Expired day after = about.Expired day after
 
 -- what is looked up by the day of a text, where there is such a day
-abbrev pub IsDaySought : Dated → List ℕ → ℕ → Sought → Type 0
+abbrev pub IsDaySought : Dated → List ℕ → ℕ → Lookup → Type 0
 IsDaySought kind text after (Known topic) =
     (day : Day) × IsDayText day text × (topic ≡ dated_topic kind day after)
 IsDaySought kind text after NoDay = (day : Day) → ¬ IsDayText day text
 IsDaySought kind text after NoName = ⊥
 
 -- what is asked, by the catalogue's numbers
-abbrev pub IsSought : Contents → Asked → Sought → Type 0
+abbrev pub IsSought : Contents → Asked → Lookup → Type 0
 IsSought k (NameAsked kind name after) sought = sought ≡ named_sought k kind name after
 IsSought k (DayAsked kind text after) sought = IsDaySought kind text after sought
 IsSought k (TurnsAsked after limit) sought = sought ≡ Known (about.Turns after limit)
 IsSought k (NumberAsked n) sought = sought ≡ Known (about.Command n)
 
 -- it is of the catalogue
-abbrev pub IsSoughtOf : Facts → Sought → Type 0
+abbrev pub IsSoughtOf : Facts → Lookup → Type 0
 IsSoughtOf k (Known topic) = IsTopicOf k topic
 IsSoughtOf k _ = ⊤
 
@@ -85,11 +85,11 @@ module _ (k : Contents) (MayShow : Book → Type 0) (MayShut : Type 0) where
   IsSeen topic (NoSight Shut) = MayShut
 
   -- and of a name or a day that there isn't, that there is none
-  abbrev pub IsSightOf : Sought → Sight → Type 0
+  abbrev pub IsSightOf : Lookup → Sight → Type 0
   IsSightOf (Known topic) sight = IsSeen topic sight
   IsSightOf NoName sight = sight ≡ NoSuchName
   IsSightOf NoDay sight = sight ≡ NoSuchDay
 
   -- What may be seen of what is asked.
   abbrev pub Shows : Asked → Sight → Type 0
-  Shows asked sight = (sought : Sought) × IsSought k asked sought × IsSightOf sought sight
+  Shows asked sight = (sought : Lookup) × IsSought k asked sought × IsSightOf sought sight

@@ -1,18 +1,19 @@
 //! A view of a hall.
-ghost use Rattle.std.specs.Prelude.{◌≡◌, ◌⊎◌, [], IfOk, IfSome, None, length};
+ghost use Rattle.std.specs.Prelude.{◌≡◌, ◌⊎◌, [], IfErr, IfOk, IfSome, None, OnErr, OnOk, length};
 ghost use Rattle.hd_catalogue.specs.Contents.{facts_of};
 ghost use Rattle.hd_hall.specs.Looking.{IsShownTo};
+ghost use Rattle.hd_journal.specs.Books.{Book};
 ghost use Rattle.hd_page.specs.declared.state.Health.TheVariants.{Shut};
 ghost use Rattle.hd_shown.specs.Counting.{AreTallied, IsEnded};
 ghost use Rattle.hd_shown.specs.Standing.{MayShut, Tells, state_of};
 
 use crate::seeing::write_shown;
-use crate::sought::{Sought, sought_of};
+use crate::sought::{Lookup, sought_of};
 use crate::standing::state_of;
 use crate::state_reader::StateReader;
 use hd_desk::Meter;
 use hd_hall::{Hall, House};
-use hd_journal::{Journal, Keeper, OwnedAsk, Turns};
+use hd_journal::{Journal, Keeper, Look, OwnedAsk, Turns};
 use hd_looks::PageReader;
 use hd_page::{Health, Inquiry, Outcome, State, View, ViewFault};
 use std::alloc::{AllocError, Allocator, Global};
@@ -85,6 +86,38 @@ impl<'a, R: Wait, H: House, A: Allocator + Copy, Q: Drop, K: Keeper<A, Q> + Drop
     Q,
     K,
 > {
+    /// Has a reader look at the journal.
+    ///
+    /// # Errors
+    /// `Shut` alone, where the hall shows its journal no more. The reader is as it was.
+    fn look_at<L: Look<A>>(&self, reader: &mut L) -> Result<(), ViewFault>
+        requires fits { L.fits reader.old H.opening.contents }
+        ensures saw { OnOk result ((book : Book) × IsShownTo H.opening [] book
+            × L.saw reader.old book reader.new) }
+        ensures shut { IfErr result (λ fault. (fault ≡ ViewFault.Shut) × MayShut K.faults) }
+        ensures same { OnErr result (reader.new ≡ reader.old) }
+    {
+        match self.hall.look(self.rt, reader) {
+            Ok(()) => Ok(()),
+            Err(_) => Err(ViewFault::Shut),
+        }
+    }
+
+    /// Looks at the journal until none of its turns is left to be counted: its state.
+    fn look_to_the_end(&self, reader: &mut StateReader) -> State
+        ensures tells { Tells (IsShownTo H.opening []) (MayShut K.faults) AreTallied result }
+        // They are the reader's tallies, kind by kind; or it is shut.
+        ensures tallies { IsEnded reader.new result ⊎ (result ≡ state_of Shut None None) }
+        ensures begun { reader.new.tallied.begun ≡ self.now.begun }
+    {
+        for _ in self.rt.forever() {
+            if let Some(state) = self.look_once(reader) {
+                return state;
+            }
+        }
+        unreachable!()
+    }
+
     /// Looks at the journal once: its state, unless there are more turns to be counted.
     fn look_once(&self, reader: &mut StateReader) -> Option<State>
         ensures tells { IfSome result (Tells (IsShownTo H.opening []) (MayShut K.faults) AreTallied) }
@@ -94,7 +127,7 @@ impl<'a, R: Wait, H: House, A: Allocator + Copy, Q: Drop, K: Keeper<A, Q> + Drop
     {
         // a lock tells nothing of what it holds: so each look is told which turns have tallies
         reader.tallied.begun = self.begun;
-        match self.hall.look(self.rt, reader) {
+        match self.look_at(reader) {
             Ok(()) => reader.state(),
             Err(_) => Some(state_of(Health::Shut, None, None)),
         }
@@ -116,28 +149,23 @@ impl<'a, R: Wait, H: House, A: Allocator + Copy, Q: Drop, K: Keeper<A, Q> + Drop
     fn write(&self, inquiry: &Inquiry<'_>, out: &mut Vec<u8>) -> Result<Outcome, ViewFault> {
         let catalogue = self.hall.catalogue();
         match sought_of(catalogue, inquiry) {
-            Sought::Known(topic) => {
+            Lookup::Known(topic) => {
                 let meter = Meter::new(self.host);
                 let Ok(mut reader) = PageReader::new(self.host.alloc(), topic, meter) else {
                     return Err(ViewFault::Memory);
                 };
-                match self.hall.look(self.rt, &mut reader) {
+                match self.look_at(&mut reader) {
                     Ok(()) => write_shown(catalogue, &topic, &reader.page, out),
                     Err(_) => Err(ViewFault::Shut),
                 }
             }
-            Sought::NoName => Ok(Outcome::Unknown),
-            Sought::NoDay => Ok(Outcome::Refused),
+            Lookup::NoName => Ok(Outcome::Unknown),
+            Lookup::NoDay => Ok(Outcome::Refused),
         }
     }
 
     fn state(&self) -> State {
         let mut reader = self.reader.lock(self.rt);
-        for _ in self.rt.forever() {
-            if let Some(state) = self.look_once(&mut reader) {
-                return state;
-            }
-        }
-        unreachable!()
+        self.look_to_the_end(&mut reader)
     }
 }

@@ -4,7 +4,7 @@ ghost use Rattle.hd_catalogue.specs.Contents.{facts_of};
 ghost use Rattle.hd_looks.specs.Shown.{IsTopicOf};
 ghost use Rattle.hd_page.specs.Sights.{asked_of};
 ghost use Rattle.hd_looks.specs.declared.topic.Topic.TheVariants as about;
-ghost use Rattle.hd_shown.specs.declared.sought.Sought.TheVariants.{Known};
+ghost use Rattle.hd_shown.specs.declared.sought.Lookup.TheVariants.{Known};
 ghost use Rattle.hd_rules.specs.Facts.{Facts};
 ghost use Rattle.hd_shown.specs.Seeing.{IsSought, IsSoughtOf, capped, dated_topic, named_sought};
 
@@ -17,7 +17,7 @@ use std::alloc::Allocator;
 
 /// What is asked, by the catalogue's numbers.
 #[derive(Clone, Copy)]
-pub(crate) enum Sought {
+pub(crate) enum Lookup {
     /// This is looked up.
     Known(Topic),
     /// The catalogue has no such name.
@@ -30,21 +30,21 @@ pub(crate) enum Sought {
 pub(crate) fn sought_of<A: Allocator + Copy>(
     catalogue: &Catalogue<A>,
     inquiry: &Inquiry<'_>,
-) -> Sought
+) -> Lookup
     ensures sought { IsSought catalogue.now (asked_of inquiry.now) result }
     ensures known { IsSoughtOf (facts_of catalogue.now) result }
 {
     match inquiry {
         Inquiry::ByName { kind, name, after } => sought_by_name(catalogue, *kind, name, *after),
         Inquiry::ByDay { kind, day, after } => match day_said(day) {
-            Some(day) => Sought::Known(dated_topic(*kind, day, *after)),
-            None => Sought::NoDay,
+            Some(day) => Lookup::Known(dated_topic(*kind, day, *after)),
+            None => Lookup::NoDay,
         },
-        Inquiry::Turns { after, limit } => Sought::Known(Topic::Turns {
+        Inquiry::Turns { after, limit } => Lookup::Known(Topic::Turns {
             after: *after,
             limit: *limit,
         }),
-        Inquiry::Command { number } => Sought::Known(Topic::Command(*number)),
+        Inquiry::Command { number } => Lookup::Known(Topic::Command(*number)),
     }
 }
 
@@ -54,31 +54,31 @@ fn sought_by_name<A: Allocator + Copy>(
     kind: Named,
     name: &[u8],
     after: u64,
-) -> Sought
+) -> Lookup
     ensures sought { result ≡ named_sought catalogue.now kind name.now after }
     ensures known { IsSoughtOf (facts_of catalogue.now) result }
 {
     let after = capped(after);
     match kind {
         Named::Copy => match catalogue.copy(name) {
-            Some(copy) => Sought::Known(Topic::Copy(copy)),
-            None => Sought::NoName,
+            Some(copy) => Lookup::Known(Topic::Copy(copy)),
+            None => Lookup::NoName,
         },
         Named::Queue => match catalogue.title(name) {
-            Some(title) => Sought::Known(Topic::Queue { title, after }),
-            None => Sought::NoName,
+            Some(title) => Lookup::Known(Topic::Queue { title, after }),
+            None => Lookup::NoName,
         },
         Named::Patron => match catalogue.patron(name) {
-            Some(patron) => Sought::Known(Topic::Patron { patron, after }),
-            None => Sought::NoName,
+            Some(patron) => Lookup::Known(Topic::Patron { patron, after }),
+            None => Lookup::NoName,
         },
         Named::Shelf => match catalogue.branch(name) {
             Some(branch) => copies_on(CopyList::Shelf(branch), after),
-            None => Sought::NoName,
+            None => Lookup::NoName,
         },
         Named::Transit => match catalogue.branch(name) {
             Some(branch) => copies_on(CopyList::Transit(branch), after),
-            None => Sought::NoName,
+            None => Lookup::NoName,
         },
     }
 }
@@ -98,10 +98,10 @@ fn dated_topic(kind: Dated, day: Day, after: u64) -> Topic
 }
 
 /// The copies on a list, from that of a number on.
-fn copies_on(which: CopyList, first: u32) -> Sought
+fn copies_on(which: CopyList, first: u32) -> Lookup
     ensures { result ≡ Known (about.Copies which first) }
 {
-    Sought::Known(Topic::Copies { which, first })
+    Lookup::Known(Topic::Copies { which, first })
 }
 
 /// The number, or the greatest of 32 bits where it is above that: no list has so many entries.

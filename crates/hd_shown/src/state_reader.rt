@@ -4,7 +4,7 @@ ghost use Rattle.hd_shown.specs.Counting.{IsEnded};
 ghost use Rattle.hd_shown.specs.Tallies.{no_turns};
 
 use crate::standing::state_of;
-use crate::tallied::Tallied;
+use crate::tallied::TurnTallies;
 use hd_journal::{Journal, Look};
 use hd_looks::CountsReader;
 use hd_page::{Health, State};
@@ -16,7 +16,7 @@ pub(crate) struct StateReader {
     /// The counts of the journal that was looked at last.
     pub(crate) counts: CountsReader,
     /// The turns that have been gone through.
-    pub(crate) tallied: Tallied,
+    pub(crate) tallied: TurnTallies,
 }
 
 impl StateReader {
@@ -37,7 +37,7 @@ impl StateReader {
     {
         Ok(StateReader {
             counts: CountsReader { counts: None },
-            tallied: Tallied::new(alloc, begun, terminals)?,
+            tallied: TurnTallies::new(alloc, begun, terminals)?,
         })
     }
 

@@ -15,7 +15,7 @@ pub const MOST_TALLIED: usize = 512;
 
 /// The turns of a journal by kind and outcome, as far as they have been counted. It has the room for it.
 #[derive(Drop)]
-pub(crate) struct Tallied {
+pub(crate) struct TurnTallies {
     /// The turns behind so many have tallies.
     pub(crate) begun: usize,
     /// How many turns have been gone through.
@@ -26,18 +26,22 @@ pub(crate) struct Tallied {
     pub(crate) turns: Turns,
 }
 
-impl Tallied {
+impl TurnTallies {
     /// None is counted yet. Those behind so many are to have tallies, of so many terminals.
     ///
     /// # Errors
     /// There is no memory for the terminals.
-    pub(crate) fn new(alloc: Global, begun: usize, terminals: usize) -> Result<Tallied, AllocError>
+    pub(crate) fn new(
+        alloc: Global,
+        begun: usize,
+        terminals: usize,
+    ) -> Result<TurnTallies, AllocError>
         ensures begun { IfOk result (λ tallied. tallied.begun ≡ begun) }
         ensures place { IfOk result (λ tallied. tallied.place ≡ 0) }
         ensures turns { IfOk result (λ tallied. tallied.turns ≡ no_turns) }
         ensures room { IfOk result (λ tallied. length tallied.last.items ≡ terminals) }
     {
-        Ok(Tallied {
+        Ok(TurnTallies {
             begun,
             place: 0,
             last: vec![in alloc; None; terminals]?,

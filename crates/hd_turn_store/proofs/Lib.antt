@@ -3,3 +3,4 @@ pub mod Writing
 pub mod Commits
 pub mod Queries
 pub mod Marking
+pub mod Finding

@@ -2,7 +2,9 @@
 use Rattle.std.specs.Prelude.{◌≡◌, ◌≢◌, ◌⊎◌, ◌^◌, ◌≤◌, ℕ, pos, List, [], ◌∷◌, ⊤, Err}
 use Rattle.sqlite.specs.declared.error.Error.TheVariants.{SqliteFailure, SqlInputError, InvalidColumnType}
 use Rattle.sqlite.specs.declared.error.Error.TheVariants.{IntegralValueOutOfRange, Utf8Error}
-use Rattle.hd_turn_store.specs.Words.{Blob, Error, Executes, FailsToQuery, HasCleanDisk, Int, State}
+use Rattle.sqlite_trees.specs.declared.store.Store.{Ghosts as StoreGhosts}
+use Rattle.hd_turn_store.specs.Words.{Blob, Error, Executes, FailsToQuery, HasCleanDisk, Held, Int, State}
+use Rattle.hd_turn_store.specs.Words.{state}
 use Rattle.hd_turn_store.specs.declared.fault.Fault.{Fault}
 use Rattle.hd_turn_store.specs.declared.fault.Fault.TheVariants.{Busy, CannotOpen, Damaged, NotAJournal}
 use Rattle.hd_turn_store.specs.declared.fault.Fault.TheVariants.{DiskFull, CannotWrite, CannotRead, Memory}
@@ -24,6 +26,12 @@ opening_fault (SqliteFailure code.DatabaseCorrupt) = Damaged
 opening_fault (SqliteFailure code.OutOfMemory) = Memory
 opening_fault (SqliteFailure code.DiskFull) = DiskFull
 opening_fault _ = CannotRead
+
+-- The files weren't opened at all: the system refuses, it is out of memory, or another program has them open.
+abbrev pub IsUnopened : Error → Type 0
+IsUnopened error =
+    (error ≡ SqliteFailure code.CannotOpen)
+    ⊎ ((error ≡ SqliteFailure code.OutOfMemory) ⊎ (error ≡ SqliteFailure code.DatabaseBusy))
 
 -- where something is written
 abbrev pub writing_fault : Error → Fault
@@ -95,3 +103,7 @@ pub record RefusesDatabase (old new : State) (fault : Fault) : Type 0 where
   pub blank : IsBlank old → IsWritingFault fault
   pub journal : HasCleanDisk new → (head : Head) (ks : List KeptTurn) → Holds old head ks
       → RefusesFormat old new head fault
+
+-- why the database that a connection is over is refused: by what it is after the fault
+abbrev pub RefusesConnection : {S : Type 0} → StoreGhosts S → Held S → Fault → Type 0
+RefusesConnection {S} g c fault = (after : Held S) × RefusesDatabase (state g c) (state g after) fault

@@ -8,3 +8,4 @@ pub mod Crashes  -- what the files hold, also after a crash
 pub mod Marks  -- the mark in its file
 pub mod Rows  -- a turn as it is handed in and given back
 pub mod Faults  -- which fault an error of the database is told as
+pub mod Unmarked  -- why a journal's file gets no mark, or isn't opened for turns

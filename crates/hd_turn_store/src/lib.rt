@@ -4,6 +4,7 @@
 mod columns;
 mod fault;
 mod file;
+mod file_database;
 mod heading;
 mod mark;
 mod row;
@@ -13,7 +14,8 @@ mod table;
 
 pub use crate::columns::{COLUMNS, Column};
 pub use crate::fault::Fault;
-pub use crate::file::{leave, open};
+pub use crate::file::{OpenResult, connect, leave, open};
+pub use crate::file_database::FileDatabase;
 pub use crate::heading::{FORMAT, Heading, accept, catalogue};
 pub use crate::mark::{HEADER_LENGTH, end, is_ended, open_for_turns};
 pub use crate::row::TurnRow;

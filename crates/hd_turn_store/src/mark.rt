@@ -2,12 +2,13 @@
 
 ghost use Rattle.std.specs.Prelude.{◌≡◌, ◌≤◌, ◌↔◌, List, [], IfErr, IfOk, IsTrue, OnOk, take};
 ghost use Rattle.hd_turn_store.specs.Words.{AreClean, HasCleanDisk, HoldsDatabase, Image, IsClean, Trees};
-ghost use Rattle.hd_turn_store.specs.Words.{doubt, file_state, outcomes, recovers, view};
+ghost use Rattle.hd_turn_store.specs.Words.{Tells, blamed, doubt, file_state, outcomes, recovers, view};
 ghost use Rattle.hd_turn_store.specs.Faults.{IsWritingFault, mark_fault};
 ghost use Rattle.hd_turn_store.specs.Holds.{Holds};
 ghost use Rattle.hd_turn_store.specs.Kept.{Head, KeptTurn};
 ghost use Rattle.hd_turn_store.specs.Marks.{GetsMark, HasMark, HoldsEnded, IsMarked, KeepsTurns, MayGetMark};
 ghost use Rattle.hd_turn_store.specs.Marks.{PutsMark, SaysMark, ended_mark, open_mark};
+ghost use Rattle.hd_turn_store.specs.Unmarked.{RefusesMark, RefusesTurns};
 
 use crate::fault::Fault;
 use crate::store::{release, shows_journal};
@@ -50,6 +51,7 @@ fn says_end(head: &[u8; HEADER_LENGTH]) -> bool
 /// Commits a mark, where the file hasn't got it yet.
 fn commit_mark<D: Disk>(store: &mut FileStore<D>, mark: u32) -> Result<(), StoreError>
     ensures clean { doubt (view store.old).is_clean ≤ doubt (view store.new).is_clean }
+    ensures told { IfErr result (Tells (blamed store.new)) }
     ensures ok { IsClean (view store.new) → OnOk result (IsTrue (view store.new).is_open
         → GetsMark mark (view store.old) (view store.new)) }
     ensures crash { (db : Trees) → recovers store.new db → MayGetMark store.old db }
@@ -65,6 +67,7 @@ fn commit_mark<D: Disk>(store: &mut FileStore<D>, mark: u32) -> Result<(), Store
 /// of an end before it has all else, and the log has room for the mark where the disk has none.
 fn put_mark<D: Disk>(store: &mut FileStore<D>, mark: u32) -> Result<(), StoreError>
     ensures clean { doubt (view store.old).is_clean ≤ doubt (view store.new).is_clean }
+    ensures told { IfErr result (Tells (blamed store.new)) }
     ensures ok { IsClean (view store.new) → OnOk result (IsTrue (view store.old).is_open
         × ((view store.old).trees ≡ (view store.old).committed → PutsMark mark store.old store.new)) }
     ensures crash { (db : Trees) → recovers store.new db → MayGetMark store.old db }
@@ -87,6 +90,7 @@ fn with_mark<D: Disk + Drop>(
 ) -> Result<FileStore<D>, (Fault, FileStore<D>)>
     ensures marked { IfOk result (λ store. IsClean (view store) → IsMarked conn mark store) }
     ensures fault { IfErr result (λ e. IsWritingFault e.0) }
+    ensures why { IfErr result (λ e. RefusesMark conn e.0 e.1) }
     ensures kept { IfOk result (KeepsTurns conn) }
     ensures left { IfErr result (λ e. KeepsTurns conn e.1) }
 {
@@ -128,6 +132,7 @@ pub fn open_for_turns<D: Disk + Drop>(
         → Holds (file_state conn) head ks → Holds (file_state c) head ks) }
     ensures marked { IfOk result (λ c. HasCleanDisk (file_state c)
         → HasMark open_mark (file_state c).now.trees) }
+    ensures why { IfErr result (λ e. RefusesTurns conn e.0 e.1) }
     ensures left { IfErr result (λ e. IsClean (view e.1) → KeepsTurns conn e.1) }
 {
     let store = with_mark(conn, OPEN)?;
@@ -154,6 +159,7 @@ pub fn end<D: Disk + Drop>(
         → (head : Head) (ks : List KeptTurn) → Holds (file_state conn) head ks
         → (left : Image) → outcomes D.Disk files.log files.db left → HoldsEnded left head ks) }
     ensures fault { IfErr result (λ e. IsWritingFault e.0) }
+    ensures why { IfErr result (λ e. RefusesMark conn e.0 e.1) }
     ensures left { IfErr result (λ e. KeepsTurns conn e.1) }
 {
     let store = with_mark(conn, ENDED)?;

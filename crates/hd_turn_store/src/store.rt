@@ -1,6 +1,6 @@
 //! What a connection to files shows, and the store that it leaves.
 
-ghost use Rattle.std.specs.Prelude.{IsTrue};
+ghost use Rattle.std.specs.Prelude.{◌↔◌, IsTrue};
 ghost use Rattle.sqlite.specs.Files.{over_files};
 ghost use Rattle.hd_turn_store.specs.Words.{IsLive, file_state};
 ghost use Rattle.hd_turn_store.specs.Marks.{IsReleased};
@@ -12,7 +12,7 @@ use sqlite_disk::Disk;
 
 /// Whether a connection to files shows the tables of a journal.
 pub(crate) fn shows_journal<D: Disk>(conn: &Connection<FileStore<D>>) -> bool
-    ensures shown { IsTrue result → IsJournal (file_state conn.now).now.schema }
+    ensures shown { IsTrue result ↔ IsJournal (file_state conn.now).now.schema }
     ensures live { IsLive (file_state conn.now) }
 {
     is_journal(conn.schema())

@@ -1,7 +1,11 @@
 //! Why the program stops.
 
+use hd_catalogue_commands::CatalogueCommandFault;
+use hd_door_commands::DoorCommandFault;
+use hd_folder::FolderFault;
 use hd_journal::WriteFault;
-use hd_journal_file::OpenFault;
+use hd_journal_commands::JournalCommandFault;
+use hd_library_journal::LibraryJournalFault;
 use hd_replay::ReplayFault;
 use hd_serve::ServeFault;
 use hd_server::ServerFault;
@@ -16,6 +20,21 @@ pub(crate) enum Fault {
     /// A library isn't set up, or what is read beside it.
     #[error("{0}")]
     Setup(SetupFault),
+    /// A folder, or a file in it, isn't as a command needs it.
+    #[error("{0}")]
+    Folder(FolderFault),
+    /// The journal of a library isn't begun, opened or ended.
+    #[error("{0}")]
+    Journal(LibraryJournalFault),
+    /// A command over a catalogue file stopped.
+    #[error("{0}")]
+    CatalogueCommand(CatalogueCommandFault),
+    /// A command over a journal's file stopped.
+    #[error("{0}")]
+    JournalCommand(JournalCommandFault),
+    /// A command that asks a running server stopped.
+    #[error("{0}")]
+    DoorCommand(DoorCommandFault),
     /// A file of a library can't be read, in a line that is one for all paths.
     #[error("cannot read the {0}")]
     Unread(&'static str),
@@ -25,94 +44,9 @@ pub(crate) enum Fault {
     /// Out of memory.
     #[error("no memory")]
     Memory,
-    /// There is no journal at this path.
-    #[error("there is no journal at {0}")]
-    NoJournal(String),
-    /// There is one at this path, where one was to be begun.
-    #[error("there is a journal at {0}")]
-    JournalIsThere(String),
-    /// There is no complete library in this folder.
-    #[error("there is no library in {0}")]
-    NoLibrary(String),
-    /// There is no such folder.
-    #[error("there is no folder {0}")]
-    NoFolder(String),
-    /// A library lacks this file, which it had.
-    #[error("the library lacks {0}")]
-    Lacks(String),
-    /// The library has gone on meanwhile, as from 0001 to 0002: what would be done to it would be lost.
-    #[error("the library went {0} meanwhile: say it again")]
-    GoneOn(String),
-    /// There is one in this folder, where one was to be begun.
-    #[error("there is a library in {0}")]
-    LibraryIsThere(String),
-    /// A file is at this path, where one was to be written.
-    #[error("there is a file at {0}")]
-    FileIsThere(String),
-    /// Nothing of a kind has this name.
-    #[error("there is no {kind} {name}")]
-    NotThere {
-        /// What has no such name, as `title`.
-        kind: &'static str,
-        /// The name.
-        name: String,
-    },
-    /// This is no day of the form 2026-03-01.
-    #[error("{0} is no day")]
-    NoDay(String),
-    /// What is in the way of a library that is to be carried over, a line for each thing.
-    #[error("{0}")]
-    InTheWay(String),
-    /// Sheets make no catalogue file.
-    #[error("{0}")]
-    Sheets(String),
-    /// So many numbers have been given that no more can be carried over.
-    #[error("the numbers are used up")]
-    NumbersUsedUp,
-    /// An opening that was written and read back isn't the desk.
-    #[error("not carried over")]
-    NotCarriedOver,
-    /// A file can't be written at this path.
-    #[error("cannot write {0}")]
-    CannotWriteFile(String),
-    /// A file has its name, and its folder can't be synced.
-    #[error("{path} has its name, but it isn't certain that the disk keeps it: {why}")]
-    NotCertain {
-        /// The file's path.
-        path: String,
-        /// The system's reason.
-        why: String,
-    },
-    /// The system doesn't tell how time goes on.
-    #[error("the system has no clock")]
-    NoClock,
-    /// A journal's log is missing, which may have had the last turns.
-    #[error("the journal's log is missing")]
-    NoLog,
-    /// A journal's log is at this path, and the journal is missing.
-    #[error("there is the log {0}, and not its journal")]
-    LogAlone(String),
-    /// A journal's file can't be opened or ended.
-    #[error("{0}")]
-    Journal(OpenFault),
     /// There can be no door at the path, for this reason.
     #[error("{0}")]
     NoDoor(String),
-    /// Nobody listens at a door.
-    #[error("no server listens at {0}")]
-    NoServer(String),
-    /// A door is another user's.
-    #[error("the door {0} is another user's")]
-    ForbiddenDoor(String),
-    /// Who listens at a door can't be asked.
-    #[error("no server can be asked at {0}")]
-    DeafDoor(String),
-    /// What comes from a door isn't one whole answer.
-    #[error("the server at {0} gave no whole answer")]
-    NoAnswer(String),
-    /// A server says why it doesn't do what it was asked.
-    #[error("the server says: {0}")]
-    Told(String),
     /// A replay or a server stopped.
     #[error("{0}")]
     Server(ServerFault),
@@ -147,15 +81,33 @@ impl From<SetupFault> for Fault {
     }
 }
 
-impl From<OpenFault> for Fault {
-    fn from(fault: OpenFault) -> Fault {
+impl From<FolderFault> for Fault {
+    fn from(fault: FolderFault) -> Fault {
+        Fault::Folder(fault)
+    }
+}
+
+impl From<LibraryJournalFault> for Fault {
+    fn from(fault: LibraryJournalFault) -> Fault {
         Fault::Journal(fault)
     }
 }
 
-impl From<hd_turn_store::Fault> for Fault {
-    fn from(fault: hd_turn_store::Fault) -> Fault {
-        Fault::Journal(OpenFault::File(fault))
+impl From<CatalogueCommandFault> for Fault {
+    fn from(fault: CatalogueCommandFault) -> Fault {
+        Fault::CatalogueCommand(fault)
+    }
+}
+
+impl From<JournalCommandFault> for Fault {
+    fn from(fault: JournalCommandFault) -> Fault {
+        Fault::JournalCommand(fault)
+    }
+}
+
+impl From<DoorCommandFault> for Fault {
+    fn from(fault: DoorCommandFault) -> Fault {
+        Fault::DoorCommand(fault)
     }
 }
 

@@ -1,55 +1,23 @@
 //! holddesk: a hold desk for the self-service terminals of a library, over SIP2 2.00.
 #![tactic(auto)]
 
-mod answering;
-mod away;
-mod beginning;
-mod carried;
-mod carrying;
-mod checking;
-mod counted;
-mod days;
 mod door;
-mod ending;
 mod fault;
-mod folder;
-mod importing;
-mod journal_checking;
-mod keeping;
-mod listing;
-mod mending;
-mod names;
 mod observing;
-mod presence;
 mod replaying;
-mod retaking;
-mod seeing;
 mod serving;
 mod serving_kept;
-mod showing;
-mod standing;
-mod table;
-mod told;
-mod topics;
-mod views;
-mod writing;
-mod written_off;
 mod zone;
 
-use crate::beginning::begin_journal;
-use crate::carrying::carry_over;
-use crate::checking::check;
 use crate::fault::Fault;
-use crate::importing::import_sheets;
-use crate::journal_checking::check_journal;
-use crate::mending::tell_option;
 use crate::replaying::answer;
-use crate::seeing::show;
 use crate::serving_kept::serve;
-use crate::showing::show_journal;
-use crate::standing::{stop, tell_status};
-use crate::views::print_views;
+use hd_catalogue_commands::{check, import_sheets, tell_option};
 use hd_command_line::{Order, parse};
+use hd_door_commands::{show, stop, tell_status};
+use hd_journal_commands::{
+    begin_journal, carry_over, check_journal, join_library, print_views, show_journal,
+};
 use std::io;
 use std::process::ExitCode;
 use std::sync::Wait;
@@ -106,17 +74,18 @@ fn carry_out<R: Threads + Wait + Clock + Sync>(
     order: &Order<'_>,
 ) -> Result<(), Fault> {
     match order {
-        Order::Check(order) => check(host, order),
+        Order::Check(order) => Ok(check(host, order)?),
         Order::Replay(order) => answer(host, order),
         Order::Serve(order) => serve(rt, host, order),
-        Order::Carry(order) => carry_over(host, order),
-        Order::Import(order) => import_sheets(host, order),
-        Order::JournalBegin(order) => begin_journal(host, order),
-        Order::JournalCheck(order) => check_journal(host, order),
-        Order::JournalShow(order) => show_journal(host, order),
-        Order::JournalViews(order) => print_views(host, order),
-        Order::Show(order) => show(host, order),
-        Order::Status(order) => tell_status(host, order),
-        Order::Stop(order) => stop(host, order),
+        Order::Carry(order) => Ok(carry_over(host, order)?),
+        Order::Import(order) => Ok(import_sheets(host, order)?),
+        Order::JournalBegin(order) => Ok(begin_journal(host, order)?),
+        Order::JournalCheck(order) => Ok(check_journal(host, order)?),
+        Order::JournalJoin(order) => Ok(join_library(host, order)?),
+        Order::JournalShow(order) => Ok(show_journal(host, order)?),
+        Order::JournalViews(order) => Ok(print_views(host, order)?),
+        Order::Show(order) => Ok(show(host, order)?),
+        Order::Status(order) => Ok(tell_status(host, order)?),
+        Order::Stop(order) => Ok(stop(host, order)?),
     }
 }

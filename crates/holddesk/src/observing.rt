@@ -1,4 +1,6 @@
 //! What is told while the program serves.
+ghost use Rattle.std.specs.Prelude.{◌≡◌, ◌↔◌, IsTrue, false, true};
+ghost use Rattle.hd_log.specs.declared.level.Level.TheVariants.{Events, Messages, Quiet};
 
 use hd_command_line::Log;
 use hd_log::{Event, Level, write_event};
@@ -36,12 +38,25 @@ impl<'a> Observer for Teller<'a> {
     // A line that can't be written, or for which there is no memory, is left out. Where standard error is a
     // pipe that is full, this waits until somebody reads of it, and so does the session of which it tells.
     fn tell(&self, event: &Event<'_>) {
-        if event.level() > self.level {
+        if !is_told(event.level(), self.level) {
             return;
         }
         let mut line = Vec::new(self.host.alloc());
         if write_event(self.host.alloc(), &mut line, event).is_ok() {
             let _ = self.host.stderr().write_all(line.as_slice());
         }
+    }
+}
+
+/// Whether what has one level is told at another.
+fn is_told(event: Level, at: Level) -> bool
+    ensures quiet { at ≡ Quiet → result ≡ false }
+    ensures events { at ≡ Events → IsTrue result ↔ (event ≡ Events) }
+    ensures messages { at ≡ Messages → result ≡ true }
+{
+    match at {
+        Level::Quiet => false,
+        Level::Events => matches!(event, Level::Events),
+        Level::Messages => true,
     }
 }

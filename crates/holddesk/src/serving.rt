@@ -2,7 +2,6 @@
 ghost use Rattle.std.specs.Prelude.{◌≡◌, [], IfOk};
 ghost use Rattle.hd_journal.specs.Openings.{IsLegalSince};
 
-use crate::counted::Counted;
 use crate::fault::Fault;
 use crate::observing::Teller;
 use crate::zone::zone_offset;
@@ -18,6 +17,7 @@ use hd_serve::{Observer, ServeFault, serve_observed};
 use hd_server::{ServerFault, Sight, Summary, serve_seen, summary_of};
 use hd_session::Extensions;
 use hd_setup::{Library, extensions_of, options_of};
+use hd_terminal_output::Counted;
 use std::alloc::{AllocError, Global};
 use std::io;
 use std::net::{SocketAddr, TcpListener};

@@ -1,20 +1,17 @@
 //! Serving terminals with a journal that is kept in a file.
 
 use crate::door::open_door;
-use crate::ending::end_kept;
 use crate::fault::Fault;
-use crate::folder::Paths;
-use crate::keeping::{Keeping, open_over};
 use crate::observing::Teller;
-use crate::presence::log_path;
 use crate::serving::{Serving, listen_with_turns, serve_by, serve_in_memory, tell_end};
-use crate::writing::try_page;
 use crate::zone::zone_offset;
 use hd_command_line::Serve;
 use hd_door::Door;
 use hd_durable::{DurableJournal, DurableKeeper, LastCommit, TurnTable};
+use hd_folder::{FolderFault, Paths, log_path, try_page};
 use hd_hall::CataloguedKeeper;
 use hd_journal_file::JournalFile;
+use hd_library_journal::{Keeping, LibraryJournalFault, end_kept, open_over};
 use hd_log::Event;
 use hd_serve::Observer;
 use hd_server::{Summary, summary_of};
@@ -73,7 +70,7 @@ fn serve_library<R: Threads + Wait + Clock + Sync>(
 ) -> Result<(), Fault> {
     for _ in 0..MOST_AGAIN {
         match serve_place(rt, host, order, door) {
-            Err(Fault::GoneOn(_)) => {}
+            Err(Fault::Journal(LibraryJournalFault::Folder(FolderFault::GoneOn(_)))) => {}
             served => return served,
         }
     }

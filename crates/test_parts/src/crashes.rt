@@ -16,8 +16,8 @@ mod whole;
 use crate::crashes::row::{Row, rows};
 use crate::crashes::stopping::{WhichDisk, calls, is_read_in_the_old_format};
 use crate::crashes::whole::Whole;
+use crate::verdict::{tell, verdict};
 use std::io;
-use test_kit::{tell, verdict};
 
 /// Plays the rows.
 pub(crate) fn play(rt: &HostRuntime) -> io::Result<()> {

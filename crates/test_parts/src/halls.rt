@@ -7,11 +7,11 @@ ghost use Rattle.std.specs.Prelude.{◌≡◌, []};
 
 mod asking;
 mod clash;
-pub(crate) mod closing;
+mod closing;
 mod freshness;
 mod glance;
 mod looks;
-pub(crate) mod row;
+mod row;
 
 use crate::halls::asking::ask_both;
 use crate::halls::clash::two_terminals_clash;
@@ -20,30 +20,20 @@ use crate::halls::freshness::is_as_fresh;
 use crate::halls::looks::look_beside;
 use crate::halls::row::{Row, rows};
 use crate::library::new_journal;
+use crate::verdict::tell;
 use hd_hall::{CataloguedKeeper, Hall, House, Keeper};
 use hd_journal::Journal;
-use std::alloc::{Allocator, Global};
+use std::alloc::Global;
 use std::io;
 use std::marker::Brand;
 use std::sync::Wait;
 use std::sync::ledger::Blank;
 use std::thread::Threads;
-use test_kit::{Refusing, tell};
-
-/// What is tried at a hall.
-#[derive(Clone, Copy)]
-pub(crate) enum HallTrial {
-    /// A new hall.
-    New,
-    /// The turns of two seats.
-    Row(&'static Row),
-}
 
 /// Plays each row, and says whether it went as it is to. The threads are started by a handle of its own.
 pub(crate) fn play<R: Threads + Wait + Sync>(rt: &R, host: &HostRuntime) -> io::Result<()> {
     for row in rows() {
-        let requests = try_hall(rt, host, HallTrial::Row(row), u64::MAX);
-        tell(host, row.name, requests.is_some())?;
+        tell(host, row.name, is_row_well(rt, host, row))?;
     }
     tell(host, "two terminals clash", is_clash_well(rt, host))?;
     let name = "looks beside two terminals that write";
@@ -52,12 +42,12 @@ pub(crate) fn play<R: Threads + Wait + Sync>(rt: &R, host: &HostRuntime) -> io::
 
 /// Whether two threads make 200 turns, and leave the journal as a fresh desk would be after its survivors.
 fn is_clash_well<R: Threads + Wait + Sync>(rt: &R, host: &HostRuntime) -> bool {
-    let Some(journal) = new_journal(host, host.alloc()) else {
+    let Some(journal) = new_journal(host) else {
         return false;
     };
     let blank = Blank::new(4_294_967_296);
     match clash_at::<Brand, R, _, _>(rt, host.alloc(), journal, blank) {
-        Some(journal) => journal.front() == 200 && is_as_fresh(host, host.alloc(), &journal),
+        Some(journal) => journal.front() == 200 && is_as_fresh(host, &journal),
         None => false,
     }
 }
@@ -82,7 +72,7 @@ fn clash_at<
 
 /// Whether all looks see what they are to beside two terminals that write.
 fn are_looks_well<R: Threads + Wait + Sync>(rt: &R, host: &HostRuntime) -> bool {
-    match new_journal(host, host.alloc()) {
+    match new_journal(host) {
         Some(journal) => {
             let blank = Blank::new(4_294_967_296);
             looks_at::<Brand, R, _, _>(rt, host.alloc(), journal, blank)
@@ -109,114 +99,60 @@ fn looks_at<
     }
 }
 
-/// What a trial came to: how many requests for memory there were, and what kept the journal of a hall that was
-/// closed.
-struct Tried<K> {
-    requests: u64,
-    keeper: Option<K>,
-}
-
-/// Tries this at a new hall, by a handle that waits, and refuses the request for memory before which so many
-/// are passed on: how many there were. None where a refusal isn't borne, or what is tried doesn't go as it is
-/// to.
-pub(crate) fn try_hall<R: Wait>(
-    rt: &R,
-    host: &HostRuntime,
-    trial: HallTrial,
-    passed: u64,
-) -> Option<u64> {
-    let memory = Refusing::after(host.alloc(), u64::MAX);
-    let journal = new_journal(host, &memory)?;
-    let blank = Blank::new(4_294_967_296);
-    let Tried { requests, keeper } = try_at::<Brand, R, _, _, _>(
-        rt, &memory, &memory, journal, blank, trial, passed,
-    )?;
-    let is_well = match (trial, &keeper) {
-        (HallTrial::New, None) => true,
-        (HallTrial::Row(row), Some(journal)) => is_left_by(host, &memory, journal, row),
-        _ => false,
+/// Whether a row goes as it is to at a new hall, by a handle that waits, and leaves what it is to.
+fn is_row_well<R: Wait>(rt: &R, host: &HostRuntime, row: &Row) -> bool {
+    let Some(journal) = new_journal(host) else {
+        return false;
     };
-    is_well.then_some(requests)
+    let blank = Blank::new(4_294_967_296);
+    match row_at::<Brand, R, _, _>(rt, host.alloc(), journal, blank, row) {
+        Some(journal) => is_left_by(host, &journal, row),
+        None => false,
+    }
 }
 
 /// Whether a row's two turns and its survivors are a journal's, and it is as a fresh desk would be after them.
-fn is_left_by<A: Allocator + Copy>(
-    rt: &HostRuntime,
-    alloc: A,
-    journal: &Journal<A>,
-    row: &Row,
-) -> bool {
+fn is_left_by(rt: &HostRuntime, journal: &Journal, row: &Row) -> bool {
     let mut survivors = journal.survivors();
     for _ in 0..row.survivors {
         if survivors.next().is_none() {
             return false;
         }
     }
-    survivors.next().is_none() && journal.front() == 2 && is_as_fresh(rt, alloc, journal)
+    survivors.next().is_none() && journal.front() == 2 && is_as_fresh(rt, journal)
 }
 
-/// Tries this at a hall of this house over this memory.
-fn try_at<H: House, R: Wait, A: Allocator + Copy, Q: Drop, K: CataloguedKeeper<A, Q> + Drop>(
+/// The keeper of a hall of this house at which a row was played. None where it went otherwise.
+fn row_at<H: House, R: Wait, Q: Drop, K: CataloguedKeeper<Global, Q> + Drop>(
     rt: &R,
-    memory: &Refusing<Global>,
-    alloc: A,
+    alloc: Global,
     keeper: K,
     blank: Blank,
-    trial: HallTrial,
-    passed: u64,
-) -> Option<Tried<K>>
+    row: &Row,
+) -> Option<K>
     requires turns { K.turns keeper ≡ [] }
     requires opening { K.opening keeper ≡ H.opening }
     requires name { blank.name ≡ H.name }
     requires parts { (blank.parts ≡ H.parts) × (H.parts ≡ 4294967296) }
 {
-    memory.refuse_after(passed);
-    let made = Hall::<H, A, Q, K>::new(alloc, keeper, blank);
-    let requests = memory.requests();
-    match made {
-        Ok(hall) => match trial {
-            HallTrial::New => not_closed(requests, requests <= passed),
-            HallTrial::Row(row) => try_row(rt, memory, alloc, hall, row, passed),
-        },
-        Err(_) => not_closed(requests, requests > passed),
+    match Hall::<H, Global, Q, K>::new(alloc, keeper, blank) {
+        Ok(hall) => play_row(rt, alloc, hall, row),
+        Err(_) => None,
     }
 }
 
-/// So many requests, where all is well and no hall was closed.
-fn not_closed<K>(requests: u64, is_well: bool) -> Option<Tried<K>> {
-    if is_well {
-        Some(Tried {
-            requests,
-            keeper: None,
-        })
-    } else {
-        None
-    }
-}
-
-/// Plays a row at a hall over this memory, and refuses the request for memory before which so many are passed
-/// on. None where the row goes otherwise, or where memory ran out at another time than when a request was
-/// refused.
-fn try_row<H: House, R: Wait, A: Allocator + Copy, Q: Drop, K: Keeper<A, Q> + Drop>(
+/// Plays a row at a hall: its keeper. None where the row goes otherwise.
+fn play_row<H: House, R: Wait, Q: Drop, K: Keeper<Global, Q> + Drop>(
     rt: &R,
-    memory: &Refusing<Global>,
-    alloc: A,
-    hall: Hall<H, A, Q, K>,
+    alloc: Global,
+    hall: Hall<H, Global, Q, K>,
     row: &Row,
-    passed: u64,
-) -> Option<Tried<K>>
+) -> Option<K>
     requires { H.parts ≡ 4294967296 }
 {
     let (mut one, mut two) = seats(rt, &hall)?;
-    memory.refuse_after(passed);
-    let told = ask_both(rt, &hall, &mut one, &mut two, row);
-    let requests = memory.requests();
-    memory.refuse_after(u64::MAX);
+    let are_told = ask_both(rt, &hall, &mut one, &mut two, row);
     put_in_order(&mut one, &mut two, row.closing);
     let keeper = close(alloc, hall, one, two, row.closing);
-    if told == Some(requests > passed) {
-        Some(Tried { requests, keeper })
-    } else {
-        None
-    }
+    if are_told { keeper } else { None }
 }

@@ -1,23 +1,19 @@
 //! Plays the parts of the house each by itself, and says of each row whether it went as it is to.
 //!
-//! Here is what needs calls in the process: reads and writes of a connection that fail; sessions whose office
-//! is estranged; two seats of a hall, and two threads; connections over memory at a hall; faults of the reader
-//! and the writer of `replay`; requests for memory that are refused; terminals over TCP at servers with a
-//! gate, a keeper or a port of their own; and a journal's file whose disks stop at each call. A heading stands
-//! over the rows of each. What can be seen from outside scripts play at the program itself.
+//! Here is what needs calls in the process: sessions whose office is estranged; two seats of a hall, and two
+//! threads; terminals over TCP at servers with a gate, a keeper or a port of their own; and a journal's file
+//! whose disks stop at each call. A heading stands over the rows of each. What can be seen from outside
+//! scripts play at the program itself.
 #![tactic(auto)]
 
 mod alone;
-mod attending;
 mod comparing;
 mod crashes;
 mod halls;
 mod library;
-mod refusals;
-mod replaying;
 mod serving;
 mod sessions;
-mod streams;
+mod verdict;
 mod wishes;
 
 use std::io;
@@ -28,23 +24,15 @@ use std::time::Clock;
 /// A part of the house, with a heading over its rows.
 #[derive(Clone, Copy)]
 enum Part {
-    Streams,
     Sessions,
     Hall,
-    Connections,
-    Replay,
-    Refusals,
     Serving,
     Crashes,
 }
 
-static PARTS: [(&str, Part); 8] = [
-    ("Reads, writes and requests for memory", Part::Streams),
+static PARTS: [(&str, Part); 4] = [
     ("Sessions", Part::Sessions),
     ("A hall", Part::Hall),
-    ("Connections at a hall", Part::Connections),
-    ("Replay", Part::Replay),
-    ("Requests for memory that are refused", Part::Refusals),
     ("Serving", Part::Serving),
     ("Stops of a journal's disks", Part::Crashes),
 ];
@@ -66,12 +54,8 @@ impl Part {
     /// Plays its rows, by handles that wait, start threads and have a clock, and that print.
     fn play<R: Threads + Wait + Clock + Sync>(self, rt: &R, host: &HostRuntime) -> io::Result<()> {
         match self {
-            Part::Streams => streams::play(host),
             Part::Sessions => sessions::play(host),
             Part::Hall => halls::play(rt, host),
-            Part::Connections => attending::play(rt, host),
-            Part::Replay => replaying::play(host),
-            Part::Refusals => refusals::play(rt, host),
             Part::Serving => serving::play(rt, host),
             Part::Crashes => crashes::play(host),
         }

@@ -14,11 +14,11 @@ mod unwritten_reply;
 mod unwritten_turn;
 mod waiting;
 
+use crate::verdict::tell;
 use std::io;
 use std::sync::Wait;
 use std::thread::Threads;
 use std::time::Clock;
-use test_kit::tell;
 
 /// A row, with a gate, a keeper or a port of its own.
 #[derive(Clone, Copy)]

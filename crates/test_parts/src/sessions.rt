@@ -8,14 +8,13 @@
 mod moved;
 mod row;
 
-use crate::alone::{Alone, fed_alone};
-use crate::attending::lines::lines;
-use crate::library::extensions;
+use crate::alone::Alone;
+use crate::library::{extensions, present};
 use crate::sessions::moved::Moved;
-use crate::sessions::row::{Row, rows};
+use crate::sessions::row::{Row, lines, rows};
+use crate::verdict::tell;
 use hd_session::Session;
 use std::io;
-use test_kit::{catalogue, present, tell};
 
 /// How many of the lines of the row *repeats and gaps* carry another digit than the one after the last.
 const GAPS: u64 = 2;
@@ -51,8 +50,11 @@ fn is_ended(rt: &HostRuntime, row: &Row) -> Option<bool> {
 
 /// Whether a session that hears the lines of the row *repeats and gaps* has counted the gaps.
 fn are_gaps_counted(rt: &HostRuntime) -> bool {
-    match fed_alone(rt, lines()) {
-        Some(alone) => alone.session.end().is_none() && alone.session.gaps() == GAPS,
+    match Alone::open(rt, None) {
+        Some(mut alone) => {
+            alone.send(lines());
+            alone.session.end().is_none() && alone.session.gaps() == GAPS
+        }
         None => false,
     }
 }
@@ -62,7 +64,7 @@ fn is_extended(rt: &HostRuntime) -> bool {
     let Some(extensions) = extensions(rt.alloc()) else {
         return false;
     };
-    match Alone::open(rt, rt.alloc(), catalogue(), Some(&extensions)) {
+    match Alone::open(rt, Some(&extensions)) {
         Some(mut alone) => {
             alone.send(LOGIN_AND_PATRON);
             alone.session.end().is_none() && alone.text.as_slice() == LOGGED_IN_AND_NAMED

@@ -2,17 +2,26 @@
 ghost use Rattle.std.specs.Prelude.{◌<◌, IfSome};
 ghost use Rattle.hd_rules.specs.Facts.{Facts};
 ghost use Rattle.hd_rules.specs.Known.{IsKnown, IsKnownAction};
-ghost use Rattle.test_kit.specs.Wishes.{IsOf};
+ghost use Rattle.test_parts.specs.Wishes.{IsOf};
 
+use crate::library::present;
 use hd_catalogue::Catalogue;
 use hd_date::Day;
 use hd_journal::{Ask, Journal, OwnedAsk, SeatNo};
-use hd_rules::{Action, Asked, BranchNo, Cancel, Command, CopyNo, HoldKind, PatronNo, TitleNo};
-use std::alloc::{Allocator, Global};
-use test_kit::{Wish, present};
+use hd_rules::{
+    Action, Asked, BranchNo, Cancel, Command, CopyNo, HoldKind, PatronNo, TerminalNo, TitleNo,
+};
+use std::alloc::Global;
 
 /// After how many days a loan is due that took place while the terminal was off line.
 const OFF_LINE_DAYS: u32 = 9;
+
+/// What a terminal is to ask, by the numbers of a catalogue.
+#[derive(Clone, Copy)]
+pub(crate) struct Wish {
+    pub(crate) terminal: TerminalNo,
+    pub(crate) asked: Asked,
+}
 
 /// A terminal, and whom and what it asks about.
 #[derive(Clone, Copy)]
@@ -54,11 +63,7 @@ pub(crate) enum Deed {
 
 impl Names {
     /// The wish that they are for, by the numbers of a catalogue. None where it lacks one of them.
-    pub(crate) fn wish<A: Allocator + Copy>(
-        &self,
-        catalogue: &Catalogue<A>,
-        deed: Deed,
-    ) -> Option<Wish>
+    pub(crate) fn wish(&self, catalogue: &Catalogue, deed: Deed) -> Option<Wish>
         ensures { IfSome result (IsOf catalogue.now) }
     {
         let terminal = catalogue.terminal(self.terminal, b"pw")?;

@@ -41,7 +41,7 @@ fn is_in<S: Alter>(
     for change in changes {
         is_changed = is_changed && conn.execute(change, &[]).is_ok();
     }
-    match new_journal(rt, rt.alloc()) {
+    match new_journal(rt) {
         Some(mut journal) => {
             is_changed
                 && is_taken_again(rt.alloc(), conn, &mut journal)

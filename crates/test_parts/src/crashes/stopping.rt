@@ -200,7 +200,7 @@ fn answered_over<S: Alter + Drop>(
 ) -> Option<Connection<S>>
     requires { HasCleanDisk (state S.Store conn) → (head : Head) × Holds (state S.Store conn) head [] }
 {
-    let journal = new_journal(rt, rt.alloc())?;
+    let journal = new_journal(rt)?;
     match keep(rt.alloc(), conn, journal) {
         Some(mut kept) => {
             *answered = take_all(rt.alloc(), &mut kept, steps);

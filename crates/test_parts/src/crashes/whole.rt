@@ -1,6 +1,6 @@
 //! A row whose turns are all taken.
 
-use crate::comparing::{Seats, is_same_turn};
+use crate::comparing::is_same_turn;
 use crate::crashes::row::Step;
 use crate::library::new_journal;
 use crate::wishes::take;
@@ -27,7 +27,7 @@ impl Drop for Whole {
 impl Whole {
     /// A row whose turns are all taken. None where there is no journal.
     pub(crate) fn of(rt: &HostRuntime, steps: &[Step]) -> Option<Whole> {
-        match new_journal(rt, rt.alloc()) {
+        match new_journal(rt) {
             Some(journal) => {
                 let changing = Vec::new(rt.alloc());
                 let mut whole = Whole { journal, changing };
@@ -59,7 +59,7 @@ impl Whole {
             let Some(number) = numbers.get(at - 1) else {
                 return false;
             };
-            if !is_same_turn(journal, at, &self.journal, *number, Seats::Same) {
+            if !is_same_turn(journal, at, &self.journal, *number) {
                 return false;
             }
         }

@@ -64,8 +64,8 @@ fn ask_often<H: House, R: Wait, Q: Drop, K: Keeper<Global, Q> + Drop>(
     ensures { result.parts ≡ 1 }
 {
     for _ in 0..50 {
-        let _ = ask(rt, hall, &mut seat, names, Deed::Hold, None);
-        let _ = ask(rt, hall, &mut seat, names, Deed::NoHold, None);
+        let _ = ask(rt, hall, &mut seat, names, Deed::Hold);
+        let _ = ask(rt, hall, &mut seat, names, Deed::NoHold);
     }
     seat
 }

@@ -3,16 +3,16 @@ ghost use Rattle.std.specs.Prelude.{◌≡◌, IfSome};
 ghost use Rattle.hd_hall.specs.Seats.{EachSeat};
 
 use crate::halls::row::Closing;
-use hd_hall::{Hall, House, NotClosed, Seat, Turns};
-use std::alloc::{AllocError, Allocator};
+use hd_hall::{Closed, Hall, House, NotClosed, Seat, Turns};
+use std::alloc::{AllocError, Global};
 use std::mem;
 use std::sync::Wait;
 
 /// Opens two seats.
-pub(crate) fn seats<H: House, R: Wait, A: Allocator + Copy, Q: Drop, K: Turns + Drop>(
+pub(crate) fn seats<H: House, R: Wait, Q: Drop, K: Turns + Drop>(
     rt: &R,
-    hall: &Hall<H, A, Q, K>,
-) -> Option<(Seat<H, A>, Seat<H, A>)>
+    hall: &Hall<H, Global, Q, K>,
+) -> Option<(Seat<H>, Seat<H>)>
     ensures { IfSome result (λ two. (two.0.parts ≡ 1) × (two.1.parts ≡ 1)) }
 {
     let one = hall.seat(rt)?;
@@ -21,11 +21,7 @@ pub(crate) fn seats<H: House, R: Wait, A: Allocator + Copy, Q: Drop, K: Turns + 
 }
 
 /// Has the one seat stand for the other and the other way round, where the second is handed in first.
-pub(crate) fn put_in_order<H: House, A: Allocator + Copy>(
-    one: &mut Seat<H, A>,
-    two: &mut Seat<H, A>,
-    closing: Closing,
-)
+pub(crate) fn put_in_order<H: House>(one: &mut Seat<H>, two: &mut Seat<H>, closing: Closing)
     requires one { one.old.parts ≡ 1 }
     requires two { two.old.parts ≡ 1 }
     ensures one { one.new.parts ≡ 1 }
@@ -38,11 +34,11 @@ pub(crate) fn put_in_order<H: House, A: Allocator + Copy>(
 
 /// Closes a hall with its two seats, which stand in the order in which they are handed in: its keeper. None
 /// where that doesn't go as it is to, as where there is no memory to hand in both.
-pub(crate) fn close<H: House, A: Allocator + Copy, Q: Drop, K: Turns + Drop>(
-    alloc: A,
-    hall: Hall<H, A, Q, K>,
-    first: Seat<H, A>,
-    last: Seat<H, A>,
+pub(crate) fn close<H: House, Q: Drop, K: Turns + Drop>(
+    alloc: Global,
+    hall: Hall<H, Global, Q, K>,
+    first: Seat<H>,
+    last: Seat<H>,
     closing: Closing,
 ) -> Option<K>
     requires parts { H.parts ≡ 4294967296 }
@@ -58,10 +54,10 @@ pub(crate) fn close<H: House, A: Allocator + Copy, Q: Drop, K: Turns + Drop>(
 }
 
 /// Closes a hall with one seat alone, which is told that the other is missing, and then with both.
-fn close_behind<H: House, A: Allocator + Copy, Q: Drop, K: Turns + Drop>(
-    hall: Hall<H, A, Q, K>,
-    seats: Vec<Seat<H, A>, A>,
-    last: Seat<H, A>,
+fn close_behind<H: House, Q: Drop, K: Turns + Drop>(
+    hall: Hall<H, Global, Q, K>,
+    seats: Vec<Seat<H>>,
+    last: Seat<H>,
 ) -> Option<K>
     requires parts { H.parts ≡ 4294967296 }
     requires seats { EachSeat seats.items (λ s. s.parts ≡ 1) }
@@ -75,10 +71,10 @@ fn close_behind<H: House, A: Allocator + Copy, Q: Drop, K: Turns + Drop>(
 
 /// Hands in one seat of two: the hall that isn't closed, and the seat as it was. None where it is told
 /// otherwise.
-fn one_is_missing<H: House, A: Allocator + Copy, Q: Drop, K: Turns + Drop>(
-    hall: Hall<H, A, Q, K>,
-    seats: Vec<Seat<H, A>, A>,
-) -> Option<(Hall<H, A, Q, K>, Vec<Seat<H, A>, A>)>
+fn one_is_missing<H: House, Q: Drop, K: Turns + Drop>(
+    hall: Hall<H, Global, Q, K>,
+    seats: Vec<Seat<H>>,
+) -> Option<(Hall<H, Global, Q, K>, Vec<Seat<H>>)>
     requires parts { H.parts ≡ 4294967296 }
     requires seats { EachSeat seats.items (λ s. s.parts ≡ 1) }
     ensures { IfSome result (λ back. back.1.items ≡ seats.items) }
@@ -96,10 +92,10 @@ fn one_is_missing<H: House, A: Allocator + Copy, Q: Drop, K: Turns + Drop>(
 }
 
 /// Closes a hall with these seats and one more.
-fn close_with<H: House, A: Allocator + Copy, Q: Drop, K: Turns + Drop>(
-    hall: Hall<H, A, Q, K>,
-    mut seats: Vec<Seat<H, A>, A>,
-    last: Seat<H, A>,
+fn close_with<H: House, Q: Drop, K: Turns + Drop>(
+    hall: Hall<H, Global, Q, K>,
+    mut seats: Vec<Seat<H>>,
+    last: Seat<H>,
 ) -> Option<K>
     requires parts { H.parts ≡ 4294967296 }
     requires seats { EachSeat seats.items (λ s. s.parts ≡ 1) }
@@ -107,7 +103,12 @@ fn close_with<H: House, A: Allocator + Copy, Q: Drop, K: Turns + Drop>(
 {
     let _ = add(&mut seats, last);
     match hall.close(seats) {
-        Ok(keeper) => Some(keeper),
+        Ok(
+            Closed {
+                keeper,
+                ledger: _ledger,
+            },
+        ) => Some(keeper),
         Err(_) => None,
     }
 }
@@ -116,10 +117,7 @@ fn close_with<H: House, A: Allocator + Copy, Q: Drop, K: Turns + Drop>(
 ///
 /// # Errors
 /// Out of memory.
-pub(crate) fn add<H: House, A: Allocator + Copy>(
-    seats: &mut Vec<Seat<H, A>, A>,
-    last: Seat<H, A>,
-) -> Result<(), AllocError>
+fn add<H: House>(seats: &mut Vec<Seat<H>>, last: Seat<H>) -> Result<(), AllocError>
     requires parts { EachSeat seats.old.items (λ s. s.parts ≡ 1) }
     requires last { last.parts ≡ 1 }
     ensures { EachSeat seats.new.items (λ s. s.parts ≡ 1) }

@@ -1,11 +1,11 @@
 //! What a look at a patron takes down.
 
 use crate::comparing::hold;
+use crate::library::{COPIES, TITLES, present};
 use hd_desk::Desk;
 use hd_journal::{Journal, Look};
 use hd_rules::{CopyState, PatronNo};
-use std::alloc::Allocator;
-use test_kit::{COPIES, TITLES, present};
+use std::alloc::Global;
 
 /// How many of a patron's holds are kept, how many wait, and whether that agrees with all copies and holds of
 /// the same desk; and how many turns there are. Of a patron that isn't seen it doesn't agree.
@@ -39,12 +39,12 @@ impl Glance {
     }
 }
 
-impl<A: Allocator + Copy> Look<A> for Glance {
+impl Look<Global> for Glance {
     ghost fits = { λ glance contents. Unit {0} };
 
     ghost saw = { λ old book new. Unit {0} };
 
-    fn look(&mut self, journal: &Journal<A>) {
+    fn look(&mut self, journal: &Journal) {
         if let Some(seen) = seen_in(journal, self.patron) {
             self.seen = seen;
         }
@@ -52,7 +52,7 @@ impl<A: Allocator + Copy> Look<A> for Glance {
 }
 
 /// What a journal shows of a patron.
-fn seen_in<A: Allocator + Copy>(journal: &Journal<A>, patron: &[u8]) -> Option<Seen> {
+fn seen_in(journal: &Journal, patron: &[u8]) -> Option<Seen> {
     let desk = journal.desk();
     let number = desk.catalogue().patron(patron)?;
     let view = hd_views::view(desk, number, present()?.day());
@@ -67,7 +67,7 @@ fn seen_in<A: Allocator + Copy>(journal: &Journal<A>, patron: &[u8]) -> Option<S
 }
 
 /// How many titles the patron holds, by a search of all.
-fn holds<A: Allocator + Copy>(desk: &Desk<A>, patron: &[u8]) -> u32 {
+fn holds(desk: &Desk, patron: &[u8]) -> u32 {
     let mut holds: u32 = 0;
     for title in TITLES {
         if hold(desk, title, patron).is_some() {
@@ -78,7 +78,7 @@ fn holds<A: Allocator + Copy>(desk: &Desk<A>, patron: &[u8]) -> u32 {
 }
 
 /// How many copies are kept for the patron, by a search of all.
-fn kept<A: Allocator + Copy>(desk: &Desk<A>, patron: PatronNo) -> u32 {
+fn kept(desk: &Desk, patron: PatronNo) -> u32 {
     let mut kept: u32 = 0;
     for name in COPIES {
         if is_kept(desk, name, patron) {
@@ -89,7 +89,7 @@ fn kept<A: Allocator + Copy>(desk: &Desk<A>, patron: PatronNo) -> u32 {
 }
 
 /// Whether the copy of this name is kept for the patron.
-fn is_kept<A: Allocator + Copy>(desk: &Desk<A>, name: &[u8], patron: PatronNo) -> bool {
+fn is_kept(desk: &Desk, name: &[u8], patron: PatronNo) -> bool {
     match desk.catalogue().copy(name) {
         Some(copy) => match desk.copy(copy) {
             CopyState::OnHoldShelf(place) => place.patron == patron,

@@ -128,7 +128,7 @@ fn is_seen<H: House, R: Wait, Q: Drop, K: Keeper<Global, Q> + Drop>(
     requires { seat.old.parts ≡ 1 }
     ensures { seat.new.parts ≡ 1 }
 {
-    let asked = ask(rt, hall, seat, names, deed, None);
+    let asked = ask(rt, hall, seat, names, deed);
     let is_done = matches!(asked, Some(Ok(TurnReply::Done { .. })));
     let mut glance = Glance::at(names.patron);
     let _ = hall.look_from(rt, seat, &mut glance);

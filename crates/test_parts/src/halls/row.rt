@@ -17,8 +17,6 @@ pub(crate) struct Row {
 #[derive(Clone, Copy)]
 pub(crate) struct Step {
     pub(crate) names: Names,
-    /// The message's line, where it carries a sequence digit.
-    pub(crate) line: Option<&'static [u8]>,
     pub(crate) told: Told,
 }
 
@@ -54,13 +52,11 @@ pub(crate) const OTHER: Names = Names {
 /// Each patron's hold is accepted.
 const HELD_BY_1: Step = Step {
     names: ONE,
-    line: None,
     told: Told::Number(1),
 };
 
 const HELD_BY_2: Step = Step {
     names: OTHER,
-    line: None,
     told: Told::Number(2),
 };
 
@@ -98,18 +94,3 @@ static ROWS: [Row; 3] = [
         survivors: 2,
     },
 ];
-
-/// Two seats whose messages carry digits of their own, so that the second is no repeat.
-pub(crate) const TWO_SEATS_WITH_DIGITS: Row = Row {
-    name: "two seats with digits",
-    first: Step {
-        line: Some(b"15+20260301    100000BSnorth|BY2|AOlib|AAp1|AJta|AY1AZF097"),
-        ..HELD_BY_1
-    },
-    second: Step {
-        line: Some(b"15+20260301    100000BSnorth|BY2|AOlib|AAp1|AJta|AY2AZF096"),
-        ..HELD_ALREADY
-    },
-    closing: Closing::InOrder,
-    survivors: 1,
-};

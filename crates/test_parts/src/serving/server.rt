@@ -72,7 +72,7 @@ pub(crate) fn play<R: Threads + Wait + Clock + Sync, W: Row>(
 ) -> (Result<Summary, ServerFault>, bool)
     requires workers { (1 ≤ scale.workers) × (scale.workers ≤ 64) }
 {
-    let Some(journal) = new_journal(host, host.alloc()) else {
+    let Some(journal) = new_journal(host) else {
         return (Err(ServerFault::Serve(ServeFault::Memory)), false);
     };
     let Opened {
@@ -86,7 +86,10 @@ pub(crate) fn play<R: Threads + Wait + Clock + Sync, W: Row>(
         || -> Result<Summary, ServerFault>
             requires turns { journal.turns ≡ [] }
             requires workers { (1 ≤ options.workers) × (options.workers ≤ 64) }
-        { hd_server::serve(rt, alloc, listener, journal, &options, row) },
+        {
+            let closed = hd_server::serve(rt, alloc, listener, journal, &options, row)?;
+            Ok(closed.summary)
+        },
         || row.play(terminals),
     )
 }
@@ -135,7 +138,7 @@ pub(crate) fn is_unwritten_told<R: Threads + Wait + Clock + Sync, W: Row>(
     requires workers { (1 ≤ scale.workers) × (scale.workers ≤ 64) }
 {
     let opened = open(host, terminals)?;
-    let keeper = FullDisk::new(new_journal(host, host.alloc())?, 1);
+    let keeper = FullDisk::new(new_journal(host)?, 1);
     let (ended, is_played) = play_kept(rt, host.alloc(), opened, keeper, scale, row);
     let is_told = match ended {
         Err(fault) => fault == ServeFault::Unwritten(WriteFault::DiskFull),

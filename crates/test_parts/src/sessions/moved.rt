@@ -15,7 +15,7 @@ pub(crate) struct Moved {
 impl Moved {
     /// A journal without turns.
     pub(crate) fn new(rt: &HostRuntime) -> Option<Moved> {
-        let journal = new_journal(rt, rt.alloc())?;
+        let journal = new_journal(rt)?;
         Some(Moved { journal })
     }
 

@@ -16,6 +16,21 @@ pub(crate) struct Row {
     pub(crate) end: Option<Ended>,
 }
 
+/// The lines of the row *repeats and gaps*: a login, five messages and two that are sent again. A proof that
+/// has this call has one name for them, and one with the constant all their bytes.
+pub(crate) fn lines() -> &'static [u8] {
+    LINES
+}
+
+const LINES: &[u8] = b"9300CNt1|COpw|\r\
+    11NN20260301    10000020260301    100000AOlib|AAp1|ABa1|AC|\r\
+    09N20260301    10000020260301    100000APnorth|AOlib|ABa1|AC|\r\
+    11NN20260301    10000020260301    100000AOlib|AAp1|ABa1|AC|AY3AZF0C9\r\
+    11NN20260301    10000020260301    100000AOlib|AAp1|ABa1|AC|AY3AZF0C9\r\
+    09N20260301    10000020260301    100000APnorth|AOlib|ABa1|AC|BIY|AY4AZEE16\r\
+    09N20260301    10000020260301    100000APnorth|AOlib|ABa1|AC|BIY|AY4AZEE16\r\
+    09N20260301    10000020260301    100000APnorth|AOlib|ABa1|AC|BIY|\r";
+
 /// The rows.
 pub(crate) fn rows() -> &'static [Row] {
     &ROWS

@@ -13,8 +13,8 @@ use Rattle.hd_hall.proofs.closing.differing.Goals as goal
 counted : (g : Over) (c : After-audit g)
     → length (g.T.Turns.turns c.args.journal.now) ≡ shares c.args.seats.now
 counted g c =
-    let total = c.audit.ensures.whole (omega (arith, c.gather.ensures.parts, c.requires.all)) in
-    omega (arith, total, c.gather.ensures.amount, c.requires.empty.0, c.requires.counted)
+    let total = c.audit.ensures.whole (omega (arith, c.gather.ensures.parts, c.requires.all.2)) in
+    omega (arith, total, c.gather.ensures.amount, c.requires.all.0, c.requires.counted)
 
 pub returns-then-are_there-clause-none : goal.returns-then-are_there-clause-none
 returns-then-are_there-clause-none g c =

@@ -19,7 +19,7 @@ returns-in_err-found-clause-left g c clean =
 -- where a row isn't taken
 pub returns-in_err-restore_turns-clause-why : goal.returns-in_err-restore_turns-clause-why
 returns-in_err-restore_turns-clause-why g c clean =
-    let early = c.restore_turns.ensures.clean clean in
+    let early = c.restore_turns.ensures.reads.clean clean in
     passes c.from_residual-in_err-restore_turns.result (Turns c.in_err-restore_turns.field-0.0) _
     c.from_residual-in_err-restore_turns.ensures.1 (λ head rows holds.
     let found = c.in_ok-found.ensures.found early head rows holds in
@@ -31,10 +31,10 @@ returns-in_err-restore_turns-clause-why g c clean =
 
 pub returns-in_err-restore_turns-clause-left : goal.returns-in_err-restore_turns-clause-left
 returns-in_err-restore_turns-clause-left g c clean =
-    let early = c.restore_turns.ensures.clean clean in
+    let early = c.restore_turns.ensures.reads.clean clean in
     on_err c.from_residual-in_err-restore_turns.result _ (λ head rows holds db may.
     inl (c.in_ok-found.ensures.reads.crash early head rows holds db
-    (c.restore_turns.ensures.crash clean head rows
+    (c.restore_turns.ensures.reads.crash clean head rows
     (c.in_ok-found.ensures.reads.same refl early head rows holds) db may)))
 
 -- where the digest can't be written
@@ -47,17 +47,18 @@ returns-in_err-accept-clause-why g c clean =
 pub returns-in_err-accept-clause-left : goal.returns-in_err-accept-clause-left
 returns-in_err-accept-clause-left g c clean =
     let late = c.accept.ensures.clean clean in
-    let early = c.restore_turns.ensures.clean late in
+    let early = c.restore_turns.ensures.reads.clean late in
     let accepted : IsTrue c.args.wanted.now.is_other_accepted = grind arith in
     on_err c.from_residual-in_err-accept.result _ (λ head rows holds db may.
     let first = c.in_ok-found.ensures.reads.same refl early head rows holds in
-    let then = c.in_ok-restore_turns.ensures.rows late head rows first in
-    elim ((c.accept.ensures.redates clean head rows then.0).crash db may) [
+    let then = c.in_ok-restore_turns.ensures.reads.same refl late head rows first in
+    let taken = c.in_ok-restore_turns.ensures.rows late head rows first in
+    elim ((c.accept.ensures.redates clean head rows then).crash db may) [
       | inl was ↦ inl (c.in_ok-found.ensures.reads.crash early head rows holds db
-          (c.restore_turns.ensures.crash late head rows first db was))
+          (c.restore_turns.ensures.reads.crash late head rows first db was))
       | inr stores ↦ inr (record {
         accepted = accepted;
-        are = rw (c.in_ok-found.ensures.found early head rows holds).0 then.1;
+        are = rw (c.in_ok-found.ensures.found early head rows holds).0 taken;
         stores = stores;
       })
     ])
@@ -66,22 +67,26 @@ returns-in_err-accept-clause-left g c clean =
 pub returns-in_ok-accept-clause-taken : goal.returns-in_ok-accept-clause-taken
 returns-in_ok-accept-clause-taken g c clean old head rows holds =
     let late = c.accept.ensures.clean clean in
-    let early = c.restore_turns.ensures.clean late in
+    let early = c.restore_turns.ensures.reads.clean late in
     let accepted : IsTrue c.args.wanted.now.is_other_accepted = grind arith in
-    let then = c.in_ok-restore_turns.ensures.rows late head rows
-    (c.in_ok-found.ensures.reads.same refl early head rows holds) in
+    let first = c.in_ok-found.ensures.reads.same refl early head rows holds in
+    let then = c.in_ok-restore_turns.ensures.reads.same refl late head rows first in
     record {
       may_be = inr accepted;
-      holds = (c.in_ok-accept.ensures.redates clean head rows then.0).done refl;
-      are = rw (c.in_ok-found.ensures.found early head rows holds).0 then.1;
+      holds = (c.in_ok-accept.ensures.redates clean head rows then).done refl;
+      are = rw (c.in_ok-found.ensures.found early head rows holds).0
+          (c.in_ok-restore_turns.ensures.rows late head rows first);
     }
 
 -- where it need not be
 pub returns-else-not-is_same-2-clause-taken : goal.returns-else-not-is_same-2-clause-taken
 returns-else-not-is_same-2-clause-taken g c clean old head rows holds =
-    let early = c.restore_turns.ensures.clean clean in
+    let early = c.restore_turns.ensures.reads.clean clean in
     let found = c.in_ok-found.ensures.found early head rows holds in
     let is = found.1.0 c.if-not-is_same-2.false in
-    let then = c.in_ok-restore_turns.ensures.rows clean head rows
-    (c.in_ok-found.ensures.reads.same refl early head rows holds) in
-    record { may_be = inl is; holds = rw (← is) then.0; are = rw found.0 then.1 }
+    let first = c.in_ok-found.ensures.reads.same refl early head rows holds in
+    record {
+      may_be = inl is;
+      holds = rw (← is) (c.in_ok-restore_turns.ensures.reads.same refl clean head rows first);
+      are = rw found.0 (c.in_ok-restore_turns.ensures.rows clean head rows first);
+    }

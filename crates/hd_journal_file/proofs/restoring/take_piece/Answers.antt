@@ -1,16 +1,17 @@
-use Rattle.std.proofs.Common.{◌≤◌, arith, length, map}
+use Rattle.std.proofs.Common.{◌≤◌, arith, length, map, refl}
 use Rattle.std.proofs.lemmas.List.{length-map, take_all}
 use Rattle.hd_turn_store.specs.Rows.{read_cells}
 use Rattle.hd_journal_file.proofs.Results.{passes}
-use Rattle.hd_journal_file.proofs.Retaken.{refuses_next, takes_next, takes_none}
+use Rattle.hd_journal_file.proofs.Retaken.{one_longer, refuses_next, takes_next, takes_none}
 use Rattle.hd_journal_file.proofs.restoring.take_piece.Goals as goal
 
 pub loop-values-init : goal.loop-values-init
-loop-values-init g c = record { number = omega arith; rows = takes_none }
+loop-values-init g c = record { number = omega arith; count = refl; rows = takes_none }
 
 pub loop-values-preserved : goal.loop-values-preserved
 loop-values-preserved g c = record {
   number = omega (arith, c.loop-values.invariant.number);
+  count = omega (arith, c.loop-values.invariant.count, one_longer c.in_ok-take_turn.ensures.took);
   rows = takes_next c.deref-values-items.result.now c.loop-values.values-index c.values-item.result _
       c.loop-values-test.true c.values-item.is c.in-Ok-of.ensures.turn
       c.a_turn_more_is_kept_where_it_changes.ensures c.loop-values.invariant.rows

@@ -22,7 +22,7 @@ loop-rest-preserved g c =
     let whole : lines c.loop-rest.rest.now
     ≡ c.first_line-next.result.line.now ∷ lines c.first_line-next.result.after.now =
     c.first_line-next.ensures.lines some in
-    let pushed : c.push.new.self.items ≡ c.loop-rest.rows.items ++ c.in-Ok-read_row.row ∷ [] =
+    let pushed : c.keep.new.rows.items ≡ c.loop-rest.rows.items ++ c.in-Ok-read_row.row ∷ [] =
     grind (arith, common_steps) in
     record {
       counted = omega (arith, c.first_line-next.ensures.shorter some, c.loop-rest.invariant.counted);

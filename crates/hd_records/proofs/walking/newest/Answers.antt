@@ -1,8 +1,8 @@
 use Rattle.std.proofs.Common.{arith, ◌≡◌, ◌+◌, ◌-◌, ◌∙◌, ap, sym, subst, take, drop, length, ℕ, suc, List}
 use Rattle.std.proofs.Common.{◌∷◌, Some, option_map}
 use Rattle.std.proofs.lemmas.List.{map-append}
-use Rattle.hd_footprint.specs.Meter.{Counts, with_one_more}
-use Rattle.hd_footprint.specs.declared.count.Count.TheVariants.{Look}
+use Rattle.hd_meter.specs.Meter.{Counts, with_one_more}
+use Rattle.hd_meter.specs.declared.count.Count.TheVariants.{Look}
 use Rattle.hd_rules.specs.Record.{Record}
 use Rattle.hd_rules.specs.Target.{Split, NoTarget, is_target}
 use Rattle.hd_rules.specs.Searches.{target}

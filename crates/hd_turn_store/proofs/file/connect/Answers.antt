@@ -2,6 +2,7 @@ use Rattle.std.proofs.Common.{◌≡◌, ◌∙◌, sym, ap, refl, ℕ, ◌+◌,
 use Rattle.std.proofs.Common.{◌++◌, filter, subst}
 use Rattle.std.specs.List.{AllZip}
 use Rattle.std.proofs.Math.Logic.{∥∥₁_elim}
+use Rattle.std.proofs.lemmas.Option.{IfSome_then}
 use Rattle.sqlite_trees.specs.declared.store.Shape.{Shape}
 use Rattle.sqlite_trees.specs.declared.store.Shape.TheVariants.{Absent}
 use Rattle.sqlite_store.specs.declared.catalog.Wanted.{Wanted}
@@ -10,7 +11,10 @@ use Rattle.sqlite_store.specs.Db.{trees_in}
 use Rattle.sqlite_store.specs.Listing.{all_trees, listed, listed_from}
 use Rattle.sqlite_trees.specs.Props.{rows_set}
 use Rattle.hd_turn_store.specs.Words.{AreListed, HoldsDatabase, Image, IsSound, Row, Trees, catalog_tree}
-use Rattle.hd_turn_store.specs.Words.{is_table_row, is_view_row, Database, Schema, file_state}
+use Rattle.hd_turn_store.specs.Words.{is_table_row, is_view_row, Database, HasCleanDisk, IsLive, Opens, Schema}
+use Rattle.hd_turn_store.specs.Words.{State}
+use Rattle.hd_turn_store.specs.Crashes.{FindsJournal}
+use Rattle.sqlite.specs.Start.{FindsIn}
 use Rattle.hd_turn_store.specs.Kept.{Head, KeptTurn}
 use Rattle.hd_turn_store.specs.Tables.{Stores, no_schema}
 use Rattle.hd_turn_store.proofs.file.connect.Goals as goal
@@ -53,30 +57,40 @@ blank_holds_none image head ks db holds stores sound =
     let row = stores.head in
     cc
 
-pub returns-in-Ok-clause-found : goal.returns-in-Ok-clause-found
-returns-in-Ok-clause-found g c clean head ks held schema =
-    let o = (c.in-Ok.ensures.opened clean).0 in
-    let found = c.in-Ok.ensures.found clean in
-    record {
-      schema = schema;
-      rows = record {
-        head = ap (λ (d : Database). d.trees 0) o.clean
-            ∙ ∥∥₁_elim held (rows_set _ _) (λ x. ap (λ (t : Trees). t 0) (found.holds x.0 x.1) ∙ x.2.head);
-        turns = ap (λ (d : Database). d.trees 1) o.clean
-            ∙ ∥∥₁_elim held (rows_set _ _) (λ x. ap (λ (t : Trees). t 1) (found.holds x.0 x.1) ∙ x.2.turns);
+-- what SQLite finds in files, in the words of a journal
+finds : (image : Image) (s : State) → (HasCleanDisk s → Opens s × IsLive s) → (HasCleanDisk s → FindsIn image s)
+    → FindsJournal image s
+finds image s opened found = record {
+  held = λ clean head ks held schema.
+      let o = (opened clean).0 in
+      record {
+        schema = schema;
+        rows = record {
+          head = ap (λ (d : Database). d.trees 0) o.clean ∙ ∥∥₁_elim held (rows_set _ _)
+              (λ x. ap (λ (t : Trees). t 0) ((found clean).holds x.0 x.1) ∙ x.2.head);
+          turns = ap (λ (d : Database). d.trees 1) o.clean ∙ ∥∥₁_elim held (rows_set _ _)
+              (λ x. ap (λ (t : Trees). t 1) ((found clean).holds x.0 x.1) ∙ x.2.turns);
+        };
+        settled = sym o.clean;
+        outside = o.autocommit;
+        is_open = o.is_open;
       };
-      settled = sym o.clean;
-      outside = o.autocommit;
-      is_open = o.is_open;
-    }
+  blank = λ clean schema head ks held.
+      let o = (opened clean).0 in
+      let sound : IsSound s.now.schema s.now.trees = ((opened clean).1 o.is_open).0 in
+      ∥∥₁_elim held (λ x y. absurd x) (λ x.
+      let trees = ap (λ (d : Database). d.trees) o.clean ∙ (found clean).holds x.0 x.1 in
+      blank_holds_none _ head ks x.0 x.1 x.2
+      (subst (λ (s : Schema). IsSound s x.0) schema
+      (subst (λ (t : Trees). IsSound s.now.schema t) trees sound)));
+}
 
-pub returns-in-Ok-clause-blank : goal.returns-in-Ok-clause-blank
-returns-in-Ok-clause-blank g c clean schema head ks held =
-    let now = file_state c.in-Ok.conn in
-    let o = (c.in-Ok.ensures.opened clean).0 in
-    let sound : IsSound now.now.schema now.now.trees = ((c.in-Ok.ensures.opened clean).1 o.is_open).0 in
-    ∥∥₁_elim held (λ x y. absurd x) (λ x.
-    let trees = ap (λ (d : Database). d.trees) o.clean ∙ (c.in-Ok.ensures.found clean).holds x.0 x.1 in
-    blank_holds_none _ head ks x.0 x.1 x.2
-    (subst (λ (s : Schema). IsSound s x.0) schema
-    (subst (λ (t : Trees). IsSound now.now.schema t) trees sound)))
+pub returns-in-Ok-clause-found : goal.returns-in-Ok-clause-found
+returns-in-Ok-clause-found g c = finds _ _ c.in-Ok.ensures.opened c.in-Ok.ensures.found
+
+pub invariant_of-result : goal.invariant_of-result
+invariant_of-result g c = record { found = ∣ finds _ _ c.in-Ok.ensures.opened c.in-Ok.ensures.found ∣₁ }
+
+pub returns-in-Err-clause-why : goal.returns-in-Err-clause-why
+returns-in-Err-clause-why g c =
+    IfSome_then c.in-Err.left c.in-Err.ensures.cause (λ left it. (it.0, it.3))

@@ -1,7 +1,9 @@
-use Rattle.std.proofs.Common.{◌∙◌, ap, arith, refl, subst, sym}
+use Rattle.std.proofs.Common.{◌∙◌, ap, arith, inl, inr, refl, subst, sym}
+use Rattle.std.proofs.lemmas.Grind.{common_steps}
+use Rattle.std.proofs.lemmas.Result.{err_from_is_err_and}
 use Rattle.hd_turn_store.specs.Words.{Database, HasCleanDisk, IsClean, file_state, settled_at, view}
 use Rattle.hd_turn_store.specs.Marks.{HasMark, open_mark}
-use Rattle.hd_turn_store.specs.Tables.{Stores}
+use Rattle.hd_turn_store.specs.Tables.{IsJournal, Stores}
 use Rattle.hd_turn_store.proofs.mark.open_for_turns.Goals as goal
 
 pub returns-in-Err-clause-left : goal.returns-in-Err-clause-left
@@ -26,7 +28,7 @@ returns-clause-same g c clean head ks holds =
     let marked = c.in_ok-store.ensures.marked early in
     let opens = (c.in-Ok.ensures.opens clean).0 in
     record {
-      schema = c.if-not-shows_journal.ensures.shown refl;
+      schema = c.if-not-shows_journal.ensures.shown.0 refl;
       rows = subst (Stores head ks) (sym (c.in-Ok.ensures.trees clean ∙ marked.fresh.clean))
           (marked.kept head ks holds);
       settled = sym opens.clean;
@@ -39,3 +41,31 @@ returns-clause-marked g c clean =
     let early : IsClean (view c.in_ok-store.store) = omega (arith, c.in-Ok.ensures.clean) in
     let marked = c.in_ok-store.ensures.marked early in
     subst (HasMark open_mark) (sym (c.in-Ok.ensures.trees clean ∙ marked.fresh.clean)) marked.mark_is
+
+pub returns-clause-clean : goal.returns-clause-clean
+returns-clause-clean g c clean =
+    let early : IsClean (view c.in_ok-store.store) = omega (arith, c.in-Ok.ensures.clean) in
+    (c.in_ok-store.ensures.marked early).was_clean
+
+pub returns-in_err-store-clause-why : goal.returns-in_err-store-clause-why
+returns-in_err-store-clause-why g c =
+    let p = err_from_is_err_and c.from_residual.result c.from_residual.ensures.1 in
+    rw (p.1, p.2) (inl c.in_err-store.ensures.why)
+
+pub returns-in-Err-clause-why : goal.returns-in-Err-clause-why
+returns-in-Err-clause-why g c =
+    inr (inl (record {
+      error = c.in-Err.error;
+      told = c.of_opening.ensures;
+      relayed = c.in-Err.ensures.told;
+      cause = λ clean.
+          let early : IsClean (view c.in_ok-store.store) = omega (arith, c.in-Err.ensures.unharmed.clean) in
+          (c.in_ok-store.store, c.in_ok-store.ensures.marked early, c.in-Err.ensures.err clean);
+    }))
+
+pub returns-then-not-shows_journal-clause-why : goal.returns-then-not-shows_journal-clause-why
+returns-then-not-shows_journal-clause-why g c =
+    let again = c.in-Ok.again in
+    let none : ¬ IsJournal (file_state again).now.schema =
+    λ is. let shown = c.if-not-shows_journal.ensures.shown.1 is in grind (arith, common_steps) in
+    inr (inr (refl, (again, c.release.ensures, none)))

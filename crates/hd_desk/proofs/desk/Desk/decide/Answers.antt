@@ -18,7 +18,7 @@ returns g c =
     accepted c.laws.ensures c.args.self.now c.args.number c.args.command.now c.new-inquiry.result
     c.follow.new.self
     (told_with c.follow.new.footprint c.follow.result)
-    (record { changes = c.follow.new.footprint; findings = c.into_findings-done-inside.result })
+    (record { changes = c.follow.new.footprint; findings = c.into_findings.result })
     c.in_ok-reply.reply c.new-inquiry.ensures.start c.follow.ensures.ends c.follow.ensures.desk
     (ap (told_with c.follow.new.footprint) c.in_ok-reply.was)
-    c.into_findings-done-inside.ensures.findings c.new-inquiry.ensures.kept c.requires.known c.requires.sound
+    c.into_findings.ensures.findings c.new-inquiry.ensures.kept c.requires.known c.requires.sound

@@ -29,16 +29,16 @@ is_seat g c =
     c.in_ok-made.ensures.next in
     let same = c.in_ok-copy.ensures.own ∙ sym c.in_ok-copy.ensures.copy in
     let number = ap (λ (s : SeatView). s.number) c.seat.view_is in
-    let own = ap (λ (m : SeatMessage). m.seat) c.in_ok-copy.ensures.copy ∙ (c.requires.seat ∙ sym number) in
+    let own = ap (λ (m : SeatMessage). m.seat) c.in_ok-copy.ensures.copy ∙ (c.requires.seat.1 ∙ sym number) in
     rw (
       c.push_reserved.ensures.items,
       c.prepare.ensures.items,
       c.new.ensures,
-      c.in_ok-made.ensures.parts,
-      c.in_ok-made.ensures.share,
+      c.in_ok-made.ensures.share.0,
+      c.in_ok-made.ensures.share.1,
     )
     (seat-snoc _ _ (receipt_of c.in_ok-copy.copy made)
-    (rw (← c.seat.view_is) at c.requires.part) c.seat.invariant.0
+    (rw (← c.seat.view_is) at c.requires.seat.0) c.seat.invariant.0
     (subst (λ (m : SeatMessage). IsNextOf g.H.House.opening c.seat.inside.receipts.items (receipt_of m made))
     same next) own)
 

@@ -9,7 +9,7 @@ use Rattle.hd_rules.specs.Run.{run}
 use Rattle.hd_rules.specs.Searches.{target}
 use Rattle.hd_rules.specs.Sound.{EachBackIsFit}
 use Rattle.hd_catalogue.specs.Contents.{Contents, facts_of}
-use Rattle.hd_footprint.specs.Meter.{Counts}
+use Rattle.hd_meter.specs.Meter.{Counts}
 use Rattle.hd_clash.specs.About.{touches}
 use Rattle.hd_clash.specs.Shift.{shift_records}
 use Rattle.hd_inverse.specs.Cells.{AreApart, AreKnownChanges}

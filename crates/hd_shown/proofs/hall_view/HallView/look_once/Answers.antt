@@ -8,4 +8,4 @@ pub returns-in-Ok-clause-tells : goal.returns-in-Ok-clause-tells
 returns-in-Ok-clause-tells g c =
     let seen = c.in-Ok.ensures.saw in
     told (IsShownTo g.H.House.opening []) (MayShut g.K.Keeper.faults) seen.0 _
-    c.look.new.reader seen.1 seen.2 c.state.result c.state.ensures
+    c.look_at.new.reader seen.1 seen.2 c.state.result c.state.ensures

@@ -1,0 +1,13 @@
+//! The commands over a catalogue file: `check`, and `import`, which makes one of a spreadsheet's files.
+#![tactic(auto)]
+
+mod checking;
+mod fault;
+mod importing;
+mod mending;
+mod told;
+
+pub use crate::checking::check;
+pub use crate::fault::CatalogueCommandFault;
+pub use crate::importing::import_sheets;
+pub use crate::mending::tell_option;

@@ -1,0 +1,145 @@
+//! Files that are written whole, or not at all.
+
+use crate::fault::{FolderFault, cannot_write};
+use std::alloc::{AllocError, Global};
+use std::fs::{File, Metadata, OpenOptions, Permissions};
+use std::io::{ErrorKind, Write};
+use std::os::unix::fs::{MetadataExt, OpenOptionsExt, PermissionsExt};
+use std::{fs, io};
+
+/// The mode of a file that is made: its owner alone may read and write it.
+const OWNERS: u32 = 0o600;
+
+/// Why a link, a device or the like isn't written to.
+const IRREGULAR: &str = "it is no regular file";
+
+/// How many bytes are written to see whether the disk takes them: a page of a journal's file.
+const PAGE: usize = 4_096;
+
+/// Writes a file beside its path, has the disk keep it, and gives it its name: at each moment there is the
+/// whole file at the path, or what was there before.
+///
+/// # Errors
+/// The system refuses it.
+pub fn write_whole(rt: &HostRuntime, path: &str, bytes: &[u8]) -> Result<(), FolderFault> {
+    let part = part_path(rt.alloc(), path)?;
+    write_part(rt, part.as_str(), bytes)?;
+    name_part(rt, part.as_str(), path)
+}
+
+/// Where a file lies until it is whole.
+///
+/// # Errors
+/// Out of memory.
+pub fn part_path(alloc: Global, path: &str) -> Result<String, AllocError> {
+    format!(in alloc; "{path}.part")
+}
+
+/// Writes a file that has another name yet, and has the disk keep it.
+///
+/// # Errors
+/// The system refuses it.
+pub fn write_part(rt: &HostRuntime, part: &str, bytes: &[u8]) -> Result<(), FolderFault> {
+    match write_synced(rt, part, bytes) {
+        Ok(()) => Ok(()),
+        Err(error) => Err(cannot_write(rt.alloc(), part, &error)?),
+    }
+}
+
+/// Gives a file that was written beside its path its name, and has the disk keep that.
+///
+/// # Errors
+/// The system refuses it: the name, or to have the disk keep it; then the file has its name.
+pub fn name_part(rt: &HostRuntime, part: &str, path: &str) -> Result<(), FolderFault> {
+    if let Err(error) = fs::rename(rt, part, path) {
+        return Err(cannot_write(rt.alloc(), path, &error)?);
+    }
+    match sync_folder_of(rt, path) {
+        Ok(()) => Ok(()),
+        Err(error) => Err(FolderFault::NotCertain {
+            path: String::from_str(rt.alloc(), path)?,
+            why: format!(in rt.alloc(); "{error}")?,
+        }),
+    }
+}
+
+/// Opens a file that its owner alone may read and write, whatever the umask. Where there is none, it is made,
+/// and is empty.
+///
+/// # Errors
+/// The system refuses it; a link, a device or the like is there, which stays as it is.
+pub fn own_file(rt: &HostRuntime, path: &str) -> io::Result<File> {
+    let file = match fs::symlink_metadata(rt, path) {
+        Ok(there) => open_regular(rt, path, &there)?,
+        Err(error) if error.kind() == ErrorKind::NotFound => OpenOptions::new()
+            .write(true)
+            .create_new(true)
+            .mode(OWNERS)
+            .open(rt, path)?,
+        Err(error) => return Err(error),
+    };
+    file.set_permissions(Permissions::from_mode(OWNERS))?;
+    Ok(file)
+}
+
+/// Opens the regular file that was seen at a path, and no other.
+///
+/// # Errors
+/// The system refuses it, as a folder; it is no regular file, or another one is there by now.
+fn open_regular(rt: &HostRuntime, path: &str, seen: &Metadata) -> io::Result<File> {
+    if !seen.is_file() && !seen.is_dir() {
+        return Err(io::Error::other(IRREGULAR));
+    }
+    let file = OpenOptions::new().write(true).open(rt, path)?;
+    let opened = file.metadata()?;
+    if opened.dev() == seen.dev() && opened.ino() == seen.ino() {
+        Ok(file)
+    } else {
+        Err(io::Error::other(IRREGULAR))
+    }
+}
+
+/// Writes a page beside a file, waits until the disk has it, and takes it away again.
+///
+/// # Errors
+/// The system refuses it.
+pub fn try_page(rt: &HostRuntime, path: &str) -> Result<(), FolderFault> {
+    let trial = format!(in rt.alloc(); "{path}.trial")?;
+    let written = write_synced(rt, trial.as_str(), &[0; PAGE]);
+    let removed = fs::remove_file(rt, trial.as_str());
+    match (written, removed) {
+        (Ok(()), Ok(())) => Ok(()),
+        (Err(error), _) if is_full(&error) => { Err(FolderFault::DiskFull) }
+        (Err(error), _) | (Ok(()), Err(error)) => Err(cannot_write(
+            rt.alloc(),
+            trial.as_str(),
+            &error,
+        )?),
+    }
+}
+
+/// Whether a disk, or what a user may have of it, is full.
+fn is_full(error: &io::Error) -> bool {
+    matches!(
+        error.kind(),
+        ErrorKind::StorageFull | ErrorKind::QuotaExceeded
+    )
+}
+
+/// Writes a file, and waits until the disk has it.
+fn write_synced(rt: &HostRuntime, path: &str, bytes: &[u8]) -> io::Result<()> {
+    let mut file = own_file(rt, path)?;
+    file.set_len(0)?;
+    file.write_all(bytes)?;
+    file.sync_all()
+}
+
+/// Waits until the disk has the names of a file's folder.
+fn sync_folder_of(rt: &HostRuntime, path: &str) -> io::Result<()> {
+    let folder = match path.rsplit_once('/') {
+        Some(("", _)) => "/",
+        Some((folder, _)) => folder,
+        None => ".",
+    };
+    File::open(rt, folder)?.sync_all()
+}

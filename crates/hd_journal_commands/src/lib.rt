@@ -1,0 +1,23 @@
+//! The commands over a library's journal that isn't served: `carry`, and `journal begin`, `check`, `join`,
+//! `show` and `views`.
+#![tactic(auto)]
+
+mod beginning;
+mod carried;
+mod carrying;
+mod fault;
+mod joining;
+mod journal_checking;
+mod listing;
+mod showing;
+mod staying;
+mod views;
+mod written_off;
+
+pub use crate::beginning::begin_journal;
+pub use crate::carrying::carry_over;
+pub use crate::fault::JournalCommandFault;
+pub use crate::joining::join_library;
+pub use crate::journal_checking::check_journal;
+pub use crate::showing::show_journal;
+pub use crate::views::print_views;
