@@ -57,9 +57,10 @@ def library_with_crowd(path):
 
 def play_morning(server):
     """Plays the morning: the two terminals' connections, which stay."""
-    connections = {name: connect(server.port) for name in morning.SEATS}
-    for name, connection in connections.items():
-        if ask(connection, f"9300CN{name}|COpw|".encode()) != b"941":
+    connections = {}
+    for name in morning.SEATS:  # the next one connects only now, so that seats are numbered in this order
+        connections[name] = connect(server.port)
+        if ask(connections[name], f"9300CN{name}|COpw|".encode()) != b"941":
             raise Trouble(f"{name} can't log in")
     for name, message, wanted in morning.MESSAGES:
         reply = ask(connections[name], message.encode())
