@@ -1,4 +1,4 @@
-//! Whether a row of an opening may stand.
+//! Whether a row of an opening is allowed.
 #![tactic(auto, unfolding(crate::specs::Desks::desk_of))]
 
 ghost use Rattle.std.specs.Prelude.{◌≡◌, ◌<◌, ◌↔◌, IfErr, IfOk, IsTrue, OnOk, Some};
@@ -15,7 +15,7 @@ use hd_rules::{CopyNo, CopyState, Hold, OpeningRow, PatronNo};
 use std::alloc::Allocator;
 
 impl<A: Allocator + Copy> Desk<A> {
-    /// Whether the row may stand here, and else why not. It takes no memory.
+    /// Whether the row is allowed here, and why not otherwise. It takes no memory.
     ///
     /// # Errors
     /// `NoHold` where the copy is for a patron without a hold of its title, and else `Twice`.

@@ -1,4 +1,4 @@
-//! What lies under the lock.
+//! What is under the lock.
 
 ghost use Rattle.std.specs.Prelude.{◌≡◌, ◌+◌, ◌<◌, ◌↔◌, [], None, Some, IsTrue, IsNone, IfOk, IfErr, IfSome};
 ghost use Rattle.std.specs.Prelude.{IfNone, OnOk, OnErr, OnSome, false, length, option_copied, option_map};
@@ -191,7 +191,7 @@ impl<H: House, A: Allocator, Q: Drop, K: Turns + Drop> HallState<H, A, Q, K> {
         ensures opening { IfOk result (λ closed. K.opening closed.keeper ≡ H.opening) }
         ensures in_order { OnOk result (EachSeat seats.items IsWhole) }
         ensures missing { IfErr result (λ why. Misses H.opening why seats.items) }
-        // it is told that one is missing where one is, and how many were opened
+        // a missing seat is reported where one is missing, with how many were opened
         ensures opened { IfErr result (λ why. CountsOpened self.tickets.given why seats.items) }
     {
         let opened = self.tickets.given;
@@ -228,7 +228,7 @@ impl<H: House, A: Allocator, Q: Drop, K: Turns + Drop> HallState<H, A, Q, K> {
     }
 }
 
-/// Whether the turn of the last receipt, if there is one, stands in the journal.
+/// Whether the turn of the last receipt, if there is one, is in the journal.
 fn holds_last<A: Allocator, T: Turns>(journal: &T, receipts: &[StoredReceipt<A>]) -> bool
     ensures yes { IsTrue result → HoldsLast (T.turns journal.now) receipts.now }
     ensures no { result ≡ false → LacksLast (T.turns journal.now) receipts.now }
@@ -247,7 +247,7 @@ fn last_of<A: Allocator>(receipts: &[StoredReceipt<A>]) -> Option<&StoredReceipt
     receipts.last()
 }
 
-/// Whether the receipt's turn stands in the journal, at its number.
+/// Whether the receipt's turn is in the journal, at its number.
 pub(crate) fn stands<A: Allocator, T: Turns>(journal: &T, receipt: &StoredReceipt<A>) -> bool
     ensures { IsTrue result ↔ StandsAt (T.turns journal.now) receipt.now }
 {

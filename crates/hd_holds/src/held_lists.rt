@@ -142,7 +142,7 @@ impl<A: Allocator> HeldLists<A> {
         self.lists[self.list_number(patron)].of(patron)
     }
 
-    /// The number of the list in which a patron's stand.
+    /// The number of the list in which a patron's titles are.
     fn list_number(&self, patron: PatronNo) -> usize
         ensures number { result ≡ patron % length self.now.lists }
         ensures within { result < length self.now.lists }

@@ -47,7 +47,7 @@ pub struct Wanted<'a> {
 /// each taken again and compared, whose changing turns are committed to the file from now on.
 ///
 /// `connected` is what SQLite answered as the files were opened (`connect` of the store). `journal` has no
-/// turns, and its catalogue is the one that is wanted. `progress` is told how many turns are taken again.
+/// turns, and its catalogue is the one that is wanted. `progress` gets the number of turns taken again.
 /// Where it is opened for turns, the file says so once they are (`open_for_turns` of the store).
 ///
 /// # Errors

@@ -100,7 +100,7 @@ impl<A: Allocator + Copy> Records<A> {
         self.index.ready(CommandKeys::of(catalogue, command))
     }
 
-    /// Puts one more record behind the others. Its number is the next one, and there is room for it. It takes
+    /// Puts one more record after the others. Its number is the next one, and there is room for it. It takes
     /// no memory.
     pub fn push(&mut self, catalogue: &Catalogue<A>, new: &NewRecord<'_>)
         requires known { IsKnownAction (facts_of catalogue.now) new.now.command.action }
@@ -126,7 +126,7 @@ impl<A: Allocator + Copy> Records<A> {
         self.slots.len() as u64
     }
 
-    /// The record of a number, or `None` where there is none. It stands in the number's slot.
+    /// The record of a number, or `None` where there is none. It is in the number's slot.
     pub fn get(&self, number: u64) -> Option<RecordRef<'_>>
         ensures record { option_map record_shown result ≡ record_of number self.now.records }
         ensures few { IfSome result (λ r. length r.changes.now ≤ 4) }
@@ -223,7 +223,7 @@ impl<A: Allocator + Copy> Records<A> {
     }
 }
 
-/// A copy of the changes of a record, which stands in the value itself.
+/// A copy of the changes of a record, kept in the value itself.
 fn copy_of(changes: &[Change]) -> ArrayVec<Change, 4>
     requires { length changes.now ≤ 4 }
     ensures { result.items ≡ changes.now }

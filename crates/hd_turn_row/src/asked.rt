@@ -66,8 +66,8 @@ fn misfit(is_filled: bool, column: Column) -> RowFault
     }
 }
 
-/// What parts ask. For a part that is wanting stands the first number of its kind, and one that the act bars
-/// isn't looked at.
+/// What parts ask. In place of a part that is missing it has the first number of its kind. A part that the
+/// act bars isn't looked at.
 #[tactic(auto, unfolding(crate::specs::Parts::asked_by))]
 fn asked_by(parts: &Parts) -> Asked
     ensures { result ≡ asked_by parts.now }

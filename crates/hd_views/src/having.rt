@@ -87,7 +87,7 @@ pub(crate) fn waiting_title<A: Allocator + Copy>(
     }
 }
 
-/// Whether the hold has a copy that stands on a hold shelf.
+/// Whether the hold has a copy that is on a hold shelf.
 fn is_kept<A: Allocator + Copy>(desk: &Desk<A>, hold: &Hold) -> bool
     requires { IsKnownHold (facts desk.now) hold.now }
     ensures { result ≡ is_shelved (desk_of desk.now) hold.now.copy }
