@@ -25,7 +25,7 @@ use std::sync::Arc;
 
 /// Where each copy of a catalogue is (docs/desk-rules.md, "State").
 ///
-/// Only `open` and `ready` take memory, and only `open` goes over all copies.
+/// Only `open` and `ready` take memory, and only `open` walks all copies.
 #[derive(Drop)]
 pub struct Copies<A: Allocator = Global> {
     catalogue: Arc<Catalogue<A>, A>,

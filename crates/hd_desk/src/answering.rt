@@ -66,7 +66,7 @@ impl<A: Allocator + Copy> Desk<A> {
     }
 
     /// The copies that the patron has on loan, by rising number (docs/desk-rules.md, "What a patron has"). It
-    /// goes over these alone, and takes no memory.
+    /// reads these alone, and takes no memory.
     pub fn lent_to(&self, patron: PatronNo) -> LentCopies<'_, A>
         ensures { result ≡ loans_of (facts self.now) (desk_of self.now) patron }
     {

@@ -18,7 +18,7 @@ impl<A: Allocator + Copy> Desk<A> {
     /// Whether the row is allowed here, and why not otherwise. It takes no memory.
     ///
     /// # Errors
-    /// `NoHold` where the copy is for a patron without a hold of its title, and else `Twice`.
+    /// `NoHold` where the copy is for a patron without a hold of its title, and otherwise `Twice`.
     pub(crate) fn judge(&self, row: &OpeningRow) -> Result<(), RowFault>
         requires known { IsKnownRow (facts self.now) row.now }
         requires bounds { IsInBounds (first_number (facts self.now)) row.now }
@@ -79,7 +79,7 @@ impl<A: Allocator + Copy> Desk<A> {
     /// The patron's hold of the copy's title, where the copy may be for it.
     ///
     /// # Errors
-    /// `NoHold` where there is none, and else `Twice`.
+    /// `NoHold` where there is none, and otherwise `Twice`.
     fn judge_pair(&self, copy: CopyNo, patron: PatronNo) -> Result<Hold, RowFault>
         requires { copy < (facts self.now).copies }
         ensures ok { IfOk result (IsPair (facts self.now) (desk_of self.now) copy patron) }

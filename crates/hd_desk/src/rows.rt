@@ -45,7 +45,7 @@ impl<A: Allocator + Copy> Desk<A> {
         Ok(())
     }
 
-    /// Puts what a row says that is allowed.
+    /// Puts what an allowed row says into the desk.
     fn put_row(&mut self, row: &OpeningRow) -> Result<(), AllocError>
         requires known { IsKnownRow (facts self.old) row.now }
         requires bounds { IsInBounds (first_number (facts self.old)) row.now }

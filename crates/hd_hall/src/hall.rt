@@ -24,7 +24,7 @@ use std::alloc::{AllocError, Allocator, Global};
 use std::sync::ledger::{Blank, Share};
 use std::sync::{Arc, Mutex, Wait};
 
-/// One journal under one lock, for many threads, each at a seat of its own. The catalogue is outside the
+/// One journal behind one lock, for many threads, each at a seat of its own. The catalogue stands outside the
 /// lock.
 ///
 /// Under the lock are the journal's keeper, the book of the ledger, the parts that no seat has and the number

@@ -80,8 +80,8 @@ impl<H: House, A: Allocator, Q: Drop, K: Keeper<A, Q>> HallState<H, A, Q, K> {
     /// receipts.
     ///
     /// # Errors
-    /// `Estranged` where it lacks that receipt's turn, and else what its keeper gives, for the keeper's
-    /// cause. The turns and the share are unchanged.
+    /// `Estranged` where the journal lacks that receipt's turn; otherwise the fault that its keeper gives,
+    /// for the keeper's cause. The turns and the share are unchanged.
     pub(crate) fn submit(
         &mut self,
         receipts: &[StoredReceipt<A>],
@@ -119,7 +119,8 @@ impl<H: House, A: Allocator, Q: Drop, K: Keeper<A, Q>> HallState<H, A, Q, K> {
     /// Lends the journal to a reader, where it holds the last of these receipts.
     ///
     /// # Errors
-    /// `Estranged` where it lacks that receipt's turn, and else what `show` gives. The reader is as it was.
+    /// `Estranged` where the journal lacks that receipt's turn; otherwise the fault that `show` gives. The
+    /// reader is as it was.
     pub(crate) fn look<L: Look<A>>(
         &self,
         receipts: &[StoredReceipt<A>],
@@ -228,7 +229,7 @@ impl<H: House, A: Allocator, Q: Drop, K: Turns + Drop> HallState<H, A, Q, K> {
     }
 }
 
-/// Whether the turn of the last receipt, if there is one, is in the journal.
+/// Whether the turn of the last receipt, if there is one, stands in the journal.
 fn holds_last<A: Allocator, T: Turns>(journal: &T, receipts: &[StoredReceipt<A>]) -> bool
     ensures yes { IsTrue result → HoldsLast (T.turns journal.now) receipts.now }
     ensures no { result ≡ false → LacksLast (T.turns journal.now) receipts.now }

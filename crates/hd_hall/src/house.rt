@@ -8,7 +8,7 @@ use std::sync::ledger::Ledger;
 
 /// A hall's ledger, which counts its turns, its catalogue, and the turns that its journal had before.
 ///
-/// All parts of a hall are of one house, so what is under its lock and what is outside speak of one
+/// All parts of a hall are of one house, so what is under its lock and what is outside have the same
 /// catalogue, and a seat of one house is no seat of another. A program picks a house where it calls a
 /// function over one at `Brand`.
 pub trait House: Ledger {

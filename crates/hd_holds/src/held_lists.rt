@@ -16,7 +16,7 @@ use std::marker::Model;
 /// How many lists the patrons share, at most.
 const MOST_LISTS: usize = 1024;
 
-/// How much room is made at a time, so that few calls of `ready` go over the lists.
+/// How much room is made at a time, so that few calls of `ready` walk the lists.
 const ROOM: usize = 64;
 
 /// The titles of which each patron has a hold. Patrons whose numbers leave the same remainder share a list.

@@ -11,7 +11,7 @@ use hd_desk::{Desk, Meter, OpenFault};
 use std::alloc::{AllocError, Allocator, Global};
 use std::sync::Arc;
 
-/// The catalogue, for the desk and whoever else reads it.
+/// The catalogue, shared by the desk and its other readers.
 ///
 /// # Errors
 /// Out of memory.

@@ -21,7 +21,7 @@ use std::sync::Arc;
 
 /// A journal's SQLite file, in which each turn is a row with the names of a catalogue.
 ///
-/// What is claimed of it rests on the disk, and on what it held as it was opened (`IsReliable` of the
+/// What is claimed of it depends on the disk, and on what it held as it was opened (`IsReliable` of the
 /// specification). `F` stands for that.
 pub struct JournalFile<S: Alter, F: Start, A: Allocator = Global> {
     conn: Connection<S>,

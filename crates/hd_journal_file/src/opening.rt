@@ -38,8 +38,8 @@ use std::sync::Arc;
 pub struct Wanted<'a> {
     /// The SHA-256 of the catalogue file.
     pub digest: &'a [u8; 32],
-    /// Whether a file that was written with another catalogue is taken, where each of its turns comes to the
-    /// same with this one. It is then of this one.
+    /// Whether a file that was written with another catalogue is accepted, where each of its turns has the
+    /// same outcome with this one. It is then of this one.
     pub is_other_accepted: bool,
 }
 
@@ -202,7 +202,7 @@ pub fn open_over<S: Alter + Drop, F: Start, P: Progress>(
 }
 
 /// Has a journal without turns take the turns of a file again, which is then of the catalogue that is wanted.
-/// Of a file that was just begun there is none.
+/// A file that was just begun has no turns.
 ///
 /// # Errors
 /// `File`, `OtherCatalogue` and `Turns`.

@@ -191,9 +191,9 @@ impl<A: Allocator + Copy> Records<A> {
         walking::first_clash(catalogue, changes, &self.slots, later, meter)
     }
 
-    /// Takes the record of this number out, and mends the later ones: what they noted becomes what is found
-    /// without its changes. Of the later records those that its changes touch are looked at, each once. It
-    /// takes no memory, and moves no other record.
+    /// Takes the record of this number out, and corrects the later ones: what they noted becomes what is
+    /// found without its changes. Of the later records it looks at those that its changes touch, each once.
+    /// It takes no memory, and moves no other record.
     pub fn take_out(&mut self, catalogue: &Catalogue<A>, number: u64, meter: &mut Meter)
         requires there { IsSome (record_of number self.old.records) }
         requires of { AreOfCatalogue (facts_of catalogue.now) self.old }
