@@ -93,7 +93,7 @@ fn refused<'a>(reply: &PatronInformationReply<'a>, refusal: Refusal) -> [Part<'a
     ]
 }
 
-/// The list that is told: none where the password is wrong.
+/// The list that is printed: none where the password is wrong.
 fn list_told(check: PasswordValidity, list: Option<ItemList<'_>>) -> Option<ItemList<'_>>
     ensures { result ≡ list_told check list.entry }
 {
