@@ -63,7 +63,7 @@ mod writing;
 pub use crate::extensions::{Extensions, profile_of};
 pub use crate::laws::{
     each_body_has_one_answer, looks_have_room_for_a_reply, only_patron_messages_look,
-    standard_bodies_are_answered_as_before,
+    standard_bodies_are_answered_as_before, wrong_passwords_tell_nothing,
 };
 pub use crate::login::Login;
 pub use crate::reply_kind::ReplyKind;
