@@ -140,7 +140,7 @@ fn empty_shelves<A: Allocator + Copy>(
     Ok(shelves)
 }
 
-/// The counts of the copies while each stands at home.
+/// The counts of the copies while each is at home.
 fn full_stock<A: Allocator + Copy>(
     alloc: A,
     catalogue: &Catalogue<A>,

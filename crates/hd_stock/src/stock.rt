@@ -87,7 +87,7 @@ impl<A: Allocator> Stock<A> {
         }
     }
 
-    /// One copy of the title, with this home, stands on an open shelf no more. Takes no memory.
+    /// One copy of the title, with this home, no longer stands on an open shelf. Takes no memory.
     pub fn take(&mut self, title: TitleNo, home: BranchNo)
         requires some_of_title { 0 < of_title self.old title }
         requires some_of_home { 0 < of_home self.old title home }
