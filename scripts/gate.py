@@ -223,7 +223,7 @@ def main():
         words = ["rt", "ci", *["--anew"] * (asked.anew and "--anew" in said_by_rt("help"))]  # some kits keep nothing
         process = subprocess.Popen(words, cwd=TOP, stdin=subprocess.DEVNULL, stdout=subprocess.PIPE,
                                    stderr=subprocess.STDOUT, text=True, errors="replace",
-                                   # with 2 jobs in place of 1 hd_stock takes 17 % more processor time
+                                   # with 2 jobs in place of 1 hd_open_shelf takes 17 % more processor time
                                    env={**os.environ, "RT_JOBS": str(CORES)})
         os.nice(19)
         costs = Costs(process.pid)

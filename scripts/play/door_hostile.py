@@ -16,6 +16,7 @@ from server import PROGRAM, SECONDS, Trouble, ask, connect
 LOGIN = b"9300CNt1|COpw|"
 ITEM = f"17{morning.NOW}AOlib|ABa1|".encode()
 LATER = 0.01  # seconds that a terminal's reply may be later beside hostile clients of the door
+TRIES = 3  # the machine may have much else to do: one of these has to show it
 HEAD = 5  # seconds that a head may take
 
 
@@ -90,12 +91,17 @@ def compare_hostile(program, catalogue, folder):
     with Seen(program, catalogue, folder, "--log", "quiet") as server:
         terminal = Terminal(server.port)
         terminal.start()
-        _, alone = terminal.worst_until(lambda: time.sleep(4))
-        (count, again), beside = terminal.worst_until(lambda: play_hostile(server.path))
+        for _ in range(TRIES):
+            _, alone = terminal.worst_until(lambda: time.sleep(4))
+            (count, again), beside = terminal.worst_until(lambda: play_hostile(server.path))
+            is_late = os.path.abspath(program) == PROGRAM and beside > alone + LATER
+            if not is_late:
+                break
         terminal.is_done = True
         terminal.join(SECONDS)
         stop(server)
-    if os.path.abspath(program) == PROGRAM and beside > alone + LATER:
-        raise Trouble(f"a terminal's worst reply takes {beside:.3f} s beside hostile clients, and {alone:.3f} s without")
+    if is_late:
+        raise Trouble(f"a terminal's worst reply takes {beside:.3f} s beside hostile clients, and {alone:.3f} s without, "
+                      f"at the last of {TRIES} tries")
     return (f"{count} hostile clients, a terminal's worst reply after {1000 * beside:.1f} ms beside them and "
             f"{1000 * alone:.1f} ms without; the door answers again after {again:.1f} s")

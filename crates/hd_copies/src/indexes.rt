@@ -10,9 +10,9 @@ ghost use Rattle.hd_copies.specs.Indexing.{IsIndexed, IsStock, AreShelves, all_b
 
 use hd_catalogue::Catalogue;
 use hd_loans::Loans;
+use hd_open_shelf::Stock;
 use hd_rules::{BranchNo, CopyNo, CopyState};
 use hd_shelf::Places;
-use hd_stock::Stock;
 use hd_transit::Transits;
 use std::alloc::{AllocError, Allocator};
 use std::marker::Model;

@@ -1,11 +1,11 @@
 use Rattle.std.proofs.Common.{◌≡◌, ◌+◌, ◌<◌, IsSome, unwrap_or, length, set, refl, sym, ap, subst, true≢false}
 use Rattle.std.proofs.Common.{arith}
 use Rattle.std.specs.Map.{lookup}
-use Rattle.hd_stock.specs.StockValue.{StockValue}
-use Rattle.hd_stock.specs.Counts.{is_home, of_title, of_home}
-use Rattle.hd_stock.proofs.StockLemmas.{IsWritten, keeps_entries, one_more, read_at}
-use Rattle.hd_stock.proofs.stock.Stock.put.Goals as goal
-use Rattle.hd_stock.proofs.stock.Stock.put.Goals.{in-Some, in_default}
+use Rattle.hd_open_shelf.specs.StockValue.{StockValue}
+use Rattle.hd_open_shelf.specs.Counts.{is_home, of_title, of_home}
+use Rattle.hd_open_shelf.proofs.StockLemmas.{IsWritten, keeps_entries, one_more, read_at}
+use Rattle.hd_open_shelf.proofs.stock.Stock.put.Goals as goal
+use Rattle.hd_open_shelf.proofs.stock.Stock.put.Goals.{in-Some, in_default}
 
 pub overflow_add-count : goal.overflow_add-count
 overflow_add-count g c =

@@ -1,7 +1,7 @@
 //! Counts of the copies on open shelves.
 ghost use Rattle.std.specs.Prelude.{◌≡◌, ℕ, ◌<◌, IfOk, OnOk, OnErr, IsOk, length};
 ghost use Rattle.hd_rules.specs.declared.limits.TheConstants.{MOST_COPIES};
-ghost use Rattle.hd_stock.specs.Counts.{of_title, of_home, HasEntry, HasOneCopyMore, KeepsEntries};
+ghost use Rattle.hd_open_shelf.specs.Counts.{of_title, of_home, HasEntry, HasOneCopyMore, KeepsEntries};
 
 use crate::home::Home;
 use hd_rules::{BranchNo, TitleNo};
@@ -21,7 +21,7 @@ pub struct Stock<A: Allocator = Global> {
 }
 
 impl<A: Allocator> Model for Stock<A> {
-    ghost use Rattle.hd_stock.specs.StockValue.{StockValue};
+    ghost use Rattle.hd_open_shelf.specs.StockValue.{StockValue};
 
     ghost Value = { StockValue };
 

@@ -6,8 +6,8 @@ use Rattle.std.specs.Map.{lookup}
 use Rattle.std.proofs.lemmas.Bool.Decides.{nat_tests}
 use Rattle.std.proofs.lemmas.Grind.{common_steps}
 use Rattle.std.proofs.lemmas.List.{get_or_read}
-use Rattle.hd_stock.specs.StockValue.{StockValue}
-use Rattle.hd_stock.specs.Counts.{is_home, of_title, of_home, HasEntry, HasOneCopyMore, KeepsEntries}
+use Rattle.hd_open_shelf.specs.StockValue.{StockValue}
+use Rattle.hd_open_shelf.specs.Counts.{is_home, of_title, of_home, HasEntry, HasOneCopyMore, KeepsEntries}
 
 -- the new stock has these counts of the title and of its copies with this home, and keeps the other counts
 pub record IsWritten (old new : StockValue) (title branch count count_of_home : ℕ) : Type 0 where

@@ -1,9 +1,9 @@
 use Rattle.std.proofs.Common.{◌≡◌, ◌+◌, ◌<◌, IsSome, length, set, refl, sym, ap, subst, true≢false}
 use Rattle.std.specs.Map.{lookup}
-use Rattle.hd_stock.specs.StockValue.{StockValue}
-use Rattle.hd_stock.specs.Counts.{is_home, of_title, of_home}
-use Rattle.hd_stock.proofs.StockLemmas.{IsWritten, has_entry, keeps_entries, one_more, read_at}
-use Rattle.hd_stock.proofs.stock.Stock.stock.Goals as goal
+use Rattle.hd_open_shelf.specs.StockValue.{StockValue}
+use Rattle.hd_open_shelf.specs.Counts.{is_home, of_title, of_home}
+use Rattle.hd_open_shelf.proofs.StockLemmas.{IsWritten, has_entry, keeps_entries, one_more, read_at}
+use Rattle.hd_open_shelf.proofs.stock.Stock.stock.Goals as goal
 
 pub returns-in_err-insert-clause-full : goal.returns-in_err-insert-clause-full
 returns-in_err-insert-clause-full g c = λ entry.

@@ -2,8 +2,8 @@
 use Rattle.std.specs.Prelude.{◌≡◌, ℕ, ◌+◌, ◌<◌, length, Bool, ◌==◌, ◌&&◌, if◌then◌else◌, IsSome, unwrap_or}
 use Rattle.std.specs.Prelude.{slice_index}
 use Rattle.std.specs.Map.{lookup}
-use Rattle.hd_stock.specs.declared.home.Home.{Home}
-use Rattle.hd_stock.specs.StockValue.{StockValue}
+use Rattle.hd_open_shelf.specs.declared.home.Home.{Home}
+use Rattle.hd_open_shelf.specs.StockValue.{StockValue}
 
 -- this title with this home
 abbrev pub is_home : ℕ → ℕ → Home → Bool

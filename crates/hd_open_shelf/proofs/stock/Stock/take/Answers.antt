@@ -1,10 +1,10 @@
 use Rattle.std.proofs.Common.{◌≡◌, ◌-◌, ◌<◌, IsSome, unwrap_or, length, set, refl, sym, ap, subst, arith}
 use Rattle.std.specs.Map.{lookup}
-use Rattle.hd_stock.specs.StockValue.{StockValue}
-use Rattle.hd_stock.specs.Counts.{is_home, of_title, of_home}
-use Rattle.hd_stock.proofs.StockLemmas.{IsWritten, has_entry, keeps_entries, one_less, read_at, within_counts}
-use Rattle.hd_stock.proofs.stock.Stock.take.Goals as goal
-use Rattle.hd_stock.proofs.stock.Stock.take.Goals.{in-Some, in_default}
+use Rattle.hd_open_shelf.specs.StockValue.{StockValue}
+use Rattle.hd_open_shelf.specs.Counts.{is_home, of_title, of_home}
+use Rattle.hd_open_shelf.proofs.StockLemmas.{IsWritten, has_entry, keeps_entries, one_less, read_at, within_counts}
+use Rattle.hd_open_shelf.proofs.stock.Stock.take.Goals as goal
+use Rattle.hd_open_shelf.proofs.stock.Stock.take.Goals.{in-Some, in_default}
 
 pub overflow_sub-count : goal.overflow_sub-count
 overflow_sub-count g c =
