@@ -56,18 +56,18 @@ quick:
 # What is played at $$program: the documents' examples, rows of messages, scripts at random beside a model, sheets, a
 # long queue, stored messages, kiosks, hostile clients, terminals side by side, a door, stops by kill -9, nights, and
 # faults of files.
-PLAYED = python3 scripts/examples.py "$$program" && python3 scripts/rows.py $(LONG) "$$program" && \
-  python3 scripts/model_rows.py && python3 scripts/at_random.py --scripts $(SCRIPTS) "$$program" && \
-  python3 scripts/serve_rows.py "$$program" && python3 scripts/import_sheets.py "$$program" && \
-  python3 scripts/long_queue.py "$$program" && \
-  python3 scripts/serve_smoke.py "$$program" && python3 scripts/serve_kiosk.py "$$program" && \
-  python3 scripts/serve_hostile.py "$$program" && \
-  python3 scripts/serve_many.py --terminals 100 --seconds 3 --latest 100 "$$program" && \
-  python3 scripts/serve_door.py "$$program" && \
-  python3 scripts/serve_crash.py --rounds $(ROUNDS) "$$program" && python3 scripts/carry_rows.py "$$program" && \
-  python3 scripts/carry_faults.py "$$program" && python3 scripts/join_rows.py "$$program" && \
-  python3 scripts/file_faults.py "$$program" && python3 scripts/catalogue_faults.py "$$program" && \
-  python3 scripts/two_years.py --days $(DAYS) "$$program"
+PLAYED = python3 scripts/play/examples.py "$$program" && python3 scripts/play/rows.py $(LONG) "$$program" && \
+  python3 scripts/play/model_rows.py && python3 scripts/play/at_random.py --scripts $(SCRIPTS) "$$program" && \
+  python3 scripts/play/serve_rows.py "$$program" && python3 scripts/play/import_sheets.py "$$program" && \
+  python3 scripts/play/long_queue.py "$$program" && \
+  python3 scripts/play/serve_smoke.py "$$program" && python3 scripts/play/serve_kiosk.py "$$program" && \
+  python3 scripts/play/serve_hostile.py "$$program" && \
+  python3 scripts/play/serve_many.py --terminals 100 --seconds 3 --latest 100 "$$program" && \
+  python3 scripts/play/serve_door.py "$$program" && \
+  python3 scripts/play/serve_crash.py --rounds $(ROUNDS) "$$program" && python3 scripts/play/carry_rows.py "$$program" && \
+  python3 scripts/play/carry_faults.py "$$program" && python3 scripts/play/join_rows.py "$$program" && \
+  python3 scripts/play/file_faults.py "$$program" && python3 scripts/play/catalogue_faults.py "$$program" && \
+  python3 scripts/play/two_years.py --days $(DAYS) "$$program"
 
 # The same soon, before an hour of proofs: at a program that is built without any, which is slower.
 play: ROUNDS = 5
@@ -80,13 +80,13 @@ play:
 # Stored messages through four connections of holddesk serve, as make run has built it, and the kiosks of the documents;
 # the replies are compared.
 day:
-	@python3 scripts/serve_smoke.py
-	@python3 scripts/serve_kiosk.py
+	@python3 scripts/play/serve_smoke.py
+	@python3 scripts/play/serve_kiosk.py
 
 # The page of a door, as make run has built it, in a browser: what its tables say, and pictures of it. Needs Chromium.
 PICTURES = bench/out/page
 page:
-	@python3 scripts/look_at_page.py --into $(PICTURES)
+	@python3 scripts/play/look_at_page.py --into $(PICTURES)
 
 # The program, its manual page, the documents, examples of files, and the systemd units and the timer, in which PREFIX
 # is filled in. systemd finds those below /usr/local and /usr.
@@ -112,25 +112,25 @@ uninstall:
 
 # A package of the program, as make run has built it, for machines without the Rattle kit: dist/holddesk-*.tar.gz.
 dist:
-	@python3 scripts/make_dist.py $(PROGRAM)
+	@python3 scripts/make/make_dist.py $(PROGRAM)
 
 # Hostile clients against holddesk serve, as make run has built it, beside a terminal that has to be answered.
 hostile:
-	@python3 scripts/serve_hostile.py
+	@python3 scripts/play/serve_hostile.py
 
 # 50 stops by kill -9 of holddesk serve --journal, as make run has built it, and one before each call of holddesk carry
 # that changes a file; the gate plays 20 of the first, and these.
 stops:
-	@python3 scripts/serve_crash.py
-	@python3 scripts/carry_stops.py
+	@python3 scripts/play/serve_crash.py
+	@python3 scripts/play/carry_stops.py
 
 # Two years of a small library with a carry each night; the gate plays 40 days.
 years:
-	@python3 scripts/two_years.py
+	@python3 scripts/play/two_years.py
 
 # 1,000 terminals at once at holddesk serve, as make run has built it; the gate plays 100.
 terminals:
-	@python3 scripts/serve_many.py
+	@python3 scripts/play/serve_many.py
 
 # How fast holddesk serve, as make run has built it, answers beside a server that only echoes: four minutes. Needs rustc
 # and Python 3. LOAD has other words for hd_load compare (bench/out/hd_load --help).
@@ -144,23 +144,23 @@ bench/out/hd_load: $(wildcard bench/*.rs)
 	@rustc --edition 2024 -O -o $@ bench/hd_load.rs
 
 # The demonstration library, with room for as many commands as there may be, and a large one.
-bench/out/demonstration.catalogue: crates/holddesk/data/demonstration.catalogue scripts/make_library.py
+bench/out/demonstration.catalogue: crates/holddesk/data/demonstration.catalogue scripts/make/make_library.py
 	@mkdir -p bench/out
-	@python3 scripts/make_library.py --of $< --out $@
+	@python3 scripts/make/make_library.py --of $< --out $@
 
-bench/out/large.catalogue: scripts/make_library.py
+bench/out/large.catalogue: scripts/make/make_library.py
 	@mkdir -p bench/out
-	@python3 scripts/make_library.py --out $@
+	@python3 scripts/make/make_library.py --out $@
 
 # The wrong bodies of crates/*/wrong, each of which the prover has to refuse, and first a test of the script that tries
 # them. What it has refused is noted in crates/*/wrong/refused, and what is noted there isn't tried again while all that
 # it rests on is as it was; with ANEW=--anew all are tried. Those of crates/*/must-fail are tried by rt ci.
 ANEW =
 wrong:
-	@python3 scripts/refused.py
-	@python3 scripts/refused_sums.py
-	@python3 scripts/wrong_bodies.py --self-test
-	@python3 scripts/wrong_bodies.py $(ANEW)
+	@python3 scripts/wrong_bodies/refused.py
+	@python3 scripts/wrong_bodies/refused_sums.py
+	@python3 scripts/wrong_bodies --self-test
+	@python3 scripts/wrong_bodies $(ANEW)
 
 # The gate: the picture of the crates, the page, and what a change costs, by the table of crates; a seat of one hall at
 # another, which the types refuse; the sums by which refused wrong bodies are noted, and what is proved is kept; the
@@ -174,14 +174,14 @@ test: DAYS = 40
 test: SCRIPTS = 700
 test: LONG = --long
 test:
-	@python3 scripts/draw_house.py --check
-	@python3 scripts/make_page.py --check
-	@python3 scripts/where_to_change.py --check
-	@python3 scripts/foreign_seat_refused.py
-	@python3 scripts/refused_sums.py
+	@python3 scripts/make/draw_house.py --check
+	@python3 scripts/make/make_page.py --check
+	@python3 scripts/make/where_to_change.py --check
+	@python3 scripts/play/foreign_seat_refused.py
+	@python3 scripts/wrong_bodies/refused_sums.py
 	@python3 scripts/kept_sums.py
-	@python3 scripts/wrong_bodies.py --self-test
+	@python3 scripts/wrong_bodies --self-test
 	@python3 scripts/gate.py $(ANEW) --verdict $(VERDICT)
-	@program=$(CURDIR)/$(PROGRAM) && $(PLAYED) && python3 scripts/carry_stops.py "$$program" && \
-	  python3 scripts/faults.py "$$program"
+	@program=$(CURDIR)/$(PROGRAM) && $(PLAYED) && python3 scripts/play/carry_stops.py "$$program" && \
+	  python3 scripts/play/faults.py "$$program"
 	@cat $(VERDICT)

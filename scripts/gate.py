@@ -31,12 +31,12 @@ from concurrent.futures import ThreadPoolExecutor
 from datetime import datetime, timezone
 from pathlib import Path
 
-from edits import edits_of
 from kept import TOP, keep, linked, said_by_rt, sums_of
 from prove import CORES, GIGABYTES, MEMORY, uses_of_all, with_all_below
-from refused import Grounds, is_due, lost_of, stamps_of
-from workbench import Bench
-from wrong_bodies import NOT_TRIED, REFUSED, refused_of, said_of_all, try_crate
+from wrong_bodies.edits import edits_of
+from wrong_bodies.refused import Grounds, is_due, lost_of, stamps_of
+from wrong_bodies.trying import NOT_TRIED, REFUSED, refused_of, said_of_all, try_crate
+from wrong_bodies.workbench import Bench
 
 BESIDE = max(1, CORES - 1)  # crates whose wrong bodies are tried beside rt ci
 GIGABYTES_BESIDE = 8  # of memory that has to be free where one is begun: up to 3 for it, and what rt ci may come to take
@@ -223,7 +223,7 @@ def main():
         words = ["rt", "ci", *["--anew"] * (asked.anew and "--anew" in said_by_rt("help"))]  # some kits keep nothing
         process = subprocess.Popen(words, cwd=TOP, stdin=subprocess.DEVNULL, stdout=subprocess.PIPE,
                                    stderr=subprocess.STDOUT, text=True, errors="replace",
-                                   # with 2 jobs in place of 1 hd_stock takes 17 % more processor time
+                                   # with 2 jobs in place of 1 hd_open_shelf takes 17 % more processor time
                                    env={**os.environ, "RT_JOBS": str(CORES)})
         os.nice(19)
         costs = Costs(process.pid)

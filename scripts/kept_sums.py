@@ -18,9 +18,9 @@ import sys
 import tempfile
 from pathlib import Path
 
-from edits import read, write
 from kept import TOP
 from server import Trouble, reported
+from wrong_bodies.edits import read, write
 
 CRATES = {"hd_day": "", "hd_date": "hd_day jiff_core"}
 SOURCE = "crates/hd_date/src/lib.rt"

@@ -98,7 +98,7 @@ def prove_below(top, names, uses, room):
     with ThreadPoolExecutor(max(1, min(CORES, int(MEMORY / GIGABYTES)))) as pool:
         while order.is_active():
             ready = order.get_ready()
-            # a crate has the cores that no other wants: with 2 jobs in place of 1 hd_stock takes 18.9 s by the clock in
+            # a crate has the cores that no other wants: with 2 jobs in place of 1 hd_open_shelf takes 18.9 s by the clock in
             # place of 25.3, but 17 % more processor time (hd_session with 4: 28 %)
             jobs = max(1, CORES // (len(running) + len(ready)))
             running |= {pool.submit(build, name, uses, room, jobs, sums[name], top): name for name in ready}

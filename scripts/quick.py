@@ -30,15 +30,15 @@ from pathlib import Path
 
 from above import minutes_of
 from check import check
-from edits import edits_of, file_of, read
 from kept import TOP, files_of, keep, lay_out, place_of, said_by_rt, sums_of
 from prove import prove, uses_of_all, with_all_below
-from refused import Grounds, files_below, proofs_of, sources_with, sum_over
-from workbench import Bench
-from wrong_bodies import REFUSED, try_crate
+from wrong_bodies.edits import edits_of, file_of, read
+from wrong_bodies.refused import Grounds, files_below, proofs_of, sources_with, sum_over
+from wrong_bodies.trying import REFUSED, try_crate
+from wrong_bodies.workbench import Bench
 
 BUILDER = TOP / "scripts" / "measure" / "optimised.py"
-PLAYED = ("rows.py", "examples.py")
+PLAYED = ("play/rows.py", "play/examples.py")
 UNPROVED = "unproved"  # by what name the program is kept
 
 

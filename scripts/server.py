@@ -1,7 +1,6 @@
 """A holddesk serve for the scripts that ask it: how one is started, connected to, asked and ended.
 
-No script of its own: rows.py, serve_rows.py, serve_smoke.py, serve_kiosk.py, serve_hostile.py, serve_many.py,
-serve_crash.py, measure_journal.py, unproved.py and those of a door import it. Needs nothing but Python 3.
+No script of its own: unproved.py and most scripts of play/ and measure/ import it. Needs nothing but Python 3.
 """
 
 import argparse

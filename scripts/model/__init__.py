@@ -6,5 +6,5 @@ journal is a list, and a cancellation is decided by running all survivors again 
 desk. All texts are bytes. It knows nothing of a want of memory, and bounds no input.
 
 In the order of reading: dates; lines; files; desk, openings, commands, turns; requests, replies, kiosks; sessions,
-replay. scripts/model_rows.py plays the stored rows with it, scripts/at_random.py compares it with a program.
+replay. scripts/play/model_rows.py plays the stored rows with it, scripts/play/at_random.py compares it with a program.
 """

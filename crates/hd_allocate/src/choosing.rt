@@ -113,7 +113,7 @@ fn is_local(priority: bool, at: BranchNo, hold: &Hold) -> bool
     priority && hold.pickup == at
 }
 
-/// Whether a hold whose last day is this, if it has one, has expired on a day: its last day lies before that.
+/// Whether a hold whose last day is this, if it has one, has expired on a day: its last day is before that.
 pub fn has_expired(expiry: Option<Day>, day: Day) -> bool
     ensures { result ≡ has_expired expiry day }
 {

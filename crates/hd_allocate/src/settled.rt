@@ -1,4 +1,4 @@
-//! What settling a copy comes to.
+//! The result of settling a copy.
 
 use hd_rules::{CopyState, Hold};
 

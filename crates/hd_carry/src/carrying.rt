@@ -36,12 +36,11 @@ use std::alloc::{AllocError, Allocator};
 /// The rows by which a journal of the new catalogue opens with the old desk, by names (docs/opening.md).
 ///
 /// `last` is the last number given so far. The loans of the copies of `write_off`, by old numbers, are
-/// dropped: such a copy stands on the open shelf of its home.
+/// dropped: such a copy is on the open shelf of its home.
 ///
 /// # Errors
 ///
-/// `InTheWay` with all that can't go over, each thing once, and at least one; `Memory` where it is out of
-/// memory.
+/// `InTheWay` with all obstacles, each once, and at least one; `Memory` where it is out of memory.
 pub fn carry<A: Allocator + Copy>(
     alloc: A,
     old: &Desk<A>,
@@ -111,7 +110,7 @@ fn numbers_of<A: Allocator + Copy>(
     NewNumbers::new(alloc, old.catalogue(), new)
 }
 
-/// Whether nothing is in the way.
+/// Whether there is no obstacle.
 fn is_free(obstacles: &[Obstacle]) -> bool
     ensures free { result ≡ true → obstacles.now ≡ [] }
     ensures taken { result ≡ false → obstacles.now ≢ [] }
@@ -119,7 +118,7 @@ fn is_free(obstacles: &[Obstacle]) -> bool
     obstacles.is_empty()
 }
 
-/// What is in the way: at the copies, at the holds, and that the numbers are used up.
+/// The obstacles: those at the copies, those at the holds, and that the numbers are used up.
 fn obstacles_of<A: Allocator + Copy>(
     alloc: A,
     old: &Desk<A>,
@@ -139,7 +138,7 @@ fn obstacles_of<A: Allocator + Copy>(
     Ok(obstacles)
 }
 
-/// Adds that the numbers are used up, where too few are left for so many commands.
+/// Adds that the numbers are used up, where fewer than `limit` are left for commands.
 fn add_used_up<A: Allocator>(
     last: u32,
     limit: u64,

@@ -10,7 +10,7 @@ use std::alloc::{AllocError, Allocator, Global};
 pub enum CarryFault<A: Allocator = Global> {
     /// Out of memory.
     Memory,
-    /// Each thing that stands in the way, once.
+    /// Each obstacle, once.
     InTheWay(Vec<Obstacle, A>),
 }
 

@@ -1,4 +1,4 @@
-//! Laws. Each is the contract of a function without a body; its statement stands in `specs/Laws.antt`.
+//! Laws. Each is the contract of a function without a body; its statement is in `specs/Laws.antt`.
 
 ghost use Rattle.hd_carry.specs.Laws.{NamesKeepToThemselves, ObstaclesAreExact, ObstaclesAreReal};
 ghost use Rattle.hd_carry.specs.Laws.{RowsCarryADeskOver, TheNextJournalBegins};
@@ -10,7 +10,7 @@ pub fn names_keep_to_themselves()
     ensures { NamesKeepToThemselves }
 {}
 
-/// Where nothing is in the way, the rows of a sound desk carry it over: each may stand, each names things of
+/// Where nothing is in the way, the rows of a sound desk carry it over: each is allowed, each names things of
 /// the new catalogue, and they lead to the old desk, by names.
 pub fn rows_carry_a_desk_over()
     ensures { RowsCarryADeskOver }
@@ -22,7 +22,7 @@ pub fn obstacles_are_real()
     ensures { ObstaclesAreReal }
 {}
 
-/// Exactly what is in the way is told: what the old desk needs, and the new catalogue lacks.
+/// Exactly what is in the way is reported: what the old desk needs, and the new catalogue lacks.
 pub fn obstacles_are_exact()
     ensures { ObstaclesAreExact }
 {}

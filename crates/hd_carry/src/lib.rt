@@ -1,8 +1,8 @@
-//! A desk carried over to another catalogue: what goes over by names, and what stands in the way.
+//! A desk carried over to another catalogue: what is carried over, by names, and the obstacles.
 //!
 //! A journal ends, and the next one opens with its last desk, over a catalogue that may be another one. What
-//! goes over is told by the rows of an opening; where something can't go over, all that stands in the way is
-//! told at once (docs/opening.md).
+//! is carried over is written as the rows of an opening. Where something can't be carried over, all obstacles
+//! are reported at once (docs/opening.md).
 #![tactic(auto)]
 
 mod adding;

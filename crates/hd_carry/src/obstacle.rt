@@ -1,8 +1,8 @@
-//! What stands in the way of a desk.
+//! An obstacle to carrying a desk over.
 
 use hd_rules::{BranchNo, CopyNo, CopyState, PatronNo, TitleNo};
 
-/// Something of a desk that can't go over to a new catalogue, by the old catalogue's numbers.
+/// Something of a desk that can't be carried over to a new catalogue, by the old catalogue's numbers.
 ///
 /// The new catalogue lacks a copy where it lacks its name, and where that is another title's there.
 #[derive(Clone, Copy, PartialEq, Eq, Debug)]

@@ -1,4 +1,4 @@
-//! All that stands in the way of a desk.
+//! All obstacles of a desk.
 ghost use Rattle.std.specs.Prelude.{◌≡◌, ◌++◌, OnOk, flat_map};
 ghost use Rattle.hd_carry.specs.declared.obstacle.Obstacle.TheVariants.{MissingWayEnd};
 ghost use Rattle.hd_carry.specs.Numbers.{renumbering};
@@ -19,7 +19,7 @@ use hd_queue::HoldSlices;
 use hd_rules::{BranchNo, CopyNo, CopyState, Hold, HoldKind, PatronNo, TitleNo, Transit};
 use std::alloc::{AllocError, Allocator};
 
-/// Adds what stands in the way at the copies, by number.
+/// Adds the obstacles at the copies, by number.
 pub(crate) fn add_at_copies<A: Allocator + Copy>(
     desk: &Desk<A>,
     numbers: &NewNumbers<A>,
@@ -38,7 +38,7 @@ pub(crate) fn add_at_copies<A: Allocator + Copy>(
     Ok(())
 }
 
-/// Adds what stands in the way at a copy in this state.
+/// Adds the obstacles at a copy in this state.
 fn add_at_copy<A: Allocator + Copy>(
     numbers: &NewNumbers<A>,
     copy: CopyNo,
@@ -139,7 +139,7 @@ fn add_way_end<A: Allocator + Copy>(
     )
 }
 
-/// Adds what stands in the way at the holds of all titles, by number.
+/// Adds the obstacles at the holds of all titles, by number.
 pub(crate) fn add_at_titles<A: Allocator + Copy>(
     desk: &Desk<A>,
     numbers: &NewNumbers<A>,
@@ -155,7 +155,7 @@ pub(crate) fn add_at_titles<A: Allocator + Copy>(
     Ok(())
 }
 
-/// Adds what stands in the way at the holds of a title, in order of stamp.
+/// Adds the obstacles at the holds of a title, in order of stamp.
 fn add_at_queue<A: Allocator + Copy>(
     numbers: &NewNumbers<A>,
     title: TitleNo,
@@ -171,7 +171,7 @@ fn add_at_queue<A: Allocator + Copy>(
     Ok(())
 }
 
-/// Adds what stands in the way at a hold.
+/// Adds the obstacles at a hold.
 fn add_at_hold<A: Allocator + Copy>(
     numbers: &NewNumbers<A>,
     title: TitleNo,

@@ -1,4 +1,4 @@
-//! What is in the way, told by names.
+//! The text of each obstacle, by names.
 
 ghost use Rattle.std.specs.Prelude.{◌≡◌, IfOk, map};
 ghost use Rattle.std.specs.List.{concat};
@@ -47,7 +47,7 @@ pub fn obstacle_text<A: Allocator + Copy>(
     }
 }
 
-/// Who tells obstacles: the catalogues whose names are told.
+/// What writes the texts of obstacles: the catalogues whose names it uses.
 #[derive(Drop)]
 struct Teller<'a, A: Allocator + Copy> {
     alloc: A,
@@ -216,7 +216,7 @@ impl<'a, A: Allocator + Copy> Teller<'a, A> {
         }
     }
 
-    /// The parts' texts, one behind the other.
+    /// The parts' texts, one after the other.
     fn text_of(&self, parts: &[Part]) -> Result<Vec<u8, A>, AllocError>
         ensures { IfOk result (λ text. text.items
             ≡ concat (map (part_text self.now.old.now self.now.new.now) parts.now)) }

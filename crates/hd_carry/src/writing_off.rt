@@ -26,7 +26,7 @@ impl<A: Allocator> Model for WriteOff<A> {
 }
 
 impl<A: Allocator + Copy> WriteOff<A> {
-    /// Of so many copies the listed ones. What is no copy of theirs is passed over.
+    /// The listed ones of `count` copies. Listed numbers from `count` on are ignored.
     pub(crate) fn new(alloc: A, count: usize, listed: &[CopyNo]) -> Result<WriteOff<A>, AllocError>
         ensures { IfOk result (λ noted. AreNoted count listed.now noted) }
     {

@@ -14,8 +14,8 @@ use std::marker::Model;
 /// What a catalogue file says, found by name or by number (docs/catalogue.md).
 ///
 /// The names of each kind are numbered from 0, in the order in which they first appear in the file. It also
-/// has how its journal begins: as the library's first one, until [`with_opening`](Catalogue::with_opening)
-/// says another desk.
+/// says how its journal begins: as the library's first one, until [`with_opening`](Catalogue::with_opening)
+/// gives another desk.
 pub struct Catalogue<A: Allocator = Global> {
     pub(crate) settings: Settings,
     pub(crate) institution: Vec<u8, A>,

@@ -16,7 +16,7 @@ pub enum Cause {
     /// neither `L` nor `N`, or the line is longer than 1,024 bytes: shorten or correct it.
     Text,
     /// A number has another sign than a digit or a leading zero, or
-    /// lies outside its limits: write it in plain digits within them.
+    /// is outside its limits: write it in plain digits within them.
     Number,
     /// The name is defined in an earlier line of its kind: delete this line, or give it another name.
     Double,

@@ -11,7 +11,7 @@ pub enum Version {
     Two,
 }
 
-/// What the first line says beside the institution.
+/// What the first line says besides the institution.
 #[derive(Clone, Copy, PartialEq, Eq, Debug)]
 pub struct Settings {
     pub version: Version,

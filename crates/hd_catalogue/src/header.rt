@@ -36,7 +36,7 @@ pub(crate) fn read_heading(mut values: Values<'_>) -> Option<Heading<'_>>
     })
 }
 
-/// What the first line says beside the institution.
+/// What the first line says besides the institution.
 pub(crate) fn settings(long: bool, heading: Heading<'_>) -> Result<Settings, Cause>
     ensures settings { IfOk result (λ settings. settings ≡ settings_of (said_by heading.entry)) }
     ensures some_command { IfOk result (λ settings. 1 ≤ settings.command_limit) }

@@ -33,7 +33,7 @@ pub fn first_line(text: &[u8]) -> FirstLine<'_>
     }
 }
 
-/// Where the first LF stands.
+/// The place of the first LF, if there is one.
 fn first_end(text: &[u8]) -> Option<usize>
     ensures { result ≡ position (λ byte. byte == 10) text.now }
 {

@@ -11,7 +11,7 @@ use std::alloc::{AllocError, Allocator};
 use std::hash::{Hash, Hasher};
 use std::marker::Model;
 
-/// How many bytes of a name stand in the name itself.
+/// The most bytes of a name that are kept in the value itself.
 const MOST_SHORT: usize = 22;
 
 /// A name of at most [`MOST_SHORT`] bytes.
@@ -62,7 +62,7 @@ enum Kept<A: Allocator> {
     Apart(Box<Vec<u8, A>, A>),
 }
 
-/// The bytes of a name. A short one takes no memory beside the value, which is as large as a `Vec`.
+/// The bytes of a name. A short one takes no memory besides the value, which is as large as a `Vec`.
 #[derive(Drop)]
 pub(crate) struct Name<A: Allocator> {
     kept: Kept<A>,

@@ -81,7 +81,7 @@ impl<F: Drop, A: Allocator + Copy> Names<F, A> {
         }
     }
 
-    /// Defines a name that isn't defined yet: it gets the next number. On want of memory nothing is changed.
+    /// Defines a name that isn't defined yet: it gets the next number. Out of memory, nothing is changed.
     pub fn define(&mut self, alloc: A, name: &[u8], facts: F) -> Result<(), AllocError>
         requires { number_of self.old name.now ≡ None }
         ensures ok { OnOk result (self.new ≡ self.old ++ (name.now, facts) ∷ []) }

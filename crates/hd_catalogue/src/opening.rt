@@ -14,13 +14,13 @@ use crate::catalogue::Catalogue;
 use hd_rules::{BranchNo, CopyNo, Hold, HoldKind, MOST_GIVEN, OpeningRow, PatronNo, TitleNo};
 use std::alloc::Allocator;
 
-/// Why a catalogue's journal can't begin as it was told.
+/// Why a catalogue's journal can't begin with the rows and the last number that were given.
 #[derive(Clone, Copy, PartialEq, Eq, Debug)]
 pub enum OpeningFault {
     /// The last number given before is above `MOST_GIVEN`.
     Last,
     /// The row with this index, from 0, is the first that names what the catalogue lacks, has a stamp above
-    /// the last number or place 0, or is a hold's and tells its copy, which the copy's own row does.
+    /// the last number or place 0, or is a hold's and says which copy it has: the copy's own row says that.
     Row { index: usize },
 }
 
@@ -36,7 +36,7 @@ fn is_in_bounds(row: &OpeningRow, last: u32) -> bool
 }
 
 impl<A: Allocator + Copy> Catalogue<A> {
-    /// The rows that tell the desk with which the catalogue's journal opens.
+    /// The rows that say with which desk the catalogue's journal opens.
     pub fn opening(&self) -> &[OpeningRow]
         ensures rows { result.now ≡ self.now.opening.rows }
         ensures known { All (IsKnownRow (facts_of self.now)) result.now }
@@ -57,8 +57,9 @@ impl<A: Allocator + Copy> Catalogue<A> {
         self.last
     }
 
-    /// The same catalogue with a journal that begins so: the rows tell its desk, and `last` is the last
-    /// number that was given before. Whether the rows tell a sound desk isn't asked here. It takes no memory.
+    /// The same catalogue with a journal that begins so: the rows give its desk, and `last` is the last
+    /// number that was given before. Whether the rows give a sound desk isn't checked here. It takes no
+    /// memory.
     ///
     /// # Errors
     /// `Last` where that number is too high, and else `Row` where a row doesn't fit.

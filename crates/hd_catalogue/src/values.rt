@@ -98,7 +98,7 @@ impl<'a> Values<'a> {
     }
 }
 
-/// Where the first bar stands.
+/// The place of the first bar, if there is one.
 fn first_bar(text: &[u8]) -> Option<usize>
     ensures { result ≡ position (λ byte. byte == 124) text.now }
 {

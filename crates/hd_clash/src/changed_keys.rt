@@ -20,7 +20,7 @@ use hd_rules::{BranchNo, Change, CopyState, Value};
 use std::alloc::Allocator;
 use std::marker::Model;
 
-/// The keys that the changes of one command touch, each once. They stand in the value itself, and no call
+/// The keys that the changes of one command touch, each once. They are kept in the value itself, and no call
 /// takes memory.
 #[derive(Drop)]
 pub struct ChangedKeys {
@@ -60,7 +60,7 @@ fn is_among(key: &Key, keys: &[Key]) -> bool
 }
 
 impl ChangedKeys {
-    /// No keys. Unused places have a key that stands for nothing.
+    /// No keys. Unused places have a key that means nothing.
     fn none() -> ChangedKeys
         ensures { result ≡ [] }
     {
@@ -78,7 +78,7 @@ impl ChangedKeys {
         &self.keys[..self.count]
     }
 
-    /// Puts a key behind the others, where it isn't among them.
+    /// Puts a key after the others, where it isn't among them.
     fn add(&mut self, key: Key)
         requires { length self.old < MOST_KEYS }
         ensures with_it { self.new ≡ with_key self.old key }

@@ -1,4 +1,4 @@
-//! The laws of the rules that those of this crate rest on.
+//! The laws of the rules from which those of this crate follow.
 
 ghost use Rattle.hd_clash.specs.Rules.{Rules};
 

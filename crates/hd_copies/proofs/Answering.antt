@@ -21,7 +21,7 @@ use Rattle.hd_shelf.specs.Shelf.{LeastFree as IsLeast}
 use Rattle.hd_loans.specs.Counts.{is_loan_to, loans_of}
 use Rattle.hd_loans.specs.Lent.{lent_to as lent_by}
 use Rattle.hd_lemmas.proofs.Counts.{one, count_below-changed, count_below-none, count_below-same}
-use Rattle.hd_stock.specs.Counts.{of_home, of_title}
+use Rattle.hd_open_shelf.specs.Counts.{of_home, of_title}
 use Rattle.hd_copies.specs.IndexesValue.{IndexesValue}
 use Rattle.hd_copies.specs.Standing.{AreStates, IsFree, StandsAt, lent_to, stands_ready, state_in}
 use Rattle.hd_copies.specs.Indexing.{copy_at, is_placed, is_on_open_shelf, loan_of, no_shelf, shelf_count}

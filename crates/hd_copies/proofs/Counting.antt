@@ -8,8 +8,8 @@ use Rattle.hd_rules.specs.declared.copies.CopyState.TheVariants.{Shelf}
 use Rattle.hd_rules.specs.Facts.{Facts}
 use Rattle.hd_rules.specs.Choose.{admits}
 use Rattle.hd_lemmas.proofs.Counts.{one, count_below-same, count_below-changed}
-use Rattle.hd_stock.specs.StockValue.{StockValue}
-use Rattle.hd_stock.specs.Counts.{HasOneCopyMore, KeepsEntries}
+use Rattle.hd_open_shelf.specs.StockValue.{StockValue}
+use Rattle.hd_open_shelf.specs.Counts.{HasOneCopyMore, KeepsEntries}
 use Rattle.hd_copies.specs.Indexing.{IsStock, is_on_open_shelf, shelf_count}
 use Rattle.hd_copies.proofs.Moving.{Moves}
 

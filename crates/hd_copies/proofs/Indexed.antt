@@ -22,8 +22,8 @@ use Rattle.hd_shelf.specs.PlacesValue.{PlacesValue}
 use Rattle.hd_loans.specs.LoansValue.{LoansValue}
 use Rattle.hd_lemmas.proofs.Counts.{count_below-free, count_below-some}
 use Rattle.hd_transit.specs.TransitsValue.{TransitsValue}
-use Rattle.hd_stock.specs.StockValue.{StockValue}
-use Rattle.hd_stock.specs.Counts.{HasOneCopyMore, KeepsEntries, of_home, of_title}
+use Rattle.hd_open_shelf.specs.StockValue.{StockValue}
+use Rattle.hd_open_shelf.specs.Counts.{HasOneCopyMore, KeepsEntries, of_home, of_title}
 use Rattle.hd_copies.specs.IndexesValue.{IndexesValue}
 use Rattle.hd_copies.specs.Standing.{AreStates, state_in}
 use Rattle.hd_copies.specs.Indexing.{AreLoans, AreTransits, AreShelves, IsIndexed, all_but, copy_at}

@@ -17,8 +17,8 @@ use Rattle.hd_shelf.specs.PlacesValue.{PlacesValue}
 use Rattle.hd_loans.specs.LoansValue.{LoansValue}
 use Rattle.hd_lemmas.proofs.Counts.{one, count_below-same}
 use Rattle.hd_transit.specs.TransitsValue.{TransitsValue}
-use Rattle.hd_stock.specs.StockValue.{StockValue}
-use Rattle.hd_stock.specs.Counts.{HasEntry, of_home, of_title}
+use Rattle.hd_open_shelf.specs.StockValue.{StockValue}
+use Rattle.hd_open_shelf.specs.Counts.{HasEntry, of_home, of_title}
 use Rattle.hd_copies.specs.Indexing.{AreLoans, AreTransits, AreShelves, IsStock, copy_at, each_at_home}
 use Rattle.hd_copies.specs.Indexing.{is_placed, is_on_open_shelf, loan_of}
 use Rattle.hd_copies.specs.Indexing.{transit_of}

@@ -4,8 +4,8 @@ use Rattle.std.specs.Coded.{Coded, code_by, coded×, coded_ℕ, coded_list}
 use Rattle.hd_shelf.specs.PlacesValue.{PlacesValue, places_code}
 use Rattle.hd_loans.specs.LoansValue.{LoansValue, loans_code}
 use Rattle.hd_transit.specs.TransitsValue.{TransitsValue, transits_code}
-use Rattle.hd_stock.specs.declared.home.Home.{Home}
-use Rattle.hd_stock.specs.StockValue.{StockValue}
+use Rattle.hd_open_shelf.specs.declared.home.Home.{Home}
+use Rattle.hd_open_shelf.specs.StockValue.{StockValue}
 
 -- the loans, the transits, each branch's hold shelf, and the counts of copies on open shelves
 pub record IndexesValue : Type 0 where

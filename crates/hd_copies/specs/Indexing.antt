@@ -13,8 +13,8 @@ use Rattle.hd_rules.specs.Choose.{admits, count_below, is_on_shelf, stands_at}
 use Rattle.hd_shelf.specs.PlacesValue.{PlacesValue}
 use Rattle.hd_loans.specs.LoansValue.{LoansValue}
 use Rattle.hd_transit.specs.TransitsValue.{TransitsValue}
-use Rattle.hd_stock.specs.StockValue.{StockValue}
-use Rattle.hd_stock.specs.Counts.{HasEntry, of_home, of_title}
+use Rattle.hd_open_shelf.specs.StockValue.{StockValue}
+use Rattle.hd_open_shelf.specs.Counts.{HasEntry, of_home, of_title}
 use Rattle.hd_copies.specs.IndexesValue.{IndexesValue}
 
 -- all but one copy, which is nowhere

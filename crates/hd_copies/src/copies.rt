@@ -25,7 +25,7 @@ use std::sync::Arc;
 
 /// Where each copy of a catalogue is (docs/desk-rules.md, "State").
 ///
-/// Only `open` and `ready` take memory, and only `open` goes over all copies.
+/// Only `open` and `ready` take memory, and only `open` walks all copies.
 #[derive(Drop)]
 pub struct Copies<A: Allocator = Global> {
     catalogue: Arc<Catalogue<A>, A>,
@@ -143,7 +143,7 @@ impl<A: Allocator + Copy> Copies<A> {
         self.indexes.loans.of(patron)
     }
 
-    /// The least place, from 1, of the branch's hold shelf at which no copy stands (docs/desk-rules.md,
+    /// The least place, from 1, of the branch's hold shelf at which there is no copy (docs/desk-rules.md,
     /// "Place").
     pub fn least_free(&self, branch: BranchNo) -> u32
         requires { branch < (facts self.now).branches }
@@ -153,7 +153,7 @@ impl<A: Allocator + Copy> Copies<A> {
         self.indexes.shelves[branch.number() as usize].least_free()
     }
 
-    /// The copy that stands at this place of the branch's hold shelf, or `None` where none does.
+    /// The copy at this place of the branch's hold shelf, or `None` where there is none.
     pub fn at(&self, branch: BranchNo, place: u32) -> Option<CopyNo>
         requires { branch < (facts self.now).branches }
         ensures { MatchOption result (IsFree (facts self.now) (standing self.now) branch place)
@@ -162,7 +162,7 @@ impl<A: Allocator + Copy> Copies<A> {
         self.indexes.shelves[branch.number() as usize].at(place)
     }
 
-    /// How many copies of the title that a hold of this kind and pickup admits stand on open shelves.
+    /// How many copies of the title that a hold of this kind and pickup admits are on open shelves.
     pub fn on_shelf(&self, title: TitleNo, kind: &HoldKind, pickup: BranchNo) -> u32
         requires { title < (facts self.now).titles }
         ensures { (d : Desk) → d.copy ≡ standing self.now
@@ -175,7 +175,7 @@ impl<A: Allocator + Copy> Copies<A> {
         }
     }
 
-    /// Whether the copy is one of the title, and stands on an open shelf.
+    /// Whether the copy is one of the title, and is on an open shelf.
     fn stands_ready(&self, title: TitleNo, copy: CopyNo) -> bool
         ensures { result ≡ stands_ready (facts self.now) (standing self.now) title copy }
     {

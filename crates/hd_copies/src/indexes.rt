@@ -10,9 +10,9 @@ ghost use Rattle.hd_copies.specs.Indexing.{IsIndexed, IsStock, AreShelves, all_b
 
 use hd_catalogue::Catalogue;
 use hd_loans::Loans;
+use hd_open_shelf::Stock;
 use hd_rules::{BranchNo, CopyNo, CopyState};
 use hd_shelf::Places;
-use hd_stock::Stock;
 use hd_transit::Transits;
 use std::alloc::{AllocError, Allocator};
 use std::marker::Model;
@@ -140,7 +140,7 @@ fn empty_shelves<A: Allocator + Copy>(
     Ok(shelves)
 }
 
-/// The counts of the copies while each stands at home.
+/// The counts of the copies while each is at home.
 fn full_stock<A: Allocator + Copy>(
     alloc: A,
     catalogue: &Catalogue<A>,

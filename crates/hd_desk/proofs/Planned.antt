@@ -38,7 +38,6 @@ use Rattle.hd_rules.specs.declared.cells.Change.{Change}
 use Rattle.hd_desk.specs.Accepting.{CanBeMade, IsAccepted}
 use Rattle.hd_desk.specs.Asking.{InquiryValue, ending_of, asked_of, AreKnownQuestions}
 use Rattle.hd_inverse.specs.Cells.{AreKnownChanges, CanBeUndone, HaveRoom}
-use Rattle.hd_desk.specs.declared.refused.Refused.TheVariants.{Memory}
 use Rattle.hd_desk.specs.Cells.{HasRoomFor, IsShortOfRoom}
 use Rattle.hd_desk.specs.Laws.{CommandLaws}
 use Rattle.hd_desk.specs.DeskValue.{DeskValue}
@@ -47,7 +46,6 @@ use Rattle.hd_desk.specs.DoneValue.{DoneValue, done_of}
 use Rattle.hd_desk.proofs.Following.{ending_is, findings_more, asked_more, known_more}
 use Rattle.hd_desk.proofs.TakenBack.{back-again}
 use Rattle.hd_desk.proofs.Writing.{are-known}
-use Rattle.hd_lemmas.proofs.Rules.{later_sound}
 
 -- where a plan led, from the start
 pub record Followed (k : Facts) (d : Desk) (p : Plan) (r : Result Done Refusal) (asked : List Question) : Type
@@ -150,9 +148,6 @@ can-be-made laws k d n command done kept action sound is =
     }) fit in
     record { fit = fit; sound = after_it.1; back = back-again laws k d n command done sound is known }
 
-pub still-sound : (k : Facts) (n : ℕ) (d : Desk) → Sound k n d → Sound k (n + 1) d
-still-sound k n d sound = later_sound k n (n + 1) d (omega arith) sound
-
 -- a plan that was followed to a command's acceptance
 pub accepted : CommandLaws
     → (d : DeskValue) (n : ℕ) (command : Command) (q new : InquiryValue) (r : Result Done Refusal)
@@ -214,8 +209,8 @@ item-so d h copy t state n same contents is title count = λ i. record {
 pub was-short : {T E : Type 0}
     → (d : DeskValue) (o : Result Done Refusal) (done : Done) (cs : List Change) (r : Result T E) (b : Bool)
     → o ≡ Ok done → cs ≡ done.changes → b ≡ is_err r → b ≡ true
-    → OnErr r (HaveRoom (HasRoomFor d) (length cs) cs → ⊥) → IsShortOfRoom d o (Err Memory)
+    → OnErr r (HaveRoom (HasRoomFor d) (length cs) cs → ⊥) → IsShortOfRoom d o
 was-short d o done cs (Ok x) b is are test on full = let t : true ≡ false = sym on ∙ test in cc
 was-short d o done cs (Err x) b is are test on full =
-    subst (λ (x : Result Done Refusal). IsShortOfRoom d x (Err Memory)) (sym is)
+    subst (λ (x : Result Done Refusal). IsShortOfRoom d x) (sym is)
     (subst (λ (xs : List Change). HaveRoom (HasRoomFor d) (length xs) xs → ⊥) are full)

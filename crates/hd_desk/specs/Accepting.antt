@@ -29,3 +29,11 @@ pub record IsAccepted (d : DeskValue) (number : ℕ) (command : Command) (done :
   pub findings : done.findings
       ≡ findings (facts d) (desk_of d) (asks (facts d) (desk_of d) (plan (facts d) number command))
   pub can : CanBeMade (facts d) (desk_of d) number done.changes
+
+-- What an accepted command did: these are its findings, and its changes led from the first desk to the second,
+-- where they can be taken back.
+pub record IsDoneBy (d e : DeskValue) (number : ℕ) (command : Command) (done : DoneValue) : Type 0 where
+  pub findings : done.findings
+      ≡ findings (facts d) (desk_of d) (asks (facts d) (desk_of d) (plan (facts d) number command))
+  pub after : desk_of e ≡ after done.changes (desk_of d)
+  pub back : CanBeUndone (facts e) (desk_of d) (desk_of e) done.changes

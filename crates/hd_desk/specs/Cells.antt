@@ -5,15 +5,12 @@ use Rattle.hd_rules.specs.declared.cells.Cell.TheVariants.{Copy as CopyCell, Hol
 use Rattle.hd_rules.specs.declared.cells.Value.{Value}
 use Rattle.hd_rules.specs.declared.cells.Value.TheVariants.{Copy as CopyHas, Hold as HoldHas}
 use Rattle.hd_rules.specs.declared.replies.Refusal.{Refusal}
-use Rattle.hd_rules.specs.declared.replies.Reply.{Reply}
 use Rattle.hd_rules.specs.Ask.{Done}
 use Rattle.hd_rules.specs.Desk.{value}
 use Rattle.hd_copies.specs.Standing.{HasRoom}
 use Rattle.hd_holds.specs.Held.{room_of}
 use Rattle.hd_desk.specs.DeskValue.{DeskValue}
 use Rattle.hd_desk.specs.Desks.{desk_of}
-use Rattle.hd_desk.specs.declared.refused.Refused.{Refused}
-use Rattle.hd_desk.specs.declared.refused.Refused.TheVariants.{Rule, Memory}
 use Rattle.hd_inverse.specs.Cells.{HaveRoom}
 pub use Rattle.hd_inverse.specs.Work.{after_writes}
 
@@ -29,9 +26,7 @@ IsReadyFor d (HoldCell t p) (CopyHas s) more = Unit {0}
 abbrev pub HasRoomFor : DeskValue → Cell → Value → ℕ → Type 0
 HasRoomFor d cell v more = value (desk_of d) cell ≢ v → IsReadyFor d cell v more
 
--- memory is wanting only where there is too little room for what the command changes
-abbrev pub IsShortOfRoom : DeskValue → Result Done Refusal → Result Reply Refused → Type 0
-IsShortOfRoom d (Ok done) (Err Memory) = HaveRoom (HasRoomFor d) (length done.changes) done.changes → ⊥
-IsShortOfRoom d (Ok done) (Err (Rule refusal)) = Unit {0}
-IsShortOfRoom d (Ok done) (Ok reply) = Unit {0}
-IsShortOfRoom d (Err refusal) result = Unit {0}
+-- the command is accepted, and there is too little room for what it changes
+abbrev pub IsShortOfRoom : DeskValue → Result Done Refusal → Type 0
+IsShortOfRoom d (Ok done) = HaveRoom (HasRoomFor d) (length done.changes) done.changes → ⊥
+IsShortOfRoom d (Err refusal) = ⊥

@@ -66,7 +66,7 @@ impl<A: Allocator + Copy> Desk<A> {
     }
 
     /// The copies that the patron has on loan, by rising number (docs/desk-rules.md, "What a patron has"). It
-    /// goes over these alone, and takes no memory.
+    /// reads these alone, and takes no memory.
     pub fn lent_to(&self, patron: PatronNo) -> LentCopies<'_, A>
         ensures { result ≡ loans_of (facts self.now) (desk_of self.now) patron }
     {
@@ -123,7 +123,7 @@ impl<A: Allocator + Copy> Desk<A> {
         self.holds.position(title, stamp)
     }
 
-    /// How many copies of the title that such a hold admits stand on open shelves.
+    /// How many copies of the title that such a hold admits are on open shelves.
     pub(crate) fn on_shelf(&self, title: TitleNo, kind: &HoldKind, pickup: BranchNo) -> u32
         requires { title < (facts self.now).titles }
         ensures { result ≡ on_shelf (facts self.now) (desk_of self.now) title kind.now pickup }

@@ -1,20 +1,15 @@
 //! Commands.
 #![tactic(auto)]
 
-ghost use Rattle.std.specs.Prelude.{◌≡◌, ◌<◌, ◌+◌, ℕ, Err, MatchResult, OnErr, OnOk, [], length};
-ghost use Rattle.hd_rules.specs.Ask.{asks};
-ghost use Rattle.hd_rules.specs.Desk.{after};
+ghost use Rattle.std.specs.Prelude.{◌≡◌, ◌<◌, ℕ, Err, MatchResult, OnErr, OnOk, [], length};
 ghost use Rattle.hd_rules.specs.Known.{IsKnownAction};
-ghost use Rattle.hd_rules.specs.Record.{findings};
 ghost use Rattle.hd_rules.specs.Sound.{Sound};
 ghost use Rattle.hd_rules.specs.Step.{plan};
 ghost use Rattle.hd_meter.specs.Meter.{with_one_more};
 ghost use Rattle.hd_meter.specs.declared.count.Count.TheVariants.{Step};
-ghost use Rattle.hd_desk.specs.Accepting.{IsAccepted};
+ghost use Rattle.hd_desk.specs.Accepting.{IsAccepted, IsDoneBy};
 ghost use Rattle.hd_desk.specs.Asking.{ending_of, told_with};
-ghost use Rattle.hd_inverse.specs.Cells.{CanBeUndone};
 ghost use Rattle.hd_inverse.specs.Work.{after_writes};
-ghost use Rattle.hd_desk.specs.Cells.{IsShortOfRoom};
 ghost use Rattle.hd_desk.specs.Desks.{contents, desk_of, facts, outcome_at};
 ghost use Rattle.hd_desk.specs.Telling.{IsItsOutcome};
 
@@ -48,21 +43,14 @@ impl<A: Allocator + Copy> Desk<A> {
     ) -> Result<Reply, Refused>
         requires known { IsKnownAction (facts self.old) command.now.action }
         requires sound { Sound (facts self.old) number (desk_of self.old) }
-        ensures outcome { IsItsOutcome (outcome_at self.old number command.now) done.new result }
-        ensures findings { OnOk result (done.new.findings
-            ≡ findings (facts self.old) (desk_of self.old)
-            (asks (facts self.old) (desk_of self.old) (plan (facts self.old) number command.now))) }
-        ensures after { OnOk result (desk_of self.new ≡ after done.new.changes (desk_of self.old)) }
-        ensures full { IsShortOfRoom self.old (outcome_at self.old number command.now) result }
-        ensures back { OnOk result (CanBeUndone (facts self.new) (desk_of self.old)
-            (desk_of self.new) done.new.changes) }
+        ensures outcome { IsItsOutcome self.old (outcome_at self.old number command.now) done.new result }
+        ensures did { OnOk result (IsDoneBy self.old self.new number command.now done.new) }
         ensures unchanged { OnErr result (desk_of self.new ≡ desk_of self.old) }
         ensures contents { contents self.new ≡ contents self.old }
-        ensures sound { Sound (facts self.new) (number + 1) (desk_of self.new) }
-        ensures later { (n : ℕ) → number < n → Sound (facts self.new) n (desk_of self.new) }
-        ensures step { OnErr result (meter.new ≡ with_one_more meter.old Step) }
-        ensures written { OnOk result (meter.new
-            ≡ after_writes (length done.new.changes) (with_one_more meter.old Step)) }
+        ensures sound { (n : ℕ) → number < n → Sound (facts self.new) n (desk_of self.new) }
+        ensures counted { MatchResult result
+            (λ _. meter.new ≡ after_writes (length done.new.changes) (with_one_more meter.old Step))
+            (λ _. meter.new ≡ with_one_more meter.old Step) }
     {
         meter.add(Count::Step);
         let reply = match self.decide(number, command, done) {

@@ -61,8 +61,8 @@ impl<A: Allocator + Copy> Desk<A> {
     /// given or any above it.
     ///
     /// # Errors
-    /// `Row` for the first row that may not stand behind those before it, and why; `Memory`. Without rows it
-    /// can only be `Memory`.
+    /// `Row` for the first row that is refused after those before it, and why; `Memory`. Without rows it can
+    /// only be `Memory`.
     pub fn open(alloc: A, catalogue: Arc<Catalogue<A>, A>) -> Result<Desk<A>, OpenFault>
         ensures contents { IfOk result (λ desk. contents desk ≡ arc_value catalogue) }
         ensures opening { IfOk result (λ desk. desk_of desk ≡ (facts_of (arc_value catalogue)).opening.desk) }
@@ -96,8 +96,8 @@ impl<A: Allocator + Copy> Desk<A> {
         self.copies.catalogue()
     }
 
-    /// Where the copy is. The desk is fit: each hold stands under its own patron, no two holds of a title
-    /// have one stamp, and no two copies have one place.
+    /// Where the copy is. The desk is fit: each hold is kept under its own patron, no two holds of a title
+    /// have the same stamp, and no two copies have the same place.
     pub fn copy(&self, copy: CopyNo) -> CopyState
         requires { copy < (facts self.now).copies }
         ensures state { result ≡ (desk_of self.now).copy copy }

@@ -6,8 +6,8 @@ use hd_rules::{Change, Finding};
 use std::alloc::Global;
 use std::marker::Model;
 
-/// What an accepted command did, and what it asked. It stands where the desk's caller wants it, so that the
-/// next command is written into the same memory.
+/// What an accepted command did, and what it asked. The desk's caller keeps it, so that the next command is
+/// written into the same memory.
 #[derive(Drop, Debug)]
 pub struct Done {
     pub(crate) changes: Footprint,

@@ -61,7 +61,7 @@ impl<A: Allocator + Copy> Desk<A> {
         u64::from(catalogue.last_before()) + catalogue.command_limit()
     }
 
-    /// The day on which a loan of the copy from this day is due, or `None` where that lies after 9999-12-31.
+    /// The day on which a loan of the copy from this day is due, or `None` where that is after 9999-12-31.
     pub(crate) fn due_day(&self, copy: CopyNo, day: Day) -> Option<Day>
         requires { copy < (facts self.now).copies }
         ensures { IsDue (facts self.now) copy day result }

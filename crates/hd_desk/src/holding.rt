@@ -194,7 +194,7 @@ impl<'a, A: Allocator + Copy> Inquiry<'a, A> {
     }
 }
 
-/// The reply that tells a hold.
+/// The reply that reports a hold.
 fn hold_reply(title: TitleNo, available: bool, position: u64, hold: &Hold) -> Reply
     ensures { result ≡ Held title available position hold.now }
 {

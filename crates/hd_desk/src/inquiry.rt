@@ -175,7 +175,7 @@ impl<'a, A: Allocator + Copy> Inquiry<'a, A> {
         position
     }
 
-    /// Does some copy of the title that such a hold admits stand on an open shelf?
+    /// Whether some copy of the title that such a hold admits is on an open shelf.
     pub(crate) fn on_shelf(&mut self, title: TitleNo, kind: &HoldKind, pickup: BranchNo) -> bool
         requires title { title < (facts self.old.desk).titles }
         requires few { length self.old.asked < 4 }

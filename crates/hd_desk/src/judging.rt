@@ -1,4 +1,4 @@
-//! Whether a row of an opening may stand.
+//! Whether a row of an opening is allowed.
 #![tactic(auto, unfolding(crate::specs::Desks::desk_of))]
 
 ghost use Rattle.std.specs.Prelude.{◌≡◌, ◌<◌, ◌↔◌, IfErr, IfOk, IsTrue, OnOk, Some};
@@ -15,10 +15,10 @@ use hd_rules::{CopyNo, CopyState, Hold, OpeningRow, PatronNo};
 use std::alloc::Allocator;
 
 impl<A: Allocator + Copy> Desk<A> {
-    /// Whether the row may stand here, and else why not. It takes no memory.
+    /// Whether the row is allowed here, and why not otherwise. It takes no memory.
     ///
     /// # Errors
-    /// `NoHold` where the copy is for a patron without a hold of its title, and else `Twice`.
+    /// `NoHold` where the copy is for a patron without a hold of its title, and otherwise `Twice`.
     pub(crate) fn judge(&self, row: &OpeningRow) -> Result<(), RowFault>
         requires known { IsKnownRow (facts self.now) row.now }
         requires bounds { IsInBounds (first_number (facts self.now)) row.now }
@@ -79,7 +79,7 @@ impl<A: Allocator + Copy> Desk<A> {
     /// The patron's hold of the copy's title, where the copy may be for it.
     ///
     /// # Errors
-    /// `NoHold` where there is none, and else `Twice`.
+    /// `NoHold` where there is none, and otherwise `Twice`.
     fn judge_pair(&self, copy: CopyNo, patron: PatronNo) -> Result<Hold, RowFault>
         requires { copy < (facts self.now).copies }
         ensures ok { IfOk result (IsPair (facts self.now) (desk_of self.now) copy patron) }

@@ -26,7 +26,7 @@ impl<A: Allocator + Copy> Desk<A> {
     /// bounds, and the desk is sound.
     ///
     /// # Errors
-    /// `Row` for the first row that may not stand behind those before it, and why; `Memory`.
+    /// `Row` for the first row that is refused after those before it, and why; `Memory`.
     pub(crate) fn put_rows(&mut self, rows: &[OpeningRow]) -> Result<(), OpenFault>
         requires known { All (IsKnownRow (facts self.old)) rows.now }
         requires bounds { All (IsInBounds (first_number (facts self.old))) rows.now }
@@ -45,7 +45,7 @@ impl<A: Allocator + Copy> Desk<A> {
         Ok(())
     }
 
-    /// Puts what a row says that may stand.
+    /// Puts what an allowed row says into the desk.
     fn put_row(&mut self, row: &OpeningRow) -> Result<(), AllocError>
         requires known { IsKnownRow (facts self.old) row.now }
         requires bounds { IsInBounds (first_number (facts self.old)) row.now }

@@ -1,9 +1,9 @@
-//! The columns of lines: what stands in a value.
+//! The columns of lines: what a value is.
 
 use hd_catalogue::{is_letter, is_name, number};
 use hd_rules::{MOST_LOAN_DAYS, MOST_LOANS, MOST_RENEWALS};
 
-/// What stands in a value of a line.
+/// What a value of a line is.
 #[derive(Clone, Copy, PartialEq, Eq, Debug)]
 pub(crate) enum Column {
     Institution,
@@ -43,7 +43,7 @@ impl Column {
         }
     }
 
-    /// What a number in it may be; nothing where no number stands in it.
+    /// What a number in it may be; nothing where it isn't for a number.
     pub(crate) fn range(self) -> Option<&'static str> {
         match self {
             Column::Offset => Some("-1439 to 1439"),

@@ -1,4 +1,4 @@
-//! Tells the faults of a file.
+//! Reports the faults of a file.
 ghost use Rattle.std.specs.Prelude.{◌≡◌, ◌==◌, ◌&&◌, ◌+◌, ◌≤◌, [], ◌∷◌, ◌++◌, IfOk, OnOk, if◌then◌else◌};
 ghost use Rattle.std.specs.Prelude.{length, map, not, option_map, option_to_list};
 ghost use Rattle.hd_catalogue.specs.Files.{lines_of};
@@ -13,13 +13,13 @@ use crate::words::words_of;
 use hd_catalogue::{CatFault, Catalogue, Cause, first_line};
 use std::alloc::{AllocError, Global};
 
-/// How many faults, and how many warnings, are told at once.
+/// The most faults, and the most warnings, that are reported at once.
 pub const MOST_TOLD: usize = 20;
 
-/// Tells what is wrong with a catalogue file: nothing where `Catalogue::read` accepts it, and else first the
-/// fault that it gives, and then those of the lines behind, up to [`MOST_TOLD`] in all. A fault of a line is
-/// told after what the lines before it define, whatever else is wrong with these. Where the first line is
-/// none at all, it alone is told.
+/// Reports what is wrong with a catalogue file: nothing where `Catalogue::read` accepts it, and else first
+/// the fault that it gives, and then those of the lines after it, up to [`MOST_TOLD`] in all. Each line is
+/// judged by what the lines before it define, whatever else is wrong with these. Where the first line is no
+/// first line at all, only its fault is reported.
 ///
 /// # Errors
 /// Out of memory.
@@ -56,14 +56,14 @@ pub fn diagnose(alloc: Global, bytes: &[u8]) -> Result<Vec<Fault>, AllocError>
     Ok(told)
 }
 
-/// Whether the first fault is told alone: that the first line is none.
+/// Whether only the first fault is reported: that the first line is none.
 fn is_alone(refused: CatFault, first: &[u8]) -> bool
     ensures { result ≡ ((refused.line == 1) && not (is_headed first.now)) }
 {
     refused.line == 1 && !is_headed(first)
 }
 
-/// Puts a fault behind those that are told, if there is one.
+/// Appends a fault to those that are reported, if there is one.
 ///
 /// # Errors
 /// Out of memory.
@@ -94,7 +94,7 @@ fn fault_of_heading(alloc: Global, refused: CatFault, line: &[u8]) -> Result<Vec
     Ok(told)
 }
 
-/// The fault of a line behind the first, if it has one, where this is the first fault of the file.
+/// The fault of a line after the first, if it has one, where this is the first fault of the file.
 ///
 /// # Errors
 /// Out of memory.
@@ -119,7 +119,7 @@ fn fault_of(
     Ok(Some(Fault::new(alloc, at, words.as_str())?))
 }
 
-/// Why a line behind the first is at fault: before the file's first fault none is.
+/// Why a line after the first is at fault: before the file's first fault none is.
 fn cause_at(refused: CatFault, known: &Known, number: usize, line: &[u8]) -> Option<Cause>
     ensures { result ≡ cause_at refused known.now number line.now }
 {

@@ -6,7 +6,7 @@ use crate::printable::printable;
 use hd_catalogue::CatFault;
 use std::alloc::{AllocError, Global};
 
-/// A fault of a catalogue file, as staff are told it.
+/// A fault of a catalogue file, as it is reported to staff.
 #[derive(Debug, Drop)]
 pub struct Fault {
     /// The line and the cause.

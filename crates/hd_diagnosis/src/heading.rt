@@ -32,7 +32,7 @@ pub(crate) fn without_mark(line: &[u8]) -> &[u8]
     }
 }
 
-/// Whether this is a first line at all, so that the lines behind it can be judged.
+/// Whether this is a first line at all, so that the lines after it can be judged.
 pub(crate) fn is_headed(line: &[u8]) -> bool
     ensures { result ≡ is_headed line.now }
 {

@@ -1,4 +1,4 @@
-//! The kinds of lines behind the first.
+//! The kinds of lines after the first.
 
 use crate::column::Column;
 use hd_catalogue::is_letter;
@@ -59,7 +59,7 @@ impl Kind {
         }
     }
 
-    /// The columns behind the letter.
+    /// The columns after the letter.
     pub(crate) fn columns(self, has_priorities: bool) -> &'static [Column] {
         match self {
             Kind::Branch => &[Column::Branch],

@@ -1,12 +1,12 @@
 //! What is wrong with a catalogue file, fault by fault, so that staff can mend it.
 //!
-//! [`diagnose`] tells up to [`MOST_TOLD`] faults of a file at once: the first is the line and the cause that
-//! `Catalogue::read` gives, and the others are those of the lines behind it, each after what the lines before
-//! it define, whatever else is wrong with these. So a line that is refused isn't told again at each line that
-//! names what it defines. Each fault has words for people: which value it is, by its number and by the name
-//! of its column, what is wrong with it, and a name that is nearly the one that isn't known.
+//! [`diagnose`] reports up to [`MOST_TOLD`] faults of a file at once. The first is the line and the cause
+//! that `Catalogue::read` gives. The others are those of the lines after it: each is judged by what the lines
+//! before it define, whatever else is wrong with these. So a line that is refused isn't reported again at
+//! each line that names what it defines. Each fault has words for people: which value it is, by its number
+//! and by the name of its column, what is wrong with it, and a name that is nearly the one that isn't known.
 //!
-//! [`warn`] tells what is odd about the values of a file that is accepted.
+//! [`warn`] reports what is odd about the values of a file that is accepted.
 #![tactic(auto)]
 
 mod causes;

@@ -79,7 +79,7 @@ fn edits_to(alloc: Global, name: &str, other: &[u8]) -> Result<Option<usize>, Al
     Ok(if edits <= most { Some(edits) } else { None })
 }
 
-/// How many edits may be a slip, in a name of so many bytes.
+/// The most edits that may be a slip, in a name of `length` bytes.
 fn most_edits(length: usize) -> usize {
     match length {
         0..3 => 0,

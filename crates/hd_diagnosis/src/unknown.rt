@@ -14,7 +14,7 @@ use std::alloc::{AllocError, Global};
 pub(crate) struct Behind<'a> {
     /// The number of the line.
     pub(crate) line: usize,
-    /// The text behind it.
+    /// The text after it.
     pub(crate) text: &'a [u8],
 }
 
@@ -78,7 +78,7 @@ fn unknown_of<'a>(kind: Kind, known: &Known, line: &'a [u8]) -> Naming<'a> {
     }
 }
 
-/// The first line behind a line that defines a name of a kind.
+/// The first line after a line that defines a name of a kind.
 fn line_of_definer(kind: Kind, name: &[u8], behind: Behind<'_>) -> Option<usize> {
     let mut text = behind.text;
     let mut number = behind.line;

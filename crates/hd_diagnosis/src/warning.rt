@@ -20,8 +20,8 @@ pub struct Warning {
     ghost one_line: { is_line (string_bytes words) ≡ true },
 }
 
-/// What is odd about the values of a file: that they stand in quotes, have blanks before or behind them, or
-/// aren't UTF-8. The first [`MOST_TOLD`] lines with such a value are told, each once.
+/// What is odd about the values of a file: that they are in quotes, have blanks before or after them, or
+/// aren't UTF-8. The first [`MOST_TOLD`] lines with such a value are reported, each once.
 ///
 /// # Errors
 /// Out of memory.
@@ -99,7 +99,7 @@ fn is_text(value: &[u8]) -> bool
     }
 }
 
-/// Whether a value stands in quotes.
+/// Whether a value is in quotes.
 fn is_quoted(value: &[u8]) -> bool
     ensures { result ≡ is_quoted value.now }
 {

@@ -1,4 +1,4 @@
-//! The words of faults behind the first line.
+//! The words of faults after the first line.
 
 use crate::column::Column;
 use crate::kind::Kind;
@@ -9,7 +9,7 @@ use crate::values::{count_of_values, value_at};
 use hd_catalogue::{Cause, is_long, is_name};
 use std::alloc::{AllocError, Global};
 
-/// The words of a fault of a line behind the first, where these names are defined before it.
+/// The words of a fault of a line after the first, where these names are defined before it.
 pub(crate) fn words_of(
     alloc: Global,
     known: &Known,
@@ -153,7 +153,7 @@ fn hint_of_number(value: &[u8]) -> &'static str {
     }
 }
 
-/// What stands in a value that no name may have.
+/// What a value has that no name may have.
 fn hint_of_name(value: &[u8]) -> &'static str {
     if value.contains(&b'\t') {
         "a tab"

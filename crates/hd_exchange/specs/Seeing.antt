@@ -6,7 +6,7 @@ use Rattle.hd_exchange.specs.PatronInformation.{IsItemOf, items_seen, view_seen}
 use Rattle.hd_exchange.specs.declared.patron_message.PatronValues.{PatronValues}
 use Rattle.hd_exchange.specs.declared.patron_reader.PatronReader.{PatronReader}
 
--- A reader has taken down, of this journal's desk, how its patron stands and the items that are wanted.
+-- A reader has read, at this journal's desk, how much its patron has and the items that are wanted.
 pub record HasSeen (old : PatronReader) (book : Book) (new : PatronReader) : Type 0 where
   pub same : new.look ≡ old.look
   pub view : new.view ≡ Some (view_seen book.contents (state book).desk old.look)

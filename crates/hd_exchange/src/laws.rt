@@ -21,9 +21,9 @@ ghost use Rattle.hd_exchange.specs.declared.reply_kind.ReplyKind.{ReplyKind};
 use hd_date::{prints_show_their_stamp, texts_show_one_stamp};
 use hd_message::{patron_requests_are_readable, requests_are_readable};
 
-/// A body that comes alike asks the same of the office, however it is read: a turn by one message, or a look,
-/// or nothing. Where the turn or the journal shown is the same too, so that it is told the same, it has one
-/// answer: what is said, the text, and as whom its session is then logged in.
+/// A body that comes in the same way asks the same of the office: a turn by one message, or a look, or
+/// nothing. Where the turn, or the journal that the look reads, is the same too, the body has one answer: one
+/// kind of reply, one text, and one login after it.
 pub fn each_body_has_one_answer()
     ensures asks { (k : Contents) (e : Extensions) (seat : ℕ) (now : Stamp) (login : Option Login)
         (line : Option (List ℕ)) (body : List ℕ) (says says' : ReplyKind) (text text' : List ℕ)

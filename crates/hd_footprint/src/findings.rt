@@ -34,7 +34,7 @@ impl Findings {
         }
     }
 
-    /// Puts one more question with its noted answer behind the others.
+    /// Puts one more question with its noted answer after the others.
     pub fn push(&mut self, finding: Finding)
         requires { length self.old < 4 }
         ensures { self.new ≡ self.old ++ finding ∷ [] }

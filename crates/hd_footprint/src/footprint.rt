@@ -6,8 +6,8 @@ use smallvec::SmallVec;
 use std::alloc::Global;
 use std::marker::Model;
 
-/// The changes that one command makes, in order: at most four (docs/desk-rules.md). They are kept in the value
-/// itself, so that no call asks the allocator for memory.
+/// The changes that one command makes, in order: at most four (docs/desk-rules.md). They are kept in the
+/// value itself, so that no call asks the allocator for memory.
 #[derive(Drop, Debug)]
 pub struct Footprint {
     changes: SmallVec<Change, 4>,
@@ -41,7 +41,7 @@ impl Footprint {
         self.changes.clear();
     }
 
-    /// Puts one more change behind the others.
+    /// Puts one more change after the others.
     pub fn push(&mut self, change: Change)
         requires { length self.old < 4 }
         ensures { self.new ≡ self.old ++ change ∷ [] }

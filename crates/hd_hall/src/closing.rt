@@ -18,8 +18,8 @@ use hd_journal::{TurnRef, Turns};
 use std::alloc::Allocator;
 use std::sync::ledger::{Book, Share};
 
-/// The number of a turn of which no seat has the receipt. With `None` the turns are the receipts, and the rest
-/// has all parts of the ledger.
+/// The number of a turn of which no seat has the receipt. With `None` the turns are the receipts, and the
+/// rest has all parts of the ledger.
 pub(crate) fn differing<H: House, A: Allocator, T: Turns>(
     journal: &T,
     book: &mut Book<H>,
@@ -92,7 +92,7 @@ fn give_back<H: House, A: Allocator>(all: &mut Share<H>, seats: &mut [Seat<H, A>
     }
 }
 
-/// Whether the seats stand in the order of their numbers, and each receipt is of the journal's turn of its
+/// Whether the seats are in the order of their numbers, and each receipt is of the journal's turn of its
 /// number.
 fn are_there<H: House, A: Allocator, T: Turns>(journal: &T, seats: &[Seat<H, A>]) -> bool
     ensures { IsTrue result ↔ AreThere (T.turns journal.now) 0 seats.now }

@@ -131,7 +131,7 @@ impl<H: House, A: Allocator + Copy, Q: Drop, K: Turns + Drop> Hall<H, A, Q, K> {
     /// has opened: with their parts the ledger has all of its parts again, so no other seat has one. It takes
     /// no memory.
     ///
-    /// Each receipt is compared with the journal's turn of its number. Where the seats stand in the order of
+    /// Each receipt is compared with the journal's turn of its number. Where the seats are in the order of
     /// their numbers, this is all that is compared; else each turn's receipt is looked for.
     ///
     /// # Errors
@@ -168,7 +168,7 @@ impl<H: House, A: Allocator + Copy, Q: Drop, K: Keeper<A, Q> + Drop> Hall<H, A, 
     /// `Memory`, which the hall itself gives at a line and at each sixteenth receipt alone; `Estranged` where
     /// the journal lacks the seat's last turn, so never at a seat without receipts; and what the keeper
     /// gives, of which a journal alone gives `Memory` and nothing else. The seat is unchanged. So are the
-    /// journal's turns, as the keeper promises; no clause here can say so, since they lie under the lock.
+    /// journal's turns, as the keeper promises; no clause here can say so, since they are under the lock.
     pub fn submit<'l, R: Wait>(
         &self,
         rt: &R,

@@ -1,4 +1,4 @@
-//! What lies under the lock.
+//! What is under the lock.
 
 ghost use Rattle.std.specs.Prelude.{◌≡◌, ◌+◌, ◌<◌, ◌↔◌, [], None, Some, IsTrue, IsNone, IfOk, IfErr, IfSome};
 ghost use Rattle.std.specs.Prelude.{IfNone, OnOk, OnErr, OnSome, false, length, option_copied, option_map};
@@ -80,8 +80,8 @@ impl<H: House, A: Allocator, Q: Drop, K: Keeper<A, Q>> HallState<H, A, Q, K> {
     /// receipts.
     ///
     /// # Errors
-    /// `Estranged` where it lacks that receipt's turn, and else what its keeper gives, for the keeper's
-    /// cause. The turns and the share are unchanged.
+    /// `Estranged` where the journal lacks that receipt's turn; otherwise the fault that its keeper gives,
+    /// for the keeper's cause. The turns and the share are unchanged.
     pub(crate) fn submit(
         &mut self,
         receipts: &[StoredReceipt<A>],
@@ -119,7 +119,8 @@ impl<H: House, A: Allocator, Q: Drop, K: Keeper<A, Q>> HallState<H, A, Q, K> {
     /// Lends the journal to a reader, where it holds the last of these receipts.
     ///
     /// # Errors
-    /// `Estranged` where it lacks that receipt's turn, and else what `show` gives. The reader is as it was.
+    /// `Estranged` where the journal lacks that receipt's turn; otherwise the fault that `show` gives. The
+    /// reader is as it was.
     pub(crate) fn look<L: Look<A>>(
         &self,
         receipts: &[StoredReceipt<A>],
@@ -191,7 +192,7 @@ impl<H: House, A: Allocator, Q: Drop, K: Turns + Drop> HallState<H, A, Q, K> {
         ensures opening { IfOk result (λ closed. K.opening closed.keeper ≡ H.opening) }
         ensures in_order { OnOk result (EachSeat seats.items IsWhole) }
         ensures missing { IfErr result (λ why. Misses H.opening why seats.items) }
-        // it is told that one is missing where one is, and how many were opened
+        // a missing seat is reported where one is missing, with how many were opened
         ensures opened { IfErr result (λ why. CountsOpened self.tickets.given why seats.items) }
     {
         let opened = self.tickets.given;
@@ -247,7 +248,7 @@ fn last_of<A: Allocator>(receipts: &[StoredReceipt<A>]) -> Option<&StoredReceipt
     receipts.last()
 }
 
-/// Whether the receipt's turn stands in the journal, at its number.
+/// Whether the receipt's turn is in the journal, at its number.
 pub(crate) fn stands<A: Allocator, T: Turns>(journal: &T, receipt: &StoredReceipt<A>) -> bool
     ensures { IsTrue result ↔ StandsAt (T.turns journal.now) receipt.now }
 {

@@ -1,4 +1,4 @@
-//! One journal behind one lock, for many threads: seats, their receipts, and a ledger that counts them.
+//! One journal under one lock, for many threads: seats, their receipts, and a ledger that counts them.
 #![tactic(auto)]
 
 mod closing;

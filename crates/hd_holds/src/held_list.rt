@@ -87,7 +87,7 @@ impl<A: Allocator> HeldList<A> {
     }
 }
 
-/// How many of a list stand before one.
+/// How many of a list are before one.
 fn number_before(titles: &[HeldTitle], held: &HeldTitle) -> usize
     requires { IsRising titles.now }
     ensures within { result ≤ length titles.now }
@@ -97,7 +97,7 @@ fn number_before(titles: &[HeldTitle], held: &HeldTitle) -> usize
     titles.partition_point(|other| other.is_before(held))
 }
 
-/// Whether one stands in a list at the place behind those before it.
+/// Whether one is in a list at the place right after those before it.
 fn stands_at(titles: &[HeldTitle], at: usize, held: &HeldTitle) -> bool
     requires rising { IsRising titles.now }
     requires before { AllByRecursion (λ x. is_before x held.now ≡ true) (take at titles.now) }

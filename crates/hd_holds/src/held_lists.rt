@@ -16,7 +16,7 @@ use std::marker::Model;
 /// How many lists the patrons share, at most.
 const MOST_LISTS: usize = 1024;
 
-/// How much room is made at a time, so that few calls of `ready` go over the lists.
+/// How much room is made at a time, so that few calls of `ready` walk the lists.
 const ROOM: usize = 64;
 
 /// The titles of which each patron has a hold. Patrons whose numbers leave the same remainder share a list.
@@ -142,7 +142,7 @@ impl<A: Allocator> HeldLists<A> {
         self.lists[self.list_number(patron)].of(patron)
     }
 
-    /// The number of the list in which a patron's stand.
+    /// The number of the list in which a patron's titles are.
     fn list_number(&self, patron: PatronNo) -> usize
         ensures number { result ≡ patron % length self.now.lists }
         ensures within { result < length self.now.lists }

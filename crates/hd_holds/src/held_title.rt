@@ -27,7 +27,7 @@ impl HeldTitle {
         }
     }
 
-    /// Whether it stands before the other: the lower patron does, then the lower stamp, then the lower title.
+    /// Whether it is before the other: the lower patron is, then the lower stamp, then the lower title.
     pub(crate) fn is_before(&self, other: &HeldTitle) -> bool
         ensures { result ≡ is_before self.now other.now }
     {

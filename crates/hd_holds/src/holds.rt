@@ -36,7 +36,7 @@ pub struct Holds<A: Allocator = Global> {
     catalogue: Arc<Catalogue<A>, A>,
     /// The place of each title's queue among the queues, by the title's number, or 0 where it has none.
     places: Vec<u32, A>,
-    /// First a queue without holds, which stands for those that aren't there, and then the titles' own.
+    /// First a queue without holds, which is used for titles that have no queue, and then the titles' own.
     queues: Vec<Queue<A>, A>,
     /// The titles of which each patron has a hold.
     held: HeldLists<A>,
@@ -79,7 +79,7 @@ impl<A: Allocator + Copy> Holds<A> {
 
     /// The patron's hold of the title, or `None` where there is none.
     ///
-    /// Holds stand under their own patrons, and no two of a title have one stamp.
+    /// Each hold is kept under its own patron, and no two holds of a title have the same stamp.
     pub fn get(&self, title: TitleNo, patron: PatronNo) -> Option<Hold>
         requires { title < (facts self.now).titles }
         ensures held { result ≡ patron_hold self.now title patron }
@@ -226,7 +226,7 @@ impl<A: Allocator + Copy> Holds<A> {
     }
 }
 
-/// Puts a queue without holds, with room for that many, behind the others, at the place of this title.
+/// Puts a queue without holds, with room for that many, after the others, at the place of this title.
 ///
 /// Out of memory, it changes nothing.
 fn add_queue<A: Allocator + Copy>(

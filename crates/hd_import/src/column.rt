@@ -21,7 +21,7 @@ pub enum Sheet {
     Copies,
 }
 
-/// A column of a sheet, by what stands in it.
+/// A column of a sheet, by what is in it.
 #[derive(Clone, Copy, PartialEq, Eq, Debug)]
 pub enum Column {
     /// A branch's name.
@@ -100,7 +100,7 @@ impl Sheet {
 }
 
 impl Column {
-    /// What stands above the column.
+    /// The heading of the column.
     pub fn heading(self) -> &'static str
         ensures { result.now ≡ heading_of self }
     {

@@ -12,7 +12,7 @@ pub struct Place<'a> {
     pub path: &'a str,
     /// The line of the file in which the row begins, from 1.
     pub line: usize,
-    /// How many rows stand before it, the headings and rows without a value not counted.
+    /// How many rows are before it, the headings and rows without a value not counted.
     pub row: usize,
 }
 
@@ -27,7 +27,7 @@ pub enum Fault<'a> {
         line: usize,
     },
     /// A quote isn't closed: the one in this line. The file ends within a value in quotes, or such a value,
-    /// which has the end of a line, goes on behind them. Rows would be lost in it.
+    /// which has the end of a line, goes on after its quotes. Rows would be lost in it.
     OpenQuote {
         path: &'a str,
         line: usize,
@@ -49,7 +49,7 @@ pub enum Fault<'a> {
         column: Column,
         value: String,
     },
-    /// What a row names doesn't stand in the sheet that has its kind.
+    /// What a row names isn't in the sheet that has its kind.
     Unknown {
         place: Place<'a>,
         column: Column,

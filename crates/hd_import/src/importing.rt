@@ -92,7 +92,7 @@ fn lines_of_sheets<'a>(
     Ok(Lines { text, counts })
 }
 
-/// Appends the lines of a sheet, and tells how many rows it has.
+/// Appends the lines of a sheet, and returns how many rows it has.
 fn put_sheet<'a>(
     alloc: Global,
     out: &mut String,
@@ -129,7 +129,7 @@ fn put_sheet<'a>(
     }
 }
 
-/// The fault of a file whose rows can't be had.
+/// The fault of a file whose rows can't be read.
 pub(crate) fn fault_of_file(format: Format, file: Source<'_>, fault: RowsFault) -> Fault<'_>
     ensures { (settings : Settings) (sheet : Sheet)
         → IsRowsFault format file.entry.bytes.now fault

@@ -11,9 +11,9 @@
 //! | titles | `title`, `loan days`, `renewals`, `priority` |
 //! | copies | `copy`, `title`, `branch` |
 //!
-//! Values may stand in quotes, lines may end in CR LF, and a mark of the encoding at the start is passed
-//! over. The separator is told, or found in the first line: a tab, else a semicolon, else a comma. The text
-//! is UTF-8, or Latin-1 where that is told. Blanks around a value are dropped, and rows without a value. A
+//! Values may be in quotes, lines may end in CR LF, and a mark of the encoding at the start is passed over.
+//! The separator is given, or found in the first line: a tab, else a semicolon, else a comma. The text is
+//! UTF-8, or Latin-1 where that is given. Blanks around a value are dropped, and rows without a value. A
 //! number that a row lacks is that of the settings, and a priority that it lacks is `N`.
 //!
 //! [`import`] gives the text and the catalogue that it was read back as, or the first fault, by file, line

@@ -7,21 +7,21 @@ ghost use Rattle.csv.specs.declared.parser.Terminator.TheVariants as terminator;
 ghost use Rattle.hd_import.specs.Quotes.{IsReading, goes_on, has_line_end, is_open_text, is_within};
 ghost use Rattle.hd_import.specs.Rows.{rules_with};
 
-/// Where a text stands, by the rules of CSV.
+/// Where in a text its reader is, by the rules of CSV.
 #[derive(Clone, Copy, PartialEq, Eq, Debug)]
 pub(crate) enum Reading {
     /// Before a value.
     Before,
-    /// In a value without quotes, or in what stands behind the quotes of one.
+    /// In a value without quotes, or in what follows the quotes of one.
     Plain,
     /// Between the quotes of a value, which has the end of a line by now or hasn't.
     Within { has_line_end: bool },
-    /// Behind the second quote of a value, or the first one of two that stand for one in it.
+    /// After the second quote of a value, or the first one of two that stand for one in it.
     Behind { has_line_end: bool },
 }
 
 impl Reading {
-    /// Where the text stands one byte later.
+    /// Where the reader is one byte later.
     fn after(self, separator: u8, byte: u8) -> Reading
         ensures { (at : State) (over : Bool) → IsReading self at over
             → IsReading result (step (rules_with separator) at byte).0
@@ -41,8 +41,7 @@ impl Reading {
         }
     }
 
-    /// Whether the next byte goes on with a value behind its quotes, though these have the end of a line
-    /// between them.
+    /// Whether the next byte continues a value after its quotes, though the end of a line is between these.
     fn goes_on(self, next: Reading) -> bool
         ensures { (at later : State) (over then : Bool) → IsReading self at over → IsReading next later then
             → result ≡ goes_on over at later }
@@ -53,7 +52,7 @@ impl Reading {
         }
     }
 
-    /// Whether the text stands between the quotes of a value.
+    /// Whether the reader is between the quotes of a value.
     fn is_within(self) -> bool
         ensures { (at : State) (over : Bool) → IsReading self at over → result ≡ is_within at }
     {

@@ -15,12 +15,12 @@ use csv::{ReaderBuilder, StringRecord};
 use hd_catalogue::first_line;
 use std::alloc::{AllocError, Global};
 
-/// Why the rows of a sheet can't be had.
+/// Why the rows of a sheet can't be read.
 #[derive(Clone, Copy, PartialEq, Eq, Debug)]
 pub(crate) enum RowsFault {
-    /// The file isn't UTF-8: so many of its bytes are, and the next ones aren't.
+    /// The file isn't UTF-8: this many bytes at its start are, and the next ones aren't.
     NotUtf8(usize),
-    /// A quote isn't closed, which stands in this place of the file's text.
+    /// The quote at this place of the file's text isn't closed.
     OpenQuote(usize),
     /// Out of memory.
     Memory,
@@ -66,7 +66,7 @@ pub(crate) fn text_of_latin1(alloc: Global, bytes: &[u8]) -> Result<String, Allo
     Ok(text)
 }
 
-/// The byte between two values: the one that is told, else the one that the first line of the text shows.
+/// The byte between two values: the one that is given, else the one that the first line of the text shows.
 pub(crate) fn separator_of(told: Option<u8>, text: &[u8]) -> u8
     ensures { result ≡ separator_of told text.now }
 {
@@ -140,7 +140,7 @@ fn rows_of_text(alloc: Global, separator: u8, text: &[u8]) -> Result<Vec<StringR
     Ok(rows)
 }
 
-/// Appends a row, if something stands in it.
+/// Appends a row, if one of its values isn't empty.
 fn push_filled(rows: &mut Vec<StringRecord>, row: StringRecord) -> Result<(), AllocError>
     ensures { OnOk result (map fields_of rows.new.items
         ≡ map fields_of rows.old.items ++ filter has_value (fields_of row ∷ [])) }
@@ -151,7 +151,7 @@ fn push_filled(rows: &mut Vec<StringRecord>, row: StringRecord) -> Result<(), Al
     Ok(())
 }
 
-/// Whether something stands in a row.
+/// Whether one of a row's values isn't empty.
 fn has_value(row: &StringRecord) -> bool
     ensures { result ≡ has_value (fields_of row.now) }
 {

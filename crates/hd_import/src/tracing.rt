@@ -17,7 +17,7 @@ use csv::StringRecord;
 use hd_catalogue::{CatFault, Cause};
 use std::alloc::Global;
 
-/// The fault of the row whose line a catalogue refuses, where the sheets have so many rows each.
+/// The fault of the row whose line a catalogue refuses. `counts` says how many rows each sheet has.
 pub(crate) fn trace<'a>(
     alloc: Global,
     format: Format,
@@ -54,8 +54,8 @@ pub(crate) fn trace<'a>(
     fault_at(alloc, format, sources, place, headings, values, fault)
 }
 
-/// The sheet and the row, from 0, whose line this is, where the sheets have so many rows each. The first line
-/// is of none.
+/// The sheet and the row, from 0, whose line this is. `counts` says how many rows each sheet has. The first
+/// line is of none.
 fn row_of_line(counts: &[usize], line: usize) -> Option<(Sheet, usize)>
     ensures found { IfSome result (λ found. IsLineOfRow counts.now found.0 found.1 line) }
     ensures none { IfNone result (IsLineOfNoRow counts.now line) }
@@ -183,7 +183,7 @@ fn byte_of_text(format: Format, bytes: &[u8], place: usize) -> usize {
     }
 }
 
-/// The byte of a file in Latin-1 that stands where so many bytes of its text in UTF-8 end.
+/// The place in a file in Latin-1 at which the first `text` bytes of its text in UTF-8 end.
 fn byte_of_latin1(bytes: &[u8], text: usize) -> usize {
     let mut left = text;
     for place in 0..bytes.len() {
@@ -205,7 +205,7 @@ fn first_byte(bytes: &[u8], start: usize) -> usize {
     start
 }
 
-/// The line of a file in which a byte stands, from 1.
+/// The line of a file in which a byte is, from 1.
 pub(crate) fn line_of_byte(bytes: &[u8], at: usize) -> usize {
     let mut line = 1usize;
     for place in 0..bytes.len() {

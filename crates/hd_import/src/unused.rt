@@ -23,7 +23,7 @@ use std::alloc::{AllocError, Global};
 /// order: those that name no column of the sheet, and those that name one for a second time.
 ///
 /// # Errors
-/// The file's rows can't be had; `import` tells the same of it.
+/// The file's rows can't be read; `import` reports the same of it.
 pub fn unused_headings<'a>(
     alloc: Global,
     format: Format,
@@ -83,7 +83,7 @@ fn push_unused(
     Ok(())
 }
 
-/// Whether something stands above a place, and no column of the sheet is taken from it.
+/// Whether the heading at a place isn't empty, and no column of the sheet is taken from there.
 fn is_unused(sheet: Sheet, headings: &StringRecord, place: usize) -> bool
     ensures { result ≡ is_unused sheet (fields_of headings.now) place }
 {

@@ -1,4 +1,4 @@
-//! What stands in a row, by the names of the columns.
+//! What is in a row, by the names of the columns.
 ghost use Rattle.std.specs.Prelude.{◌≡◌, IfErr, OnOk};
 ghost use Rattle.csv.specs.Records.{fields_of};
 ghost use Rattle.hd_import.specs.Values.{IsHeaded, given, is_heading, is_missing, otherwise, place_of};

@@ -96,7 +96,7 @@ fn put_row(
     Ok(())
 }
 
-/// Appends what a row says in a column, behind a bar.
+/// Appends what a row says in a column, after a bar.
 fn put_value(
     out: &mut String,
     settings: &Settings<'_>,

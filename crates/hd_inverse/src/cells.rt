@@ -30,10 +30,10 @@ pub trait Cells {
         ensures value { result ≡ value_in (desk self.now) cell }
         ensures known { MayHave (facts_of (contents self.now)) cell result };
 
-    /// Makes room for putting each change's old or new value once.
+    /// Makes room for putting each change's old or new value once. It changes no cell, and gives no room up.
     ///
-    /// Answers `AllocError` where there is no memory for it, which it never does where there is such room. No
-    /// cell is changed by it, and no room is given up.
+    /// # Errors
+    /// Out of memory. Where there is such room already, it succeeds.
     fn ready(&mut self, changes: &[Change]) -> Result<(), AllocError>
         requires { AreKnownChanges (facts_of (contents self.old)) changes.now }
         ensures desk { desk self.new ≡ desk self.old }

@@ -1,5 +1,5 @@
 //! Taking changes back.
-ghost use Rattle.std.specs.Prelude.{◌≡◌, OnErr, OnOk, length};
+ghost use Rattle.std.specs.Prelude.{◌≡◌, MatchResult, OnErr, length};
 ghost use Rattle.hd_rules.specs.Desk.{take_back};
 ghost use Rattle.hd_rules.specs.Sound.{EachBackIsFit};
 ghost use Rattle.hd_catalogue.specs.Contents.{facts_of};
@@ -24,12 +24,12 @@ pub fn undo<C: Cells>(
     requires known { AreKnownChanges (facts_of (C.contents cells.old)) changes.now }
     requires apart { AreApart changes.now }
     requires fit { EachBackIsFit (facts_of (C.contents cells.old)) changes.now (C.desk cells.old) }
-    ensures ok { OnOk result (C.desk cells.new ≡ take_back changes.now (C.desk cells.old)) }
-    ensures err { OnErr result (C.desk cells.new ≡ C.desk cells.old) }
+    ensures desk { MatchResult result (λ _. C.desk cells.new ≡ take_back changes.now (C.desk cells.old))
+        (λ _. C.desk cells.new ≡ C.desk cells.old) }
     ensures full { OnErr result (HaveRoom (C.has_room cells.old) (length changes.now) changes.now → ⊥) }
     ensures contents { C.contents cells.new ≡ C.contents cells.old }
-    ensures counted { OnOk result (meter.new ≡ after_writes (length changes.now) meter.old) }
-    ensures uncounted { OnErr result (meter.new ≡ meter.old) }
+    ensures counted { MatchResult result (λ _. meter.new ≡ after_writes (length changes.now) meter.old)
+        (λ _. meter.new ≡ meter.old) }
 {
     cells.ready(changes)?;
     put_back(cells, changes, meter);

@@ -6,8 +6,8 @@ ghost use Rattle.hd_catalogue.specs.Contents.{facts_of};
 use hd_catalogue::{Catalogue, CopyNo, OpeningRow};
 use std::alloc::{AllocError, Allocator};
 
-/// The rows of an opening, and behind them a row for each copy of a catalogue from a number on, which is on its
-/// way to its home, for nobody.
+/// The rows of an opening, and after them a row for each copy of a catalogue from a number on, which is on
+/// its way to its home, for nobody.
 ///
 /// # Errors
 /// Out of memory.

@@ -42,8 +42,8 @@ fn lacks_name<A: Allocator + Copy>(old: &Catalogue<A>, kind: &[u8], name: &[u8])
     }
 }
 
-/// Whether a catalogue has no terminal with a name. There are few, and they are looked up by name and password
-/// alone, so each is compared.
+/// Whether a catalogue has no terminal with a name. There are few, and they are looked up by name and
+/// password alone, so each is compared.
 fn lacks_terminal<A: Allocator + Copy>(old: &Catalogue<A>, name: &[u8]) -> bool
     ensures { result ≡ is_none (number_of old.now.terminals name.now) }
 {

@@ -1,5 +1,5 @@
-//! Names that join a library: which lines of a whole catalogue file these are, and the catalogue that has grown
-//! by them.
+//! Names that join a library: which lines of a whole catalogue file these are, and the catalogue that has
+//! grown by them.
 #![tactic(auto)]
 
 mod arriving;

@@ -13,8 +13,8 @@ fn is_ended(file: &[u8]) -> bool
     !file.is_empty() && file[file.len() - 1] == b'\n'
 }
 
-/// The text of a catalogue file with lines behind its own, which joined it. Where the last line of the file has
-/// no end it gets one.
+/// The text of a catalogue file and, after its own lines, the lines that joined it. Where the last line of
+/// the file has no end it gets one.
 ///
 /// # Errors
 /// Out of memory.

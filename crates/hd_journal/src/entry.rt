@@ -63,7 +63,7 @@ impl<A: Allocator> Entry<A> {
         other.is_of(&self.show())
     }
 
-    /// The reply that it was told, where it asked this with this line.
+    /// Its reply, where it asked this with this line, and `None` otherwise.
     pub(crate) fn reply_to(&self, asked: &Asked, line: &[u8]) -> Option<TurnReply>
         ensures { result
             ≡ kept_reply (kept_of self.now.message.line self.now.message.asked self.now.reply)

@@ -92,8 +92,8 @@ impl<A: Allocator + Copy> Journal<A> {
         }
     }
 
-    /// Goes on with a desk of another catalogue, to which its own has grown: all turns stay, word for word, and
-    /// so does what is kept of them.
+    /// Goes on with a desk of another catalogue, to which its own has grown: all turns stay, word for word,
+    /// and so does what is kept of them.
     pub fn grow(&mut self, desk: Desk<A>)
         requires grows { Grows (facts self.old) (facts_of (contents desk)) }
         requires grown { IsGrownDesk (facts self.old) (facts_of (contents desk)) (state self.old).desk

@@ -24,7 +24,7 @@ use hd_rules::Ask;
 use std::alloc::{AllocError, Allocator};
 use std::sync::Arc;
 
-/// What has the turns of a legal journal, and tells them.
+/// What has the turns of a legal journal, and returns them by their numbers.
 pub trait Turns {
     /// What its catalogue says, and the turns that it had when it became a keeper.
     ghost opening: { Self → Opening };
@@ -77,7 +77,7 @@ pub trait Keeper<A: Allocator, Q: Drop>: Turns {
             IsAdded (Self.turns self.old) (Self.turns self.new) (asks own) made) }
         ensures legal { IsLegalSince (Self.opening self.new) (Self.turns self.new) }
         ensures why { IfErr result faults }
-        // That the journal is another one only a hall can tell, by a seat's last turn.
+        // Only a hall can notice that the journal is another one, by a seat's last turn.
         ensures own { IfErr result IsMemoryOrUnwritten }
         ensures cause { IfErr result (causes self.old (asks own) self.new) }
         ensures err { OnErr result (Self.turns self.new ≡ Self.turns self.old) }

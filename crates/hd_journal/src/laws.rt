@@ -14,7 +14,7 @@ use hd_rules::{
     undoing_is_the_run_without,
 };
 
-/// The laws that a cancellation rests on. It does nothing.
+/// The laws from which the promises about a cancellation follow. It does nothing.
 pub(crate) fn laws()
     ensures { CancellationLaws }
 {
@@ -31,7 +31,7 @@ pub(crate) fn laws()
     walks_are_short();
 }
 
-/// The laws that a journal's being legal rests on. It does nothing.
+/// The laws from which it follows that a journal is legal. It does nothing.
 pub(crate) fn journal_laws()
     ensures { JournalLaws }
 {

@@ -1,6 +1,6 @@
 //! The journal of the hold desk: every turn, and the desk of the commands that were not cancelled.
 //!
-//! Sessions ask an `Office`; under a hall's lock stands a `Keeper`. A journal alone is both. A `Look` reads a
+//! Sessions ask an `Office`; a hall has a `Keeper` under its lock. A journal alone is both. A `Look` reads a
 //! journal between two turns, and makes none.
 #![tactic(auto)]
 

@@ -58,7 +58,7 @@ pub(crate) fn bytes_if_any<A: Allocator>(line: &Option<Line<A>>) -> Option<&[u8]
     line.as_ref().map(|line| line.bytes())
 }
 
-/// Whether two lines are the same bytes. It is the test by which the turn machine tells a repeat.
+/// Whether two lines are the same bytes. By this test the turn machine recognizes a repeat.
 pub(crate) fn same_line(one: &[u8], other: &[u8]) -> bool
     ensures exact { IsTrue result ↔ (one.now ≡ other.now) }
     ensures told { result ≡ is_same_line one.now other.now }

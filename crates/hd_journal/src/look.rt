@@ -9,7 +9,7 @@ use std::alloc::Allocator;
 /// What reads a journal at one moment, between two turns, and takes down what it was made for.
 ///
 /// It is lent the journal, so it can change nothing there. The room for what it takes down is made before it
-/// looks: the journal may stand under a lock.
+/// looks: the journal may be under a lock.
 pub trait Look<A: Allocator> {
     /// That all that it asks about is of the catalogue.
     ghost fits: { Self → Contents → Type 0 };

@@ -11,7 +11,7 @@ use hd_desk::{Desk, Meter, OpenFault};
 use std::alloc::{AllocError, Allocator, Global};
 use std::sync::Arc;
 
-/// The catalogue, for the desk and whoever else reads it.
+/// The catalogue, shared by the desk and its other readers.
 ///
 /// # Errors
 /// Out of memory.
@@ -24,12 +24,12 @@ pub fn share<A: Allocator>(
     Ok(Arc::new(alloc, catalogue)?)
 }
 
-/// A journal without turns, over the desk that the catalogue's opening rows tell. `inline` is never asked for
+/// A journal without turns, over the desk that the catalogue's opening rows give. `inline` is never asked for
 /// memory: it comes with lists of at most four, which are kept in place.
 ///
 /// # Errors
-/// `Row` for the first row that may not stand behind those before it, and why; `Memory`. Over a catalogue
-/// without rows it can only be `Memory`.
+/// `Row` for the first row that is refused after those before it, and why; `Memory`. Over a catalogue without
+/// rows it can only be `Memory`.
 pub fn open<A: Allocator + Copy>(
     alloc: A,
     inline: Global,

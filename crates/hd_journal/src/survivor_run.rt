@@ -63,8 +63,8 @@ impl<A: Allocator> Model for SurvivorRun<A> {
 }
 
 impl<A: Allocator + Copy> SurvivorRun<A> {
-    /// No survivors, at the desk that the catalogue's journal opens with. `inline` is never asked for memory: it
-    /// comes with lists of at most four changes and findings, which are kept in place.
+    /// No survivors, at the desk that the catalogue's journal opens with. `inline` is never asked for memory:
+    /// it comes with lists of at most four changes and findings, which are kept in place.
     pub(crate) fn new(alloc: A, inline: Global, desk: Desk<A>) -> SurvivorRun<A>
         requires desk { desk_of desk ≡ (facts desk).opening.desk }
         requires opens { Opens (facts desk) }
@@ -165,7 +165,7 @@ impl<A: Allocator + Copy> SurvivorRun<A> {
         TurnReply::Item(self.desk.item(item))
     }
 
-    /// Does the terminal's command with the next number, or tells why it is refused.
+    /// Does the terminal's command with the next number, or reports why it is refused.
     fn submit(
         &mut self,
         terminal: TerminalNo,
@@ -202,8 +202,8 @@ impl<A: Allocator + Copy> SurvivorRun<A> {
         }
     }
 
-    /// Takes back what the terminal's cancellation takes back, or tells why it can't: from the records alone.
-    /// Only putting old values back can want memory, and that comes before any change.
+    /// Takes back what the terminal's cancellation takes back, or reports why it can't. It decides from the
+    /// records alone. Only putting old values back can need memory, and that comes before any change.
     fn cancel(
         &mut self,
         terminal: TerminalNo,

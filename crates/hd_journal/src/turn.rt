@@ -1,4 +1,4 @@
-//! Turns, as they are told.
+//! Turns, as they are shown to others.
 
 ghost use Rattle.std.specs.Prelude.{◌≡◌};
 ghost use Rattle.hd_rules.specs.Messages.{message_of, turn_with_reply};

@@ -51,7 +51,7 @@ pub(crate) fn add<S: Alter>(conn: &mut Connection<S>, row: &TurnRow<'_>) -> Resu
     }
 }
 
-/// What a failed write is told as.
+/// The fault by which a failed write is reported.
 fn told(error: SqlError) -> WriteFault
     ensures { result ≡ write_fault error }
 {

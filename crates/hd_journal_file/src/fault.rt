@@ -3,10 +3,10 @@
 use hd_turn_row::RowFault;
 use hd_turn_store::Fault;
 
-/// A column of what a turn came to.
+/// A column of a turn's outcome.
 #[derive(Clone, Copy, PartialEq, Eq, Debug)]
 pub enum OutcomeColumn {
-    /// How it went.
+    /// The kind of the reply, in one word.
     Outcome,
     /// The number of the command that the reply names.
     Number,
@@ -33,7 +33,7 @@ pub enum RestoreFault {
         /// The number of the row.
         at: u32,
     },
-    /// The turn of the row comes to something else than the row says.
+    /// The outcome of the turn, taken again, is another than the row says.
     Differs {
         /// The number of the row.
         at: u32,

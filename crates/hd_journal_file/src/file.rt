@@ -19,16 +19,16 @@ use std::alloc::{Allocator, Global};
 use std::marker::PhantomData;
 use std::sync::Arc;
 
-/// A journal's SQLite file, in which each turn is a row that tells it by the names of a catalogue.
+/// A journal's SQLite file, in which each turn is a row with the names of a catalogue.
 ///
-/// What is claimed of it rests on the disk, and on what it held as it was opened (`IsReliable` of the
+/// What is claimed of it depends on the disk, and on what it held as it was opened (`IsReliable` of the
 /// specification). `F` stands for that.
 pub struct JournalFile<S: Alter, F: Start, A: Allocator = Global> {
     conn: Connection<S>,
     catalogue: Arc<Catalogue<A>, A>,
     /// Whether the journal was begun in it as it was opened.
     is_new: bool,
-    /// The SHA-256 of the catalogue file that it is of, where that was told.
+    /// The SHA-256 of the catalogue file that it is of, where that was given.
     digest: Option<[u8; 32]>,
     /// Where the memory of a row comes from.
     alloc: Global,
@@ -50,7 +50,7 @@ impl<S: Alter + Drop, F: Start, A: Allocator> Drop for JournalFile<S, F, A> {
 }
 
 impl<S: Alter, F: Start, A: Allocator + Copy> JournalFile<S, F, A> {
-    /// The file that a connection has open. Its turns are told by this catalogue's names.
+    /// The file that a connection has open. Its turns are written with this catalogue's names.
     pub fn new(
         alloc: Global,
         conn: Connection<S>,

@@ -1,7 +1,7 @@
 //! A journal's SQLite file as the table that a durable journal commits its changing turns to.
 //!
-//! Each turn is a row: what was asked, by the catalogue's names, and what that came to. A list of legal turns
-//! is told by its rows, since the turn machine determines each reply by the messages up to it.
+//! Each turn is a row: what was asked, by the catalogue's names, and its outcome. A list of legal turns is
+//! determined by its rows, since the turn machine determines each reply by the messages up to it.
 #![tactic(auto)]
 
 mod adding;

@@ -38,8 +38,8 @@ use std::sync::Arc;
 pub struct Wanted<'a> {
     /// The SHA-256 of the catalogue file.
     pub digest: &'a [u8; 32],
-    /// Whether a file that was written with another catalogue is taken, where each of its turns comes to the
-    /// same with this one. It is then of this one.
+    /// Whether a file that was written with another catalogue is accepted, where each of its turns has the
+    /// same outcome with this one. It is then of this one.
     pub is_other_accepted: bool,
 }
 
@@ -47,7 +47,7 @@ pub struct Wanted<'a> {
 /// each taken again and compared, whose changing turns are committed to the file from now on.
 ///
 /// `connected` is what SQLite answered as the files were opened (`connect` of the store). `journal` has no
-/// turns, and its catalogue is the one that is wanted. `progress` is told how many turns are taken again.
+/// turns, and its catalogue is the one that is wanted. `progress` gets the number of turns taken again.
 /// Where it is opened for turns, the file says so once they are (`open_for_turns` of the store).
 ///
 /// # Errors
@@ -202,7 +202,7 @@ pub fn open_over<S: Alter + Drop, F: Start, P: Progress>(
 }
 
 /// Has a journal without turns take the turns of a file again, which is then of the catalogue that is wanted.
-/// Of a file that was just begun there is none.
+/// A file that was just begun has no turns.
 ///
 /// # Errors
 /// `File`, `OtherCatalogue` and `Turns`.

@@ -1,14 +1,14 @@
-//! Who is told how far a journal has come, while it takes a file's turns again.
+//! The receiver of reports on how many of a file's turns a journal has taken again so far.
 
 ghost use Rattle.std.specs.Prelude.{ℕ};
 
-/// Who is told from time to time how many turns of a file are taken again. What it does then is its own
-/// matter: journal, file and answer are the same, whoever is told.
+/// What gets, from time to time, the number of a file's turns that are taken again. What it does then is its
+/// own matter: it changes neither the journal nor the file nor the result.
 pub trait Progress {
-    /// What it is told by a call, by what it was before and is then.
+    /// That a call reported this number to it, by what it was before and is then.
     ghost hears: { Self → ℕ → Self → Type 0 } = { λ _ _ _. Unit {0} };
 
-    /// So many turns are taken again so far.
+    /// Reports that `turns` turns are taken again so far.
     fn taken(&mut self, turns: u32)
         ensures { hears self.old turns self.new };
 }

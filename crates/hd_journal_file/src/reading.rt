@@ -39,8 +39,8 @@ pub(crate) fn own_ask<A: Allocator + Copy>(
     }
 }
 
-/// Compares what a turn came to with its row, a column after the other. `at` is the row's number, and
-/// `format` the file's.
+/// Compares a turn's reply with the outcome columns of its row, one after the other. `at` is the row's
+/// number, and `format` the file's.
 ///
 /// # Errors
 /// `Differs` and `Memory`.

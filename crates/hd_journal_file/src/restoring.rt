@@ -45,8 +45,8 @@ fn take_turn<A: Allocator + Copy>(
     compare(memory, &new.made.reply, row, at, format)
 }
 
-/// Takes the next rows of a file again, at most 1,024 of them, and answers the number of the last: `after`
-/// where there is none behind it.
+/// Takes the next rows of a file again, at most 1,024 of them, and returns the number of the last: `after`
+/// where there is none after it.
 ///
 /// # Errors
 /// As `take_turn`, or `Unread` and `TooMany`.
@@ -90,14 +90,14 @@ fn take_piece<S: Alter, A: Allocator + Copy>(
     Ok(at)
 }
 
-/// Takes all turns of a file again, in a journal that has none yet, of the catalogue by which they are told,
-/// and answers how many there are. Each row is then that of a turn, which is changing and comes to what
-/// the row says; `format` is the file's. After each piece of at most 1,024 rows `progress` is told how many
-/// are taken so far.
+/// Takes all turns of a file again, in a journal that has none yet, of the catalogue whose names they have,
+/// and returns how many there are. Each row is then that of a turn, which is changing and has the outcome
+/// that the row says; `format` is the file's. After each piece of at most 1,024 rows `progress` gets the
+/// number of the rows taken so far.
 ///
 /// # Errors
-/// The first row that isn't such, and what is wrong with it. The journal is to be dropped then; the file is
-/// as it was.
+/// `NoTurn`, `NoChange` or `Differs` of the first row that isn't such; `Unread`, `TooMany` and `Memory`. The
+/// journal is to be dropped then; the file is as it was.
 pub fn restore_turns<S: Alter, A: Allocator + Copy, P: Progress>(
     conn: &mut Connection<S>,
     format: u32,

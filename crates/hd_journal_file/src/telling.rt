@@ -34,7 +34,7 @@ pub(crate) fn turn_row<'a, 't: 'a, A: Allocator + Copy>(
     }
 }
 
-/// What a turn asked. A query is told without a line.
+/// What a turn asked. A query has no line.
 fn ask_of<'a, 't: 'a>(turn: &TurnRef<'t>) -> Ask<'a>
     ensures { message_of result
         ≡ record {

@@ -68,7 +68,7 @@ impl<A: Allocator> Links<A> {
         self.nexts[copy.number() as usize]
     }
 
-    /// Puts a copy into the patron's list, behind the last one below it, or first where none is below it.
+    /// Puts a copy into the patron's list, after the last one below it, or first where none is below it.
     pub(crate) fn put(&mut self, patron: PatronNo, last: Option<CopyNo>, copy: CopyNo)
         requires { HasRoom self.old patron last copy }
         ensures linked { (loans : LoansMap) (copies : ℕ) (loan : Loan) → loan.patron ≡ patron
@@ -93,7 +93,7 @@ impl<A: Allocator> Links<A> {
         }
     }
 
-    /// Takes a copy out of the patron's list, where it stands behind the last one below it, or first where
+    /// Takes a copy out of the patron's list, where it is after the last one below it, or first where
     /// none is below it.
     pub(crate) fn take(&mut self, patron: PatronNo, last: Option<CopyNo>, copy: CopyNo)
         requires { HasRoom self.old patron last copy }

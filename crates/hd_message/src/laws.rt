@@ -24,8 +24,8 @@ pub fn replies_are_short()
     ensures { (reply : Reply) → IsBounded reply }
 {}
 
-/// The values of a message that its reply repeats lie apart from one another in its body: together they
-/// have at most as many bytes.
+/// The values of a message that its reply repeats don't overlap in its body: together they have at most as
+/// many bytes as the body.
 pub fn repeated_values_fit_their_body()
     ensures request { (body : List ℕ) (request : Request) → IsRequest body request →
         repeated_bytes request ≤ length body }

@@ -60,8 +60,9 @@ pub fn lists_are_cut_at_an_item()
     ensures { (code : List ℕ) (room : ℕ) (names : List (Bor (List ℕ))) → IsCutAtItem code room names }
 {}
 
-/// A sorter is told of a copy on its open shelf what it is told without sorter fields, and of a copy in
-/// transit the same and some fields behind it; of a copy that is asked for, and is for nobody, the same.
+/// With sorter fields the reply to a return is the same as without them where the copy is on its open shelf;
+/// where it is in transit, some fields follow. The reply to a question about a copy that is for nobody is the
+/// same.
 pub fn sorter_fields_are_added()
     ensures shelf { (reply : SorterReply) (plain : CheckinReply) → IsSameReturn reply plain →
         concat (sorter_layout reply OfSorting.OpenShelf)

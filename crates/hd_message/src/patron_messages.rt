@@ -98,7 +98,7 @@ fn summary(text: &[u8]) -> Option<Summary>
     }
 }
 
-/// Where the first `Y` stands.
+/// The place of the first `Y`, if there is one.
 fn first_yes(text: &[u8]) -> Option<usize>
     ensures { result ≡ position (λ byte. byte == 89) text.now }
 {

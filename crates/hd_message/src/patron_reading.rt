@@ -30,7 +30,7 @@ pub enum Reading<'a> {
 /// What a body is read as under a profile: a patron message where it has the code of one and these are read,
 /// and else what `read` answers.
 ///
-/// The body is a message without its trailer and carriage return. Every value is the slice of the body behind
+/// The body is a message without its trailer and carriage return. Every value is the slice of the body after
 /// the first of its identifiers. It looks nothing up, reads no date and takes no memory.
 pub fn read_with(profile: Profile, body: &[u8]) -> Reading<'_>
     ensures { IsReading profile body.now result }
@@ -120,7 +120,7 @@ fn language(kind: PatronKind, body: &[u8]) -> Option<&[u8]>
     }
 }
 
-/// What stands behind the fixed part of a patron message; nothing where that is short.
+/// What follows the fixed part of a patron message; nothing where that is short.
 fn patron_fields(kind: PatronKind, body: &[u8]) -> &[u8]
     ensures { result.now ≡ patron_fields kind body.now }
 {

@@ -125,7 +125,7 @@ fn payment<'a>(reply: &CardReply<'a>) -> [Part<'a>; 5]
     }
 }
 
-/// The parts of a reply to a message that names a card, behind its front, and a notice at the end.
+/// The parts of a reply to a message that names a card, after its front, and a notice at the end.
 fn card_parts<'a>(front: &'a [u8], reply: &CardReply<'a>, notice: Part<'a>) -> [Part<'a>; 5]
     ensures { flat_map part_text result
         ≡ concat (card_layout front.now reply.now (part_text notice.entry)) }
@@ -151,7 +151,7 @@ fn renew_all<'a>(reply: &RenewAllReply<'a>) -> [Part<'a>; 5]
     }
 }
 
-/// The parts of a reply that says that none of so many loans is renewed, and a notice at the end.
+/// The parts of a reply that says that none of `loans` loans is renewed, and a notice at the end.
 fn not_renewed<'a>(reply: &RenewAllReply<'a>, loans: u64, notice: Part<'a>) -> [Part<'a>; 5]
     ensures { flat_map part_text result
         ≡ concat (not_renewed_layout reply.now loans (part_text notice.entry)) }

@@ -23,7 +23,7 @@ const DATE: usize = 18;
 /// "Messages read").
 ///
 /// The body is a message without its trailer and carriage return. Every value is the slice of the body
-/// behind the first of its identifiers. It looks nothing up, reads no date and takes no memory.
+/// after the first of its identifiers. It looks nothing up, reads no date and takes no memory.
 pub fn read(body: &[u8]) -> Result<Request<'_>, Unreadable<'_>>
     ensures request { IfOk result (IsRequest body.now) }
     ensures unreadable { IfErr result (IsUnreadable body.now) }
@@ -121,7 +121,7 @@ fn date(kind: DeskKind, body: &[u8]) -> Option<&[u8]>
     body.get(place..place + DATE)
 }
 
-/// What stands behind the fixed part of a message; nothing where that is short.
+/// What follows the fixed part of a message; nothing where that is short.
 fn fields_part(kind: DeskKind, body: &[u8]) -> &[u8]
     ensures { result.now ≡ fields_part (Desk kind) body.now }
 {

@@ -110,7 +110,7 @@ pub struct CheckinReply<'a> {
 /// What became of a hold message.
 #[derive(Clone, Copy)]
 pub enum HoldOutcome<'a> {
-    /// The hold stands: it is added or changed.
+    /// The hold is added or changed.
     Held {
         /// Whether some copy that the hold admits stands on an open shelf.
         available: bool,

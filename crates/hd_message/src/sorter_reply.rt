@@ -1,4 +1,4 @@
-//! Replies to checkins and to questions about copies, where a sorter is told for whom a copy is.
+//! Replies to checkins and to questions about copies that say, for sorters, for whom a copy is.
 use crate::reply::ItemReply;
 
 /// For whom a copy is.

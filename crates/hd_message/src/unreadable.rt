@@ -14,7 +14,7 @@ pub enum Unreadable<'a> {
 /// A message that asks something of the desk and can't be read, and what its refusal prints of it. Its values
 /// are slices of the body.
 ///
-/// Fields begin behind a whole fixed part alone: where that is short there are none.
+/// Fields begin only after a whole fixed part: where that is short there are none.
 #[derive(Clone, Copy)]
 pub struct UnreadableMessage<'a> {
     /// What kind of message it is.

@@ -14,7 +14,7 @@ pub enum OpeningCause {
     /// copy's name where it doesn't admit one copy alone, the digest isn't 64 hexadecimal digits in lower
     /// case, or the line is longer than 1,024 bytes: correct it.
     Text,
-    /// A number has another sign than a digit or a leading zero, or lies outside its limits, or a day is none
+    /// A number has another sign than a digit or a leading zero, or is outside its limits, or a day is none
     /// of the calendar: write it in plain digits within them.
     Number,
     /// The catalogue lacks a name of the line: correct the name, or take the catalogue that has it.

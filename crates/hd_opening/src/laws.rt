@@ -6,15 +6,15 @@ ghost use Rattle.hd_opening.specs.Files.{AreInLimits, IsDigest, IsFirstBad, IsOp
 
 use crate::cause::{OpeningCause, OpeningFault};
 
-/// What was written is read: the text of an opening tells the same rows and the same last number, by the same
+/// What was written is read: the text of an opening says the same rows and the same last number, by the same
 /// catalogue and digest.
 pub fn what_was_written_is_read()
     ensures { (k : Contents) (digest : List ℕ) (told : OpeningRows) (text : List ℕ) → IsDigest digest
         → AreInLimits told → IsOpeningText k digest told text → Tells k digest (lines_of text) told }
 {}
 
-/// A file tells one thing, which lies within its limits, and one that tells something has no bad line: it
-/// can only be out of memory.
+/// A file says at most one thing, which is within its limits. A file that says something has no bad line: its
+/// only fault can be that there is no memory for it.
 pub fn told_or_refused()
     ensures one { (k : Contents) (digest : List ℕ) (all : List (List ℕ)) (told other : OpeningRows)
         → Tells k digest all told → Tells k digest all other → told ≡ other }

@@ -1,4 +1,4 @@
-//! The opening of a journal: the file that tells the desk that it begins with, read and written.
+//! The opening of a journal: the file that says with which desk it begins, read and written.
 //!
 //! It says in what the desk differs from one with each copy at home and no holds, by names, and the last
 //! number that the journals before it have given.

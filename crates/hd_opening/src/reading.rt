@@ -63,7 +63,7 @@ pub fn read<A: Allocator + Copy>(
     Ok(Opening { rows, last })
 }
 
-/// Keeps a row behind those before it.
+/// Appends a row to those before it.
 ///
 /// # Errors
 /// `Memory`: they fill the room that there is, and there is no more.

@@ -225,7 +225,7 @@ fn day_piece(day: &Option<Day>) -> Piece
     }
 }
 
-/// Appends a line: the letter of its kind, and each value behind a bar.
+/// Appends a line: the letter of its kind, and each value after a bar.
 fn put_line<A: Allocator + Copy>(
     catalogue: &Catalogue<A>,
     out: &mut Vec<u8, A>,

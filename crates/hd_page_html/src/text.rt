@@ -1,4 +1,4 @@
-//! The page's text and its policy. scripts/make_page.py makes this file of page/page.html.
+//! The page's text and its policy. scripts/make/make_page.py makes this file of page/page.html.
 
 /// An HTML document, with its style and its script inside.
 pub(crate) const TEXT: &[u8] = b"<!DOCTYPE html>

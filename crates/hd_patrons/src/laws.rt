@@ -8,8 +8,8 @@ ghost use Rattle.hd_patrons.specs.Stored.{Stored, texts_of};
 use crate::fault::PatronsFault;
 use hd_catalogue::Cause;
 
-/// A file that is accepted has no bad line: only the memory for it can be wanting. It says one thing of each
-/// patron, and a file that is refused has one first bad line.
+/// A file that is accepted has no bad line: its only fault can be that there is no memory for it. It says one
+/// thing of each patron, and a file that is refused has one first bad line.
 pub fn accepted_or_refused()
     ensures refused { (k : Contents) (all : List (List ℕ)) (stored : Stored) (fault : PatronsFault)
         → IsAccepted k all stored → IsFirstBad k all fault → fault.cause ≡ Cause.Memory }

@@ -1,7 +1,7 @@
 //! The patrons' file: passwords, languages and names of patrons, for kiosks (docs/patrons.md).
 //!
-//! It adds to the catalogue and changes nothing that the rules of the desk see. A name and a language stand
-//! in replies to kiosks and sorters alone, and a password in none; no text of the file is part of a fault.
+//! It adds to the catalogue and changes nothing that the rules of the desk see. A name and a language are
+//! in replies to kiosks and sorters alone, and a password is in none; no text of the file is part of a fault.
 #![tactic(auto)]
 
 mod check;

@@ -40,7 +40,7 @@ pub(crate) fn is_heading(line: &[u8]) -> bool
     line == b"H|patrons|1".as_slice()
 }
 
-/// What a line after the first says, after lines that told what the table has.
+/// What a line after the first says, after lines that said what the table has.
 #[tactic(auto, unfolding(crate::specs::Lines::line_cause, crate::specs::Lines::line_said))]
 pub(crate) fn read_line<'a, A: Allocator + Copy>(
     catalogue: &Catalogue<A>,
@@ -74,7 +74,7 @@ fn read_values<'a, A: Allocator + Copy>(
     read_patron(catalogue, table, long, values)
 }
 
-/// What the values behind the letter say.
+/// What the values after the letter say.
 #[tactic(auto, unfolding(hd_catalogue::specs::Contents::patron_number))]
 fn read_patron<'a, A: Allocator + Copy>(
     catalogue: &Catalogue<A>,
@@ -109,7 +109,7 @@ fn read_patron<'a, A: Allocator + Copy>(
     })
 }
 
-/// Whether these bytes may stand for a password or a name: none, or a name's.
+/// Whether these bytes may be written for a password or a name: no bytes, or those of a name.
 fn is_text(bytes: &[u8]) -> bool
     ensures { result ≡ is_text bytes.now }
 {

@@ -8,7 +8,7 @@ use hd_rules::PatronNo;
 use std::alloc::{AllocError, Allocator, Global};
 use std::marker::Model;
 
-/// Where a patron's password and name stand among the texts, one behind the other; and the language.
+/// Where a patron's password and name are among the texts, one after the other; and the language.
 #[derive(Clone, Copy)]
 pub(crate) struct Place {
     start: usize,
@@ -37,7 +37,8 @@ impl<A: Allocator> Model for TextTable<A> {
 }
 
 impl<A: Allocator + Copy> TextTable<A> {
-    /// No texts, with a place for each of so many patrons, and room for so many bytes.
+    /// No texts, with a place for each of `patrons` patrons, and room for `bytes` bytes. `AllocError` where
+    /// there is no memory for them.
     pub(crate) fn new(alloc: A, patrons: usize, bytes: usize) -> Result<TextTable<A>, AllocError>
         ensures empty { IfOk result (λ table. (p : ℕ) → texts_of table p ≡ None) }
         ensures count { IfOk result (λ table. length table.places ≡ patrons) }
@@ -105,7 +106,7 @@ impl<A: Allocator> TextTable<A> {
         self.place(patron)?.language
     }
 
-    /// Where a patron's texts stand.
+    /// Where a patron's texts are, if it has any.
     fn place(&self, patron: PatronNo) -> Option<Place>
         ensures { result ≡ place_of self.now patron }
     {

@@ -13,7 +13,7 @@ use hd_rules::{BranchNo, Hold, PatronNo};
 use std::alloc::{Allocator, Global};
 use std::marker::Model;
 
-/// The holds of a list, lent, from first to last. They stand in chunks, so they come slice by slice.
+/// The holds of a list, lent, from first to last. They are kept in chunks, so they come slice by slice.
 #[derive(Drop)]
 pub struct HoldSlices<'a, A: Allocator = Global> {
     front: &'a [Hold],
@@ -55,8 +55,8 @@ impl<'a, A: Allocator> HoldSlices<'a, A> {
         }
     }
 
-    /// Leaves out the chunks to come, as far as one that may have a hold of this pickup, where no hold stands
-    /// before them.
+    /// Passes over the chunks to come, up to one that may have a hold of this pickup. Where a hold is before
+    /// these chunks it changes nothing.
     pub(crate) fn pass_over(&mut self, pickup: BranchNo)
         ensures kept { filter (is_picked_up_at pickup) self.new ≡ filter (is_picked_up_at pickup) self.old }
         ensures shorter { length self.new ≤ length self.old }

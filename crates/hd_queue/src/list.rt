@@ -18,7 +18,7 @@ use std::marker::Model;
 
 /// Holds of one title, at most one a patron, in order of stamp.
 ///
-/// They stand in chunks, so that a hold is put or taken by moving only those of its own chunk.
+/// They are kept in chunks, so that a hold is put or taken by moving only those of its own chunk.
 #[derive(Drop)]
 pub(crate) struct HoldList<A: Allocator> {
     list: ChunkList<Hold, ByPickup, A>,
@@ -130,7 +130,7 @@ impl<A: Allocator> HoldList<A> {
     }
 }
 
-/// The place of a stamp, found by halving: behind all holds with a smaller one, in the chunk that has its
+/// The place of a stamp, found by halving: after all holds with a smaller one, in the chunk that has its
 /// hold, if there is one.
 fn place_of<A: Allocator>(list: &ChunkList<Hold, ByPickup, A>, stamp: u64) -> Place
     requires { IsInOrder (items_of list.now) }
@@ -142,7 +142,7 @@ fn place_of<A: Allocator>(list: &ChunkList<Hold, ByPickup, A>, stamp: u64) -> Pl
     Place { chunk, offset }
 }
 
-/// How many of the chunks begin by the stamp. They stand before the others.
+/// How many of the chunks begin with this stamp or a smaller one. They are before the others.
 fn chunk_of<A: Allocator>(chunks: &[Chunk<Hold, ByPickup, A>], stamp: u64) -> usize
     requires ordered { IsInOrder (all_items chunks.now) }
     requires some { All has_some chunks.now }

@@ -13,8 +13,8 @@ use std::marker::Model;
 
 /// The holds of one title, at most one a patron, in order of stamp (docs/desk-rules.md, "State").
 ///
-/// Those without a copy stand also in lists of their own, by what they wait for. Beside them stands the stamp
-/// of each patron's hold, by which its place is found without a walk.
+/// Those without a copy are also in lists of their own, by what they wait for. The stamp of each patron's
+/// hold is kept too: by it the hold's place is found without a walk.
 #[derive(Drop)]
 pub struct Queue<A: Allocator = Global> {
     list: HoldList<A>,

@@ -64,7 +64,7 @@ impl<A: Allocator> AllSlots<A> {
         self.slots.ready()
     }
 
-    /// Puts one more slot with a record behind the others. It takes no memory.
+    /// Puts one more slot with a record after the others. It takes no memory.
     #[tactic(auto, using(crate::proofs::Behind::one_more))]
     pub(crate) fn push(&mut self, new: &NewRecord<'_>)
         requires room { 0 < self.old.room }

@@ -1,4 +1,4 @@
-//! A law: the contract of a function that does nothing. Its statement stands in `specs/Looks.antt`.
+//! A law: the contract of a function that does nothing. Its statement is in `specs/Looks.antt`.
 
 ghost use Rattle.hd_records.specs.Looks.{WalksAreShort};
 

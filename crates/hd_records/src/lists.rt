@@ -1,4 +1,4 @@
-//! Lists with the values of records, those of each behind those of the one before.
+//! Lists with the values of records, those of each after those of the one before.
 #![tactic(auto)]
 
 ghost use Rattle.std.specs.Prelude.{◌≡◌, ◌≤◌, ◌<◌, ◌+◌, ◌++◌, OnErr, OnOk, drop, length, take};
@@ -26,7 +26,7 @@ pub(crate) fn ready_for_four<T, A: Allocator>(list: &mut Vec<T, A>) -> Result<()
     list.reserve(4)
 }
 
-/// Where the values of one more record will stand.
+/// Where the values of one more record will be.
 pub(crate) fn place_behind<T, A: Allocator>(list: &Vec<T, A>, values: &[T]) -> Span
     requires few { length values.now ≤ 4 }
     requires room { 0 < room_of_four (vec_len list.now) (vec_capacity list.now) }
@@ -39,7 +39,7 @@ pub(crate) fn place_behind<T, A: Allocator>(list: &Vec<T, A>, values: &[T]) -> S
     }
 }
 
-/// Puts the values of one more record behind the others. It takes no memory.
+/// Puts the values of one more record after the others. It takes no memory.
 pub(crate) fn append<T: Copy, A: Allocator>(list: &mut Vec<T, A>, values: &[T])
     requires few { length values.now ≤ 4 }
     requires room { 0 < room_of_four (vec_len list.old) (vec_capacity list.old) }

@@ -1,4 +1,4 @@
-//! What records found, mended where they stand.
+//! The findings of records, corrected in place.
 #![tactic(auto)]
 
 ghost use Rattle.std.specs.Prelude.{◌≡◌, ◌≤◌, ◌+◌, ◌++◌, drop, length, take, vec_capacity, vec_len};

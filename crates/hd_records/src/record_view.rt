@@ -1,4 +1,4 @@
-//! A record, lent from where it stands.
+//! A record, lent from where it is kept.
 #![tactic(auto)]
 
 ghost use Rattle.std.specs.Prelude.{◌≡◌, ◌≤◌, length};

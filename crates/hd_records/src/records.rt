@@ -100,7 +100,7 @@ impl<A: Allocator + Copy> Records<A> {
         self.index.ready(CommandKeys::of(catalogue, command))
     }
 
-    /// Puts one more record behind the others. Its number is the next one, and there is room for it. It takes
+    /// Puts one more record after the others. Its number is the next one, and there is room for it. It takes
     /// no memory.
     pub fn push(&mut self, catalogue: &Catalogue<A>, new: &NewRecord<'_>)
         requires known { IsKnownAction (facts_of catalogue.now) new.now.command.action }
@@ -126,7 +126,7 @@ impl<A: Allocator + Copy> Records<A> {
         self.slots.len() as u64
     }
 
-    /// The record of a number, or `None` where there is none. It stands in the number's slot.
+    /// The record of a number, or `None` where there is none. It is in the number's slot.
     pub fn get(&self, number: u64) -> Option<RecordRef<'_>>
         ensures record { option_map record_shown result ≡ record_of number self.now.records }
         ensures few { IfSome result (λ r. length r.changes.now ≤ 4) }
@@ -191,9 +191,9 @@ impl<A: Allocator + Copy> Records<A> {
         walking::first_clash(catalogue, changes, &self.slots, later, meter)
     }
 
-    /// Takes the record of this number out, and mends the later ones: what they noted becomes what is found
-    /// without its changes. Of the later records those that its changes touch are looked at, each once. It
-    /// takes no memory, and moves no other record.
+    /// Takes the record of this number out, and corrects the later ones: what they noted becomes what is
+    /// found without its changes. Of the later records it looks at those that its changes touch, each once.
+    /// It takes no memory, and moves no other record.
     pub fn take_out(&mut self, catalogue: &Catalogue<A>, number: u64, meter: &mut Meter)
         requires there { IsSome (record_of number self.old.records) }
         requires of { AreOfCatalogue (facts_of catalogue.now) self.old }
@@ -223,7 +223,7 @@ impl<A: Allocator + Copy> Records<A> {
     }
 }
 
-/// A copy of the changes of a record, which stands in the value itself.
+/// A copy of the changes of a record, kept in the value itself.
 fn copy_of(changes: &[Change]) -> ArrayVec<Change, 4>
     requires { length changes.now ≤ 4 }
     ensures { result.items ≡ changes.now }

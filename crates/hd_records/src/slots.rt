@@ -19,7 +19,7 @@ use hd_rules::{Change, Finding, Reply, Survivor};
 use std::alloc::{AllocError, Allocator, Global};
 use std::marker::Model;
 
-/// Where the values of one record stand in a list: from this place on, so many.
+/// Where the values of one record are in a list: `count` of them, from the place `first` on.
 #[derive(Clone, Copy)]
 pub(crate) struct Span {
     pub(crate) first: u32,
@@ -45,9 +45,9 @@ pub(crate) struct Slot {
 
 /// A slot for each number, from 1 on, with the record of that number or none.
 ///
-/// The findings of all records stand in one list and the changes in another, those of a slot behind those of
-/// the slot before it. So a record takes no more memory than it has findings and changes, and a walk reads
-/// them one behind the other. Only `ready` takes memory.
+/// The findings of all records are in one list and the changes in another, those of a slot after those of the
+/// slot before it. So a record takes memory only for the findings and changes that it has, and a walk reads
+/// them one after the other. Only `ready` takes memory.
 #[derive(Drop)]
 pub(crate) struct Slots<A: Allocator = Global> {
     slots: Vec<Slot, A>,
@@ -100,7 +100,7 @@ impl<A: Allocator> Slots<A> {
         ready_for_four(&mut self.changes)
     }
 
-    /// Puts one more slot with a record behind the others. It takes no memory.
+    /// Puts one more slot with a record after the others. It takes no memory.
     pub(crate) fn push(&mut self, new: &NewRecord<'_>)
         requires { 0 < self.old.room }
         ensures items { self.new.items ≡ self.old.items ++ Some new.now ∷ [] }

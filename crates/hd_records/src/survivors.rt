@@ -46,7 +46,7 @@ impl<'a> Iterator for Survivors<'a> {
     }
 }
 
-/// The survivor of the first record of the slots, and the slots behind it.
+/// The survivor of the first record of the slots, and the slots after it.
 fn first_survivor(slots: &[Slot]) -> Option<(&Survivor, &[Slot])>
     ensures { MatchOption result
         (survivors_in slots.now ≡ [])

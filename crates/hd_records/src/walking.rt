@@ -22,7 +22,7 @@ use hd_meter::{Count, Meter};
 use hd_rules::{Cancel, Change, TerminalNo, the_target_is_the_newest};
 use std::alloc::Allocator;
 
-/// The record of a number, or `None` where there is none. It stands in the number's slot.
+/// The record of a number, or `None` where there is none. It is in the number's slot.
 pub(crate) fn find<A: Allocator>(slots: &AllSlots<A>, number: u64) -> Option<RecordView<'_>>
     ensures { result ≡ slot_of number slots.now.items }
 {

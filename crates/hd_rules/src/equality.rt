@@ -5,7 +5,7 @@ ghost use Rattle.hd_rules.specs.Same.{same_asked as is_same_asked};
 use crate::replies::{ItemView, Refusal, Reply, TurnReply};
 use crate::turns::Asked;
 
-/// Whether two turns ask the same. It is the test by which the turn machine tells a repeat.
+/// Whether two turns ask the same. The turn machine recognizes a repeat by this test.
 pub fn same_asked(one: &Asked, other: &Asked) -> bool
     ensures exact { IsTrue result ↔ (one.now ≡ other.now) }
     ensures told { result ≡ is_same_asked one.now other.now }

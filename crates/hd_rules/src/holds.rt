@@ -14,7 +14,7 @@ pub enum HoldKind {
     AtBranch,
 }
 
-/// A patron's hold of a title. Values are laid out as their fields are written, so the widest stands first.
+/// A patron's hold of a title. Values are laid out as their fields are written, so the widest comes first.
 #[derive(Clone, Copy, PartialEq, Eq, Debug)]
 pub struct Hold {
     /// The number of the command that added it. Holds of a title are served by rising stamps.

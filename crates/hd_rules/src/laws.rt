@@ -1,9 +1,10 @@
-//! Laws. Each is the contract of a function without a body; its statement stands in `specs/Laws.antt`.
+//! Laws. Each is the contract of a function without a body; its statement is in `specs/Laws.antt`.
 
 ghost use Rattle.hd_rules.specs.Laws.{ACarriedDeskIsSound, AFreshDeskMayOpen, AKeptHoldIsAtItsPickup};
 ghost use Rattle.hd_rules.specs.Laws.{ChargedAreCounted, KeptAndWaitingAreTheHolds, ListedOnce};
 ghost use Rattle.hd_rules.specs.Laws.{RowsTellASoundDesk};
-ghost use Rattle.hd_rules.specs.Laws.{AJournalMayGrow, ALegalJournalIsTheRunOfItsSurvivors, ChoiceIsTheFirstCandidate};
+ghost use Rattle.hd_rules.specs.Laws.{AJournalMayGrow, ALegalJournalIsTheRunOfItsSurvivors};
+ghost use Rattle.hd_rules.specs.Laws.{ChoiceIsTheFirstCandidate};
 ghost use Rattle.hd_rules.specs.Laws.{CommandsKeepDesksSound, CommandsRestOnTheirAnswers};
 ghost use Rattle.hd_rules.specs.Laws.{EachTurnIsDetermined, KnownRowsTellAKnownDesk, LegalJournalsGoOn};
 ghost use Rattle.hd_rules.specs.Laws.{PlaceIsTheLeastFree};
@@ -12,7 +13,7 @@ ghost use Rattle.hd_rules.specs.Laws.{TheTargetIsTheNewest, UndoingIsTheRunWitho
 
 /// For every list of the terminals' messages, a command accepted and then cancelled at once leaves the desk
 /// as before; a cancellation is accepted exactly when no surviving later command depends on its target, and
-/// then the desk is that of the run without it, all surviving replies standing; otherwise it names the first
+/// then the desk is that of the run without it, and all surviving replies stay; otherwise it names the first
 /// dependent command and changes nothing; a repeated message changes nothing.
 pub fn headline()
     ensures { TheHeadline }
@@ -36,8 +37,8 @@ pub fn each_turn_is_determined()
     ensures { EachTurnIsDetermined }
 {}
 
-/// A target is found exactly where there is one, and it is the newest; by its
-/// number the older ones are told from it, and all from all but it.
+/// A target is found exactly where there is one, and it is the newest. Its number splits the survivors: those
+/// with smaller numbers are the older ones, and those with other numbers are all but it.
 pub fn the_target_is_the_newest()
     ensures { TheTargetIsTheNewest }
 {}
@@ -50,13 +51,14 @@ pub fn the_first_dependent_is_the_least()
 
 /// Taking back the changes of a command on which no later one depends gives the run without
 /// it, through fit desks; there each other survivor ends as it did, with the same record but
-/// for what is noted beside its questions.
+/// for what is noted with its questions.
 pub fn undoing_is_the_run_without()
     ensures { UndoingIsTheRunWithout }
 {}
 
-/// Where a command's questions are answered alike at two desks, it ends alike and asks the same. Answers are
-/// told exactly, and each cell that a command writes is among its questions.
+/// Where a command's questions are answered alike at two desks, it ends alike and asks the same. Answers read
+/// from notes are equal exactly where the desks' answers are. Each cell that a command writes is among its
+/// questions.
 pub fn commands_rest_on_their_answers()
     ensures { CommandsRestOnTheirAnswers }
 {}
@@ -74,8 +76,8 @@ pub fn choice_is_the_first_candidate()
     ensures { ChoiceIsTheFirstCandidate }
 {}
 
-/// A branch's place is the least number from 1 at which no copy stands on its hold shelf, and no other number
-/// is.
+/// A branch's place is the least number from 1 at which no copy stands on its hold shelf, and it is no other
+/// number.
 pub fn place_is_the_least_free()
     ensures { PlaceIsTheLeastFree }
 {}
@@ -95,12 +97,12 @@ pub fn a_fresh_desk_may_open()
     ensures { AFreshDeskMayOpen }
 {}
 
-/// Rows that say nothing twice tell a desk that a journal may open with.
+/// Rows that say nothing twice give a desk that a journal may open with.
 pub fn rows_tell_a_sound_desk()
     ensures { RowsTellASoundDesk }
 {}
 
-/// Rows that name things of the catalogue tell a desk that names such.
+/// Rows that name things of the catalogue give a desk that names such things.
 pub fn known_rows_tell_a_known_desk()
     ensures { KnownRowsTellAKnownDesk }
 {}
@@ -127,8 +129,9 @@ pub fn a_kept_hold_is_at_its_pickup()
     ensures { AKeptHoldIsAtItsPickup }
 {}
 
-/// A list of turns that ask of a catalogue's things alone is legal under one that has more names behind them
-/// exactly where it is legal, and leads to the same state but for what is new, with the same records.
+/// A list of turns that ask only about things of one catalogue is legal under a catalogue with more names
+/// after these exactly where it is legal under the first. It leads to the same state but for what is new,
+/// with the same records.
 pub fn a_journal_may_grow()
     ensures { AJournalMayGrow }
 {}

@@ -1,7 +1,7 @@
 //! The rules of the hold desk: its types, and what commands, cancellations and turns mean.
 //!
-//! The definitions stand in `specs/`. Each law of the module
-//! `laws` is the contract of a function without a body.
+//! The definitions are in `specs/`. Each law of the module `laws` is the contract of a function without a
+//! body.
 #![tactic(auto)]
 
 mod ask;

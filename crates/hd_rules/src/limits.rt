@@ -24,7 +24,7 @@ pub const MOST_RENEWALS: u32 = 99;
 /// The highest loan limit of a patron.
 pub const MOST_LOANS: u32 = 999;
 
-/// The highest limit of commands: how many numbers a journal may give, behind the last one before it.
+/// The highest limit of commands: how many numbers a journal may give, after the last one before it.
 pub const MOST_COMMANDS: u64 = 1_000_000;
 
 /// The highest last number that may have been given to a command before a journal begins.

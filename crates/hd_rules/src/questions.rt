@@ -5,7 +5,7 @@ use crate::holds::{Hold, HoldKind};
 use crate::numbers::{BranchNo, CopyNo, PatronNo, TitleNo};
 use hd_day::Day;
 
-/// A question to a desk. Whatever a command does goes by the answers to its questions alone.
+/// A question to a desk. What a command does depends on the answers to its questions alone.
 #[derive(Clone, Copy, PartialEq, Eq, Debug)]
 pub enum Question {
     /// What does the cell have?

@@ -28,7 +28,7 @@ pub enum Refusal {
     NoSuchHold,
     /// The hold has its copy.
     HoldHasCopy,
-    /// The expiry day lies before the transaction day.
+    /// The expiry day is before the transaction day.
     ExpiryPassed,
     /// The copy is on loan.
     OnLoan,
@@ -40,9 +40,9 @@ pub enum Refusal {
     LoanLimit,
     /// The copy isn't on loan to the patron.
     NotOnLoan,
-    /// Renewed as often as may be, or wanted by another.
+    /// The loan was renewed as often as it may be, or another patron wants the copy.
     NotRenewable,
-    /// The due day would lie past 9999-12-31.
+    /// The due day would be after 9999-12-31.
     DueRange,
     /// All numbers are given.
     JournalFull,
@@ -52,7 +52,7 @@ pub enum Refusal {
     Depends { number: u64 },
 }
 
-/// What the reply to an accepted command says beside the message's own values, date and names.
+/// What the reply to an accepted command says besides the message's own values, date and names.
 #[derive(Clone, Copy, PartialEq, Eq, Debug)]
 pub enum Reply {
     /// To a checkout or a renewal.

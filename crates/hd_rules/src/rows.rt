@@ -1,4 +1,4 @@
-//! The rows by which a file tells the desk that a journal opens with.
+//! The rows of a file that say with which desk a journal opens.
 
 use crate::copies::Loan;
 use crate::holds::Hold;
@@ -7,7 +7,7 @@ use crate::numbers::{BranchNo, CopyNo, PatronNo, TitleNo};
 /// What a row of an opening says: in what the desk differs from one with each copy at home and no holds
 /// (docs/desk-rules.md, "State").
 ///
-/// Of a hold that has a copy the copy's row tells it; its branch is the hold's pickup.
+/// Which copy a hold has is said by the copy's row. The copy is kept at, or goes to, the hold's pickup.
 #[derive(Clone, Copy, PartialEq, Eq, Debug)]
 pub enum OpeningRow {
     /// The copy is on loan.

@@ -1,4 +1,4 @@
-//! What is told of a patron: how their loans and holds stand, and the items of a list of them.
+//! What is reported of a patron: the state of their loans and holds, and the items of a list of them.
 
 use crate::holds::Hold;
 use crate::numbers::{CopyNo, TitleNo};
@@ -23,7 +23,8 @@ pub enum Borrowing {
     Allowed,
 }
 
-/// How a patron's loans and holds stand, at one moment of the desk (docs/desk-rules.md, "What a patron has").
+/// The state of a patron's loans and holds at one moment of the desk (docs/desk-rules.md, "What a patron
+/// has").
 #[derive(Clone, Copy, PartialEq, Eq, Debug)]
 pub struct PatronView {
     /// How many copies are on loan to them.

@@ -10,7 +10,7 @@ pub(crate) const SPAN: usize = 128;
 
 /// How many places of each board of a hold shelf are free, from the first board on.
 ///
-/// A bay is so many boards in a row. How many of its boards have a free place is kept too, so that the first
+/// A bay is `SPAN` boards in a row. How many of its boards have a free place is kept too, so that the first
 /// of all boards with one is found by a walk of the bays and of the boards of one bay.
 #[derive(Drop)]
 pub(crate) struct Boards<A: Allocator = Global> {
@@ -54,7 +54,7 @@ impl<A: Allocator> Boards<A> {
         Some(before + board)
     }
 
-    /// Makes sure that there are so many boards. Those that are new have no free place.
+    /// Makes sure that there are at least `boards` boards. Those that are new have no free place.
     ///
     /// Answers `AllocError` where there is no memory for them, and then the boards are unchanged.
     pub(crate) fn grow(&mut self, boards: usize) -> Result<(), AllocError>
@@ -102,7 +102,7 @@ fn first_above_zero(counts: &[u8]) -> Option<usize>
     counts.iter().position(|count| *count > 0)
 }
 
-/// Makes sure that there are so many counts. Those that are new are 0.
+/// Makes sure that there are at least `many` counts. Those that are new are 0.
 fn lengthen<A: Allocator>(counts: &mut Vec<u8, A>, many: usize) -> Result<(), AllocError>
     ensures same { (at : ℕ) → slice_index counts.new.items at ≡ slice_index counts.old.items at }
     ensures ok { OnOk result (vec_len counts.new ≡ max (vec_len counts.old) many) }

@@ -127,7 +127,8 @@ impl<A: Allocator> Places<A> {
         self.table.size().saturating_sub(1)
     }
 
-    /// The least free place after so many others, where all that follow may have a copy.
+    /// The least free place after the first `others` places. Where no later place with room is free,
+    /// it is the first one without room.
     fn free_after(&self, others: usize) -> usize
         ensures from_one { 1 ≤ result }
         ensures free { map.get self.now.copies result ≡ None }

@@ -10,7 +10,7 @@ use hd_rules::{
     Action, Asked, BranchNo, Cancel, Command, CopyNo, Day, HoldKind, PatronNo, TitleNo,
 };
 
-/// What the parts ask, or the first that is wanting or too many.
+/// What the parts ask, or the first that is missing or forbidden.
 pub(crate) fn asked_of(parts: &Parts) -> Result<Asked, RowFault>
     ensures asked { IfOk result (λ asked. asked_parts asked ≡ Some parts.now) }
     ensures fault { IfErr result (IsMisfit parts.now) }
@@ -66,8 +66,8 @@ fn misfit(is_filled: bool, column: Column) -> RowFault
     }
 }
 
-/// What parts ask. For a part that is wanting stands the first number of its kind, and one that the act bars
-/// isn't looked at.
+/// What parts ask. In place of a part that is missing it has the first number of its kind. A part that the
+/// act forbids isn't looked at.
 #[tactic(auto, unfolding(crate::specs::Parts::asked_by))]
 fn asked_by(parts: &Parts) -> Asked
     ensures { result ≡ asked_by parts.now }

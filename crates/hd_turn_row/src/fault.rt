@@ -23,8 +23,8 @@ pub enum Column {
     Until,
 }
 
-/// Why a row is that of no ask: its first fault. First come columns that say nothing, in the order of the
-/// table, and then those that the act wants or bars, in the same order.
+/// Why a row is that of no ask: its first fault. Columns that can't be read come first, in the order of the
+/// table, and then those that the act needs or forbids, in the same order.
 #[derive(Clone, Copy, PartialEq, Eq, Debug)]
 pub enum RowFault {
     /// The column's text is a name that the catalogue lacks.
@@ -33,8 +33,8 @@ pub enum RowFault {
     UnknownWord(Column),
     /// The column's text is no day.
     NoDay(Column),
-    /// The act wants the column, which is empty.
+    /// The act needs the column, which is empty.
     Wanting(Column),
-    /// The act bars the column, which isn't empty.
+    /// The act forbids the column, which isn't empty.
     Unwanted(Column),
 }

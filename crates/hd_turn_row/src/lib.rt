@@ -2,8 +2,8 @@
 //!
 //! A row names things as the catalogue does and not by number, so that people can read it, and so that a
 //! catalogue that only grew reads it the same. Only what was asked is read back: a journal that takes it
-//! again gives the reply. What a turn came to stands beside it, to compare that with: a word, the number of a
-//! command, and a column that says all of the reply in numbers.
+//! again gives the reply. The row also has the outcome of the turn, to compare that reply with: a word, the
+//! number of a command, and a column that says all of the reply in numbers.
 #![tactic(auto)]
 
 mod asked;

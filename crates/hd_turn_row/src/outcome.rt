@@ -1,4 +1,4 @@
-//! What a turn came to, in short.
+//! The outcome of a turn, in short.
 ghost use Rattle.std.specs.Prelude.{◌≡◌};
 ghost use Rattle.hd_turn_row.specs.Replies.{named_command, outcome_word};
 
@@ -6,10 +6,10 @@ use crate::reply::reply_column;
 use hd_rules::{Refusal, TurnReply};
 use std::alloc::{AllocError, Global};
 
-/// What a turn came to, in the columns of its row.
+/// The outcome of a turn, as columns of its row.
 #[derive(Drop)]
 pub struct OutcomeColumns {
-    /// How it went, in one word: `done`, `refused`, `cancelled`, or `item` of a query.
+    /// The kind of the reply, in one word: `done`, `refused`, `cancelled`, or `item` of a query.
     pub outcome: &'static [u8],
     /// The number of the command that the reply names: the one that was done or cancelled, or that depends on
     /// the target of a refused cancellation. It is `None` where the reply names none, and where its number
@@ -23,7 +23,7 @@ impl OutcomeColumns {
     ghost use Rattle.std.specs.Prelude.{IfOk};
     ghost use Rattle.hd_turn_row.specs.Rows.{AreColumnsOf};
 
-    /// The columns of what a turn with this reply came to.
+    /// The outcome columns of a turn with this reply.
     ///
     /// # Errors
     /// Out of memory.
@@ -38,7 +38,7 @@ impl OutcomeColumns {
     }
 }
 
-/// What a turn came to, in one word.
+/// The kind of a reply, in one word.
 fn outcome_of(reply: &TurnReply) -> &'static [u8]
     ensures { result.now ≡ outcome_word reply.now }
 {

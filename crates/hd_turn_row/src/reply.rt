@@ -36,7 +36,7 @@ const IN_TRANSIT: u64 = 3;
 /// The column of a reply: which it is and all that it says, in numbers of eight bytes each, the most
 /// significant first.
 ///
-/// Titles, copies, patrons and branches stand there by their numbers in the catalogue, which a catalogue that
+/// Titles, copies, patrons and branches are written as their numbers in the catalogue, which a catalogue that
 /// only grew keeps.
 ///
 /// # Errors

@@ -20,8 +20,8 @@ use hd_rules::{Ask, SeatNo};
 use hd_turn_store::TurnRow;
 use std::alloc::Allocator;
 
-/// The row of what was asked and of what that came to. It takes no memory: the columns have the texts that
-/// neither the catalogue nor the message has.
+/// The row of what was asked and of its outcome. It takes no memory: the columns have the texts that neither
+/// the catalogue nor the message has.
 #[tactic(auto, using(crate::proofs::ColumnLemmas::day_column))]
 pub fn row_of<'a, A: Allocator + Copy>(
     catalogue: &'a Catalogue<A>,

@@ -7,7 +7,7 @@ use std::alloc::{AllocError, Allocator};
 /// Appends numbers, eight bytes each, the most significant first.
 ///
 /// # Errors
-/// Out of memory. Some of the numbers may stand there then.
+/// Out of memory. Some of the numbers may have been appended then.
 pub(crate) fn append<A: Allocator>(out: &mut Vec<u8, A>, numbers: &[u64]) -> Result<(), AllocError>
     ensures { OnOk result (IsWritten numbers.now out.old.items out.new.items) }
 {

@@ -8,7 +8,8 @@ ghost use Rattle.hd_views.specs.Cutting.{filled, topped_up};
 use arrayvec::ArrayVec;
 use hd_rules::{ListItem, Wanted};
 
-/// What is cut from a list: so many items are passed over, and of those behind so many are taken, or all.
+/// What is cut from a list: the first `skip` items are passed over, and of the rest the first `left` are
+/// taken, or all where that is `None`.
 #[derive(Clone, Copy)]
 pub(crate) struct Cut {
     skip: u32,
@@ -47,7 +48,7 @@ impl Cut {
     }
 }
 
-/// Puts the item behind the others, where there is room for it.
+/// Puts the item after the others, where there is room for it.
 fn put<const N: usize>(item: ListItem, items: &mut ArrayVec<ListItem, N>)
     ensures { (rest : List ListItem) → topped_up N items.new.items rest
         ≡ topped_up N items.old.items (item ∷ rest) }

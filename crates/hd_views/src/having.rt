@@ -11,7 +11,7 @@ use hd_desk::{Desk, HeldTitle, LentCopies};
 use hd_rules::{CopyNo, CopyState, Day, Hold, ListItem, PatronNo, listed_once};
 use std::alloc::Allocator;
 
-/// The copies on loan to the patron, by rising number. It goes over these alone, and takes no memory.
+/// The copies on loan to the patron, by rising number. It reads these alone, and takes no memory.
 pub fn lent<A: Allocator + Copy>(desk: &Desk<A>, patron: PatronNo) -> LentCopies<'_, A>
     ensures copies { result ≡ loans_of (facts desk.now) (desk_of desk.now) patron }
     ensures known { All (λ (copy : ℕ). copy < (facts desk.now).copies) result }
@@ -87,7 +87,7 @@ pub(crate) fn waiting_title<A: Allocator + Copy>(
     }
 }
 
-/// Whether the hold has a copy that stands on a hold shelf.
+/// Whether the hold has a copy that is on a hold shelf.
 fn is_kept<A: Allocator + Copy>(desk: &Desk<A>, hold: &Hold) -> bool
     requires { IsKnownHold (facts desk.now) hold.now }
     ensures { result ≡ is_shelved (desk_of desk.now) hold.now.copy }

@@ -1,4 +1,4 @@
-//! What is told of a patron: how their loans and holds stand, and the items of a list of them.
+//! What is reported of a patron: the state of their loans and holds, and the items of a list of them.
 //!
 //! Each is read from one desk. Nothing is changed by it, and it takes no memory (docs/desk-rules.md, "What a
 //! patron has").

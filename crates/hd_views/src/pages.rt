@@ -15,8 +15,8 @@ use hd_desk::{Desk, HeldTitle, LentCopies};
 use hd_rules::{Day, ListItem, PatronNo, Summary, Wanted};
 use std::alloc::Allocator;
 
-/// Puts the wanted items of a list of the patron's into the page, as many as it has room for. What the page
-/// had before goes. It goes over the patron's own loans or holds alone, and takes no memory.
+/// Puts the wanted items of a list of the patron's into the page, as many as it has room for. They replace
+/// what the page had before. It reads the patron's own loans or holds alone, and takes no memory.
 pub fn page<A: Allocator + Copy, const N: usize>(
     desk: &Desk<A>,
     patron: PatronNo,

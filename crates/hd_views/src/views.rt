@@ -1,4 +1,4 @@
-//! How a patron's loans and holds stand.
+//! The state of a patron's loans and holds.
 
 ghost use Rattle.std.specs.Prelude.{◌≡◌, ◌<◌, ◌^◌, All, filter_map, length, ℕ};
 ghost use Rattle.hd_rules.specs.Views.{may_borrow, view};
@@ -13,7 +13,7 @@ use hd_rules::{
 };
 use std::alloc::Allocator;
 
-/// How the patron's loans and holds stand on the day. It goes over these alone, and takes no memory.
+/// The state of the patron's loans and holds on the day. It reads these alone, and takes no memory.
 pub fn view<A: Allocator + Copy>(desk: &Desk<A>, patron: PatronNo, day: Day) -> PatronView
     requires { patron < (facts desk.now).patrons }
     ensures { result ≡ view (facts desk.now) (desk_of desk.now) patron day }
@@ -66,7 +66,7 @@ fn count_kept<A: Allocator + Copy>(desk: &Desk<A>, patron: PatronNo, held: &[Hel
     kept
 }
 
-/// Whether a patron with so many loans and this limit may borrow.
+/// Whether a patron with this number of loans and this limit may borrow.
 fn may_borrow(loans: u32, limit: u32) -> Borrowing
     ensures { result ≡ may_borrow loans limit }
 {

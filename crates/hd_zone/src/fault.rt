@@ -12,7 +12,7 @@ use std::fmt;
 pub enum ZoneFault {
     /// It is no TZif file.
     Form(TzifFault),
-    /// The moment lies after the year 9999.
+    /// The moment is after the year 9999.
     Moment,
     /// The offset is no whole number of minutes, or a day or more.
     Minutes,

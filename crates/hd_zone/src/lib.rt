@@ -1,4 +1,4 @@
-//! Time zones: the offset of local time that a zone's file has at a moment, and a catalogue that goes by it.
+//! Time zones: the offset of local time that a zone's file has at a moment, and a catalogue that uses it.
 #![tactic(auto)]
 
 mod fault;

@@ -1,4 +1,4 @@
-//! A catalogue that goes by another offset.
+//! A catalogue with another offset.
 ghost use Rattle.std.specs.Prelude.{◌≡◌, IfErr, IfOk};
 ghost use Rattle.hd_catalogue.specs.Contents.{no_rows};
 ghost use Rattle.hd_catalogue.specs.Files.{lines_of};

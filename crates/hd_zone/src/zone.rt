@@ -9,8 +9,8 @@ use jiff_core::{Error, Offset, Timestamp};
 use jiff_tz::Tzif;
 use std::alloc::Global;
 
-/// By how many minutes local time is later than universal time in the zone of a TZif file, where so many
-/// seconds have gone since 1970-01-01, 00:00, of universal time.
+/// By how many minutes local time is later than universal time in the zone of a TZif file, `seconds` seconds
+/// after 1970-01-01, 00:00, of universal time.
 ///
 /// # Errors
 /// Why the file has no such offset.
@@ -40,7 +40,7 @@ fn zone_of(alloc: Global, file: &[u8]) -> Result<Tzif, ZoneFault>
     }
 }
 
-/// The moment at which so many seconds have gone since 1970, where zones know it.
+/// The moment `seconds` seconds after 1970-01-01, 00:00, of universal time, where a timestamp can hold it.
 fn moment_at(seconds: u64) -> Option<Timestamp>
     ensures moment { IfSome result (λ moment. moment.nanosecond ≡ nanos_of_seconds (pos seconds)) }
     ensures none { IfNone result (¬ IsTimestampNanos (nanos_of_seconds (pos seconds))) }

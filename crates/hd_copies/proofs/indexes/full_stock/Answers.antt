@@ -1,7 +1,7 @@
 use Rattle.std.proofs.Common.{◌≡◌, ℕ, ◌∙◌, ◌==◌, ◌&&◌, ap, arith, below_more}
 use Rattle.std.proofs.lemmas.Grind.{common_steps}
 use Rattle.hd_catalogue.specs.Contents.{facts_of}
-use Rattle.hd_stock.specs.Counts.{HasEntry, HasOneCopyMore}
+use Rattle.hd_open_shelf.specs.Counts.{HasEntry, HasOneCopyMore}
 use Rattle.hd_lemmas.proofs.Counts.{count_below-le}
 use Rattle.hd_copies.proofs.Opening.{count-next, stock-home}
 use Rattle.hd_copies.proofs.indexes.full_stock.Goals as goal

@@ -1,7 +1,7 @@
 use Rattle.std.proofs.Common.{◌≡◌, ℕ, ◌<◌, ◌==◌, ◌&&◌, length}
 use Rattle.hd_rules.specs.Choose.{count_below}
 use Rattle.hd_catalogue.specs.Contents.{facts_of}
-use Rattle.hd_stock.specs.Counts.{HasEntry, of_home, of_title}
+use Rattle.hd_open_shelf.specs.Counts.{HasEntry, of_home, of_title}
 use Rattle.hd_copies.proofs.indexes.full_stock.Given as goal
 
 abbrev pub invariant-loop-number : goal.invariant-loop-number

@@ -1,6 +1,6 @@
 use Rattle.std.proofs.Common.{◌≡◌, ◌∙◌, ap}
 use Rattle.std.specs.Arc.{arc_value}
-use Rattle.hd_stock.specs.Counts.{of_home, of_title}
+use Rattle.hd_open_shelf.specs.Counts.{of_home, of_title}
 use Rattle.hd_catalogue.specs.Contents.{facts_of}
 use Rattle.hd_copies.specs.Standing.{facts, standing}
 use Rattle.hd_copies.proofs.Answering.{bit-one, home-is, one-is, title-is}

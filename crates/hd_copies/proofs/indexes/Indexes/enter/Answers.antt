@@ -4,7 +4,7 @@ use Rattle.std.specs.FinMap.{get, insert}
 use Rattle.hd_rules.specs.declared.copies.CopyState.TheVariants.{Shelf, OnLoan, OnHoldShelf, InTransit}
 use Rattle.hd_rules.specs.Known.{IsKnownState}
 use Rattle.hd_shelf.specs.PlacesValue.{PlacesValue}
-use Rattle.hd_stock.specs.Counts.{HasOneCopyMore}
+use Rattle.hd_open_shelf.specs.Counts.{HasOneCopyMore}
 use Rattle.hd_catalogue.specs.Contents.{facts_of}
 use Rattle.hd_copies.specs.Indexing.{IsIndexed, all_but, copy_at, no_shelf}
 use Rattle.hd_copies.proofs.Moving.{but_here, comes, known_at, read_at}

@@ -1,4 +1,4 @@
-use Rattle.std.proofs.Common.{sym, ◌∙◌, subst, ◌+◌, List, arith}
+use Rattle.std.proofs.Common.{sym, ◌∙◌, ◌≡◌, subst, ◌+◌, List, arith}
 use Rattle.hd_rules.specs.declared.cells.Change.{Change}
 use Rattle.hd_rules.specs.Desk.{after}
 use Rattle.hd_inverse.specs.Cells.{AreKnownChanges}
@@ -6,17 +6,14 @@ use Rattle.hd_desk.specs.Accepting.{CanBeMade}
 use Rattle.hd_desk.specs.Desks.{desk_of, facts}
 use Rattle.hd_desk.specs.DoneValue.{done_of}
 use Rattle.hd_desk.proofs.Kept.{sound-same}
-use Rattle.hd_desk.proofs.Planned.{can-still, left-back, left-sound, still-sound, was-short}
+use Rattle.hd_desk.proofs.Planned.{can-still, left-back, left-sound, was-short}
 use Rattle.hd_desk.proofs.desk.Desk.apply.Given.{Over}
 use Rattle.hd_desk.proofs.desk.Desk.apply.Goals.{After-changes-2}
 use Rattle.hd_desk.proofs.desk.Desk.apply.Goals as goal
 use Rattle.hd_lemmas.proofs.Rules.{later_sound as sound-later}
 
 pub returns-in-Err-clause-sound : goal.returns-in-Err-clause-sound
-returns-in-Err-clause-sound g c = still-sound _ _ _ c.requires.sound
-
-pub returns-in-Err-clause-later : goal.returns-in-Err-clause-later
-returns-in-Err-clause-later g c = λ n above.
+returns-in-Err-clause-sound g c = λ n above.
     sound-later (facts c.args.self.now) c.args.number n (desk_of c.args.self.now) (omega arith)
     c.requires.sound
 
@@ -26,19 +23,13 @@ ready-requires g c =
     c.in-Ok.ensures.can.back.known
 
 pub returns-then-is_err-clause-sound : goal.returns-then-is_err-clause-sound
-returns-then-is_err-clause-sound g c =
-    still-sound _ _ _ (sound-same c.args.self.now c.ready.new.self c.args.number c.ready.ensures.contents
-    c.ready.ensures.desk
-    c.requires.sound)
-
-pub returns-then-is_err-clause-later : goal.returns-then-is_err-clause-later
-returns-then-is_err-clause-later g c = λ n above.
+returns-then-is_err-clause-sound g c = λ n above.
     sound-later (facts c.ready.new.self) c.args.number n (desk_of c.ready.new.self) (omega arith)
     (sound-same c.args.self.now c.ready.new.self c.args.number c.ready.ensures.contents c.ready.ensures.desk
     c.requires.sound)
 
-pub returns-then-is_err-clause-full : goal.returns-then-is_err-clause-full
-returns-then-is_err-clause-full g c =
+pub returns-then-is_err-clause-outcome : goal.returns-then-is_err-clause-outcome
+returns-then-is_err-clause-outcome g c =
     was-short c.args.self.now _ (done_of c.decide.new.done c.in-Ok.reply) c.changes.result.now c.ready.result
     c.is_err.result
     c.in-Ok.ensures.outcome
@@ -62,17 +53,18 @@ pub make-requires-clause-fit : goal.make-requires-clause-fit
 make-requires-clause-fit g c = (can g (goal.at.make-requires-clause-fit g c).After-changes-2).fit
 
 pub returns-clause-sound : goal.returns-clause-sound
-returns-clause-sound g c =
-    left-sound c.ready.new.self c.make.new.self c.args.number c.changes-2.result.now
-    (can g (goal.at.returns-clause-sound g c).After-changes-2) c.make.ensures.contents c.make.ensures.desk
-
-pub returns-clause-later : goal.returns-clause-later
-returns-clause-later g c = λ n above.
+returns-clause-sound g c = λ n above.
     sound-later (facts c.make.new.self) (c.args.number + 1) n (desk_of c.make.new.self) (omega arith)
-    (returns-clause-sound g c)
+    (left-sound c.ready.new.self c.make.new.self c.args.number c.changes-2.result.now
+    (can g (goal.at.returns-clause-sound g c).After-changes-2) c.make.ensures.contents c.make.ensures.desk)
 
-pub returns-clause-back : goal.returns-clause-back
-returns-clause-back g c =
-    left-back c.args.self.now c.make.new.self c.args.number c.decide.new.done.changes c.in-Ok.ensures.can
-    (c.make.ensures.contents ∙ c.ready.ensures.contents)
-    (c.make.ensures.desk ∙ (λ i. after (c.changes-2.ensures i) (c.ready.ensures.desk i)))
+pub returns-clause-did : goal.returns-clause-did
+returns-clause-did g c =
+    let made : desk_of c.make.new.self ≡ after c.decide.new.done.changes (desk_of c.args.self.now) =
+    c.make.ensures.desk ∙ (λ i. after (c.changes-2.ensures i) (c.ready.ensures.desk i)) in record {
+      findings = c.in-Ok.ensures.findings;
+      after = made;
+      back =
+          left-back c.args.self.now c.make.new.self c.args.number c.decide.new.done.changes c.in-Ok.ensures.can
+          (c.make.ensures.contents ∙ c.ready.ensures.contents) made;
+    }

@@ -118,7 +118,7 @@ undo-requires-clause-fit g c =
 
 pub returns-in_err-undo-clause-rise : goal.returns-in_err-undo-clause-rise
 returns-in_err-undo-clause-rise g c =
-    on_err _ _ (subst (λ (x : Counts). OnlyRise c.args.meter.now x) (sym c.in_err-undo.ensures.uncounted)
+    on_err _ _ (subst (λ (x : Counts). OnlyRise c.args.meter.now x) (sym c.in_err-undo.ensures.counted)
     (may_go g (goal.at.returns-in_err-undo-clause-rise g c).In-Ok).rise)
 
 pub take_out-requires-clause-there : goal.take_out-requires-clause-there
@@ -153,7 +153,7 @@ invariant_of-self-2 g c =
     let left = are_left g (goal.at.invariant_of-self-2 g c).After-take_out in
     let lent = are_lent g (goal.at.invariant_of-self-2 g c).In-Some aim goes.at.parts.at.there in
     let desk : desk_of c.undo.new.cells ≡ run k (survivors_of (older n rs) ++ survivors_of (newer n rs)) =
-    c.in_ok-undo.ensures.ok
+    c.in_ok-undo.ensures.desk
     ∙ (λ j. take_back (lent j) (c.self.invariant.0.desk j))
     ∙ undone_is c.laws.ensures k rs n aim (goes_at c.laws.ensures _ _ _ _ _ _ _ goes) in (
       subst (λ (m : ℕ). LeadsTo (record {

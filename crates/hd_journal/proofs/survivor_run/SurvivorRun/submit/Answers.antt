@@ -106,7 +106,7 @@ invariant_of-self-in-Ok g c =
       command = refl;
       done = ap (λ (x : Desk). outcome_of k x new) (sym desk) ∙ c.in-Ok.ensures.outcome;
       findings =
-          c.in-Ok.ensures.findings ∙ ap (λ (x : Desk). findings k x
+          c.in-Ok.ensures.did.findings ∙ ap (λ (x : Desk). findings k x
           (asks k x (plan k (n + 1) c.args.command.now))) desk;
     } in
     let next : LeadsTo (record {
@@ -118,7 +118,7 @@ invariant_of-self-in-Ok g c =
     (survivors_of c.push.new.self.records) new (done_of c.apply.new.done c.in-Ok.reply) runs known refl
     c.in-Ok.ensures.contents
     (ap survivors_of more ∙ survivors_joined rs (kept ∷ []))
-    c.in-Ok.ensures.outcome c.in-Ok.ensures.after in (
+    c.in-Ok.ensures.outcome c.in-Ok.ensures.did.after in (
       subst (λ (m : ℕ). LeadsTo (record {
         contents = c.apply.new.self.copies.contents;
         survivors = survivors_of c.push.new.self.records;
@@ -127,8 +127,8 @@ invariant_of-self-in-Ok g c =
       subst (λ (x : Contents). AreStored (facts_of x) c.push.new.self.records) (sym c.in-Ok.ensures.contents)
           (stored_more c.laws.ensures k rs c.push.new.self.records kept c.self.invariant.1 one
           (subst (λ (x : Contents). AreKnownChanges (facts_of x) c.apply.new.done.changes)
-          c.in-Ok.ensures.contents c.in-Ok.ensures.back.known)
-          c.in-Ok.ensures.back.apart more),
+          c.in-Ok.ensures.contents c.in-Ok.ensures.did.back.known)
+          c.in-Ok.ensures.did.back.apart more),
       subst (λ (x : Contents). AreListed (facts_of x) c.push.new.self)
           (c.deref-in-Ok.ensures ∙ c.catalogue-in-Ok.ensures)
           c.push.ensures.listed,
@@ -173,4 +173,4 @@ returns-in-Ok-clause-submitted g c =
     (next m)) last done)
 
 pub returns-in-Err-Memory-clause-rise : goal.returns-in-Err-Memory-clause-rise
-returns-in-Err-Memory-clause-rise g c = rise_step _ _ c.in-Err-Memory.ensures.step
+returns-in-Err-Memory-clause-rise g c = rise_step _ _ c.in-Err-Memory.ensures.counted
