@@ -24,7 +24,7 @@ use std::time::Clock;
 ///
 /// Whatever is asked, a stop at any moment leaves the changing turns of all that were answered, or of these
 /// and one more that nobody was answered (`left` of `take`). Where a turn can't be committed the journal
-/// shuts for good, and tells each that asks why.
+/// shuts for good, and reports why to each that asks.
 pub struct DurableJournal<T: TurnTable, A: Allocator = Global> {
     journal: Journal<A>,
     table: T,
@@ -64,7 +64,7 @@ impl<T: TurnTable, A: Allocator> Model for DurableJournal<T, A> {
 }
 
 impl<T: TurnTable, A: Allocator + Copy> DurableJournal<T, A> {
-    /// The journal, whose changing turns this table has, told by the journal's catalogue. It is open.
+    /// The journal, whose changing turns this table has, by the names of the journal's catalogue. It is open.
     pub fn new(journal: Journal<A>, table: T) -> DurableJournal<T, A>
         requires catalogue { T.contents table ≡ journal.contents }
         requires held { T.holds table (changing (facts journal) journal.turns) }
@@ -84,8 +84,8 @@ impl<T: TurnTable, A: Allocator + Copy> DurableJournal<T, A> {
         }
     }
 
-    /// One turn: what a terminal of a seat asks. What it names, and the terminal, are of the journal's
-    /// catalogue. A changing turn is committed before it is answered.
+    /// Makes one turn of what a terminal of a seat asks, and returns its number and its reply. What it names,
+    /// and the terminal, are of the journal's catalogue. A changing turn is committed before it is answered.
     ///
     /// # Errors
     /// `Memory` from an open journal, which then is as it was; `Unwritten` where this turn or an earlier one
