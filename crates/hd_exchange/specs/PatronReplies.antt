@@ -54,19 +54,19 @@ module _ (k : Contents) (values : PatronValues) where
   module _ (e : Extensions) (p : PatronNo) (check : PasswordValidity) (seen : PatronView)
       (items : List ListItem)
     where
-    abbrev pub IsLookReply : PatronQuestion → PatronReply → Type 0
-    IsLookReply about.Status (Status reply) =
-        IsStatusReply k values (language_told e.patrons p values.language.now) reply
-        × IsKnownStatus e.patrons p check seen values reply.outcome
-    IsLookReply about.Block (Status reply) =
-        IsStatusReply k values (language_told e.patrons p values.language.now) reply
-        × IsNotBlocked e.patrons p check seen values reply.outcome
-    IsLookReply (about.Information wanted) (Information reply) =
-        IsInformationReply k values (language_told e.patrons p values.language.now) reply
-        × IsKnownInformation k e.patrons p check seen items wanted values reply.outcome
-    IsLookReply about.RenewAll (RenewAll reply) =
-        IsRenewAllReply k values (OfRenewAll.NotRenewed seen.charged) reply
-    IsLookReply _ _ = ⊥
+      abbrev pub IsLookReply : PatronQuestion → PatronReply → Type 0
+      IsLookReply about.Status (Status reply) =
+          IsStatusReply k values (language_told e.patrons p values.language.now) reply
+          × IsKnownStatus e.patrons p check seen values reply.outcome
+      IsLookReply about.Block (Status reply) =
+          IsStatusReply k values (language_told e.patrons p values.language.now) reply
+          × IsNotBlocked e.patrons p check seen values reply.outcome
+      IsLookReply (about.Information wanted) (Information reply) =
+          IsInformationReply k values (language_told e.patrons p values.language.now) reply
+          × IsKnownInformation k e.patrons p check seen items wanted values reply.outcome
+      IsLookReply about.RenewAll (RenewAll reply) =
+          IsRenewAllReply k values (OfRenewAll.NotRenewed seen.charged) reply
+      IsLookReply _ _ = ⊥
 
   -- and where a look saw this desk, which asked what the password allows
   abbrev pub IsReplyOfLook : Extensions → PasswordValidity → PatronLook → Desk → PatronReply → Type 0

@@ -23,12 +23,12 @@ pub record IsStatusReply (k : Contents) (values : PatronValues) (spoken : List �
 module _ (file : Option Stored) (p : PatronNo) (check : PasswordValidity) (view : PatronView)
     (values : PatronValues)
   where
-  -- what is reported of a patron who is asked about
-  abbrev pub IsKnownStatus : PatronStatusOutcome → Type 0
-  IsKnownStatus (OfStatus.Known known) = IsToldOf file p check view values.patron.now known
-  IsKnownStatus _ = ⊥
+    -- what is reported of a patron who is asked about
+    abbrev pub IsKnownStatus : PatronStatusOutcome → Type 0
+    IsKnownStatus (OfStatus.Known known) = IsToldOf file p check view values.patron.now known
+    IsKnownStatus _ = ⊥
 
-  -- and of one whose card was to be blocked
-  abbrev pub IsNotBlocked : PatronStatusOutcome → Type 0
-  IsNotBlocked (OfStatus.NotBlocked known) = IsToldOf file p check view values.patron.now known
-  IsNotBlocked _ = ⊥
+    -- and of one whose card was to be blocked
+    abbrev pub IsNotBlocked : PatronStatusOutcome → Type 0
+    IsNotBlocked (OfStatus.NotBlocked known) = IsToldOf file p check view values.patron.now known
+    IsNotBlocked _ = ⊥
