@@ -1,7 +1,7 @@
 -- What a look saw.
 use Rattle.std.proofs.Common.{◌≡◌, ◌<◌, ◌≤◌, arith, refl, sym, ◌∙◌, subst, List, length, All, Option, Some}
 use Rattle.std.proofs.Common.{None}
-use Rattle.std.specs.Prelude.{IsSome, ⊤}
+use Rattle.std.specs.Prelude.{IsSome}
 use Rattle.std.specs.Option.{option_copied}
 use Rattle.std.proofs.lemmas.List.{length-take}
 use Rattle.std.proofs.lemmas.Option.{same_Some}
@@ -89,7 +89,7 @@ module _ (k : Contents) (old new : PatronReader) (book : Book) (is : IsJournalOf
       record {
         known = subst (λ (l : PatronLook). l.patron < (facts_of k).patrons) (sym same) patron;
         named = subst (λ (l : PatronLook). patron_name k l.patron ≡ Some v.patron.now) (sym same) named;
-        looked = subst (λ (seen : Option PatronView). IsSome seen) (sym view_is) tt;
+        looked = subst (λ (seen : Option PatronView). IsSome seen) (sym view_is) refl;
         items = all_seen there;
         few = few_seen;
       }
