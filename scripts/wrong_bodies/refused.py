@@ -47,18 +47,20 @@ IMPORT = re.compile(r"^(?:from|import) ([\w.]+)", re.M)
 OPEN = "open"  # stands in the place of the sum where a wrong body was refused once, and isn't any more
 DAYS = 10  # in so many days each wrong body is tried again once, also where it is known to be refused
 LOGIC = re.compile(r" logic (\w+)$")
+# a line that is a remark, of a source file and of one of definitions or proofs
+REMARKS = {".rt": re.compile(r"\s*//"), ".antt": re.compile(r"\s*--(\s|$)")}
 
 
 def sum_over(*texts):
     return hashlib.sha256(repr(texts).encode()).hexdigest()[:32]
 
 
-def without_remarks(text):
-    """A source file's lines but for blank ones and remarks. Those in a text of several lines stay, and so do all where
-    it isn't seen where such a text ends."""
+def without_remarks(text, kind=".rt"):
+    """A file's lines but for blank ones and remarks. Those in a text of several lines stay, and so do all where it isn't
+    seen where such a text ends."""
     left, is_in_text = [], False
     for line in text.split("\n"):
-        if is_in_text or line.strip() and not line.lstrip().startswith("//"):
+        if is_in_text or line.strip() and not REMARKS[kind].match(line):
             left.append(line)
             is_in_text ^= re.sub(r"\\.|'\"'", "", line).count('"') % 2 == 1
     return text.split("\n") if is_in_text else left
@@ -88,9 +90,10 @@ def meaning_of(script):
 
 @functools.cache
 def files_below(crate, part):
-    """The texts of a crate's files of specs/ or proofs/, by their paths in the crate."""
+    """The lines of a crate's files of a part of it, but for blank ones and remarks, by their paths in the crate."""
     top = TOP / "crates" / crate
-    return {str(path.relative_to(top)): read(path) for path in files_of(crate, (part,))}
+    return {str(path.relative_to(top)): without_remarks(read(path), path.suffix) if path.suffix in REMARKS else read(path)
+            for path in files_of(crate, (part,))}
 
 
 @functools.cache
@@ -148,7 +151,7 @@ class Grounds:
         """The sum of what it rests on that a wrong body is refused, by itself or beside the bodies of all functions."""
         crate = edit.crate
         if is_beside_all or edit.is_apart:
-            own = [edit.pairs, sorted(sources_of(crate).items()), files_below(crate, "proofs")]
+            own = [edit.pairs, files_below(crate, "src"), files_below(crate, "proofs")]
         else:
             own = [sources_with(crate, edit.functions, tuple(edit.pairs)), proofs_of(crate, edit.functions)]
         asked = [edit.pairs, edit.goal, edit.is_hard, sorted(edit.others), files_below(crate, "specs")]

@@ -51,25 +51,30 @@ Grounds(uses_of_all()).note("hd_date", edits)
 """
 DATE, DAY = "crates/hd_date/", "crates/hd_day/"
 CALENDAR, EDIT, NOTED = DATE + "src/calendar.rt", DATE + "wrong/leap_day_of_1896_refused.edit", DATE + "wrong/refused"
+MORE = "\nmore : Type\n"
 # what is changed: the file, which is made where it isn't there, a text that stands there once, or none, and what then
 # stands there, or behind the others; and whether it matters
 CHANGES = [
     ("the function's body", CALENDAR, "Err(_) => None", "Err(_) => Option::None", True),
     ("a clause of it, made weaker", CALENDAR, "IfSome result (IsCalendarDay year month day)",
      "IfSome result (λ day. day < end_of_days)", True),
-    ("its proof", DATE + "proofs/calendar/day_of/Answers.antt", "", "\n", True),
+    ("its proof", DATE + "proofs/calendar/day_of/Answers.antt", "", MORE, True),
     ("what another function promises", DATE + "src/offset.rt", "value { result ≡ self }", "value { self ≡ result }", True),
     ("another function's body", CALENDAR, "date.month, date.day)", "date.month, { date.day })", False),
-    ("another function's proof", DATE + "proofs/calendar/date_of/Answers.antt", "", "\n", False),
+    ("another function's proof", DATE + "proofs/calendar/date_of/Answers.antt", "", MORE, False),
     ("a constant", CALENDAR, "3_652_059", "3_652_060", True),
-    ("a lemma", DATE + "proofs/DayLemmas.antt", "", "\n", True),
-    ("a lemma in a module that is named as a proof's", DATE + "proofs/shared/Answers.antt", "", "\n", True),
-    ("a definition", DATE + "specs/Offset.antt", "", "\n", True),
-    ("a remark", CALENDAR, "", "// A remark.\n", False),
+    ("a lemma", DATE + "proofs/DayLemmas.antt", "", MORE, True),
+    ("a lemma in a module that is named as a proof's", DATE + "proofs/shared/Answers.antt", "", MORE, True),
+    ("a definition", DATE + "specs/Offset.antt", "", MORE, True),
+    ("a remark", CALENDAR, "", "\n// A remark.\n", False),
+    ("a remark in its proof", DATE + "proofs/calendar/day_of/Answers.antt", "", "\n-- A remark.\n", False),
+    ("a remark of a lemma", DATE + "proofs/DayLemmas.antt", "", "\n  -- A remark.\n--\n", False),
+    ("what isn't one of a lemma, since it begins with a sign", DATE + "proofs/DayLemmas.antt", "", "  --> more\n", True),
+    ("a remark of a definition below", DAY + "specs/Days.antt", "", "\n-- A remark.\n\n", False),
     ("a promise below", DAY + "src/day.rt", "ensures { result ≡ 0 }", "ensures { 0 ≡ result }", True),
-    ("a definition below", DAY + "specs/Days.antt", "", "\n", True),
-    ("a lemma below, named so", DAY + "proofs/Invariants.antt", "", "\n", True),
-    ("a proof below", DAY + "proofs/day/Day/of_number/Answers.antt", "", "\n", False),
+    ("a definition below", DAY + "specs/Days.antt", "", MORE, True),
+    ("a lemma below, named so", DAY + "proofs/Invariants.antt", "", MORE, True),
+    ("a proof below", DAY + "proofs/day/Day/of_number/Answers.antt", "", MORE, False),
     ("a body below", DAY + "src/day.rt", "Day { number: 0 }", "Day { number: 1 - 1 }", False),
     ("what is put in", EDIT, "1896", "1892", True),
     ("how its goal is tried", EDIT, "clause-none", "clause-none by all means", True),
@@ -121,12 +126,13 @@ def noted_after(copy, change, is_beside_all):
 
 
 def compare_sums(copy):
-    """Looks at what is noted after each change; beside the bodies of all functions each one in the crate matters."""
+    """Looks at what is noted after each change; beside the bodies of all functions each one in the crate matters,
+    but for remarks."""
     for is_beside_all in (False, True):
         before = noted_in(copy, is_beside_all)
         for change in CHANGES:
             name, file, *_, matters = change
-            matters |= is_beside_all and file.startswith(DATE)
+            matters |= is_beside_all and file.startswith(DATE) and "remark" not in name
             if (noted_after(copy, change, is_beside_all) != before) != matters:
                 raise Trouble(f"{name} is changed, and the sum is {'the same' if matters else 'another one'}")
 

@@ -69,7 +69,7 @@ def sounds_of(edits, bench):
 
 def try_together(edits, bench):
     """Tries edits of a crate, as many in a check as fit together, and what is then still open alone."""
-    bench.sound, bench.in_place = {}, set()
+    bench.sound, bench.missing, bench.in_place = {}, set(), set()
     for edit in edits:
         if edit.goal and may_aim(edit, bench):
             aim(edit, edit.goal, edit.means, bench)
