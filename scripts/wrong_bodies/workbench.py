@@ -29,6 +29,7 @@ class Bench:
 
     def __init__(self, crate, uses, libraries, room, end=None):
         self.crate, self.top, self.room, self.end = crate, os.path.join(TOP, "crates", crate), room, end
+        self.uses = uses
         self.seconds, self.instead, self.is_whole = 0, {}, False
         # which goals are proved in functions as they are, which goals these haven't, and functions that are then tried in
         # place, not in a copy
