@@ -1,7 +1,7 @@
 use Rattle.std.proofs.Common.{ℕ, ◌<◌, ◌≢◌}
 use Rattle.std.specs.Prelude.{slice_index_or}
-use Rattle.hd_folder.specs.declared.period_file.PeriodFile.{PeriodFile}
-use Rattle.hd_folder.proofs.period_file.has.Given as goal
+use Rattle.hd_periods.specs.declared.period_file.PeriodFile.{PeriodFile}
+use Rattle.hd_periods.proofs.period_file.has.Given as goal
 
 -- it is none of those so far
 abbrev pub invariant-loop-file : goal.invariant-loop-file

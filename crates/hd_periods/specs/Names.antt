@@ -4,9 +4,9 @@ use Rattle.std.specs.Prelude.{if◌then◌else◌, slice_index}
 use Rattle.std.specs.List.{after_first, before_first}
 use Rattle.std.specs.Str.{bytes_eq}
 use Rattle.std.specs.Str.Parse.{IsNumeral, digits_value}
-use Rattle.hd_folder.specs.declared.period_file.FileKind.{FileKind}
-use Rattle.hd_folder.specs.declared.period_file.FileKind.TheVariants.{Catalogue, Opening, Journal}
-use Rattle.hd_folder.specs.declared.period_file.PeriodFile.{PeriodFile}
+use Rattle.hd_periods.specs.declared.period_file.FileKind.{FileKind}
+use Rattle.hd_periods.specs.declared.period_file.FileKind.TheVariants.{Catalogue, Opening, Journal, Joined}
+use Rattle.hd_periods.specs.declared.period_file.PeriodFile.{PeriodFile}
 
 abbrev pub is_dot : ℕ → Bool
 is_dot byte = byte == 46
@@ -17,6 +17,7 @@ kind_named word =
     if bytes_eq word (codes "catalogue") then Some Catalogue
     else if bytes_eq word (codes "opening") then Some Opening
     else if bytes_eq word (codes "journal") then Some Journal
+    else if bytes_eq word (codes "joined") then Some Joined
     else None
 
 -- Four digits are written at least, and no zero stands before five or more.

@@ -1,9 +1,9 @@
 //! The files of a folder's periods, by their names, and which of the periods is the last complete one.
 ghost use Rattle.std.specs.Prelude.{◌≡◌, ℕ, Decides, IfNone, IfSome, SomeIff};
 ghost use Rattle.std.specs.Str.Parse.{digits_value};
-ghost use Rattle.hd_folder.specs.Names.{kind_named, IsName, IsNumberText, IsPadded};
-ghost use Rattle.hd_folder.specs.Periods.{Has, IsComplete, IsLastComplete, IsUpTo};
-ghost use Rattle.hd_folder.specs.declared.period_file.PeriodFile.{PeriodFile};
+ghost use Rattle.hd_periods.specs.Names.{kind_named, IsName, IsNumberText, IsPadded};
+ghost use Rattle.hd_periods.specs.Periods.{Has, IsComplete, IsLastComplete, IsUpTo};
+ghost use Rattle.hd_periods.specs.declared.period_file.PeriodFile.{PeriodFile};
 
 /// What a file of a period is.
 #[derive(Clone, Copy, PartialEq, Eq)]
@@ -14,6 +14,8 @@ pub enum FileKind {
     Opening,
     /// The journal.
     Journal,
+    /// The lines of the names that joined since the period began. It may be missing.
+    Joined,
 }
 
 /// A file of a period.
@@ -46,6 +48,7 @@ fn kind_named(word: &str) -> Option<FileKind>
         "catalogue" => Some(FileKind::Catalogue),
         "opening" => Some(FileKind::Opening),
         "journal" => Some(FileKind::Journal),
+        "joined" => Some(FileKind::Joined),
         _ => None,
     }
 }
@@ -72,7 +75,7 @@ fn is_padded(digits: &str) -> bool
 
 /// The last complete period of these files: the greatest number all of whose files are among them.
 pub fn last_complete(files: &[PeriodFile]) -> Option<u32>
-    ensures { IsLastComplete files.now result }
+    ensures { IsLastComplete (Has files.now) result }
 {
     let mut last = None;
     for file in files {
@@ -83,9 +86,9 @@ pub fn last_complete(files: &[PeriodFile]) -> Option<u32>
 
 /// The last complete period of those so far, if there is one, and of this one.
 fn later_complete(files: &[PeriodFile], last: Option<u32>, number: u32) -> Option<u32>
-    ensures complete { IfSome last (IsComplete files.now) → IfSome result (IsComplete files.now) }
+    ensures complete { IfSome last (IsComplete (Has files.now)) → IfSome result (IsComplete (Has files.now)) }
     ensures later { (other : ℕ) → IsUpTo last other → IsUpTo result other }
-    ensures this { IsComplete files.now number → IsUpTo result number }
+    ensures this { IsComplete (Has files.now) number → IsUpTo result number }
 {
     match last {
         Some(last) if number <= last => Some(last),
@@ -96,7 +99,7 @@ fn later_complete(files: &[PeriodFile], last: Option<u32>, number: u32) -> Optio
 
 /// Whether all files of a period are among these. The first one has no opening.
 fn is_complete(files: &[PeriodFile], number: u32) -> bool
-    ensures { Decides result (IsComplete files.now number) }
+    ensures { Decides result (IsComplete (Has files.now) number) }
 {
     has(files, number, FileKind::Catalogue)
         && has(files, number, FileKind::Journal)

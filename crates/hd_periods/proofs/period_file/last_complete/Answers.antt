@@ -1,6 +1,6 @@
 use Rattle.std.proofs.Common.{rules}
-use Rattle.hd_folder.proofs.LastLemmas.{more_up_to}
-use Rattle.hd_folder.proofs.period_file.last_complete.Goals as goal
+use Rattle.hd_periods.proofs.LastLemmas.{more_up_to}
+use Rattle.hd_periods.proofs.period_file.last_complete.Goals as goal
 
 pub loop-file-preserved : goal.loop-file-preserved
 loop-file-preserved c = record {
