@@ -1,15 +1,15 @@
 -- What a stop leaves of a library during a carry to the next period.
 use Rattle.std.proofs.Common.{arith, ◌≡◌, ◌≢◌, ◌⊎◌, inl, inr, ℕ, ◌<◌, ◌≤◌, List, [], ◌∷◌, ◌++◌, take, Option, Some, None, refl, ap, sym, ◌∙◌, subst}
-use Rattle.hd_periods.specs.declared.period_file.FileKind.{FileKind}
-use Rattle.hd_periods.specs.declared.period_file.FileKind.TheVariants.{Catalogue, Opening, Journal, Joined}
-use Rattle.hd_periods.specs.declared.period_file.PeriodFile.{PeriodFile}
-use Rattle.hd_periods.specs.declared.step.FileName.{FileName}
+use Rattle.hd_periods.specs.declared.name.FileKind.{FileKind}
+use Rattle.hd_periods.specs.declared.name.FileKind.TheVariants.{Catalogue, Opening, Journal, Joined}
+use Rattle.hd_periods.specs.declared.name.PeriodFile.{PeriodFile}
+use Rattle.hd_periods.specs.declared.name.FileName.{FileName}
 use Rattle.hd_periods.specs.declared.step.Step.{Step}
 use Rattle.hd_periods.specs.declared.step.Step.TheVariants.{Write, Sync, Rename, Remove, SyncFolder}
-use Rattle.hd_periods.specs.Folders.{Content, Whole, Torn, Folder, whole, part, put, synced, changed, MayLeave}
-use Rattle.hd_periods.specs.Periods.{IsComplete, IsLastComplete, IsUpTo}
-use Rattle.hd_periods.specs.Steps.{carry_steps, file}
-use Rattle.hd_periods.specs.Laws.{HasFile, IsBrokenOff, Nothing, First, Later, IsLibrary, KeepsOthers, IsWritten, IsWhole, IsCarried}
+use Rattle.hd_periods.specs.Folders.{Content, Whole, Torn, Folder, put, synced, changed, MayLeave}
+use Rattle.hd_periods.specs.Names.{file, part, whole}
+use Rattle.hd_periods.specs.Steps.{carry_steps}
+use Rattle.hd_periods.specs.Laws.{KeepsOthers, IsWritten, IsWhole}
 use Rattle.hd_periods.proofs.Stops.{LeftDuring, during, after, Keep, kept_after, up_to_sync}
 use Rattle.hd_periods.proofs.Puts.{put_here, others_stay, some_is_there, synced_is_there, written_is_there, written_and_synced}
 

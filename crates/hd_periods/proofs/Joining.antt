@@ -1,12 +1,13 @@
 -- What a stop leaves during a join.
 use Rattle.std.proofs.Common.{◌≡◌, ◌≢◌, ◌⊎◌, inl, inr, ℕ, List, [], ◌∷◌, Option, Some, None, refl, sym, ◌∙◌, subst}
-use Rattle.hd_periods.specs.declared.period_file.FileKind.{FileKind}
-use Rattle.hd_periods.specs.declared.period_file.FileKind.TheVariants.{Joined}
-use Rattle.hd_periods.specs.declared.period_file.PeriodFile.{PeriodFile}
+use Rattle.hd_periods.specs.declared.name.FileKind.{FileKind}
+use Rattle.hd_periods.specs.declared.name.FileKind.TheVariants.{Joined}
+use Rattle.hd_periods.specs.declared.name.PeriodFile.{PeriodFile}
 use Rattle.hd_periods.specs.declared.step.Step.{Step}
 use Rattle.hd_periods.specs.declared.step.Step.TheVariants.{Write, Sync, Rename, SyncFolder}
-use Rattle.hd_periods.specs.Folders.{Content, Whole, Torn, Folder, whole, part, put, synced, MayLeave}
-use Rattle.hd_periods.specs.Steps.{join_steps, file}
+use Rattle.hd_periods.specs.Folders.{Content, Whole, Torn, Folder, put, synced, MayLeave}
+use Rattle.hd_periods.specs.Names.{file, part, whole}
+use Rattle.hd_periods.specs.Steps.{join_steps}
 use Rattle.hd_periods.specs.Laws.{IsWritten, KeepsAllButJoined}
 use Rattle.hd_periods.proofs.Stops.{LeftDuring, after, Keep, kept_after, up_to_sync}
 use Rattle.hd_periods.proofs.Puts.{put_here, written_and_synced, part_is_beside, other_file_stays}

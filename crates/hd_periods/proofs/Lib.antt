@@ -1,6 +1,6 @@
-pub mod LastLemmas
-pub mod Stops
-pub mod Puts
 pub mod Carrying
-pub mod Libraries
 pub mod Joining
+pub mod LastLemmas
+pub mod Libraries
+pub mod Puts
+pub mod Stops

@@ -1,10 +1,10 @@
 -- What a folder has after a change of one name.
 use Rattle.std.proofs.Common.{arith, ◌≡◌, ◌≢◌, ℕ, ◌==◌, Bool, true, false, ◌&&◌, Option, Some, None, List, refl, ap, sym, ◌∙◌}
-use Rattle.hd_periods.specs.declared.period_file.FileKind.{FileKind}
-use Rattle.hd_periods.specs.declared.period_file.FileKind.TheVariants.{Catalogue, Opening, Journal, Joined}
-use Rattle.hd_periods.specs.declared.step.FileName.{FileName}
-use Rattle.hd_periods.specs.Folders.{Content, Whole, Torn, Folder, put, part, whole, same_name, same_kind, same_place, synced}
-use Rattle.hd_periods.specs.Steps.{file}
+use Rattle.hd_periods.specs.declared.name.FileKind.{FileKind}
+use Rattle.hd_periods.specs.declared.name.FileKind.TheVariants.{Catalogue, Opening, Journal, Joined}
+use Rattle.hd_periods.specs.declared.name.FileName.{FileName}
+use Rattle.hd_periods.specs.Folders.{Content, Whole, Torn, Folder, put, same_name, same_kind, same_place, synced}
+use Rattle.hd_periods.specs.Names.{file, part, whole}
 use Rattle.hd_periods.specs.Laws.{KeepsOthers}
 
 equal : (n : ℕ) → (n == n) ≡ true

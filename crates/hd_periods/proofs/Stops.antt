@@ -1,6 +1,6 @@
 -- What a stop leaves during steps, by what holds between them.
 use Rattle.std.proofs.Common.{◌≡◌, ◌⊎◌, inl, inr, ℕ, zero, suc, List, [], ◌∷◌, ◌++◌, take, sym, subst}
-use Rattle.hd_periods.specs.declared.period_file.PeriodFile.{PeriodFile}
+use Rattle.hd_periods.specs.declared.name.PeriodFile.{PeriodFile}
 use Rattle.hd_periods.specs.declared.step.Step.{Step}
 use Rattle.hd_periods.specs.declared.step.Step.TheVariants.{Write, Sync, Rename, Remove, SyncFolder}
 use Rattle.hd_periods.specs.Folders.{Folder, changed, LeftAfter, LeftAfterAll}

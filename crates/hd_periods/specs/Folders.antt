@@ -4,10 +4,11 @@
 -- folder wasn't synced.
 use Rattle.std.specs.Prelude.{◌≡◌, ◌≢◌, ◌⊎◌, ◌&&◌, ◌==◌, ℕ, Bool, true, false, if◌then◌else◌}
 use Rattle.std.specs.Prelude.{List, [], ◌∷◌, Option, Some, None}
-use Rattle.hd_periods.specs.declared.period_file.FileKind.{FileKind}
-use Rattle.hd_periods.specs.declared.period_file.FileKind.TheVariants.{Catalogue, Opening, Journal, Joined}
-use Rattle.hd_periods.specs.declared.period_file.PeriodFile.{PeriodFile}
-use Rattle.hd_periods.specs.declared.step.FileName.{FileName}
+use Rattle.hd_periods.specs.declared.name.FileKind.{FileKind}
+use Rattle.hd_periods.specs.declared.name.FileKind.TheVariants.{Catalogue, Opening, Journal, Joined}
+use Rattle.hd_periods.specs.declared.name.PeriodFile.{PeriodFile}
+use Rattle.hd_periods.specs.declared.name.FileName.{FileName}
+use Rattle.hd_periods.specs.Names.{part, whole}
 use Rattle.hd_periods.specs.declared.step.Step.{Step}
 use Rattle.hd_periods.specs.declared.step.Step.TheVariants.{Write, Sync, Rename, Remove, SyncFolder}
 
@@ -19,13 +20,6 @@ pub data Content : Type 0 where
 -- A folder: what each name leads to.
 abbrev pub Folder : Type 0
 Folder = FileName → Option Content
-
--- The name that a file has when it is whole, and the one beside it.
-abbrev pub whole : ℕ → FileKind → FileName
-whole number kind = record { file = record { number = number; kind = kind }; is_part = false }
-
-abbrev pub part : ℕ → FileKind → FileName
-part number kind = record { file = record { number = number; kind = kind }; is_part = true }
 
 abbrev pub same_kind : FileKind → FileKind → Bool
 same_kind Catalogue Catalogue = true
@@ -42,6 +36,10 @@ same_place _ _ = false
 abbrev pub same_name : FileName → FileName → Bool
 same_name a b =
     same_kind a.file.kind b.file.kind && (same_place a.is_part b.is_part && (a.file.number == b.file.number))
+
+-- A name leads to a file.
+abbrev pub IsThere : Folder → FileName → Type 0
+IsThere folder name = folder name ≢ None
 
 -- a folder with this at a name
 abbrev pub put : Folder → FileName → Option Content → Folder

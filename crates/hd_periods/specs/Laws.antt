@@ -1,30 +1,13 @@
 -- What a stop leaves of a library.
 use Rattle.std.specs.Prelude.{◌≡◌, ◌≢◌, ◌⊎◌, ℕ, ◌≤◌, ◌<◌, List, take, Option, Some, None}
-use Rattle.hd_periods.specs.declared.period_file.FileKind.{FileKind}
-use Rattle.hd_periods.specs.declared.period_file.FileKind.TheVariants.{Catalogue, Opening, Journal, Joined}
-use Rattle.hd_periods.specs.declared.period_file.PeriodFile.{PeriodFile}
-use Rattle.hd_periods.specs.declared.step.FileName.{FileName}
-use Rattle.hd_periods.specs.Folders.{Content, Whole, Folder, whole, part, MayLeave}
-use Rattle.hd_periods.specs.Periods.{IsLastComplete, IsUpTo}
-use Rattle.hd_periods.specs.Steps.{carry_steps, join_steps, file}
-
--- A file of this kind of a period is there, whole or torn.
-abbrev pub HasFile : Folder → ℕ → FileKind → Type 0
-HasFile folder number kind = folder (whole number kind) ≢ None
-
--- A carry, or a beginning, was broken off at a period, or never began: it lacks no file that it had. A carry has
--- written the opening beside its name before any other file has its own.
-pub data IsBrokenOff (folder : Folder) (number : ℕ) : Type 0 where
-  Nothing : folder (whole number Catalogue) ≡ None → folder (whole number Opening) ≡ None
-      → folder (whole number Journal) ≡ None → IsBrokenOff folder number
-  First : number ≡ 1 → HasFile folder number Catalogue → IsBrokenOff folder number
-  Later : number ≢ 1 → folder (whole number Opening) ≡ None → folder (part number Opening) ≢ None
-      → IsBrokenOff folder number
-
--- A folder has the library of this period, or none: it is the last complete one, and no later one lacks a file.
-pub record IsLibrary (folder : Folder) (last : Option ℕ) : Type 0 where
-  pub is_last : IsLastComplete (HasFile folder) last
-  pub later : (number : ℕ) → ¬ IsUpTo last number → IsBrokenOff folder number
+use Rattle.hd_periods.specs.declared.name.FileKind.{FileKind}
+use Rattle.hd_periods.specs.declared.name.FileKind.TheVariants.{Catalogue, Opening, Journal, Joined}
+use Rattle.hd_periods.specs.declared.name.PeriodFile.{PeriodFile}
+use Rattle.hd_periods.specs.declared.name.FileName.{FileName}
+use Rattle.hd_periods.specs.Folders.{Content, Whole, Folder, IsThere, MayLeave}
+use Rattle.hd_periods.specs.Periods.{IsLibrary, IsUpTo}
+use Rattle.hd_periods.specs.Steps.{carry_steps, join_steps}
+use Rattle.hd_periods.specs.Names.{file, whole}
 
 -- All files of all other periods are as they were, those beside their names too.
 abbrev pub KeepsOthers : ℕ → Folder → Folder → Type 0
@@ -42,7 +25,7 @@ pub record IsWhole (bytes : PeriodFile → List ℕ) (folder : Folder) (number :
 
 -- The library of the next period, with all its files.
 pub record IsCarried (bytes : PeriodFile → List ℕ) (folder : Folder) (next : ℕ) : Type 0 where
-  pub library : IsLibrary folder (Some next)
+  pub library : IsLibrary (IsThere folder) (Some next)
   pub files : IsWhole bytes folder next
 
 -- A carry to the next period of a library, or a beginning of that period, is a run of steps: a stop after any
@@ -50,14 +33,14 @@ pub record IsCarried (bytes : PeriodFile → List ℕ) (folder : Folder) (next :
 abbrev pub AStopLeavesTheOldOrTheNew : Type 0
 AStopLeavesTheOldOrTheNew =
     (bytes : PeriodFile → List ℕ) (start left : Folder) (last : Option ℕ) (next count : ℕ) → 1 < next
-    → ¬ IsUpTo last next → IsLibrary start last → MayLeave bytes start (take count (carry_steps next)) left
-    → KeepsOthers next start left × (IsLibrary left last ⊎ IsCarried bytes left next)
+    → ¬ IsUpTo last next → IsLibrary (IsThere start) last → MayLeave bytes start (take count (carry_steps next)) left
+    → KeepsOthers next start left × (IsLibrary (IsThere left) last ⊎ IsCarried bytes left next)
 
 -- After all of its steps it leaves the next period.
 abbrev pub ACarryThatEndedStays : Type 0
 ACarryThatEndedStays =
     (bytes : PeriodFile → List ℕ) (start left : Folder) (last : Option ℕ) (next : ℕ) → 1 < next
-    → ¬ IsUpTo last next → IsLibrary start last → MayLeave bytes start (carry_steps next) left
+    → ¬ IsUpTo last next → IsLibrary (IsThere start) last → MayLeave bytes start (carry_steps next) left
     → IsCarried bytes left next
 
 -- All files but the one of the lines that joined a period are as they were, where they have their names.

@@ -1,14 +1,9 @@
 -- The steps of a carry and of a join, in their order.
 use Rattle.std.specs.Prelude.{ℕ, List, [], ◌∷◌}
-use Rattle.hd_periods.specs.declared.period_file.FileKind.{FileKind}
-use Rattle.hd_periods.specs.declared.period_file.FileKind.TheVariants.{Catalogue, Opening, Journal, Joined}
-use Rattle.hd_periods.specs.declared.period_file.PeriodFile.{PeriodFile}
+use Rattle.hd_periods.specs.declared.name.FileKind.TheVariants.{Catalogue, Opening, Journal, Joined}
 use Rattle.hd_periods.specs.declared.step.Step.{Step}
 use Rattle.hd_periods.specs.declared.step.Step.TheVariants.{Write, Sync, Rename, Remove, SyncFolder}
-use Rattle.hd_periods.specs.Folders.{part, whole}
-
-abbrev pub file : ℕ → FileKind → PeriodFile
-file number kind = record { number = number; kind = kind }
+use Rattle.hd_periods.specs.Names.{file, part, whole}
 
 -- The opening is whole before the catalogue has its name, and gets its own name last: this makes the period
 -- complete.

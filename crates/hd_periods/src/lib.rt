@@ -3,9 +3,11 @@
 #![tactic(auto)]
 
 mod laws;
-mod period_file;
+mod library;
+mod name;
 mod step;
 
 pub use crate::laws::{a_stop_leaves_the_lines_or_all, a_stop_leaves_the_old_or_the_new};
-pub use crate::period_file::{FileKind, PeriodFile, last_complete};
-pub use crate::step::{FileName, Step, carry_steps, join_steps};
+pub use crate::library::{last_complete, library_of, missing};
+pub use crate::name::{FileKind, FileName, PeriodFile};
+pub use crate::step::{Step, carry_steps, join_steps};

@@ -1,40 +1,9 @@
 //! The steps that change a library's folder, and their order in a carry and in a join.
 ghost use Rattle.std.specs.Prelude.{◌≡◌};
-ghost use Rattle.hd_periods.specs.Folders.{part, whole};
-ghost use Rattle.hd_periods.specs.Steps.{carry_steps, file, join_steps};
+ghost use Rattle.hd_periods.specs.Names.{file};
+ghost use Rattle.hd_periods.specs.Steps.{carry_steps, join_steps};
 
-use crate::period_file::{FileKind, PeriodFile};
-
-/// The name of a file of a period, or of one that is written beside it until it is whole.
-#[derive(Clone, Copy)]
-pub struct FileName {
-    /// The file.
-    pub file: PeriodFile,
-    /// Whether it is the name beside it, which ends in `.part`.
-    pub is_part: bool,
-}
-
-impl FileName {
-    /// The name that a file of a period has when it is whole.
-    pub fn whole(number: u32, kind: FileKind) -> FileName
-        ensures { result ≡ whole number kind }
-    {
-        FileName {
-            file: PeriodFile { number, kind },
-            is_part: false,
-        }
-    }
-
-    /// The name beside it.
-    pub fn part(number: u32, kind: FileKind) -> FileName
-        ensures { result ≡ part number kind }
-    {
-        FileName {
-            file: PeriodFile { number, kind },
-            is_part: true,
-        }
-    }
-}
+use crate::name::{FileKind, FileName, PeriodFile};
 
 /// A call that changes a folder, or waits until the disk has what was changed.
 #[derive(Clone, Copy)]
