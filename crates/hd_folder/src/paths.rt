@@ -195,12 +195,7 @@ pub fn file_path(alloc: Global, folder: &str, name: &FileName) -> Result<String,
 }
 
 /// The path of a file of a period, by what it is.
-fn path_of(
-    alloc: Global,
-    folder: &str,
-    period: u32,
-    kind: FileKind,
-) -> Result<String, AllocError> {
+fn path_of(alloc: Global, folder: &str, period: u32, kind: FileKind) -> Result<String, AllocError> {
     file_path(alloc, folder, &FileName::whole(period, kind))
 }
 

@@ -16,8 +16,8 @@ const IRREGULAR: &str = "it is no regular file";
 /// How many bytes are written to see whether the disk takes them: a page of a journal's file.
 const PAGE: usize = 4_096;
 
-/// Writes a file beside its path, waits until the disk has it, and gives it its name. At each moment there is the
-/// whole file at the path, or what was there before.
+/// Writes a part file, waits until the disk has it, and renames it to its path. At each moment there is the whole
+/// file at the path, or what was there before.
 ///
 /// # Errors
 /// The system refuses it.
@@ -27,7 +27,7 @@ pub fn write_whole(rt: &HostRuntime, path: &str, bytes: &[u8]) -> Result<(), Fol
     name_part(rt, part.as_str(), path)
 }
 
-/// The path of a file until it is whole.
+/// The path of the part file of a file.
 ///
 /// # Errors
 /// Out of memory.
@@ -77,16 +77,16 @@ pub(crate) fn sync_path(rt: &HostRuntime, path: &str) -> Result<(), FolderFault>
     }
 }
 
-/// Gives a file that was written beside its path its name, and waits until the disk has it.
+/// Renames a part file to its path, and waits until the disk has the name.
 ///
 /// # Errors
-/// The system refuses the name; or it refuses to sync the folder, and then the file has its name.
+/// The system refuses it. Where it only refuses to sync the folder, the file has its name.
 pub fn name_part(rt: &HostRuntime, part: &str, path: &str) -> Result<(), FolderFault> {
     rename_part(rt, part, path)?;
     sync_folder(rt, folder_of(path), Some(path))
 }
 
-/// Gives a file that was written beside its path its name.
+/// Renames a part file to its path.
 ///
 /// # Errors
 /// The system refuses it.
@@ -97,8 +97,8 @@ pub(crate) fn rename_part(rt: &HostRuntime, part: &str, path: &str) -> Result<()
     }
 }
 
-/// Waits until the disk has the names of a folder. `renamed` is the path of the file that has got its name since
-/// it was synced, if one has.
+/// Waits until the disk has the names of a folder. `renamed` is the path of a file that was renamed since the last
+/// sync, if one was.
 ///
 /// # Errors
 /// The system refuses it.
@@ -153,7 +153,7 @@ fn open_regular(rt: &HostRuntime, path: &str, seen: &Metadata) -> io::Result<Fil
     }
 }
 
-/// Writes a page beside a file, waits until the disk has it, and removes it again.
+/// Writes a page to a trial file in the same folder, waits until the disk has it, and removes it again.
 ///
 /// # Errors
 /// The system refuses it.

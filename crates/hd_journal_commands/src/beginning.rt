@@ -167,7 +167,7 @@ fn begin_file(rt: &HostRuntime, files: &LibraryFiles<'_>) -> Result<(), JournalC
 /// The digest of a library, which a journal may begin with at a path.
 ///
 /// # Errors
-/// A file can't be read, or is refused; something lies at the path.
+/// A file can't be read, or is refused; there is something at the path.
 fn digest_of_fit(
     rt: &HostRuntime,
     files: &LibraryFiles<'_>,

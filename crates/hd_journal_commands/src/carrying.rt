@@ -133,8 +133,6 @@ fn write_opening(rt: &HostRuntime, path: &str, opening: &[u8]) -> Result<(), Jou
 /// error says so.
 fn report_carried(rt: &HostRuntime, report: &[u8]) {
     if rt.stdout().write_all(report).is_err() {
-        let _reported = eprintln!(rt;
-            "carried over, but what was carried over can't be printed"
-        );
+        let _reported = eprintln!(rt; "carried over, but what was carried over can't be printed");
     }
 }

@@ -34,11 +34,7 @@ pub fn make_at(rt: &HostRuntime, path: &str) -> Result<(), LibraryJournalFault> 
 ///
 /// # Errors
 /// The system refuses it; out of memory.
-pub fn fill_at(
-    rt: &HostRuntime,
-    path: &str,
-    digest: &[u8; 32],
-) -> Result<(), LibraryJournalFault> {
+pub fn fill_at(rt: &HostRuntime, path: &str, digest: &[u8; 32]) -> Result<(), LibraryJournalFault> {
     let (conn, _) = open(connect(rt, path, Unknown), digest)?;
     end_kept(conn)
 }

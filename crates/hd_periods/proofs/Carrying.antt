@@ -69,15 +69,23 @@ module _ (bytes : PeriodFile → List ℕ) (start : Folder) (next : ℕ) where
   }
 
   first_keep : Keep bytes (IsOld start next) start first_steps
-  first_keep =
-      (λ folder old. stays_old folder (part next Opening) (Some Torn) refl old refl refl refl
-      (λ h. written_is_there folder (part next Opening) Torn),
-      (λ folder old. stays_old folder (part next Opening)
-      (synced (bytes (file next Opening)) (folder (part next Opening))) refl old refl refl refl
-      (λ h. rw put_here (synced_is_there (bytes (file next Opening)) (folder (part next Opening)) h)),
-      (λ folder old. stays_old folder (part next Catalogue) (Some Torn) refl old refl refl refl (λ h. h),
-      (λ folder old. stays_old folder (part next Catalogue)
-      (synced (bytes (file next Catalogue)) (folder (part next Catalogue))) refl old refl refl refl (λ h. h), tt))))
+  first_keep = (
+    λ folder old. stays_old folder (part next Opening) (Some Torn) refl old refl refl refl
+        (λ h. written_is_there folder (part next Opening) Torn),
+    (
+      λ folder old. stays_old folder (part next Opening)
+          (synced (bytes (file next Opening)) (folder (part next Opening))) refl old refl refl refl
+          (λ h. rw put_here (synced_is_there (bytes (file next Opening)) (folder (part next Opening)) h)),
+      (
+        λ folder old. stays_old folder (part next Catalogue) (Some Torn) refl old refl refl refl (λ h. h),
+        (
+          λ folder old. stays_old folder (part next Catalogue)
+              (synced (bytes (file next Catalogue)) (folder (part next Catalogue))) refl old refl refl refl (λ h. h),
+          tt,
+        ),
+      ),
+    ),
+  )
 
   stays_under_way : (folder : Folder) (name : FileName) (content : Option Content) → name.file.number ≡ next
       → IsUnderWay start next folder
@@ -91,14 +99,22 @@ module _ (bytes : PeriodFile → List ℕ) (start : Folder) (next : ℕ) where
   }
 
   second_keep : Keep bytes (IsUnderWay start next) first second_steps
-  second_keep =
-      (λ folder way. stays_under_way (put folder (whole next Catalogue) (first (part next Catalogue)))
-      (part next Catalogue) None refl
-      (stays_under_way folder (whole next Catalogue) (first (part next Catalogue)) refl way refl refl) refl refl,
-      (λ folder way. stays_under_way folder (whole next Journal) None refl way refl refl,
-      (λ folder way. stays_under_way folder (whole next Journal) (Some Torn) refl way refl refl,
-      (λ folder way. stays_under_way folder (whole next Journal)
-      (synced (bytes (file next Journal)) (folder (whole next Journal))) refl way refl refl, tt))))
+  second_keep = (
+    λ folder way. stays_under_way (put folder (whole next Catalogue) (first (part next Catalogue)))
+        (part next Catalogue) None refl
+        (stays_under_way folder (whole next Catalogue) (first (part next Catalogue)) refl way refl refl) refl refl,
+    (
+      λ folder way. stays_under_way folder (whole next Journal) None refl way refl refl,
+      (
+        λ folder way. stays_under_way folder (whole next Journal) (Some Torn) refl way refl refl,
+        (
+          λ folder way. stays_under_way folder (whole next Journal)
+              (synced (bytes (file next Journal)) (folder (whole next Journal))) refl way refl refl,
+          tt,
+        ),
+      ),
+    ),
+  )
 
   opening_beside : first (part next Opening) ≡ Some (Whole (bytes (file next Opening)))
   opening_beside = written_and_synced start (part next Opening) (bytes (file next Opening))

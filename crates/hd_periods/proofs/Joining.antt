@@ -45,12 +45,17 @@ module _ (bytes : PeriodFile → List ℕ) (start : Folder) (number : ℕ) where
   }
 
   keep : Keep bytes (HasLinesOrAll bytes start number) start steps
-  keep =
-      (λ folder has. beside folder (Some Torn) has,
-      (λ folder has. beside folder (synced (bytes (file number Joined)) (folder (part number Joined))) has,
-      (λ folder has.
-      beside (put folder (whole number Joined) (synced_beside (part number Joined))) None (renamed folder has),
-      tt)))
+  keep = (
+    λ folder has. beside folder (Some Torn) has,
+    (
+      λ folder has. beside folder (synced (bytes (file number Joined)) (folder (part number Joined))) has,
+      (
+        λ folder has.
+            beside (put folder (whole number Joined) (synced_beside (part number Joined))) None (renamed folder has),
+        tt,
+      ),
+    ),
+  )
 
   begins : HasLinesOrAll bytes start number start
   begins = record { others = λ of kind other. refl; lines = inl refl }

@@ -27,19 +27,25 @@ module _ (next : ℕ) (start folder : Folder) (keeps : KeepsOthers next start fo
 
   complete_before : (number : ℕ) → number ≢ next → IsComplete (IsThere folder) number
       → IsComplete (IsThere start) number
-  complete_before number other all =
-      (has_before number Catalogue other all.0, has_before number Journal other all.1, elim all.2 [
-        | inl one ↦ inl one
-        | inr opening ↦ inr (has_before number Opening other opening)
-      ])
+  complete_before number other all = (
+    has_before number Catalogue other all.0,
+    has_before number Journal other all.1,
+    elim all.2 [
+      | inl one ↦ inl one
+      | inr opening ↦ inr (has_before number Opening other opening)
+    ],
+  )
 
   complete_after : (number : ℕ) → number ≢ next → IsComplete (IsThere start) number
       → IsComplete (IsThere folder) number
-  complete_after number other all =
-      (has_after number Catalogue other all.0, has_after number Journal other all.1, elim all.2 [
-        | inl one ↦ inl one
-        | inr opening ↦ inr (has_after number Opening other opening)
-      ])
+  complete_after number other all = (
+    has_after number Catalogue other all.0,
+    has_after number Journal other all.1,
+    elim all.2 [
+      | inl one ↦ inl one
+      | inr opening ↦ inr (has_after number Opening other opening)
+    ],
+  )
 
   broken_after : (number : ℕ) → number ≢ next → IsBrokenOff (IsThere start) number
       → IsBrokenOff (IsThere folder) number
@@ -47,8 +53,11 @@ module _ (next : ℕ) (start folder : Folder) (keeps : KeepsOthers next start fo
       elim broken [
         | inl first ↦ inl (first.0, has_after number Catalogue other first.1)
         | inr later ↦
-            inr (later.0, (λ has. later.1 (has_before number Opening other has)),
-            λ e. later.2 (sym (keeps (part number Opening) other) ∙ e))
+            inr (
+              later.0,
+              (λ has. later.1 (has_before number Opening other has)),
+              λ e. later.2 (sym (keeps (part number Opening) other) ∙ e),
+            )
       ]
 
   -- without its opening the period isn't complete
@@ -66,12 +75,14 @@ module _ (next : ℕ) (start folder : Folder) (keeps : KeepsOthers next start fo
         | inl e ↦ not_complete later none (subst (λ n. IsComplete (IsThere folder) n) e all)
         | inr other ↦ is number (complete_before number other all)
       ]
-  last_old (Some last) later above none is =
-      (complete_after last (λ e. above (omega (arith, e))) is.0, λ number all.
-      elim (cases_eq number next) [
-        | inl e ↦ absurd (not_complete later none (subst (λ n. IsComplete (IsThere folder) n) e all))
-        | inr other ↦ is.1 number (complete_before number other all)
-      ])
+  last_old (Some last) later above none is = (
+    complete_after last (λ e. above (omega (arith, e))) is.0,
+    λ number all.
+        elim (cases_eq number next) [
+          | inl e ↦ absurd (not_complete later none (subst (λ n. IsComplete (IsThere folder) n) e all))
+          | inr other ↦ is.1 number (complete_before number other all)
+        ],
+  )
 
   up_to_next : (last : Option ℕ) (number : ℕ) → ¬ IsUpTo last next → IsUpTo last number → number ≤ next
   up_to_next None number above is = absurd is
@@ -127,15 +138,20 @@ module _ (next : ℕ) (start folder : Folder) (keeps : KeepsOthers next start fo
   pub new_library : (bytes : PeriodFile → List ℕ) (last : Option ℕ) → ¬ IsUpTo last next → IsLibrary (IsThere start) last
       → IsWhole bytes folder next → IsLibrary (IsThere folder) (Some next)
   new_library bytes last above library files = record {
-    is_last =
-        ((written_there bytes Catalogue files.catalogue, written_there bytes Journal files.journal,
-        inr (written_there bytes Opening files.opening)), λ number all.
-        elim (cases_eq number next) [
-          | inl e ↦ omega (arith, e)
-          | inr other ↦
-              up_to_next last number above
-              (complete_up_to last number library.is_last (complete_before number other all))
-        ]);
+    is_last = (
+      (
+        written_there bytes Catalogue files.catalogue,
+        written_there bytes Journal files.journal,
+        inr (written_there bytes Opening files.opening),
+      ),
+      λ number all.
+          elim (cases_eq number next) [
+            | inl e ↦ omega (arith, e)
+            | inr other ↦
+                up_to_next last number above
+                (complete_up_to last number library.is_last (complete_before number other all))
+          ],
+    );
     later = λ name there is_whole joined more.
         let other : name.file.number ≢ next = λ e. more (omega (arith, e)) in
         broken_after name.file.number other

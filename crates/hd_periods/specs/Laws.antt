@@ -9,7 +9,7 @@ use Rattle.hd_periods.specs.Periods.{IsLibrary, IsUpTo}
 use Rattle.hd_periods.specs.Steps.{carry_steps, join_steps}
 use Rattle.hd_periods.specs.Names.{file, whole}
 
--- All files of all other periods are as they were, those beside their names too.
+-- All files of all other periods are as they were, their part files too.
 abbrev pub KeepsOthers : ℕ → Folder → Folder → Type 0
 KeepsOthers number old new = (name : FileName) → name.file.number ≢ number → new name ≡ old name
 

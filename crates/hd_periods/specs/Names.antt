@@ -11,7 +11,7 @@ use Rattle.hd_periods.specs.declared.name.FileName.{FileName}
 abbrev pub is_dot : ℕ → Bool
 is_dot byte = byte == 46
 
--- what stands after the first dot of a name, by what the file is and whether it is one beside it
+-- the text after the first dot of a name, by what the file is and whether it is a part file
 abbrev pub word_of : FileKind → Bool → List ℕ
 word_of Catalogue false = codes "catalogue"
 word_of Catalogue true = codes "catalogue.part"
@@ -37,7 +37,7 @@ pub record IsName (file : FileName) (name : List ℕ) : Type 0 where
   pub value : digits_value 10 (before_first is_dot name) ≡ file.file.number
   pub word : after_first is_dot name ≡ word_of file.file.kind file.is_part
 
--- a file of a period, the name that it has when it is whole, and the one of the file beside it
+-- a file of a period, the name that it has when it is whole, and that of its part file
 abbrev pub file : ℕ → FileKind → PeriodFile
 file number kind = record { number = number; kind = kind }
 

@@ -26,8 +26,8 @@ module _ (there : FileName → Type 0) where
   IsLastComplete None = (number : ℕ) → ¬ IsComplete number
   IsLastComplete (Some last) = IsComplete last × ((number : ℕ) → IsComplete number → number ≤ last)
 
-  -- A carry, or a beginning, was broken off at a period. It writes the opening beside its name before any other
-  -- file of the period has its name; the beginning of the first period writes the catalogue first.
+  -- A carry, or a beginning, was broken off at a period. It writes the opening's part file before any other file
+  -- of the period has its name; the beginning of the first period writes the catalogue first.
   abbrev pub IsBrokenOff : ℕ → Type 0
   IsBrokenOff number =
       ((number ≡ 1) × HasFile number Catalogue)

@@ -15,7 +15,7 @@ carry_steps number =
     ∷ Remove (file number Journal) ∷ Write (whole number Journal) ∷ Sync (whole number Journal) ∷ SyncFolder
     ∷ Rename (file number Opening) ∷ SyncFolder ∷ []
 
--- The lines that join are written beside those before, with them.
+-- The lines that joined before and the new ones are written to a part file.
 abbrev pub join_steps : ℕ → List Step
 join_steps number =
     Write (part number Joined) ∷ Sync (part number Joined) ∷ Rename (file number Joined) ∷ SyncFolder ∷ []

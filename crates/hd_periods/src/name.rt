@@ -29,12 +29,13 @@ pub struct PeriodFile {
     pub kind: FileKind,
 }
 
-/// The name of a file of a period, or of one that is written beside it until it is whole.
+/// The name of a file of a period, or of its part file: the file is written under that name, and renamed when
+/// it is whole.
 #[derive(Clone, Copy)]
 pub struct FileName {
     /// The file.
     pub file: PeriodFile,
-    /// Whether it is the name beside it, which ends in `.part`.
+    /// Whether it is the part file, whose name ends in `.part`.
     pub is_part: bool,
 }
 
@@ -49,7 +50,7 @@ impl FileName {
         }
     }
 
-    /// The name of the file that is written beside it.
+    /// The name of its part file.
     pub fn part(number: u32, kind: FileKind) -> FileName
         ensures { result ≡ part number kind }
     {
@@ -90,7 +91,7 @@ impl FileName {
     }
 }
 
-/// What a file is, and whether it is one beside it, by the text after the first dot of its name.
+/// What a file is, and whether it is a part file, by the text after the first dot of its name.
 fn kind_of(word: &str) -> Option<(FileKind, bool)>
     ensures some { IfSome result (λ found. word.now ≡ word_of found.0 found.1) }
     ensures none { IfNone result ((kind : FileKind) (is_part : Bool) → word.now ≢ word_of kind is_part) }

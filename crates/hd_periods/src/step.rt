@@ -12,7 +12,7 @@ pub enum Step {
     Write(FileName),
     /// Waits until the disk has the bytes of the file that has this name.
     Sync(FileName),
-    /// Gives the file that is written beside this one its name. A file that has the name is replaced.
+    /// Renames the part file of this file to its name. A file that has the name is replaced.
     Rename(PeriodFile),
     /// Removes a file, where it is there.
     Remove(PeriodFile),

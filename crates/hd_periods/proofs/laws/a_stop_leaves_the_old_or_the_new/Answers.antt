@@ -10,11 +10,13 @@ returns-clause-stop c bytes start left last next count later above library h =
     elim (old_or_new bytes start next left (begins_old start last next later above library)
     (during bytes count (carry_steps next) start (λ folder. folder ≡ start) left h)) [
       | inl old ↦ (old.others, inl (old_library next start left old.others last later above library old))
-      | inr new ↦
-          (new.others, inr (record {
-            library = new_library next start left new.others bytes last above library new.files;
-            files = new.files;
-          }))
+      | inr new ↦ (
+        new.others,
+        inr (record {
+          library = new_library next start left new.others bytes last above library new.files;
+          files = new.files;
+        }),
+      )
     ]
 
 pub returns-clause-end : goal.returns-clause-end
