@@ -7,9 +7,9 @@ use hd_folder::{
     Paths, cannot_write, last_period, own_file, part_path, see_no_file, see_no_other, see_nothing,
     write_whole,
 };
+use hd_library::{Library, read_file};
 use hd_library_journal::{LibraryJournalFault, begin_at};
 use hd_periods::carry_steps;
-use hd_setup::{Library, read_file};
 use hd_turn_store::Fault as StoreFault;
 use std::fs::{self, File, TryLockError};
 

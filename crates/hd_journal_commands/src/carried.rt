@@ -6,8 +6,8 @@ use hd_carry::{CarryFault, Obstacle, carry, obstacle_text};
 use hd_catalogue::Catalogue;
 use hd_desk::Desk;
 use hd_journal::Journal;
+use hd_library::{Library, SetupFault};
 use hd_rules::{CopyNo, OpeningRow};
-use hd_setup::{Library, SetupFault};
 use std::alloc::{AllocError, Global};
 
 /// Which way a desk is to be carried over.

@@ -6,9 +6,9 @@ use crate::stepping::{Contents, see_read_back, take_steps};
 use hd_command_line::Carry;
 use hd_folder::{Paths, file_path, name_part, part_path, see_no_file, write_part};
 use hd_journal::Journal;
+use hd_library::{Library, read_file};
 use hd_library_journal::{Keeping, LibraryJournalFault, end_journal, open_over};
 use hd_periods::{FileKind, FileName, carry_steps};
-use hd_setup::{Library, read_file};
 use hd_turn_store::Unknown;
 use std::io::Write;
 

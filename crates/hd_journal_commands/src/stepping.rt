@@ -3,9 +3,9 @@ ghost use Rattle.std.specs.Prelude.{◌≡◌, OnOk};
 
 use crate::fault::JournalCommandFault;
 use hd_folder::Changing;
+use hd_library::read_file;
 use hd_library_journal::{fill_at, make_at};
 use hd_periods::{FileKind, FileName, Step};
-use hd_setup::read_file;
 
 /// What the files of a period are to have. Those that no step writes may be empty.
 #[derive(Clone, Copy)]
