@@ -12,8 +12,8 @@ use std::io;
 pub struct Period {
     folder: String,
     number: u32,
-    /// How long its file of names that joined was when its paths were found, 0 where there was none. Lines are
-    /// only added after those of that file.
+    /// How long its file of names that joined was when its paths were found, 0 where there was none. Lines
+    /// are only added after those of that file.
     joined: u64,
 }
 
@@ -39,8 +39,9 @@ impl Period {
         self.number
     }
 
-    /// Checks that this is still the last complete period of its folder, and that no names joined it meanwhile.
-    /// While its journal is open that stays so, since a carry to the next one opens it, and so does a join.
+    /// Checks that this is still the last complete period of its folder, and that no names joined it
+    /// meanwhile. While its journal is open that stays so, since a carry to the next one opens it, and so
+    /// does a join.
     ///
     /// # Errors
     /// It isn't; names joined it; a later period lacks a file; the folder can't be read; out of memory.

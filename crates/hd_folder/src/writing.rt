@@ -16,8 +16,8 @@ const IRREGULAR: &str = "it is no regular file";
 /// How many bytes are written to see whether the disk takes them: a page of a journal's file.
 const PAGE: usize = 4_096;
 
-/// Writes a part file, waits until the disk has it, and renames it to its path. At each moment there is the whole
-/// file at the path, or what was there before.
+/// Writes a part file, waits until the disk has it, and renames it to its path. At each moment there is the
+/// whole file at the path, or what was there before.
 ///
 /// # Errors
 /// The system refuses it.
@@ -97,8 +97,8 @@ pub(crate) fn rename_part(rt: &HostRuntime, part: &str, path: &str) -> Result<()
     }
 }
 
-/// Waits until the disk has the names of a folder. `renamed` is the path of a file that was renamed since the last
-/// sync, if one was.
+/// Waits until the disk has the names of a folder. `renamed` is the path of a file that was renamed since the
+/// last sync, if one was.
 ///
 /// # Errors
 /// The system refuses it.

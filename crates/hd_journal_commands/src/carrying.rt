@@ -34,9 +34,9 @@ pub fn carry_over(rt: &HostRuntime, order: &Carry<'_>) -> Result<(), JournalComm
     carry_files(rt, &Keeping::of(&old), &way)
 }
 
-/// Carries the desk of a library's journal over, and then ends the journal. From its opening on to its end nobody
-/// else has the journal open: no server takes a turn of it, which would be lost, and no other carry writes the
-/// same files.
+/// Carries the desk of a library's journal over, and then ends the journal. From its opening on to its end
+/// nobody else has the journal open: no server takes a turn of it, which would be lost, and no other carry
+/// writes the same files.
 fn carry_files(
     rt: &HostRuntime,
     keeping: &Keeping<'_>,
@@ -129,8 +129,8 @@ fn write_opening(rt: &HostRuntime, path: &str, opening: &[u8]) -> Result<(), Jou
     Ok(name_part(rt, part.as_str(), path)?)
 }
 
-/// Prints what was carried over. Where that can't be printed, the library has gone on all the same, and standard
-/// error says so.
+/// Prints what was carried over. Where that can't be printed, the library has gone on all the same, and
+/// standard error says so.
 fn report_carried(rt: &HostRuntime, report: &[u8]) {
     if rt.stdout().write_all(report).is_err() {
         let _reported = eprintln!(rt; "carried over, but what was carried over can't be printed");

@@ -1,12 +1,12 @@
 //! What `journal join` does: it has names join a library that isn't served.
 //!
 //! The lines that join are kept in one file of the library's period, as 0001.joined. Its part file is
-//! written, synced and renamed, by the steps of a join, and no other file changes: the catalogue and the opening
-//! stay, and with them the digest in the journal's head. So a stop leaves the lines that had joined before, or
-//! these with the new ones. It may leave a file 0001.joined.part too, which nothing reads and the next join
-//! writes over. The journal is open from before the names are written until they are there, so that no server
-//! and no carry goes on without them. A server that read the library before, and opens the journal afterwards,
-//! finds that the file has another length, and begins again.
+//! written, synced and renamed, by the steps of a join, and no other file changes: the catalogue and the
+//! opening stay, and with them the digest in the journal's head. So a stop leaves the lines that had joined
+//! before, or these with the new ones. It may leave a file 0001.joined.part too, which nothing reads and the
+//! next join writes over. The journal is open from before the names are written until they are there, so that
+//! no server and no carry goes on without them. A server that read the library before, and opens the journal
+//! afterwards, finds that the file has another length, and begins again.
 
 use crate::fault::JournalCommandFault;
 use crate::staying::staying_text;
@@ -58,8 +58,8 @@ impl Counts {
     }
 }
 
-/// Has the names of a catalogue file that a library lacks join it. Reports how many did, and what of the library
-/// the file doesn't change.
+/// Has the names of a catalogue file that a library lacks join it. Reports how many did, and what of the
+/// library the file doesn't change.
 pub fn join_library(rt: &HostRuntime, order: &JournalJoin<'_>) -> Result<(), JournalCommandFault> {
     let alloc = rt.alloc();
     let paths = Paths::of(rt, &Place::Folder(order.folder))?;

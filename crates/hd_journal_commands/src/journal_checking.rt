@@ -11,8 +11,8 @@ use hd_terminal_output::Away;
 use hd_turn_store::Unknown;
 use std::io;
 
-/// Reports what the desk is after the turns of a journal's file, each taken again and compared, or why the file
-/// is refused. There has to be one.
+/// Reports what the desk is after the turns of a journal's file, each taken again and compared, or why the
+/// file is refused. There has to be one.
 ///
 /// # Errors
 /// There is none, or it is refused; the output can't be written; out of memory.

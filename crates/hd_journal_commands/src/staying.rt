@@ -122,8 +122,8 @@ fn name_of_terminal(old: &Catalogue, number: u32) -> &[u8] {
     }
 }
 
-/// The number of the terminal with a name, where there is one. There are few, and they are looked up by name and
-/// password alone, so each is compared.
+/// The number of the terminal with a name, where there is one. There are few, and they are looked up by name
+/// and password alone, so each is compared.
 fn terminal_number(old: &Catalogue, name: &[u8]) -> Option<usize> {
     for number in 0..old.terminals() {
         if Kind::Terminal.name(old, number) == name {

@@ -1,4 +1,5 @@
-//! The steps of a carry, a beginning and a join, done one after another in the order that `hd_periods` has them.
+//! The steps of a carry, a beginning and a join, done one after another in the order that `hd_periods` has
+//! them.
 ghost use Rattle.std.specs.Prelude.{◌≡◌, OnOk};
 
 use crate::fault::JournalCommandFault;
@@ -76,8 +77,8 @@ fn write(
     }
 }
 
-/// Waits until the disk has the bytes of a file. Of an opening, these are then read back. Of a journal, SQLite
-/// writes them before it waits.
+/// Waits until the disk has the bytes of a file. Of an opening, these are then read back. Of a journal,
+/// SQLite writes them before it waits.
 fn sync(
     rt: &HostRuntime,
     changing: &mut Changing<'_>,

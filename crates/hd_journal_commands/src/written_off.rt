@@ -9,8 +9,8 @@ use hd_terminal_output::{copy_name, patron_name};
 use std::alloc::AllocError;
 use std::io::Write;
 
-/// The copies whose names are in a file, one a line, each once. What is no copy's name is reported on standard
-/// error, and passed over.
+/// The copies whose names are in a file, one a line, each once. What is no copy's name is reported on
+/// standard error, and passed over.
 ///
 /// # Errors
 /// The file can't be read; out of memory.

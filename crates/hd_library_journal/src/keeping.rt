@@ -59,8 +59,8 @@ impl<'a> Keeping<'a> {
     }
 }
 
-/// Opens a journal's file, which has to be there. Each turn that it holds is taken again and compared. Progress
-/// is reported on standard error.
+/// Opens a journal's file, which has to be there. Each turn that it holds is taken again and compared.
+/// Progress is reported on standard error.
 ///
 /// # Errors
 /// A file of the library can't be read, or is refused; those of `open_over`.
@@ -117,8 +117,8 @@ fn take_again<S: Start>(
     opened_told(opened, retaking.end())
 }
 
-/// What was opened, if progress could be reported. The type is a parameter, because the proof that a journal is
-/// dropped takes long for a journal's whole type.
+/// What was opened, if progress could be reported. The type is a parameter, because the proof that a journal
+/// is dropped takes long for a journal's whole type.
 ///
 /// # Errors
 /// Why it can't be opened; else that progress can't be reported.

@@ -1,5 +1,6 @@
 -- What a stop leaves of a library during a carry to the next period.
-use Rattle.std.proofs.Common.{arith, ◌≡◌, ◌≢◌, ◌⊎◌, inl, inr, ℕ, ◌<◌, ◌≤◌, List, [], ◌∷◌, ◌++◌, take, Option, Some, None, refl, ap, sym, ◌∙◌, subst}
+use Rattle.std.proofs.Common.{arith, ◌≡◌, ◌≢◌, ◌⊎◌, inl, inr, ℕ, ◌<◌, ◌≤◌, List, [], ◌∷◌, ◌++◌, take, Option}
+use Rattle.std.proofs.Common.{Some, None, refl, ap, sym, ◌∙◌, subst}
 use Rattle.hd_periods.specs.declared.name.FileKind.{FileKind}
 use Rattle.hd_periods.specs.declared.name.FileKind.TheVariants.{Catalogue, Opening, Journal, Joined}
 use Rattle.hd_periods.specs.declared.name.PeriodFile.{PeriodFile}
@@ -11,7 +12,8 @@ use Rattle.hd_periods.specs.Names.{file, part, whole}
 use Rattle.hd_periods.specs.Steps.{carry_steps}
 use Rattle.hd_periods.specs.Laws.{KeepsOthers, IsWritten, IsWhole}
 use Rattle.hd_periods.proofs.Stops.{LeftDuring, during, after, Keep, kept_after, up_to_sync}
-use Rattle.hd_periods.proofs.Puts.{put_here, others_stay, some_is_there, synced_is_there, written_is_there, written_and_synced}
+use Rattle.hd_periods.proofs.Puts.{put_here, others_stay, some_is_there, synced_is_there, written_is_there}
+use Rattle.hd_periods.proofs.Puts.{written_and_synced}
 
 -- the period isn't begun, or it has the opening beside its name; all other periods are as they were
 pub record IsOld (start : Folder) (next : ℕ) (folder : Folder) : Type 0 where
@@ -80,7 +82,8 @@ module _ (bytes : PeriodFile → List ℕ) (start : Folder) (next : ℕ) where
         λ folder old. stays_old folder (part next Catalogue) (Some Torn) refl old refl refl refl (λ h. h),
         (
           λ folder old. stays_old folder (part next Catalogue)
-              (synced (bytes (file next Catalogue)) (folder (part next Catalogue))) refl old refl refl refl (λ h. h),
+              (synced (bytes (file next Catalogue)) (folder (part next Catalogue)))
+              refl old refl refl refl (λ h. h),
           tt,
         ),
       ),
@@ -102,7 +105,8 @@ module _ (bytes : PeriodFile → List ℕ) (start : Folder) (next : ℕ) where
   second_keep = (
     λ folder way. stays_under_way (put folder (whole next Catalogue) (first (part next Catalogue)))
         (part next Catalogue) None refl
-        (stays_under_way folder (whole next Catalogue) (first (part next Catalogue)) refl way refl refl) refl refl,
+        (stays_under_way folder (whole next Catalogue) (first (part next Catalogue)) refl way refl refl)
+        refl refl,
     (
       λ folder way. stays_under_way folder (whole next Journal) None refl way refl refl,
       (
@@ -126,7 +130,8 @@ module _ (bytes : PeriodFile → List ℕ) (start : Folder) (next : ℕ) where
 
   first_under_way : IsOld start next start → IsUnderWay start next first
   first_under_way old =
-      let then : IsOld start next first = kept_after bytes (IsOld start next) first_steps start first_keep old in
+      let then : IsOld start next first =
+      kept_after bytes (IsOld start next) first_steps start first_keep old in
       record {
         others = then.others;
         opening = then.opening;
@@ -163,13 +168,15 @@ module _ (bytes : PeriodFile → List ℕ) (start : Folder) (next : ℕ) where
   old_of folder way = record { others = way.others; opening = way.opening; broken = inr way.beside }
 
   in_third : (left : Folder) → IsOld start next start
-      → LeftDuring bytes second (λ folder. folder ≡ second) (Rename (file next Opening) ∷ SyncFolder ∷ []) left
+      → LeftDuring bytes second (λ folder. folder ≡ second)
+      (Rename (file next Opening) ∷ SyncFolder ∷ []) left
       → IsOld start next left ⊎ IsNew bytes start next left
   in_third left old (inl e) = inl (subst (IsOld start next) (sym e) (old_of second (second_under_way old)))
   in_third left old (inr (inl (folder, is, inl e))) =
       inl (subst (IsOld start next) (sym (e ∙ is)) (old_of second (second_under_way old)))
   in_third left old (inr (inl (folder, is, inr e))) =
-      inr (subst (IsNew bytes start next) (sym (e ∙ ap (changed bytes second (Rename (file next Opening))) is))
+      inr (subst (IsNew bytes start next)
+      (sym (e ∙ ap (changed bytes second (Rename (file next Opening))) is))
       (third_new old))
   in_third left old (inr (inr e)) = inr (subst (IsNew bytes start next) (sym e) (third_new old))
 

@@ -1,5 +1,6 @@
 -- What a stop leaves during a join.
-use Rattle.std.proofs.Common.{◌≡◌, ◌≢◌, ◌⊎◌, inl, inr, ℕ, List, [], ◌∷◌, Option, Some, None, refl, sym, ◌∙◌, subst}
+use Rattle.std.proofs.Common.{◌≡◌, ◌≢◌, ◌⊎◌, inl, inr, ℕ, List, [], ◌∷◌, Option, Some, None, refl, sym, ◌∙◌}
+use Rattle.std.proofs.Common.{subst}
 use Rattle.hd_periods.specs.declared.name.FileKind.{FileKind}
 use Rattle.hd_periods.specs.declared.name.FileKind.TheVariants.{Joined}
 use Rattle.hd_periods.specs.declared.name.PeriodFile.{PeriodFile}
@@ -16,7 +17,8 @@ use Rattle.hd_periods.proofs.Puts.{put_here, written_and_synced, part_is_beside,
 pub record HasLinesOrAll (bytes : PeriodFile → List ℕ) (start : Folder) (number : ℕ) (folder : Folder) :
     Type 0 where
   pub others : KeepsAllButJoined number start folder
-  pub lines : (folder (whole number Joined) ≡ start (whole number Joined)) ⊎ IsWritten bytes folder number Joined
+  pub lines : (folder (whole number Joined) ≡ start (whole number Joined))
+      ⊎ IsWritten bytes folder number Joined
 
 module _ (bytes : PeriodFile → List ℕ) (start : Folder) (number : ℕ) where
   abbrev steps : List Step
@@ -51,7 +53,8 @@ module _ (bytes : PeriodFile → List ℕ) (start : Folder) (number : ℕ) where
       λ folder has. beside folder (synced (bytes (file number Joined)) (folder (part number Joined))) has,
       (
         λ folder has.
-            beside (put folder (whole number Joined) (synced_beside (part number Joined))) None (renamed folder has),
+            beside (put folder (whole number Joined) (synced_beside (part number Joined)))
+            None (renamed folder has),
         tt,
       ),
     ),

@@ -1,5 +1,6 @@
 -- Which of the periods so far is the last complete one.
-use Rattle.std.proofs.Common.{ap, arith, ◌≡◌, ◌∙◌, inl, inr, length, ℕ, ◌+◌, ◌<◌, List, Option, Some, None, subst}
+use Rattle.std.proofs.Common.{ap, arith, ◌≡◌, ◌∙◌, inl, inr, length, ℕ, ◌+◌, ◌<◌, List, Option, Some, None}
+use Rattle.std.proofs.Common.{subst}
 use Rattle.std.specs.Prelude.{slice_index_or}
 use Rattle.std.specs.List.{Contains}
 use Rattle.std.proofs.lemmas.Bool.{cases_lt}

@@ -1,5 +1,6 @@
 -- Which library a folder has, where all of its files but those of one period are those of another folder.
-use Rattle.std.proofs.Common.{ap, arith, ◌≡◌, ◌≢◌, ◌⊎◌, inl, inr, ℕ, ◌<◌, ◌≤◌, List, Bool, false, Option, Some, None, refl, subst, sym, ◌∙◌}
+use Rattle.std.proofs.Common.{ap, arith, ◌≡◌, ◌≢◌, ◌⊎◌, inl, inr, ℕ, ◌<◌, ◌≤◌, List, Bool, false, Option}
+use Rattle.std.proofs.Common.{Some, None, refl, subst, sym, ◌∙◌}
 use Rattle.std.proofs.lemmas.Bool.{cases_eq}
 use Rattle.hd_periods.specs.declared.name.FileKind.{FileKind}
 use Rattle.hd_periods.specs.declared.name.FileKind.TheVariants.{Catalogue, Opening, Journal, Joined}
@@ -135,7 +136,8 @@ module _ (next : ℕ) (start folder : Folder) (keeps : KeepsOthers next start fo
   written_there bytes kind written =
       λ e. some_is_there (Whole (bytes (file next kind))) (sym written ∙ e)
 
-  pub new_library : (bytes : PeriodFile → List ℕ) (last : Option ℕ) → ¬ IsUpTo last next → IsLibrary (IsThere start) last
+  pub new_library : (bytes : PeriodFile → List ℕ) (last : Option ℕ) → ¬ IsUpTo last next
+      → IsLibrary (IsThere start) last
       → IsWhole bytes folder next → IsLibrary (IsThere folder) (Some next)
   new_library bytes last above library files = record {
     is_last = (

@@ -1,9 +1,11 @@
 -- What a folder has after a change of one name.
-use Rattle.std.proofs.Common.{arith, ◌≡◌, ◌≢◌, ℕ, ◌==◌, Bool, true, false, ◌&&◌, Option, Some, None, List, refl, ap, sym, ◌∙◌}
+use Rattle.std.proofs.Common.{arith, ◌≡◌, ◌≢◌, ℕ, ◌==◌, Bool, true, false, ◌&&◌, Option, Some, None, List}
+use Rattle.std.proofs.Common.{refl, ap, sym, ◌∙◌}
 use Rattle.hd_periods.specs.declared.name.FileKind.{FileKind}
 use Rattle.hd_periods.specs.declared.name.FileKind.TheVariants.{Catalogue, Opening, Journal, Joined}
 use Rattle.hd_periods.specs.declared.name.FileName.{FileName}
-use Rattle.hd_periods.specs.Folders.{Content, Whole, Torn, Folder, put, same_name, same_kind, same_place, synced}
+use Rattle.hd_periods.specs.Folders.{Content, Whole, Torn, Folder, put, same_name, same_kind, same_place}
+use Rattle.hd_periods.specs.Folders.{synced}
 use Rattle.hd_periods.specs.Names.{file, part, whole}
 use Rattle.hd_periods.specs.Laws.{KeepsOthers}
 
@@ -33,7 +35,8 @@ none_beside true c = refl
 none_beside false c = refl
 
 -- a name has what was put there
-pub put_here : (folder : Folder) (name : FileName) (content : Option Content) → put folder name content name ≡ content
+pub put_here : (folder : Folder) (name : FileName) (content : Option Content)
+    → put folder name content name ≡ content
 put_here folder name content =
     rw (own_kind name.file.kind, own_place name.is_part, equal name.file.number)
 
@@ -47,7 +50,8 @@ others_stay number old folder name content of keeps x other =
     (keeps x other)
 
 -- a file that is there is there when it is synced
-pub synced_is_there : (bytes : List ℕ) (content : Option Content) → content ≢ None → synced bytes content ≢ None
+pub synced_is_there : (bytes : List ℕ) (content : Option Content) → content ≢ None
+    → synced bytes content ≢ None
 synced_is_there bytes None h = h
 synced_is_there bytes (Some content) h = λ e. cc
 
@@ -55,8 +59,10 @@ pub some_is_there : (content : Content) → Some content ≢ None
 some_is_there content = λ e. cc
 
 -- a name that was written to is there
-pub written_is_there : (folder : Folder) (name : FileName) (content : Content) → put folder name (Some content) name ≢ None
-written_is_there folder name content = λ e. absurd (some_is_there content (sym (put_here folder name (Some content)) ∙ e))
+pub written_is_there : (folder : Folder) (name : FileName) (content : Content)
+    → put folder name (Some content) name ≢ None
+written_is_there folder name content =
+    λ e. absurd (some_is_there content (sym (put_here folder name (Some content)) ∙ e))
 
 -- a file that was written and then synced has its bytes, and the disk has them
 pub written_and_synced : (folder : Folder) (name : FileName) (bytes : List ℕ)

@@ -29,7 +29,8 @@ module _ (bytes : PeriodFile → List ℕ) where
   abbrev pub Keep : (Folder → Type 0) → Folder → List Step → Type 0
   Keep I now [] = Unit {0}
   Keep I now (step ∷ steps) =
-      ((folder : Folder) → I folder → I (changed bytes now step folder)) × Keep I (changed bytes now step now) steps
+      ((folder : Folder) → I folder → I (changed bytes now step folder))
+      × Keep I (changed bytes now step now) steps
 
   kept : (I : Folder → Type 0) (now : Folder) (before : Folder → Type 0) (step : Step) (left : Folder)
       → ((folder : Folder) → before folder → I folder)
@@ -46,10 +47,14 @@ module _ (bytes : PeriodFile → List ℕ) where
       → ((folder : Folder) → before folder → I folder)
       → ((folder : Folder) → I folder → I (changed bytes now step folder))
       → I now → LeftAfter bytes now before step left → I left
-  kept_by I now before (Write name) left begins keeps here h = kept I now before (Write name) left begins keeps h
-  kept_by I now before (Sync name) left begins keeps here h = kept I now before (Sync name) left begins keeps h
-  kept_by I now before (Rename file) left begins keeps here h = kept I now before (Rename file) left begins keeps h
-  kept_by I now before (Remove file) left begins keeps here h = kept I now before (Remove file) left begins keeps h
+  kept_by I now before (Write name) left begins keeps here h =
+      kept I now before (Write name) left begins keeps h
+  kept_by I now before (Sync name) left begins keeps here h =
+      kept I now before (Sync name) left begins keeps h
+  kept_by I now before (Rename file) left begins keeps here h =
+      kept I now before (Rename file) left begins keeps h
+  kept_by I now before (Remove file) left begins keeps here h =
+      kept I now before (Remove file) left begins keeps h
   kept_by I now before SyncFolder left begins keeps here h = subst I (sym h) here
 
   -- up to a sync of the folder a stop leaves a folder with I; from there on it begins with what programs see

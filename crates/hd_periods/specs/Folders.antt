@@ -1,7 +1,7 @@
--- A folder, the steps that change it, and what a stop of the machine leaves. Of the file system this is assumed:
--- a rename is one change; a stop may lose any of the changes of names since the folder was last synced, each by
--- itself, and any bytes of a file that wasn't synced; and no file is written again that was renamed and whose
--- folder wasn't synced.
+-- A folder, the steps that change it, and what a stop of the machine leaves. Of the file system this is
+-- assumed: a rename is one change; a stop may lose any of the changes of names since the folder was last
+-- synced, each by itself, and any bytes of a file that wasn't synced; and no file is written again that was
+-- renamed and whose folder wasn't synced.
 use Rattle.std.specs.Prelude.{◌≡◌, ◌≢◌, ◌⊎◌, ◌&&◌, ◌==◌, ℕ, Bool, true, false, if◌then◌else◌}
 use Rattle.std.specs.Prelude.{List, [], ◌∷◌, Option, Some, None}
 use Rattle.hd_periods.specs.declared.name.FileKind.{FileKind}
@@ -51,7 +51,8 @@ synced bytes None = None
 synced bytes (Some content) = Some (Whole bytes)
 
 module _ (bytes : PeriodFile → List ℕ) where
-  -- What a step makes of a folder, where programs see the folder `now`. `bytes` are those that a file is to have.
+  -- What a step makes of a folder, where programs see the folder `now`. `bytes` are those that a file is to
+  -- have.
   abbrev pub changed : Folder → Step → Folder → Folder
   changed now (Write name) folder = put folder name (Some Torn)
   changed now (Sync name) folder = put folder name (synced (bytes name.file) (folder name))

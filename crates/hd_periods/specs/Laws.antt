@@ -33,7 +33,8 @@ pub record IsCarried (bytes : PeriodFile → List ℕ) (folder : Folder) (next :
 abbrev pub AStopLeavesTheOldOrTheNew : Type 0
 AStopLeavesTheOldOrTheNew =
     (bytes : PeriodFile → List ℕ) (start left : Folder) (last : Option ℕ) (next count : ℕ) → 1 < next
-    → ¬ IsUpTo last next → IsLibrary (IsThere start) last → MayLeave bytes start (take count (carry_steps next)) left
+    → ¬ IsUpTo last next → IsLibrary (IsThere start) last
+    → MayLeave bytes start (take count (carry_steps next)) left
     → KeepsOthers next start left × (IsLibrary (IsThere left) last ⊎ IsCarried bytes left next)
 
 -- After all of its steps it leaves the next period.

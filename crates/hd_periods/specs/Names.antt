@@ -1,4 +1,5 @@
--- The names of the files of a library's periods: a number of four digits or more, a dot, and what the file is.
+-- The names of the files of a library's periods: a number of four digits or more, a dot, and what the file
+-- is.
 use Rattle.std.specs.Prelude.{◌≡◌, ◌≢◌, ℕ, ◌<◌, ◌≤◌, ◌^◌, ◌==◌, Bool, true, false, List, codes, length}
 use Rattle.std.specs.Prelude.{slice_index}
 use Rattle.std.specs.List.{after_first, before_first}

@@ -26,21 +26,22 @@ module _ (there : FileName → Type 0) where
   IsLastComplete None = (number : ℕ) → ¬ IsComplete number
   IsLastComplete (Some last) = IsComplete last × ((number : ℕ) → IsComplete number → number ≤ last)
 
-  -- A carry, or a beginning, was broken off at a period. It writes the opening's part file before any other file
-  -- of the period has its name; the beginning of the first period writes the catalogue first.
+  -- A carry, or a beginning, was broken off at a period. It writes the opening's part file before any other
+  -- file of the period has its name; the beginning of the first period writes the catalogue first.
   abbrev pub IsBrokenOff : ℕ → Type 0
   IsBrokenOff number =
       ((number ≡ 1) × HasFile number Catalogue)
       ⊎ ((number ≢ 1) × ¬ HasFile number Opening × there (part number Opening))
 
-  -- A file, where it is there, is of a period that isn't after the last one, or at which a carry was broken off.
+  -- A file, where it is there, is of a period that isn't after the last one, or at which a carry was broken
+  -- off.
   abbrev pub IsAccounted : Option ℕ → FileName → Type 0
   IsAccounted last name =
       name.is_part ≡ false → name.file.kind ≢ Joined → ¬ IsUpTo last name.file.number
       → IsBrokenOff name.file.number
 
-  -- The library of a folder is that of this period, or there is none: it is the last complete one, and no later
-  -- one lacks a file that it had.
+  -- The library of a folder is that of this period, or there is none: it is the last complete one, and no
+  -- later one lacks a file that it had.
   pub record IsLibrary (last : Option ℕ) : Type 0 where
     pub is_last : IsLastComplete last
     pub later : (name : FileName) → there name → IsAccounted last name

@@ -1,5 +1,5 @@
-//! The periods of a library's folder: the names of their files, which of them is the last complete one, and in
-//! which order a carry and a join change them.
+//! The periods of a library's folder: the names of their files, which of them is the last complete one, and
+//! in which order a carry and a join change them.
 #![tactic(auto)]
 
 mod laws;

@@ -25,8 +25,8 @@ pub fn library_of(names: &[FileName]) -> Result<Option<u32>, PeriodFile>
     Ok(last)
 }
 
-/// The file that the period of a name lacks, where that is after the last complete one and no carry was broken off
-/// at it.
+/// The file that the period of a name lacks, where that is after the last complete one and no carry was
+/// broken off at it.
 fn lacking(names: &[FileName], last: Option<u32>, name: &FileName) -> Option<PeriodFile>
     requires { IsLastComplete (Contains names.now) last }
     ensures none { IfNone result (IsAccounted (Contains names.now) last name.now) }

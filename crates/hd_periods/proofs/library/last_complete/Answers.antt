@@ -6,5 +6,6 @@ pub loop-name-preserved : goal.loop-name-preserved
 loop-name-preserved c = record {
   complete = c.later_complete-last.ensures.complete c.loop-name.invariant.complete;
   last = more_up_to c.args.names.now c.loop-name.name-index c.loop-name.last c.later_complete-last.result _
-      (search rules) c.loop-name.invariant.last c.later_complete-last.ensures.later c.later_complete-last.ensures.this;
+      (search rules) c.loop-name.invariant.last c.later_complete-last.ensures.later
+      c.later_complete-last.ensures.this;
 }
