@@ -7,7 +7,7 @@ ghost use Rattle.hd_exchange.specs.Seeing.{HasSeen};
 use crate::patron_message::{PatronLook, PatronQuestion};
 use arrayvec::ArrayVec;
 use hd_journal::{Journal, Look};
-use hd_patron_view::{page, page, view, view};
+use hd_patron_view::{page, view};
 use hd_rules::{ListItem, PatronView, Wanted};
 use std::alloc::Allocator;
 
