@@ -1,5 +1,5 @@
 #!/usr/bin/env python3
-"""Makes the page's literal and its policy, crates/hd_page_html/src/text.rt, of crates/hd_page_html/page/page.html.
+"""Makes the page's literal and its policy, crates/hd_page/src/text.rt, of crates/hd_page/page/page.html.
 
     python3 scripts/make/make_page.py [--check]
 
@@ -19,8 +19,8 @@ sys.path.append(os.path.dirname(sys.path[0]))  # scripts/
 
 from prove import TOP
 
-PAGE = TOP / "crates" / "hd_page_html" / "page" / "page.html"
-MADE = TOP / "crates" / "hd_page_html" / "src" / "text.rt"
+PAGE = TOP / "crates" / "hd_page" / "page" / "page.html"
+MADE = TOP / "crates" / "hd_page" / "src" / "text.rt"
 LISTS = TOP / "crates" / "hd_lists" / "src" / "list.rt"
 # A list's folder, part and kind of key in its row, and how the page asks by such a key. The turns of a day it finds itself.
 ROW = re.compile(r'folder: b"([^"]*)",\s*part: b"([^"]*)",\s*key: KeyKind::(\w+)')
@@ -94,7 +94,7 @@ def main(words):
     if not words:
         MADE.write_text(made, encoding="ascii")
     elif not MADE.is_file() or MADE.read_text(encoding="ascii") != made:
-        sys.exit("make_page.py: crates/hd_page_html/src/text.rt isn't of page/page.html: say python3 scripts/make/make_page.py")
+        sys.exit("make_page.py: crates/hd_page/src/text.rt isn't of page/page.html: say python3 scripts/make/make_page.py")
 
 
 if __name__ == "__main__":

@@ -36,10 +36,11 @@ fn show<'a>(alloc: Global) -> Result<Command<'a>, AllocError> {
 
 /// The commands that show a list each.
 fn lists_shown<'a>(alloc: Global) -> Result<Vec<Command<'a>>, AllocError> {
-    LISTS
-        .iter()
-        .map(|list| command_of(alloc, words_of(*list)))
-        .try_collect(alloc)
+    let mut commands = Vec::new(alloc);
+    for list in &LISTS {
+        commands.push(command_of(alloc, words_of(*list))?)?;
+    }
+    Ok(commands)
 }
 
 /// A command of which one below it has to be named, and what those do in a line.
@@ -54,13 +55,13 @@ fn above<'a>(command: Command<'a>, about: &'a str) -> Command<'a> {
 fn with<'a>(
     alloc: Global,
     command: Command<'a>,
-    below: &[CommandWords],
+    below: &'a [CommandWords],
 ) -> Result<Command<'a>, AllocError> {
     command.subcommands(commands_of(alloc, below)?)
 }
 
 /// The commands with these words.
-fn commands_of<'a>(alloc: Global, all: &[CommandWords]) -> Result<Vec<Command<'a>>, AllocError> {
+fn commands_of<'a>(alloc: Global, all: &'a [CommandWords]) -> Result<Vec<Command<'a>>, AllocError> {
     all.iter()
         .map(|words| command_of(alloc, *words))
         .try_collect(alloc)

@@ -4,7 +4,7 @@ use crate::answering::{answer_at, unanswered};
 use crate::asking::page_of;
 use crate::fault::DoorCommandFault;
 use crate::unseen::unseen;
-use hd_ask::{Request, Rows, number_of};
+use hd_door_client::{Request, Rows, number_of};
 use hd_command_line::Show;
 use hd_lists::Key;
 use hd_terminal_output::Table;

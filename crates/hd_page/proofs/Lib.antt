@@ -1,4 +1,0 @@
-pub mod Appends
-pub mod Fields
-pub mod Heads
-pub mod Whole

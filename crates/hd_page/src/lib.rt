@@ -1,21 +1,21 @@
-//! The answer to an HTTP/1.1 request, of a view of a library.
+//! The page: one HTML document for librarians and IT, with its style and its script inside.
 #![tactic(auto)]
 
-mod answering;
-mod asking;
-mod laws;
-mod metrics;
-mod page;
-mod pieces;
-mod place;
-mod reply;
-mod showing;
-mod state;
-mod view;
+ghost use Rattle.std.specs.Prelude.{◌≡◌};
+ghost use Rattle.hd_page.specs.declared.text.TheConstants.{POLICY, TEXT};
 
-pub use crate::answering::{FIELDS, Sequel, answer, answer_too_long};
-pub use crate::laws::whole_reply;
-pub use crate::page::Page;
-pub use crate::reply::{FIXED, Media, Method, Status};
-pub use crate::state::{Health, JournalCounts, State, Tally, Turns};
-pub use crate::view::{Outcome, View, ViewFault};
+mod text;
+
+use crate::text::{POLICY, TEXT};
+use hd_http::Page;
+
+/// The page, and the policy that names its script and its style by their sums.
+pub fn page() -> Page<'static>
+    ensures text { result.text.now ≡ TEXT.now }
+    ensures policy { result.policy.now ≡ POLICY.now }
+{
+    Page {
+        text: TEXT,
+        policy: POLICY,
+    }
+}

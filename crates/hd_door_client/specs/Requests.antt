@@ -1,0 +1,19 @@
+-- Requests, and their bytes.
+use Rattle.std.specs.Prelude.{ℕ, List, ◌++◌, ◌*◌, Option, Some, None, codes}
+use Rattle.hd_lists.specs.declared.asking.TheConstants.{FIELDS}
+use Rattle.hd_lists.specs.Questions.{map_question}
+use Rattle.hd_lists.specs.Requests as lists
+use Rattle.hd_door_client.specs.declared.request.Request.{Request}
+use Rattle.hd_door_client.specs.declared.request.Request.TheVariants.{Health, Metrics, See, Stop}
+
+-- the bytes of a request
+abbrev pub request_text : Request → List ℕ
+request_text Health = codes "GET /health" ++ FIELDS.now
+request_text Metrics = codes "GET /metrics" ++ FIELDS.now
+request_text (See question) = lists.request_text (map_question (λ n. n.now) question)
+request_text Stop = codes "POST /stop" ++ FIELDS.now
+
+-- how many nanoseconds a read of the answer may wait: 60 seconds, and where the server is to end any number
+abbrev pub patience : Request → Option ℕ
+patience Stop = None
+patience _ = Some (60 * 1_000_000_000)

@@ -1,0 +1,4 @@
+pub mod Appends
+pub mod Fields
+pub mod Heads
+pub mod Whole

@@ -1,0 +1,12 @@
+pub mod Answered
+pub mod Answers
+pub mod Asking
+pub mod Faults
+pub mod Heads
+pub mod Metered
+pub mod Metrics
+pub mod Places
+pub mod Replies
+pub mod Seen
+pub mod Shows
+pub mod Sights

@@ -1,0 +1,21 @@
+//! The answer to an HTTP/1.1 request, of a view of a library.
+#![tactic(auto)]
+
+mod answering;
+mod asking;
+mod laws;
+mod metrics;
+mod page;
+mod pieces;
+mod place;
+mod reply;
+mod showing;
+mod state;
+mod view;
+
+pub use crate::answering::{FIELDS, Sequel, answer, answer_too_long};
+pub use crate::laws::whole_reply;
+pub use crate::page::Page;
+pub use crate::reply::{FIXED, Media, Method, Status};
+pub use crate::state::{Health, JournalCounts, State, Tally, Turns};
+pub use crate::view::{Outcome, View, ViewFault};
