@@ -25,6 +25,7 @@ use hd_exchange::profile_of;
 use hd_field::Stream;
 use hd_hall::{Counter, Hall, House, Keeper, Seat, Turns};
 use hd_journal::TurnFault;
+use hd_list_rows::CountsReader;
 use hd_log::{ConnectionEvent, End, Event};
 use hd_list_rows::CountsReader;
 use hd_session::{Ended, Session};
