@@ -13,10 +13,10 @@ use crate::standing::state_of;
 use crate::state_reader::StateReader;
 use hd_desk::Meter;
 use hd_hall::{Hall, House};
-use hd_journal::{Journal, Keeper, Look, OwnedAsk, Turns};
-use hd_lists::Question;
-use hd_list_rows::PageReader;
 use hd_http::{Health, Outcome, State, View, ViewFault};
+use hd_journal::{Journal, Keeper, Look, OwnedAsk, Turns};
+use hd_list_rows::PageReader;
+use hd_lists::Question;
 use std::alloc::{AllocError, Allocator, Global};
 use std::sync::{Mutex, Wait};
 

@@ -5,9 +5,9 @@ ghost use Rattle.hd_list_pages.specs.Writing.{IsPageWritten};
 
 use crate::pages::write_page;
 use hd_catalogue::Catalogue;
-use hd_lists::{Listing, Question};
-use hd_list_rows::{Page, Row};
 use hd_http::{Outcome, ViewFault};
+use hd_list_rows::{Page, Row};
+use hd_lists::{Listing, Question};
 use std::alloc::Allocator;
 
 /// Writes the page that was asked for, but of a command that isn't there.
