@@ -55,16 +55,18 @@ fn above<'a>(command: Command<'a>, about: &'a str) -> Command<'a> {
 fn with<'a>(
     alloc: Global,
     command: Command<'a>,
-    below: &'a [CommandWords],
+    below: &[CommandWords],
 ) -> Result<Command<'a>, AllocError> {
     command.subcommands(commands_of(alloc, below)?)
 }
 
 /// The commands with these words.
-fn commands_of<'a>(alloc: Global, all: &'a [CommandWords]) -> Result<Vec<Command<'a>>, AllocError> {
-    all.iter()
-        .map(|words| command_of(alloc, *words))
-        .try_collect(alloc)
+fn commands_of<'a>(alloc: Global, all: &[CommandWords]) -> Result<Vec<Command<'a>>, AllocError> {
+    let mut commands = Vec::new(alloc);
+    for words in all {
+        commands.push(command_of(alloc, *words)?)?;
+    }
+    Ok(commands)
 }
 
 /// The command with these words.
