@@ -42,7 +42,12 @@ is made meanwhile may be among them or not.";
 const COPIES_EXAMPLE: &str = "Example:
 
   $ holddesk show copies --door /run/holddesk/door
-@COPIES@
+  copy  title  home   state       branch  to     place  patron  due         renewals
+  a1    ta     north  on loan                           p1      2026-03-22  0
+  a2    ta     north  hold shelf  north          1      p2
+  a3    ta     south  open shelf  south
+  b1    tb     north  in transit  north   south         p3
+  b2    tb     north  open shelf  north
 
 Exit status: 0 well; 1 a fault, printed as one line (`no server listens at PATH`, and others, which
 docs/faults.md has with what to do); 2 the command line was refused.";

@@ -18,7 +18,8 @@ use Rattle.hd_http.specs.declared.view.ViewFault.TheVariants.{Memory, Shut}
 use Rattle.hd_day_text.specs.Days.{IsDayText}
 use Rattle.hd_list_rows.specs.declared.row.Row.{Row}
 use Rattle.hd_list_rows.specs.PageValue.{PageValue}
-use Rattle.hd_list_rows.specs.Shown.{IsNumberOf, IsShown}
+use Rattle.hd_list_rows.specs.Shown.{IsShown}
+use Rattle.hd_list_rows.specs.Topics.{IsNumberOf}
 use Rattle.hd_list_pages.specs.declared.looking_up.LookedUp.{LookedUp}
 use Rattle.hd_list_pages.specs.declared.looking_up.LookedUp.TheVariants.{Known, NoName, NoDay}
 use Rattle.hd_list_pages.specs.Naming.{ArePage}

@@ -2,7 +2,7 @@
 ghost use Rattle.std.specs.Prelude.{◌≡◌, ◌<◌, IfSome};
 ghost use Rattle.hd_catalogue.specs.Contents.{facts_of};
 ghost use Rattle.hd_lists.specs.Questions.{map_question};
-ghost use Rattle.hd_list_rows.specs.Shown.{count_of};
+ghost use Rattle.hd_list_rows.specs.Topics.{count_of};
 ghost use Rattle.hd_list_pages.specs.Seeing.{IsKnown, IsLookedUp, number_of, with_key};
 
 use hd_catalogue::Catalogue;

@@ -15,6 +15,7 @@ mod patron;
 mod queue;
 mod reader;
 mod row;
+mod topic;
 mod turns;
 
 pub use crate::copies::MOST_WALKED;

@@ -5,7 +5,8 @@ ghost use Rattle.hd_desk.specs.Desks.{desk_of, facts};
 ghost use Rattle.hd_lists.specs.Lists.{key_of};
 ghost use Rattle.hd_list_rows.specs.Pages.{capped};
 ghost use Rattle.hd_list_rows.specs.Rows.{copy_row};
-ghost use Rattle.hd_list_rows.specs.Shown.{HasShown, IsNumberOf};
+ghost use Rattle.hd_list_rows.specs.Shown.{HasShown, IsPageOf, IsWorkOf};
+ghost use Rattle.hd_list_rows.specs.Topics.{IsNumberOf, IsTopicOf};
 
 use crate::command::show_command;
 use crate::copies::show_copies;
@@ -14,10 +15,11 @@ use crate::page::Page;
 use crate::patron::show_patron;
 use crate::queue::show_queue;
 use crate::row::Row;
+use crate::topic::{Topic, topic_of};
 use crate::turns::show_turns;
 use hd_desk::{Desk, Meter};
 use hd_journal::{Journal, Look};
-use hd_lists::{Key, Listing, Question};
+use hd_lists::Question;
 use hd_rules::{CopyNo, PatronNo, TitleNo};
 use std::alloc::{AllocError, Allocator, Global};
 
@@ -50,26 +52,36 @@ impl<A: Allocator + Copy> Look<A> for PageReader {
 
     ghost saw = { HasShown };
 
+    #[tactic(auto, using(crate::proofs::Topics::topic_fits))]
     fn look(&mut self, journal: &Journal<A>) {
-        let desk = journal.desk();
         let asked = self.asked;
-        let after = asked.after;
-        let page = &mut self.page;
-        match (asked.list, asked.key) {
-            (Listing::Copy, Key::Name(copy)) => show_copy(desk, copy, page),
-            (Listing::Queue, Key::Name(title)) => {
-                show_queue(desk, title_of(desk, title), capped(after), page)
-            }
-            (Listing::Patron, Key::Name(patron)) => {
-                show_patron(desk, patron_of(desk, patron), capped(after), page)
-            }
-            (Listing::Expired, Key::Day(day)) => show_expired(desk, day, after, page),
-            (Listing::Turns, Key::Most(most)) => show_turns(journal, after, most, page),
-            (Listing::Command, Key::Number(number)) => {
-                show_command(journal, number, &mut self.meter, page)
-            }
-            _ => show_copies(desk, &asked, capped(after), page),
-        }
+        let topic = topic_of(&asked);
+        show(journal, &asked, topic, &mut self.meter, &mut self.page);
+    }
+}
+
+/// Shows the page that is asked for, which is of this topic.
+fn show<A: Allocator + Copy>(
+    journal: &Journal<A>,
+    asked: &Question<u32>,
+    topic: Topic,
+    meter: &mut Meter,
+    page: &mut Page,
+)
+    requires { IsTopicOf (facts_of journal.now.contents) topic }
+    ensures shown { IsPageOf journal.now topic asked.now page.new }
+    ensures work { IsWorkOf journal.now topic meter.old meter.new }
+{
+    let desk = journal.desk();
+    let after = asked.after;
+    match topic {
+        Topic::Copy(copy) => show_copy(desk, copy, page),
+        Topic::Queue(title) => show_queue(desk, title_of(desk, title), capped(after), page),
+        Topic::Patron(patron) => show_patron(desk, patron_of(desk, patron), capped(after), page),
+        Topic::Expired(day) => show_expired(desk, day, after, page),
+        Topic::Turns(most) => show_turns(journal, after, most, page),
+        Topic::Command(number) => show_command(journal, number, meter, page),
+        Topic::Copies => show_copies(desk, asked, capped(after), page),
     }
 }
 
