@@ -4,8 +4,9 @@
     python3 scripts/make/make_page.py [--check]
 
 The policy names the page's one script and its one style by their SHA-256, and lets it fetch from where it came: so a
-browser runs nothing else, whatever a name may hold. With --check nothing is written: it fails where the file isn't what
-would be made. Needs Python 3.
+browser runs nothing else, whatever a name may hold. It fails where the page can't ask for one of the lists of crates/hd_lists
+that are asked by something. With --check nothing is written: it fails where the file isn't what would be made. Needs
+Python 3.
 """
 
 import base64
@@ -20,6 +21,10 @@ from prove import TOP
 
 PAGE = TOP / "crates" / "hd_page" / "page" / "page.html"
 MADE = TOP / "crates" / "hd_page" / "src" / "text.rt"
+LISTS = TOP / "crates" / "hd_lists" / "src" / "list.rt"
+# A list's folder, part and kind of key in its row, and how the page asks by such a key. The turns of a day it finds itself.
+ROW = re.compile(r'folder: b"([^"]*)",\s*part: b"([^"]*)",\s*key: KeyKind::(\w+)')
+ASKED = {"Name": "{}/*{}", "Number": "{}/*{}", "Day": "{}?day=*", "Most": "{}?day=*"}
 WIDEST = 110
 # What would need another source, or would take text for HTML or for a script: the policy refuses it, or it is unsafe.
 REFUSED = (r"\bsrc=|<link|<img|<iframe|@import|url\(|https?:|\bon[a-z]+=|\bstyle=|innerHTML|outerHTML|insertAdjacentHTML"
@@ -32,6 +37,15 @@ def only(tag, page):
     if len(found) != 1 or page.count(f"<{tag}") != 1:
         sys.exit(f"make_page.py: the page has to have one <{tag}>, with no attributes")
     return found[0]
+
+
+def compare_lists(page):
+    """Compares what the page can ask for with the lists."""
+    rows = ROW.findall(LISTS.read_text(encoding="utf-8"))
+    wanted = {ASKED[key].format(folder, part) for folder, part, key in rows if key in ASKED}
+    found = re.findall(r'<option value="([^"]*)">', page)
+    if not rows or sorted(found) != sorted(wanted):
+        sys.exit(f"make_page.py: the page asks for {sorted(found)}, and the lists are {sorted(wanted)}")
 
 
 def source_of(text):
@@ -75,6 +89,7 @@ def main(words):
     for number, line in enumerate(page.split("\n"), 1):
         if len(literal(line)) > WIDEST or re.search(REFUSED, line):
             sys.exit(f"make_page.py: {PAGE.relative_to(TOP)}:{number}: too wide, or it has what the page may not have")
+    compare_lists(page)
     made = made_of(page)
     if not words:
         MADE.write_text(made, encoding="ascii")

@@ -9,7 +9,7 @@ from door import asked, knock, parted, request_of
 from server import Trouble
 
 # Targets that nothing has, and those that are of no form.
-NOWHERE = ["/api", "/api/", "//", "/health/", "/Health", "/metrics/", "/api/copies", "/api/copies/nobody", "/index.html",
+NOWHERE = ["/api", "/api/", "//", "/health/", "/Health", "/metrics/", "/api/copy", "/api/copies/nobody", "/index.html",
            "/api/copies/a1/", "/api/titles/ta", "/api/titles/ta/queue/", "/api/titles/nobody/queue", "/api/patrons/P1",
            "/api/branches/north", "/api/branches/west/shelf", "/api/commands/12", "/api/commands/99", "/stop/",
            "/api/commands/0", "/api/copies/%61%00", "/api/copies/a%2", "/../health", "http://desk/health", "*"]

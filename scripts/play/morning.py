@@ -158,6 +158,13 @@ SEEN = {
     "expired?day=2026-04-02": [HOLD_P3],
     **{f"commands/{number}": rows for number, rows in COMMANDS.items()},
 }
+# What is asked with an escaped day, and of the library as a whole, which the page doesn't ask.
+WHOLE = {
+    "copies": [A1, A2, A3, B1, C1, C2, D1],
+    "copies?after=5": [C2, D1],
+    "transits": [B1, C2],
+    "overdue?day=2026%2D03%2d01": [C1, D1],
+}
 # The turns by kind and outcome: done, refused, repeated.
 COUNTED = {
     "checkout": (4, 1, 0), "offline_checkout": (0, 0, 0), "checkin": (3, 0, 0), "renewal": (1, 0, 0),

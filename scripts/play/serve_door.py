@@ -74,7 +74,7 @@ def play_morning(server):
 
 def compare_lists(path):
     """Compares each list at the door. How many there were."""
-    for target, rows in morning.SEEN.items():
+    for target, rows in (morning.SEEN | morning.WHOLE).items():
         compare_rows(path, f"/api/{target}", rows)
     turns, last = morning.TURNS, len(morning.TURNS)
     compare_rows(path, "/api/turns", turns)
@@ -85,7 +85,7 @@ def compare_lists(path):
             compare_rows(path, f"/api/turns?{query}", page + more)
     compare_rows(path, "/api/titles/tc/queue?after=1", [morning.SECOND_P2])
     compare_rows(path, f"/api/overdue?after=5&day={morning.DAY}", [morning.D1])
-    return len(morning.SEEN) + 15
+    return len(morning.SEEN) + len(morning.WHOLE) + 15
 
 
 def compare_crowd(path, connections):

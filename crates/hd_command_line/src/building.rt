@@ -1,13 +1,14 @@
 //! The program's commands, put together from their words.
 
 use crate::commands::{below_journal, carry_and_import, check_and_replay, serve};
-use crate::door_commands::{below_show, status_and_stop};
+use crate::door_commands::{status_and_stop, words_of};
 use crate::door_texts::SHOW_ABOUT;
 use crate::journal_texts::JOURNAL_ABOUT;
 use crate::texts::{ABOUT, VERSION};
 use crate::words::{CommandWords, Form, GroupWords, OptionWords, Value};
 use clap::builder::ValueParser;
 use clap::{Arg, ArgAction, ArgGroup, Command};
+use hd_lists::LISTS;
 use std::alloc::{AllocError, Global};
 
 /// The program with its commands.
@@ -30,7 +31,16 @@ fn journal<'a>(alloc: Global) -> Result<Command<'a>, AllocError> {
 /// `show`, with the commands below it.
 fn show<'a>(alloc: Global) -> Result<Command<'a>, AllocError> {
     let command = above(Command::new(alloc, "show"), SHOW_ABOUT);
-    with(alloc, command, below_show())
+    command.subcommands(lists_shown(alloc)?)
+}
+
+/// The commands that show a list each.
+fn lists_shown<'a>(alloc: Global) -> Result<Vec<Command<'a>>, AllocError> {
+    let mut commands = Vec::new(alloc);
+    for list in &LISTS {
+        commands.push(command_of(alloc, words_of(*list))?)?;
+    }
+    Ok(commands)
 }
 
 /// A command of which one below it has to be named, and what those do in a line.
@@ -45,20 +55,22 @@ fn above<'a>(command: Command<'a>, about: &'a str) -> Command<'a> {
 fn with<'a>(
     alloc: Global,
     command: Command<'a>,
-    below: &'a [CommandWords],
+    below: &[CommandWords],
 ) -> Result<Command<'a>, AllocError> {
     command.subcommands(commands_of(alloc, below)?)
 }
 
 /// The commands with these words.
-fn commands_of<'a>(alloc: Global, all: &'a [CommandWords]) -> Result<Vec<Command<'a>>, AllocError> {
-    all.iter()
-        .map(|words| command_of(alloc, words))
-        .try_collect(alloc)
+fn commands_of<'a>(alloc: Global, all: &[CommandWords]) -> Result<Vec<Command<'a>>, AllocError> {
+    let mut commands = Vec::new(alloc);
+    for words in all {
+        commands.push(command_of(alloc, *words)?)?;
+    }
+    Ok(commands)
 }
 
 /// The command with these words.
-fn command_of<'a>(alloc: Global, words: &'a CommandWords) -> Result<Command<'a>, AllocError> {
+fn command_of<'a>(alloc: Global, words: CommandWords) -> Result<Command<'a>, AllocError> {
     let options = options_of(alloc, words.options)?;
     let groups = groups_of(alloc, words.groups)?;
     Command::new(alloc, words.name)

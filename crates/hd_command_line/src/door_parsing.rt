@@ -1,8 +1,9 @@
 //! What a server is asked at its door, by the words of the command line.
 
-use crate::orders::{Order, SeenTopic, Show, Status, Stop};
+use crate::orders::{Order, Show, Status, Stop};
 use crate::parsing::text_of;
 use clap::ArgMatches;
+use hd_lists::{Key, KeyKind, Listing};
 
 /// What `status` is asked to do by what was found.
 pub(crate) fn status_of<'a>(found: &ArgMatches<'a>) -> Order<'a> {
@@ -21,34 +22,38 @@ pub(crate) fn stop_of<'a>(found: &ArgMatches<'a>) -> Order<'a> {
 /// What `show` is asked to do by what was found.
 pub(crate) fn show_of<'a>(found: &ArgMatches<'a>) -> Order<'a> {
     match found.subcommand() {
-        Some((topic, found)) => shown_of(topic, found),
-        None => shown_of("", found),
+        Some((word, found)) => shown_of(Listing::called(word).unwrap_or(Listing::Copies), found),
+        None => shown_of(Listing::Copies, found),
     }
 }
 
-/// What `show` is asked to do with a topic of this name.
-fn shown_of<'a>(topic: &str, found: &ArgMatches<'a>) -> Order<'a> {
+/// What the command that shows a list is asked to do by what was found.
+fn shown_of<'a>(list: Listing, found: &ArgMatches<'a>) -> Order<'a> {
+    let kind = list.row().key;
     Order::Show(Show {
         door: text_of(found, "door"),
-        topic: topic_of(topic, found),
+        list,
+        key: key_of(kind, found),
+        after: after_of(kind, found),
         is_json: found.get_flag("json"),
     })
 }
 
-/// What is to be shown, of a topic of this name.
-fn topic_of<'a>(topic: &str, found: &ArgMatches<'a>) -> SeenTopic<'a> {
-    match topic {
-        "copy" => SeenTopic::Copy(text_of(found, "copy")),
-        "title" => SeenTopic::Title(text_of(found, "title")),
-        "patron" => SeenTopic::Patron(text_of(found, "patron")),
-        "shelf" => SeenTopic::Shelf(text_of(found, "branch")),
-        "transit" => SeenTopic::Transit(text_of(found, "branch")),
-        "overdue" => SeenTopic::Overdue(text_of(found, "day")),
-        "expired" => SeenTopic::Expired(text_of(found, "day")),
-        "turns" => SeenTopic::Turns {
-            after: found.get_one::<u32>("after"),
-            limit: found.get_one::<u32>("limit").unwrap_or(20),
-        },
-        _ => SeenTopic::Command(found.get_one::<u32>("number").unwrap_or(1)),
+/// The key of such a kind that was found.
+fn key_of<'a>(kind: KeyKind, found: &ArgMatches<'a>) -> Key<&'a str> {
+    match kind {
+        KeyKind::Name(kind) => Key::Name(text_of(found, kind.word())),
+        KeyKind::Day => Key::Day(text_of(found, "day")),
+        KeyKind::Number => Key::Number(u64::from(found.get_one::<u32>("number").unwrap_or(1))),
+        KeyKind::Whole => Key::Whole,
+        KeyKind::Most => Key::Most(u64::from(found.get_one::<u32>("limit").unwrap_or(20))),
+    }
+}
+
+/// After which turn a list with a key of such a kind is to begin, where that was found.
+fn after_of(kind: KeyKind, found: &ArgMatches<'_>) -> Option<u64> {
+    match kind {
+        KeyKind::Most => found.get_one::<u32>("after").map(u64::from),
+        _ => None,
     }
 }

@@ -1,5 +1,7 @@
 //! What the program is asked to do.
 
+use hd_lists::{Key, Listing};
+
 /// What the program is asked to do.
 #[derive(Clone, Copy)]
 pub enum Order<'a> {
@@ -224,7 +226,7 @@ pub struct JournalShow<'a> {
     /// Which library it is.
     pub library: Place<'a>,
     /// What is to be listed.
-    pub listing: Listing<'a>,
+    pub listing: JournalListing<'a>,
     /// Whether it is to be JSON.
     pub is_json: bool,
 }
@@ -238,7 +240,7 @@ pub struct JournalViews<'a> {
 
 /// What of a desk is to be listed.
 #[derive(Clone, Copy)]
-pub enum Listing<'a> {
+pub enum JournalListing<'a> {
     /// All copies.
     Copies,
     /// The queue of the title with this name.
@@ -258,33 +260,14 @@ pub enum Listing<'a> {
 pub struct Show<'a> {
     /// The path of the server's door.
     pub door: &'a str,
-    /// What is to be shown.
-    pub topic: SeenTopic<'a>,
+    /// The list that is to be shown.
+    pub list: Listing,
+    /// What it is asked by.
+    pub key: Key<&'a str>,
+    /// After which turn to begin, where that is said.
+    pub after: Option<u64>,
     /// Whether it is to be JSON.
     pub is_json: bool,
-}
-
-/// What a server can show.
-#[derive(Clone, Copy)]
-pub enum SeenTopic<'a> {
-    /// Where the copy with this name is.
-    Copy(&'a str),
-    /// The queue of the title with this name.
-    Title(&'a str),
-    /// The loans and the holds of the patron with this name.
-    Patron(&'a str),
-    /// The hold shelf of the branch with this name.
-    Shelf(&'a str),
-    /// The copies that are on their way to the branch with this name.
-    Transit(&'a str),
-    /// The loans that were due before this day.
-    Overdue(&'a str),
-    /// The holds whose last day was before this day.
-    Expired(&'a str),
-    /// Turns, so many at most: those behind so many, or else the last ones.
-    Turns { after: Option<u32>, limit: u32 },
-    /// The command of this number, what it changed, and the first later one that depends on it.
-    Command(u32),
 }
 
 /// What `status` is asked to do.

@@ -8,8 +8,9 @@ ghost use Rattle.std.specs.Str.{bytes_eq};
 use crate::building::program;
 use crate::door_parsing::{show_of, status_of, stop_of};
 use crate::orders::{
-    Beyond, Carry, Check, Extended, Import, JournalBegin, JournalCheck, JournalJoin, JournalShow,
-    JournalViews, Kiosks, LibraryFiles, Listing, Log, Order, Place, Replay, Serve,
+    Beyond, Carry, Check, Extended, Import, JournalBegin, JournalCheck, JournalJoin,
+    JournalListing, JournalShow, JournalViews, Kiosks, LibraryFiles, Log, Order, Place, Replay,
+    Serve,
 };
 use clap::{ArgMatches, Error};
 use std::alloc::Global;
@@ -262,22 +263,22 @@ fn journal_views_of<'a>(found: &ArgMatches<'a>) -> Order<'a> {
 }
 
 /// What is to be listed by what was found.
-fn listing_of<'a>(found: &ArgMatches<'a>) -> Listing<'a> {
+fn listing_of<'a>(found: &ArgMatches<'a>) -> JournalListing<'a> {
     if let Some(title) = found.get_str("queue") {
-        return Listing::Queue(title);
+        return JournalListing::Queue(title);
     }
     if let Some(branch) = found.get_str("shelf") {
-        return Listing::Shelf(branch);
+        return JournalListing::Shelf(branch);
     }
     if let Some(day) = found.get_str("overdue") {
-        return Listing::Overdue(day);
+        return JournalListing::Overdue(day);
     }
     if let Some(day) = found.get_str("expired") {
-        return Listing::Expired(day);
+        return JournalListing::Expired(day);
     }
     if found.get_flag("transits") {
-        Listing::Transits
+        JournalListing::Transits
     } else {
-        Listing::Copies
+        JournalListing::Copies
     }
 }

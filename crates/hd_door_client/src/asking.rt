@@ -7,7 +7,7 @@ ghost use Rattle.hd_door_client.specs.Requests.{patience};
 
 use crate::answer::{Answer, read_answer};
 use crate::fault::AskFault;
-use crate::request::{Question, request_of};
+use crate::request::{Request, request_of};
 use std::alloc::Global;
 use std::io::{self, ErrorKind, Write};
 use std::net::Net;
@@ -26,14 +26,14 @@ pub fn ask<R: Net>(
     rt: &R,
     alloc: Global,
     door: &str,
-    question: &Question<'_>,
+    request: &Request<'_>,
 ) -> Result<Answer, AskFault> {
-    let request = request_of(alloc, question)?;
+    let bytes = request_of(alloc, request)?;
     let server = match UnixStream::connect(rt, door) {
         Ok(server) => server,
         Err(error) => return Err(fault_of(&error)),
     };
-    if say(&server, question, request.as_slice()).is_err() {
+    if say(&server, request, bytes.as_slice()).is_err() {
         return Err(AskFault::Unreadable);
     }
     read_answer(alloc, &server)
@@ -51,18 +51,18 @@ fn fault_of(error: &io::Error) -> AskFault
 }
 
 /// Says a request, and sets how long a read of its answer may wait.
-fn say(mut server: &UnixStream, question: &Question<'_>, request: &[u8]) -> io::Result<()> {
-    server.set_read_timeout(patience(question))?;
-    server.write_all(request)
+fn say(mut server: &UnixStream, request: &Request<'_>, bytes: &[u8]) -> io::Result<()> {
+    server.set_read_timeout(patience(request))?;
+    server.write_all(bytes)
 }
 
 /// How long a read of an answer may wait: a minute, and as long as it takes where the server is to end.
-fn patience(question: &Question<'_>) -> Option<Duration>
-    ensures { option_map as_nanos result ≡ patience question.now }
+fn patience(request: &Request<'_>) -> Option<Duration>
+    ensures { option_map as_nanos result ≡ patience request.now }
 {
-    match question {
-        Question::Stop => None,
-        Question::Health | Question::Metrics | Question::See(_) => {
+    match request {
+        Request::Stop => None,
+        Request::Health | Request::Metrics | Request::See(_) => {
             Some(Duration::from_secs(PATIENCE))
         }
     }

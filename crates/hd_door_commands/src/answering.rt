@@ -1,7 +1,7 @@
 //! What a server answers at its door.
 
 use crate::fault::DoorCommandFault;
-use hd_door_client::{Answer, AskFault, Question, ask, first_line};
+use hd_door_client::{Answer, AskFault, Request, ask, first_line};
 use std::alloc::{AllocError, Global};
 
 /// What the server at a door answers.
@@ -11,9 +11,9 @@ use std::alloc::{AllocError, Global};
 pub(crate) fn answer_at(
     rt: &HostRuntime,
     door: &str,
-    question: &Question<'_>,
+    request: &Request<'_>,
 ) -> Result<Answer, DoorCommandFault> {
-    match ask(rt, rt.alloc(), door, question) {
+    match ask(rt, rt.alloc(), door, request) {
         Ok(answer) => Ok(answer),
         Err(fault) => Err(unanswered(rt.alloc(), door, fault)?),
     }

@@ -2,10 +2,11 @@
 #![tactic(auto)]
 
 mod answering;
+mod asking;
 mod fault;
 mod seeing;
 mod standing;
-mod topics;
+mod unseen;
 
 pub use crate::fault::DoorCommandFault;
 pub use crate::seeing::show;

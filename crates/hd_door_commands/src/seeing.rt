@@ -1,11 +1,12 @@
 //! What `show` tells.
 
 use crate::answering::{answer_at, unanswered};
+use crate::asking::page_of;
 use crate::fault::DoorCommandFault;
-use crate::topics::{heads_of, unseen};
-use hd_command_line::{SeenTopic, Show};
-use hd_door_client::{Question, Rows, number_of};
-use hd_library::inquiry_of;
+use crate::unseen::unseen;
+use hd_command_line::Show;
+use hd_door_client::{Request, Rows, number_of};
+use hd_lists::Key;
 use hd_terminal_output::Table;
 use std::alloc::Global;
 use std::io::Write;
@@ -60,7 +61,7 @@ impl Shown {
 /// Which of the rows there are is shown.
 #[derive(Clone, Copy)]
 struct Range {
-    /// Behind so many.
+    /// After this many.
     after: u64,
     /// So many at most.
     most: u64,
@@ -74,7 +75,7 @@ pub fn show(rt: &HostRuntime, order: &Show<'_>) -> Result<(), DoorCommandFault> 
     let alloc = rt.alloc();
     let range = range_of(rt, order)?;
     let mut shown = Shown {
-        table: Table::new(alloc, heads_of(&order.topic)),
+        table: Table::new(alloc, order.list.row().heads),
         text: Vec::new(alloc),
     };
     add_pages(rt, order, range, &mut shown)?;
@@ -83,15 +84,14 @@ pub fn show(rt: &HostRuntime, order: &Show<'_>) -> Result<(), DoorCommandFault> 
 
 /// Which rows are shown: of turns those that are asked for, or the last ones, and of all else all.
 fn range_of(rt: &HostRuntime, order: &Show<'_>) -> Result<Range, DoorCommandFault> {
-    let SeenTopic::Turns { after, limit } = order.topic else {
+    let Key::Most(most) = order.key else {
         return Ok(Range {
             after: 0,
             most: u64::MAX,
         });
     };
-    let most = u64::from(limit);
-    let after = match after {
-        Some(after) => u64::from(after),
+    let after = match order.after {
+        Some(after) => after,
         None => turns_at(rt, order.door)?.saturating_sub(most),
     };
     Ok(Range { after, most })
@@ -100,7 +100,7 @@ fn range_of(rt: &HostRuntime, order: &Show<'_>) -> Result<Range, DoorCommandFaul
 /// How many turns the journal of the server at a door has; none where it isn't shown any more, and the answer
 /// to the next question says why.
 fn turns_at(rt: &HostRuntime, door: &str) -> Result<u64, DoorCommandFault> {
-    let metrics = answer_at(rt, door, &Question::Metrics)?;
+    let metrics = answer_at(rt, door, &Request::Metrics)?;
     Ok(number_of(metrics.body.as_slice(), b"holddesk_journal_turns ").unwrap_or(0))
 }
 
@@ -127,7 +127,7 @@ fn add_pages(
     Ok(())
 }
 
-/// The rows of a page that begins behind so much, and of turns has so many at most.
+/// The rows of the page that begins there, which of turns has so many at most.
 fn rows_at(
     rt: &HostRuntime,
     order: &Show<'_>,
@@ -135,10 +135,10 @@ fn rows_at(
     limit: u64,
 ) -> Result<Rows, DoorCommandFault> {
     let alloc = rt.alloc();
-    let question = Question::See(inquiry_of(&order.topic, after, limit));
-    let answer = answer_at(rt, order.door, &question)?;
+    let request = Request::See(page_of(order, after, limit));
+    let answer = answer_at(rt, order.door, &request)?;
     if answer.status != OK {
-        return Err(unseen(alloc, &order.topic, &answer)?);
+        return Err(unseen(alloc, order, &answer)?);
     }
     match Rows::read(alloc, answer.body) {
         Ok(rows) => Ok(rows),

@@ -3,7 +3,7 @@
 use crate::answering::{answer_at, refusal};
 use crate::fault::DoorCommandFault;
 use hd_command_line::{Status, Stop};
-use hd_door_client::{Question, status_text};
+use hd_door_client::{Request, status_text};
 use std::io::Write;
 
 /// The status of an answer that all is well.
@@ -18,8 +18,8 @@ const ACCEPTED: u16 = 202;
 /// It can't do its work, which is told too; it can't be asked.
 pub fn tell_status(rt: &HostRuntime, order: &Status<'_>) -> Result<(), DoorCommandFault> {
     let alloc = rt.alloc();
-    let health = answer_at(rt, order.door, &Question::Health)?;
-    let metrics = answer_at(rt, order.door, &Question::Metrics)?;
+    let health = answer_at(rt, order.door, &Request::Health)?;
+    let metrics = answer_at(rt, order.door, &Request::Metrics)?;
     let text = status_text(alloc, health.body.as_slice(), metrics.body.as_slice())?;
     rt.stdout().write_all(text.as_slice())?;
     if health.status == OK {
@@ -34,7 +34,7 @@ pub fn tell_status(rt: &HostRuntime, order: &Status<'_>) -> Result<(), DoorComma
 /// # Errors
 /// It can't be asked, or doesn't end; the output can't be written.
 pub fn stop(rt: &HostRuntime, order: &Stop<'_>) -> Result<(), DoorCommandFault> {
-    let answer = answer_at(rt, order.door, &Question::Stop)?;
+    let answer = answer_at(rt, order.door, &Request::Stop)?;
     if answer.status != ACCEPTED {
         return Err(refusal(rt.alloc(), &answer)?);
     }

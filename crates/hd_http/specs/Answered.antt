@@ -13,7 +13,7 @@ use Rattle.hd_http.specs.declared.reply.Status.{Status}
 use Rattle.hd_http.specs.declared.reply.Status.TheVariants.{Accepted, BadRequest, FieldsTooLarge}
 use Rattle.hd_http.specs.Asking.{is_stop, method_of, refused_fields, refused_method, told_by}
 use Rattle.hd_http.specs.Replies.{Answer, refusal, reply_text}
-use Rattle.hd_http.specs.Shows.{Shown, IsShown, IsLost}
+use Rattle.hd_http.specs.Shows.{Shown, Shows}
 
 -- what is to follow an answer of this status
 abbrev pub sequel_of : Status → Sequel
@@ -23,7 +23,7 @@ sequel_of _ = GoOn
 -- the answer to a stop, or to a target that is read
 abbrev pub AnswersTarget : Shown → Bool → List ℕ → Answer → Type 0
 AnswersTarget shown true target a = a ≡ refusal Accepted
-AnswersTarget shown false target a = IsShown shown target a ⊎ IsLost target a
+AnswersTarget shown false target a = Shows shown target a
 
 -- the answer to a request whose method is allowed, where its fields are refused so
 abbrev pub AnswersFields : Option Status → Shown → List ℕ → Answer → Type 0

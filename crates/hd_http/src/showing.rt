@@ -1,22 +1,19 @@
-//! What is shown at a place.
-ghost use Rattle.std.specs.Prelude.{◌≡◌, ◌⊎◌, IfOk, option_map};
+//! What is shown at a target.
+ghost use Rattle.std.specs.Prelude.{◌≡◌, IfOk, option_map};
+ghost use Rattle.hd_lists.specs.Hearing.{heard_in};
+ghost use Rattle.hd_lists.specs.Questions.{map_question};
 ghost use Rattle.hd_http.specs.Answers.{health_answer, metrics_answer, page_answer};
 ghost use Rattle.hd_http.specs.Faults.{fault_text};
 ghost use Rattle.hd_http.specs.Seen.{seen};
-ghost use Rattle.hd_http.specs.Shows.{AnswersAsked, IsLost, IsShown, Shows, ShowsAsked};
-ghost use Rattle.hd_http.specs.Shows.{day_asked, name_asked, number_asked, turns_asked};
-ghost use Rattle.hd_http.specs.Sights.{asked_of};
+ghost use Rattle.hd_http.specs.Shows.{AnswersHeard, Shows, ShowsAsked, ShowsPlace};
 
-use crate::cutting::cut;
 use crate::metrics::write_metrics;
-use crate::number::number_in;
 use crate::page::Page;
 use crate::place::{Place, place_of};
-use crate::query::{after_alone, after_and_limit, day_and_after};
 use crate::reply::{Media, Reply, Status, refuse, say};
 use crate::state::{Health, State};
-use crate::view::{Dated, Inquiry, Named, Outcome, View, ViewFault};
-use percent_encoding::percent_decode;
+use crate::view::{Outcome, View, ViewFault};
+use hd_lists::{Heard, Question, cut, hear};
 use std::alloc::{AllocError, Global};
 
 /// Why a view can't answer, in words.
@@ -30,11 +27,16 @@ fn fault_text(fault: ViewFault) -> &'static [u8]
 }
 
 /// What is seen of what is asked.
-fn show_asked<V: View>(alloc: Global, view: &V, inquiry: &Inquiry<'_>) -> Result<Reply, AllocError>
-    ensures { IfOk result (λ r. ShowsAsked (V.shows view.now) (asked_of inquiry.now) (seen r)) }
+fn show_asked<V: View>(
+    alloc: Global,
+    view: &V,
+    question: &Question<&[u8]>,
+) -> Result<Reply, AllocError>
+    ensures { IfOk result (λ r. ShowsAsked (V.shows view.now)
+        (map_question (λ n. n.now) question.now) (seen r)) }
 {
     let mut body = Vec::new(alloc);
-    match view.write(inquiry, &mut body) {
+    match view.write(question, &mut body) {
         Ok(Outcome::Written) => Ok(Reply {
             status: Status::Ok,
             media: Media::Json,
@@ -43,73 +45,6 @@ fn show_asked<V: View>(alloc: Global, view: &V, inquiry: &Inquiry<'_>) -> Result
         Ok(Outcome::Unknown) => refuse(alloc, Status::NotFound),
         Ok(Outcome::Refused) => refuse(alloc, Status::BadRequest),
         Err(fault) => say(alloc, Status::Unavailable, fault_text(fault)),
-    }
-}
-
-/// What there is under a name.
-fn show_name<V: View>(
-    alloc: Global,
-    view: &V,
-    kind: Named,
-    raw: &[u8],
-    query: Option<&[u8]>,
-) -> Result<Reply, AllocError>
-    ensures { IfOk result (λ r. AnswersAsked (V.shows view.now)
-        (name_asked kind raw.now (option_map (λ q. q.now) query.entry)) (seen r)) }
-{
-    let Some(after) = after_alone(query) else {
-        return refuse(alloc, Status::BadRequest);
-    };
-    let mut name = Vec::new(alloc);
-    percent_decode(raw).append_to(&mut name)?;
-    let inquiry = Inquiry::ByName {
-        kind,
-        name: name.as_slice(),
-        after,
-    };
-    show_asked(alloc, view, &inquiry)
-}
-
-/// What there is by a day.
-fn show_day<V: View>(
-    alloc: Global,
-    view: &V,
-    kind: Dated,
-    query: Option<&[u8]>,
-) -> Result<Reply, AllocError>
-    ensures { IfOk result (λ r. AnswersAsked (V.shows view.now)
-        (day_asked kind (option_map (λ q. q.now) query.entry)) (seen r)) }
-{
-    match day_and_after(query) {
-        Some((day, after)) => show_asked(alloc, view, &Inquiry::ByDay { kind, day, after }),
-        None => refuse(alloc, Status::BadRequest),
-    }
-}
-
-/// The turns after a number.
-fn show_turns<V: View>(alloc: Global, view: &V, query: Option<&[u8]>) -> Result<Reply, AllocError>
-    ensures { IfOk result (λ r. AnswersAsked (V.shows view.now)
-        (turns_asked (option_map (λ q. q.now) query.entry)) (seen r)) }
-{
-    match after_and_limit(query) {
-        Some((after, limit)) => show_asked(alloc, view, &Inquiry::Turns { after, limit }),
-        None => refuse(alloc, Status::BadRequest),
-    }
-}
-
-/// The command of a number.
-fn show_command<V: View>(
-    alloc: Global,
-    view: &V,
-    digits: &[u8],
-    query: Option<&[u8]>,
-) -> Result<Reply, AllocError>
-    ensures { IfOk result (λ r. AnswersAsked (V.shows view.now)
-        (number_asked digits.now (option_map (λ q. q.now) query.entry)) (seen r)) }
-{
-    match (number_in(digits), query) {
-        (Some(number), None) => show_asked(alloc, view, &Inquiry::Command { number }),
-        _ => refuse(alloc, Status::BadRequest),
     }
 }
 
@@ -149,34 +84,37 @@ fn show_page(alloc: Global, text: &[u8]) -> Result<Reply, AllocError>
     })
 }
 
-/// What is shown at a place.
-fn show<V: View>(
+/// What is shown at a place that is no list, and has no query.
+fn show_place<V: View>(
     alloc: Global,
     page: &Page<'_>,
     view: &V,
-    place: Place<'_>,
+    place: Place,
     query: Option<&[u8]>,
 ) -> Result<Reply, AllocError>
-    ensures { IfOk result (λ r. Shows
+    ensures { IfOk result (λ r. ShowsPlace
         (record { page = page.now.text.now; shows = V.shows view.now; tells = V.tells view.now })
-        place.entry (option_map (λ q. q.now) query.entry) (seen r)) }
+        place (option_map (λ q. q.now) query.entry) (seen r)) }
 {
+    if query.is_some() {
+        return refuse(alloc, Status::BadRequest);
+    }
     match place {
-        Place::Home | Place::Health | Place::Metrics if query.is_some() => {
-            refuse(alloc, Status::BadRequest)
-        }
         Place::Home => show_page(alloc, page.text),
         Place::Health => show_health(alloc, view.state().health),
         Place::Metrics => show_metrics(alloc, &view.state()),
-        Place::Copy(name) => show_name(alloc, view, Named::Copy, name, query),
-        Place::Queue(name) => show_name(alloc, view, Named::Queue, name, query),
-        Place::Patron(name) => show_name(alloc, view, Named::Patron, name, query),
-        Place::Shelf(name) => show_name(alloc, view, Named::Shelf, name, query),
-        Place::Transit(name) => show_name(alloc, view, Named::Transit, name, query),
-        Place::Overdue => show_day(alloc, view, Dated::Overdue, query),
-        Place::Expired => show_day(alloc, view, Dated::Expired, query),
-        Place::Turns => show_turns(alloc, view, query),
-        Place::Command(digits) => show_command(alloc, view, digits, query),
+    }
+}
+
+/// What is shown of what is asked by a target.
+fn show_heard<V: View>(alloc: Global, view: &V, target: &[u8]) -> Result<Reply, AllocError>
+    ensures { IfOk result (λ r. AnswersHeard (V.shows view.now) (heard_in target.now) (seen r)) }
+{
+    let mut name = Vec::new(alloc);
+    match hear(target, &mut name)? {
+        Heard::Nothing => refuse(alloc, Status::NotFound),
+        Heard::Malformed => refuse(alloc, Status::BadRequest),
+        Heard::Asked(question) => show_asked(alloc, view, &question),
     }
 }
 
@@ -187,13 +125,13 @@ pub(crate) fn show_target<V: View>(
     view: &V,
     target: &[u8],
 ) -> Result<Reply, AllocError>
-    ensures { IfOk result (λ r. IsShown
+    ensures { IfOk result (λ r. Shows
         (record { page = page.now.text.now; shows = V.shows view.now; tells = V.tells view.now })
-        target.now (seen r) ⊎ IsLost target.now (seen r)) }
+        target.now (seen r)) }
 {
     let (path, query) = cut(target, b'?');
     match place_of(path) {
-        Some(place) => show(alloc, page, view, place, query),
-        None => refuse(alloc, Status::NotFound),
+        Some(place) => show_place(alloc, page, view, place, query),
+        None => show_heard(alloc, view, target),
     }
 }

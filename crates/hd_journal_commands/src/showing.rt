@@ -5,7 +5,7 @@ use crate::listing::{
     COPIES, EXPIRED, OVERDUE, QUEUE, SHELF, TRANSITS, copies, expired, overdue, queue, shelf,
     transits,
 };
-use hd_command_line::{JournalShow, Listing};
+use hd_command_line::{JournalListing, JournalShow};
 use hd_desk::Desk;
 use hd_folder::Paths;
 use hd_library_journal::{Keeping, end_journal, open_kept};
@@ -34,14 +34,14 @@ pub fn show_journal(rt: &HostRuntime, order: &JournalShow<'_>) -> Result<(), Jou
 }
 
 /// The headings of a list.
-fn heads_of(listing: &Listing<'_>) -> &'static [&'static str] {
+fn heads_of(listing: &JournalListing<'_>) -> &'static [&'static str] {
     match listing {
-        Listing::Copies => &COPIES,
-        Listing::Queue(_) => &QUEUE,
-        Listing::Shelf(_) => &SHELF,
-        Listing::Transits => &TRANSITS,
-        Listing::Overdue(_) => &OVERDUE,
-        Listing::Expired(_) => &EXPIRED,
+        JournalListing::Copies => &COPIES,
+        JournalListing::Queue(_) => &QUEUE,
+        JournalListing::Shelf(_) => &SHELF,
+        JournalListing::Transits => &TRANSITS,
+        JournalListing::Overdue(_) => &OVERDUE,
+        JournalListing::Expired(_) => &EXPIRED,
     }
 }
 
@@ -49,15 +49,15 @@ fn heads_of(listing: &Listing<'_>) -> &'static [&'static str] {
 fn list(
     alloc: Global,
     desk: &Desk,
-    listing: &Listing<'_>,
+    listing: &JournalListing<'_>,
     table: &mut Table,
 ) -> Result<(), ListFault> {
     match listing {
-        Listing::Copies => copies(alloc, desk, table),
-        Listing::Queue(title) => queue(alloc, desk, title, table),
-        Listing::Shelf(branch) => shelf(alloc, desk, branch, table),
-        Listing::Transits => transits(alloc, desk, table),
-        Listing::Overdue(day) => overdue(alloc, desk, day, table),
-        Listing::Expired(day) => expired(alloc, desk, day, table),
+        JournalListing::Copies => copies(alloc, desk, table),
+        JournalListing::Queue(title) => queue(alloc, desk, title, table),
+        JournalListing::Shelf(branch) => shelf(alloc, desk, branch, table),
+        JournalListing::Transits => transits(alloc, desk, table),
+        JournalListing::Overdue(day) => overdue(alloc, desk, day, table),
+        JournalListing::Expired(day) => expired(alloc, desk, day, table),
     }
 }

@@ -1,4 +1,3 @@
-pub mod Topics
 pub mod Joined
 pub mod Libraries
 pub mod PatronsFiles

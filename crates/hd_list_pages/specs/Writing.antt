@@ -4,7 +4,7 @@ use Rattle.std.specs.Prelude.{◌∷◌, ◌++◌}
 use Rattle.std.specs.List.{flat_map, join_by}
 use Rattle.hd_catalogue.specs.Contents.{Contents}
 use Rattle.hd_json.specs.Texts.{Member, Value, array_text, member_text, object_text, value_text}
-use Rattle.hd_list_rows.specs.declared.topic.Topic.{Topic}
+use Rattle.hd_lists.specs.declared.question.Question.{Question}
 use Rattle.hd_list_rows.specs.PageValue.{PageValue}
 use Rattle.hd_http.specs.declared.view.Outcome.{Outcome}
 use Rattle.hd_http.specs.declared.view.Outcome.TheVariants.{Written, Unknown, Refused}
@@ -68,10 +68,11 @@ module _ (k : Contents) where
   WritesPage page old new =
       (objects : List (List Member)) × ArePage k page objects × (new ≡ old ++ array_text objects)
 
--- what is written of a page of what was looked up
-abbrev pub IsPageWritten : Contents → Topic → PageValue → Result Outcome ViewFault → List ℕ → List ℕ → Type 0
-IsPageWritten k topic page (Ok Written) old new =
-    (is_missing topic page.rows ≡ false) × WritesPage k page old new
-IsPageWritten k topic page (Ok Unknown) old new = (is_missing topic page.rows ≡ true) × (new ≡ old)
-IsPageWritten k topic page (Ok Refused) old new = ⊥
-IsPageWritten k topic page (Err fault) old new = fault ≡ Memory
+-- what is written of a page that was asked for
+abbrev pub IsPageWritten : Contents → Question ℕ → PageValue → Result Outcome ViewFault → List ℕ → List ℕ
+    → Type 0
+IsPageWritten k asked page (Ok Written) old new =
+    (is_missing asked page.rows ≡ false) × WritesPage k page old new
+IsPageWritten k asked page (Ok Unknown) old new = (is_missing asked page.rows ≡ true) × (new ≡ old)
+IsPageWritten k asked page (Ok Refused) old new = ⊥
+IsPageWritten k asked page (Err fault) old new = fault ≡ Memory

@@ -7,15 +7,16 @@ ghost use Rattle.hd_http.specs.declared.state.Health.TheVariants.{Shut};
 ghost use Rattle.hd_list_pages.specs.Counting.{AreTallied, IsEnded};
 ghost use Rattle.hd_list_pages.specs.Standing.{MayShut, Tells, state_of};
 
+use crate::looking_up::{LookedUp, look_up};
 use crate::seeing::write_shown;
-use crate::sought::{Lookup, sought_of};
 use crate::standing::state_of;
 use crate::state_reader::StateReader;
 use hd_desk::Meter;
 use hd_hall::{Hall, House};
-use hd_http::{Health, Inquiry, Outcome, State, View, ViewFault};
+use hd_http::{Health, Outcome, State, View, ViewFault};
 use hd_journal::{Journal, Keeper, Look, OwnedAsk, Turns};
 use hd_list_rows::PageReader;
+use hd_lists::Question;
 use std::alloc::{AllocError, Allocator, Global};
 use std::sync::{Mutex, Wait};
 
@@ -146,21 +147,21 @@ impl<'a, R: Wait, H: House, A: Allocator + Copy, Q: Drop, K: Keeper<A, Q> + Drop
 
     ghost tells = { λ _ state. Tells (IsShownTo H.opening []) (MayShut K.faults) AreTallied state };
 
-    fn write(&self, inquiry: &Inquiry<'_>, out: &mut Vec<u8>) -> Result<Outcome, ViewFault> {
+    fn write(&self, question: &Question<&[u8]>, out: &mut Vec<u8>) -> Result<Outcome, ViewFault> {
         let catalogue = self.hall.catalogue();
-        match sought_of(catalogue, inquiry) {
-            Lookup::Known(topic) => {
+        match look_up(catalogue, question) {
+            LookedUp::Known(asked) => {
                 let meter = Meter::new(self.host);
-                let Ok(mut reader) = PageReader::new(self.host.alloc(), topic, meter) else {
+                let Ok(mut reader) = PageReader::new(self.host.alloc(), asked, meter) else {
                     return Err(ViewFault::Memory);
                 };
                 match self.look_at(&mut reader) {
-                    Ok(()) => write_shown(catalogue, &topic, &reader.page, out),
+                    Ok(()) => write_shown(catalogue, &asked, &reader.page, out),
                     Err(_) => Err(ViewFault::Shut),
                 }
             }
-            Lookup::NoName => Ok(Outcome::Unknown),
-            Lookup::NoDay => Ok(Outcome::Refused),
+            LookedUp::NoName => Ok(Outcome::Unknown),
+            LookedUp::NoDay => Ok(Outcome::Refused),
         }
     }
 

@@ -5,3 +5,4 @@ pub mod Walking  -- copies by rising number
 pub mod Turning  -- turns by their numbers
 pub mod Changed  -- the changes of a command
 pub mod Searched  -- a search where no survivor has the number
+pub mod Topics  -- that it is of the catalogue

@@ -7,7 +7,7 @@ use Rattle.hd_rules.specs.Desk.{Desk}
 use Rattle.hd_list_rows.specs.declared.page.TheConstants.{MOST_ROWS}
 use Rattle.hd_list_rows.specs.declared.copies.TheConstants.{MOST_WALKED}
 use Rattle.hd_list_rows.specs.declared.row.Row.{Row}
-use Rattle.hd_list_rows.specs.declared.topic.CopyList.{CopyList}
+use Rattle.hd_lists.specs.declared.question.Question.{Question}
 use Rattle.hd_list_rows.specs.PageValue.{PageValue}
 use Rattle.hd_list_rows.specs.Rows.{copies_on}
 
@@ -26,6 +26,10 @@ page_behind others whole = record {
 abbrev pub most_turns : ℕ → ℕ
 most_turns limit = min limit MOST_ROWS
 
+-- a number of 32 bits: this one, or the greatest where it is above that, as no list has that many entries
+abbrev pub capped : ℕ → ℕ
+capped n = min n 4294967295
+
 -- the page of so many behind others: another follows where there are more
 abbrev pub page_within : ℕ → ℕ → List Row → PageValue
 page_within others most whole = record {
@@ -33,13 +37,13 @@ page_within others most whole = record {
   next = if nat_lt (others + most) (length whole) then Some (others + most) else None;
 }
 
-module _ (k : Facts) (d : Desk) (which : CopyList) (first : CopyNo) where
+module _ (k : Facts) (d : Desk) (asked : Question ℕ) (first : CopyNo) where
   -- It goes as far as the last copy; or else to before the next page's first, where it is full, or so many
   -- copies were looked at.
   abbrev pub GoesTo : Option CopyNo → List Row → Type 0
-  GoesTo None rows = rows ≡ copies_on d which first k.copies
+  GoesTo None rows = rows ≡ copies_on d asked first k.copies
   GoesTo (Some next) rows =
-      (rows ≡ copies_on d which first next) × (first < next) × (next < k.copies)
+      (rows ≡ copies_on d asked first next) × (first < next) × (next < k.copies)
       × ((length rows ≡ MOST_ROWS) ⊎ (next ≡ first + MOST_WALKED))
 
   -- The copies on the list, from the first one on.

@@ -1,40 +1,40 @@
 -- The rows that are shown of a journal, and the whole lists that they are of.
-use Rattle.std.specs.Prelude.{ℕ, ◌+◌, ◌-◌, ◌==◌, Bool, false, Option, Some, None, if◌then◌else◌, List, []}
-use Rattle.std.specs.Prelude.{◌∷◌, ◌++◌, map, filter_map}
+use Rattle.std.specs.Prelude.{ℕ, ◌+◌, ◌-◌, ◌==◌, nat_lt, Bool, true, false, Option, Some, None}
+use Rattle.std.specs.Prelude.{if◌then◌else◌, List, [], ◌∷◌, ◌++◌, map, filter_map}
 use Rattle.std.specs.List.{range_with_len}
 use Rattle.hd_rules.specs.declared.cells.Change.{Change}
 use Rattle.hd_rules.specs.declared.copies.CopyState.{CopyState}
 use Rattle.hd_rules.specs.declared.holds.Hold.{Hold}
-use Rattle.hd_rules.specs.declared.copies.CopyState.TheVariants.{InTransit, OnHoldShelf}
+use Rattle.hd_rules.specs.declared.copies.CopyState.TheVariants.{InTransit, OnHoldShelf, OnLoan}
 use Rattle.hd_rules.specs.declared.views.TitleHold.{TitleHold}
-use Rattle.hd_rules.specs.Numbers.{BranchNo, CommandNo, CopyNo, PatronNo, TitleNo}
+use Rattle.hd_rules.specs.Numbers.{CommandNo, CopyNo, PatronNo, TitleNo}
 use Rattle.hd_rules.specs.Facts.{Facts}
 use Rattle.hd_rules.specs.Desk.{Desk}
 use Rattle.hd_rules.specs.Choose.{position}
 use Rattle.hd_rules.specs.Journal.{Turn}
 use Rattle.hd_rules.specs.Record.{Record}
-use Rattle.hd_rules.specs.Views.{holds_of, is_overdue, loans_of}
+use Rattle.hd_rules.specs.Views.{holds_of, loans_of}
 use Rattle.hd_records.specs.Survivors.{survivor_of}
+use Rattle.hd_lists.specs.declared.list.Listing.{Listing}
+use Rattle.hd_lists.specs.declared.list.Listing.TheVariants as list
+use Rattle.hd_lists.specs.declared.question.Key.{Key}
+use Rattle.hd_lists.specs.declared.question.Key.TheVariants.{Name, Day}
+use Rattle.hd_lists.specs.declared.question.Question.{Question}
 use Rattle.hd_list_rows.specs.declared.row.Row.{Row}
 use Rattle.hd_list_rows.specs.declared.row.Row.TheVariants as row
-use Rattle.hd_list_rows.specs.declared.topic.CopyList.{CopyList}
-use Rattle.hd_list_rows.specs.declared.topic.CopyList.TheVariants as list
 
--- on the hold shelf of the branch
-abbrev pub is_kept_at : BranchNo → CopyState → Bool
-is_kept_at b (OnHoldShelf place) = place.branch == b
-is_kept_at b _ = false
+-- a copy in this state is on the list with this key; none is on a list that isn't of copies
+abbrev pub is_on_list : Listing → Key ℕ → CopyState → Bool
+is_on_list list.Copies key state = true
+is_on_list list.Transits key (InTransit way) = true
+is_on_list list.Shelf (Name branch) (OnHoldShelf place) = place.branch == branch
+is_on_list list.Transit (Name branch) (InTransit way) = way.to == branch
+is_on_list list.Overdue (Day day) (OnLoan loan) = nat_lt loan.due day
+is_on_list _ key state = false
 
--- on the way to the branch
-abbrev pub is_going_to : BranchNo → CopyState → Bool
-is_going_to b (InTransit way) = way.to == b
-is_going_to b _ = false
-
--- whether a copy that is there is on the list
-abbrev pub is_on : CopyList → CopyState → Bool
-is_on (list.Shelf b) state = is_kept_at b state
-is_on (list.Transit b) state = is_going_to b state
-is_on (list.Overdue day) state = is_overdue day state
+-- a copy in this state is on the list that is asked for
+abbrev pub is_on : Question ℕ → CopyState → Bool
+is_on asked state = is_on_list asked.list asked.key state
 
 module _ (d : Desk) where
   -- a copy, and where it is
@@ -42,12 +42,12 @@ module _ (d : Desk) where
   copy_row c = row.Copy c (d.copy c)
 
   -- the copy, where it is on the list
-  abbrev pub row_on : CopyList → CopyNo → Option Row
-  row_on which c = if is_on which (d.copy c) then Some (copy_row c) else None
+  abbrev pub row_on : Question ℕ → CopyNo → Option Row
+  row_on asked c = if is_on asked (d.copy c) then Some (copy_row c) else None
 
   -- the copies on the list from one on and before another, by rising number
-  abbrev pub copies_on : CopyList → CopyNo → CopyNo → List Row
-  copies_on which first end = filter_map (row_on which) (range_with_len first (end - first))
+  abbrev pub copies_on : Question ℕ → CopyNo → CopyNo → List Row
+  copies_on asked first end = filter_map (row_on asked) (range_with_len first (end - first))
 
 module _ (k : Facts) (d : Desk) where
   -- a hold of a title, with its position in the title's queue

@@ -1,5 +1,5 @@
 -- What a look shows of a journal.
-use Rattle.std.specs.Prelude.{◌≡◌, ℕ, ◌<◌, ⊤, Option, Some, None, List, [], ◌∷◌}
+use Rattle.std.specs.Prelude.{◌≡◌, ℕ, Option, Some, None, List, [], ◌∷◌}
 use Rattle.hd_rules.specs.declared.holds.Hold.{Hold}
 use Rattle.hd_rules.specs.declared.commands.Survivor.{Survivor}
 use Rattle.hd_rules.specs.Numbers.{CommandNo}
@@ -12,20 +12,16 @@ use Rattle.hd_journal.specs.Books.{Book, facts, state}
 use Rattle.hd_journal.specs.Dependents.{IsFirstDependent}
 use Rattle.hd_journal.specs.Stored.{IsRecordOf}
 use Rattle.hd_journal.specs.Working.{IsDependenceWork}
+use Rattle.hd_lists.specs.declared.question.Question.{Question}
 use Rattle.hd_list_rows.specs.declared.reader.PageReader.{PageReader}
 use Rattle.hd_list_rows.specs.declared.row.Row.{Row}
 use Rattle.hd_list_rows.specs.declared.topic.Topic.{Topic}
-use Rattle.hd_list_rows.specs.declared.topic.Topic.TheVariants as about
+use Rattle.hd_list_rows.specs.declared.topic.Topic.TheVariants as topic
 use Rattle.hd_list_rows.specs.Expired.{IsExpiredPage}
 use Rattle.hd_list_rows.specs.PageValue.{PageValue}
-use Rattle.hd_list_rows.specs.Pages.{IsWalk, most_turns, page_behind, page_within}
+use Rattle.hd_list_rows.specs.Pages.{IsWalk, capped, most_turns, page_behind, page_within}
 use Rattle.hd_list_rows.specs.Rows.{command_rows, copy_row, patron_rows, queue_rows, turn_rows}
-
--- what is looked up is of the catalogue
-abbrev pub IsTopicOf : Facts → Topic → Type 0
-IsTopicOf k (about.Copy copy) = copy < k.copies
-IsTopicOf k (about.Queue title after) = title < k.titles
-IsTopicOf k _ = ⊤
+use Rattle.hd_list_rows.specs.Topics.{topic_of}
 
 -- The rows of the surviving command with a number, if there is one.
 abbrev pub IsCommand : Facts → List Survivor → CommandNo → Option Record → List Row → Type 0
@@ -34,33 +30,40 @@ IsCommand k survivors n (Some r) rows =
     IsRecordOf k survivors n (Some r)
     × (first : Option CommandNo) × IsFirstDependent k survivors n first × (rows ≡ command_rows r first)
 
--- The page of what is looked up, in this journal.
-abbrev pub IsShown : Book → Topic → PageValue → Type 0
-IsShown book (about.Copy copy) page =
+-- The page that is asked for, of this topic, in this journal.
+abbrev pub IsPageOf : Book → Topic → Question ℕ → PageValue → Type 0
+IsPageOf book (topic.Copy copy) asked page =
     page ≡ record { rows = copy_row (state book).desk copy ∷ []; next = None }
-IsShown book (about.Queue title after) page =
+IsPageOf book (topic.Queue title) asked page =
     (holds : List Hold) × IsQueueOf (facts book) (state book).desk title holds
-    × (page ≡ page_behind after (queue_rows (facts book) (state book).desk title holds))
-IsShown book (about.Patron patron after) page =
-    page ≡ page_behind after (patron_rows (facts book) (state book).desk patron)
-IsShown book (about.Copies which first) page = IsWalk (facts book) (state book).desk which first page
-IsShown book (about.Expired day first) page =
+    × (page ≡ page_behind (capped asked.after) (queue_rows (facts book) (state book).desk title holds))
+IsPageOf book (topic.Patron patron) asked page =
+    page ≡ page_behind (capped asked.after) (patron_rows (facts book) (state book).desk patron)
+IsPageOf book (topic.Expired day) asked page =
     (queues : ℕ → List Hold) × AreQueuesOf (facts book) (state book).desk queues
-    × IsExpiredPage (facts book) (state book).desk queues day first page
-IsShown book (about.Turns after limit) page =
-    page ≡ page_within after (most_turns limit) (turn_rows 1 book.turns)
-IsShown book (about.Command number) page =
+    × IsExpiredPage (facts book) (state book).desk queues day asked.after page
+IsPageOf book (topic.Turns most) asked page =
+    page ≡ page_within asked.after (most_turns most) (turn_rows 1 book.turns)
+IsPageOf book (topic.Command number) asked page =
     (found : Option Record) × IsCommand (facts book) (state book).survivors number found page.rows
     × (page.next ≡ None)
+IsPageOf book topic.Copies asked page =
+    IsWalk (facts book) (state book).desk asked (capped asked.after) page
+
+abbrev pub IsShown : Book → Question ℕ → PageValue → Type 0
+IsShown book asked page = IsPageOf book (topic_of asked.list asked.key) asked page
 
 -- The work that is counted under the lock: at a command that of finding what depends on it, and no other.
-abbrev pub IsLookWork : Book → Topic → Counts → Counts → Type 0
-IsLookWork book (about.Command number) old new =
+abbrev pub IsWorkOf : Book → Topic → Counts → Counts → Type 0
+IsWorkOf book (topic.Command number) old new =
     IsDependenceWork (facts book) (state book).survivors number old new
-IsLookWork book _ old new = new ≡ old
+IsWorkOf book _ old new = new ≡ old
+
+abbrev pub IsLookWork : Book → Question ℕ → Counts → Counts → Type 0
+IsLookWork book asked old new = IsWorkOf book (topic_of asked.list asked.key) old new
 
 -- A reader has taken that down, and counted the work.
 pub record HasShown (old : PageReader) (book : Book) (new : PageReader) : Type 0 where
-  pub same : new.topic ≡ old.topic
-  pub shown : IsShown book old.topic new.page
-  pub work : IsLookWork book old.topic old.meter new.meter
+  pub same : new.asked ≡ old.asked
+  pub shown : IsShown book old.asked new.page
+  pub work : IsLookWork book old.asked old.meter new.meter

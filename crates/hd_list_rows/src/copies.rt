@@ -6,22 +6,22 @@ ghost use Rattle.hd_list_rows.specs.Rows.{is_on, row_on};
 
 use crate::page::Page;
 use crate::row::Row;
-use crate::topic::CopyList;
 use hd_desk::Desk;
+use hd_lists::{Key, Listing, Question};
 use hd_rules::{CopyNo, CopyState};
 use std::alloc::Allocator;
 
 /// How many copies, titles or holds a look goes over at most.
 pub const MOST_WALKED: u32 = 65_536;
 
-/// Shows the copies on a list, from that of a number on, by rising number.
+/// Shows the copies on the list that is asked for, from that of a number on, by rising number.
 pub(crate) fn show_copies<A: Allocator + Copy>(
     desk: &Desk<A>,
-    which: &CopyList,
+    asked: &Question<u32>,
     first: u32,
     page: &mut Page,
 )
-    ensures { IsWalk (facts desk.now) (desk_of desk.now) which.now first page.new }
+    ensures { IsWalk (facts desk.now) (desk_of desk.now) asked.now first page.new }
 {
     page.clear();
     let copies = desk.catalogue().copies() as u32;
@@ -34,7 +34,7 @@ pub(crate) fn show_copies<A: Allocator + Copy>(
             page.go_on(u64::from(number));
             return;
         }
-        put_if_on(desk, which, CopyNo::new(number).unwrap(), page);
+        put_if_on(desk, asked, CopyNo::new(number).unwrap(), page);
     }
     if end < copies {
         page.go_on(u64::from(end));
@@ -42,14 +42,19 @@ pub(crate) fn show_copies<A: Allocator + Copy>(
 }
 
 /// Puts the copy's row, where it is on the list.
-fn put_if_on<A: Allocator + Copy>(desk: &Desk<A>, which: &CopyList, copy: CopyNo, page: &mut Page)
+fn put_if_on<A: Allocator + Copy>(
+    desk: &Desk<A>,
+    asked: &Question<u32>,
+    copy: CopyNo,
+    page: &mut Page,
+)
     requires copy { copy < (facts desk.now).copies }
     requires room { length page.old.rows < 512 }
-    ensures { let found = filter_map (row_on (desk_of desk.now) which.now) (copy ∷ []) in
+    ensures { let found = filter_map (row_on (desk_of desk.now) asked.now) (copy ∷ []) in
         page.new ≡ record page.old { rows = page.old.rows ++ found } }
 {
     let state = desk.copy(copy);
-    if is_on(which, &state) {
+    if is_on(asked, &state) {
         page.put(&Row::Copy { copy, state });
     }
 }
@@ -67,14 +72,20 @@ pub(crate) fn last_walked(first: u32, copies: u32) -> u32
     }
 }
 
-/// Whether a copy that is there is on the list.
-fn is_on(which: &CopyList, state: &CopyState) -> bool
-    ensures { result ≡ is_on which.now state.now }
+/// Whether a copy in this state is on the list that is asked for. No copy is on one that isn't of copies.
+fn is_on(asked: &Question<u32>, state: &CopyState) -> bool
+    ensures { result ≡ is_on asked.now state.now }
 {
-    match (which, state) {
-        (CopyList::Shelf(branch), CopyState::OnHoldShelf(place)) => place.branch == *branch,
-        (CopyList::Transit(branch), CopyState::InTransit(way)) => way.to == *branch,
-        (CopyList::Overdue(day), CopyState::OnLoan(loan)) => loan.due < *day,
+    match (asked.list, asked.key, state) {
+        (Listing::Copies, _, _) => true,
+        (Listing::Transits, _, CopyState::InTransit(_)) => true,
+        (Listing::Shelf, Key::Name(branch), CopyState::OnHoldShelf(place)) => {
+            u32::from(place.branch.number()) == branch
+        }
+        (Listing::Transit, Key::Name(branch), CopyState::InTransit(way)) => {
+            u32::from(way.to.number()) == branch
+        }
+        (Listing::Overdue, Key::Day(day), CopyState::OnLoan(loan)) => loan.due.number() < day,
         _ => false,
     }
 }

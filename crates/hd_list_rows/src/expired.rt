@@ -10,17 +10,17 @@ use crate::copies::{MOST_WALKED, last_walked};
 use crate::page::Page;
 use crate::queue::hold_row;
 use hd_desk::Desk;
-use hd_rules::{Day, Hold, PatronNo, TitleNo};
+use hd_rules::{Hold, PatronNo, TitleNo};
 use std::alloc::Allocator;
 
 /// How many places a title has at which a page may begin: its first hold, and the hold of each patron.
 pub const PLACES: u64 = 1_000_001;
 
-/// Shows the holds whose last day was before a day, from a place on: by title, and those of a title by rising
-/// stamp.
+/// Shows the holds whose last day was before the day of this number, from a place on: by title, and those of a
+/// title by rising stamp.
 pub(crate) fn show_expired<A: Allocator + Copy>(
     desk: &Desk<A>,
-    day: Day,
+    day: u32,
     first: u64,
     page: &mut Page,
 )
@@ -71,7 +71,7 @@ fn stamp_at<A: Allocator + Copy>(desk: &Desk<A>, title: TitleNo, place: u64) -> 
 fn list_expired<A: Allocator + Copy>(
     desk: &Desk<A>,
     title: TitleNo,
-    day: Day,
+    day: u32,
     stamp: u64,
     left: &mut u32,
     page: &mut Page,
@@ -102,7 +102,7 @@ fn list_expired<A: Allocator + Copy>(
 fn put_if_expired<A: Allocator + Copy>(
     desk: &Desk<A>,
     title: TitleNo,
-    day: Day,
+    day: u32,
     hold: &Hold,
     page: &mut Page,
 )
@@ -113,7 +113,7 @@ fn put_if_expired<A: Allocator + Copy>(
         page.new ≡ record page.old { rows = page.old.rows ++ found } }
 {
     match hold.expiry {
-        Some(until) if until < day => page.put(&hold_row(desk, title, hold)),
+        Some(until) if until.number() < day => page.put(&hold_row(desk, title, hold)),
         _ => {}
     }
 }

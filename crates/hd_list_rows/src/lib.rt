@@ -1,4 +1,4 @@
-//! What is looked up in a journal, and shown page by page.
+//! What a journal shows of a list that is asked for, page by page.
 //!
 //! A page has at most 512 rows, and room for them before the look: under a hall's lock nothing is asked of
 //! the allocator, and at most 65,536 copies are gone over, or as many titles and as many holds beside those
@@ -23,4 +23,3 @@ pub use crate::counts::{Counts, CountsReader};
 pub use crate::page::{MOST_ROWS, Page};
 pub use crate::reader::PageReader;
 pub use crate::row::Row;
-pub use crate::topic::{CopyList, Topic};

@@ -1,33 +1,39 @@
-//! What is looked up.
+//! What a look goes over.
+ghost use Rattle.std.specs.Prelude.{◌≡◌};
+ghost use Rattle.hd_list_rows.specs.Topics.{topic_of};
 
-use hd_rules::{BranchNo, CopyNo, Day, PatronNo, TitleNo};
+use hd_lists::{Key, Listing, Question};
 
-/// What is looked up, by numbers.
+/// What a look goes over, by numbers.
 #[derive(Clone, Copy)]
-pub enum Topic {
+pub(crate) enum Topic {
     /// A copy.
-    Copy(CopyNo),
-    /// The holds of a title, by rising stamp, behind so many.
-    Queue { title: TitleNo, after: u32 },
-    /// The loans of a patron and then their holds, behind so many.
-    Patron { patron: PatronNo, after: u32 },
-    /// The copies on a list, from that of a number on.
-    Copies { which: CopyList, first: u32 },
-    /// The holds past their day, from a place on.
-    Expired { day: Day, first: u64 },
-    /// The turns behind so many, at most a limit of them, and at most a page.
-    Turns { after: u64, limit: u64 },
-    /// The surviving command of a number.
+    Copy(u32),
+    /// The holds of a title.
+    Queue(u32),
+    /// The loans of a patron and then their holds.
+    Patron(u32),
+    /// The holds whose last day was before a day.
+    Expired(u32),
+    /// So many turns at most.
+    Turns(u64),
+    /// A command.
     Command(u64),
+    /// The copies on a list.
+    Copies,
 }
 
-/// A list of copies.
-#[derive(Clone, Copy)]
-pub enum CopyList {
-    /// Those on the hold shelf of a branch.
-    Shelf(BranchNo),
-    /// Those on the way to a branch.
-    Transit(BranchNo),
-    /// Those on loan that were due before a day.
-    Overdue(Day),
+/// What a look for a page of a list goes over. A list that isn't named here is of copies.
+pub(crate) fn topic_of(asked: &Question<u32>) -> Topic
+    ensures { result ≡ topic_of asked.now.list asked.now.key }
+{
+    match (asked.list, asked.key) {
+        (Listing::Copy, Key::Name(copy)) => Topic::Copy(copy),
+        (Listing::Queue, Key::Name(title)) => Topic::Queue(title),
+        (Listing::Patron, Key::Name(patron)) => Topic::Patron(patron),
+        (Listing::Expired, Key::Day(day)) => Topic::Expired(day),
+        (Listing::Turns, Key::Most(most)) => Topic::Turns(most),
+        (Listing::Command, Key::Number(number)) => Topic::Command(number),
+        _ => Topic::Copies,
+    }
 }

@@ -4,7 +4,8 @@ ghost use Rattle.hd_server.specs.Seen.{health_of, with_service};
 
 use crate::file_identity::{FileIdentity, first_identity, has_gone};
 use hd_durable::LastCommit;
-use hd_http::{Health, Inquiry, Outcome, State, View, ViewFault};
+use hd_http::{Health, Outcome, State, View, ViewFault};
+use hd_lists::Question;
 use hd_serve::Standing;
 use std::fs;
 use std::sync::Wait;
@@ -32,8 +33,8 @@ impl<'a, R: Wait, V: View> View for ServerView<'a, R, V> {
 
     ghost tells = { λ view. Tells view.workers (V.tells view.journal) };
 
-    fn write(&self, inquiry: &Inquiry<'_>, out: &mut Vec<u8>) -> Result<Outcome, ViewFault> {
-        self.journal.write(inquiry, out)
+    fn write(&self, question: &Question<&[u8]>, out: &mut Vec<u8>) -> Result<Outcome, ViewFault> {
+        self.journal.write(question, out)
     }
 
     fn state(&self) -> State {

@@ -8,7 +8,7 @@ use Rattle.hd_list_rows.proofs.copies.show_copies.Goals as goal
 pub loop-number-preserved : goal.loop-number-preserved
 loop-number-preserved g c =
     let d = desk_of c.args.desk.now in
-    let which = c.args.which.now in
+    let which = c.args.asked.now in
     let same : c.unwrap.result ≡ c.loop-number.number = search rules in
     let rows = ap (λ (n : ℕ). copies_on d which c.args.first c.loop-number.number
     ++ filter_map (row_on d which) (n ∷ [])) same

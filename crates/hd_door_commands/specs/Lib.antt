@@ -1,0 +1,1 @@
+pub mod Pages  -- what a server is asked for a page
