@@ -6,8 +6,10 @@ use Rattle.hd_exchange.specs.Deeds.{Deed}
 use Rattle.hd_catalogue.specs.Contents.{Contents}
 use Rattle.hd_journal.specs.declared.fault.TurnFault.{TurnFault}
 use Rattle.hd_session.specs.Sessions.{AreFedTo, Hearing, IsCause, IsFed, IsFedAt, Piece, Room, any_room}
+use Rattle.hd_session.specs.Logs.{Entry, IsLogged, Logs}
 use Rattle.hd_session.specs.States.{State}
 use Rattle.hd_session.specs.declared.ended.Ended.{Ended}
+use Rattle.hd_attend.specs.Logging.{AreLoggedTo, LogsPieces}
 
 -- a piece of a stream
 abbrev pub piece_at : Stamp → List ℕ → Piece
@@ -92,4 +94,79 @@ module _ (k : Contents) (seat : ℕ) (faults : TurnFault → Type 0) where
         ∙ append_assoc first.first_did first.then_did did';
     all_text = ap (λ (t : List ℕ). t ++ text') first.all_text
         ∙ append_assoc first.first_text first.then_text text';
+  }
+
+-- no entries
+logs_none : (log : Option (List Entry)) → Logs log log []
+logs_none None = tt
+logs_none (Some before) = sym (append-nil before)
+
+-- some entries, and then some more
+logs_append : (a b c : Option (List Entry)) (first next : List Entry) → Logs a b first → Logs b c next
+    → Logs a c (first ++ next)
+logs_append None b c first next p q = tt
+logs_append (Some x) None c first next p q = absurd p
+logs_append (Some x) (Some y) None first next p q = absurd q
+logs_append (Some x) (Some y) (Some z) first next p q =
+    q ∙ (ap (λ (l : List Entry). l ++ next) p ∙ append_assoc x first next)
+
+module _ (k : Contents) (seat : ℕ) where
+  -- nothing is logged yet
+  pub logged_none : (log : Option (List Entry)) (h : Hearing) → LogsPieces k seat log log [] h h []
+  logged_none log h = record { entries = []; are = (refl, refl, refl); logged = logs_none log }
+
+  -- one piece is logged
+  pub logged_once : (now : Stamp) (log log' : Option (List Entry)) (h : Hearing) (bytes : List ℕ)
+      (entries : List Entry) (h' : Hearing) (text : List ℕ)
+      → IsLogged k seat now h.ended h bytes entries h' text → Logs log log' entries
+      → LogsPieces k seat log log' (piece_at now bytes ∷ []) h h' text
+  logged_once now log log' h bytes entries h' text is logged = record {
+    entries = entries;
+    are = record {
+      first_entries = entries;
+      then_entries = [];
+      between = h';
+      first_text = text;
+      then_text = [];
+      first = is;
+      rest = (refl, refl, refl);
+      all_entries = sym (append-nil entries);
+      all_text = sym (append-nil text);
+    };
+    logged = logged;
+  }
+
+  -- pieces are logged after others
+  are_then : (pieces more : List Piece) (h between h' : Hearing) (entries later : List Entry)
+      (text text' : List ℕ)
+      → AreLoggedTo k seat pieces h entries between text → AreLoggedTo k seat more between later h' text'
+      → AreLoggedTo k seat (pieces ++ more) h (entries ++ later) h' (text ++ text')
+  are_then [] more h between h' entries later text text' first next =
+      let from : AreLoggedTo k seat more h later h' text' =
+      subst (λ (s : Hearing). AreLoggedTo k seat more s later h' text') first.1 next in
+      subst (λ (t : List ℕ). AreLoggedTo k seat more h (entries ++ later) h' (t ++ text')) (sym first.2)
+      (subst (λ (e : List Entry). AreLoggedTo k seat more h (e ++ later) h' text') (sym first.0) from)
+  are_then (piece ∷ pieces) more h between h' entries later text text' first next = record {
+    first_entries = first.first_entries;
+    then_entries = first.then_entries ++ later;
+    between = first.between;
+    first_text = first.first_text;
+    then_text = first.then_text ++ text';
+    first = first.first;
+    rest = are_then pieces more first.between between h' first.then_entries later first.then_text text'
+        first.rest next;
+    all_entries = ap (λ (e : List Entry). e ++ later) first.all_entries
+        ∙ append_assoc first.first_entries first.then_entries later;
+    all_text = ap (λ (t : List ℕ). t ++ text') first.all_text
+        ∙ append_assoc first.first_text first.then_text text';
+  }
+
+  pub logged_then : (a b c : Option (List Entry)) (pieces more : List Piece) (h between h' : Hearing)
+      (text text' : List ℕ)
+      → LogsPieces k seat a b pieces h between text → LogsPieces k seat b c more between h' text'
+      → LogsPieces k seat a c (pieces ++ more) h h' (text ++ text')
+  logged_then a b c pieces more h between h' text text' first next = record {
+    entries = first.entries ++ next.entries;
+    are = are_then pieces more h between h' first.entries next.entries text text' first.are next.are;
+    logged = logs_append a b c first.entries next.entries first.logged next.logged;
   }

@@ -1,5 +1,6 @@
 use Rattle.std.proofs.Common.{◌∙◌, sym}
 use Rattle.hd_session.proofs.Hearing.{answers_empty, some_line}
+use Rattle.hd_session.proofs.Logging.{empty_logged, line_logged}
 use Rattle.hd_session.proofs.session.answer_line.Goals as goal
 
 pub hear-requires-clause-some : goal.hear-requires-clause-some
@@ -8,3 +9,8 @@ hear-requires-clause-some g c = some_line c.args.line.now (sym c.is_empty.ensure
 pub returns-then-is_empty-clause-heard : goal.returns-then-is_empty-clause-heard
 returns-then-is_empty-clause-heard g c =
     answers_empty _ _ _ _ c.args.line.now _ (sym c.is_empty.ensures ∙ c.if-is_empty.true)
+
+pub returns-then-is_empty-clause-logged : goal.returns-then-is_empty-clause-logged
+returns-then-is_empty-clause-logged g c =
+    empty_logged _ _ _ _ _ _ c.args.line.now _ (sym c.is_empty.ensures ∙ c.if-is_empty.true)
+    c.heard.ensures
