@@ -1,5 +1,7 @@
 //! The log of a connection: what its session hears and answers, as events.
-ghost use Rattle.std.specs.Prelude.{◌≡◌};
+ghost use Rattle.std.specs.Prelude.{◌≡◌, ◌∷◌, ◌++◌, [], ℕ, List, Some, false};
+ghost use Rattle.std.specs.Option.{option_copied};
+ghost use Rattle.hd_serve.specs.Reports.{IsBodyReported, IsLineReported, IsReplyReported};
 
 use crate::day_watch::DayWatch;
 use crate::gate::Observer;
@@ -21,6 +23,8 @@ pub(crate) struct ConnectionLog<'a, O: Observer> {
     catalogue: &'a Catalogue,
     speaker: &'a Speaker<'a, O>,
     days: DayWatch,
+    /// Whether nothing is to be reported.
+    is_quiet: bool,
     replies: u64,
     /// Whether a line feed in the line that hasn't ended was reported.
     has_line_feed: bool,
@@ -39,6 +43,7 @@ impl<'a, O: Observer> ConnectionLog<'a, O> {
             catalogue,
             speaker,
             days,
+            is_quiet: speaker.is_quiet(),
             replies: 0,
             has_line_feed: false,
             has_resend: false,
@@ -52,8 +57,39 @@ impl<'a, O: Observer> ConnectionLog<'a, O> {
         self.replies
     }
 
+    /// Reports a line.
+    fn report_line(&mut self, line: &[u8])
+        ensures { self.old.is_quiet ≡ false → IsLineReported (O.was_told self.old.speaker.now.observer.now)
+            self.old.speaker.now.connection line.now }
+    {
+        self.has_line_feed = false;
+        if !self.is_quiet {
+            self.speaker.tell(ConnectionEvent::Line { text: line });
+        }
+    }
+
+    /// Reports an answer: a login or a day that is off, and the reply.
+    fn report_answer(&mut self, answer: &Answered<'_>)
+        ensures body { self.old.is_quiet ≡ false → IsBodyReported (O.was_told self.old.speaker.now.observer.now)
+            self.old.speaker.now.connection self.old.catalogue.now (option_copied answer.now.body)
+            answer.now.login answer.now.reply.now }
+        ensures reply { self.old.is_quiet ≡ false → (text : List ℕ) → answer.now.reply.now ≡ text ++ 13 ∷ []
+            → IsReplyReported (O.was_told self.old.speaker.now.observer.now)
+            self.old.speaker.now.connection text }
+    {
+        if !self.is_quiet {
+            self.report_body(answer);
+            self.report_reply(answer.reply);
+        }
+    }
+
     /// Reports the login that a line was, or that its day is off.
-    fn tell_body(&mut self, answer: &Answered<'_>) {
+    fn report_body(&mut self, answer: &Answered<'_>)
+        ensures told { IsBodyReported (O.was_told self.old.speaker.now.observer.now)
+            self.old.speaker.now.connection self.old.catalogue.now (option_copied answer.now.body)
+            answer.now.login answer.now.reply.now }
+        ensures speaker { self.new.speaker ≡ self.old.speaker }
+    {
         let Some(body) = answer.body else {
             return;
         };
@@ -69,8 +105,12 @@ impl<'a, O: Observer> ConnectionLog<'a, O> {
     }
 
     /// Reports a reply, and the first that requests a line again.
-    fn tell_reply(&mut self, reply: &[u8]) {
-        let Some(text) = reply.strip_suffix(&[CARRIAGE_RETURN]) else {
+    fn report_reply(&mut self, reply: &[u8])
+        ensures { (text : List ℕ) → reply.now ≡ text ++ 13 ∷ []
+            → IsReplyReported (O.was_told self.old.speaker.now.observer.now)
+            self.old.speaker.now.connection text }
+    {
+        let Some(text) = without_return(reply) else {
             return;
         };
         self.replies = self.replies.saturating_add(1);
@@ -84,23 +124,24 @@ impl<'a, O: Observer> ConnectionLog<'a, O> {
 
 impl<'a, O: Observer> SessionLog for ConnectionLog<'a, O> {
     fn heard(&mut self, line: &[u8]) {
-        self.has_line_feed = false;
-        if !self.speaker.is_quiet() {
-            self.speaker.tell(ConnectionEvent::Line { text: line });
-        }
+        self.report_line(line);
     }
 
     fn answered(&mut self, answer: &Answered<'_>) {
-        if !self.speaker.is_quiet() {
-            self.tell_body(answer);
-            self.tell_reply(answer.reply);
-        }
+        self.report_answer(answer);
     }
 
     fn unended(&mut self, line: &[u8]) {
-        if !self.speaker.is_quiet() && !self.has_line_feed && line.contains(&b'\n') {
+        if !self.is_quiet && !self.has_line_feed && line.contains(&b'\n') {
             self.speaker.tell(ConnectionEvent::LineFeedAlone);
             self.has_line_feed = true;
         }
     }
+}
+
+/// A reply without its carriage return. None where none ends it.
+fn without_return(reply: &[u8]) -> Option<&[u8]>
+    ensures { (text : List ℕ) → reply.now ≡ text ++ 13 ∷ [] → option_copied result ≡ Some text }
+{
+    reply.strip_suffix(&[CARRIAGE_RETURN])
 }

@@ -1,5 +1,6 @@
 //! Calls to whoever runs a server: before each turn of a session, and at each event of the log.
-ghost use Rattle.std.specs.Prelude.{◌<◌, Bool, ℕ, IsTrue, true};
+ghost use Rattle.std.specs.Prelude.{◌≡◌, ◌<◌, Bool, ℕ, IsTrue, true};
+ghost use Rattle.hd_log.specs.declared.event.Event.{Event as AnyEvent};
 
 use hd_log::{Event, Level};
 
@@ -17,11 +18,16 @@ pub trait Gate: Sync {
 
 /// Receives the events of the log, outside any lock. Nothing that it does changes what is answered.
 pub trait Observer {
+    /// Whether this event was reported. Only `tell` makes this true. An observer that keeps no account takes
+    /// each as reported.
+    ghost was_told: { Self → AnyEvent → Bool } = { λ _ _. true };
+
     /// The level of its log. An event that needs a higher level isn't reported.
     fn level(&self) -> Level;
 
     /// An event has happened.
-    fn tell(&self, event: &Event<'_>);
+    fn tell(&self, event: &Event<'_>)
+        ensures { was_told self.now event.now ≡ true };
 }
 
 /// A gate to which no event is reported.

@@ -1,4 +1,5 @@
 //! The events of a connection.
+ghost use Rattle.hd_serve.specs.Reports.{IsReported};
 
 use crate::gate::Observer;
 use hd_journal::WriteFault;
@@ -30,7 +31,9 @@ impl<'a, O: Observer> Speaker<'a, O> {
     }
 
     /// An event has happened at the connection.
-    pub(crate) fn tell(&self, what: ConnectionEvent<'_>) {
+    pub(crate) fn tell(&self, what: ConnectionEvent<'_>)
+        ensures { IsReported (O.was_told self.now.observer.now) self.now.connection what }
+    {
         let connection = self.connection;
         self.observer.tell(&Event::At { connection, what });
     }
