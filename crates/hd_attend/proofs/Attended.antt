@@ -13,13 +13,13 @@ use Rattle.hd_exchange.specs.Deeds.{Deed}
 use Rattle.hd_catalogue.specs.Contents.{Contents}
 use Rattle.hd_connection.specs.Streams.{IsCutShort, Streams, streams}
 use Rattle.hd_journal.specs.declared.fault.TurnFault.{TurnFault}
-use Rattle.hd_session.specs.Logs.{Entry, IsLogged, Logs}
+use Rattle.hd_session.specs.Logs.{Entry}
 use Rattle.hd_session.specs.Sessions.{Hearing, IsFed, Piece, Room, StaysKnown, stream}
 use Rattle.hd_session.specs.declared.ended.Ended.{Ended}
-use Rattle.hd_attend.specs.Attending.{Attends, End, IsReadPiece, IsWritten, Leaves}
+use Rattle.hd_attend.specs.Attending.{Attends, End, IsReadPiece, IsWritten, Leaves, LogsReplies}
 use Rattle.hd_attend.specs.declared.fault.AttendFault.{AttendFault}
 use Rattle.hd_attend.specs.declared.fault.AttendFault.TheVariants as fault
-use Rattle.hd_attend.proofs.Feeding.{fed_once, fed_then, logged_none, logged_once, logged_then, piece_at, went_on}
+use Rattle.hd_attend.proofs.Feeding.{fed_once, fed_then, piece_at, replies_append, replies_none, went_on}
 
 -- nothing is left of a piece that is fed
 nothing_left : (end : End) → OnOk end (IsAtEnd (Some []))
@@ -67,19 +67,16 @@ module _ (k : Contents) (seat : ℕ) (faults : TurnFault → Type 0) where
     on_after on = went_on k seat faults now room h.ended h bytes did h' text refl fed on
 
     -- one piece is fed, and of its replies that is written which the end says
-    pub attends_piece : (log log' : Option (List Entry)) (entries : List Entry) (said : List ℕ)
-        (to to' : Option (List ℕ)) (end : End) (out out' sent put : List ℕ) → 0 < length bytes
-        → length bytes ≤ 512
-        → IsLogged k seat now h.ended h bytes entries h' said → Logs log log' entries → out' ≡ out ++ said
+    pub attends_piece : (log log' : Option (List Entry)) (to to' : Option (List ℕ)) (end : End)
+        (out out' sent put : List ℕ) → 0 < length bytes
+        → length bytes ≤ 512 → LogsReplies log log' text
         → StaysKnown k h.state h'.state → out ≡ [] → out' ≡ out ++ text → sent ≡ out' → IsWritten end sent put
         → Appends to to' put
         → Leaves end h.ended h'.ended
         → Attends k seat faults (λ present. present ≡ now) log log'
         (streams (Some bytes) (Some []) to to') did h h' end
-    attends_piece log log' entries said to to' end out out' sent put some short are logged appended known
-        empty is same written wrote leaves =
-        let spoken : said ≡ text =
-        ap (λ (o : List ℕ). o ++ said) (sym empty) ∙ sym appended ∙ is ∙ ap (λ (o : List ℕ). o ++ text) empty in
+    attends_piece log log' to to' end out out' sent put some short logged known empty is same written wrote
+        leaves =
         let all : text ≡ sent = sym (same ∙ (is ∙ ap (λ (o : List ℕ). o ++ text) empty)) in
         let is_read : IsReadPiece (λ present. present ≡ now) (piece_at now bytes) =
         record { some = some; short = short; present = refl } in
@@ -91,8 +88,7 @@ module _ (k : Contents) (seat : ℕ) (faults : TurnFault → Type 0) where
           all = nothing_left end;
           replies = text;
           fed = fed_once k seat faults now room h bytes did h' text fed;
-          logged = logged_once k seat now log log' h bytes entries h' text
-              (subst (λ (t : List ℕ). IsLogged k seat now h.ended h bytes entries h' t) spoken are) logged;
+          logged = logged;
           known = known;
           put = put;
           written = subst (λ (t : List ℕ). IsWritten end t put) (sym all) written;
@@ -111,7 +107,7 @@ module _ (k : Contents) (seat : ℕ) (faults : TurnFault → Type 0) where
       all = tt;
       replies = [];
       fed = (refl, refl, refl);
-      logged = logged_none k seat log h;
+      logged = replies_none log;
       known = λ known. known;
       put = [];
       written = refl;
@@ -144,8 +140,7 @@ module _ (k : Contents) (seat : ℕ) (faults : TurnFault → Type 0) where
             replies = far.replies ++ next.replies;
             fed = fed_then k seat faults far.pieces next.pieces h h' last did more far.replies next.replies
                 far.fed next.fed;
-            logged = logged_then k seat log log' log'' far.pieces next.pieces h h' last far.replies next.replies
-                far.logged next.logged;
+            logged = replies_append log log' log'' far.replies next.replies far.logged next.logged;
             known = λ known. next.known (far.known known);
             put = far.put ++ next.put;
             written = written_behind end far.replies next.replies far.put next.put far.written next.written;

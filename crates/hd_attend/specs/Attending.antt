@@ -6,12 +6,11 @@ use Rattle.hd_exchange.specs.Deeds.{Deed}
 use Rattle.hd_connection.specs.Streams.{IsCutShort, Streams}
 use Rattle.hd_catalogue.specs.Contents.{Contents}
 use Rattle.hd_journal.specs.declared.fault.TurnFault.{TurnFault}
-use Rattle.hd_session.specs.Logs.{Entry}
+use Rattle.hd_session.specs.Logs.{Entry, Logs, said_in}
 use Rattle.hd_session.specs.Sessions.{AreFedTo, Hearing, Piece, StaysKnown, any_room, stream}
 use Rattle.hd_session.specs.declared.ended.Ended.{Ended}
 use Rattle.hd_attend.specs.declared.fault.AttendFault.{AttendFault}
 use Rattle.hd_attend.specs.declared.fault.AttendFault.TheVariants as fault
-use Rattle.hd_attend.specs.Logging.{LogsPieces}
 
 -- how it ends: well, at the end of the input, or by a fault
 abbrev pub End : Type 0
@@ -35,9 +34,15 @@ Leaves (Err (fault.Ended why)) before after = after ≡ Some why
 Leaves (Err fault.Write) before after = ⊤
 Leaves end before after = after ≡ before
 
+-- Entries with these replies are added to a log.
+pub record LogsReplies (log log' : Option (List Entry)) (replies : List ℕ) : Type 0 where
+  pub entries : List Entry
+  pub logged : Logs log log' entries
+  pub said : said_in entries ≡ replies
+
 -- A session is attended to, at a seat of a library whose office can give these faults, by a clock that may
 -- give these presents: what was read is fed to it in pieces, each at its own present, with no bytes left out;
--- this is done, the replies are written, and the session's log has its entries.
+-- this is done, the replies are written, and the session's log has them.
 pub record Attends (k : Contents) (seat : ℕ) (faults : TurnFault → Type 0) (Tells : Stamp → Type 0)
     (log log' : Option (List Entry)) (bytes : Streams) (did : List Deed) (h h' : Hearing) (end : End)
     : Type 0 where
@@ -47,7 +52,7 @@ pub record Attends (k : Contents) (seat : ℕ) (faults : TurnFault → Type 0) (
   pub all : OnOk end (IsAtEnd bytes.from')
   pub replies : List ℕ
   pub fed : AreFedTo k seat faults any_room pieces h did h' replies
-  pub logged : LogsPieces k seat log log' pieces h h' replies
+  pub logged : LogsReplies log log' replies
   pub known : StaysKnown k h.state h'.state
   pub put : List ℕ
   pub written : IsWritten end replies put

@@ -1,7 +1,8 @@
 //! Sessions.
-ghost use Rattle.std.specs.Prelude.{◌≡◌, ◌≤◌, ◌∷◌, [], Some, None, IfErr, IfOk, OnOk, OnErr, length};
+ghost use Rattle.std.specs.Prelude.{◌≡◌, ◌≤◌, ◌∷◌, [], Some, None, IfErr, IfNone, IfOk, OnErr, OnOk, OnSome};
+ghost use Rattle.std.specs.Prelude.{length};
 ghost use Rattle.hd_exchange.specs.Extensions.{extensions_lent, no_extensions};
-ghost use Rattle.hd_session.specs.Logs.{Heard, Logs, LogsLines, LogsPiece};
+ghost use Rattle.hd_session.specs.Logs.{Heard, Logs, LogsLine, LogsPiece};
 ghost use Rattle.hd_session.specs.Sessions.{Answers, Feeds, IsCause, new_session, room_of};
 ghost use Rattle.hd_session.specs.States.{IsKnownTo};
 
@@ -128,8 +129,10 @@ impl<'e, A: Allocator + Copy> Session<'e, A> {
         requires login { IsKnownTo (O.keeps office.old).contents self.old.state }
         ensures fed { Feeds O.Office office.old office.new out.old out.new now.now
             self.old piece.now self.new }
-        ensures logged { LogsPiece (O.keeps office.old).contents (O.keeps office.old).seat now.now
-            out.old out.new (L.entries log.old) (L.entries log.new) self.old piece.now self.new }
+        ensures logged { IfNone self.old.ended (LogsPiece out.old out.new (L.entries log.old) (L.entries log.new)
+            self.old piece.now self.new) }
+        // A session that has ended logs nothing.
+        ensures silent { OnSome self.old.ended (Logs (L.entries log.old) (L.entries log.new) []) }
         ensures open { OnOk result (self.new.ended ≡ None) }
         ensures ended { IfErr result (λ why. self.new.ended ≡ Some why) }
     {
@@ -177,8 +180,8 @@ impl<'e, A: Allocator + Copy> Session<'e, A> {
         requires open { self.old.ended ≡ None }
         ensures fed { Feeds O.Office office.old office.new out.old out.new now.now
             self.old piece.now self.new }
-        ensures logged { LogsPiece (O.keeps office.old).contents (O.keeps office.old).seat now.now
-            out.old out.new (L.entries log.old) (L.entries log.new) self.old piece.now self.new }
+        ensures logged { LogsPiece out.old out.new (L.entries log.old) (L.entries log.new)
+            self.old piece.now self.new }
     {
         let mut rest = piece;
         while let Some(used) = self.stream.take(rest) {
@@ -223,8 +226,8 @@ fn answer_line<A: Allocator + Copy, O: Office<A>, L: SessionLog>(
         [] state.old state.new) }
     ensures cause { IfErr result (IsCause (O.keeps office.old).contents O.faults
         (room_of out.old out.new) state.old 0 line.now) }
-    ensures logged { OnOk result (LogsLines (O.keeps office.old).contents (O.keeps office.old).seat now.now
-        out.old out.new (L.entries log.old) (L.entries log.new) (line.now ∷ []) state.old state.new) }
+    ensures logged { OnOk result (LogsLine out.old out.new (L.entries log.old) (L.entries log.new)
+        now.now line.now state.new) }
     ensures given_up { OnErr result (Logs (L.entries log.old) (L.entries log.new) (Heard line.now ∷ [])) }
 {
     log.heard(line);

@@ -12,5 +12,11 @@ returns-then-is_empty-clause-heard g c =
 
 pub returns-then-is_empty-clause-logged : goal.returns-then-is_empty-clause-logged
 returns-then-is_empty-clause-logged g c =
-    empty_logged _ _ _ _ _ _ c.args.line.now _ (sym c.is_empty.ensures ∙ c.if-is_empty.true)
-    c.heard.ensures
+    empty_logged _ _ _ _ c.args.line.now _ (sym c.is_empty.ensures ∙ c.if-is_empty.true) c.heard.ensures
+
+pub returns-clause-logged : goal.returns-clause-logged
+returns-clause-logged g c =
+    let heard = c.in_ok-body.ensures.heard in
+    line_logged _ _ _ _ _ _ c.args.line.now _ heard.text _
+    (some_line c.args.line.now (sym c.is_empty.ensures ∙ c.if-is_empty.false))
+    ? c.heard.ensures c.answered.ensures ? ? ? ?

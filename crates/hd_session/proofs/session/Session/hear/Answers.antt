@@ -1,7 +1,7 @@
-use Rattle.std.proofs.Common.{◌∙◌, ◌++◌, ◌∷◌, [], List, ℕ, ap, refl}
+use Rattle.std.proofs.Common.{◌∙◌, ◌++◌, ◌∷◌, [], List, ℕ, ap, append-nil, refl}
 use Rattle.hd_session.proofs.Feeding.{feeds_until}
 use Rattle.hd_session.proofs.Hearing.{answers_append, answers_none, line_taken}
-use Rattle.hd_session.proofs.Logging.{lines_append, lines_none, nothing_more, piece_until, piece_whole}
+use Rattle.hd_session.proofs.Logging.{lines_more, lines_none, piece_until, piece_whole}
 use Rattle.hd_session.proofs.session.Session.hear.Goals as goal
 
 pub answer_line-answered-requires-clause-login : goal.answer_line-answered-requires-clause-login
@@ -12,7 +12,7 @@ answer_line-answered-requires-clause-login g c =
 pub loop-used-init : goal.loop-used-init
 loop-used-init g c =
     rw (← c.self.view_is) (record {
-      heard = ([], refl, answers_none _ _ _ _ _, lines_none _ _ _ _ _ _);
+      heard = ([], refl, answers_none _ _ _ _ _, lines_none _ _);
       begun = refl;
       ended = refl;
     })
@@ -29,11 +29,11 @@ returns-in-Err-clause-fed g c =
 pub returns-in-Err-clause-logged : goal.returns-in-Err-clause-logged
 returns-in-Err-clause-logged g c =
     let before = c.loop-used.invariant.heard in
-    let nothing = nothing_more _ _ _ _ _ _ _ _ c.in-Err.ensures.err in
-    piece_until _ _ _ _ _ _ _ _ _ _ c.args.self.now _ _ before.0 _ c.line-line.result.now c.in-Err.why
-    c.requires.open
+    let none = c.in-Err.ensures.err in
+    piece_until _ _ _ _ _ _ _ c.args.self.now _ before.0 _ c.line-line.result.now c.in-Err.why
     (before.1 ∙ ap (λ (ls : List (List ℕ)). before.0 ++ ls)
-    (rw (← c.line-line.ensures) at c.in-Some.ensures.line)) refl nothing.0 nothing.1
+    (rw (← c.line-line.ensures) at c.in-Some.ensures.line)) refl
+    (none.extends.items ∙ (ap (λ (t : List ℕ). _ ++ t) none.heard.2 ∙ append-nil _))
     before.3 c.in-Err.ensures.given_up
 
 pub loop-used-preserved : goal.loop-used-preserved
@@ -47,8 +47,7 @@ loop-used-preserved g c =
             (rw (c.line-line.ensures, c.begin.ensures, c.split_at.ensures.back) c.in-Some.ensures.line),
         answers_append _ _ _ _ _ _ _ _ before.0 (c.line-line.result.now ∷ []) _ _ _ before.2
             c.in-Ok.ensures.heard,
-        lines_append _ _ _ _ _ _ _ _ _ before.0 (c.line-line.result.now ∷ []) _ _ _ before.3
-            (rw before.2.works.same at c.in-Ok.ensures.logged),
+        lines_more _ _ _ _ _ _ _ _ _ _ before.3 c.in-Ok.ensures.logged,
       );
       begun = rw (c.begin.ensures, c.split_at.ensures.back) (kept.begun ∙ c.in-Some.ensures.rest);
       ended = kept.ended;

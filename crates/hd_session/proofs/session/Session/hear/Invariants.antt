@@ -11,9 +11,7 @@ invariant-loop-used g l = record {
       × (lines_in l.fn.self.begun l.piece ≡ lines ++ lines_in l.self-inside.stream l.rest)
       × Answers g.O.Office l.fn.office l.office l.fn.out l.out l.now lines l.fn.self.state
       l.self-inside.state
-      × LogsLines (g.O.Office.keeps l.fn.office).contents (g.O.Office.keeps l.fn.office).seat l.now
-      l.fn.out l.out (g.L.SessionLog.entries l.fn.log) (g.L.SessionLog.entries l.log) lines l.fn.self.state
-      l.self-inside.state;
+      × LogsLines l.fn.out l.out (g.L.SessionLog.entries l.fn.log) (g.L.SessionLog.entries l.log) lines;
   begun : begun_after l.fn.self.begun l.piece ≡ begun_after l.self-inside.stream l.rest;
   ended : l.self-inside.ended ≡ l.fn.self.ended;
 }
