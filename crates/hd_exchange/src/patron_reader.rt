@@ -7,9 +7,8 @@ ghost use Rattle.hd_exchange.specs.Seeing.{HasSeen};
 use crate::patron_message::{PatronLook, PatronQuestion};
 use arrayvec::ArrayVec;
 use hd_journal::{Journal, Look};
-use hd_patron_view::{page, view};
+use hd_patron_view::{page, page, view, view};
 use hd_rules::{ListItem, PatronView, Wanted};
-use hd_patron_view::{page, view};
 use std::alloc::Allocator;
 
 /// How many items of a list a look takes down: more than a reply has room for.
