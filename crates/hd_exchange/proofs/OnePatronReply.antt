@@ -5,11 +5,12 @@ use Rattle.std.proofs.Common.{arith, refl, sym, ap, ◌∙◌, length, map, take
 use Rattle.std.proofs.lemmas.Option.{same_Some}
 use Rattle.std.specs.Borrow.{Bor}
 use Rattle.std.specs.List.{concat, flat_map}
-use Rattle.std.specs.Option.{option_copied}
+use Rattle.std.specs.Prelude.{⊤}
+use Rattle.std.specs.Option.{option_copied, unwrap_or}
 use Rattle.hd_message.specs.Fields.{field_text, refusal_field}
 use Rattle.hd_message.specs.PatronReplies.{card_layout, fitting, information_layout, information_text}
 use Rattle.hd_message.specs.PatronReplies.{item_field, items_text}
-use Rattle.hd_message.specs.PatronReplies.{known_layout, list_given, list_text, list_told}
+use Rattle.hd_message.specs.PatronReplies.{known_layout, list_given, list_text}
 use Rattle.hd_message.specs.PatronReplies.{patron_status_layout}
 use Rattle.hd_message.specs.PatronReplies.{patron_text, payment_layout, renew_all_layout, session_end_layout}
 use Rattle.hd_message.specs.PatronReplies.{with_list}
@@ -20,7 +21,7 @@ use Rattle.hd_message.specs.declared.patron_reply.Counts.{Counts}
 use Rattle.hd_message.specs.declared.patron_reply.ItemList.{ItemList}
 use Rattle.hd_message.specs.declared.patron_reply.KnownPatron.{KnownPatron}
 use Rattle.hd_message.specs.declared.patron_reply.PasswordValidity.{PasswordValidity}
-use Rattle.hd_message.specs.declared.patron_reply.PasswordValidity.TheVariants.{Unasked, Right, Wrong}
+use Rattle.hd_message.specs.declared.patron_reply.PasswordValidity.TheVariants.{Wrong}
 use Rattle.hd_message.specs.declared.patron_reply.PatronInformationOutcome.{PatronInformationOutcome}
 use Rattle.hd_message.specs.declared.patron_reply.PatronInformationOutcome.TheVariants as OfInformation
 use Rattle.hd_message.specs.declared.patron_reply.PatronInformationReply.{PatronInformationReply}
@@ -34,22 +35,28 @@ use Rattle.hd_message.specs.declared.patron_reply.RenewAllOutcome.{RenewAllOutco
 use Rattle.hd_message.specs.declared.patron_reply.RenewAllOutcome.TheVariants as OfRenewAll
 use Rattle.hd_message.specs.declared.patron_reply.RenewAllReply.{RenewAllReply}
 use Rattle.hd_patrons.specs.Stored.{Stored}
+use Rattle.hd_rules.specs.Desk.{Desk}
+use Rattle.hd_rules.specs.Journal.{state_after}
 use Rattle.hd_rules.specs.declared.replies.Refusal.{Refusal}
 use Rattle.hd_rules.specs.declared.views.ListItem.{ListItem}
 use Rattle.hd_rules.specs.declared.views.PatronView.{PatronView}
 use Rattle.hd_rules.specs.declared.views.Summary.{Summary}
 use Rattle.hd_rules.specs.declared.views.Summary.TheVariants as Lists
 use Rattle.hd_rules.specs.declared.views.Wanted.{Wanted}
-use Rattle.hd_catalogue.specs.Contents.{Contents}
+use Rattle.hd_catalogue.specs.Contents.{Contents, facts_of}
 use Rattle.hd_exchange.specs.Cards.{IsCardReply, IsRenewAllReply}
 use Rattle.hd_exchange.specs.Deeds.{Deed, Looked}
 use Rattle.hd_exchange.specs.Extensions.{Extensions}
 use Rattle.hd_exchange.specs.PatronInformation.{IsInformationReply, IsKnownInformation, IsListOfItems}
-use Rattle.hd_exchange.specs.PatronReplies.{IsLookReply, IsPatronReply, IsRefusedPatron}
+use Rattle.hd_exchange.specs.PatronInformation.{item_name, items_seen, list_asked, look_allowed}
+use Rattle.hd_exchange.specs.PatronInformation.{question_allowed, view_seen}
+use Rattle.hd_exchange.specs.PatronReplies.{AreMistaken, IsLookReply, IsPatronReply, IsRefusedPatron}
+use Rattle.hd_exchange.specs.PatronReplies.{IsReplyAt, IsReplyOfLook}
 use Rattle.hd_exchange.specs.PatronStatus.{IsKnownStatus, IsNotBlocked, IsStatusReply}
 use Rattle.hd_exchange.specs.ToldPatrons.{IsToldOf, language_told, name_told, password_told}
 use Rattle.hd_exchange.specs.declared.patron_message.PatronAsk.{PatronAsk}
 use Rattle.hd_exchange.specs.declared.patron_message.PatronAsk.TheVariants as ask
+use Rattle.hd_exchange.specs.declared.patron_message.PatronLook.{PatronLook}
 use Rattle.hd_exchange.specs.declared.patron_message.PatronQuestion.{PatronQuestion}
 use Rattle.hd_exchange.specs.declared.patron_message.PatronQuestion.TheVariants as about
 use Rattle.hd_exchange.specs.declared.patron_message.PatronValues.{PatronValues}
@@ -101,25 +108,27 @@ list_alike room Lists.ChargedItems xs ys same = items_alike (codes "AU") room xs
 list_alike room Lists.UnavailableHolds xs ys same = items_alike (codes "CD") room xs ys same
 list_alike room Lists.Empty xs ys same = refl
 
-given_alike : (k : Contents) (room : ℕ) (wanted : Option Wanted) (items : List ListItem)
-    (l m : Option ItemList)
-    → IsListOfItems k wanted items l → IsListOfItems k wanted items m → list_given room l ≡ list_given room m
-given_alike k room None items None None p q = refl
-given_alike k room (Some wanted) items (Some l) (Some m) p q =
-    ap (λ (s : Summary). list_text room s l.names.now) (p.0 ∙ sym q.0)
-    ∙ list_alike room m.summary l.names.now m.names.now (p.1 ∙ sym q.1)
-given_alike k room None items None (Some m) p q = absurd q
-given_alike k room None items (Some l) m p q = absurd p
-given_alike k room (Some wanted) items None m p q = absurd p
-given_alike k room (Some wanted) items (Some l) None p q = absurd q
+-- the same items, where a list is wanted
+abbrev AreAlike : Option Wanted → List ListItem → List ListItem → Type 0
+AreAlike None xs ys = ⊤
+AreAlike (Some wanted) xs ys = xs ≡ ys
 
-told_alike : (k : Contents) (room : ℕ) (check : PasswordValidity) (wanted : Option Wanted)
-    (items : List ListItem)
-    (l m : Option ItemList) → IsListOfItems k wanted items l → IsListOfItems k wanted items m
-    → list_given room (list_told check l) ≡ list_given room (list_told check m)
-told_alike k room Unasked wanted items l m p q = given_alike k room wanted items l m p q
-told_alike k room Right wanted items l m p q = given_alike k room wanted items l m p q
-told_alike k room Wrong wanted items l m p q = refl
+same_alike : (wanted : Option Wanted) (xs : List ListItem) → AreAlike wanted xs xs
+same_alike None xs = tt
+same_alike (Some wanted) xs = refl
+
+given_alike : (k : Contents) (room : ℕ) (wanted : Option Wanted) (xs ys : List ListItem)
+    → AreAlike wanted xs ys → (l m : Option ItemList)
+    → IsListOfItems k wanted xs l → IsListOfItems k wanted ys m → list_given room l ≡ list_given room m
+given_alike k room None xs ys alike None None p q = refl
+given_alike k room (Some wanted) xs ys alike (Some l) (Some m) p q =
+    ap (λ (s : Summary). list_text room s l.names.now) (p.0 ∙ sym q.0)
+    ∙ list_alike room m.summary l.names.now m.names.now
+    (p.1 ∙ (ap (λ (items : List ListItem). map (item_name k) items) alike ∙ sym q.1))
+given_alike k room None xs ys alike None (Some m) p q = absurd q
+given_alike k room None xs ys alike (Some l) m p q = absurd p
+given_alike k room (Some wanted) xs ys alike None m p q = absurd p
+given_alike k room (Some wanted) xs ys alike (Some l) None p q = absurd q
 
 -- Replies of the same values.
 
@@ -185,23 +194,6 @@ module _ (k : Contents) (v w : PatronValues) (date : v.date ≡ w.date)
     (language : v.language.now ≡ w.language.now)
     (patron : v.patron.now ≡ w.patron.now) (password : option_copied v.password ≡ option_copied w.password)
   where
-    -- what is told of the patron
-    one_flags : (file : Option Stored) (p : ℕ) (view : PatronView) (x y : KnownPatron)
-        → IsToldOf file p view v x
-        → IsToldOf file p view w y → x.flags ≡ y.flags
-    one_flags file p view x y is so = is.flags ∙ sym so.flags
-
-    one_name : (file : Option Stored) (p : ℕ) (view : PatronView) (x y : KnownPatron)
-        → IsToldOf file p view v x
-        → IsToldOf file p view w y → x.name.now ≡ y.name.now
-    one_name file p view x y is so = is.name ∙ (ap (λ (n : List ℕ). name_told file p n) patron ∙ sym so.name)
-
-    one_check : (file : Option Stored) (p : ℕ) (view : PatronView) (x y : KnownPatron)
-        → IsToldOf file p view v x
-        → IsToldOf file p view w y → x.password ≡ y.password
-    one_check file p view x y is so =
-        is.password ∙ (ap (λ (g : Option (List ℕ)). password_told file p g) password ∙ sym so.password)
-
     one_status : (a b : PatronStatusReply) (spoken heard : List ℕ) (o : PatronStatusOutcome) → spoken ≡ heard
         → IsStatusReply k v spoken a → IsStatusReply k w heard b
         → concat (patron_status_layout a o) ≡ concat (patron_status_layout b o)
@@ -209,68 +201,73 @@ module _ (k : Contents) (v w : PatronValues) (date : v.date ≡ w.date)
         status_same a b o (is.language ∙ (same ∙ sym so.language)) (is.date ∙ (date ∙ sym so.date))
         (is.institution ∙ sym so.institution) (is.patron ∙ (patron ∙ sym so.patron))
 
-    one_known : (a b : PatronStatusReply) (file : Option Stored) (p : ℕ) (view : PatronView)
-        (o q : PatronStatusOutcome)
-        → IsStatusReply k v (language_told file p v.language.now) a
-        → IsStatusReply k w (language_told file p w.language.now) b
-        → IsKnownStatus file p view v o → IsKnownStatus file p view w q
-        → concat (patron_status_layout a o) ≡ concat (patron_status_layout b q)
-    one_known a b file p view (OfStatus.Known x) (OfStatus.Known y) is so known there =
-        one_status a b _ _ (OfStatus.Known x) (ap (λ (l : List ℕ). language_told file p l) language) is so
-        ∙ known_same b x y [] (one_flags file p view x y known there) (one_name file p view x y known there)
-        (one_check file p view x y known there)
-    one_known a b file p view (OfStatus.Known x) (OfStatus.NotBlocked y) is so known there = absurd there
-    one_known a b file p view (OfStatus.Known x) (OfStatus.Refused y) is so known there = absurd there
-    one_known a b file p view (OfStatus.NotBlocked x) q is so known there = absurd known
-    one_known a b file p view (OfStatus.Refused x) q is so known there = absurd known
+    -- by two patrons' files, from which the same language and the same name are reported
+    module _ (file other : Option Stored) (p : ℕ) (check : PasswordValidity) (view : PatronView)
+        (spoken : language_told file p v.language.now ≡ language_told other p w.language.now)
+        (named : name_told file p check v.patron.now ≡ name_told other p check w.patron.now)
+      where
+        one_flags : (x y : KnownPatron) → IsToldOf file p check view v.patron.now x
+            → IsToldOf other p check view w.patron.now y → x.flags ≡ y.flags
+        one_flags x y is so = is.flags ∙ sym so.flags
 
-    one_not_blocked : (a b : PatronStatusReply) (file : Option Stored) (p : ℕ) (view : PatronView)
-        (o q : PatronStatusOutcome)
-        → IsStatusReply k v (language_told file p v.language.now) a
-        → IsStatusReply k w (language_told file p w.language.now) b
-        → IsNotBlocked file p view v o → IsNotBlocked file p view w q
-        → concat (patron_status_layout a o) ≡ concat (patron_status_layout b q)
-    one_not_blocked a b file p view (OfStatus.NotBlocked x) (OfStatus.NotBlocked y) is so known there =
-        one_status a b _ _ (OfStatus.NotBlocked x) (ap (λ (l : List ℕ). language_told file p l) language) is
-        so
-        ∙ known_same b x y (field_text (codes "AF") (codes "CARD NOT BLOCKED"))
-        (one_flags file p view x y known there) (one_name file p view x y known there)
-        (one_check file p view x y known there)
-    one_not_blocked a b file p view (OfStatus.NotBlocked x) (OfStatus.Known y) is so known there =
-        absurd there
-    one_not_blocked a b file p view (OfStatus.NotBlocked x) (OfStatus.Refused y) is so known there =
-        absurd there
-    one_not_blocked a b file p view (OfStatus.Known x) q is so known there = absurd known
-    one_not_blocked a b file p view (OfStatus.Refused x) q is so known there = absurd known
+        one_name : (x y : KnownPatron) → IsToldOf file p check view v.patron.now x
+            → IsToldOf other p check view w.patron.now y → x.name.now ≡ y.name.now
+        one_name x y is so = is.name ∙ (named ∙ sym so.name)
 
-    one_information : (a b : PatronInformationReply) (file : Option Stored) (p : ℕ) (view : PatronView)
-        (items : List ListItem)
-        (wanted : Option Wanted) (o q : PatronInformationOutcome)
-        → IsInformationReply k v (language_told file p v.language.now) a
-        → IsInformationReply k w (language_told file p w.language.now) b
-        → IsKnownInformation k file p view items wanted v o
-        → IsKnownInformation k file p view items wanted w q
-        → information_text a o ≡ information_text b q
-    one_information a b file p view items wanted (OfInformation.Known x c m l) (OfInformation.Known y d n i)
-        is so known there =
-        let check = one_check file p view x y known.0 there.0 in
-        let front : concat (information_layout a x c m) ≡ concat (information_layout b y d n) =
-        front_same a b x y c d m n
-        (is.language ∙ (ap (λ (l : List ℕ). language_told file p l) language ∙ sym so.language))
-        (is.date ∙ (date ∙ sym so.date)) (is.institution ∙ sym so.institution)
-        (is.patron ∙ (patron ∙ sym so.patron))
-        (one_flags file p view x y known.0 there.0) (one_name file p view x y known.0 there.0) check
-        (known.1 ∙ sym there.1) (known.2 ∙ sym there.2) in
-        ap (λ (f : List ℕ). with_list f (list_told x.password l)) front
-        ∙ (ap (λ (c : PasswordValidity). with_list (concat (information_layout b y d n)) (list_told c l))
-        check
-        ∙ ap (λ (g : List ℕ). concat (information_layout b y d n) ++ g)
-        (told_alike k (2038 - length (concat (information_layout b y d n))) y.password wanted items l i
-        known.3
-        there.3))
-    one_information a b file p view items wanted (OfInformation.Known x c m l) (OfInformation.Refused y) is so
-        known there = absurd there
-    one_information a b file p view items wanted (OfInformation.Refused x) q is so known there = absurd known
+        one_check : (x y : KnownPatron) → IsToldOf file p check view v.patron.now x
+            → IsToldOf other p check view w.patron.now y → x.password ≡ y.password
+        one_check x y is so = is.password ∙ sym so.password
+
+        one_known : (a b : PatronStatusReply) (o q : PatronStatusOutcome)
+            → IsStatusReply k v (language_told file p v.language.now) a
+            → IsStatusReply k w (language_told other p w.language.now) b
+            → IsKnownStatus file p check view v o → IsKnownStatus other p check view w q
+            → concat (patron_status_layout a o) ≡ concat (patron_status_layout b q)
+        one_known a b (OfStatus.Known x) (OfStatus.Known y) is so known there =
+            one_status a b _ _ (OfStatus.Known x) spoken is so
+            ∙ known_same b x y [] (one_flags x y known there) (one_name x y known there)
+            (one_check x y known there)
+        one_known a b (OfStatus.Known x) (OfStatus.NotBlocked y) is so known there = absurd there
+        one_known a b (OfStatus.Known x) (OfStatus.Refused y) is so known there = absurd there
+        one_known a b (OfStatus.NotBlocked x) q is so known there = absurd known
+        one_known a b (OfStatus.Refused x) q is so known there = absurd known
+
+        one_not_blocked : (a b : PatronStatusReply) (o q : PatronStatusOutcome)
+            → IsStatusReply k v (language_told file p v.language.now) a
+            → IsStatusReply k w (language_told other p w.language.now) b
+            → IsNotBlocked file p check view v o → IsNotBlocked other p check view w q
+            → concat (patron_status_layout a o) ≡ concat (patron_status_layout b q)
+        one_not_blocked a b (OfStatus.NotBlocked x) (OfStatus.NotBlocked y) is so known there =
+            one_status a b _ _ (OfStatus.NotBlocked x) spoken is so
+            ∙ known_same b x y (field_text (codes "AF") (codes "CARD NOT BLOCKED"))
+            (one_flags x y known there) (one_name x y known there) (one_check x y known there)
+        one_not_blocked a b (OfStatus.NotBlocked x) (OfStatus.Known y) is so known there = absurd there
+        one_not_blocked a b (OfStatus.NotBlocked x) (OfStatus.Refused y) is so known there = absurd there
+        one_not_blocked a b (OfStatus.Known x) q is so known there = absurd known
+        one_not_blocked a b (OfStatus.Refused x) q is so known there = absurd known
+
+        one_information : (a b : PatronInformationReply) (xs ys : List ListItem) (wanted : Option Wanted)
+            (o q : PatronInformationOutcome) → AreAlike wanted xs ys
+            → IsInformationReply k v (language_told file p v.language.now) a
+            → IsInformationReply k w (language_told other p w.language.now) b
+            → IsKnownInformation k file p check view xs wanted v o
+            → IsKnownInformation k other p check view ys wanted w q
+            → information_text a o ≡ information_text b q
+        one_information a b xs ys wanted (OfInformation.Known x c m l) (OfInformation.Known y d n i) alike is
+            so known there =
+            let front : concat (information_layout a x c m) ≡ concat (information_layout b y d n) =
+            front_same a b x y c d m n (is.language ∙ (spoken ∙ sym so.language))
+            (is.date ∙ (date ∙ sym so.date)) (is.institution ∙ sym so.institution)
+            (is.patron ∙ (patron ∙ sym so.patron))
+            (one_flags x y known.0 there.0) (one_name x y known.0 there.0) (one_check x y known.0 there.0)
+            (known.1 ∙ sym there.1) (known.2 ∙ sym there.2) in
+            ap (λ (f : List ℕ). with_list f l) front
+            ∙ ap (λ (g : List ℕ). concat (information_layout b y d n) ++ g)
+            (given_alike k (2038 - length (concat (information_layout b y d n))) wanted xs ys alike l i
+            known.3 there.3)
+        one_information a b xs ys wanted (OfInformation.Known x c m l) (OfInformation.Refused y) alike is so
+            known there = absurd there
+        one_information a b xs ys wanted (OfInformation.Refused x) q alike is so known there = absurd known
 
     one_card : (a b : CardReply) (r : Option Refusal) → IsCardReply k v r a → IsCardReply k w r b
         → (patron_text (SessionEnd a) ≡ patron_text (SessionEnd b))
@@ -339,22 +336,44 @@ module _ (k : Contents) (v w : PatronValues) (date : v.date ≡ w.date)
     one_refused Kinds.RenewAll refusal (RenewAll a) _ is so = absurd so
     one_refused _ refusal _ b is so = absurd is
 
-    module _ (e : Extensions) (p : ℕ) (seen : PatronView) (items : List ListItem) where
-      one_look : (question : PatronQuestion) (a b : PatronReply) → IsLookReply k v e p seen items question a
-          → IsLookReply k w e p seen items question b → patron_text a ≡ patron_text b
-      one_look about.Status (Status a) (Status b) is so =
-          one_known a b e.patrons p seen a.outcome b.outcome is.0 so.0 is.1 so.1
-      one_look about.Status (Status a) _ is so = absurd so
-      one_look about.Block (Status a) (Status b) is so =
-          one_not_blocked a b e.patrons p seen a.outcome b.outcome is.0 so.0 is.1 so.1
-      one_look about.Block (Status a) _ is so = absurd so
-      one_look (about.Information wanted) (Information a) (Information b) is so =
-          one_information a b e.patrons p seen items wanted a.outcome b.outcome is.0 so.0 is.1 so.1
-      one_look (about.Information wanted) (Information a) _ is so = absurd so
-      one_look about.RenewAll (RenewAll a) (RenewAll b) is so =
-          one_renewal a b (OfRenewAll.NotRenewed seen.charged) is so
-      one_look about.RenewAll (RenewAll a) _ is so = absurd so
-      one_look _ _ b is so = absurd is
+    module _ (e f : Extensions) (p : ℕ) (check : PasswordValidity) (seen : PatronView)
+        (xs ys : List ListItem)
+        (spoken : language_told e.patrons p v.language.now ≡ language_told f.patrons p w.language.now)
+        (named : name_told e.patrons p check v.patron.now ≡ name_told f.patrons p check w.patron.now)
+      where
+        one_look : (question : PatronQuestion) (a b : PatronReply) → AreAlike (list_asked question) xs ys
+            → IsLookReply k v e p check seen xs question a → IsLookReply k w f p check seen ys question b
+            → patron_text a ≡ patron_text b
+        one_look about.Status (Status a) (Status b) alike is so =
+            one_known e.patrons f.patrons p check seen spoken named a b a.outcome b.outcome is.0 so.0 is.1
+            so.1
+        one_look about.Status (Status a) _ alike is so = absurd so
+        one_look about.Block (Status a) (Status b) alike is so =
+            one_not_blocked e.patrons f.patrons p check seen spoken named a b a.outcome b.outcome is.0 so.0
+            is.1 so.1
+        one_look about.Block (Status a) _ alike is so = absurd so
+        one_look (about.Information wanted) (Information a) (Information b) alike is so =
+            one_information e.patrons f.patrons p check seen spoken named a b xs ys wanted a.outcome b.outcome
+            alike is.0 so.0 is.1 so.1
+        one_look (about.Information wanted) (Information a) _ alike is so = absurd so
+        one_look about.RenewAll (RenewAll a) (RenewAll b) alike is so =
+            one_renewal a b (OfRenewAll.NotRenewed seen.charged) is so
+        one_look about.RenewAll (RenewAll a) _ alike is so = absurd so
+        one_look _ _ b alike is so = absurd is
+
+    -- by the same password
+    at_look : (e : Extensions) (look : PatronLook) (desk : Desk) (a b : PatronReply)
+        → IsReplyAt k v e look desk a → IsReplyAt k w e look desk b → patron_text a ≡ patron_text b
+    at_look e look desk a b is so =
+        let check = password_told e.patrons look.patron (option_copied w.password) in
+        let made = look_allowed check look in
+        let first : IsReplyOfLook k v e check made desk a =
+        subst (λ (given : Option (List ℕ)). IsReplyOfLook k v e (password_told e.patrons look.patron given)
+        (look_allowed (password_told e.patrons look.patron given) look) desk a) password is in
+        one_look e e look.patron check (view_seen k desk made) (items_seen k desk made) (items_seen k desk made)
+        (ap (λ (l : List ℕ). language_told e.patrons look.patron l) language)
+        (ap (λ (n : List ℕ). name_told e.patrons look.patron check n) patron) made.question a b
+        (same_alike (list_asked made.question) (items_seen k desk made)) first so
 
     -- have one text
     pub one_patron_text : (e : Extensions) (kind : PatronKind) (asks : Result PatronAsk Refusal)
@@ -368,5 +387,31 @@ module _ (k : Contents) (v w : PatronValues) (date : v.date ≡ w.date)
     one_patron_text e kind (Ok ask.TakePayment) [] (FeePaid a) (FeePaid b) is so = (one_card a b None is so).1
     one_patron_text e kind (Ok ask.TakePayment) [] (FeePaid a) _ is so = absurd so
     one_patron_text e kind (Ok (ask.Look look)) (Looked shown ∷ []) a b is so =
-        one_look e _ _ _ look.question a b is so
+        at_look e look (state_after (facts_of k) shown).desk a b is so
     one_patron_text e kind _ _ _ b is so = absurd is
+
+-- With a wrong password no list is asked: whatever the items are, they aren't reported.
+untold : (question : PatronQuestion) (xs ys : List ListItem)
+    → AreAlike (list_asked (question_allowed Wrong question)) xs ys
+untold about.Status xs ys = tt
+untold (about.Information wanted) xs ys = tt
+untold about.Block xs ys = tt
+untold about.RenewAll xs ys = tt
+
+pub wrong_alike : (k : Contents) (v : PatronValues) (look : PatronLook) (e f : Extensions) (desk other : Desk)
+    (a b : PatronReply) → AreMistaken k v look e f desk other
+    → IsReplyAt k v e look desk a → IsReplyAt k v f look other b → patron_text a ≡ patron_text b
+wrong_alike k v look e f desk other a b wrong is so =
+    let made = look_allowed Wrong look in
+    let first : IsReplyOfLook k v e Wrong made desk a =
+    subst (λ (c : PasswordValidity). IsReplyOfLook k v e c (look_allowed c look) desk a) wrong.first is in
+    let second : IsReplyOfLook k v f Wrong made other b =
+    subst (λ (c : PasswordValidity). IsReplyOfLook k v f c (look_allowed c look) other b) wrong.second so in
+    let there : IsLookReply k v f look.patron Wrong (view_seen k desk made) (items_seen k other made)
+    made.question b =
+    subst (λ (seen : PatronView). IsLookReply k v f look.patron Wrong seen (items_seen k other made)
+    made.question b) (sym wrong.view) second in
+    one_look k v v refl refl refl refl e f look.patron Wrong (view_seen k desk made) (items_seen k desk made)
+    (items_seen k other made)
+    (ap (λ (own : Option (List ℕ)). unwrap_or own v.language.now) wrong.language) refl made.question a b
+    (untold look.question (items_seen k desk made) (items_seen k other made)) first there

@@ -36,7 +36,7 @@ use Rattle.hd_exchange.specs.declared.repeated.RepeatedValues.{RepeatedValues}
 use Rattle.hd_exchange.specs.declared.reply_kind.ReplyKind.{ReplyKind}
 use Rattle.hd_exchange.specs.declared.reply_kind.ReplyKind.TheVariants as said
 
--- what a message is told, and what the office does for it: nothing where it is refused beforehand, and else
+-- the answer to a message, and what the office does for it: nothing where it is refused beforehand, and else
 -- it makes one turn
 abbrev pub IsAnsweredSo : Result Ask Refusal → TurnReply → List Deed → Type 0
 IsAnsweredSo (Err refusal) told did = (told ≡ Refused refusal) × (did ≡ [])
@@ -47,7 +47,7 @@ abbrev pub asked_in : Result Ask Refusal → Result Asked Refusal
 asked_in (Ok ask) = Ok ask.asked
 asked_in (Err refusal) = Err refusal
 
--- the reply that says so: with sorter fields, where they are on
+-- the reply that reports it: with sorter fields, where they are on
 abbrev pub IsReplyWith : Contents → Extensions → DeskKind → RepeatedValues → Result Asked Refusal → TurnReply
     → Reply → Type 0
 IsReplyWith k e kind r asked told reply =
@@ -55,8 +55,8 @@ IsReplyWith k e kind r asked told reply =
     (IsSortedReply k e.patrons kind r asked told reply)
     (IsReply k kind r asked told reply)
 
--- A message that asks something of the desk is told something, and the text is that of the reply that says
--- so.
+-- A message that asks something of the desk gets an answer, and the text is that of the reply that reports
+-- it.
 pub record IsDeskAnswer (k : Contents) (e : Extensions) (message : DeskMessage) (text : List ℕ)
     (did : List Deed) : Type 0 where
   pub told : TurnReply
@@ -65,7 +65,7 @@ pub record IsDeskAnswer (k : Contents) (e : Extensions) (message : DeskMessage) 
   pub says : IsReplyWith k e message.kind message.repeated (asked_in message.asks) told reply
   pub spelled : text ≡ reply_text reply
 
--- What the office does for a patron message, and the text is that of the reply that says what came of it.
+-- What the office does for a patron message, and the text is that of the reply that reports what a look saw.
 pub record IsPatronAnswer (k : Contents) (e : Extensions) (message : PatronMessage) (text : List ℕ)
     (did : List Deed) : Type 0 where
   pub told : PatronReply

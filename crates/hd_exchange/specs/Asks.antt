@@ -1,4 +1,4 @@
--- What a message asks of the desk, or the first refusal: each check stands before those that follow it.
+-- What a message asks of the desk, or the first refusal: the checks are made in this order.
 use Rattle.std.specs.Prelude.{ℕ, Bool, List, Option, None, Some, Result, Ok, Err, if◌then◌else◌}
 use Rattle.std.specs.Option.{option_copied, unwrap_or}
 use Rattle.hd_message.specs.declared.kind.DeskKind.{DeskKind}

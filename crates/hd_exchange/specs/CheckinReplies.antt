@@ -27,8 +27,8 @@ module _ (k : Contents) where
   IsWhereabouts (InTransit transit) (Transit branch) = branch_name k transit.to ≡ Some branch.now
   IsWhereabouts _ _ = ⊥
 
-  -- what is said of a checkin that asked this and was told that: the return; or the home and the title of the
-  -- copy whose loan is taken back
+  -- what is said of a checkin that asked this and got this answer: the return; or the home and the title of
+  -- the copy whose loan is taken back
   abbrev pub IsCheckinOutcome : Result Asked Refusal → TurnReply → CheckinOutcome → Type 0
   IsCheckinOutcome asked (Refused refusal) (OfCheckin.Refused given) = given ≡ refusal
   IsCheckinOutcome (Ok (ask.Command command)) (Done n (Returned t b now))

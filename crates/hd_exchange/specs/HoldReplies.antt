@@ -15,8 +15,8 @@ use Rattle.hd_catalogue.specs.Contents.{Contents, branch_name, title_name}
 use Rattle.hd_exchange.specs.declared.repeated.RepeatedValues.{RepeatedValues}
 
 module _ (k : Contents) where
-  -- what is said of a hold message with this title that asked this and was told that: the hold; or, where it
-  -- is deleted or something is taken back, the title of the hold; a refusal has the message's title
+  -- what is said of a hold message with this title that asked this and got this answer: the hold; or, where
+  -- it is deleted or something is taken back, the title of the hold; a refusal has the message's title
   abbrev pub IsHoldOutcome : Option (List ℕ) → Result Asked Refusal → TurnReply → HoldOutcome → Type 0
   IsHoldOutcome own asked (Refused refusal) (OfHold.Refused title given) =
       (option_copied title ≡ own) × (given ≡ refusal)

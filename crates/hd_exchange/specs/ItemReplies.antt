@@ -25,7 +25,7 @@ module _ (k : Contents) where
   IsCirculation (InTransit transit) Transit = ⊤
   IsCirculation _ _ = ⊥
 
-  -- what is said of a question that asked this and was told that
+  -- what is said of a question that asked this and got this answer
   abbrev pub IsItemOutcome : Result Asked Refusal → TurnReply → ItemOutcome → Type 0
   IsItemOutcome asked (Refused refusal) (OfItem.Refused given) = given ≡ refusal
   IsItemOutcome (Ok (ask.Item c)) (Item view) (OfItem.Found holds title home circulation) =

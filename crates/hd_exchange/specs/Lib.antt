@@ -15,7 +15,7 @@ pub mod CheckinReplies
 pub mod HoldReplies
 pub mod ItemReplies
 pub mod Replies
--- what an office does for a message, and the replies with what it tells beyond the standard messages:
+-- what an office does for a message, and the replies beyond the standard messages:
 pub mod Deeds
 pub mod Sorting
 pub mod ToldPatrons

@@ -15,7 +15,7 @@ use Rattle.hd_catalogue.specs.Contents.{Contents, facts_of, title_name}
 use Rattle.hd_exchange.specs.declared.repeated.RepeatedValues.{RepeatedValues}
 
 module _ (k : Contents) where
-  -- what is said of a checkout or a renewal that asked this and was told that: the loan; or, where one took
+  -- what is said of a checkout or a renewal that asked this and got this answer: the loan; or, where one took
   -- something back, the title of the copy that came back or whose loan was renewed
   abbrev pub IsLoanOutcome : Result Asked Refusal → TurnReply → LoanOutcome → Type 0
   IsLoanOutcome asked (Refused refusal) (OfLoan.Refused given) = given ≡ refusal

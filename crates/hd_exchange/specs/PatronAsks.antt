@@ -1,4 +1,4 @@
--- What a patron message asks, or the first refusal: each check stands before those that follow it.
+-- What a patron message asks, or the first refusal: the checks are made in this order.
 use Rattle.std.specs.Prelude.{ℕ, ◌==◌, ◌&&◌, List, Option, None, Some, Result, Ok, length, min, nat_lt}
 use Rattle.std.specs.Prelude.{if◌then◌else◌, option_and_then, option_map}
 use Rattle.std.specs.List.{list_all}
@@ -16,8 +16,8 @@ use Rattle.hd_exchange.specs.declared.patron_message.PatronAsk.{PatronAsk}
 use Rattle.hd_exchange.specs.declared.patron_message.PatronAsk.TheVariants as ask
 use Rattle.hd_exchange.specs.declared.patron_message.PatronQuestion.{PatronQuestion}
 
--- the number that a text writes in decimal digits, if it writes one; no list has as many items as the
--- greatest, 4,294,967,295, for which all greater ones stand
+-- the number that a text writes in decimal digits, if it writes one; at most 4,294,967,295, since no list has
+-- as many items
 abbrev pub item_number : List ℕ → Option ℕ
 item_number text =
     if nat_lt 0 (length text) && list_all is_digit text

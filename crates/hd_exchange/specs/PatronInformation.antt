@@ -1,7 +1,9 @@
--- The replies that tell what a patron has (64).
+-- The replies that report what a patron has (64).
 use Rattle.std.specs.Prelude.{◌≡◌, ⊤, ℕ, ◌<◌, ◌≤◌, List, [], Option, None, Some, length, map, take}
 use Rattle.std.specs.Borrow.{Bor}
 use Rattle.hd_message.specs.declared.patron_reply.ItemList.{ItemList}
+use Rattle.hd_message.specs.declared.patron_reply.PasswordValidity.{PasswordValidity}
+use Rattle.hd_message.specs.declared.patron_reply.PasswordValidity.TheVariants.{Unasked, Right, Wrong}
 use Rattle.hd_message.specs.declared.patron_reply.PatronInformationOutcome.{PatronInformationOutcome}
 use Rattle.hd_message.specs.declared.patron_reply.PatronInformationOutcome.TheVariants as OfInformation
 use Rattle.hd_message.specs.declared.patron_reply.PatronInformationReply.{PatronInformationReply}
@@ -37,8 +39,29 @@ list_asked about.Status = None
 list_asked about.Block = None
 list_asked about.RenewAll = None
 
+-- the part of it that may be read where the password is checked so: none where it is wrong
+abbrev pub list_allowed : PasswordValidity → Option Wanted → Option Wanted
+list_allowed Unasked wanted = wanted
+list_allowed Right wanted = wanted
+list_allowed Wrong wanted = None
+
+-- the question that may be asked then: no list is asked with a wrong password
+abbrev pub question_allowed : PasswordValidity → PatronQuestion → PatronQuestion
+question_allowed check (about.Information wanted) = about.Information (list_allowed check wanted)
+question_allowed check about.Status = about.Status
+question_allowed check about.Block = about.Block
+question_allowed check about.RenewAll = about.RenewAll
+
+-- and the look that asks it
+abbrev pub look_allowed : PasswordValidity → PatronLook → PatronLook
+look_allowed check look = record {
+  patron = look.patron;
+  day = look.day;
+  question = question_allowed check look.question;
+}
+
 module _ (k : Contents) (desk : Desk) (look : PatronLook) where
-  -- how the patron stands at the desk
+  -- what the desk has of the patron, as numbers
   abbrev pub view_seen : PatronView
   view_seen = view (facts_of k) desk look.patron look.day
 
@@ -76,12 +99,12 @@ IsListOfItems k (Some wanted) items (Some list) =
     (list.summary ≡ wanted.summary) × AreNamesOf k items list.names.now
 IsListOfItems k _ items _ = ⊥
 
--- what is said of a patron who stands so, and of whom these items are seen
-abbrev pub IsKnownInformation : Contents → Option Stored → PatronNo → PatronView → List ListItem
-    → Option Wanted → PatronValues → PatronInformationOutcome → Type 0
-IsKnownInformation k file p seen items wanted values (OfInformation.Known known counts limit list) =
-    IsToldOf file p seen values known
+-- what is reported of a patron of whom this view and these items are seen, with the password checked so
+abbrev pub IsKnownInformation : Contents → Option Stored → PatronNo → PasswordValidity → PatronView
+    → List ListItem → Option Wanted → PatronValues → PatronInformationOutcome → Type 0
+IsKnownInformation k file p check seen items wanted values (OfInformation.Known known counts limit list) =
+    IsToldOf file p check seen values.patron.now known
     × (counts ≡ counts_of seen)
     × (limit ≡ seen.loan_limit)
     × IsListOfItems k wanted items list
-IsKnownInformation k file p seen items wanted values _ = ⊥
+IsKnownInformation k file p check seen items wanted values _ = ⊥

@@ -1,6 +1,7 @@
--- The replies that tell whether a patron may borrow (24): to questions about it (23), and to wishes to block
--- a card (01), which are never done.
+-- The replies that report whether a patron may borrow (24): to questions about it (23), and to wishes to
+-- block a card (01), which are never done.
 use Rattle.std.specs.Prelude.{◌≡◌, ℕ, List, Option}
+use Rattle.hd_message.specs.declared.patron_reply.PasswordValidity.{PasswordValidity}
 use Rattle.hd_message.specs.declared.patron_reply.PatronStatusOutcome.{PatronStatusOutcome}
 use Rattle.hd_message.specs.declared.patron_reply.PatronStatusOutcome.TheVariants as OfStatus
 use Rattle.hd_message.specs.declared.patron_reply.PatronStatusReply.{PatronStatusReply}
@@ -19,13 +20,15 @@ pub record IsStatusReply (k : Contents) (values : PatronValues) (spoken : List �
   pub institution : reply.institution.now ≡ k.institution
   pub patron : reply.patron.now ≡ values.patron.now
 
-module _ (file : Option Stored) (p : PatronNo) (view : PatronView) (values : PatronValues) where
-  -- what is said of a patron who stands so, where they are asked about
-  abbrev pub IsKnownStatus : PatronStatusOutcome → Type 0
-  IsKnownStatus (OfStatus.Known known) = IsToldOf file p view values known
-  IsKnownStatus _ = ⊥
+module _ (file : Option Stored) (p : PatronNo) (check : PasswordValidity) (view : PatronView)
+    (values : PatronValues)
+  where
+    -- what is reported of a patron who is asked about
+    abbrev pub IsKnownStatus : PatronStatusOutcome → Type 0
+    IsKnownStatus (OfStatus.Known known) = IsToldOf file p check view values.patron.now known
+    IsKnownStatus _ = ⊥
 
-  -- and where their card was to be blocked
-  abbrev pub IsNotBlocked : PatronStatusOutcome → Type 0
-  IsNotBlocked (OfStatus.NotBlocked known) = IsToldOf file p view values known
-  IsNotBlocked _ = ⊥
+    -- and of one whose card was to be blocked
+    abbrev pub IsNotBlocked : PatronStatusOutcome → Type 0
+    IsNotBlocked (OfStatus.NotBlocked known) = IsToldOf file p check view values.patron.now known
+    IsNotBlocked _ = ⊥

@@ -1,5 +1,5 @@
--- The reply to a message that asks something of the desk: of its own code, with what it repeats and what the
--- message was told.
+-- The reply to a message that asks something of the desk: of its own code, with what it repeats and the
+-- answer of the desk.
 use Rattle.hd_message.specs.declared.kind.DeskKind.{DeskKind}
 use Rattle.hd_message.specs.declared.kind.DeskKind.TheVariants as kind
 use Rattle.hd_message.specs.declared.reply.Reply.{Reply}
@@ -15,7 +15,7 @@ use Rattle.hd_exchange.specs.ItemReplies.{IsItemReply}
 use Rattle.hd_exchange.specs.LoanReplies.{IsLoanReply}
 use Rattle.hd_exchange.specs.declared.repeated.RepeatedValues.{RepeatedValues}
 
--- the reply to a message of this kind that asked this, or was refused beforehand, and was told that
+-- the reply to a message of this kind that asked this, or was refused beforehand, and got this answer
 abbrev pub IsReply : Contents → DeskKind → RepeatedValues → Result Asked Refusal → TurnReply → Reply → Type 0
 IsReply k kind.Checkout r asked told (Checkout reply) = IsLoanReply k r asked told reply
 IsReply k kind.Checkin r asked told (Checkin reply) = IsCheckinReply k r asked told reply

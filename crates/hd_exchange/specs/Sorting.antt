@@ -81,7 +81,7 @@ module _ (k : Contents) (file : Option Stored) where
   IsItemSorted r asked view (SorterItem reply) = IsSorterItemReply r asked view reply
   IsItemSorted r asked view _ = ⊥
 
-  -- the reply to a message of this kind that asked this, or was refused beforehand, and was told that: a
+  -- the reply to a message of this kind that asked this, or was refused beforehand, and got this answer: a
   -- return and what is known of a copy have sorter fields, all else is as it is without them
   abbrev pub IsSortedReply : DeskKind → RepeatedValues → Result Asked Refusal → TurnReply → Reply → Type 0
   IsSortedReply kind r asked (Done n (Returned t home there)) reply = IsReturnSorted r t home there reply

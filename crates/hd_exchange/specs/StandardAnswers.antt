@@ -23,8 +23,8 @@ use Rattle.hd_exchange.specs.declared.message.SessionMessage.TheVariants.{Login,
 use Rattle.hd_exchange.specs.declared.reply_kind.ReplyKind.{ReplyKind}
 use Rattle.hd_exchange.specs.declared.reply_kind.ReplyKind.TheVariants as said
 
--- A message that asks something of the desk is told something, and the text is that of the standard reply
--- that says so.
+-- A message that asks something of the desk gets an answer, and the text is that of the standard reply that
+-- reports it.
 pub record IsStandardDeskAnswer (k : Contents) (message : DeskMessage) (text : List ℕ) (did : List Deed)
     : Type 0 where
   pub told : TurnReply

@@ -1,6 +1,6 @@
--- What a reply tells of a patron: of the desk, and of the patrons' file, where there is one.
-use Rattle.std.specs.Prelude.{◌≡◌, ℕ, List, Option, None, Some, true, false}
-use Rattle.std.specs.Option.{option_copied, unwrap_or}
+-- What a reply reports of a patron: of the desk, and of the patrons' file, where there is one.
+use Rattle.std.specs.Prelude.{◌≡◌, ℕ, List, [], Option, None, Some, true, false}
+use Rattle.std.specs.Option.{unwrap_or}
 use Rattle.hd_message.specs.declared.patron_reply.Counts.{Counts}
 use Rattle.hd_message.specs.declared.patron_reply.KnownPatron.{KnownPatron}
 use Rattle.hd_message.specs.declared.patron_reply.PasswordValidity.{PasswordValidity}
@@ -14,7 +14,6 @@ use Rattle.hd_rules.specs.Numbers.{PatronNo}
 use Rattle.hd_rules.specs.declared.views.Borrowing.{Borrowing}
 use Rattle.hd_rules.specs.declared.views.Borrowing.TheVariants.{Denied, TooMany, Allowed}
 use Rattle.hd_rules.specs.declared.views.PatronView.{PatronView}
-use Rattle.hd_exchange.specs.declared.patron_message.PatronValues.{PatronValues}
 
 -- what they may do: the privilege to borrow is denied to a patron whose loan limit is 0, and too many items
 -- are charged to one who has as many loans as they may have
@@ -45,16 +44,20 @@ module _ (file : Option Stored) (p : PatronNo) where
   password_told None = CQ.Unasked
   password_told (Some given) = validity_of (check_in file p given)
 
-  -- the name of a patron: that in the patrons' file, else the one that AA has
-  abbrev pub name_told : List ℕ → List ℕ
-  name_told own = unwrap_or (name_in file p) own
+  -- AE: the name in the patrons' file, else the one that AA has; empty where the password is wrong
+  abbrev pub name_told : PasswordValidity → List ℕ → List ℕ
+  name_told CQ.Unasked own = unwrap_or (name_in file p) own
+  name_told CQ.Right own = unwrap_or (name_in file p) own
+  name_told CQ.Wrong own = []
 
   -- the language for a patron: that in the patrons' file, else the message's
   abbrev pub language_told : List ℕ → List ℕ
   language_told own = unwrap_or (language_in file p) own
 
-  -- The patron of a message who stands so at the desk is told so.
-  pub record IsToldOf (view : PatronView) (values : PatronValues) (known : KnownPatron) : Type 0 where
+  -- What is reported of the patron whom a message names so: with this view of the desk, and with the password
+  -- checked so.
+  pub record IsToldOf (check : PasswordValidity) (view : PatronView) (own : List ℕ) (known : KnownPatron)
+      : Type 0 where
     pub flags : known.flags ≡ flags_of view.borrowing
-    pub name : known.name.now ≡ name_told values.patron.now
-    pub password : known.password ≡ password_told (option_copied values.password)
+    pub name : known.name.now ≡ name_told check own
+    pub password : known.password ≡ check

@@ -19,7 +19,7 @@ use hd_message::{CheckinOutcome, HoldOutcome, LoanOutcome, Reply};
 use hd_rules::{Action, Command, Reply as Told};
 use std::alloc::Allocator;
 
-/// The reply to a message whose command was accepted and tells this.
+/// The reply to a message whose command was accepted and got this answer.
 pub(crate) fn accepted_reply<'a, A: Allocator + Copy>(
     catalogue: &'a Catalogue<A>,
     repeated: &'a RepeatedValues<'a>,

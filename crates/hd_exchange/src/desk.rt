@@ -75,7 +75,7 @@ pub(crate) fn answer<A: Allocator + Copy, O: Office<A>>(
     Ok(())
 }
 
-/// The reply to a message whose turn asked this and was told that: with sorter fields where they are on.
+/// The reply to a message whose turn asked this and got this answer: with sorter fields where they are on.
 fn reply_with<'a, A: Allocator + Copy>(
     catalogue: &'a Catalogue<A>,
     extensions: Option<&'a Extensions<A>>,

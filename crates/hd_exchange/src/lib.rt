@@ -1,17 +1,24 @@
-//! One message of a terminal, from the body of its line to the text of its reply, over any office that takes
-//! its turn, or shows its journal for a look.
+//! One message of a terminal, from the body of its line to the text of its reply, over any office that makes
+//! its turn, or shows its journal to a look.
 //!
-//! `messages` reads it, as the session's `extensions` say. One that asks nothing of the desk is answered
-//! `alone`. Of another `requests` make what it asks, by its `dates` and its `names`, as `checkouts`,
-//! `checkins`, `holds`, `renewals` or `items` say; `desk` makes its turn at an `office`. `replies` says what
-//! came of it, where it was `accepted`, or took something back (`cancellations`), or was refused
-//! (`refusals`); and `writing` appends the text.
+//! `responding` calls these steps:
 //!
-//! A message about a patron (`patron_message`) asks for a look, or is refused before it (`patron_messages`);
-//! `patron_reader` reads what the patron has from the journal that is shown, `patron_answers` say what that
-//! comes to (`patron_status`, `patron_information`, with the patrons' file by `told_patrons`), and
-//! `look_replies` write it. A sorter's fields are `sorting`'s. The definitions stand in `specs/`, in the
-//! order that `specs/Lib.antt` tells.
+//! - read the message: `messages`, by the `extensions` that are on;
+//! - answer it at once, where it asks nothing of the desk: `alone`, `logins`, `status`;
+//! - find what it asks, by its `dates` and `names`: `requests`, with `checkouts`, `checkins`, `holds`,
+//!   `renewals`, `items`;
+//! - make its turn at the office: `desk`;
+//! - make the reply: `replies`, with `accepted`, `cancellations`, `refusals`; a sorter's fields: `sorting`;
+//! - append its text: `writing`.
+//!
+//! A message about a patron has steps of its own:
+//!
+//! - find what it asks, or its refusal: `patron_messages`, `patron_texts`, `items_wanted`;
+//! - check its password, then look: `patron_answers`, `told_patrons`, `patron_reader`;
+//! - make the reply of what the look saw: `look_replies`, with `patron_status`, `patron_information` and
+//!   `cards`.
+//!
+//! The definitions are in `specs/`. `specs/Lib.antt` lists them in the order in which to read them.
 #![tactic(auto)]
 
 mod accepted;
@@ -63,7 +70,7 @@ mod writing;
 pub use crate::extensions::{Extensions, profile_of};
 pub use crate::laws::{
     each_body_has_one_answer, looks_have_room_for_a_reply, only_patron_messages_look,
-    standard_bodies_are_answered_as_before,
+    standard_bodies_are_answered_as_before, wrong_passwords_tell_nothing,
 };
 pub use crate::login::Login;
 pub use crate::reply_kind::ReplyKind;

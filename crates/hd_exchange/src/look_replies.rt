@@ -1,5 +1,5 @@
 //! The replies to questions about a patron, from what a look saw.
-ghost use Rattle.std.specs.Prelude.{◌≡◌, ◌<◌, ◌+◌, ◌≤◌, All, IsSome, List, Some, length, vec_len};
+ghost use Rattle.std.specs.Prelude.{◌≡◌, ◌<◌, ◌+◌, ◌≤◌, List, Some, length, vec_len};
 ghost use Rattle.std.specs.Prelude.{vec_capacity};
 ghost use Rattle.std.specs.Option.{unwrap_or};
 ghost use Rattle.hd_message.specs.Lengths.{IsPatronShort};
@@ -10,8 +10,9 @@ ghost use Rattle.hd_rules.specs.declared.views.ListItem.{ListItem};
 ghost use Rattle.hd_rules.specs.declared.views.PatronView.{PatronView};
 ghost use Rattle.hd_catalogue.specs.Contents.{Contents, facts_of, patron_name};
 ghost use Rattle.hd_exchange.specs.Extensions.{extensions_lent};
-ghost use Rattle.hd_exchange.specs.PatronInformation.{AreNamesOf, IsItemOf, IsListOfItems};
+ghost use Rattle.hd_exchange.specs.PatronInformation.{AreNamesOf, IsListOfItems};
 ghost use Rattle.hd_exchange.specs.PatronReplies.{IsLookReply};
+ghost use Rattle.hd_exchange.specs.Seeing.{HasLooked};
 ghost use Rattle.hd_exchange.specs.ToldPatrons.{language_told};
 ghost use Rattle.hd_exchange.specs.Works.{Extends};
 
@@ -25,31 +26,29 @@ use crate::told_patrons::{counts_of, known_patron};
 use crate::writing::write_reply;
 use hd_catalogue::Catalogue;
 use hd_message::{
-    ItemList, PatronInformationOutcome, PatronReply, PatronStatusOutcome, RenewAllOutcome, Reply,
+    ItemList, PasswordValidity, PatronInformationOutcome, PatronReply, PatronStatusOutcome,
+    RenewAllOutcome, Reply,
 };
 use hd_rules::{PatronView, Wanted};
 use std::alloc::Allocator;
 
-/// Appends the reply to a question about a patron, from what a look saw.
+/// Appends the reply to a question about a patron, from what a look saw. The password is checked so.
 pub(crate) fn write_look<A: Allocator + Copy>(
     catalogue: &Catalogue<A>,
     extensions: Option<&Extensions<A>>,
     values: &PatronValues<'_>,
+    password: PasswordValidity,
     reader: &PatronReader,
     out: &mut Vec<u8, A>,
 )
-    requires known { reader.now.look.patron < (facts_of catalogue.now).patrons }
-    requires named { patron_name catalogue.now reader.now.look.patron ≡ Some values.now.patron.now }
+    requires looked { HasLooked catalogue.now values.now reader.now }
     requires language { length values.now.language.now ≡ 3 }
     requires patron { length values.now.patron.now ≤ 1024 }
-    requires looked { IsSome reader.now.view }
-    requires items { All (IsItemOf (facts_of catalogue.now)) reader.now.items.items }
-    requires few { length reader.now.items.items ≤ 512 }
     requires room { vec_len out.old + 2038 ≤ vec_capacity out.old }
     ensures { (seen : PatronView) × (told : PatronReply)
         × (reader.now.view ≡ Some seen)
-        × IsLookReply catalogue.now values.now (extensions_lent extensions.entry) reader.now.look.patron seen
-        reader.now.items.items reader.now.look.question told
+        × IsLookReply catalogue.now values.now (extensions_lent extensions.entry) reader.now.look.patron
+        password seen reader.now.items.items reader.now.look.question told
         × Extends out.old out.new (reply_text (reply.Patron told))
         × (length (reply_text (reply.Patron told)) ≤ 2038) }
 {
@@ -64,6 +63,7 @@ pub(crate) fn write_look<A: Allocator + Copy>(
         extensions,
         values,
         language,
+        password,
         &reader.look,
         view,
         names.as_slice(),
@@ -81,13 +81,14 @@ fn spoken_language<'a>(own: &'a Option<[u8; 3]>, message: &'a [u8]) -> &'a [u8]
     }
 }
 
-/// The reply, in this language, to a question about a patron who stands so; the names are those of the items
-/// that the look saw.
+/// The reply, in this language, to a question about a patron, with the password checked so. View and names
+/// are those that the look saw.
 fn look_reply<'a, A: Allocator + Copy>(
     catalogue: &'a Catalogue<A>,
     extensions: Option<&'a Extensions<A>>,
     values: &'a PatronValues<'a>,
     language: &'a [u8],
+    password: PasswordValidity,
     look: &PatronLook,
     view: &PatronView,
     names: &'a [&'a [u8]],
@@ -99,11 +100,18 @@ fn look_reply<'a, A: Allocator + Copy>(
     requires three { length language.now ≡ 3 }
     requires patron { length values.now.patron.now ≤ 1024 }
     ensures reply { (items : List ListItem) → AreNamesOf catalogue.now items names.now →
-        IsLookReply catalogue.now values.now (extensions_lent extensions.entry) look.now.patron view.now
-        items look.now.question result }
+        IsLookReply catalogue.now values.now (extensions_lent extensions.entry) look.now.patron password
+        view.now items look.now.question result }
     ensures short { IsPatronShort result }
 {
-    let known = known_patron(catalogue, extensions, look.patron, view, values);
+    let known = known_patron(
+        catalogue,
+        extensions,
+        look.patron,
+        password,
+        view,
+        values.patron,
+    );
     match look.question {
         PatronQuestion::Status => {
             let outcome = PatronStatusOutcome::Known(known);

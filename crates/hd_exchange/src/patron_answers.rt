@@ -14,13 +14,14 @@ use crate::look_replies::write_look;
 use crate::patron_message::{PatronAsk, PatronMessage};
 use crate::patron_reader::PatronReader;
 use crate::patron_refusals::refused_patron;
+use crate::told_patrons::told_password;
 use crate::writing::write_reply;
 use hd_journal::{Office, TurnFault};
 use hd_message::{PatronReply, Reply};
 use std::alloc::Allocator;
 
 /// Makes the look that a patron message asks for, if it asks for one, and appends its reply; or appends its
-/// refusal.
+/// refusal. The password is checked before the look, which reads no more than the reply reports.
 ///
 /// At a fault the office does nothing, and nothing is appended: there is room for the reply.
 pub(crate) fn answer_patron<A: Allocator + Copy, O: Office<A>>(
@@ -46,12 +47,14 @@ pub(crate) fn answer_patron<A: Allocator + Copy, O: Office<A>>(
 {
     match &message.asks {
         Ok(PatronAsk::Look(look)) => {
-            let mut reader = PatronReader::new(look);
+            let password = told_password(extensions, look.patron, message.values.password);
+            let mut reader = PatronReader::new(look, password);
             office.look(&mut reader)?;
             write_look(
                 office.catalogue(),
                 extensions,
                 &message.values,
+                password,
                 &reader,
                 out,
             );

@@ -1,4 +1,4 @@
-//! The replies that tell what a patron has (64).
+//! The replies that report what a patron has (64).
 ghost use Rattle.std.specs.Prelude.{◌≡◌, ◌≤◌, All, length};
 ghost use Rattle.hd_catalogue.specs.Contents.{facts_of};
 ghost use Rattle.hd_message.specs.Lengths.{IsName, IsPrintedDate};

@@ -47,7 +47,7 @@ pub(crate) enum PatronAsk {
     EndSession,
     /// 37: that a payment is taken.
     TakePayment,
-    /// 23, 63, 01 or 65: what one look at the desk tells.
+    /// 23, 63, 01 or 65: what one look at the desk shows.
     Look(PatronLook),
 }
 

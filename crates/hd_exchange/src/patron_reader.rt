@@ -1,25 +1,28 @@
 //! A look at what a patron has.
 ghost use Rattle.std.specs.Prelude.{◌≡◌, ◌<◌, None};
 ghost use Rattle.hd_catalogue.specs.Contents.{facts_of};
-ghost use Rattle.hd_exchange.specs.PatronInformation.{list_asked};
+ghost use Rattle.hd_message.specs.declared.patron_reply.PasswordValidity.TheVariants.{Wrong};
+ghost use Rattle.hd_exchange.specs.PatronInformation.{list_allowed, list_asked, look_allowed};
+ghost use Rattle.hd_exchange.specs.PatronInformation.{question_allowed};
 ghost use Rattle.hd_exchange.specs.Seeing.{HasSeen};
 
 use crate::patron_message::{PatronLook, PatronQuestion};
 use arrayvec::ArrayVec;
 use hd_journal::{Journal, Look};
-use hd_patron_view::{page, page, view, view};
+use hd_message::PasswordValidity;
+use hd_patron_view::{page, view};
 use hd_rules::{ListItem, PatronView, Wanted};
 use std::alloc::Allocator;
 
 /// How many items of a list a look takes down: more than a reply has room for.
 pub(crate) const MOST_ITEMS: usize = 512;
 
-/// What takes down how a patron stands, and the items that are wanted of a list. It has the room for them.
+/// Reads how much a patron has, and the items that are wanted of a list. It has the room for them.
 #[derive(Drop)]
 pub(crate) struct PatronReader {
     /// What is asked about whom.
     pub(crate) look: PatronLook,
-    /// How the patron stands; nothing before the look.
+    /// How much the patron has; nothing before the look.
     pub(crate) view: Option<PatronView>,
     /// The items of the part of a list that is wanted, as many as there is room for; none where none is
     /// wanted, or before the look.
@@ -27,12 +30,15 @@ pub(crate) struct PatronReader {
 }
 
 impl PatronReader {
-    /// A reader that hasn't looked yet.
-    pub(crate) fn new(look: &PatronLook) -> PatronReader
-        ensures { result.look ≡ look.now }
+    /// A reader that hasn't looked yet, for a message whose password is checked so. Where the password is
+    /// wrong it reads no list.
+    #[tactic(auto, using(crate::proofs::Looking::none_asked))]
+    pub(crate) fn new(look: &PatronLook, password: PasswordValidity) -> PatronReader
+        ensures look { result.look ≡ look_allowed password look.now }
+        ensures wrong { password ≡ Wrong → list_asked result.look.question ≡ None }
     {
         PatronReader {
-            look: *look,
+            look: look_allowed(look, password),
             view: None,
             items: ArrayVec::new(),
         }
@@ -53,6 +59,39 @@ impl<A: Allocator + Copy> Look<A> for PatronReader {
             Some(wanted) => page(desk, patron, day, &wanted, &mut self.items),
             None => self.items.clear(),
         }
+    }
+}
+
+/// The look that a password allows.
+fn look_allowed(look: &PatronLook, password: PasswordValidity) -> PatronLook
+    ensures { result ≡ look_allowed password look.now }
+{
+    PatronLook {
+        patron: look.patron,
+        day: look.day,
+        question: question_allowed(look.question, password),
+    }
+}
+
+/// The question that a password allows.
+fn question_allowed(question: PatronQuestion, password: PasswordValidity) -> PatronQuestion
+    ensures { result ≡ question_allowed password question }
+{
+    match question {
+        PatronQuestion::Information(wanted) => {
+            PatronQuestion::Information(list_allowed(wanted, password))
+        }
+        PatronQuestion::Status | PatronQuestion::Block | PatronQuestion::RenewAll => question,
+    }
+}
+
+/// The part of a list that a password allows to read: none where it is wrong.
+fn list_allowed(wanted: Option<Wanted>, password: PasswordValidity) -> Option<Wanted>
+    ensures { result ≡ list_allowed password wanted }
+{
+    match password {
+        PasswordValidity::Unasked | PasswordValidity::Right => wanted,
+        PasswordValidity::Wrong => None,
     }
 }
 

@@ -1,4 +1,4 @@
-//! The replies that tell whether a patron may borrow (24).
+//! The replies that report whether a patron may borrow (24).
 ghost use Rattle.std.specs.Prelude.{◌≡◌};
 ghost use Rattle.hd_message.specs.Lengths.{IsName, IsPrintedDate};
 ghost use Rattle.hd_exchange.specs.PatronStatus.{IsStatusReply};

@@ -18,7 +18,7 @@ use hd_message::{DeskKind, Reply};
 use hd_rules::{Action, Asked, Cancel, TurnReply};
 use std::alloc::Allocator;
 
-/// The reply to a message whose turn asked this and was told that.
+/// The reply to a message whose turn asked this and got this answer.
 pub(crate) fn reply_to<'a, A: Allocator + Copy>(
     catalogue: &'a Catalogue<A>,
     repeated: &'a RepeatedValues<'a>,

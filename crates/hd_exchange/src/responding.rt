@@ -22,19 +22,19 @@ use hd_date::Stamp18;
 use hd_journal::{Office, TurnFault};
 use std::alloc::Allocator;
 
-/// Answers the body of a message from a session that is logged in so: appends the text of its reply, where it
-/// has one, and makes its turn, where it asks something of the desk. A login that is taken changes as whom
-/// the session is logged in.
+/// Answers the body of a message from a session with this login. Makes the turn or the look that the message
+/// asks for, if it asks for one, and appends the text of its reply, if it has one. A login that is accepted
+/// replaces the session's login.
 ///
 /// `extensions` are those that are on at the server, if any. `line` is the message's whole line, where it
-/// carried a sequence digit. `now`, the present, stands in a status reply, and where no date can be read.
+/// carried a sequence digit. `now` is the present. It is printed in a status reply, and where no date can be
+/// read.
 ///
 /// A body has at most 1,024 bytes, and `out` has room for the longest reply to it: 2,038 bytes. So every turn
 /// gets its reply.
 ///
-/// # Errors
-/// The fault that the office gives, for its cause, at a message that asks something of it: `Memory`,
-/// `Estranged` or `Unwritten`. There is no turn, nothing is appended, and the session is logged in as before.
+/// # Errors The office's fault at a message that asks something of it: `Memory`, `Estranged` or `Unwritten`.
+/// Then there is no turn, nothing is appended, and the login is as before.
 pub fn respond<A: Allocator + Copy, O: Office<A>>(
     office: &mut O,
     extensions: Option<&Extensions<A>>,

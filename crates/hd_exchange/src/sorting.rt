@@ -25,7 +25,7 @@ use hd_rules::{
 };
 use std::alloc::Allocator;
 
-/// The reply, with sorter fields, to a message whose turn asked this and was told that.
+/// The reply, with sorter fields, to a message whose turn asked this and got this answer.
 pub(crate) fn sorted_reply<'a, A: Allocator + Copy>(
     catalogue: &'a Catalogue<A>,
     extensions: Option<&'a Extensions<A>>,

@@ -1,12 +1,11 @@
--- What wrong passwords leave untold, and what sorter fields add.
+-- What sorter fields add.
 use Rattle.std.proofs.Common.{◌≡◌, ℕ, List, [], ◌∷◌, ◌++◌, Option, None, refl, sym, ap, ◌∙◌, append_assoc}
 use Rattle.std.proofs.Common.{append-nil, codes}
 use Rattle.std.specs.Borrow.{Bor}
 use Rattle.std.specs.List.{concat}
 use Rattle.hd_message.specs.CheckinReplies.{checkin_layout}
 use Rattle.hd_message.specs.ItemReplies.{item_text}
-use Rattle.hd_message.specs.PatronReplies.{AreMistaken, information_layout, information_text, known_layout}
-use Rattle.hd_message.specs.PatronReplies.{list_told, with_list}
+use Rattle.hd_message.specs.PatronReplies.{information_layout, information_text, with_list}
 use Rattle.hd_message.specs.SorterReplies.{IsSameReturn, recipient_layout, sorter_item_text, sorter_layout}
 use Rattle.hd_message.specs.SorterReplies.{transit_alert, transit_fields}
 use Rattle.hd_message.specs.Fields.{field_text}
@@ -16,7 +15,6 @@ use Rattle.hd_message.specs.declared.patron_reply.KnownPatron.{KnownPatron}
 use Rattle.hd_message.specs.declared.patron_reply.PatronInformationOutcome.{PatronInformationOutcome}
 use Rattle.hd_message.specs.declared.patron_reply.PatronInformationOutcome.TheVariants as OfInformation
 use Rattle.hd_message.specs.declared.patron_reply.PatronInformationReply.{PatronInformationReply}
-use Rattle.hd_message.specs.declared.patron_reply.PatronStatusReply.{PatronStatusReply}
 use Rattle.hd_message.specs.declared.reply.CheckinOutcome.TheVariants as OfCheckin
 use Rattle.hd_message.specs.declared.reply.CheckinReply.{CheckinReply}
 use Rattle.hd_message.specs.declared.reply.Whereabouts.TheVariants as OfReturn
@@ -25,26 +23,14 @@ use Rattle.hd_message.specs.declared.sorter_reply.Recipient.{Recipient}
 use Rattle.hd_message.specs.declared.sorter_reply.SorterItemReply.{SorterItemReply}
 use Rattle.hd_message.specs.declared.sorter_reply.SorterReply.{SorterReply}
 
--- a reply behind which the list stands that is told
+-- a reply with its list after its parts
 pub known_is : (reply : PatronInformationReply) (outcome : PatronInformationOutcome) (patron : KnownPatron)
-    (counts : Counts) (limit : ℕ) (list : Option ItemList) (front : List ℕ) (told : Option ItemList)
+    (counts : Counts) (limit : ℕ) (list : Option ItemList) (front : List ℕ)
     → outcome ≡ OfInformation.Known patron counts limit list
-    → front ≡ concat (information_layout reply patron counts limit) → told ≡ list_told patron.password list
-    → with_list front told ≡ information_text reply outcome
-known_is reply outcome patron counts limit list front told is begins tells =
-    ap (λ x. with_list x told) begins
-    ∙ ap (λ y. with_list (concat (information_layout reply patron counts limit)) y) tells
-    ∙ sym (ap (λ o. information_text reply o) is)
-
-pub untold_status : (reply : PatronStatusReply) (a b : KnownPatron) (notice : List ℕ) → AreMistaken a b →
-    concat (known_layout reply a notice) ≡ concat (known_layout reply b notice)
-untold_status reply a b notice w = rw (w.flags, w.first, w.second) refl
-
-pub untold_information : (reply : PatronInformationReply) (a b : KnownPatron)
-    (counts : Counts) (limit : ℕ) (list other : Option ItemList) → AreMistaken a b
-    → information_text reply (OfInformation.Known a counts limit list)
-    ≡ information_text reply (OfInformation.Known b counts limit other)
-untold_information reply a b counts limit list other w = rw (w.flags, w.first, w.second) refl
+    → front ≡ concat (information_layout reply patron counts limit)
+    → with_list front list ≡ information_text reply outcome
+known_is reply outcome patron counts limit list front is begins =
+    ap (λ x. with_list x list) begins ∙ sym (ap (λ o. information_text reply o) is)
 
 pub same_on_shelf : (reply : SorterReply) (plain : CheckinReply) → IsSameReturn reply plain →
     concat (sorter_layout reply OfSorting.OpenShelf)

@@ -10,8 +10,8 @@ use Rattle.hd_message.specs.CheckinReplies.{checkin_layout, is_alert, whereabout
 use Rattle.hd_message.specs.Fields.{expiry_field, field_text, optional_text, refusal_field, yes_no}
 use Rattle.hd_message.specs.PatronReplies.{card_layout, fitting, flag, information_layout, information_text}
 use Rattle.hd_message.specs.PatronReplies.{item_field, items_text}
-use Rattle.hd_message.specs.PatronReplies.{known_layout, list_given, list_text, list_told}
-use Rattle.hd_message.specs.PatronReplies.{name_told, password_field, patron_status_layout, patron_text}
+use Rattle.hd_message.specs.PatronReplies.{known_layout, list_given, list_text}
+use Rattle.hd_message.specs.PatronReplies.{password_field, patron_status_layout, patron_text}
 use Rattle.hd_message.specs.PatronReplies.{payment_layout, renew_all_layout}
 use Rattle.hd_message.specs.PatronReplies.{session_end_layout, with_list}
 use Rattle.hd_message.specs.SorterReplies.{alert_field, bin_field, branch_to_field, needs_care, notice_field}
@@ -315,21 +315,15 @@ check_length Unasked = omega arith
 check_length Right = omega arith
 check_length Wrong = omega arith
 
-told_length : (check : PasswordValidity) (name : List ℕ) → length (name_told check name) ≤ length name
-told_length Unasked name = omega arith
-told_length Right name = omega arith
-told_length Wrong name = omega arith
-
 known_length : (reply : PatronStatusReply) (patron : KnownPatron) (notice : List ℕ)
     → IsLanguage reply.language.now → IsPrintedDate reply.date.now → IsName reply.institution.now
-    → IsName patron.name.now → length reply.patron.now ≤ 1024 → length notice ≤ 100
+    → length patron.name.now ≤ 60 → length reply.patron.now ≤ 1024 → length notice ≤ 100
     → length (concat (known_layout reply patron notice)) ≤ 2038
 known_length reply patron notice language date name own values short =
     simp length-append (omega (
       arith,
       flag_length patron.flags.charge_denied,
       flag_length patron.flags.too_many_charged,
-      told_length patron.password patron.name.now,
       check_length patron.password,
       language,
       date,
@@ -399,7 +393,6 @@ information_length reply (OfInformation.Known patron counts limit list) language
       arith,
       flag_length patron.flags.charge_denied,
       flag_length patron.flags.too_many_charged,
-      told_length patron.password patron.name.now,
       check_length patron.password,
       language,
       date,
@@ -407,8 +400,7 @@ information_length reply (OfInformation.Known patron counts limit list) language
       own,
       values,
     )) in
-    with_list_length (concat (information_layout reply patron counts limit))
-    (list_told patron.password list) front
+    with_list_length (concat (information_layout reply patron counts limit)) list front
 information_length reply (OfInformation.Refused refusal) language date name short values =
     simp length-append (omega (arith, refusal_length refusal short, language, date, name, values))
 

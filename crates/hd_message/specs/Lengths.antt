@@ -112,13 +112,13 @@ HasNumbers (Some refusal) = HasNumber refusal
 
 -- of a question whether a patron may borrow
 abbrev pub IsStatusShort : PatronStatusOutcome → Type 0
-IsStatusShort (OfStatus.Known patron) = IsName patron.name.now
-IsStatusShort (OfStatus.NotBlocked patron) = IsName patron.name.now
+IsStatusShort (OfStatus.Known patron) = length patron.name.now ≤ 60
+IsStatusShort (OfStatus.NotBlocked patron) = length patron.name.now ≤ 60
 IsStatusShort (OfStatus.Refused refusal) = HasNumber refusal
 
 -- of a question what a patron has: its list isn't looked at
 abbrev pub IsInformationShort : PatronInformationOutcome → Type 0
-IsInformationShort (OfInformation.Known patron counts limit list) = IsName patron.name.now
+IsInformationShort (OfInformation.Known patron counts limit list) = length patron.name.now ≤ 60
 IsInformationShort (OfInformation.Refused refusal) = HasNumber refusal
 
 -- of a wish to renew all loans

@@ -45,12 +45,6 @@ password_field Unasked = []
 password_field Right = field_text (codes "CQ") (codes "Y")
 password_field Wrong = field_text (codes "CQ") (codes "N")
 
--- a patron's name, untold where the password is wrong
-abbrev pub name_told : PasswordValidity → List ℕ → List ℕ
-name_told Unasked name = name
-name_told Right name = name
-name_told Wrong name = []
-
 -- 24: the patron is known, and a notice at the end
 abbrev pub known_layout : PatronStatusReply → KnownPatron → List ℕ → List (List ℕ)
 known_layout reply patron notice =
@@ -60,7 +54,7 @@ known_layout reply patron notice =
     ∷ reply.date.now
     ∷ field_text (codes "AO") reply.institution.now
     ∷ field_text (codes "AA") reply.patron.now
-    ∷ field_text (codes "AE") (name_told patron.password patron.name.now)
+    ∷ field_text (codes "AE") patron.name.now
     ∷ field_text (codes "BL") (codes "Y")
     ∷ password_field patron.password
     ∷ notice
@@ -97,7 +91,7 @@ information_layout reply patron counts limit =
     ∷ count_text counts.unavailable_holds
     ∷ field_text (codes "AO") reply.institution.now
     ∷ field_text (codes "AA") reply.patron.now
-    ∷ field_text (codes "AE") (name_told patron.password patron.name.now)
+    ∷ field_text (codes "AE") patron.name.now
     ∷ limit_field limit
     ∷ field_text (codes "BL") (codes "Y")
     ∷ password_field patron.password
@@ -148,12 +142,6 @@ list_text room Lists.ChargedItems names = items_text (codes "AU") room names
 list_text room Lists.UnavailableHolds names = items_text (codes "CD") room names
 list_text room Lists.Empty names = []
 
--- the list that is told: none where the password is wrong
-abbrev pub list_told : PasswordValidity → Option ItemList → Option ItemList
-list_told Unasked list = list
-list_told Right list = list
-list_told Wrong list = None
-
 -- the list, if there is one, as far as there is room for its items
 abbrev pub list_given : ℕ → Option ItemList → List ℕ
 list_given room None = []
@@ -166,7 +154,7 @@ with_list front list = front ++ list_given (2038 - length front) list
 -- 64: accepted, refused
 abbrev pub information_text : PatronInformationReply → PatronInformationOutcome → List ℕ
 information_text reply (OfInformation.Known patron counts limit list) =
-    with_list (concat (information_layout reply patron counts limit)) (list_told patron.password list)
+    with_list (concat (information_layout reply patron counts limit)) list
 information_text reply (OfInformation.Refused refusal) = concat (information_refused reply refusal)
 
 -- a reply to a message that names a card, behind its front, and a notice at the end
@@ -212,9 +200,3 @@ patron_text (Information reply) = information_text reply reply.outcome
 patron_text (SessionEnd reply) = concat (session_end_layout reply reply.refusal)
 patron_text (FeePaid reply) = concat (payment_layout reply reply.refusal)
 patron_text (RenewAll reply) = concat (renew_all_layout reply reply.outcome)
-
--- Two patrons of the same flags, with whose passwords a message was wrong.
-pub record AreMistaken (a b : KnownPatron) : Type 0 where
-  pub flags : a.flags ≡ b.flags
-  pub first : a.password ≡ Wrong
-  pub second : b.password ≡ Wrong

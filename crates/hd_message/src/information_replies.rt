@@ -5,14 +5,13 @@ ghost use Rattle.std.specs.List.{concat, flat_map};
 ghost use Rattle.hd_message.specs.Fields.{field_text};
 ghost use Rattle.hd_message.specs.Part.{part_text};
 ghost use Rattle.hd_message.specs.PatronReplies.{information_layout, information_refused, information_text};
-ghost use Rattle.hd_message.specs.PatronReplies.{items_text, list_given, list_text, list_told, with_list};
+ghost use Rattle.hd_message.specs.PatronReplies.{items_text, list_given, list_text, with_list};
 
 use crate::appending::{append, put_field};
 use crate::part::Part;
-use crate::patron_replies::{REFUSED_FLAGS, flags_text, name_told, password_part};
+use crate::patron_replies::{REFUSED_FLAGS, flags_text, password_part};
 use crate::patron_reply::{
-    Counts, ItemList, KnownPatron, PasswordValidity, PatronInformationOutcome,
-    PatronInformationReply,
+    Counts, ItemList, KnownPatron, PatronInformationOutcome, PatronInformationReply,
 };
 use hd_rules::{Refusal, Summary};
 use std::alloc::{AllocError, Allocator};
@@ -40,7 +39,7 @@ pub(crate) fn write_information<A: Allocator>(
             list,
         } => {
             let front = information(reply, &patron, &counts, limit);
-            append_with_list(out, &front, list_told(patron.password, list))
+            append_with_list(out, &front, list)
         }
         PatronInformationOutcome::Refused { refusal } => append(out, &refused(reply, refusal)),
     }
@@ -68,7 +67,7 @@ fn information<'a>(
         Part::Count(counts.unavailable_holds),
         Part::Field(*b"AO", reply.institution),
         Part::Field(*b"AA", reply.patron),
-        Part::Field(*b"AE", name_told(patron)),
+        Part::Field(*b"AE", patron.name),
         Part::Limit(limit),
         Part::Field(*b"BL", b"Y"),
         password_part(patron.password),
@@ -91,16 +90,6 @@ fn refused<'a>(reply: &PatronInformationReply<'a>, refusal: Refusal) -> [Part<'a
         Part::Field(*b"BL", b"N"),
         Part::Refused(refusal),
     ]
-}
-
-/// The list that is printed: none where the password is wrong.
-fn list_told(check: PasswordValidity, list: Option<ItemList<'_>>) -> Option<ItemList<'_>>
-    ensures { result ≡ list_told check list.entry }
-{
-    match check {
-        PasswordValidity::Unasked | PasswordValidity::Right => list,
-        PasswordValidity::Wrong => None,
-    }
 }
 
 /// Appends parts, and as many items of a list as the reply has room for, all of it or nothing.

@@ -41,7 +41,6 @@ pub use crate::patron_kind::PatronKind;
 pub use crate::patron_laws::{
     lists_are_cut_at_an_item, named_patrons_fit_their_body, patron_requests_are_read_back,
     patron_requests_are_readable, sorter_fields_are_added, standard_bodies_are_read_as_before,
-    wrong_passwords_tell_nothing,
 };
 pub use crate::patron_reading::{Reading, read_with};
 pub use crate::patron_reply::{

@@ -6,19 +6,13 @@ ghost use Rattle.hd_message.specs.CheckinReplies.{checkin_layout};
 ghost use Rattle.hd_message.specs.ItemReplies.{item_text};
 ghost use Rattle.hd_message.specs.PatronReading.{HasNoPatronCode, IsPatronMessage, IsReading};
 ghost use Rattle.hd_message.specs.PatronReading.{IsStandardReading, IsUnreadablePatron};
-ghost use Rattle.hd_message.specs.PatronReplies.{AreMistaken, IsCutAtItem, information_text, known_layout};
+ghost use Rattle.hd_message.specs.PatronReplies.{IsCutAtItem};
 ghost use Rattle.hd_message.specs.Repeated.{patron_bytes, unreadable_patron_bytes};
 ghost use Rattle.hd_message.specs.SorterReplies.{IsSameReturn, sorter_item_text, sorter_layout};
 ghost use Rattle.hd_message.specs.SorterReplies.{transit_fields};
 ghost use Rattle.hd_message.specs.WrittenPatrons.{IsPatronReadBack, IsPatronWritable, PatronValues};
 ghost use Rattle.hd_message.specs.declared.patron_kind.PatronKind.{PatronKind};
 ghost use Rattle.hd_message.specs.declared.patron_reading.Reading.{Reading};
-ghost use Rattle.hd_message.specs.declared.patron_reply.Counts.{Counts};
-ghost use Rattle.hd_message.specs.declared.patron_reply.ItemList.{ItemList};
-ghost use Rattle.hd_message.specs.declared.patron_reply.KnownPatron.{KnownPatron};
-ghost use Rattle.hd_message.specs.declared.patron_reply.PatronInformationOutcome.TheVariants as OfInformation;
-ghost use Rattle.hd_message.specs.declared.patron_reply.PatronInformationReply.{PatronInformationReply};
-ghost use Rattle.hd_message.specs.declared.patron_reply.PatronStatusReply.{PatronStatusReply};
 ghost use Rattle.hd_message.specs.declared.patron_request.PatronRequest.{PatronRequest};
 ghost use Rattle.hd_message.specs.declared.patron_request.UnreadablePatron.{UnreadablePatron};
 ghost use Rattle.hd_message.specs.declared.profile.Profile.{Profile};
@@ -64,16 +58,6 @@ pub fn patron_requests_are_read_back()
 /// A list is cut at a whole item, and as late as the room allows.
 pub fn lists_are_cut_at_an_item()
     ensures { (code : List ℕ) (room : ℕ) (names : List (Bor (List ℕ))) → IsCutAtItem code room names }
-{}
-
-/// With a wrong password the reply shows neither the name nor the list of the patron.
-pub fn wrong_passwords_tell_nothing()
-    ensures status { (reply : PatronStatusReply) (a b : KnownPatron) (notice : List ℕ) → AreMistaken a b →
-        concat (known_layout reply a notice) ≡ concat (known_layout reply b notice) }
-    ensures information { (reply : PatronInformationReply) (a b : KnownPatron) (counts : Counts) (limit : ℕ)
-        (list other : Option ItemList) → AreMistaken a b →
-        information_text reply (OfInformation.Known a counts limit list)
-        ≡ information_text reply (OfInformation.Known b counts limit other) }
 {}
 
 /// With sorter fields the reply to a return is the same as without them where the copy is on its open shelf;

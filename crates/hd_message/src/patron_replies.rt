@@ -2,7 +2,7 @@
 ghost use Rattle.std.specs.Prelude.{◌≡◌, ◌+◌, ◌<◌, ◌≤◌, ◌++◌, OnOk, OnErr, length, vec_len, vec_capacity};
 ghost use Rattle.std.specs.List.{concat, flat_map};
 ghost use Rattle.hd_message.specs.Part.{part_text};
-ghost use Rattle.hd_message.specs.PatronReplies.{card_layout, flags_text, known_layout, name_told};
+ghost use Rattle.hd_message.specs.PatronReplies.{card_layout, flags_text, known_layout};
 ghost use Rattle.hd_message.specs.PatronReplies.{not_renewed_layout, password_field, patron_status_layout};
 ghost use Rattle.hd_message.specs.PatronReplies.{patron_text, payment_layout, renew_all_layout};
 ghost use Rattle.hd_message.specs.PatronReplies.{session_end_layout};
@@ -80,7 +80,7 @@ fn known<'a>(
         Part::Text(reply.date),
         Part::Field(*b"AO", reply.institution),
         Part::Field(*b"AA", reply.patron),
-        Part::Field(*b"AE", name_told(patron)),
+        Part::Field(*b"AE", patron.name),
         Part::Field(*b"BL", b"Y"),
         password_part(patron.password),
         notice,
@@ -185,15 +185,5 @@ pub(crate) fn password_part<'a>(check: PasswordValidity) -> Part<'a>
         PasswordValidity::Unasked => Part::Text(b""),
         PasswordValidity::Right => Part::Field(*b"CQ", b"Y"),
         PasswordValidity::Wrong => Part::Field(*b"CQ", b"N"),
-    }
-}
-
-/// The patron's name, empty where the password is wrong.
-pub(crate) fn name_told<'a>(patron: &KnownPatron<'a>) -> &'a [u8]
-    ensures { result.now ≡ name_told patron.now.password patron.now.name.now }
-{
-    match patron.password {
-        PasswordValidity::Unasked | PasswordValidity::Right => patron.name,
-        PasswordValidity::Wrong => b"",
     }
 }

@@ -20,7 +20,7 @@ pub enum PasswordValidity {
     Unasked,
     /// It is the patron's: `CQY`.
     Right,
-    /// It isn't: `CQN`. Then the patron's name and lists aren't printed.
+    /// It isn't: `CQN`.
     Wrong,
 }
 
@@ -29,7 +29,7 @@ pub enum PasswordValidity {
 pub struct KnownPatron<'a> {
     /// What they may do.
     pub flags: PatronFlags,
-    /// AE, their name; it is printed unless the password is wrong.
+    /// AE, the name that is reported; empty where none is.
     pub name: &'a [u8],
     /// CQ.
     pub password: PasswordValidity,
@@ -98,7 +98,7 @@ pub enum PatronInformationOutcome<'a> {
         counts: Counts,
         /// CB, how many loans they may have; 9999 where it is more.
         limit: u32,
-        /// The list that is wanted, if one is; it is printed unless the password is wrong.
+        /// The list that is reported, if one is.
         list: Option<ItemList<'a>>,
     },
     /// The message is refused.

@@ -5,13 +5,13 @@ use Rattle.hd_message.proofs.AddedLemmas.{known_is}
 use Rattle.hd_message.specs.Part.{part_text}
 use Rattle.hd_message.proofs.information_replies.write_information.Goals as goal
 
--- the parts before the list, and the list that is told, are the text
+-- the parts before the list, and the list, are the text
 pub returns-in-Known-clause-ok : goal.returns-in-Known-clause-ok
 returns-in-Known-clause-ok g c =
     let k = c.in-Known in
     let is = known_is c.args.reply.now c.args.reply.now.outcome k.patron k.counts k.limit k.list
     (flat_map part_text c.information-front.result)
-    c.list_told.result k.is c.information-front.ensures c.list_told.ensures in
+    k.is c.information-front.ensures in
     subst (λ x. OnOk c.append_with_list.result (c.append_with_list.new.out.items ≡ c.args.out.now.items ++ x))
     is c.append_with_list.ensures.ok
 
@@ -20,7 +20,7 @@ returns-in-Known-clause-full g c =
     let k = c.in-Known in
     let is = known_is c.args.reply.now c.args.reply.now.outcome k.patron k.counts k.limit k.list
     (flat_map part_text c.information-front.result)
-    c.list_told.result k.is c.information-front.ensures c.list_told.ensures in
+    k.is c.information-front.ensures in
     subst (λ x. OnErr c.append_with_list.result
     (vec_capacity c.args.out.now < vec_len c.args.out.now + length x)) is
     c.append_with_list.ensures.full
