@@ -2,7 +2,7 @@
 
 use crate::answering::{answer_at, refusal};
 use crate::fault::DoorCommandFault;
-use hd_ask::{Question, status_text};
+use hd_door_client::{Question, status_text};
 use hd_command_line::{Status, Stop};
 use std::io::Write;
 

@@ -7,7 +7,7 @@ use hd_folder::{
     see_nothing, write_part, write_whole,
 };
 use hd_library_journal::{LibraryJournalFault, begin_anew, begin_at};
-use hd_setup::{Library, read_file};
+use hd_library::{Library, read_file};
 use hd_turn_store::Fault as StoreFault;
 use std::fs::{self, File, TryLockError};
 

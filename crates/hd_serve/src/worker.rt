@@ -24,7 +24,7 @@ use hd_exchange::profile_of;
 use hd_hall::{Counter, Hall, House, Keeper, Seat, Turns};
 use hd_journal::TurnFault;
 use hd_log::{ConnectionEvent, End, Event};
-use hd_looks::CountsReader;
+use hd_list_rows::CountsReader;
 use hd_session::{Ended, Session};
 use std::alloc::Global;
 use std::io;

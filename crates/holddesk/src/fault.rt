@@ -9,7 +9,7 @@ use hd_library_journal::LibraryJournalFault;
 use hd_replay::ReplayFault;
 use hd_serve::ServeFault;
 use hd_server::ServerFault;
-use hd_setup::SetupFault;
+use hd_library::SetupFault;
 use std::alloc::{AllocError, AllocFailed};
 use std::{fmt, io};
 use thiserror::Error;
