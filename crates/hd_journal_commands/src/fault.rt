@@ -2,6 +2,7 @@
 
 use hd_folder::FolderFault;
 use hd_journal::WriteFault;
+use hd_library::SetupFault;
 use hd_library_journal::LibraryJournalFault;
 use hd_library::SetupFault;
 use hd_terminal_output::ListFault;

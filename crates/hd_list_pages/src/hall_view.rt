@@ -13,6 +13,7 @@ use crate::standing::state_of;
 use crate::state_reader::StateReader;
 use hd_desk::Meter;
 use hd_hall::{Hall, House};
+use hd_http::{Health, Inquiry, Outcome, State, View, ViewFault};
 use hd_journal::{Journal, Keeper, Look, OwnedAsk, Turns};
 use hd_list_rows::PageReader;
 use hd_http::{Health, Inquiry, Outcome, State, View, ViewFault};

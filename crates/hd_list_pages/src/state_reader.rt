@@ -5,6 +5,7 @@ ghost use Rattle.hd_list_pages.specs.Tallies.{no_turns};
 
 use crate::standing::state_of;
 use crate::tallied::TurnTallies;
+use hd_http::{Health, State};
 use hd_journal::{Journal, Look};
 use hd_list_rows::CountsReader;
 use hd_http::{Health, State};

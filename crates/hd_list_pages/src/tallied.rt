@@ -5,6 +5,7 @@ ghost use Rattle.hd_list_pages.specs.Counting.{GoesOn, IsOf, last_in, noted, tal
 ghost use Rattle.hd_list_pages.specs.Tallies.{no_turns, repeats};
 
 use crate::tally::{ending_in, is_query, kind_of, no_turns, repeats, tallied};
+use hd_http::Turns;
 use hd_journal::{Journal, TurnRef};
 use hd_http::Turns;
 use hd_rules::TerminalNo;

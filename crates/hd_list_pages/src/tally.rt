@@ -6,6 +6,7 @@ ghost use Rattle.hd_journal.specs.Shown.{turn_shown};
 ghost use Rattle.hd_list_pages.specs.Tallies.{carry_same, ending_in, ending_of, kind_of, kind_of_action, no_tally};
 ghost use Rattle.hd_list_pages.specs.Tallies.{no_turns, one_more, repeats, tallied, with_one};
 
+use hd_http::{Tally, Turns};
 use hd_journal::TurnRef;
 use hd_http::{Tally, Turns};
 use hd_rules::{Action, Asked, TurnReply, same_asked, tests_are_exact};

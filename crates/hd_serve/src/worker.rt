@@ -23,6 +23,7 @@ use hd_connection::Fallible;
 use hd_exchange::profile_of;
 use hd_hall::{Counter, Hall, House, Keeper, Seat, Turns};
 use hd_journal::TurnFault;
+use hd_list_rows::CountsReader;
 use hd_log::{ConnectionEvent, End, Event};
 use hd_list_rows::CountsReader;
 use hd_session::{Ended, Session};

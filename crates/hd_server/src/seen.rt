@@ -10,6 +10,7 @@ use crate::server_view::ServerView;
 use hd_door::{Door, OnStop, Service};
 use hd_durable::LastCommit;
 use hd_hall::{CataloguedKeeper, Closed, Hall, House, Keeper};
+use hd_http::{Page, View};
 use hd_journal::{Journal, Look};
 use hd_http::{Page, View};
 use hd_serve::{Gate, Observer, Options, ServeFault, Served, Standing, serve_terminals};

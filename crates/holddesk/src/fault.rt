@@ -5,6 +5,7 @@ use hd_door_commands::DoorCommandFault;
 use hd_folder::FolderFault;
 use hd_journal::WriteFault;
 use hd_journal_commands::JournalCommandFault;
+use hd_library::SetupFault;
 use hd_library_journal::LibraryJournalFault;
 use hd_replay::ReplayFault;
 use hd_serve::ServeFault;

@@ -3,6 +3,7 @@
 use crate::fault::Fault;
 use hd_command_line::Replay;
 use hd_connection::Fallible;
+use hd_library::{Library, extensions_of, is_extended, read_file};
 use hd_replay::{ReplayFault, replay_over};
 use hd_server::replay;
 use hd_library::{Library, extensions_of, is_extended, read_file};

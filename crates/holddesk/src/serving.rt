@@ -11,6 +11,7 @@ use hd_door::Door;
 use hd_durable::LastCommit;
 use hd_hall::CataloguedKeeper;
 use hd_journal::Journal;
+use hd_library::{Library, extensions_of, options_of};
 use hd_log::Event;
 use hd_page::page;
 use hd_serve::{Observer, ServeFault, serve_observed};

@@ -11,6 +11,7 @@ use hd_durable::{DurableJournal, DurableKeeper, LastCommit, TurnTable};
 use hd_folder::{FolderFault, Paths, log_path, try_page};
 use hd_hall::CataloguedKeeper;
 use hd_journal_file::JournalFile;
+use hd_library::{Library, SetupFault, extensions_of};
 use hd_library_journal::{Keeping, LibraryJournalFault, end_kept, open_over};
 use hd_log::Event;
 use hd_serve::Observer;

@@ -4,6 +4,7 @@ use crate::fault::Fault;
 use crate::observing::Teller;
 use hd_catalogue::OffsetMinutes;
 use hd_command_line::Serve;
+use hd_library::offset_now;
 use hd_log::Event;
 use hd_serve::Observer;
 use hd_library::offset_now;
