@@ -2,7 +2,6 @@
 
 use crate::answering::{answer_at, refusal};
 use crate::fault::DoorCommandFault;
-use hd_door_client::{Question, status_text};
 use hd_command_line::{Status, Stop};
 use hd_door_client::{Question, status_text};
 use std::io::Write;

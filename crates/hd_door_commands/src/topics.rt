@@ -2,7 +2,6 @@
 
 use crate::answering::refusal;
 use crate::fault::DoorCommandFault;
-use hd_door_client::Answer;
 use hd_command_line::SeenTopic;
 use hd_door_client::Answer;
 use hd_terminal_output::{ListFault, not_there};

@@ -8,7 +8,6 @@ use hd_folder::{
 };
 use hd_library::{Library, read_file};
 use hd_library_journal::{LibraryJournalFault, begin_anew, begin_at};
-use hd_library::{Library, read_file};
 use hd_turn_store::Fault as StoreFault;
 use std::fs::{self, File, TryLockError};
 

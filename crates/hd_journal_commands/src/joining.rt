@@ -16,7 +16,6 @@ use hd_folder::{Paths, write_whole};
 use hd_joining::{grown_text, joining};
 use hd_library::{Library, joined_file, joined_lines, read_file};
 use hd_library_journal::{Keeping, end_journal, open_over};
-use hd_library::{Library, joined_file, joined_lines, read_file};
 use hd_turn_store::Unknown;
 use std::io::Write;
 

@@ -5,7 +5,6 @@ use hd_catalogue::Catalogue;
 use hd_desk::Desk;
 use hd_library::read_list;
 use hd_rules::{CopyNo, CopyState, PatronNo};
-use hd_library::read_list;
 use hd_terminal_output::{copy_name, patron_name};
 use std::alloc::AllocError;
 use std::io::Write;

@@ -16,7 +16,6 @@ use hd_hall::{Hall, House};
 use hd_http::{Health, Inquiry, Outcome, State, View, ViewFault};
 use hd_journal::{Journal, Keeper, Look, OwnedAsk, Turns};
 use hd_list_rows::PageReader;
-use hd_http::{Health, Inquiry, Outcome, State, View, ViewFault};
 use std::alloc::{AllocError, Allocator, Global};
 use std::sync::{Mutex, Wait};
 

@@ -5,8 +5,8 @@ ghost use Rattle.hd_list_pages.specs.Writing.{IsPageWritten};
 
 use crate::pages::write_page;
 use hd_catalogue::Catalogue;
-use hd_list_rows::{Page, Row, Topic};
 use hd_http::{Outcome, ViewFault};
+use hd_list_rows::{Page, Row, Topic};
 use std::alloc::Allocator;
 
 /// Writes the page of what was looked up, but of a command that isn't there.

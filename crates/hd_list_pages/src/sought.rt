@@ -10,8 +10,8 @@ ghost use Rattle.hd_list_pages.specs.Seeing.{IsSought, IsSoughtOf, capped, dated
 
 use hd_catalogue::Catalogue;
 use hd_day_text::day_said;
-use hd_list_rows::{CopyList, Topic};
 use hd_http::{Dated, Inquiry, Named};
+use hd_list_rows::{CopyList, Topic};
 use hd_rules::Day;
 use std::alloc::Allocator;
 

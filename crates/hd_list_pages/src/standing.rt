@@ -2,8 +2,8 @@
 ghost use Rattle.std.specs.Prelude.{◌≡◌};
 ghost use Rattle.hd_list_pages.specs.Standing.{state_of, told_of};
 
-use hd_list_rows::Counts;
 use hd_http::{Health, JournalCounts, State, Turns};
+use hd_list_rows::Counts;
 
 /// The state of a library whose journal is so, with what is counted of it and of its turns.
 pub(crate) fn state_of(health: Health, counts: Option<Counts>, turns: Option<Turns>) -> State

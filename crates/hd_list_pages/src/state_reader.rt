@@ -8,7 +8,6 @@ use crate::tallied::TurnTallies;
 use hd_http::{Health, State};
 use hd_journal::{Journal, Look};
 use hd_list_rows::CountsReader;
-use hd_http::{Health, State};
 use std::alloc::{AllocError, Allocator, Global};
 
 /// What takes down the counts of a journal, and goes on counting its turns by kind and outcome.

@@ -7,7 +7,6 @@ ghost use Rattle.hd_list_pages.specs.Tallies.{no_turns, repeats};
 use crate::tally::{ending_in, is_query, kind_of, no_turns, repeats, tallied};
 use hd_http::Turns;
 use hd_journal::{Journal, TurnRef};
-use hd_http::Turns;
 use hd_rules::TerminalNo;
 use std::alloc::{AllocError, Allocator, Global};
 

@@ -8,7 +8,6 @@ ghost use Rattle.hd_list_pages.specs.Tallies.{no_turns, one_more, repeats, talli
 
 use hd_http::{Tally, Turns};
 use hd_journal::TurnRef;
-use hd_http::{Tally, Turns};
 use hd_rules::{Action, Asked, TurnReply, same_asked, tests_are_exact};
 
 /// What a turn asked, as it is counted.

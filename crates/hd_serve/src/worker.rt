@@ -25,7 +25,6 @@ use hd_hall::{Counter, Hall, House, Keeper, Seat, Turns};
 use hd_journal::TurnFault;
 use hd_list_rows::CountsReader;
 use hd_log::{ConnectionEvent, End, Event};
-use hd_list_rows::CountsReader;
 use hd_session::{Ended, Session};
 use std::alloc::Global;
 use std::io;

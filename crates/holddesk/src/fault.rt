@@ -10,7 +10,6 @@ use hd_library_journal::LibraryJournalFault;
 use hd_replay::ReplayFault;
 use hd_serve::ServeFault;
 use hd_server::ServerFault;
-use hd_library::SetupFault;
 use std::alloc::{AllocError, AllocFailed};
 use std::{fmt, io};
 use thiserror::Error;

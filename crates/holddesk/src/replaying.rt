@@ -6,7 +6,6 @@ use hd_connection::Fallible;
 use hd_library::{Library, extensions_of, is_extended, read_file};
 use hd_replay::{ReplayFault, replay_over};
 use hd_server::replay;
-use hd_library::{Library, extensions_of, is_extended, read_file};
 
 /// Answers the messages of the standard input.
 pub(crate) fn answer(rt: &HostRuntime, order: &Replay<'_>) -> Result<(), Fault> {

@@ -17,7 +17,6 @@ use hd_page::page;
 use hd_serve::{Observer, ServeFault, serve_observed};
 use hd_server::{ServerFault, Sight, Summary, serve_seen, summary_of};
 use hd_session::Extensions;
-use hd_library::{Library, extensions_of, options_of};
 use hd_terminal_output::Counted;
 use std::alloc::{AllocError, Global};
 use std::io;

@@ -16,7 +16,6 @@ use hd_library_journal::{Keeping, LibraryJournalFault, end_kept, open_over};
 use hd_log::Event;
 use hd_serve::Observer;
 use hd_server::{Summary, summary_of};
-use hd_library::{Library, SetupFault, extensions_of};
 use hd_turn_store::{Alter, Connection, FileStore, Start, Unknown, Wary};
 use sqlite_disk::Disk;
 use std::sync::Wait;

@@ -7,7 +7,6 @@ use hd_command_line::Serve;
 use hd_library::offset_now;
 use hd_log::Event;
 use hd_serve::Observer;
-use hd_library::offset_now;
 use std::time::Clock;
 
 /// The offset that the zone of a server has now, where it is to go by one, which is told.
