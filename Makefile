@@ -7,7 +7,7 @@ PREFIX ?= /usr/local
 help:
 	@echo 'make try        answer the stored messages by a program that is built without proofs (two to five minutes)'
 	@echo 'make run        prove what changed and what is above it (an hour or more at first; after any change the program'
-	@echo '                again, some 42 processor minutes), build holddesk, and answer the stored messages'
+	@echo '                again), build holddesk, and answer the stored messages'
 	@echo 'make check      CRATE=NAME, and ONLY=MODULE or ONLY=MODULE::FUNCTION: check a crate over kept libraries (seconds)'
 	@echo 'make quick      check the crates that changed against origin/HEAD, or REV=, try their wrong bodies, and play rows and'
 	@echo '                examples at a program that is built without proofs, and kept (about five minutes)'
@@ -39,13 +39,13 @@ run:
 	@python3 scripts/prove.py
 	@cd crates/holddesk && out/holddesk $(STORED)
 
-# One crate, as make check CRATE=hd_looks ONLY=copies: over the proved libraries below it, which are proved where they
+# One crate, as make check CRATE=hd_list_rows ONLY=copies: over the proved libraries below it, which are proved where they
 # aren't kept. FLAGS has other words for rattle check.
 CRATE =
 ONLY =
 FLAGS =
 check:
-	@test -n "$(CRATE)" || { echo 'make check: say which crate, as CRATE=hd_looks' >&2; exit 1; }
+	@test -n "$(CRATE)" || { echo 'make check: say which crate, as CRATE=hd_list_rows' >&2; exit 1; }
 	@python3 scripts/check.py $(CRATE) $(ONLY:%=--only %) $(FLAGS)
 
 # What changed against a commit, soon; it isn't the gate.

@@ -67,7 +67,15 @@ pub fn attend<
             return Ok(());
         }
         let now = surroundings.now();
-        answer_piece(&piece[..count], &now, &mut announced, state, log, &mut out, to)?;
+        answer_piece(
+            &piece[..count],
+            &now,
+            &mut announced,
+            state,
+            log,
+            &mut out,
+            to,
+        )?;
     }
     unreachable!()
 }

@@ -147,8 +147,11 @@ module _ {A : Type 0} where
       record {
         entries = entries;
         heard = subst (λ (e : Option Ended). AreHeardOf e (lines_in h.begun piece) (heard_in entries))
-            (sym ended) (later, split ∙ (sym (append_assoc before (line ∷ []) later)
-            ∙ ap (λ (ls : List (List ℕ)). ls ++ later) (sym lines)));
+            (sym ended) (
+              later,
+              split ∙ (sym (append_assoc before (line ∷ []) later)
+                  ∙ ap (λ (ls : List (List ℕ)). ls ++ later) (sym lines)),
+            );
         logged = subst (λ (e : Option Ended). Logs a c (entries ++ unended_in e h'.begun.text)) (sym ended)
             (subst (λ (all : List Entry). Logs a c all) (sym (append-nil entries))
             (logs_append a b c earlier.entries (Heard line ∷ []) earlier.logged heard));

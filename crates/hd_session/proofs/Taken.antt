@@ -29,7 +29,7 @@ pub known_by_reply : (k : Contents) (seat : ℕ) (now : Stamp) (s next : State) 
     → (starts_with nat_eq text (codes "941") ≡ is_some made) × (next.login ≡ login_after s.login made)
 known_by_reply k seat now s next line body checked digit did text made answered is =
     let answers : IsAnswerTo k s.extensions now s.login (Session (LoginMade made)) answered.says answered.reply did
-        next.login =
+    next.login =
     subst (λ (m : Message). IsAnswerTo k s.extensions now s.login m answered.says answered.reply did next.login)
     is answered.answer.answers in
     let spelled : text ≡ text_and_trailer checked digit (login_answer_text made) =
