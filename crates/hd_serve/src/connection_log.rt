@@ -95,7 +95,7 @@ impl<'a, O: Observer> ConnectionLog<'a, O> {
         };
         if let Some(login) = login_event(self.catalogue, body, answer) {
             self.speaker.tell(login);
-        } else if let Some(off) = self.days.see(answer.now.day(), body) {
+        } else if let Some(off) = self.days.see(answer.present.day(), body) {
             self.speaker.tell(ConnectionEvent::ClockOff {
                 terminal: name_of(self.catalogue, answer.login),
                 date: off.date,

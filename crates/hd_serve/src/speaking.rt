@@ -32,7 +32,7 @@ impl<'a, O: Observer> Speaker<'a, O> {
 
     /// An event has happened at the connection.
     pub(crate) fn tell(&self, what: ConnectionEvent<'_>)
-        ensures { IsReported (O.was_told self.now.observer.now) self.now.connection what }
+        ensures { IsReported (O.was_told self.now.observer.now) self.now.connection what.entry }
     {
         let connection = self.connection;
         self.observer.tell(&Event::At { connection, what });

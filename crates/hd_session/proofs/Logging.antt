@@ -33,13 +33,13 @@ one_heard now (byte ∷ bytes) next text = refl
 
 -- an answer, from its parts
 answer_is : (answer : Answer) (now : Stamp) (body : Option (List ℕ)) (login : Option Login) (reply : List ℕ)
-    → answer.now ≡ now → answer.body ≡ body → answer.login ≡ login → answer.reply ≡ reply
-    → answer ≡ record { now = now; body = body; login = login; reply = reply }
+    → answer.present ≡ now → answer.body ≡ body → answer.login ≡ login → answer.reply ≡ reply
+    → answer ≡ record { present = now; body = body; login = login; reply = reply }
 answer_is answer now body login reply at is whose said = rw (← at, ← is, ← whose, ← said) refl
 
 -- the entries of a line that isn't empty
 entries_are : (now : Stamp) (line text : List ℕ) (next : State) (answer : Answer) → IsSomeLine line
-    → answer.now ≡ now → answer.body ≡ body_of (read_line line) → answer.login ≡ next.login
+    → answer.present ≡ now → answer.body ≡ body_of (read_line line) → answer.login ≡ next.login
     → answer.reply ≡ text
     → Heard line ∷ Said answer ∷ [] ≡ entries_of now line next text
 entries_are now [] text next answer some at body login reply = absurd (omega (arith, some))
@@ -70,7 +70,7 @@ module _ {A : Type 0} where
   pub line_logged : (o p : Vec ℕ A) (a b c : Option (List Entry)) (now : Stamp) (line : List ℕ) (next : State)
       (text : List ℕ) (answer : Answer) → IsSomeLine line → p.items ≡ o.items ++ text
       → Logs a b (Heard line ∷ []) → Logs b c (Said answer ∷ [])
-      → answer.now ≡ now → answer.body ≡ body_of (read_line line) → answer.login ≡ next.login
+      → answer.present ≡ now → answer.body ≡ body_of (read_line line) → answer.login ≡ next.login
       → answer.reply ≡ drop (length o.items) p.items
       → LogsLine o p a c now line next
   line_logged o p a b c now line next text answer some appended hears says at body login reply =

@@ -14,7 +14,7 @@ use Rattle.hd_session.specs.declared.session_log.Answered.{Answered}
 -- The answer to a line: the present; the line's body, none where its check number is wrong; the session's login
 -- after it; and the reply.
 pub record Answer : Type 0 where
-  pub now : Stamp
+  pub present : Stamp
   pub body : Option (List ℕ)
   pub login : Option Login
   pub reply : List ℕ
@@ -28,7 +28,7 @@ pub data Entry : Type 0 where
 -- the answer, from Rust's values
 abbrev pub answer_shown : Answered → Answer
 answer_shown answer = record {
-  now = answer.now;
+  present = answer.present;
   body = option_copied answer.body;
   login = answer.login;
   reply = answer.reply.now;
@@ -67,7 +67,12 @@ abbrev pub entries_of : Stamp → List ℕ → State → List ℕ → List Entry
 entries_of now [] next text = Heard [] ∷ []
 entries_of now (byte ∷ bytes) next text =
     Heard (byte ∷ bytes)
-    ∷ Said (record { now = now; body = body_of (read_line (byte ∷ bytes)); login = next.login; reply = text })
+    ∷ Said (record {
+      present = now;
+      body = body_of (read_line (byte ∷ bytes));
+      login = next.login;
+      reply = text;
+    })
     ∷ []
 
 -- the lines that a session has heard of those of a piece: all, or up to the one at which it ended

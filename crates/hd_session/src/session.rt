@@ -238,7 +238,7 @@ fn answer_line<A: Allocator + Copy, O: Office<A>, L: SessionLog>(
     let from = out.len();
     let body = state.hear(now, line, office, out)?;
     log.answered(&Answered {
-        now: *now,
+        present: *now,
         body,
         login: state.login(),
         reply: &out[from..],

@@ -9,7 +9,7 @@ use hd_exchange::Login;
 #[derive(Clone, Copy)]
 pub struct Answered<'a> {
     /// The present at which the line's last piece came.
-    pub now: Stamp18,
+    pub present: Stamp18,
     /// The line without its trailer. None where its check number is wrong.
     pub body: Option<&'a [u8]>,
     /// The login of the session after the line.
