@@ -1,7 +1,8 @@
 -- What a session logs, line by line.
 use Rattle.std.proofs.Common.{◌≡◌, ◌==◌, ℕ, suc, Bool, false, Option, None, Some, List, [], ◌∷◌, ◌++◌, Vec, refl, sym, ap, ap₂}
-use Rattle.std.proofs.Common.{◌∙◌, subst, append_assoc, append-nil, length, drop, arith, true, eqb-true}
-use Rattle.std.proofs.Math.Seq.{drop-append_seam}
+use Rattle.std.proofs.Common.{◌-◌, ◌∙◌, take, subst, append_assoc, append-nil, length, drop, arith, true, eqb-true}
+use Rattle.std.proofs.Math.Seq.{drop-append_seam, take-length}
+use Rattle.std.proofs.lemmas.List.{length-drop}
 use Rattle.std.proofs.lemmas.Grind.{flat_map-append}
 use Rattle.hd_date.specs.Stamps.{Stamp}
 use Rattle.hd_guard.specs.Reading.{read_line}
@@ -24,6 +25,18 @@ logs_append (Some x) None c first next p q = absurd p
 logs_append (Some x) (Some y) None first next p q = absurd q
 logs_append (Some x) (Some y) (Some z) first next p q =
     q ∙ (ap (λ (l : List Entry). l ++ next) p ∙ append_assoc x first next)
+
+-- where no text is appended, an out has what it had
+pub nothing_appended : {A : Type 0} (p q : Vec ℕ A) (text : List ℕ) → q.items ≡ p.items ++ text → text ≡ []
+    → q.items ≡ p.items
+nothing_appended p q text is none = is ∙ (ap (λ (t : List ℕ). p.items ++ t) none ∙ append-nil p.items)
+
+-- all that a text has from a place on
+pub tail_is : (all text : List ℕ) (from place : ℕ) → all ≡ text → from ≡ place
+    → take (length all - from) (drop from all) ≡ drop place text
+tail_is all text from place same at =
+    ap (λ (n : ℕ). take n (drop from all)) (sym (length-drop from all)) ∙ (take-length (drop from all)
+    ∙ ap₂ (λ (n : ℕ) (t : List ℕ). drop n t) at same)
 
 -- the line of a line's entries
 one_heard : (now : Stamp) (line : List ℕ) (next : State) (text : List ℕ)

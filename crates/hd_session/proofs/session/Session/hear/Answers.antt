@@ -1,7 +1,7 @@
-use Rattle.std.proofs.Common.{◌∙◌, ◌++◌, ◌∷◌, [], List, ℕ, ap, append-nil, refl}
+use Rattle.std.proofs.Common.{◌∙◌, ◌++◌, ◌∷◌, [], List, ℕ, ap, false, refl, true}
 use Rattle.hd_session.proofs.Feeding.{feeds_until}
 use Rattle.hd_session.proofs.Hearing.{answers_append, answers_none, line_taken}
-use Rattle.hd_session.proofs.Logging.{lines_more, lines_none, piece_until, piece_whole}
+use Rattle.hd_session.proofs.Logging.{lines_more, lines_none, nothing_appended, piece_until, piece_whole}
 use Rattle.hd_session.proofs.session.Session.hear.Goals as goal
 
 pub answer_line-answered-requires-clause-login : goal.answer_line-answered-requires-clause-login
@@ -33,7 +33,7 @@ returns-in-Err-clause-logged g c =
     piece_until _ _ _ _ _ _ _ c.args.self.now _ before.0 _ c.line-line.result.now c.in-Err.why
     (before.1 ∙ ap (λ (ls : List (List ℕ)). before.0 ++ ls)
     (rw (← c.line-line.ensures) at c.in-Some.ensures.line)) refl
-    (none.extends.items ∙ (ap (λ (t : List ℕ). _ ++ t) none.heard.2 ∙ append-nil _))
+    (nothing_appended _ _ none.text none.extends.items none.heard.2)
     before.3 c.in-Err.ensures.given_up
 
 pub loop-used-preserved : goal.loop-used-preserved
@@ -52,3 +52,13 @@ loop-used-preserved g c =
       begun = rw (c.begin.ensures, c.split_at.ensures.back) (kept.begun ∙ c.in-Some.ensures.rest);
       ended = kept.ended;
     }
+
+pub returns-then-is_too_long-clause-logged : goal.returns-then-is_too_long-clause-logged
+returns-then-is_too_long-clause-logged g c =
+    let before = c.loop-used.invariant.heard in
+    piece_whole _ _ _ _ _ _ c.args.self.now _ before.0 true ? ? before.3 ?
+
+pub returns-else-is_too_long-clause-logged : goal.returns-else-is_too_long-clause-logged
+returns-else-is_too_long-clause-logged g c =
+    let before = c.loop-used.invariant.heard in
+    piece_whole _ _ _ _ _ _ c.args.self.now _ before.0 false ? ? before.3 ?
