@@ -33,7 +33,7 @@ returns-in-Err-clause-logged g c =
     piece_until _ _ _ _ _ _ _ c.args.self.now _ before.0 _ c.line-line.result.now c.in-Err.why
     (before.1 ∙ ap (λ (ls : List (List ℕ)). before.0 ++ ls)
     (rw (← c.line-line.ensures) at c.in-Some.ensures.line)) refl
-    (nothing_appended _ _ none.text none.extends.items none.heard.2)
+    (nothing_appended c.loop-used.out c.answer_line-answered.new.out none.text none.extends.items none.heard.2)
     before.3 c.in-Err.ensures.given_up
 
 pub loop-used-preserved : goal.loop-used-preserved
@@ -56,9 +56,14 @@ loop-used-preserved g c =
 pub returns-then-is_too_long-clause-logged : goal.returns-then-is_too_long-clause-logged
 returns-then-is_too_long-clause-logged g c =
     let before = c.loop-used.invariant.heard in
-    piece_whole _ _ _ _ _ _ c.args.self.now _ before.0 true ? ? before.3 ?
+    piece_whole _ _ _ _ _ _ c.args.self.now _ before.0 true
+    (before.1 ∙ ap (λ (ls : List (List ℕ)). before.0 ++ ls) c.in_default.ensures.no_line) refl before.3
+    (rw c.line.ensures at c.unended.ensures)
 
 pub returns-else-is_too_long-clause-logged : goal.returns-else-is_too_long-clause-logged
 returns-else-is_too_long-clause-logged g c =
     let before = c.loop-used.invariant.heard in
-    piece_whole _ _ _ _ _ _ c.args.self.now _ before.0 false ? ? before.3 ?
+    piece_whole _ _ _ _ _ _ c.args.self.now _ before.0 false
+    (before.1 ∙ ap (λ (ls : List (List ℕ)). before.0 ++ ls) c.in_default.ensures.no_line)
+    (c.loop-used.invariant.ended ∙ c.requires.open) before.3
+    (rw c.line.ensures at c.unended.ensures)
