@@ -5,19 +5,17 @@ ghost use Rattle.std.specs.List.{starts_with};
 ghost use Rattle.hd_date.specs.Stamps.{Stamp};
 ghost use Rattle.hd_rules.specs.Journal.{IsLegal, Turn};
 ghost use Rattle.hd_catalogue.specs.Contents.{Contents, facts_of};
-ghost use Rattle.hd_exchange.specs.Answers.{login_after};
+ghost use Rattle.hd_exchange.specs.Answers.{login_answer_text};
 ghost use Rattle.hd_exchange.specs.Deeds.{AreShown, AreTurns, Deed};
 ghost use Rattle.hd_exchange.specs.Extensions.{Extensions};
 ghost use Rattle.hd_exchange.specs.declared.login.Login.{Login};
-ghost use Rattle.hd_exchange.specs.declared.message.Message.TheVariants.{Session as OfSession};
-ghost use Rattle.hd_exchange.specs.declared.message.SessionMessage.TheVariants.{Login as LoginMade};
 ghost use Rattle.hd_field.specs.Streams.{lines_in};
 ghost use Rattle.hd_session.specs.Endings.{EndsWell};
 ghost use Rattle.hd_session.specs.Scripts.{AreFed, Event, HaveNoPatronMessages, ShowsTheSame, Step, deeds_of};
 ghost use Rattle.hd_session.specs.Scripts.{events_of, pieces_of, session_at, turns_of, replies_written};
 ghost use Rattle.hd_session.specs.Sessions.{AreFedTo, Hearing, IsFed, Piece, Room, any_room, new_session};
 ghost use Rattle.hd_session.specs.Sessions.{stream};
-ghost use Rattle.hd_session.specs.States.{IsAnswered, State};
+ghost use Rattle.hd_session.specs.Trailers.{text_and_trailer};
 ghost use Rattle.hd_session.specs.declared.ended.Ended.TheVariants as end;
 ghost use Rattle.hd_journal.specs.declared.fault.TurnFault.{TurnFault};
 ghost use Rattle.hd_journal.specs.declared.fault.TurnFault.TheVariants as fault;
@@ -146,13 +144,9 @@ pub fn scripts_are_determined<A: Allocator, O: Office<A>>()
     only_patron_messages_look();
 }
 
-/// A log knows by the reply to a login whether that is taken: it begins with 941 exactly then. The session is
-/// logged in as its terminal then, and else as before.
+/// A log knows by the reply to a login whether that is taken: exactly then it begins with 941.
 pub fn logins_are_known_by_their_reply()
-    ensures { (k : Contents) (seat : ℕ) (now : Stamp) (s next : State) (line body : List ℕ) (checked : Bool)
-        (digit : Option ℕ) (did : List Deed) (text : List ℕ) (made : Option Login)
-        (answered : IsAnswered k seat now s line body checked digit did next text)
-        → answered.answer.message ≡ OfSession (LoginMade made)
-        → (starts_with nat_eq text (codes "941") ≡ is_some made)
-        × (next.login ≡ login_after s.login made) }
+    ensures { (made : Option Login) (checked : Bool) (digit : Option ℕ)
+        → starts_with nat_eq (text_and_trailer checked digit (login_answer_text made)) (codes "941")
+        ≡ is_some made }
 {}

@@ -1,5 +1,5 @@
-use Rattle.hd_session.proofs.Taken.{known_by_reply}
+use Rattle.hd_session.proofs.Taken.{taken_text}
 use Rattle.hd_session.proofs.laws.logins_are_known_by_their_reply.Goals as goal
 
 pub returns : goal.returns
-returns c = known_by_reply
+returns c = taken_text
