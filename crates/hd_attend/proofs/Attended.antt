@@ -13,12 +13,13 @@ use Rattle.hd_exchange.specs.Deeds.{Deed}
 use Rattle.hd_catalogue.specs.Contents.{Contents}
 use Rattle.hd_connection.specs.Streams.{IsCutShort, Streams, streams}
 use Rattle.hd_journal.specs.declared.fault.TurnFault.{TurnFault}
+use Rattle.hd_session.specs.Logs.{Entry}
 use Rattle.hd_session.specs.Sessions.{Hearing, IsFed, Piece, Room, StaysKnown, stream}
 use Rattle.hd_session.specs.declared.ended.Ended.{Ended}
-use Rattle.hd_attend.specs.Attending.{Attends, End, IsReadPiece, IsWritten, Leaves}
+use Rattle.hd_attend.specs.Attending.{Attends, End, IsReadPiece, IsWritten, Leaves, LogsReplies}
 use Rattle.hd_attend.specs.declared.fault.AttendFault.{AttendFault}
 use Rattle.hd_attend.specs.declared.fault.AttendFault.TheVariants as fault
-use Rattle.hd_attend.proofs.Feeding.{fed_once, fed_then, piece_at, went_on}
+use Rattle.hd_attend.proofs.Feeding.{fed_once, fed_then, piece_at, replies_append, replies_none, went_on}
 
 -- nothing is left of a piece that is fed
 nothing_left : (end : End) → OnOk end (IsAtEnd (Some []))
@@ -66,14 +67,16 @@ module _ (k : Contents) (seat : ℕ) (faults : TurnFault → Type 0) where
     on_after on = went_on k seat faults now room h.ended h bytes did h' text refl fed on
 
     -- one piece is fed, and of its replies that is written which the end says
-    pub attends_piece : (to to' : Option (List ℕ)) (end : End) (out out' sent put : List ℕ) → 0 < length bytes
-        → length bytes ≤ 512
+    pub attends_piece : (log log' : Option (List Entry)) (to to' : Option (List ℕ)) (end : End)
+        (out out' sent put : List ℕ) → 0 < length bytes
+        → length bytes ≤ 512 → LogsReplies log log' text
         → StaysKnown k h.state h'.state → out ≡ [] → out' ≡ out ++ text → sent ≡ out' → IsWritten end sent put
         → Appends to to' put
         → Leaves end h.ended h'.ended
-        → Attends k seat faults (λ present. present ≡ now)
+        → Attends k seat faults (λ present. present ≡ now) log log'
         (streams (Some bytes) (Some []) to to') did h h' end
-    attends_piece to to' end out out' sent put some short known empty is same written wrote leaves =
+    attends_piece log log' to to' end out out' sent put some short logged known empty is same written wrote
+        leaves =
         let all : text ≡ sent = sym (same ∙ (is ∙ ap (λ (o : List ℕ). o ++ text) empty)) in
         let is_read : IsReadPiece (λ present. present ≡ now) (piece_at now bytes) =
         record { some = some; short = short; present = refl } in
@@ -85,6 +88,7 @@ module _ (k : Contents) (seat : ℕ) (faults : TurnFault → Type 0) where
           all = nothing_left end;
           replies = text;
           fed = fed_once k seat faults now room h bytes did h' text fed;
+          logged = logged;
           known = known;
           put = put;
           written = subst (λ (t : List ℕ). IsWritten end t put) (sym all) written;
@@ -94,15 +98,16 @@ module _ (k : Contents) (seat : ℕ) (faults : TurnFault → Type 0) where
 
   module _ (Tells : Stamp → Type 0) where
     -- nothing is read yet
-    pub attends_none : (from to : Option (List ℕ)) (h : Hearing)
-        → Attends k seat faults Tells (streams from from to to) [] h h (Err fault.Read)
-    attends_none from to h = record {
+    pub attends_none : (log : Option (List Entry)) (from to : Option (List ℕ)) (h : Hearing)
+        → Attends k seat faults Tells log log (streams from from to to) [] h h (Err fault.Read)
+    attends_none log from to h = record {
       pieces = [];
       are_read = All-nil _;
       read = Consumes-nil from;
       all = tt;
       replies = [];
       fed = (refl, refl, refl);
+      logged = replies_none log;
       known = λ known. known;
       put = [];
       written = refl;
@@ -110,15 +115,16 @@ module _ (k : Contents) (seat : ℕ) (faults : TurnFault → Type 0) where
       leaves = refl;
     }
 
-    module _ (from from' from'' to to' : Option (List ℕ)) (did : List Deed) (h h' : Hearing)
-        (far : Attends k seat faults Tells (streams from from' to to') did h h' (Err fault.Read)) where
+    module _ (log log' : Option (List Entry)) (from from' from'' to to' : Option (List ℕ)) (did : List Deed)
+        (h h' : Hearing)
+        (far : Attends k seat faults Tells log log' (streams from from' to to') did h h' (Err fault.Read)) where
       -- a piece more is read and fed
-      pub attends_more : (bytes : List ℕ) (Now : Stamp → Type 0) (to'' : Option (List ℕ)) (more : List Deed)
-          (last : Hearing) (end : AttendFault)
+      pub attends_more : (log'' : Option (List Entry)) (bytes : List ℕ) (Now : Stamp → Type 0)
+          (to'' : Option (List ℕ)) (more : List Deed) (last : Hearing) (end : AttendFault)
           → Consumes from' from'' bytes → ((now : Stamp) → Now now → Tells now)
-          → Attends k seat faults Now (streams (Some bytes) (Some []) to' to'') more h' last (Err end)
-          → Attends k seat faults Tells (streams from from'' to to'') (did ++ more) h last (Err end)
-      attends_more bytes Now to'' more last end read tells next =
+          → Attends k seat faults Now log' log'' (streams (Some bytes) (Some []) to' to'') more h' last (Err end)
+          → Attends k seat faults Tells log log'' (streams from from'' to to'') (did ++ more) h last (Err end)
+      attends_more log'' bytes Now to'' more last end read tells next =
           let whole : bytes ≡ stream next.pieces = next.read ∙ append-nil (stream next.pieces) in
           let two : stream (far.pieces ++ next.pieces) ≡ stream far.pieces ++ stream next.pieces =
           flat_map-append (λ (piece : Piece). piece.bytes) far.pieces next.pieces in
@@ -134,6 +140,7 @@ module _ (k : Contents) (seat : ℕ) (faults : TurnFault → Type 0) where
             replies = far.replies ++ next.replies;
             fed = fed_then k seat faults far.pieces next.pieces h h' last did more far.replies next.replies
                 far.fed next.fed;
+            logged = replies_append log log' log'' far.replies next.replies far.logged next.logged;
             known = λ known. next.known (far.known known);
             put = far.put ++ next.put;
             written = written_behind end far.replies next.replies far.put next.put far.written next.written;
@@ -142,26 +149,28 @@ module _ (k : Contents) (seat : ℕ) (faults : TurnFault → Type 0) where
           }
 
   -- a fault is passed on
-  pub attends_passed : (Tells : Stamp → Type 0) (bytes : Streams) (did : List Deed) (h h' : Hearing)
-      (end : End)
+  pub attends_passed : (Tells : Stamp → Type 0) (log log' : Option (List Entry)) (bytes : Streams)
+      (did : List Deed) (h h' : Hearing) (end : End)
       (fault : AttendFault) → IsErr end → IsErrAnd end (λ what. what ≡ fault)
-      → Attends k seat faults Tells bytes did h h' (Err fault)
-      → Attends k seat faults Tells bytes did h h' end
-  attends_passed Tells bytes did h h' (Ok done) fault err is attends = absurd (false≢true err)
-  attends_passed Tells bytes did h h' (Err what) fault err is attends =
-      subst (λ (f : AttendFault). Attends k seat faults Tells bytes did h h' (Err f)) (sym is) attends
+      → Attends k seat faults Tells log log' bytes did h h' (Err fault)
+      → Attends k seat faults Tells log log' bytes did h h' end
+  attends_passed Tells log log' bytes did h h' (Ok done) fault err is attends = absurd (false≢true err)
+  attends_passed Tells log log' bytes did h h' (Err what) fault err is attends =
+      subst (λ (f : AttendFault). Attends k seat faults Tells log log' bytes did h h' (Err f)) (sym is) attends
 
   -- a piece is answered, and the session goes on: as where a read fails then
-  pub goes_on : (Tells : Stamp → Type 0) (bytes : Streams) (did : List Deed) (h h' : Hearing)
-      → Attends k seat faults Tells bytes did h h' (Ok tt)
-      → Attends k seat faults Tells bytes did h h' (Err fault.Read)
-  goes_on Tells bytes did h h' done = record {
+  pub goes_on : (Tells : Stamp → Type 0) (log log' : Option (List Entry)) (bytes : Streams) (did : List Deed)
+      (h h' : Hearing)
+      → Attends k seat faults Tells log log' bytes did h h' (Ok tt)
+      → Attends k seat faults Tells log log' bytes did h h' (Err fault.Read)
+  goes_on Tells log log' bytes did h h' done = record {
     pieces = done.pieces;
     are_read = done.are_read;
     read = done.read;
     all = tt;
     replies = done.replies;
     fed = done.fed;
+    logged = done.logged;
     known = done.known;
     put = done.put;
     written = done.written;

@@ -1,13 +1,17 @@
 -- A session that is fed one piece after another.
 use Rattle.std.proofs.Common.{◌≡◌, inl, inr, ℕ, List, [], ◌∷◌, ◌++◌, Option, None, Some, length}
-use Rattle.std.proofs.Common.{arith, refl, sym, ap, ◌∙◌, subst, append_assoc, append-nil}
+use Rattle.std.proofs.Common.{arith, refl, sym, ap, ap₂, ◌∙◌, subst, append_assoc, append-nil, Vec, IfNone, OnSome}
+use Rattle.std.proofs.lemmas.Grind.{flat_map-append}
 use Rattle.hd_date.specs.Stamps.{Stamp}
 use Rattle.hd_exchange.specs.Deeds.{Deed}
 use Rattle.hd_catalogue.specs.Contents.{Contents}
 use Rattle.hd_journal.specs.declared.fault.TurnFault.{TurnFault}
 use Rattle.hd_session.specs.Sessions.{AreFedTo, Hearing, IsCause, IsFed, IsFedAt, Piece, Room, any_room}
+use Rattle.hd_session.specs.Logs.{Entry, Logs, LogsPiece, reply_of, said_in, unended_in}
 use Rattle.hd_session.specs.States.{State}
 use Rattle.hd_session.specs.declared.ended.Ended.{Ended}
+use Rattle.hd_session.specs.declared.ended.Ended.TheVariants.{TooLong, Turn}
+use Rattle.hd_attend.specs.Attending.{LogsReplies}
 
 -- a piece of a stream
 abbrev pub piece_at : Stamp → List ℕ → Piece
@@ -93,3 +97,53 @@ module _ (k : Contents) (seat : ℕ) (faults : TurnFault → Type 0) where
     all_text = ap (λ (t : List ℕ). t ++ text') first.all_text
         ∙ append_assoc first.first_text first.then_text text';
   }
+
+-- no reply yet
+pub replies_none : (log : Option (List Entry)) → LogsReplies log log []
+replies_none None = record { entries = []; logged = tt; said = refl }
+replies_none (Some before) = record { entries = []; logged = sym (append-nil before); said = refl }
+
+-- some entries, and then some more
+logs_append : (a b c : Option (List Entry)) (first next : List Entry) → Logs a b first → Logs b c next
+    → Logs a c (first ++ next)
+logs_append None b c first next p q = tt
+logs_append (Some x) None c first next p q = absurd p
+logs_append (Some x) (Some y) None first next p q = absurd q
+logs_append (Some x) (Some y) (Some z) first next p q =
+    q ∙ (ap (λ (l : List Entry). l ++ next) p ∙ append_assoc x first next)
+
+-- and some replies
+pub replies_append : (a b c : Option (List Entry)) (text more : List ℕ) → LogsReplies a b text
+    → LogsReplies b c more
+    → LogsReplies a c (text ++ more)
+replies_append a b c text more first next = record {
+  entries = first.entries ++ next.entries;
+  logged = logs_append a b c first.entries next.entries first.logged next.logged;
+  said = flat_map-append reply_of first.entries next.entries
+      ∙ ap₂ (λ (x y : List ℕ). x ++ y) first.said next.said;
+}
+
+-- the entry of a line that hasn't ended has no reply
+no_reply : (e : Option Ended) (line : List ℕ) → said_in (unended_in e line) ≡ []
+no_reply (Some (Turn why)) line = refl
+no_reply (Some TooLong) line = refl
+no_reply None line = refl
+
+-- the replies to a piece
+pub piece_logged : {A : Type 0} (k : Contents) (seat : ℕ) (faults : TurnFault → Type 0) (now : Stamp)
+    (room : Room) (e : Option Ended) (o p : Vec ℕ A) (a b : Option (List Entry)) (h : Hearing)
+    (piece : List ℕ) (did : List Deed) (h' : Hearing) (text : List ℕ)
+    → IsFedAt k seat faults e now room h piece did h' text → IfNone e (LogsPiece o p a b h piece h')
+    → OnSome e (Logs a b []) → o.items ≡ [] → p.items ≡ o.items ++ text
+    → LogsReplies a b text
+piece_logged k seat faults now room (Some why) o p a b h piece did h' text fed none silent empty is =
+    record { entries = []; logged = silent; said = sym fed.2 }
+piece_logged k seat faults now room None o p a b h piece did h' text fed logs silent empty is = record {
+  entries = logs.entries ++ unended_in h'.ended h'.begun.text;
+  logged = logs.logged;
+  said = flat_map-append reply_of logs.entries (unended_in h'.ended h'.begun.text)
+      ∙ (ap (λ (t : List ℕ). said_in logs.entries ++ t) (no_reply h'.ended h'.begun.text)
+      ∙ (append-nil (said_in logs.entries)
+      ∙ (ap (λ (t : List ℕ). t ++ said_in logs.entries) (sym empty)
+      ∙ (sym logs.appended ∙ (is ∙ ap (λ (t : List ℕ). t ++ text) empty)))));
+}

@@ -6,6 +6,7 @@ use Rattle.hd_exchange.specs.Deeds.{Deed}
 use Rattle.hd_connection.specs.Streams.{IsCutShort, Streams}
 use Rattle.hd_catalogue.specs.Contents.{Contents}
 use Rattle.hd_journal.specs.declared.fault.TurnFault.{TurnFault}
+use Rattle.hd_session.specs.Logs.{Entry, Logs, said_in}
 use Rattle.hd_session.specs.Sessions.{AreFedTo, Hearing, Piece, StaysKnown, any_room, stream}
 use Rattle.hd_session.specs.declared.ended.Ended.{Ended}
 use Rattle.hd_attend.specs.declared.fault.AttendFault.{AttendFault}
@@ -33,17 +34,25 @@ Leaves (Err (fault.Ended why)) before after = after ≡ Some why
 Leaves (Err fault.Write) before after = ⊤
 Leaves end before after = after ≡ before
 
+-- Entries with these replies are added to a log.
+pub record LogsReplies (log log' : Option (List Entry)) (replies : List ℕ) : Type 0 where
+  pub entries : List Entry
+  pub logged : Logs log log' entries
+  pub said : said_in entries ≡ replies
+
 -- A session is attended to, at a seat of a library whose office can give these faults, by a clock that may
--- tell these presents: what was read is fed to it in pieces, each at its own present, with no bytes left out;
--- this is done, and the replies are written.
+-- give these presents: what was read is fed to it in pieces, each at its own present, with no bytes left out;
+-- this is done, the replies are written, and the session's log has them.
 pub record Attends (k : Contents) (seat : ℕ) (faults : TurnFault → Type 0) (Tells : Stamp → Type 0)
-    (bytes : Streams) (did : List Deed) (h h' : Hearing) (end : End) : Type 0 where
+    (log log' : Option (List Entry)) (bytes : Streams) (did : List Deed) (h h' : Hearing) (end : End)
+    : Type 0 where
   pub pieces : List Piece
   pub are_read : All (IsReadPiece Tells) pieces
   pub read : Consumes bytes.from bytes.from' (stream pieces)
   pub all : OnOk end (IsAtEnd bytes.from')
   pub replies : List ℕ
   pub fed : AreFedTo k seat faults any_room pieces h did h' replies
+  pub logged : LogsReplies log log' replies
   pub known : StaysKnown k h.state h'.state
   pub put : List ℕ
   pub written : IsWritten end replies put

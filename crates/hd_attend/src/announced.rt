@@ -8,14 +8,14 @@ use hd_exchange::{Ask, Office, SeatNo, Turn, TurnFault};
 use hd_journal::Look;
 use std::alloc::Allocator;
 
-/// An office that a session asks, each of whose turns is announced to the session's surroundings beforehand:
-/// all up to the last were, each by its number.
+/// Wraps the office of a session: announces each turn to the session's surroundings before it is made. All
+/// turns up to the last were announced, each by its number.
 #[derive(Drop)]
 pub(crate) struct AnnouncedOffice<'a, O, S: Surroundings> {
     office: &'a mut O,
     surroundings: &'a S,
     session: usize,
-    /// The number of the last turn, or 0. At the greatest value it stays.
+    /// The number of the last turn, or 0. It stays at the greatest value.
     turn: usize,
     ghost announced: { AreAnnounced (S.is_announced surroundings.now session) turn },
 }

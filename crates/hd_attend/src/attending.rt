@@ -13,23 +13,32 @@ use crate::surroundings::Surroundings;
 use hd_connection::{Input, Output, write_all};
 use hd_date::Stamp18;
 use hd_exchange::Office;
-use hd_session::Session;
+use hd_session::{Session, SessionLog};
 use std::alloc::Allocator;
 use std::sync::Wait;
 
 /// How many bytes are read at once, at most.
 const PIECE: usize = 512;
 
-/// Answers what a reader gives at an office, as a counter of a hall, up to its end: each piece is fed to the
-/// session, at the present that its surroundings tell then, and its replies are written before the next is
-/// read. A last line without its carriage return is dropped.
+/// Answers what a reader gives at an office, as a counter of a hall, up to its end. Each piece is fed to the
+/// session at the present of its surroundings, and its replies are written before the next is read. A last
+/// line without its carriage return is dropped.
 ///
-/// Before each turn the surroundings are called with this number of the session, and the number of the turn.
+/// The surroundings are called before each turn with this number of the session and the number of the turn.
+/// The session calls the log as it decides.
 ///
 /// # Errors
 /// `Read` and `Write` where a call fails, and `Ended` where the session ends or has ended. All replies are
-/// written then, but where a write fails.
-pub fn attend<R: Wait, I: Input, W: Output, A: Allocator + Copy, O: Office<A>, S: Surroundings>(
+/// written then, except where a write fails.
+pub fn attend<
+    R: Wait,
+    I: Input,
+    W: Output,
+    A: Allocator + Copy,
+    O: Office<A>,
+    S: Surroundings,
+    L: SessionLog,
+>(
     rt: &R,
     from: &mut I,
     to: &mut W,
@@ -37,12 +46,14 @@ pub fn attend<R: Wait, I: Input, W: Output, A: Allocator + Copy, O: Office<A>, S
     state: &mut Session<'_, A>,
     session: usize,
     surroundings: &S,
+    log: &mut L,
 ) -> Result<(), AttendFault>
     // The session is logged in as a terminal of the office's catalogue, or as none.
     requires login { IsKnownTo (O.keeps office.old).contents state.old.state }
     ensures attends { (did : List Deed)
         × Works O.Office office.old office.new did
         × Attends (O.keeps office.old).contents (O.keeps office.old).seat O.faults (S.tells surroundings.now)
+        (L.entries log.old) (L.entries log.new)
         (streams (I.remaining from.old) (I.remaining from.new) (W.contents to.old) (W.contents to.new))
         did state.old state.new result }
     ensures why { IfErr result (HasReason (I.fails from.new) (W.fails to.new)) }
@@ -56,17 +67,26 @@ pub fn attend<R: Wait, I: Input, W: Output, A: Allocator + Copy, O: Office<A>, S
             return Ok(());
         }
         let now = surroundings.now();
-        answer_piece(&piece[..count], &now, &mut announced, state, &mut out, to)?;
+        answer_piece(
+            &piece[..count],
+            &now,
+            &mut announced,
+            state,
+            log,
+            &mut out,
+            to,
+        )?;
     }
     unreachable!()
 }
 
 /// Feeds one piece to the session, and writes the replies.
-fn answer_piece<W: Output, A: Allocator + Copy, O: Office<A>>(
+fn answer_piece<W: Output, A: Allocator + Copy, O: Office<A>, L: SessionLog>(
     piece: &[u8],
     now: &Stamp18,
     office: &mut O,
     state: &mut Session<'_, A>,
+    log: &mut L,
     out: &mut Vec<u8, A>,
     to: &mut W,
 ) -> Result<(), AttendFault>
@@ -75,13 +95,13 @@ fn answer_piece<W: Output, A: Allocator + Copy, O: Office<A>>(
     ensures attends { (did : List Deed)
         × Works O.Office office.old office.new did
         × Attends (O.keeps office.old).contents (O.keeps office.old).seat O.faults
-        (λ present. present ≡ now.now)
+        (λ present. present ≡ now.now) (L.entries log.old) (L.entries log.new)
         (streams (Some piece.now) (Some []) (W.contents to.old) (W.contents to.new))
         did state.old state.new result }
     ensures why { IfErr result (HasReason ⊥ (W.fails to.new)) }
 {
     out.clear();
-    let fed = state.feed(piece, now, office, out);
+    let fed = state.feed_logged(piece, now, office, log, out);
     write_all(to, out.as_slice())?;
     fed?;
     Ok(())

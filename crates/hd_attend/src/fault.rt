@@ -1,11 +1,11 @@
-//! Why a connection isn't attended to any longer.
+//! Faults that end the work on a connection.
 ghost use Rattle.std.specs.Prelude.{◌≡◌};
 ghost use Rattle.hd_attend.specs.declared.fault.AttendFault.TheVariants.{Read, Write, Ended};
 
 use hd_connection::{ReadFailed, WriteFailed};
 use hd_session::Ended;
 
-/// Why a connection isn't attended to up to the end of its input.
+/// Why a connection ends before the end of its input.
 #[derive(Clone, Copy, Debug, PartialEq, Eq)]
 pub enum AttendFault {
     /// A read failed.

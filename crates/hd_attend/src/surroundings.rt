@@ -1,16 +1,16 @@
-//! What surrounds a session that is attended to.
+//! The clock of a session, and the calls before its turns.
 ghost use Rattle.std.specs.Prelude.{◌<◌, Bool, ℕ, IsTrue, true};
 ghost use Rattle.hd_date.specs.Stamps.{Stamp};
 
 use hd_date::Stamp18;
 
-/// What surrounds the sessions that are attended to: their clock, and what is called before their turns.
+/// The clock of the sessions that are attended to, and the calls before their turns.
 pub trait Surroundings {
-    /// What the clock may tell.
+    /// The presents that the clock may give.
     ghost tells: { Self → Stamp → Type 0 };
 
-    /// Whether the turn of a number was announced, of the session of a number. Nothing but `before_turn` says
-    /// so; surroundings that take no notice of turns take each as announced.
+    /// Whether this turn of this session was announced, each by its number. Only `before_turn` makes this true.
+    /// Surroundings that take no notice of turns take each as announced.
     ghost is_announced: { Self → ℕ → ℕ → Bool } = { λ _ _ _. true };
 
     /// The present.

@@ -4,7 +4,7 @@ ghost use Rattle.hd_log.specs.Escapes.{escape, escaped, hex_digit, is_plain};
 
 use std::alloc::AllocError;
 
-/// Whether a byte stands for itself: printable ASCII, and neither `"` nor `\`.
+/// Whether a byte is written as itself: printable ASCII, and neither `"` nor `\`.
 fn is_plain(byte: u8) -> bool
     ensures { result ≡ is_plain byte }
 {
@@ -36,7 +36,7 @@ fn write_byte(out: &mut Vec<u8>, byte: u8) -> Result<(), AllocError>
     out.extend_from_slice(&told)
 }
 
-/// Writes bytes, each that doesn't stand for itself as `\xHH`.
+/// Writes bytes. Each that isn't written as itself is written as `\xHH`.
 ///
 /// # Errors
 /// Out of memory. A beginning may be written then.

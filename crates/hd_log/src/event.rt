@@ -6,7 +6,7 @@ ghost use Rattle.hd_log.specs.declared.event.End.TheVariants.{Memory};
 use crate::level::Level;
 use std::alloc::AllocError;
 
-/// What is told of a server. Texts of which nothing is said are any bytes.
+/// An event of a server. A text may have any bytes, unless its comment says which.
 #[derive(Clone, Copy, Debug)]
 pub enum Event<'a> {
     /// It listens.
@@ -56,7 +56,7 @@ pub enum Event<'a> {
         /// Why.
         why: &'a [u8],
     },
-    /// It goes by the offset of a time zone, in place of its catalogue's.
+    /// It uses the offset of a time zone in place of its catalogue's.
     Zone {
         /// The path of the zone's file.
         file: &'a [u8],
@@ -72,7 +72,7 @@ pub enum Event<'a> {
     },
 }
 
-/// What is told of a connection.
+/// An event of a connection.
 #[derive(Clone, Copy, Debug)]
 pub enum ConnectionEvent<'a> {
     /// It was accepted.
@@ -113,13 +113,13 @@ pub enum ConnectionEvent<'a> {
         /// Why.
         why: Refused,
     },
-    /// A message's day lies too far from the server's.
+    /// A message's day is too far from the server's.
     ClockOff {
         /// The name of the terminal that has logged in; empty where none has.
         terminal: &'a [u8],
         /// The message's transaction date.
         date: &'a [u8],
-        /// How many days lie between them.
+        /// How many days they are apart.
         days: u64,
     },
     /// A line was too long.
@@ -174,7 +174,7 @@ pub enum End {
     Descriptor,
     /// No seat was left for it.
     Seat,
-    /// The journal lacks a turn that the connection was told of.
+    /// The journal lacks a turn that the connection was answered.
     Estranged,
     /// The journal can't be written.
     Unwritten,
@@ -224,8 +224,7 @@ impl From<AllocError> for End {
 }
 
 impl<'a> Event<'a> {
-    /// The least level at which it is told: lines and replies at that of messages, all else at that of
-    /// events.
+    /// The least level at which it is reported: `Messages` for lines and replies, `Events` for all others.
     pub fn level(&self) -> Level
         ensures { result ≡ event_level self.now }
     {

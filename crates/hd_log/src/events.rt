@@ -13,8 +13,9 @@ use std::alloc::{AllocError, Global};
 
 /// Writes an event as one line: its fields as `key=value`, with blanks between them.
 ///
-/// What a stranger may have sent stands in quotes, and each byte that isn't printable ASCII, `"` and `\` as
-/// `\xHH`. In a line and a reply the values of AC, AD, CO, AE and DA are told as `*`.
+/// Text that a stranger may have sent is in quotes. Each byte of it that isn't printable ASCII is written as
+/// `\xHH`, and so are `"` and `\`. In a line and a reply the values of AC, AD, CO, AE and DA are written as
+/// `*`.
 ///
 /// # Errors
 /// Out of memory. A beginning may be written then.
@@ -71,7 +72,7 @@ pub fn write_event(alloc: Global, out: &mut Vec<u8>, event: &Event<'_>) -> Resul
     }
 }
 
-/// Writes what can't be done, what of it this field tells, and why.
+/// Writes an event of something that can't be done, with this field about it, and why.
 fn write_cannot<'a>(
     out: &mut Vec<u8>,
     name: &'a [u8],
@@ -84,7 +85,7 @@ fn write_cannot<'a>(
     write_line(out, &[named(name), *about, text(b"why", why)])
 }
 
-/// Writes of what there are few: how many, and of how many.
+/// Writes an event of something of which there are few: how many, and of how many.
 fn write_few<'a>(
     out: &mut Vec<u8>,
     name: &'a [u8],
@@ -97,7 +98,7 @@ fn write_few<'a>(
     write_line(out, &[named(name), *few, *of])
 }
 
-/// Writes what happened at a connection, which this field names.
+/// Writes an event of the connection that this field names.
 fn write_at<'a>(
     alloc: Global,
     out: &mut Vec<u8>,
@@ -139,7 +140,7 @@ fn write_at<'a>(
     }
 }
 
-/// Writes what became of a connection that has come, and from where it came.
+/// Writes an event of a connection, and from where it came.
 fn write_from<'a>(
     out: &mut Vec<u8>,
     name: &'a [u8],
@@ -194,7 +195,7 @@ fn write_not_logged_in<'a>(
     write_line(out, &about)
 }
 
-/// Writes that a message's day lies too far from the server's.
+/// Writes that a message's day is too far from the server's.
 fn write_clock_off<'a>(
     out: &mut Vec<u8>,
     at: &Field<'a>,
@@ -215,7 +216,7 @@ fn write_clock_off<'a>(
     write_line(out, &about)
 }
 
-/// Writes what was sent at a connection, without what isn't told.
+/// Writes a line or a reply of a connection, with its secret values masked.
 fn write_masked<'a>(
     alloc: Global,
     out: &mut Vec<u8>,

@@ -86,7 +86,7 @@ fn write_fields(out: &mut Vec<u8>, fields: &[Field<'_>]) -> Result<(), AllocErro
     }
 }
 
-/// Writes a line of fields, with blanks between them and a line feed behind.
+/// Writes a line of fields, with blanks between them and a line feed at its end.
 ///
 /// # Errors
 /// Out of memory. A beginning may be written then.

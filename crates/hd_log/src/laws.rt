@@ -1,4 +1,4 @@
-//! What holds of all that is told.
+//! Laws of all lines of the log.
 ghost use Rattle.std.specs.Prelude.{◌≡◌, ◌<◌, ◌^◌, List, ℕ, decimal, true};
 ghost use Rattle.hd_log.specs.Escapes.{escaped, unescaped};
 ghost use Rattle.hd_log.specs.Lines.{Field, IsOneLine, line_text};
@@ -16,13 +16,13 @@ pub fn escapes_are_read(bytes: &[u8])
     let _ = bytes;
 }
 
-/// The digits of a number stand for themselves.
+/// The digits of a number are written as themselves.
 pub fn numbers_are_plain()
     ensures { (number : ℕ) → number < 2 ^ 64 → escaped (decimal number) ≡ decimal number }
 {}
 
-/// The value of a secret field isn't told, wherever the field stands: two lines that differ in it alone are
-/// told alike. It ends at the next bar, or with the line.
+/// The value of a secret field isn't written, wherever the field is: two lines that differ only in it are
+/// written alike. It ends at the next bar, or with the line.
 pub fn secrets_are_masked()
     ensures { (before rest : List ℕ) (a b : ℕ) → MayBegin before → is_secret a b ≡ true → IsBehind rest
         → IsKept before a b rest }

@@ -1,11 +1,11 @@
-//! How much is told.
+//! The levels of the log.
 
-/// How much is told.
+/// Which events are reported.
 #[derive(Clone, Copy, Debug, PartialEq, Eq, PartialOrd, Ord)]
 pub enum Level {
-    /// Nothing.
+    /// None.
     Quiet,
-    /// What happens to connections, to the journal and to the server.
+    /// Those of connections, of the journal and of the server.
     Events,
     /// The same, and each line that a terminal sends, with its reply.
     Messages,

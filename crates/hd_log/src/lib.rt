@@ -1,5 +1,5 @@
-//! What a server tells while it runs: each event as one line of `key=value`, of printable ASCII whatever a
-//! stranger sent, and without what has to be kept secret.
+//! The log of a server: each event as one line of `key=value`, of printable ASCII whatever a stranger sent,
+//! and without secret values.
 #![tactic(auto)]
 
 mod escaping;

@@ -1,4 +1,4 @@
-//! Values that aren't told.
+//! Secret values.
 ghost use Rattle.std.specs.Prelude.{◌≡◌, ◌++◌, IfOk, OnOk};
 ghost use Rattle.hd_log.specs.Masks.{fixed_part, is_secret, is_short, left_behind, masked, next, shown};
 ghost use Rattle.hd_log.specs.Masks.{width_of};
@@ -8,21 +8,21 @@ use std::alloc::{AllocError, Global};
 /// What ends a field.
 const BAR: u8 = b'|';
 
-/// What stands for a value that isn't told.
+/// This is written in place of a secret value.
 const STAR: u8 = b'*';
 
 /// Where a line is read.
 #[derive(Clone, Copy)]
 pub(crate) enum Place {
-    /// In a value that isn't told.
+    /// In a secret value.
     Hidden,
-    /// In a field that is told, up to its bar.
+    /// In a field whose value isn't secret, up to its bar.
     Told,
     /// Where a field begins.
     Begun,
-    /// Behind this byte, with which a field begins.
+    /// After this byte, with which a field begins.
     Behind(u8),
-    /// Behind this byte, where a field may begin anywhere.
+    /// After this byte, where a field may begin anywhere.
     Searched(u8),
 }
 
@@ -56,8 +56,8 @@ fn width_of(first: u8, second: u8) -> u8
     }
 }
 
-/// Whether the value of a field isn't told: of AC, AD and CO, which are passwords, and of AE and DA, which
-/// are patrons' names.
+/// Whether the value of a field is secret: of AC, AD and CO, which are passwords, and of AE and DA, which are
+/// patrons' names.
 fn is_secret(first: u8, second: u8) -> bool
     ensures { result ≡ is_secret first second }
 {
@@ -66,14 +66,14 @@ fn is_secret(first: u8, second: u8) -> bool
         || (first == b'D' && second == b'A')
 }
 
-/// Whether a field has a few bytes alone, so that another may begin behind it without a bar: BI, BO, BW, BY.
+/// Whether a field has only a few bytes, so that another may begin after it without a bar: BI, BO, BW, BY.
 fn is_short(first: u8, second: u8) -> bool
     ensures { result ≡ is_short first second }
 {
     first == b'B' && (second == b'I' || second == b'O' || second == b'W' || second == b'Y')
 }
 
-/// Where a line is read behind this byte, which is one of the fixed part, or not.
+/// The place after this byte. `is_fixed` says whether the byte is one of the fixed part.
 fn next(place: Place, is_fixed: bool, byte: u8) -> Place
     ensures { result ≡ next place is_fixed byte }
 {
@@ -107,8 +107,8 @@ fn next(place: Place, is_fixed: bool, byte: u8) -> Place
     }
 }
 
-/// How many bytes behind a byte are of the fixed part. A value that isn't told takes none off, so that its
-/// length isn't told either.
+/// How many bytes after a byte are of the fixed part. A secret value takes none off, so that its length isn't
+/// written either.
 fn left_behind(behind: Place, left: u8) -> u8
     ensures { result ≡ left_behind behind left }
 {
@@ -118,7 +118,7 @@ fn left_behind(behind: Place, left: u8) -> u8
     }
 }
 
-/// Writes what is told of a byte that stands between these places.
+/// Writes a byte between these places, if it isn't secret, and a `*` where a secret value begins.
 fn write_shown(out: &mut Vec<u8>, place: Place, byte: u8, behind: Place) -> Result<(), AllocError>
     ensures { OnOk result (out.new.items ≡ out.old.items ++ shown place byte behind) }
 {
@@ -131,7 +131,7 @@ fn write_shown(out: &mut Vec<u8>, place: Place, byte: u8, behind: Place) -> Resu
     Ok(())
 }
 
-/// A line with a `*` for each value that isn't told.
+/// A line with a `*` for each secret value.
 ///
 /// # Errors
 /// Out of memory.

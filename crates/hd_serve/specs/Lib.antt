@@ -5,5 +5,6 @@ pub mod Failures
 pub mod LineFeeds
 pub mod Logins
 pub mod Places
+pub mod Reports
 pub mod Told
 pub mod Waits

@@ -30,22 +30,22 @@ pub(crate) struct Connection {
     pub(crate) session: usize,
     /// Its place among those that are open.
     pub(crate) place: usize,
-    /// Where it comes from, as far as it is told.
+    /// Where it comes from. Empty where nothing is logged.
     pub(crate) address: String,
 }
 
-/// What comes of what the port gave.
+/// What the server does after an accept.
 #[derive(Drop)]
 pub(crate) enum Arrival<T> {
-    /// A connection that is to be served.
+    /// It serves this connection.
     Connection(T),
-    /// Nothing; it is to be tried again.
+    /// It tries again.
     Again,
-    /// No more connections are to be served.
+    /// It accepts no more connections.
     End,
 }
 
-/// What accepts connections, and hands them on. Dropping it ends the workers.
+/// Accepts connections and passes them to the workers. Dropping it ends the workers.
 #[derive(Drop)]
 pub(crate) struct Reception<'a, R, O: Observer> {
     pub(crate) rt: &'a R,
@@ -54,18 +54,18 @@ pub(crate) struct Reception<'a, R, O: Observer> {
     pub(crate) options: Options<'a>,
     pub(crate) observer: &'a O,
     pub(crate) to: Sender<Connection>,
-    /// How many were accepted, also of those that were turned away or closed at once.
+    /// How many were accepted. Those that were turned away or closed at once count too.
     pub(crate) session: usize,
 }
 
 impl<'a, R: Wait + Clock, O: Observer> Reception<'a, R, O> {
-    /// Accepts so many connections, or with 0 all that come, until the server is to end, and hands on those
-    /// that there is room for.
+    /// Accepts as many connections as the options say, or with 0 all that come, until the server is to end.
+    /// Passes on those for which there is room.
     ///
     /// # Errors
-    /// `Unwritten` where the journal can't be written, and `CannotListen` where a connection can't be
-    /// accepted, for good, or 17 times in a row while none is open (`received`). Else the server was asked to
-    /// end, or the last connection was accepted.
+    /// `Unwritten` where the journal can't be written. `CannotListen` where a connection can't be accepted for
+    /// good, or 17 times in a row while none is open (`received`). Otherwise the server was asked to end, or
+    /// the last connection was accepted.
     pub(crate) fn accept(mut self, listener: &TcpListener) -> Result<(), ServeFault>
         ensures why { IfErr result IsOfAccepting }
     {
@@ -89,8 +89,8 @@ impl<'a, R: Wait + Clock, O: Observer> Reception<'a, R, O> {
         Ok(())
     }
 
-    /// What comes of what the port gave, where so many accepts failed before in a row. Of failed accepts the
-    /// observer is told the first in a row, and the one that ends the accepting.
+    /// What the server does after an accept, where `failed` accepts in a row failed before. Reports the first
+    /// failed accept in a row, and the one that ends the accepting.
     fn arrival(
         &self,
         came: io::Result<TcpStream>,
@@ -112,7 +112,7 @@ impl<'a, R: Wait + Clock, O: Observer> Reception<'a, R, O> {
         }
     }
 
-    /// Tells why no connection could be accepted, behind so many in a row that couldn't either.
+    /// Reports why no connection could be accepted, after `failed` accepts in a row that failed too.
     fn tell_failed(&self, error: &io::Error, failed: u32) {
         if let Ok(why) = format!(in self.alloc; "{error}") {
             self.observer.tell(&Event::CannotAccept {
@@ -122,7 +122,7 @@ impl<'a, R: Wait + Clock, O: Observer> Reception<'a, R, O> {
         }
     }
 
-    /// Hands a connection on, or closes it where there are as many as may be.
+    /// Passes a connection on, or closes it where as many are open as there are workers.
     fn welcome(&mut self, stream: TcpStream) {
         let is_beyond = self.standing.connections(self.rt) >= self.options.workers as usize;
         self.session = self.session.saturating_add(1);
@@ -140,8 +140,8 @@ impl<'a, R: Wait + Clock, O: Observer> Reception<'a, R, O> {
         }
     }
 
-    /// Hands a connection on under the last number. A worker ends only when this reception is dropped, so one
-    /// takes it; else it is closed.
+    /// Passes a connection on under the last number. A worker ends only when this reception is dropped, so one
+    /// takes it. If none does, the connection is closed.
     fn hand_on(&self, stream: TcpStream, place: usize, address: String) {
         let connection = Connection {
             stream,
@@ -155,7 +155,7 @@ impl<'a, R: Wait + Clock, O: Observer> Reception<'a, R, O> {
     }
 }
 
-/// Tells that a connection was accepted, and whether it waits.
+/// Reports that a connection was accepted, and whether it waits.
 fn tell_opened<O: Observer>(speaker: &Speaker<'_, O>, address: &[u8], is_waiting: bool) {
     speaker.tell(ConnectionEvent::Opened { address });
     if is_waiting {
@@ -163,7 +163,7 @@ fn tell_opened<O: Observer>(speaker: &Speaker<'_, O>, address: &[u8], is_waiting
     }
 }
 
-/// Tells that a connection was closed at once, for this reason.
+/// Reports that a connection was closed at once, for this reason.
 fn tell_closed<O: Observer>(speaker: &Speaker<'_, O>, address: &[u8], why: End) {
     speaker.tell(ConnectionEvent::Closed {
         address,
@@ -173,12 +173,12 @@ fn tell_closed<O: Observer>(speaker: &Speaker<'_, O>, address: &[u8], why: End) 
     });
 }
 
-/// What comes of what the port gave, where the server is on this course, so many accepts failed before in a
-/// row, and so many connections are open.
+/// What a server on this course does after an accept, where `failed` accepts in a row failed before, and
+/// `others` connections are open.
 ///
 /// # Errors
-/// `Unwritten` with the reason, where the journal can't be written; `CannotListen` where the port failed for
-/// good, or once more than is tried again.
+/// `Unwritten` with the reason, where the journal can't be written. `CannotListen` where the port failed for
+/// good, or more often in a row than is tried again.
 fn received<T: Drop>(
     course: Course,
     came: Result<T, Failed>,
@@ -200,7 +200,7 @@ fn received<T: Drop>(
 /// The same where the server is to go on.
 ///
 /// # Errors
-/// `CannotListen` where the port failed for good, or once more than is tried again.
+/// `CannotListen` where the port failed for good, or more often in a row than is tried again.
 fn served<T: Drop>(
     came: Result<T, Failed>,
     failed: u32,
@@ -217,16 +217,15 @@ fn served<T: Drop>(
     }
 }
 
-/// Whether a failed accept is told, of which this comes, on this course, behind so many in a row that failed
-/// too: the first is, and the one that ends the accepting; where the server is to end, none.
+/// Whether a failed accept with this outcome is reported, on this course, after `failed` accepts in a row
+/// that failed too. The first is, and the one that ends the accepting. Where the server is to end, none is.
 fn is_told_failed<T>(course: Course, failed: u32, arrival: &Result<Arrival<T>, ServeFault>) -> bool
     ensures { IsTrue result ↔ IsToldFailed course failed arrival.now }
 {
     !course.is_to_end() && (failed == 0 || arrival.is_err())
 }
 
-/// Whether no connection is accepted behind that of this number, where so many are to be; with 0 each is
-/// followed by another.
+/// Whether the connection of this number is the last, of as many as are to be accepted. With 0 none is.
 fn is_last(number: usize, connections: u32) -> bool
     ensures { IsTrue result ↔ IsLast number connections }
 {

@@ -7,17 +7,16 @@ use hd_date::{OffsetMinutes, Stamp18};
 use std::io;
 use std::time::Duration;
 
-/// The present in local time, as a clock tells it that is asked now, and `00000101    000000` where it can't
-/// be read.
+/// The present in local time by a clock that is read now, and `00000101    000000` where it can't be read.
 pub(crate) fn present<C: Fn() -> io::Result<Duration>>(clock: &C, offset: OffsetMinutes) -> Stamp18
     requires { C.IsAlwaysCallable clock.now }
-    // the clock was asked, and may have told this
+    // what the clock gave when it was read
     ensures { (told : _) × C.post clock.now told × IsPresent (seconds_told told) offset result }
 {
     stamp_of(seconds_of(clock()), offset)
 }
 
-/// The whole seconds that a clock has told, if it could be read.
+/// The whole seconds that a clock gave, if it could be read.
 fn seconds_of(told: io::Result<Duration>) -> Option<u64>
     ensures { result ≡ seconds_told told }
 {
@@ -27,7 +26,7 @@ fn seconds_of(told: io::Result<Duration>) -> Option<u64>
     }
 }
 
-/// The present where the seconds that a clock has told since 1970-01-01, 00:00, of universal time are these.
+/// The present where a clock gave these seconds since 1970-01-01, 00:00, of universal time.
 fn stamp_of(told: Option<u64>, offset: OffsetMinutes) -> Stamp18
     ensures { IsPresent told offset result }
 {
@@ -40,7 +39,7 @@ fn stamp_of(told: Option<u64>, offset: OffsetMinutes) -> Stamp18
     }
 }
 
-/// The stamp so many seconds after it, where its year is 0000 to 9999.
+/// The stamp that many seconds after it, where its year is 0000 to 9999.
 fn moment(seconds: u64, offset: OffsetMinutes) -> Option<Stamp18>
     ensures stamp { IfSome result (IsStampAt (pos seconds) offset) }
     ensures none { IfNone result (¬ IsTold (pos seconds) offset) }

@@ -1,62 +1,40 @@
-//! Terminals whose clock is off: seeing whether the day of a message is the server's.
+//! Terminals whose clock is off: whether the day of a message is the server's.
 ghost use Rattle.std.specs.Prelude.{◌≡◌, ◌≢◌, ◌↔◌, IfNone, IfSome, IsFalse, IsTrue, Some};
 ghost use Rattle.std.specs.Option.{option_copied};
-ghost use Rattle.hd_date.specs.Clock.{IsPresent};
-ghost use Rattle.hd_date.specs.Stamps.{Stamp};
 ghost use Rattle.hd_serve.specs.Days.{IsNear, IsOff, Sees, card_date, date_read, days_apart, patron_date};
 ghost use Rattle.hd_serve.specs.Days.{request_date, standard_date, unreadable_date};
-ghost use Rattle.hd_serve.specs.Told.{seconds_told};
 
-use crate::clock::present;
 use hd_date::{Day, OffsetMinutes, texts_show_one_stamp};
 use hd_message::{
     PatronRequest, Profile, Reading, Request, Unreadable, UnreadablePatron, read_with,
 };
-use std::io;
-use std::time::Duration;
 
 /// A message whose day is off.
 #[derive(Clone, Copy)]
 pub(crate) struct OffDay<'a> {
     /// The message's transaction date.
     pub(crate) date: &'a [u8],
-    /// How many days lie between its day and the server's.
+    /// How many days its day is from the server's.
     pub(crate) days: u64,
 }
 
-/// What sees the days of a connection's messages, where it is to. Of one whose clock is off it tells once a
-/// day.
+/// Compares the days of a connection's messages with the server's, where that is on. A clock that is off is
+/// reported once a day.
 #[derive(Clone, Copy)]
 pub(crate) struct DayWatch {
     pub(crate) offset: OffsetMinutes,
     /// Which messages are read.
     pub(crate) profile: Profile,
-    /// How many days a message may lie from the server's day, if that is looked at.
+    /// How many days a message may be from the server's day. None where the days aren't compared.
     pub(crate) most: Option<u32>,
-    /// The day on which it told of it last.
+    /// The day of the last report.
     pub(crate) told: Option<Day>,
 }
 
 impl DayWatch {
-    /// What is to be told of the body of a message on the day that a clock tells which is asked now.
-    pub(crate) fn see<'l, C: Fn() -> io::Result<Duration>>(
-        &mut self,
-        clock: &C,
-        body: &'l [u8],
-    ) -> Option<OffDay<'l>>
-        requires { C.IsAlwaysCallable clock.now }
-        // the clock was asked, and may have told this
-        ensures { (told : _) × C.post clock.now told × (now : Stamp)
-            × IsPresent (seconds_told told) self.old.offset now
-            × Sees self.old self.new body.now now.day result }
-    {
-        let today = present(clock, self.offset).day();
-        self.see_on(today, body)
-    }
-
-    /// What is to be told of the body of a message today: nothing where its day isn't off, or where it was
-    /// told of an earlier one today.
-    fn see_on<'l>(&mut self, today: Day, body: &'l [u8]) -> Option<OffDay<'l>>
+    /// What is to be reported of the body of a message today. Nothing where its day isn't off, or where an
+    /// earlier one was reported today.
+    pub(crate) fn see<'l>(&mut self, today: Day, body: &'l [u8]) -> Option<OffDay<'l>>
         ensures { Sees self.old self.new body.now today result }
     {
         let most = self.most?;
@@ -69,7 +47,7 @@ impl DayWatch {
         }
     }
 
-    /// Whether nothing has been told today. Then it counts as told.
+    /// Whether nothing has been reported today. It counts as reported from then on.
     fn is_news(&mut self, today: Day) -> bool
         ensures news { IsTrue result ↔ (self.old.told ≢ Some today) }
         ensures old { IsFalse result → self.old.told ≡ Some today }
@@ -81,7 +59,7 @@ impl DayWatch {
     }
 }
 
-/// How many days lie between today and the day that a date is of, where they are more than may be.
+/// How many days a date is from today, where they are more than may be.
 fn days_off(most: u32, offset: OffsetMinutes, today: Day, date: &[u8]) -> Option<u64>
     ensures off { IfSome result (IsOff most offset today date.now) }
     ensures near { IfNone result (IsNear most offset today date.now) }
@@ -98,7 +76,7 @@ fn days_off(most: u32, offset: OffsetMinutes, today: Day, date: &[u8]) -> Option
     }
 }
 
-/// How many days lie between two.
+/// How many days two days are apart.
 fn days_apart(one: Day, other: Day) -> u32
     ensures { result ≡ days_apart one other }
 {

@@ -1,11 +1,12 @@
-//! What is called before each turn of a session, and what is told of a server.
-ghost use Rattle.std.specs.Prelude.{◌<◌, Bool, ℕ, IsTrue, true};
+//! Calls to whoever runs a server: before each turn of a session, and at each event of the log.
+ghost use Rattle.std.specs.Prelude.{◌≡◌, ◌<◌, Bool, ℕ, IsTrue, true};
+ghost use Rattle.hd_log.specs.declared.event.Event.{Event as AnyEvent};
 
 use hd_log::{Event, Level};
 
-/// Is called before each turn of a session, outside any lock.
+/// A gate. It is called before each turn of a session, outside any lock.
 pub trait Gate: Sync {
-    /// Whether it was called for the session and the turn of these numbers. Nothing but `before` says so; a
+    /// Whether it was called for the session and the turn of these numbers. Only `before` makes this true. A
     /// gate that keeps no account of its calls takes each as made.
     ghost is_called: { Self → ℕ → ℕ → Bool } = { λ _ _ _. true };
 
@@ -15,16 +16,21 @@ pub trait Gate: Sync {
         ensures { IsTrue (is_called self.now session turn) };
 }
 
-/// Is told what happens, outside any lock. Nothing that it does changes what is answered.
+/// Receives the events of the log, outside any lock. Nothing that it does changes what is answered.
 pub trait Observer {
-    /// How much it is to be told. Of what needs a higher level nothing is told.
+    /// Whether this event was reported. Only `tell` makes this true. An observer that keeps no account takes
+    /// each as reported.
+    ghost was_told: { Self → AnyEvent → Bool } = { λ _ _. true };
+
+    /// The level of its log. An event that needs a higher level isn't reported.
     fn level(&self) -> Level;
 
-    /// Something happened.
-    fn tell(&self, event: &Event<'_>);
+    /// An event has happened.
+    fn tell(&self, event: &Event<'_>)
+        ensures { was_told self.now event.now ≡ true };
 }
 
-/// A gate to which nothing is told.
+/// A gate to which no event is reported.
 #[derive(Drop)]
 pub(crate) struct Unobserved<'a, G: Gate>(pub(crate) &'a G);
 

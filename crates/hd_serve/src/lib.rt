@@ -2,13 +2,12 @@
 #![tactic(auto)]
 
 mod accepting;
-mod answering;
 mod clock;
+mod connection_log;
 mod day_watch;
 mod failed;
 mod fault;
 mod gate;
-mod hearing;
 mod line_feeds;
 mod logins;
 mod options;

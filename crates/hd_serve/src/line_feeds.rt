@@ -1,4 +1,4 @@
-//! A line feed behind each carriage return.
+//! A line feed after each carriage return.
 ghost use Rattle.std.specs.Prelude.{◌≡◌, ◌==◌, ◌&&◌, ◌+◌, ◌<◌, ◌≤◌, [], false, length, take};
 ghost use Rattle.std.specs.Prelude.{◌++◌, Bool, IfErr, IfOk, MatchResult, OnOk, true};
 ghost use Rattle.hd_serve.specs.LineFeeds.{Gives, IsFirstPart, bytes_of, owed, told};
@@ -14,18 +14,18 @@ const MOST: usize = 2_048;
 /// Room for these bytes, a carriage return and a line feed.
 const ROOM: usize = 2_050;
 
-/// A writer before another, which is given a line feed behind each carriage return.
+/// Wraps a writer: adds a line feed after each carriage return.
 ///
-/// A reply, its carriage return and the line feed are one write of the other. Where that takes the carriage
-/// return and not the line feed, the line feed is owed: it is written at once, or, where that fails, before
-/// anything else at the next write, which tells the failure if it fails again.
+/// A reply, its carriage return and the line feed are one write of the inner writer. If that takes the
+/// carriage return and not the line feed, the line feed is owed. It is written at once. If that fails, the next
+/// write begins with it, and returns the failure if it fails again.
 #[derive(Drop)]
 pub(crate) struct LineFeeds<W> {
     to: W,
     owes: bool,
 }
 
-/// A part of what is written: no carriage return stands in it, but one may end it.
+/// A part of what is written. A carriage return may end it, and it has no other.
 #[derive(Clone, Copy)]
 struct Part<'a> {
     plain: &'a [u8],
@@ -47,7 +47,7 @@ impl<'a> Part<'a> {
 }
 
 impl<W: Output> LineFeeds<W> {
-    /// Before a writer that is owed nothing.
+    /// Wraps a writer that is owed nothing.
     pub(crate) fn new(to: W) -> LineFeeds<W>
         ensures to { result.to ≡ to }
         ensures owes { result.owes ≡ false }
@@ -55,11 +55,11 @@ impl<W: Output> LineFeeds<W> {
         LineFeeds { to, owes: false }
     }
 
-    /// Writes once: how many of the bytes were taken. The other writer is given these, with a line feed
-    /// behind each carriage return, but for one that is then owed; and before them the one that was owed.
+    /// Writes once, and returns how many of the bytes were taken. The inner writer gets the line feed that was
+    /// owed, and these bytes with a line feed after each carriage return, except for one that is owed then.
     ///
     /// # Errors
-    /// Where the other fails. None of the bytes is taken then.
+    /// Where the inner writer fails. None of the bytes is taken then.
     fn give(&mut self, bytes: &[u8]) -> Result<usize, WriteFailed>
         requires { 0 < length bytes.now }
         ensures some { IfOk result (λ n. (0 < n) × (n ≤ length bytes.now)) }
@@ -75,16 +75,16 @@ impl<W: Output> LineFeeds<W> {
         let given = self.to.write_some(piece.as_slice())?;
         let owes = is_owed(&part, given);
         self.owes = owes;
-        // Where the line feed isn't taken, the next write tells.
+        // Where the line feed isn't taken, the next write returns the failure.
         let _ = self.pay();
         let taken = given.min(part.len());
         Ok(taken)
     }
 
-    /// Gives the line feed that is owed, if one is.
+    /// Writes the line feed that is owed, if one is.
     ///
     /// # Errors
-    /// Where the other fails. It stays owed then.
+    /// Where the inner writer fails. The line feed stays owed then.
     fn pay(&mut self) -> Result<(), WriteFailed>
         ensures gives { Gives self.old.owes self.new.owes (W.contents self.old.to) (W.contents self.new.to)
             [] }
@@ -99,9 +99,9 @@ impl<W: Output> LineFeeds<W> {
     }
 }
 
-/// What replies are written to.
+/// A writer of replies.
 pub(crate) trait ReplyWriter: Output {
-    /// Whether it sends a line feed behind each carriage return; else it sends what it is given.
+    /// Whether it sends a line feed after each carriage return. Otherwise it sends the bytes that it is given.
     ghost has_line_feeds: { Bool };
 }
 
@@ -157,7 +157,7 @@ fn first_part(bytes: &[u8]) -> Part<'_>
     }
 }
 
-/// A part, and the line feed behind its carriage return.
+/// A part, and the line feed after its carriage return.
 fn with_line_feed(part: &Part<'_>) -> ArrayVec<u8, ROOM>
     requires { length part.now.plain.now ≤ 2048 }
     ensures { result.items ≡ bytes_of part.now.plain.now part.now.is_ended ++ owed part.now.is_ended }
@@ -171,7 +171,7 @@ fn with_line_feed(part: &Part<'_>) -> ArrayVec<u8, ROOM>
     piece
 }
 
-/// Whether the line feed of a part is owed, of which so many bytes were given.
+/// Whether the line feed of a part is owed after `given` of its bytes were written.
 fn is_owed(part: &Part<'_>, given: usize) -> bool
     requires { length part.now.plain.now ≤ 2048 }
     ensures { result ≡ (part.now.is_ended && (given == length part.now.plain.now + 1)) }

@@ -1,23 +1,68 @@
-//! Which logins are taken, as it is told.
+//! Logins, as the log reports them.
 ghost use Rattle.std.specs.Prelude.{◌≡◌, ◌<◌, ◌≤◌, [], IfNone, IfSome, IsFalse, IsTrue, Some};
 ghost use Rattle.hd_catalogue.specs.Contents.{facts_of, terminal_name};
-ghost use Rattle.hd_guard.specs.Trailer.{IsWrong};
-ghost use Rattle.hd_serve.specs.Logins.{HasTerminal, IsBody, IsNamed, IsNoLogin, IsToldOf, IsToldOfBody};
-ghost use Rattle.hd_serve.specs.Logins.{IsKnownName, IsWhy, IsWhyUnknown};
+ghost use Rattle.hd_serve.specs.Logins.{HasTerminal, IsKnownName, IsLoginEvent, IsNameOf, IsNamed, IsNoLogin};
+ghost use Rattle.hd_serve.specs.Logins.{IsOther, IsReason, IsRefusal, is_login, is_taken};
 
 use hd_catalogue::Catalogue;
-use hd_guard::{Guarded, trailer};
+use hd_exchange::Login;
 use hd_log::{ConnectionEvent, Refused};
 use hd_message::{LoginRequest, Request, Unreadable, read};
 use hd_rules::TerminalNo;
+use hd_session::Answered;
 
-/// The login that the body of a message is, and whether it is taken; nothing where it is another message.
-pub(crate) fn login_in<'a>(catalogue: &Catalogue, body: &'a [u8]) -> Option<ConnectionEvent<'a>>
-    ensures login { IfSome result (IsToldOfBody catalogue.now body.now) }
+/// The beginning of a login (SIP2 2.00, message 93).
+const LOGIN: &[u8] = b"93";
+
+/// The beginning of the reply to a login that is taken.
+const TAKEN: &[u8] = b"941";
+
+/// The event of the answer to a line with this body, where that is a login. It is reported as taken exactly
+/// where its reply says so, with the terminal as which the session is then logged in.
+pub(crate) fn login_event<'a>(
+    catalogue: &'a Catalogue,
+    body: &'a [u8],
+    answer: &Answered<'a>,
+) -> Option<ConnectionEvent<'a>>
+    ensures login { IfSome result (IsLoginEvent catalogue.now body.now answer.now.login answer.now.reply.now) }
+    ensures other { IfNone result (IsOther body.now answer.now.reply.now) }
+{
+    if !is_login(body) {
+        return None;
+    }
+    if is_taken(answer.reply) {
+        return Some(ConnectionEvent::LoggedIn {
+            terminal: name_of(catalogue, answer.login),
+        });
+    }
+    refused_login(catalogue, body)
+}
+
+/// Whether a body is a login's.
+fn is_login(body: &[u8]) -> bool
+    ensures { result ≡ is_login body.now }
+{
+    body.starts_with(LOGIN)
+}
+
+/// Whether this is the reply to a login that is taken.
+fn is_taken(reply: &[u8]) -> bool
+    ensures { result ≡ is_taken reply.now }
+{
+    reply.starts_with(TAKEN)
+}
+
+/// The event of a login that isn't taken. The name that it gave is reported only if a terminal has it: where
+/// a bar is missing, the name has a password in it.
+fn refused_login<'a>(catalogue: &Catalogue, body: &'a [u8]) -> Option<ConnectionEvent<'a>>
+    ensures login { IfSome result (IsRefusal catalogue.now body.now) }
     ensures other { IfNone result (IsNoLogin body.now) }
 {
     match read(body) {
-        Ok(Request::Login(request)) => Some(login_told(catalogue, &request)),
+        Ok(Request::Login(request)) => Some(ConnectionEvent::NotLoggedIn {
+            terminal: known_name(catalogue, request.name),
+            why: why_refused(catalogue, &request),
+        }),
         Err(Unreadable::Login) => Some(ConnectionEvent::NotLoggedIn {
             terminal: b"",
             why: Refused::Unreadable,
@@ -26,35 +71,7 @@ pub(crate) fn login_in<'a>(catalogue: &Catalogue, body: &'a [u8]) -> Option<Conn
     }
 }
 
-/// A line without its trailer, unless that is wrong.
-pub(crate) fn body_of(line: &[u8]) -> Option<&[u8]>
-    ensures body { IfSome result (λ body. IsBody line.now body.now) }
-    ensures wrong { IfNone result (IsWrong line.now) }
-{
-    match trailer(line) {
-        Guarded::Plain { body } | Guarded::Checked { body, .. } => Some(body),
-        Guarded::Wrong => None,
-    }
-}
-
-/// What is told of a login: that it is taken exactly where a session takes it. Where it isn't, the name that
-/// it gave is told only if it is a terminal's.
-fn login_told<'a>(catalogue: &Catalogue, request: &LoginRequest<'a>) -> ConnectionEvent<'a>
-    ensures { IsToldOf catalogue.now request.now result }
-{
-    match why_refused(catalogue, request) {
-        None => ConnectionEvent::LoggedIn {
-            terminal: request.name,
-        },
-        Some(why) => ConnectionEvent::NotLoggedIn {
-            terminal: known_name(catalogue, request.name),
-            why,
-        },
-    }
-}
-
-/// A name that is a terminal's, and else nothing: where a bar is missing, a password stands in what was sent
-/// as a name.
+/// A name, if a terminal has it; else an empty one.
 fn known_name<'a>(catalogue: &Catalogue, name: &'a [u8]) -> &'a [u8]
     ensures { IsKnownName catalogue.now name.now result.now }
 {
@@ -65,24 +82,13 @@ fn known_name<'a>(catalogue: &Catalogue, name: &'a [u8]) -> &'a [u8]
     }
 }
 
-/// Why a login isn't taken; nothing exactly where a session takes it.
-fn why_refused(catalogue: &Catalogue, request: &LoginRequest<'_>) -> Option<Refused>
-    ensures { IsWhy catalogue.now request.now result }
+/// Why a login wasn't taken.
+fn why_refused(catalogue: &Catalogue, request: &LoginRequest<'_>) -> Refused
+    ensures { IsReason catalogue.now request.now result }
 {
     if !request.clear {
-        return Some(Refused::Encrypted);
-    }
-    match catalogue.terminal(request.name, request.password) {
-        Some(_) => None,
-        None => Some(why_unknown(catalogue, request.name)),
-    }
-}
-
-/// Why a name and a password are no terminal's.
-fn why_unknown(catalogue: &Catalogue, name: &[u8]) -> Refused
-    ensures { IsWhyUnknown catalogue.now name.now result }
-{
-    if is_terminal(catalogue, name) {
+        Refused::Encrypted
+    } else if is_terminal(catalogue, request.name) {
         Refused::WrongPassword
     } else {
         Refused::UnknownTerminal
@@ -98,7 +104,7 @@ fn is_terminal(catalogue: &Catalogue, name: &[u8]) -> bool
 }
 
 /// The terminal that has this name, if one has it.
-pub(crate) fn terminal_named(catalogue: &Catalogue, name: &[u8]) -> Option<TerminalNo>
+fn terminal_named(catalogue: &Catalogue, name: &[u8]) -> Option<TerminalNo>
     ensures found { IfSome result (IsNamed catalogue.now name.now) }
     ensures none { IfNone result (¬ HasTerminal catalogue.now name.now) }
 {
@@ -112,15 +118,13 @@ pub(crate) fn terminal_named(catalogue: &Catalogue, name: &[u8]) -> Option<Termi
     None
 }
 
-/// The name of a terminal, if there is one; else an empty one.
-pub(crate) fn name_of(catalogue: &Catalogue, terminal: Option<TerminalNo>) -> &[u8]
-    ensures named { IfSome terminal (λ t. t < (facts_of catalogue.now).terminals
-        → terminal_name catalogue.now t ≡ Some result.now) }
-    ensures none { IfNone terminal (result.now ≡ []) }
+/// The name of the terminal of a login; an empty one where there is none.
+pub(crate) fn name_of(catalogue: &Catalogue, login: Option<Login>) -> &[u8]
+    ensures { IsNameOf catalogue.now login result.now }
 {
-    match terminal {
-        Some(terminal) if (terminal.number() as usize) < catalogue.terminals() => {
-            catalogue.terminal_name(terminal)
+    match login {
+        Some(login) if (login.terminal.number() as usize) < catalogue.terminals() => {
+            catalogue.terminal_name(login.terminal)
         }
         _ => b"",
     }

@@ -2,12 +2,12 @@
 
 use hd_session::Extensions;
 
-/// What becomes of a connection that comes while as many are served as there are workers.
+/// What the server does with a connection that comes while as many are served as there are workers.
 #[derive(Clone, Copy, Debug, PartialEq, Eq)]
 pub enum Beyond {
-    /// It waits until another ends.
+    /// Has it wait until another ends.
     Wait,
-    /// It is closed.
+    /// Closes it.
     TurnAway,
 }
 
@@ -16,17 +16,17 @@ pub enum Beyond {
 pub struct Options<'a> {
     /// How many connections are served at once, each by a thread of its own: 1 to 9,999.
     pub workers: u32,
-    /// What becomes of a connection beyond them.
+    /// What the server does with a connection beyond them.
     pub beyond: Beyond,
-    /// How many connections are accepted before the hall is closed. With 0 it never is.
+    /// After how many connections the hall is closed. With 0 it never is.
     pub connections: u32,
-    /// For how many seconds a connection may give nothing, or take nothing, before it is dropped. With 0 it
-    /// never is.
+    /// After how many seconds a connection is dropped that sends nothing, or takes nothing. With 0 it never
+    /// is.
     pub idle: u32,
-    /// What extends the standard messages of each session, if anything does.
+    /// The extensions of each session's messages, if any are on.
     pub extensions: Option<&'a Extensions>,
-    /// Whether a line feed is sent behind the carriage return of each reply.
+    /// Whether a line feed is sent after the carriage return of each reply.
     pub has_line_feeds: bool,
-    /// How many days the date of a message may lie from the server's day before that is told, if it ever is.
+    /// How many days the date of a message may be from the server's before that is reported, if it is at all.
     pub days_off: Option<u32>,
 }

@@ -66,7 +66,7 @@ impl<H: House> Places<H> {
 
     /// Keeps a seat in its place. There is one, since room is made before each seat is opened.
     pub(crate) fn keep(&mut self, served: ServedSeat<H>)
-        // the seat of number n stands at place n, from 1, and all others where they stood
+        // the seat of number n is at place n, from 1, and all others are where they were
         ensures kept { served.held.seat.number - 1 < length self.old.places.items → self.new.places.items
             ≡ slice_set self.old.places.items (served.held.seat.number - 1) (Some served.held) }
         ensures none { length self.old.places.items ≤ served.held.seat.number - 1 → self.new.places.items

@@ -1,4 +1,4 @@
-//! Readers of which no more comes where the server is to end, and that remember how a read failed.
+//! Readers that are at their end where the server is to end, and that remember how a read failed.
 ghost use Rattle.std.specs.Prelude.{◌≡◌, IsFalse, IsTrue, None, Ok};
 ghost use Rattle.std.specs.Io.{ReadsAtMost};
 ghost use Rattle.std.specs.Io.KnownBytes.{ReadConsumes};
@@ -9,8 +9,8 @@ use crate::writing::is_late;
 use std::io::{self, ErrorKind, Read};
 use std::sync::Wait;
 
-/// A reader before another, which is at its end where the server is to end: of the other no more is read
-/// then, whatever has come. It remembers how its last read failed, if it did.
+/// Wraps a reader: it is at its end where the server is to end, and then reads no more, whatever has come. It
+/// remembers how its last read failed, if it did.
 #[derive(Drop)]
 pub(crate) struct Reading<'a, I, R> {
     from: I,
@@ -20,7 +20,7 @@ pub(crate) struct Reading<'a, I, R> {
 }
 
 impl<'a, I: Read, R: Wait> Reading<'a, I, R> {
-    /// Before a reader.
+    /// Wraps a reader.
     pub(crate) fn new(from: I, standing: &'a Standing, rt: &'a R) -> Reading<'a, I, R>
         ensures { result.from ≡ from }
     {
@@ -55,7 +55,7 @@ impl<'a, I: Read, R: Wait> Read for Reading<'a, I, R> {
     }
 }
 
-/// Reads, at a server on this course: as the reader does, and where the server is to end nothing, as at the
+/// Reads as the reader does, at a server on this course. Where the server is to end, reads nothing, as at the
 /// end of input.
 fn read_on<I: Read>(course: Course, from: &mut I, piece: &mut [u8]) -> io::Result<usize>
     ensures bound { ReadsAtMost result piece.new }

@@ -16,32 +16,33 @@ use std::sync::ledger::Blank;
 use std::thread::Threads;
 use std::time::Clock;
 
-/// Serves terminals over TCP, each connection as a session at a seat of its own in one hall round what keeps
-/// the journal, until so many connections were accepted and have ended; then the hall is closed, and the
-/// keeper comes back. It may have turns from before; those that were made here are legal behind them.
+/// Serves terminals over TCP, each connection as a session at a seat of its own, in one hall around the keeper
+/// of the journal, until as many connections as the options say were accepted and have ended. Then it closes
+/// the hall and returns the keeper. The journal may have turns from before. Those that were made here are
+/// legal after them.
 ///
-/// The workers are threads, started before the first connection is accepted. Where not all can be had, those
-/// that can do the work. Each serves one connection at a time, whose replies are sent at once. Each session
-/// has the extensions of the options, if any. The gate is called before each turn, outside the hall's lock,
-/// with the numbers of the session and of its turn, both from 1. The present is what the clock tells, in the
-/// local time of the catalogue, and `00000101    000000` where it can't be read or its year lies outside 0000
-/// to 9999.
+/// The workers are threads, started before the first connection is accepted. Where the system doesn't start
+/// all of them, the others do the work. Each serves one connection at a time, and its replies are sent at
+/// once. Each session has the extensions of the options, if any. The gate is called before each turn, outside
+/// the hall's lock, with the numbers of the session and of its turn, both from 1. The present is the clock's, in
+/// the local time of the catalogue, and `00000101    000000` where it can't be read or its year isn't 0000 to
+/// 9999.
 ///
-/// A connection makes room to keep its seat, and has a session and, last, a seat opened. Where one can't be
-/// had it is closed without a reply. A read or a write that fails ends that connection alone, as one does
-/// that waits longer than the idle time; the turns that it has made stay.
+/// A connection makes room to keep its seat, then opens a session, and last a seat. Where it can't have one of
+/// the three it is closed without a reply. A read or a write that fails ends only that connection, and so
+/// does one that waits longer than the idle time. The turns that it has made stay.
 ///
-/// Where a connection was lost before it could be accepted, the next is waited for. Where no descriptor or no
-/// memory is left to accept one, that is tried again each tenth of a second as long as a connection is open,
-/// and else 16 times in a row.
+/// Where a connection was lost before it could be accepted, the server waits for the next. Where no descriptor
+/// or no memory is left to accept one, it tries again each tenth of a second as long as a connection is open,
+/// and otherwise 16 times in a row.
 ///
 /// # Errors
 /// `CannotListen` where a connection can't be accepted: those that run are served to their end, and the hall
 /// is closed. `Unwritten`, with the reason, where the keeper fails to write a turn, also where a reply can't
 /// be written either: no more connections are accepted, those that run end at their next turn or their next
 /// read, whatever has come by then, those that wait aren't begun, and the hall is closed. `NotClosed` where
-/// the hall doesn't close. `NoThread` where no thread can be had, and `Memory` where the start is out of
-/// memory: nothing was served then.
+/// the hall doesn't close. `NoThread` where no thread could be started, and `Memory` where the start is out
+/// of memory: nothing was served then.
 pub fn serve<
     R: Threads + Wait + Clock + Sync,
     G: Gate,
@@ -63,7 +64,7 @@ pub fn serve<
     serve_observed(rt, alloc, listener, keeper, options, &Unobserved(gate))
 }
 
-/// Serves terminals over TCP, as `serve` does, and tells an observer what happens.
+/// Serves terminals over TCP as `serve` does, and reports events to an observer.
 ///
 /// # Errors
 /// Those of `serve`.

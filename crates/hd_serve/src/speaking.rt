@@ -1,4 +1,5 @@
-//! Telling what happens at a connection.
+//! The events of a connection.
+ghost use Rattle.hd_serve.specs.Reports.{IsReported};
 
 use crate::gate::Observer;
 use hd_journal::WriteFault;
@@ -6,7 +7,7 @@ use hd_log::{ConnectionEvent, Event, Level};
 use std::alloc::Global;
 use std::net::TcpStream;
 
-/// What tells an observer of one connection.
+/// Reports the events of one connection to an observer.
 #[derive(Drop)]
 pub(crate) struct Speaker<'a, O: Observer> {
     alloc: Global,
@@ -15,7 +16,7 @@ pub(crate) struct Speaker<'a, O: Observer> {
 }
 
 impl<'a, O: Observer> Speaker<'a, O> {
-    /// Of the connection of this number.
+    /// For the connection of this number.
     pub(crate) fn new(alloc: Global, observer: &'a O, connection: usize) -> Speaker<'a, O> {
         Speaker {
             alloc,
@@ -24,18 +25,20 @@ impl<'a, O: Observer> Speaker<'a, O> {
         }
     }
 
-    /// Whether nothing is to be told.
+    /// Whether no event is to be reported.
     pub(crate) fn is_quiet(&self) -> bool {
         self.observer.level() == Level::Quiet
     }
 
-    /// Something happened at the connection.
-    pub(crate) fn tell(&self, what: ConnectionEvent<'_>) {
+    /// An event has happened at the connection.
+    pub(crate) fn tell(&self, what: ConnectionEvent<'_>)
+        ensures { IsReported (O.was_told self.now.observer.now) self.now.connection what.entry }
+    {
         let connection = self.connection;
         self.observer.tell(&Event::At { connection, what });
     }
 
-    /// The journal couldn't be written at a turn of the connection, for this reason.
+    /// Reports that the journal couldn't be written at a turn of the connection, for this reason.
     pub(crate) fn tell_unwritten(&self, why: WriteFault) {
         if let Ok(why) = format!(in self.alloc; "{why}") {
             self.observer.tell(&Event::Unwritten {
@@ -44,7 +47,7 @@ impl<'a, O: Observer> Speaker<'a, O> {
         }
     }
 
-    /// The address from which a connection comes, as text; nothing where it isn't known, or nothing is told.
+    /// The address from which a connection comes, as text. Empty where it isn't known, or isn't reported.
     pub(crate) fn address(&self, stream: &TcpStream) -> String {
         match self.peer(stream) {
             Some(text) => text,
@@ -52,7 +55,7 @@ impl<'a, O: Observer> Speaker<'a, O> {
         }
     }
 
-    /// The address from which a connection comes, as text, where it is known and is to be told.
+    /// The address from which a connection comes, as text, where it is known and is to be reported.
     fn peer(&self, stream: &TcpStream) -> Option<String> {
         if self.is_quiet() {
             return None;

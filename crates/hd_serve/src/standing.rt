@@ -1,4 +1,4 @@
-//! What of a server changes as it goes: whether it is to stop, which connections are open, and whether seats
+//! The state of a server while it runs: whether it is to end, which connections are open, and whether seats
 //! are left.
 ghost use Rattle.std.specs.Prelude.{◌≡◌, ◌+◌, ◌<◌, ◌≤◌, None, Some, IfNone, IfSome, IsTrue, OnSome, not};
 ghost use Rattle.std.specs.Prelude.{length, slice_get, slice_set, true};
@@ -22,39 +22,39 @@ pub(crate) struct Course {
     pub(crate) is_asked: bool,
 }
 
-/// What changes.
+/// The state, which a lock keeps.
 #[derive(Drop)]
 struct Now {
     course: Course,
     /// A second handle of each connection that is open, at the place that it has.
     open: Vec<Option<TcpStream>>,
-    /// Whether it was told that few numbers are left.
+    /// Whether it was reported that few numbers are left.
     is_told: bool,
     /// Whether a connection has found no seat.
     is_full: bool,
 }
 
-/// What of a server changes as it goes, and a second handle of the port that its connections come by.
+/// The state of a server while it runs, and a second handle of its port.
 #[derive(Drop)]
 pub struct Standing {
     now: Mutex<Now>,
     port: TcpStream,
 }
 
-/// That a turn couldn't be written, for this reason. It can't be dropped: it ends its server
+/// A turn couldn't be written, for this reason. The value can't be dropped, so that it ends its server
 /// (`Standing::end_unwritten`).
 pub(crate) struct UnwrittenTurn {
     pub(crate) why: WriteFault,
 }
 
-/// That a server was asked to end: `Standing::ask_to_end` alone gives it.
+/// A server was asked to end. Only `Standing::ask_to_end` returns this value.
 #[derive(Clone, Copy)]
 pub struct AskedToEnd {
     _of: (),
 }
 
 impl Standing {
-    /// Of a server that begins, at a port that is to be listened at.
+    /// The state of a server that begins to listen at a port.
     ///
     /// # Errors
     /// Where the system gives no second handle.
@@ -76,9 +76,9 @@ impl Standing {
         })
     }
 
-    /// Has the server end: no more connections are accepted, and none that waits is begun; what was read is
-    /// answered, and each session ends at its next read, whatever has come by then. A reply of which nothing
-    /// is taken for a second isn't written.
+    /// Has the server end. No more connections are accepted, and none that waits is begun. Lines that were read
+    /// are answered, and each session ends at its next read, whatever has come by then. A reply of which
+    /// nothing is taken for a second isn't written.
     pub fn ask_to_end<R: Wait>(&self, rt: &R) -> AskedToEnd {
         let mut now = self.now.lock(rt);
         now.course.ask();
@@ -136,13 +136,13 @@ impl Standing {
         self.now.lock(rt).leave(place);
     }
 
-    /// Whether nobody has been told before that few numbers are left. Then it counts as told.
+    /// Whether it hasn't been reported before that few numbers are left. It counts as reported from then on.
     pub(crate) fn is_news<R: Wait>(&self, rt: &R) -> bool {
         self.now.lock(rt).is_news()
     }
 
-    /// Wakes whoever waits to read of a connection, or for one at the port. Of a connection no more is read
-    /// then, since each reader looks at the course before (`Reading`).
+    /// Wakes each thread that waits to read from a connection, or for one at the port. No more is read from a
+    /// connection then, since each reader looks at the course first (`Reading`).
     fn hang_up(&self, now: &Now) {
         for handle in now.open.iter().flatten() {
             let _ = handle.shutdown(Shutdown::Read);
@@ -179,7 +179,7 @@ impl Course {
     /// Begins a connection that has waited for a worker, unless the server is to end.
     ///
     /// # Errors
-    /// What is told of why it isn't begun: the server is to end.
+    /// The reason that is reported: the server is to end.
     pub(crate) fn begin(self) -> Result<(), End>
         ensures { result ≡ begun self }
     {
@@ -189,7 +189,7 @@ impl Course {
         Ok(())
     }
 
-    /// What is told of why a connection ended of which no more came.
+    /// The reason that is reported where no more came of a connection.
     pub(crate) fn end(self) -> End
         ensures { result ≡ end_on self.unwritten self.is_asked }
     {
@@ -202,8 +202,8 @@ impl Course {
         }
     }
 
-    /// What is told of why a connection was closed that was given no place: the server is to end, or else
-    /// memory ran out.
+    /// The reason that is reported where a connection got no place and was closed: the server is to end, or
+    /// else memory ran out.
     fn end_without_place(self) -> End
         ensures { result ≡ end_without_place self }
     {
@@ -259,7 +259,7 @@ impl Now {
         }
     }
 
-    /// Whether nobody has been told before that few numbers are left. Then it counts as told.
+    /// Whether it hasn't been reported before that few numbers are left. It counts as reported from then on.
     fn is_news(&mut self) -> bool
         ensures news { result ≡ not self.old.is_told }
         ensures told { self.new.is_told ≡ true }

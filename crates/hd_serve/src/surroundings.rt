@@ -1,4 +1,4 @@
-//! What surrounds the sessions of a server.
+//! The clock and the gate of a server's sessions.
 ghost use Rattle.std.specs.Prelude.{◌≡◌};
 ghost use Rattle.hd_date.specs.Clock.{IsPresent};
 
@@ -9,7 +9,7 @@ use hd_catalogue::Catalogue;
 use hd_date::{OffsetMinutes, Stamp18};
 use std::time::Clock;
 
-/// A clock, which tells the present in the local time of a library, and a gate.
+/// A clock with the local time of a library, and a gate.
 #[derive(Drop)]
 pub(crate) struct ClockAndGate<'a, R, G: Gate> {
     pub(crate) clock: &'a R,

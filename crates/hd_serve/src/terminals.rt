@@ -24,7 +24,7 @@ use std::thread;
 use std::thread::Threads;
 use std::time::Clock;
 
-/// What is left when no more terminals are served: how accepting ended, and the seats of all connections.
+/// The outcome when no more terminals are served: how accepting ended, and the seats of all connections.
 #[derive(Drop)]
 pub struct Served<H: House> {
     accepted: Result<(), ServeFault>,
@@ -34,9 +34,9 @@ pub struct Served<H: House> {
 }
 
 impl<H: House> Served<H> {
-    /// Closes the hall in which they were served: what keeps its journal, whose turns since it was opened are
-    /// legal, and just those that the connections were told, each once. All parts of the hall's ledger come
-    /// back, with as many turns counted: so no connection is left out.
+    /// Closes the hall in which they were served, and returns its keeper. The turns of its journal since it was
+    /// opened are legal, and they are just those that the connections were answered, each once. All parts of
+    /// the hall's ledger come back, with as many turns counted: so no connection is left out.
     ///
     /// # Errors
     /// `NotClosed` where the hall doesn't close; the fault of the accepting, if it ended with one;
@@ -66,8 +66,8 @@ impl<H: House> Served<H> {
     }
 }
 
-/// What a server answers whose hall has closed, where its accepting ended so, and, if its journal couldn't be
-/// written, why.
+/// What a server returns whose hall has closed: `accepted` says how its accepting ended, and `unwritten` why
+/// its journal couldn't be written, if so.
 fn answer<T: Drop>(
     accepted: Result<(), ServeFault>,
     unwritten: Option<WriteFault>,
@@ -85,11 +85,10 @@ fn answer<T: Drop>(
     }
 }
 
-/// Serves terminals over TCP in a hall, each connection as a session at a seat of its own, until so many
-/// connections have been served, or the server is asked to end (`Standing`).
+/// Serves terminals over TCP in a hall, each connection as a session at a seat of its own, until as many
+/// connections have been served as the options say, or the server is asked to end (`Standing`).
 ///
-/// All is as at `serve`, which closes the hall too. The observer is told what happens, as far as it wants to
-/// know.
+/// All is as at `serve`, which closes the hall too. Events are reported to the observer, up to its level.
 ///
 /// # Errors
 /// `Memory`, where the start is out of memory, and no other. Nothing was served then.
@@ -131,11 +130,11 @@ pub fn serve_terminals<
     })
 }
 
-/// Starts the workers, hands them the connections, and returns when all are served. Where not all workers can
-/// be had, as many connections are served at once as were started.
+/// Starts the workers, passes the connections to them, and returns when all are served. Where the system
+/// doesn't start all workers, as many connections are served at once as were started.
 ///
 /// # Errors
-/// Those of the accepting; and `NoThread` where not one worker can be had. Nothing was served then.
+/// Those of the accepting. `NoThread` where no worker could be started: nothing was served then.
 fn serve_by<
     H: House + Send + Sync,
     R: Threads + Wait + Clock + Sync,
@@ -177,7 +176,7 @@ fn serve_by<
     })
 }
 
-/// Tells where fewer workers were started than there were to be.
+/// Reports where fewer workers were started than were wanted.
 fn tell_few<O: Observer>(observer: &O, started: u32, wanted: u32) {
     if started < wanted {
         observer.tell(&Event::FewWorkers {

@@ -6,10 +6,9 @@ ghost use Rattle.hd_exchange.specs.Extensions.{extensions_lent};
 ghost use Rattle.hd_session.specs.Sessions.{new_session};
 
 use crate::accepting::Connection;
-use crate::answering::Answering;
+use crate::connection_log::ConnectionLog;
 use crate::day_watch::DayWatch;
 use crate::gate::{Gate, Observer};
-use crate::hearing::Hearing;
 use crate::line_feeds::{LineFeeds, ReplyWriter};
 use crate::options::Options;
 use crate::places::{Places, ServedSeat};
@@ -22,7 +21,6 @@ use crossbeam_channel::Receiver;
 use hd_attend::{AttendFault, attend};
 use hd_connection::Fallible;
 use hd_exchange::profile_of;
-use hd_field::Stream;
 use hd_hall::{Counter, Hall, House, Keeper, Seat, Turns};
 use hd_journal::TurnFault;
 use hd_list_rows::CountsReader;
@@ -45,7 +43,7 @@ pub(crate) struct Service<'a, H: House, Q: Drop, K: Turns> {
     pub(crate) options: Options<'a>,
 }
 
-/// A connection that is served, and who is told of it.
+/// A connection that is served, and who reports its events.
 #[derive(Drop)]
 struct Visit<'v, R, O: Observer> {
     rt: &'v R,
@@ -60,7 +58,7 @@ struct Visited {
     ended: Result<(), AttendFault>,
     /// Whether its last read waited for longer than it may.
     is_idle: bool,
-    /// How many replies it was given, as far as they are told.
+    /// How many replies it was given, as far as they are logged.
     replies: u64,
 }
 
@@ -75,7 +73,7 @@ impl<'a, H: House, Q: Drop, K: Keeper<Global, Q> + Drop> Service<'a, H, Q, K> {
         }
     }
 
-    /// Serves a connection to its end, and tells how it ended.
+    /// Serves a connection to its end, and reports how it ended.
     fn welcome<R: Wait + Clock, O: Gate + Observer>(
         &self,
         rt: &R,
@@ -108,11 +106,11 @@ impl<'a, H: House, Q: Drop, K: Keeper<Global, Q> + Drop> Service<'a, H, Q, K> {
         self.notice_numbers(rt, observer);
     }
 
-    /// Serves a connection to its end, and keeps its seat: how it went.
+    /// Serves a connection to its end, keeps its seat, and returns how it went.
     ///
     /// # Errors
-    /// Why nothing is read and nothing written: the server is to end, the system refuses its options, memory
-    /// for its seat or its session runs out, or no seat is left.
+    /// Why nothing is read and nothing written: the server is to end, the system refuses the connection's
+    /// options, memory for its seat or its session runs out, or no seat is left.
     fn serve_one<R: Wait + Clock, O: Gate + Observer>(
         &self,
         visit: &Visit<'_, R, O>,
@@ -123,30 +121,31 @@ impl<'a, H: House, Q: Drop, K: Keeper<Global, Q> + Drop> Service<'a, H, Q, K> {
         };
         self.places.lock(visit.rt).add()?;
         let state = Session::opened(self.alloc, self.options.extensions)?;
-        let heard = Stream::new(self.alloc)?;
         let Some(seat) = self.hall.seat(visit.rt) else {
             self.standing.note_full(visit.rt);
             return Err(End::Seat);
         };
-        let (visited, seat) = self.attend_one(visit, state, heard, seat);
+        let (visited, seat) = self.attend_one(visit, state, seat);
         self.places.lock(visit.rt).keep(seat);
         Ok(visited)
     }
 
-    /// How it went, and the seat, when the connection has ended. Why it ended makes no difference to the
-    /// others, but where the journal couldn't be written at a turn of its session, also where a reply
-    /// couldn't be either: then the server is to end.
+    /// Returns how a connection went, and its seat, when it has ended. Its end makes no difference to the
+    /// others, with one exception: where the journal couldn't be written at a turn of its session, the server
+    /// is to end, also if a reply couldn't be written either.
     fn attend_one<R: Wait + Clock, O: Gate + Observer>(
         &self,
         visit: &Visit<'_, R, O>,
         mut state: Session<'_>,
-        heard: Stream,
         mut seat: Seat<H>,
     ) -> (Visited, ServedSeat<H>)
         requires seat { seat.parts ≡ 1 }
         requires state { state ≡ new_session (extensions_lent self.now.options.extensions) }
     {
-        let visited = self.attend_to(visit, &mut state, heard, &mut seat);
+        let visited = self.attend_to(visit, &mut state, &mut seat);
+        if state.end() == Some(Ended::TooLong) {
+            visit.speaker.tell(ConnectionEvent::LongLine);
+        }
         if let Some(unwritten) = stop_of(state.end()) {
             let why = unwritten.why;
             self.standing.end_unwritten(visit.rt, unwritten);
@@ -155,12 +154,11 @@ impl<'a, H: House, Q: Drop, K: Keeper<Global, Q> + Drop> Service<'a, H, Q, K> {
         (visited, ServedSeat::new(seat))
     }
 
-    /// How a connection went that is attended to at a seat.
+    /// Attends to a connection at a seat, and returns how it went.
     fn attend_to<R: Wait + Clock, O: Gate + Observer>(
         &self,
         visit: &Visit<'_, R, O>,
         state: &mut Session<'_>,
-        heard: Stream,
         seat: &mut Seat<H>,
     ) -> Visited
         requires seat { seat.old.parts ≡ 1 }
@@ -171,21 +169,19 @@ impl<'a, H: House, Q: Drop, K: Keeper<Global, Q> + Drop> Service<'a, H, Q, K> {
         let writing = Writing::new(stream, self.standing, visit.rt, self.options.idle);
         let writer = Fallible(writing);
         if self.options.has_line_feeds {
-            self.attend_by(visit, state, heard, seat, LineFeeds::new(writer))
+            self.attend_by(visit, state, seat, LineFeeds::new(writer))
         } else {
-            self.attend_by(visit, state, heard, seat, writer)
+            self.attend_by(visit, state, seat, writer)
         }
     }
 
-    /// The same, where the replies are given to this writer, which sends line feeds where the options have
-    /// them.
+    /// The same with this writer of replies, which sends line feeds where the options have them.
     fn attend_by<R: Wait + Clock, O: Gate + Observer, W: ReplyWriter + Drop>(
         &self,
         visit: &Visit<'_, R, O>,
         state: &mut Session<'_>,
-        heard: Stream,
         seat: &mut Seat<H>,
-        writer: W,
+        mut writer: W,
     ) -> Visited
         requires seat { seat.old.parts ≡ 1 }
         requires state { state.old ≡ new_session (extensions_lent self.now.options.extensions) }
@@ -194,11 +190,9 @@ impl<'a, H: House, Q: Drop, K: Keeper<Global, Q> + Drop> Service<'a, H, Q, K> {
     {
         let catalogue = self.hall.catalogue();
         let stream = &visit.connection.stream;
-        let from = Fallible(Reading::new(stream, self.standing, visit.rt));
-        let days = self.day_watch();
-        let mut reader = Hearing::new(from, heard, catalogue, visit.speaker, visit.rt, days);
-        let mut writer = Answering::new(writer, visit.speaker);
+        let mut reader = Fallible(Reading::new(stream, self.standing, visit.rt));
         let surroundings = ClockAndGate::of(catalogue, visit.rt, visit.observer);
+        let mut log = ConnectionLog::new(catalogue, visit.speaker, self.day_watch());
         let mut counter = Counter::new(visit.rt, self.hall, seat);
         let ended = attend(
             visit.rt,
@@ -208,15 +202,16 @@ impl<'a, H: House, Q: Drop, K: Keeper<Global, Q> + Drop> Service<'a, H, Q, K> {
             state,
             visit.connection.session,
             &surroundings,
+            &mut log,
         );
         Visited {
             ended,
-            is_idle: reader.into_reader().0.is_idle(),
-            replies: writer.replies(),
+            is_idle: reader.0.is_idle(),
+            replies: log.replies(),
         }
     }
 
-    /// What sees the days of a connection's messages.
+    /// The comparison of days for a connection of which nothing has been read.
     fn day_watch(&self) -> DayWatch {
         DayWatch {
             offset: self.hall.catalogue().offset(),
@@ -226,7 +221,7 @@ impl<'a, H: House, Q: Drop, K: Keeper<Global, Q> + Drop> Service<'a, H, Q, K> {
         }
     }
 
-    /// Tells once where nine tenths of the numbers for commands have been given.
+    /// Reports once where nine tenths of the numbers for commands have been given.
     fn notice_numbers<R: Wait, O: Observer>(&self, rt: &R, observer: &O) {
         let mut reader = CountsReader { counts: None };
         if self.hall.look(rt, &mut reader).is_err() {
@@ -244,15 +239,14 @@ impl<'a, H: House, Q: Drop, K: Keeper<Global, Q> + Drop> Service<'a, H, Q, K> {
     }
 }
 
-/// Whether nine tenths of so many numbers have been given, of which this is the last.
+/// Whether nine tenths of `most` numbers have been given, where `last` is the last of them.
 fn are_few(last: u64, most: u64) -> bool
     ensures { IsTrue result ↔ AreFew last most }
 {
     last >= most - most / 10
 }
 
-/// Why no more connections are to be served, where the session of one has this end, or none: a turn of it
-/// couldn't be written.
+/// Why no more connections are to be served, by the end of one's session: a turn of it couldn't be written.
 fn stop_of(end: Option<Ended>) -> Option<UnwrittenTurn>
     ensures { option_map (λ unwritten. unwritten.why) result ≡ stop_of end }
 {
@@ -262,8 +256,8 @@ fn stop_of(end: Option<Ended>) -> Option<UnwrittenTurn>
     }
 }
 
-/// What is told of why a connection ended, whose last read waited for too long or not, at a server on this
-/// course.
+/// The reason for the end of a connection that is reported, at a server on this course. `is_idle` says
+/// whether its last read waited for too long.
 fn end_of(ended: Result<(), AttendFault>, is_idle: bool, course: Course) -> End
     ensures { result ≡ end_of ended is_idle course }
 {
@@ -281,7 +275,7 @@ fn end_of(ended: Result<(), AttendFault>, is_idle: bool, course: Course) -> End
     }
 }
 
-/// How many whole seconds have gone since a moment, where the clock can be read.
+/// How many whole seconds have passed since a moment. 0 where the clock can't be read.
 fn seconds_since<R: Clock>(rt: &R, begin: io::Result<Instant>) -> u64 {
     match begin {
         Ok(begin) => match begin.elapsed(rt) {
@@ -292,15 +286,16 @@ fn seconds_since<R: Clock>(rt: &R, begin: io::Result<Instant>) -> u64 {
     }
 }
 
-/// Has small replies sent at once, reads fail that wait longer than so many seconds, and writes that wait for
-/// one, which are tried again (`Writing`).
+/// Has small replies sent at once. A read fails that waits longer than `idle` seconds, and a write that waits
+/// for one second, which is tried again (`Writing`).
 fn prepare(stream: &TcpStream, idle: u32) -> io::Result<()> {
     stream.set_nodelay(true)?;
     stream.set_read_timeout(longest_wait(idle))?;
     stream.set_write_timeout(Some(Duration::from_secs(1)))
 }
 
-/// For how long a read waits at most, of a connection that may be idle for so many seconds; with 0 for ever.
+/// How long a read waits at most, from a connection that may be idle for `idle` seconds. With 0 it waits for
+/// ever.
 fn longest_wait(idle: u32) -> Option<Duration>
     ensures { IsLongestWait idle result }
 {

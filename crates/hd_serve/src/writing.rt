@@ -1,4 +1,4 @@
-//! Writers that wait until what they are given is taken.
+//! Writers that wait until their bytes are taken.
 ghost use Rattle.std.specs.Prelude.{◌≡◌, ◌↔◌, IsTrue};
 ghost use Rattle.hd_serve.specs.Waits.{IsWaitedFor, is_late};
 
@@ -6,19 +6,19 @@ use crate::standing::{Course, Standing};
 use std::io::{self, ErrorKind, Write};
 use std::sync::Wait;
 
-/// A writer before another, whose writes fail that wait for a second. Such a write is tried again, until
-/// nothing was taken for as many seconds as the connection may be idle, or the server is to end.
+/// Wraps a writer whose writes fail after they waited for a second. Such a write is tried again, until nothing
+/// was taken for as many seconds as the connection may be idle, or the server is to end.
 #[derive(Drop)]
 pub(crate) struct Writing<'a, W, R> {
     to: W,
     standing: &'a Standing,
     rt: &'a R,
-    /// For how many seconds nothing may be taken. With 0 that may be for ever.
+    /// For how many seconds nothing may be taken. With 0 this has no limit.
     idle: u32,
 }
 
 impl<'a, W: Write, R: Wait> Writing<'a, W, R> {
-    /// Before a writer.
+    /// Wraps a writer.
     pub(crate) fn new(to: W, standing: &'a Standing, rt: &'a R, idle: u32) -> Writing<'a, W, R>
         ensures { result.to ≡ to }
     {
@@ -56,15 +56,15 @@ impl<'a, W: Write, R: Wait> Write for Writing<'a, W, R> {
     }
 }
 
-/// Whether a write that failed in this way is tried again, at a server on this course, behind so many seconds
-/// in which nothing was taken.
+/// Whether a write that failed in this way is tried again, at a server on this course, after `seconds` in
+/// which nothing was taken.
 fn is_waited_for(course: Course, kind: ErrorKind, seconds: u32, idle: u32) -> bool
     ensures { IsTrue result ↔ IsWaitedFor course kind seconds idle }
 {
     is_late(kind) && !course.is_to_end() && (idle == 0 || seconds < idle)
 }
 
-/// Whether a call failed that had waited for as long as it may.
+/// Whether a call failed because it had waited for as long as it may.
 pub(crate) fn is_late(kind: ErrorKind) -> bool
     ensures { result ≡ is_late kind }
 {

@@ -15,6 +15,6 @@ pub use crate::replaying::replay;
 pub use crate::seen::{Sight, serve_seen};
 pub use crate::serving::serve;
 pub use crate::summary::{ClosedJournal, Summary, summary_of};
-pub use hd_attend::{AttendFault, Surroundings, attend};
+pub use hd_attend::{Answered, AttendFault, NoLog, SessionLog, Surroundings, attend};
 pub use hd_replay::ReplayFault;
 pub use hd_serve::{Beyond, Gate, Observer, Options, ServeFault};

@@ -2,9 +2,11 @@ pub mod Deeds
 pub mod Hearing
 pub mod Ends
 pub mod Feeding
+pub mod Logging
 pub mod Causes
 pub mod Playing
 pub mod Knowing
 pub mod Strangers
 pub mod Looks
 pub mod Determined
+pub mod Taken

@@ -1,16 +1,21 @@
 //! The laws of sessions.
-ghost use Rattle.std.specs.Prelude.{◌≡◌, ◌<◌, ◌≤◌, ◌+◌, ◌*◌, ◌++◌, ℕ, All, List, Some, false, length};
+ghost use Rattle.std.specs.Prelude.{◌≡◌, ◌<◌, ◌≤◌, ◌+◌, ◌*◌, ◌++◌, ℕ, All, Bool, List, Option, Some, codes, false};
+ghost use Rattle.std.specs.Prelude.{is_some, length, nat_eq};
+ghost use Rattle.std.specs.List.{starts_with};
 ghost use Rattle.hd_date.specs.Stamps.{Stamp};
 ghost use Rattle.hd_rules.specs.Journal.{IsLegal, Turn};
 ghost use Rattle.hd_catalogue.specs.Contents.{Contents, facts_of};
+ghost use Rattle.hd_exchange.specs.Answers.{login_answer_text};
 ghost use Rattle.hd_exchange.specs.Deeds.{AreShown, AreTurns, Deed};
 ghost use Rattle.hd_exchange.specs.Extensions.{Extensions};
+ghost use Rattle.hd_exchange.specs.declared.login.Login.{Login};
 ghost use Rattle.hd_field.specs.Streams.{lines_in};
 ghost use Rattle.hd_session.specs.Endings.{EndsWell};
 ghost use Rattle.hd_session.specs.Scripts.{AreFed, Event, HaveNoPatronMessages, ShowsTheSame, Step, deeds_of};
 ghost use Rattle.hd_session.specs.Scripts.{events_of, pieces_of, session_at, turns_of, replies_written};
 ghost use Rattle.hd_session.specs.Sessions.{AreFedTo, Hearing, IsFed, Piece, Room, any_room, new_session};
 ghost use Rattle.hd_session.specs.Sessions.{stream};
+ghost use Rattle.hd_session.specs.Trailers.{text_and_trailer};
 ghost use Rattle.hd_session.specs.declared.ended.Ended.TheVariants as end;
 ghost use Rattle.hd_journal.specs.declared.fault.TurnFault.{TurnFault};
 ghost use Rattle.hd_journal.specs.declared.fault.TurnFault.TheVariants as fault;
@@ -19,9 +24,9 @@ use hd_exchange::{Office, each_body_has_one_answer, only_patron_messages_look};
 use hd_field::cuts_change_nothing;
 use std::alloc::Allocator;
 
-/// A session that is fed a piece of its stream and then another at the same present is one that is fed both
-/// at once: however a stream is cut, the same is done and the same text is answered. The second piece
-/// may come with less room, by what the replies to the first have taken.
+/// A session that is fed a piece of its stream and then another at the same present is one that is fed both at
+/// once: however a stream is cut, the same is done and the same text is answered. The second piece may come
+/// with less room, by the bytes of the replies to the first.
 pub fn pieces_are_one<A: Allocator, O: Office<A>>()
     ensures { (k : Contents) (seat : ℕ) (now : Stamp) (room left : Room)
         (first then : List ℕ) (did did' : List Deed) (h between h' : Hearing) (text text' : List ℕ)
@@ -108,8 +113,8 @@ pub fn only_patron_messages_look_in_sessions<A: Allocator, O: Office<A>>()
 
 /// A script in which each session goes on, or is ended by a line too long, is determined by its pieces. Where
 /// it is played twice from sessions that are alike, each time at a legal journal that goes on from the same
-/// turns, the same events come of it (what the office does, the replies and the ends), and the sessions are
-/// alike again. That is so of sessions without patron messages; and of any others where the office shows a
+/// turns, it has the same events (what the office does, the replies and the ends), and the sessions are alike
+/// again. That holds of sessions without patron messages, and of any others where the office shows a
 /// look the same after the same turns.
 pub fn scripts_are_determined<A: Allocator, O: Office<A>>()
     ensures standard { (k : Contents) (seat : ℕ) (turns : List Turn) (steps : List Step)
@@ -138,3 +143,10 @@ pub fn scripts_are_determined<A: Allocator, O: Office<A>>()
     each_body_has_one_answer();
     only_patron_messages_look();
 }
+
+/// A log knows by the reply to a login whether that is taken: exactly then it begins with 941.
+pub fn logins_are_known_by_their_reply()
+    ensures { (made : Option Login) (checked : Bool) (digit : Option ℕ)
+        → starts_with nat_eq (text_and_trailer checked digit (login_answer_text made)) (codes "941")
+        ≡ is_some made }
+{}

@@ -16,10 +16,10 @@ pub enum ScriptFault {
 }
 
 /// Plays pieces of the streams of several sessions, all at one present: each is fed to the session of its
-/// number, counted from 0, and what that is answered is appended to the out of the same number. There are as
-/// many outs as sessions.
+/// number, counted from 0, and the replies are appended to the out of the same number. There are as many outs
+/// as sessions.
 ///
-/// A session that has ended hears nothing more; the reason stands in the session.
+/// A session that has ended hears nothing more. It keeps the reason.
 ///
 /// # Errors
 /// `Stranger` where a piece names no session. Nothing is done then.
@@ -50,7 +50,7 @@ pub fn run<A: Allocator + Copy, O: Office<A>>(
     }
 }
 
-/// The first piece that names none of so many sessions.
+/// The place of the first piece that names no session, where there are `sessions` of them.
 fn stranger(pieces: &[(usize, &[u8])], sessions: usize) -> Option<usize>
     ensures known { IfNone result (All (λ session. session < sessions) (named_in pieces.now)) }
     ensures first { IfSome result (IsStrangerAt sessions (named_in pieces.now)) }

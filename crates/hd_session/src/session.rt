@@ -1,10 +1,13 @@
 //! Sessions.
-ghost use Rattle.std.specs.Prelude.{◌≡◌, ◌≤◌, ◌∷◌, [], Some, None, IfErr, IfOk, OnOk, OnErr, length};
+ghost use Rattle.std.specs.Prelude.{◌≡◌, ◌≤◌, ◌∷◌, [], Some, None, IfErr, IfNone, IfOk, OnErr, OnOk, OnSome};
+ghost use Rattle.std.specs.Prelude.{length};
 ghost use Rattle.hd_exchange.specs.Extensions.{extensions_lent, no_extensions};
+ghost use Rattle.hd_session.specs.Logs.{Heard, Logs, LogsLine, LogsPiece};
 ghost use Rattle.hd_session.specs.Sessions.{Answers, Feeds, IsCause, new_session, room_of};
 ghost use Rattle.hd_session.specs.States.{IsKnownTo};
 
 use crate::ended::Ended;
+use crate::session_log::{Answered, NoLog, SessionLog};
 use crate::state::{LONGEST_REPLY, SessionState};
 use hd_date::Stamp18;
 use hd_exchange::{Extensions, Office, TurnFault};
@@ -12,9 +15,9 @@ use hd_field::Stream;
 use std::alloc::{AllocError, Allocator, Global};
 use std::marker::Model;
 
-/// A terminal's session: its line that hasn't ended, and where it stands (docs/protocol.md, "Sessions").
+/// A terminal's session: its line that hasn't ended, and its state (docs/protocol.md, "Sessions").
 ///
-/// It is lent what extends its messages, if anything does.
+/// It borrows the extensions of its messages, if any are on.
 pub struct Session<'e, A: Allocator = Global> {
     stream: Stream<A>,
     state: SessionState<'e, A>,
@@ -41,8 +44,8 @@ impl<'e, A: Allocator> Model for Session<'e, A> {
 }
 
 impl<'e, A: Allocator + Copy> Session<'e, A> {
-    /// A session before its first byte, with room for its longest line and its last reply. It stands as no
-    /// terminal, and is answered the standard messages alone.
+    /// A session before its first byte, with room for its longest line and its last reply. It isn't logged in,
+    /// and answers the standard messages alone.
     ///
     /// # Errors
     /// Where it is out of memory.
@@ -106,10 +109,37 @@ impl<'e, A: Allocator + Copy> Session<'e, A> {
         ensures open { OnOk result (self.new.ended ≡ None) }
         ensures ended { IfErr result (λ why. self.new.ended ≡ Some why) }
     {
+        let mut log = NoLog;
+        self.feed_logged(piece, now, office, &mut log, out)
+    }
+
+    /// The same, and the log is called as the session decides: with each line, each reply that is appended,
+    /// and the beginning of the line that hasn't ended.
+    ///
+    /// # Errors
+    /// As of `feed`. The line at which the session ends is heard, and isn't answered.
+    pub fn feed_logged<O: Office<A>, L: SessionLog>(
+        &mut self,
+        piece: &[u8],
+        now: &Stamp18,
+        office: &mut O,
+        log: &mut L,
+        out: &mut Vec<u8, A>,
+    ) -> Result<(), Ended>
+        requires login { IsKnownTo (O.keeps office.old).contents self.old.state }
+        ensures fed { Feeds O.Office office.old office.new out.old out.new now.now
+            self.old piece.now self.new }
+        ensures logged { IfNone self.old.ended (LogsPiece out.old out.new (L.entries log.old) (L.entries log.new)
+            self.old piece.now self.new) }
+        // A session that has ended logs nothing.
+        ensures silent { OnSome self.old.ended (Logs (L.entries log.old) (L.entries log.new) []) }
+        ensures open { OnOk result (self.new.ended ≡ None) }
+        ensures ended { IfErr result (λ why. self.new.ended ≡ Some why) }
+    {
         if let Some(why) = self.ended {
             return Err(why);
         }
-        self.hear(piece, now, office, out);
+        self.hear(piece, now, office, log, out);
         match self.ended {
             None => Ok(()),
             Some(why) => Err(why),
@@ -124,7 +154,7 @@ impl<'e, A: Allocator + Copy> Session<'e, A> {
         self.state.gaps()
     }
 
-    /// What its memory comes from: the replies to it may come from there too.
+    /// The allocator of its memory. The replies to it may be allocated there too.
     pub fn alloc(&self) -> A {
         self.state.alloc()
     }
@@ -138,23 +168,26 @@ impl<'e, A: Allocator + Copy> Session<'e, A> {
 
     /// Answers the lines that end in a piece. The session ends where one can't be answered, or has grown too
     /// long.
-    fn hear<O: Office<A>>(
+    fn hear<O: Office<A>, L: SessionLog>(
         &mut self,
         piece: &[u8],
         now: &Stamp18,
         office: &mut O,
+        log: &mut L,
         out: &mut Vec<u8, A>,
     )
         requires login { IsKnownTo (O.keeps office.old).contents self.old.state }
         requires open { self.old.ended ≡ None }
-        ensures { Feeds O.Office office.old office.new out.old out.new now.now
+        ensures fed { Feeds O.Office office.old office.new out.old out.new now.now
+            self.old piece.now self.new }
+        ensures logged { LogsPiece out.old out.new (L.entries log.old) (L.entries log.new)
             self.old piece.now self.new }
     {
         let mut rest = piece;
         while let Some(used) = self.stream.take(rest) {
             let (_, behind) = rest.split_at(used);
             let line = self.stream.line();
-            let answered = answer_line(&mut self.state, now, line, office, out);
+            let answered = answer_line(&mut self.state, now, line, office, log, out);
             self.stream.begin();
             match answered {
                 Ok(()) => rest = behind,
@@ -164,23 +197,24 @@ impl<'e, A: Allocator + Copy> Session<'e, A> {
                 }
             }
         }
+        log.unended(self.stream.line());
         if self.stream.is_too_long() {
             self.ended = Some(Ended::TooLong);
         }
     }
 }
 
-/// Answers a line: its reply is made where it is sent, behind what stands in `out`. An empty line is answered
-/// nothing.
+/// Answers a line: its reply is appended to `out`. An empty line gets no reply.
 ///
 /// # Errors
 /// The fault of the office, or `Memory` where the reply's room can't be made. Nothing is done then, there is
 /// no reply, and the state is as before.
-fn answer_line<A: Allocator + Copy, O: Office<A>>(
+fn answer_line<A: Allocator + Copy, O: Office<A>, L: SessionLog>(
     state: &mut SessionState<'_, A>,
     now: &Stamp18,
     line: &[u8],
     office: &mut O,
+    log: &mut L,
     out: &mut Vec<u8, A>,
 ) -> Result<(), TurnFault>
     requires login { IsKnownTo (O.keeps office.old).contents state.old }
@@ -192,10 +226,22 @@ fn answer_line<A: Allocator + Copy, O: Office<A>>(
         [] state.old state.new) }
     ensures cause { IfErr result (IsCause (O.keeps office.old).contents O.faults
         (room_of out.old out.new) state.old 0 line.now) }
+    ensures logged { OnOk result (LogsLine out.old out.new (L.entries log.old) (L.entries log.new)
+        now.now line.now state.new) }
+    ensures given_up { OnErr result (Logs (L.entries log.old) (L.entries log.new) (Heard line.now ∷ [])) }
 {
+    log.heard(line);
     if line.is_empty() {
         return Ok(());
     }
     out.reserve(LONGEST_REPLY)?;
-    state.hear(now, line, office, out)
+    let from = out.len();
+    let body = state.hear(now, line, office, out)?;
+    log.answered(&Answered {
+        present: *now,
+        body,
+        login: state.login(),
+        reply: &out[from..],
+    });
+    Ok(())
 }

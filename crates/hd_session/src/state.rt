@@ -1,12 +1,15 @@
 //! The state of a session, and what a line is answered.
 ghost use Rattle.std.specs.Prelude.{◌≡◌, ◌≤◌, ◌+◌, ◌++◌, ◌∷◌, [], ℕ, List, IfErr, IfOk, OnOk, OnErr};
 ghost use Rattle.std.specs.Prelude.{take, drop, length, vec_capacity, vec_len, option_map};
+ghost use Rattle.std.specs.Option.{option_copied};
 ghost use Rattle.hd_exchange.specs.Answers.{AsksTheOffice};
 ghost use Rattle.hd_exchange.specs.Deeds.{Deed};
 ghost use Rattle.hd_exchange.specs.Extensions.{extensions_lent};
 ghost use Rattle.hd_exchange.specs.Works.{Extends, Works};
-ghost use Rattle.hd_session.specs.Sessions.{Answers, IsSomeLine};
-ghost use Rattle.hd_session.specs.States.{IsAnswered, IsKnownTo, LineAsks};
+ghost use Rattle.hd_guard.specs.Reading.{read_line};
+ghost use Rattle.hd_session.specs.Logs.{body_of};
+ghost use Rattle.hd_session.specs.Sessions.{Answers, IsSomeLine, IsTurnRefused};
+ghost use Rattle.hd_session.specs.States.{IsAnswered, IsKnownTo};
 ghost use Rattle.hd_session.specs.States.{digit_after, gaps_after, line_with, new_state};
 ghost use Rattle.hd_session.specs.Trailers.{last_after, text_said};
 
@@ -79,9 +82,16 @@ impl<'e, A: Allocator + Copy> SessionState<'e, A> {
         })
     }
 
-    /// What its memory comes from.
+    /// The allocator of its memory.
     pub(crate) fn alloc(&self) -> A {
         *self.last.allocator()
+    }
+
+    /// As which terminal the session is logged in.
+    pub(crate) fn login(&self) -> Option<Login>
+        ensures { result ≡ self.now.login }
+    {
+        self.login
     }
 
     /// How many lines carried another digit than the one after the last.
@@ -92,18 +102,18 @@ impl<'e, A: Allocator + Copy> SessionState<'e, A> {
     }
 
     /// Answers a line that isn't empty: appends its reply, for which there is room, and has the office do
-    /// what it asks.
+    /// what it asks. Returns the line's body, if its check number isn't wrong.
     ///
     /// # Errors
     /// The fault of the office, where the line asks something of it: it does nothing then, there is no reply,
     /// and the state is as before.
-    pub(crate) fn hear<O: Office<A>>(
+    pub(crate) fn hear<'l, O: Office<A>>(
         &mut self,
         now: &Stamp18,
-        line: &[u8],
+        line: &'l [u8],
         office: &mut O,
         out: &mut Vec<u8, A>,
-    ) -> Result<(), TurnFault>
+    ) -> Result<Option<&'l [u8]>, TurnFault>
         requires login { IsKnownTo (O.keeps office.old).contents self.old }
         requires some { IsSomeLine line.now }
         requires line { length line.now ≤ 1024 }
@@ -113,8 +123,9 @@ impl<'e, A: Allocator + Copy> SessionState<'e, A> {
         // At a fault no line is answered.
         ensures err { OnErr result (Answers O.Office office.old office.new out.old out.new now.now
             [] self.old self.new) }
-        ensures why { IfErr result O.faults }
-        ensures asks { OnErr result (LineAsks (O.keeps office.old).contents self.old line.now) }
+        ensures cause { IfErr result (IsTurnRefused (O.keeps office.old).contents O.faults self.old
+            line.now) }
+        ensures body { IfOk result (λ body. option_copied body ≡ body_of (read_line line.now)) }
     {
         match trailer(line) {
             Guarded::Plain { body } => {
@@ -125,7 +136,7 @@ impl<'e, A: Allocator + Copy> SessionState<'e, A> {
                     digit: None,
                 };
                 self.answer(now, &checked, office, out)?;
-                Ok(())
+                Ok(Some(body))
             }
             Guarded::Checked { body, seq } => {
                 let checked = CheckedLine {
@@ -135,11 +146,11 @@ impl<'e, A: Allocator + Copy> SessionState<'e, A> {
                     digit: seq,
                 };
                 self.answer(now, &checked, office, out)?;
-                Ok(())
+                Ok(Some(body))
             }
             Guarded::Wrong => {
                 put_send_again(out, true);
-                Ok(())
+                Ok(None)
             }
         }
     }
@@ -211,8 +222,8 @@ impl<'e, A: Allocator + Copy> SessionState<'e, A> {
         self.digit = Some(next);
     }
 
-    /// Closes a reply whose text stands from `from` on, and keeps it; or writes what takes its place.
-    /// There is room for it.
+    /// Closes a reply whose text begins at `from`, and keeps it; or writes the text that takes its place. There
+    /// is room for it.
     fn finish(
         &mut self,
         said: ReplyKind,

@@ -8,7 +8,7 @@ use Rattle.hd_attend.proofs.attending.attend.Goals as goal
 
 pub loop-init : goal.loop-init
 loop-init g c = record {
-  attends = ([], rw (← c.new-announced.ensures.office) (works_none _ _), attends_none _ _ _ _ _ _ _);
+  attends = ([], rw (← c.new-announced.ensures.office) (works_none _ _), attends_none _ _ _ _ _ _ _ _);
   same_reference = refl;
 }
 
@@ -21,10 +21,10 @@ loop-preserved g c =
       attends = (
         before.0 ++ next.0,
         works_more _ _ _ _ _ _ before.1 next.1.turns next.1.shown below.1 next.1.holds,
-        attends_more _ _ _ _ _ _ _ _ _ _ _ _ before.2 _ _ _ _ _ Read c.in_ok-count.ensures.read.0
+        attends_more _ _ _ _ _ _ _ _ _ _ _ _ _ _ before.2 _ _ _ _ _ _ Read c.in_ok-count.ensures.read.0
             (λ now is. subst (λ (s : Stamp). g.S.Surroundings.tells c.args.surroundings.now s)
             (sym is) c.now-now.ensures)
-            (goes_on _ _ _ _ _ _ _ _ (rw before.1.same at next.2)),
+            (goes_on _ _ _ _ _ _ _ _ _ _ (rw before.1.same at next.2)),
       );
       same_reference = below.0 ∙ c.loop.invariant.same_reference;
     }
@@ -38,10 +38,10 @@ returns-in_err-answer_piece-clause-attends g c =
     works_more _ _ _ _ _ _ before.1 next.1.turns next.1.shown below.1 next.1.holds in (
       before.0 ++ next.0,
       first_of (search (rules, works), search rules),
-      attends_passed _ _ _ _ _ _ _ _ _ c.in_err-answer_piece.field-0.0
+      attends_passed _ _ _ _ _ _ _ _ _ _ _ c.in_err-answer_piece.field-0.0
           c.from_residual-in_err-answer_piece.ensures.0
           c.from_residual-in_err-answer_piece.ensures.1
-          (attends_more _ _ _ _ _ _ _ _ _ _ _ _ before.2 _ _ _ _ _ c.in_err-answer_piece.field-0.0
+          (attends_more _ _ _ _ _ _ _ _ _ _ _ _ _ _ before.2 _ _ _ _ _ _ c.in_err-answer_piece.field-0.0
           c.in_ok-count.ensures.read.0
           (λ now is. subst (λ (s : Stamp). g.S.Surroundings.tells c.args.surroundings.now s)
           (sym is) c.now-now.ensures)

@@ -12,7 +12,7 @@ abbrev pub invariant-loop : goal.invariant-loop
 invariant-loop g l = record {
   attends : (did : List Deed) × Works g.O.Office l.fn.office l.announced.office.now did
       × Attends (g.O.Office.keeps l.fn.office).contents (g.O.Office.keeps l.fn.office).seat g.O.Office.faults
-      (g.S.Surroundings.tells l.surroundings)
+      (g.S.Surroundings.tells l.surroundings) (g.L.SessionLog.entries l.fn.log) (g.L.SessionLog.entries l.log)
       (streams (g.I.Read.remaining l.fn.from) (g.I.Read.remaining l.from) (g.W.Write.contents l.fn.to)
       (g.W.Write.contents l.to))
       did l.fn.state l.state (Err Read);

@@ -1,7 +1,7 @@
 use Rattle.std.proofs.Common.{◌∙◌, sym, ap}
 use Rattle.hd_session.specs.Sessions.{Hearing}
 use Rattle.hd_session.proofs.Feeding.{feeds_ended}
-use Rattle.hd_session.proofs.session.Session.feed.Goals as goal
+use Rattle.hd_session.proofs.session.Session.feed_logged.Goals as goal
 
 pub returns-in-Some-clause-fed : goal.returns-in-Some-clause-fed
 returns-in-Some-clause-fed g c =
