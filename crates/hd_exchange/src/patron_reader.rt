@@ -11,7 +11,7 @@ use arrayvec::ArrayVec;
 use hd_journal::{Journal, Look};
 use hd_message::PasswordValidity;
 use hd_rules::{ListItem, PatronView, Wanted};
-use hd_views::{page, view};
+use hd_patron_view::{page, view};
 use std::alloc::Allocator;
 
 /// How many items of a list a look takes down: more than a reply has room for.

@@ -8,7 +8,7 @@ use Rattle.hd_rules.specs.Journal.{Turn}
 use Rattle.hd_catalogue.specs.Contents.{Contents}
 use Rattle.hd_journal.specs.declared.fault.WriteFault.{WriteFault}
 use Rattle.hd_journal.specs.declared.fault.WriteFault.TheVariants.{Memory, DiskFull, Refused}
-use Rattle.hd_asked.specs.Parts.{asked_parts}
+use Rattle.hd_ask_parts.specs.Parts.{asked_parts}
 use Rattle.hd_turn_row.specs.Rows.{IsTurnRow}
 use Rattle.hd_turn_store.specs.Faults as store
 use Rattle.hd_turn_store.specs.Kept.{KeptTurn}

@@ -7,7 +7,7 @@ use Rattle.hd_rules.specs.declared.views.TitleHold.{TitleHold}
 use Rattle.hd_rules.specs.Facts.{Facts}
 use Rattle.hd_rules.specs.Desk.{Desk}
 use Rattle.hd_holds.specs.declared.held_title.HeldTitle.{HeldTitle}
-use Rattle.hd_views.specs.Held.{held_by}
+use Rattle.hd_patron_view.specs.Held.{held_by}
 use Rattle.hd_looks.specs.declared.row.Row.{Row}
 use Rattle.hd_looks.specs.Making.{held_row}
 use Rattle.hd_looks.specs.Rows.{hold_row}

@@ -12,7 +12,7 @@ use crate::queue::hold_row;
 use crate::row::Row;
 use hd_desk::{Desk, HeldTitle, LentCopies};
 use hd_rules::PatronNo;
-use hd_views::{held, lent};
+use hd_patron_view::{held, lent};
 use std::alloc::Allocator;
 
 /// Shows a patron's loans, and behind them their holds, behind so many.

@@ -1,6 +1,6 @@
 -- What is told in a row, member by member, before names and texts are put to it.
 use Rattle.std.specs.Prelude.{ℕ, Option, Some, None, option_map, option_and_then, List, [], ◌∷◌, ◌++◌, map}
-use Rattle.hd_asked.specs.Parts.{admits_of, command_parts, copy_of}
+use Rattle.hd_ask_parts.specs.Parts.{admits_of, command_parts, copy_of}
 use Rattle.hd_rules.specs.declared.turns.Asked.{Asked}
 use Rattle.hd_rules.specs.declared.cells.Cell.{Cell}
 use Rattle.hd_rules.specs.declared.cells.Cell.TheVariants.{Copy as CopyCell, Hold as HoldCell}

@@ -1,7 +1,7 @@
 -- What is told of a copy, of what is asked, and of what it came to, part by part.
 use Rattle.std.specs.Prelude.{Option, Some, None}
-use Rattle.hd_asked.specs.Parts.{cancel_parts, command_parts}
-use Rattle.hd_asked.specs.declared.parts.Parts.{Parts}
+use Rattle.hd_ask_parts.specs.Parts.{cancel_parts, command_parts}
+use Rattle.hd_ask_parts.specs.declared.parts.Parts.{Parts}
 use Rattle.hd_rules.specs.declared.copies.CopyState.{CopyState}
 use Rattle.hd_rules.specs.declared.replies.Refusal.{Refusal}
 use Rattle.hd_rules.specs.declared.replies.Reply.{Reply}

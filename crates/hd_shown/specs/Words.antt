@@ -1,6 +1,6 @@
 -- The texts of words and headings.
 use Rattle.std.specs.Prelude.{ℕ, List, codes}
-use Rattle.hd_asked.specs.Acts.{act_word, admits_word}
+use Rattle.hd_ask_parts.specs.Acts.{act_word, admits_word}
 use Rattle.hd_shown.specs.declared.words.Word.{Word}
 use Rattle.hd_shown.specs.declared.words.Word.TheVariants as word
 use Rattle.hd_shown.specs.declared.words.Heading.{Heading}

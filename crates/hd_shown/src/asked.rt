@@ -4,7 +4,7 @@ ghost use Rattle.hd_shown.specs.Parts.{asked_parts, due_told, number_told, outco
 ghost use Rattle.hd_shown.specs.Parts.{told_parts, why_refused};
 
 use crate::words::Word;
-use hd_asked::{Parts, cancel_parts, command_parts};
+use hd_ask_parts::{Parts, cancel_parts, command_parts};
 use hd_rules::{Asked, BranchNo, CopyNo, Day, PatronNo, Refusal, Reply, TitleNo, TurnReply};
 
 /// What is asked, part by part: nothing where a part doesn't apply.

@@ -7,7 +7,7 @@ use crate::asked::{asked_parts, due_told, number_told, outcome_word, reply_due, 
 use crate::part::{Column, Plain, day_column, plain_column};
 use crate::state::state_parts;
 use crate::words::{Heading, Word};
-use hd_asked::{admits_of, command_parts, copy_of};
+use hd_ask_parts::{admits_of, command_parts, copy_of};
 use hd_rules::{
     Asked, CopyNo, CopyState, Hold, PatronNo, Reply, SeatNo, Survivor, TerminalNo, TitleNo,
     TurnReply,

@@ -2,7 +2,7 @@
 ghost use Rattle.std.specs.Prelude.{◌≡◌};
 ghost use Rattle.hd_shown.specs.Words.{heading_text, word_text};
 
-use hd_asked::{Act, Admits};
+use hd_ask_parts::{Act, Admits};
 
 /// A word of a row.
 #[derive(Clone, Copy)]

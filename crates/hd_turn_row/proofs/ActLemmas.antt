@@ -4,11 +4,11 @@ use Rattle.std.specs.Prelude.{bytes_eq}
 use Rattle.std.proofs.lemmas.Bool.{cases_Bool}
 use Rattle.std.proofs.lemmas.Option.{none-some}
 use Rattle.std.proofs.lemmas.Slice.Eq.{bytes_eq-Decides}
-use Rattle.hd_asked.specs.Acts.{act_named, act_word, admits_named, admits_word, all_acts, all_admits, named}
-use Rattle.hd_asked.specs.declared.act.Act.{Act}
-use Rattle.hd_asked.specs.declared.act.Act.TheVariants as acts
-use Rattle.hd_asked.specs.declared.act.Admits.{Admits}
-use Rattle.hd_asked.specs.declared.act.Admits.TheVariants as admitted
+use Rattle.hd_ask_parts.specs.Acts.{act_named, act_word, admits_named, admits_word, all_acts, all_admits, named}
+use Rattle.hd_ask_parts.specs.declared.act.Act.{Act}
+use Rattle.hd_ask_parts.specs.declared.act.Act.TheVariants as acts
+use Rattle.hd_ask_parts.specs.declared.act.Admits.{Admits}
+use Rattle.hd_ask_parts.specs.declared.act.Admits.TheVariants as admitted
 
 -- what is named has the word
 named_has : {W : Type 0} (word_of : W → List ℕ) (all : List W) (word : List ℕ) (w : W)

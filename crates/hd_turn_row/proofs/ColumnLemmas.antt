@@ -7,7 +7,7 @@ use Rattle.std.proofs.lemmas.Option.{same_Some}
 use Rattle.hd_catalogue.specs.Contents.{Contents, branch_number, copy_number, facts_of, patron_number}
 use Rattle.hd_catalogue.specs.Contents.{title_number}
 use Rattle.hd_day_text.specs.Days.{IsDayText}
-use Rattle.hd_asked.specs.Acts.{act_named, admits_named}
+use Rattle.hd_ask_parts.specs.Acts.{act_named, admits_named}
 use Rattle.hd_turn_row.specs.Columns.{AreKnownParts, AreShown, IsKnownIn, IsShown, Said, Says, asked_columns}
 use Rattle.hd_turn_row.specs.Columns.{day_of, part, text}
 use Rattle.hd_turn_row.specs.Faults.{IsFirst, IsFirstMisfit, IsReadText, misfit}
@@ -16,7 +16,7 @@ use Rattle.hd_turn_row.specs.Rows.{text_or_empty}
 use Rattle.hd_turn_row.specs.declared.fault.Column.{Column}
 use Rattle.hd_turn_row.specs.declared.fault.Column.TheVariants as columns
 use Rattle.hd_turn_row.specs.declared.fault.RowFault.{RowFault}
-use Rattle.hd_asked.specs.declared.parts.Parts.{Parts}
+use Rattle.hd_ask_parts.specs.declared.parts.Parts.{Parts}
 use Rattle.hd_turn_store.specs.Kept.{KeptTurn}
 use Rattle.hd_turn_row.proofs.ActLemmas.{act_back, admits_back}
 use Rattle.hd_turn_row.proofs.NumberLemmas.{number_kept, number_known}

@@ -11,11 +11,11 @@ use Rattle.hd_rules.specs.declared.commands.Cancel.TheVariants as cancel
 use Rattle.hd_rules.specs.declared.turns.Asked.{Asked}
 use Rattle.hd_rules.specs.declared.turns.Asked.TheVariants as ask
 use Rattle.hd_turn_row.specs.Columns.{AreKnownParts}
-use Rattle.hd_asked.specs.Parts.{action_parts, asked_parts, cancel_parts}
+use Rattle.hd_ask_parts.specs.Parts.{action_parts, asked_parts, cancel_parts}
 use Rattle.hd_turn_row.specs.Parts.{asked_at, asked_by}
-use Rattle.hd_asked.specs.declared.act.Act.{Act}
-use Rattle.hd_asked.specs.declared.act.Act.TheVariants as acts
-use Rattle.hd_asked.specs.declared.parts.Parts.{Parts}
+use Rattle.hd_ask_parts.specs.declared.act.Act.{Act}
+use Rattle.hd_ask_parts.specs.declared.act.Act.TheVariants as acts
+use Rattle.hd_ask_parts.specs.declared.parts.Parts.{Parts}
 
 -- parts ask something that has a row
 at_some : (act : Act) (p : Parts) → asked_parts (asked_at act p) ≡ None → ⊥

@@ -10,7 +10,7 @@ use Rattle.hd_turn_row.specs.Rows.{IsRowOf}
 use Rattle.hd_turn_store.specs.Kept.{KeptTurn}
 use Rattle.hd_turn_row.specs.declared.fault.Column.TheVariants as columns
 use Rattle.hd_turn_row.specs.declared.fault.RowFault.{RowFault}
-use Rattle.hd_asked.specs.declared.parts.Parts.{Parts}
+use Rattle.hd_ask_parts.specs.declared.parts.Parts.{Parts}
 use Rattle.hd_turn_row.proofs.ColumnLemmas.{OneDay, fits_self, none_first, parts_once, shown_grown}
 use Rattle.hd_turn_row.proofs.ColumnLemmas.{shown_known, shown_read_all}
 use Rattle.hd_turn_row.proofs.NumberLemmas.{number_kept, number_known}

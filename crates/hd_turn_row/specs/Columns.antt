@@ -5,12 +5,12 @@ use Rattle.hd_rules.specs.Facts.{Facts}
 use Rattle.hd_catalogue.specs.Contents.{Contents, branch_number, copy_number, patron_number, title_number}
 use Rattle.hd_catalogue.specs.Names.{number_of}
 use Rattle.hd_day_text.specs.Days.{IsDayText}
-use Rattle.hd_asked.specs.Acts.{act_word, admits_word}
-use Rattle.hd_asked.specs.declared.act.Act.{Act}
-use Rattle.hd_asked.specs.declared.act.Admits.{Admits}
+use Rattle.hd_ask_parts.specs.Acts.{act_word, admits_word}
+use Rattle.hd_ask_parts.specs.declared.act.Act.{Act}
+use Rattle.hd_ask_parts.specs.declared.act.Admits.{Admits}
 use Rattle.hd_turn_row.specs.declared.fault.Column.{Column}
 use Rattle.hd_turn_row.specs.declared.fault.Column.TheVariants as columns
-use Rattle.hd_asked.specs.declared.parts.Parts.{Parts}
+use Rattle.hd_ask_parts.specs.declared.parts.Parts.{Parts}
 use Rattle.hd_turn_store.specs.Kept.{KeptTurn}
 
 -- the columns of what is asked, in the order of the table

@@ -3,14 +3,14 @@ use Rattle.std.specs.Prelude.{◌≡◌, ◌⊎◌, ℕ, true, false, Bool, List
 use Rattle.std.specs.Prelude.{Err, Ok, is_some}
 use Rattle.hd_catalogue.specs.Contents.{Contents}
 use Rattle.hd_turn_row.specs.Columns.{AreShown, IsShown, Says, asked_columns, part, text}
-use Rattle.hd_asked.specs.Parts.{asked_parts}
+use Rattle.hd_ask_parts.specs.Parts.{asked_parts}
 use Rattle.hd_turn_row.specs.Parts.{asked_by}
 use Rattle.hd_turn_row.specs.declared.fault.Column.{Column}
 use Rattle.hd_turn_row.specs.declared.fault.Column.TheVariants as columns
 use Rattle.hd_turn_row.specs.declared.fault.RowFault.{RowFault}
 use Rattle.hd_turn_row.specs.declared.fault.RowFault.TheVariants.{NoDay, UnknownName, UnknownWord}
 use Rattle.hd_turn_row.specs.declared.fault.RowFault.TheVariants.{Unwanted, Wanting}
-use Rattle.hd_asked.specs.declared.parts.Parts.{Parts}
+use Rattle.hd_ask_parts.specs.declared.parts.Parts.{Parts}
 use Rattle.hd_turn_store.specs.Kept.{KeptTurn}
 
 -- The fault is that of the first of these columns of which something doesn't hold.

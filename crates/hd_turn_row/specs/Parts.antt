@@ -1,10 +1,10 @@
 -- What parts ask, read back.
 use Rattle.std.specs.Prelude.{ℕ, true, false, Option, option_map, unwrap_or}
-use Rattle.hd_asked.specs.declared.act.Act.{Act}
-use Rattle.hd_asked.specs.declared.act.Act.TheVariants as acts
-use Rattle.hd_asked.specs.declared.act.Admits.{Admits}
-use Rattle.hd_asked.specs.declared.act.Admits.TheVariants as admitted
-use Rattle.hd_asked.specs.declared.parts.Parts.{Parts}
+use Rattle.hd_ask_parts.specs.declared.act.Act.{Act}
+use Rattle.hd_ask_parts.specs.declared.act.Act.TheVariants as acts
+use Rattle.hd_ask_parts.specs.declared.act.Admits.{Admits}
+use Rattle.hd_ask_parts.specs.declared.act.Admits.TheVariants as admitted
+use Rattle.hd_ask_parts.specs.declared.parts.Parts.{Parts}
 use Rattle.hd_rules.specs.declared.holds.HoldKind.{HoldKind}
 use Rattle.hd_rules.specs.declared.holds.HoldKind.TheVariants as kind
 use Rattle.hd_rules.specs.declared.commands.Action.{Action}

@@ -8,11 +8,11 @@ use Rattle.hd_rules.specs.declared.turns.Asked.{Asked}
 use Rattle.hd_catalogue.specs.Names.{number_of}
 use Rattle.hd_day_text.specs.Days.{IsDayText}
 use Rattle.hd_turn_row.specs.Columns.{AreShown, IsShown}
-use Rattle.hd_asked.specs.Parts.{asked_parts}
+use Rattle.hd_ask_parts.specs.Parts.{asked_parts}
 use Rattle.hd_turn_row.specs.Replies.{IsReplyColumn, number_column, outcome_word}
 use Rattle.hd_turn_row.specs.declared.asked_columns.AskedColumns.{AskedColumns}
 use Rattle.hd_turn_row.specs.declared.outcome.OutcomeColumns.{OutcomeColumns}
-use Rattle.hd_asked.specs.declared.parts.Parts.{Parts}
+use Rattle.hd_ask_parts.specs.declared.parts.Parts.{Parts}
 use Rattle.hd_turn_store.specs.Kept.{KeptTurn, new_format}
 
 -- The row is that of a seat's message: the seat, the terminal's name, what the columns say, and the line.

@@ -1,11 +1,11 @@
 //! What the parts of a row ask.
 ghost use Rattle.std.specs.Prelude.{◌≡◌, IfErr, IfOk, OnOk, Some};
 ghost use Rattle.hd_turn_row.specs.Faults.{IsFirstMisfit, IsMisfit, misfit};
-ghost use Rattle.hd_asked.specs.Parts.{asked_parts};
+ghost use Rattle.hd_ask_parts.specs.Parts.{asked_parts};
 ghost use Rattle.hd_turn_row.specs.Parts.{asked_by, kind_by};
 
 use crate::fault::{Column, RowFault};
-use hd_asked::{Act, Admits, Parts, parts_of};
+use hd_ask_parts::{Act, Admits, Parts, parts_of};
 use hd_rules::{
     Action, Asked, BranchNo, Cancel, Command, CopyNo, Day, HoldKind, PatronNo, TitleNo,
 };

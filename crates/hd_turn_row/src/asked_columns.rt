@@ -5,7 +5,7 @@ ghost use Rattle.hd_day_text.specs.Days.{IsDayText};
 ghost use Rattle.hd_turn_row.specs.Columns.{IsShown};
 ghost use Rattle.hd_turn_row.specs.Rows.{text_or_empty};
 
-use hd_asked::{Parts, parts_of};
+use hd_ask_parts::{Parts, parts_of};
 use hd_day_text::day_text;
 use hd_rules::{Asked, Day};
 
@@ -19,7 +19,7 @@ pub struct AskedColumns {
 
 impl AskedColumns {
     ghost use Rattle.std.specs.Prelude.{IfNone, IfSome, None};
-    ghost use Rattle.hd_asked.specs.Parts.{asked_parts};
+    ghost use Rattle.hd_ask_parts.specs.Parts.{asked_parts};
     ghost use Rattle.hd_turn_row.specs.Rows.{AreAskedColumns};
 
     /// The columns of what is asked, or `None` of a query, which changes nothing and has no row. The days are

@@ -2,13 +2,13 @@
 ghost use Rattle.std.specs.Prelude.{◌≡◌, IfErr, IfOk, OnErr};
 ghost use Rattle.std.specs.Option.{option_copied};
 ghost use Rattle.hd_day_text.specs.Days.{IsDayText};
-ghost use Rattle.hd_asked.specs.Acts.{act_word, admits_word};
+ghost use Rattle.hd_ask_parts.specs.Acts.{act_word, admits_word};
 ghost use Rattle.hd_turn_row.specs.Columns.{AreShown, Says, day_of};
 ghost use Rattle.hd_turn_row.specs.Faults.{IsFirstUnread, IsReading};
 ghost use Rattle.hd_turn_store.specs.Rows.{kept};
 
 use crate::fault::{Column, RowFault};
-use hd_asked::{Act, Admits, Parts};
+use hd_ask_parts::{Act, Admits, Parts};
 use hd_catalogue::Catalogue;
 use hd_day_text::day_said;
 use hd_rules::{BranchNo, CopyNo, Day, PatronNo, TitleNo};

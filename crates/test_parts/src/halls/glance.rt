@@ -55,7 +55,7 @@ impl Look<Global> for Glance {
 fn seen_in(journal: &Journal, patron: &[u8]) -> Option<Seen> {
     let desk = journal.desk();
     let number = desk.catalogue().patron(patron)?;
-    let view = hd_views::view(desk, number, present()?.day());
+    let view = hd_patron_view::view(desk, number, present()?.day());
     let holds = holds(desk, patron);
     Some(Seen {
         kept: view.kept,
