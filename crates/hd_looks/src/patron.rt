@@ -11,6 +11,7 @@ use crate::page::Page;
 use crate::queue::hold_row;
 use crate::row::Row;
 use hd_desk::{Desk, HeldTitle, LentCopies};
+use hd_patron_view::{held, lent};
 use hd_rules::PatronNo;
 use hd_patron_view::{held, lent};
 use std::alloc::Allocator;
