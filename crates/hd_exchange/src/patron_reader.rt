@@ -10,8 +10,8 @@ use crate::patron_message::{PatronLook, PatronQuestion};
 use arrayvec::ArrayVec;
 use hd_journal::{Journal, Look};
 use hd_message::PasswordValidity;
-use hd_rules::{ListItem, PatronView, Wanted};
 use hd_patron_view::{page, view};
+use hd_rules::{ListItem, PatronView, Wanted};
 use std::alloc::Allocator;
 
 /// How many items of a list a look takes down: more than a reply has room for.

@@ -11,9 +11,8 @@ use crate::page::Page;
 use crate::queue::hold_row;
 use crate::row::Row;
 use hd_desk::{Desk, HeldTitle, LentCopies};
-use hd_patron_view::{held, lent};
+use hd_patron_view::{held, held, lent, lent};
 use hd_rules::PatronNo;
-use hd_patron_view::{held, lent};
 use std::alloc::Allocator;
 
 /// Shows a patron's loans, and behind them their holds, behind so many.
