@@ -11,7 +11,7 @@ use crate::page::Page;
 use crate::queue::hold_row;
 use crate::row::Row;
 use hd_desk::{Desk, HeldTitle, LentCopies};
-use hd_patron_view::{held, held, lent, lent};
+use hd_patron_view::{held, lent};
 use hd_rules::PatronNo;
 use std::alloc::Allocator;
 
