@@ -7,7 +7,7 @@ PREFIX ?= /usr/local
 help:
 	@echo 'make try        answer the stored messages by a program that is built without proofs (two to five minutes)'
 	@echo 'make run        prove what changed and what is above it (an hour or more at first; after any change the program'
-	@echo '                again, some 42 processor minutes), build holddesk, and answer the stored messages'
+	@echo '                again), build holddesk, and answer the stored messages'
 	@echo 'make check      CRATE=NAME, and ONLY=MODULE or ONLY=MODULE::FUNCTION: check a crate over kept libraries (seconds)'
 	@echo 'make quick      check the crates that changed against origin/HEAD, or REV=, try their wrong bodies, and play rows and'
 	@echo '                examples at a program that is built without proofs, and kept (about five minutes)'

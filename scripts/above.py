@@ -3,7 +3,7 @@
 
     python3 scripts/above.py CRATE [CRATE ..]
 
-The times are those of docs/gate.md, in processor minutes of the machine that is named there. Where what a crate
+The times are those of measure/gate.md, in processor minutes of the machine that is named there. Where what a crate
 promises stays, no proof above rests on the change; but prove.py and the gate prove all above, since they compare files.
 Needs Python 3.
 """
@@ -14,8 +14,8 @@ import re
 from kept import TOP
 from prove import is_program, uses_of_all, with_all_below
 
-# a cell of the table of crates in docs/gate.md: a crate's name without its hd_, and the seconds of its proof
-CELL, GATE = re.compile(r"`(\w+)` (\d+)"), TOP / "docs" / "gate.md"
+# a cell of the table of crates in measure/gate.md: a crate's name without its hd_, and the seconds of its proof
+CELL, GATE = re.compile(r"`(\w+)` (\d+)"), TOP / "scripts" / "measure" / "gate.md"
 
 
 def minutes_of(crates):

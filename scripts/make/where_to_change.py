@@ -22,9 +22,9 @@ from prove import uses_of_all
 PAGE = TOP / "docs" / "architecture.md"
 HEADS = ("Above; minutes", "To play")
 TABLE, NOTE = "| What | Definitions", """\
-The last two columns are written by `scripts/make/where_to_change.py`. They have the number of crates above those that the
-row names, the processor minutes that all their proofs took ([what the gate takes](gate.md)), and the scripts that play
-what the code does, by `make quick` or by hand. All those crates are proved again where a definition changes.
+The last two columns are written by `scripts/make/where_to_change.py`: the number of crates above those that the row
+names, the processor minutes that all their proofs took ([what the gate takes](../scripts/measure/gate.md)), and the
+scripts that play what the code does. All those crates are proved again where a definition changes.
 
 """
 MOST = 3  # scripts that a row names

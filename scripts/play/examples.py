@@ -13,9 +13,9 @@ through holddesk replay.
 
 The address and the paths that the examples name stand for a free port and for a folder: what is printed is compared
 with these put back, and a SHA-256, and where a connection comes from in a log, by its form alone. Where there is no nc
-that knows -N, or no sqlite3, a few lines of Python stand in for it, which is told. Each option of a --help has to stand
-among the options of man/holddesk.1, and the other way round. Needs nothing but Python 3 and bash. Status 0: all is as it
-is written.
+that knows -N, no curl or no sqlite3, a few lines of Python stand in for it, which is told. Each option of a --help has
+to stand among the options of man/holddesk.1, and the other way round. Needs nothing but Python 3 and bash. Status 0: all
+is as it is written.
 """
 
 import hashlib
@@ -37,7 +37,7 @@ from server import CATALOGUE, LOOPBACK, SECONDS, TOP, Server, Trouble, ask, begu
 from server import parser_of, reported, without_progress
 from unproved import free_port
 
-GUIDES = ["operating", "daily", "faults", "security", "catalogue", "opening", "patrons", "protocol"]
+GUIDES = ["operating", "daily", "faults", "security", "client", "catalogue", "opening", "patrons", "protocol"]
 PAGES = ["README.md", *(f"docs/{name}.md" for name in GUIDES)]
 # the parts of protocol.md whose tables serve_kiosk.py plays
 KIOSK_PARTS = ["Patron messages", "Sorter fields"]
@@ -55,6 +55,13 @@ with socket.create_connection((sys.argv[2], int(sys.argv[3])), 60) as connection
     connection.shutdown(socket.SHUT_WR)
     while piece := connection.recv(4096):
         sys.stdout.buffer.write(piece)
+""",
+    "curl": """import http.client, socket, sys
+connection = http.client.HTTPConnection("desk")
+connection.sock = socket.socket(socket.AF_UNIX)
+connection.sock.connect(sys.argv[sys.argv.index("--unix-socket") + 1])
+connection.request("GET", "/" + sys.argv[-1].split("/", 3)[3])
+sys.stdout.buffer.write(connection.getresponse().read())
 """,
     "sqlite3": """import sqlite3, sys
 _, _, views, file, query = sys.argv

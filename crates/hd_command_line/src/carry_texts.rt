@@ -6,19 +6,18 @@ pub(crate) const CARRY_ABOUT: &str = "Ends a journal, and writes how the next on
 /// What `carry` does.
 pub(crate) const CARRY: &str = "Ends a journal, and writes how the next one begins
 
-The turns of the journal are taken again, as `journal check` does. Then its last desk is carried over, by
-names, to the catalogue of --to, which may be the old one: each loan, hold, place on a hold shelf and transit
-stays, and the order of each queue; numbers go on; what is new stands at home. The opening file says all that.
-It is written beside its path, read back, compared with the desk, and renamed: a stop at any moment leaves the
-old library or the new one. The old files are never written again. A command of the old journal can't be
-cancelled in the new one.
+`carry` plays the turns of the journal, as `journal check` does. It carries the last desk over, by names, to
+the catalogue of --to, which may be the old one. Each loan, hold, place on a hold shelf and transit stays, and
+the order of each queue; numbers go on; new copies are at home. The opening file has all of it. `carry` writes
+it beside its path, reads it back, compares the bytes, and renames it, so a stop at any moment leaves the old
+library or the new one. The old files are never written again. A command of the old journal can't be cancelled
+in the new one.
 
-Where something can't go over, as a copy on loan that the new catalogue lacks, nothing is written, and each
-such thing is told in a line on standard error. Loans of copies in the file of --write-off are dropped, and
-told.
+If something can't go over, as a copy on loan that the new catalogue lacks, nothing is written, and standard
+error lists each such thing. Loans of copies in the file of --write-off are dropped, and listed.
 
-With --library the catalogue is copied into the folder under the next number, and its journal is begun, so
-that `serve --library` serves it from its next start on. Otherwise `journal begin --opening` begins it.";
+With --library `carry` copies the catalogue into the folder under the next number, and begins its journal;
+`serve --library` serves it from its next start on. Without, `journal begin --opening` begins the journal.";
 
 /// An example of `carry`, and its exit statuses.
 pub(crate) const CARRY_EXAMPLE: &str =
@@ -33,5 +32,5 @@ pub(crate) const CARRY_EXAMPLE: &str =
 old and new are the SHA-256 of the files that the two journals begin with: of the opening, or of the first
 catalogue.
 
-Exit status: 0 well; 1 something is in the way, or a fault, printed as one line (docs/faults.md has them
-all); 2 the command line was refused.";
+Exit status: 0 if all is well; 1 if something is in the way, or after a fault, printed as one line
+(docs/faults.md has them all); 2 if the command line is refused.";

@@ -7,12 +7,12 @@ use crate::words::{Form, Number, OptionWords, Value};
 pub(crate) const DOOR_ASKED: OptionWords = OptionWords {
     name: "door",
     value: Value::Text("PATH"),
-    help: "The Unix socket of the server, which its own --door names",
+    help: "The Unix socket of the server, as its own --door names it",
     is_required: true,
     ..PLAIN
 };
 
-/// What is asked for, of which those below say what it is.
+/// What is asked for. Those below say what it is.
 const ASKED: OptionWords = OptionWords {
     form: Form::Placed,
     is_required: true,
@@ -39,7 +39,7 @@ pub(crate) const TITLE_ASKED: OptionWords = OptionWords {
 pub(crate) const PATRON_ASKED: OptionWords = OptionWords {
     name: "patron",
     value: Value::Text("PATRON"),
-    help: "The patron, by the name that their card has",
+    help: "The patron, by the name on their card",
     ..ASKED
 };
 
@@ -72,7 +72,7 @@ pub(crate) const NUMBER_ASKED: OptionWords = OptionWords {
     ..ASKED
 };
 
-/// Behind which turn to begin.
+/// After which turn to begin.
 pub(crate) const AFTER: OptionWords = OptionWords {
     name: "after",
     value: Value::Number(Number {
@@ -81,7 +81,7 @@ pub(crate) const AFTER: OptionWords = OptionWords {
         most: u32::MAX,
         defaults: &[],
     }),
-    help: "Begin behind this turn; without it the last ones are shown",
+    help: "Begin after this turn; without it the last ones are shown",
     ..PLAIN
 };
 

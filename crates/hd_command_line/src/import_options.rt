@@ -3,7 +3,7 @@
 use crate::options::PLAIN;
 use crate::words::{Choice, Number, OptionWords, Value};
 
-/// A file of the spreadsheet, of which those below name and say which it is.
+/// A file of the spreadsheet. Those below say which it is.
 const SHEET: OptionWords = OptionWords {
     value: Value::Text("FILE"),
     is_required: true,
@@ -20,7 +20,7 @@ pub(crate) const SHEET_OF_BRANCHES: OptionWords = OptionWords {
 /// The sheet of terminals.
 pub(crate) const SHEET_OF_TERMINALS: OptionWords = OptionWords {
     name: "terminals",
-    help: "The CSV file of the terminals, with the branch that each stands at",
+    help: "The CSV file of the terminals, with the branch of each",
     ..SHEET
 };
 
@@ -45,11 +45,11 @@ pub(crate) const SHEET_OF_COPIES: OptionWords = OptionWords {
     ..SHEET
 };
 
-/// The catalogue file that is to be.
+/// The catalogue file to write.
 pub(crate) const INTO_CATALOGUE: OptionWords = OptionWords {
     name: "into",
     value: Value::Text("FILE"),
-    help: "The catalogue file to write; one that is there is replaced",
+    help: "The catalogue file to write; an existing one is replaced",
     is_required: true,
     ..PLAIN
 };
@@ -72,7 +72,7 @@ pub(crate) const OFFSET: OptionWords = OptionWords {
         most: 1439,
         defaults: &[],
     }),
-    help: "How many minutes local time is later than universal time, -1439 to 1439",
+    help: "How many minutes local time is ahead of universal time, -1439 to 1439",
     is_required: true,
     ..PLAIN
 };
@@ -90,7 +90,7 @@ pub(crate) const COMMANDS_LIMIT: OptionWords = OptionWords {
     ..PLAIN
 };
 
-/// The loan limit of the others.
+/// The loan limit of a patron whose row has none.
 pub(crate) const LOAN_LIMIT: OptionWords = OptionWords {
     name: "loan-limit",
     value: Value::Number(Number {
@@ -103,7 +103,7 @@ pub(crate) const LOAN_LIMIT: OptionWords = OptionWords {
     ..PLAIN
 };
 
-/// The days of a loan of the others.
+/// The loan days of a title whose row has none.
 pub(crate) const LOAN_DAYS: OptionWords = OptionWords {
     name: "loan-days",
     value: Value::Number(Number {
@@ -112,11 +112,11 @@ pub(crate) const LOAN_DAYS: OptionWords = OptionWords {
         most: 3650,
         defaults: &[],
     }),
-    help: "The days of a loan of a title whose row has none, 0 to 3650",
+    help: "The loan days of a title whose row has none, 0 to 3650",
     ..PLAIN
 };
 
-/// How often a loan of the others may be renewed.
+/// How often a loan may be renewed, of a title whose row has no number.
 pub(crate) const RENEWALS: OptionWords = OptionWords {
     name: "renewals",
     value: Value::Number(Number {
@@ -125,7 +125,7 @@ pub(crate) const RENEWALS: OptionWords = OptionWords {
         most: 99,
         defaults: &[],
     }),
-    help: "How often a loan of a title may be renewed whose row has no number, 0 to 99",
+    help: "How often a loan may be renewed, of a title whose row has no number, 0 to 99",
     ..PLAIN
 };
 
@@ -149,6 +149,6 @@ pub(crate) const SEPARATOR: OptionWords = OptionWords {
         words: &["found", "comma", "semicolon", "tab"],
         defaults: &["found"],
     }),
-    help: "What stands between two values; found: what the first line shows",
+    help: "What is between two values; found: what the first line has",
     ..PLAIN
 };

@@ -6,8 +6,8 @@ pub(crate) const IMPORT_ABOUT: &str = "Makes a catalogue file of a spreadsheet's
 /// What `import` does.
 pub(crate) const IMPORT: &str = "Makes a catalogue file of a spreadsheet's CSV files
 
-Each file's first row has the headings, whose names choose the columns, in any order; capitals don't matter,
-and other columns are passed over, and told:
+The first row of each file has the headings. Their names choose the columns, in any order and in capitals or
+not. Other columns aren't used, and are listed after the counts:
 
   --branches   branch
   --terminals  terminal, password, branch
@@ -15,14 +15,14 @@ and other columns are passed over, and told:
   --titles     title, loan days, renewals, priority
   --copies     copy, title, branch
 
-Where a file has no column of loan limits, loan days or renewals, or a row has no number there, that of
---loan-limit, --loan-days or --renewals stands for it; a title without a priority gets N. Values may stand in
-quotes; one that isn't closed is a fault. Blanks around a value are dropped, and rows without a value. The
-separator is found in the first line, a tab, else a semicolon, else a comma, or is that of --separator. Lines
-may end in LF or CR LF, and the mark that some programs put before UTF-8 is passed over.
+If a file has no column of loan limits, loan days or renewals, or a row has no number there, `import` takes
+that of --loan-limit, --loan-days or --renewals. A title without a priority gets N. Values may be in quotes; a
+quote that isn't closed is a fault. Blanks around a value are dropped, and so are rows without a value. The
+separator is that of --separator, or else what the first line has: a tab, else a semicolon, else a comma.
+Lines may end in LF or CR LF. A byte order mark before UTF-8 is passed over.
 
-The catalogue is of version 2. It is read back, as `check` reads it, before it is put in its place: it is
-written beside its path, and renamed. What was there is replaced, or stays where there is a fault.";
+The catalogue is of version 2. `import` writes it beside its path, reads it back as `check` does, and renames
+it. It replaces the file that was there. After a fault that file stays as it was.";
 
 /// An example of `import`, and its exit statuses.
 pub(crate) const IMPORT_EXAMPLE: &str = "Example:
@@ -39,6 +39,7 @@ pub(crate) const IMPORT_EXAMPLE: &str = "Example:
   patrons.csv: not used: town
   titles.csv: not used: author
 
-Exit status: 0 well; 1 a fault, printed as one line (`copies.csv:17: branch: 'nroth' is no branch of
-branches.csv`, `patrons.csv:1: no column 'patron'`, `titles.csv:17: a quote isn't closed`, `cannot read
-copies.csv`, `cannot write library.catalogue`, `no memory`, and others); 2 the command line was refused.";
+Exit status: 0 if all is well; 1 after a fault, printed as one line (`copies.csv:17: branch: 'nroth' is no
+branch of branches.csv`, `patrons.csv:1: no column 'patron'`, `titles.csv:17: a quote isn't closed`, `cannot
+read copies.csv`, `cannot write library.catalogue`, `no memory`, and others); 2 if the command line is
+refused.";

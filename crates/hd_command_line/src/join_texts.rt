@@ -1,24 +1,24 @@
 //! What the help of `journal join` says.
 
 /// What `journal join` does, in a line.
-pub(crate) const JOURNAL_JOIN_ABOUT: &str = "Has new names join a library that isn't served";
+pub(crate) const JOURNAL_JOIN_ABOUT: &str = "Adds new names to a library whose server is stopped";
 
 /// What `journal join` does.
-pub(crate) const JOURNAL_JOIN: &str = "Has new names join a library that isn't served
+pub(crate) const JOURNAL_JOIN: &str = "Adds new names to a library whose server is stopped
 
-A card that is made at noon, a title that is bought and its copies needn't wait for the next `carry`. FILE is
-the whole catalogue as it is now, as the export writes it. The branches, terminals, patrons, titles and copies
-that it has and the library lacks join the library, behind the last of their kind. The running journal goes on:
-its turns stay, and a command of before can still be cancelled.
+A card that is made at noon, or a title that is bought, needn't wait for the next `carry`. FILE is the whole
+catalogue as it is now, as the export writes it. The branches, terminals, patrons, titles and copies that it
+has and the library lacks join the library, after the last of their kind. The journal goes on: its turns stay,
+and earlier commands can still be cancelled.
 
-A copy that joins is on its way to its home: its first check-in puts it on the shelf there, or keeps it for a
+A copy that joins is on its way to its home. Its first checkin puts it on the shelf there, or keeps it for a
 hold. Names that FILE lacks stay, and so do values that differ, as a loan limit or a home, until the next
-`carry`: they are told by kind, the first twenty by name.
+`carry`. They are reported by kind, the first twenty by name.
 
-The lines that join are kept in the folder, as 0001.joined beside 0001.catalogue. That file is written beside
-its path, synced and renamed: a stop at any moment leaves the old library, or the one that all of them joined.
-No other file of the library changes. Where FILE is refused, or the catalogue that would come of it, nothing
-changes at all. The server has to be stopped before, as for `carry`.";
+The lines that join are kept in the folder, as 0001.joined beside 0001.catalogue. `journal join` writes that
+file beside its path, syncs it and renames it: a stop at any moment leaves the old library, or the one that
+all names joined. It changes no other file of the library. If FILE is refused, or the catalogue that would
+result, nothing changes. Stop the server first, as for `carry`.";
 
 /// An example of `journal join`, and its exit statuses.
 pub(crate) const JOURNAL_JOIN_EXAMPLE: &str =
@@ -36,5 +36,5 @@ pub(crate) const JOURNAL_JOIN_EXAMPLE: &str =
   joined titles: 0
   joined copies: 0
 
-Exit status: 0 well, also where there was nothing new; 1 a fault, printed as one line (docs/faults.md has them
-all); 2 the command line was refused.";
+Exit status: 0 if all is well, also if there was nothing new; 1 after a fault, printed as one line
+(docs/faults.md has them all); 2 if the command line is refused.";

@@ -2,7 +2,7 @@
 
 use crate::words::{Choice, Form, Number, OptionWords, Value};
 
-/// An option without words, of which those below name the ones that they have.
+/// An option without words. Those below name the ones that they have.
 pub(crate) const PLAIN: OptionWords = OptionWords {
     name: "",
     form: Form::Named,
@@ -22,7 +22,7 @@ const CATALOGUE: OptionWords = OptionWords {
     ..PLAIN
 };
 
-/// The catalogue file, where there may be no folder in its place.
+/// The catalogue file, of a command that takes no folder in its place.
 pub(crate) const CATALOGUE_ALWAYS: OptionWords = OptionWords {
     is_required: true,
     ..CATALOGUE
@@ -34,9 +34,9 @@ pub(crate) const CATALOGUE_OR_FOLDER: OptionWords = OptionWords {
     ..CATALOGUE
 };
 
-/// The catalogue file whose names are to join a library.
+/// The catalogue file whose new names join a library.
 pub(crate) const CATALOGUE_THAT_JOINS: OptionWords = OptionWords {
-    help: "The whole catalogue as it is now; the names of it that the library lacks join",
+    help: "The whole catalogue as it is now; its names that the library lacks join",
     ..CATALOGUE_ALWAYS
 };
 
@@ -44,7 +44,7 @@ pub(crate) const CATALOGUE_THAT_JOINS: OptionWords = OptionWords {
 pub(crate) const OPENING: OptionWords = OptionWords {
     name: "opening",
     value: Value::Text("FILE"),
-    help: "The file of how the journal begins, as `carry` writes it; without it each copy is at home",
+    help: "How the journal begins: a file as `carry` writes it; without it each copy is at home",
     ..PLAIN
 };
 
@@ -52,12 +52,12 @@ pub(crate) const OPENING: OptionWords = OptionWords {
 pub(crate) const FOLDER: OptionWords = OptionWords {
     name: "library",
     value: Value::Text("DIR"),
-    help: "The folder of a library's numbered files, of which the last complete ones are meant",
+    help: "The folder of a library's numbered files; the last complete number is read",
     conflicts: &["journal"],
     ..PLAIN
 };
 
-/// A library's folder, which has to be told.
+/// A library's folder, which is required.
 pub(crate) const FOLDER_ALWAYS: OptionWords = OptionWords {
     is_required: true,
     conflicts: &[],
@@ -74,7 +74,7 @@ pub(crate) const LIBRARY: OptionWords = OptionWords {
 pub(crate) const JOURNAL: OptionWords = OptionWords {
     name: "journal",
     value: Value::Text("FILE"),
-    help: "The SQLite file of the journal, which outlives a stop; its log is FILE-wal",
+    help: "The SQLite file of the journal; its log is FILE-wal",
     ..PLAIN
 };
 
@@ -102,7 +102,7 @@ pub(crate) const LISTEN: OptionWords = OptionWords {
     ..PLAIN
 };
 
-/// How many connections are served at once, where others wait.
+/// How many connections are served at once; others wait.
 pub(crate) const WORKERS: OptionWords = OptionWords {
     name: "workers",
     value: Value::Number(Number {
@@ -111,11 +111,11 @@ pub(crate) const WORKERS: OptionWords = OptionWords {
         most: 64,
         defaults: &[],
     }),
-    help: "How many connections are served at once, 1 to 64; one more waits",
+    help: "How many connections are served at once, 1 to 64; a further one waits",
     ..PLAIN
 };
 
-/// How many connections are served at once, where others are closed.
+/// How many connections are served at once; others are closed.
 pub(crate) const TERMINALS_AT_ONCE: OptionWords = OptionWords {
     name: "terminals",
     value: Value::Number(Number {
@@ -124,7 +124,7 @@ pub(crate) const TERMINALS_AT_ONCE: OptionWords = OptionWords {
         most: 9999,
         defaults: &[],
     }),
-    help: "How many connections are served at once, 1 to 9999; one more is closed",
+    help: "How many connections are served at once, 1 to 9999; a further one is closed",
     ..PLAIN
 };
 
@@ -132,11 +132,11 @@ pub(crate) const TERMINALS_AT_ONCE: OptionWords = OptionWords {
 pub(crate) const DOOR: OptionWords = OptionWords {
     name: "door",
     value: Value::Text("PATH"),
-    help: "Where to make the Unix socket by which people look at the server, and end it",
+    help: "The Unix socket to make, by which people look at the server, and end it",
     ..PLAIN
 };
 
-/// What a server tells while it runs.
+/// What a server logs while it runs.
 pub(crate) const LOG: OptionWords = OptionWords {
     name: "log",
     value: Value::Choice(Choice {
@@ -144,11 +144,11 @@ pub(crate) const LOG: OptionWords = OptionWords {
         words: &["quiet", "events", "messages"],
         defaults: &[],
     }),
-    help: "What to tell on standard error; without it: events",
+    help: "What to log on standard error; without it: events",
     ..PLAIN
 };
 
-/// How many connections there are to be.
+/// After how many connections the server ends.
 pub(crate) const CONNECTIONS: OptionWords = OptionWords {
     name: "connections",
     value: Value::Number(Number {
@@ -174,15 +174,15 @@ pub(crate) const IDLE: OptionWords = OptionWords {
     ..PLAIN
 };
 
-/// The time zone that a server goes by.
+/// The time zone whose offset a server uses.
 pub(crate) const ZONE: OptionWords = OptionWords {
     name: "zone",
     value: Value::Text("FILE"),
-    help: "The TZif file whose offset at the start is local time's, in place of the catalogue's",
+    help: "The TZif file whose offset at the start is used in place of the catalogue's",
     ..PLAIN
 };
 
-/// How far a terminal's clock may be off before that is told.
+/// How far a terminal's clock may be off before that is logged.
 pub(crate) const DAYS_OFF: OptionWords = OptionWords {
     name: "days-off",
     value: Value::Number(Number {
@@ -191,7 +191,7 @@ pub(crate) const DAYS_OFF: OptionWords = OptionWords {
         most: 9999,
         defaults: &[],
     }),
-    help: "Tell of terminals whose messages lie more days than this from the server's, 1 to 9999",
+    help: "Log terminals whose dates are more days than this from the server's, 1 to 9999",
     ..PLAIN
 };
 
@@ -206,11 +206,11 @@ pub(crate) const WARY: OptionWords = OptionWords {
 /// That another catalogue is accepted.
 pub(crate) const ACCEPT_CATALOGUE: OptionWords = OptionWords {
     name: "accept-catalogue",
-    help: "Accept a journal of another catalogue, and of no opening, where each turn is answered the same",
+    help: "Accept a journal of another catalogue, and of no opening, if each turn has the same answer",
     ..PLAIN
 };
 
-/// That another catalogue is accepted, where the journal is kept in a file.
+/// The same, of a command whose journal may be in memory.
 pub(crate) const ACCEPT_CATALOGUE_OF_KEPT: OptionWords = OptionWords {
     only_with: &["kept"],
     ..ACCEPT_CATALOGUE
@@ -231,16 +231,16 @@ pub(crate) const PATRONS: OptionWords = OptionWords {
     ..PLAIN
 };
 
-/// The patrons' file, where patron messages are answered.
+/// The patrons' file, which needs patron messages to be answered.
 pub(crate) const PATRONS_OF_KIOSKS: OptionWords = OptionWords {
     only_with: &["patron-messages"],
     ..PATRONS
 };
 
-/// That sorters are told where a copy goes.
+/// That replies say where a copy goes, for sorters.
 pub(crate) const SORTER_FIELDS: OptionWords = OptionWords {
     name: "sorter-fields",
-    help: "Tell sorters, in 10 and 18, where a copy goes and for whom (CL, CV, CT, CY, DA)",
+    help: "Say in 10 and 18, for sorters, where a copy goes and for whom (CL, CV, CT, CY, DA)",
     ..PLAIN
 };
 
@@ -252,7 +252,7 @@ pub(crate) const REPLIES_END: OptionWords = OptionWords {
         words: &["cr", "crlf"],
         defaults: &["cr"],
     }),
-    help: "What ends a reply: a carriage return, or that and a line feed, which some terminals wait for",
+    help: "What ends a reply: a carriage return, or also a line feed, which some terminals wait for",
     ..PLAIN
 };
 
@@ -265,11 +265,11 @@ pub(crate) const TO: OptionWords = OptionWords {
     ..PLAIN
 };
 
-/// The opening file that is to be.
+/// The opening file to write.
 pub(crate) const INTO: OptionWords = OptionWords {
     name: "into",
     value: Value::Text("FILE"),
-    help: "The opening file to write, which isn't there yet",
+    help: "The opening file to write; an existing one is refused",
     unless: &["library"],
     conflicts: &["library"],
     ..PLAIN
@@ -279,7 +279,7 @@ pub(crate) const INTO: OptionWords = OptionWords {
 pub(crate) const WRITE_OFF: OptionWords = OptionWords {
     name: "write-off",
     value: Value::Text("FILE"),
-    help: "A file with a copy's name in each line: the loans of these are dropped, and told",
+    help: "A file with a copy's name in each line: the loans of these are dropped, and listed",
     ..PLAIN
 };
 

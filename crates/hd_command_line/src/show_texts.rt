@@ -8,10 +8,10 @@ pub(crate) const JOURNAL_SHOW_ABOUT: &str =
 pub(crate) const JOURNAL_SHOW: &str =
     "Lists copies, queues, hold shelves, transits, and what is overdue
 
-The turns of the journal are taken again, as `journal check` does, and one list is printed of the desk that
-they come to: a table with a line of headings, or with --json an array with an object for each line. Names are
-those of the catalogue, days have the form 2026-03-01. No server may have the file open; read a copy of it and
-its log, or the last period of a library's folder after a stop.";
+`journal show` plays the turns of the journal, as `journal check` does, and prints one list of the desk that
+results: a table with a line of headings, or with --json an array with an object for each line. Names are
+those of the catalogue; days are written as 2026-03-01. No server may have the file open: read a copy of it
+and its log, or the last period of a library's folder after a stop.";
 
 /// An example of `journal show`, and its exit statuses.
 pub(crate) const JOURNAL_SHOW_EXAMPLE: &str = "Example:
@@ -21,6 +21,6 @@ pub(crate) const JOURNAL_SHOW_EXAMPLE: &str = "Example:
   p1      1      any     north               a1
   p2      2      any     south   2026-04-01
 
-Exit status: 0 well; 1 a fault, printed as one line (`there is no title NAME`, `there is no branch NAME`, `DAY
-is no day`, and those of a journal's file, which docs/faults.md has with what to do); 2 the command line
-was refused.";
+Exit status: 0 if all is well; 1 after a fault, printed as one line (`there is no title NAME`, `there is no
+branch NAME`, `DAY is no day`, and those of a journal's file, which docs/faults.md has with what to do); 2 if
+the command line is refused.";

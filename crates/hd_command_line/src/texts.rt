@@ -8,23 +8,22 @@ pub(crate) const ABOUT: &str =
 pub(crate) const VERSION: &str = "0.1.0";
 
 /// What `check` does, in a line.
-pub(crate) const CHECK_ABOUT: &str = "Tells what a catalogue file says, or its faults";
+pub(crate) const CHECK_ABOUT: &str = "Prints what a catalogue file says, or its faults";
 
 /// What `check` does.
-pub(crate) const CHECK: &str = "Tells what a catalogue file says, or its faults
+pub(crate) const CHECK: &str = "Prints what a catalogue file says, or its faults
 
-The file is read as `serve` and `replay` read it. What it says is told in ten lines: its version, the
-institution, the offset of local time, how many commands a journal takes, and how many branches,
-terminals, patrons, titles, titles with local priority and copies there are. With --opening what the journal
-begins with is told too.
+`check` reads the file as `serve` and `replay` do. It prints ten lines: the version, the institution, the
+offset of local time, how many commands a journal takes, and the numbers of branches, terminals, patrons,
+titles, titles with local priority and copies. With --opening it also prints what the journal begins with.
 
-Where it is refused, up to 20 faults are told at once on standard error, each with its line, its cause, which
-value it is and what is wrong with it; the last line is the first of them, as `serve` tells it. Of a file that
-is accepted standard error has what is odd about it: values in quotes, with blanks around them or not UTF-8,
-no branches or terminals, and that others may read it.
+If the file is refused, standard error lists up to 20 faults, each with its line, its cause, the value and
+what is wrong with it. The last line is the first fault, as `serve` reports it. If the file is accepted,
+standard error warns of values in quotes, with blanks around them or not UTF-8, of no branches or terminals,
+and of a file that others may read.
 
-With --patrons the patrons' file is read over the catalogue, and it is told of how many patrons it has a
-password, a language and a name. No text of it is ever told, also where it is refused.";
+With --patrons it reads the patrons' file over the catalogue, and prints how many patrons have a password, a
+language and a name. It prints no text of that file, not even of a line that is refused.";
 
 /// An example of `check`, and its exit statuses.
 pub(crate) const CHECK_EXAMPLE: &str = "Example:
@@ -41,8 +40,9 @@ pub(crate) const CHECK_EXAMPLE: &str = "Example:
   titles with local priority: 0
   copies: 5
 
-Exit status: 0 well; 1 a fault, printed as one line (`catalogue line N: CAUSE`, `cannot read the catalogue`,
-the same of `opening` and `patrons`, `cannot write`, `no memory`); 2 the command line was refused.";
+Exit status: 0 if all is well; 1 after a fault, printed as one line (`catalogue line N: CAUSE`, `cannot read
+the catalogue`, the same of `opening` and `patrons`, `cannot write`, `no memory`); 2 if the command line is
+refused.";
 
 /// What `replay` does, in a line.
 pub(crate) const REPLAY_ABOUT: &str = "Answers messages from standard input as the server would";
@@ -52,20 +52,20 @@ pub(crate) const REPLAY: &str = "Answers messages from standard input as the ser
 
 Each line of the input is `<session> <message>`: the number of a session, 1 to 64, one blank, and a SIP2
 message without its carriage return. Each reply is printed as `<session> <reply>`. A session whose message
-is longer than 1,024 bytes ends, and is answered `<session> ENDED` from then on.
+is longer than 1,024 bytes ends. From then on it is answered `<session> ENDED`.
 
-A session logs in first, by a message 93 with a terminal's name (CN) and password (CO) of the catalogue; it
-may log in again as another. Then it may check out (11), check in (09), renew (29), add, delete and change
-holds (15), and ask for an item (17); status (99) and resend (97) need no login. A message with BIY| cancels
-what this terminal did: 09 a checkout, 11 a checkin, 15 with - an added hold and with + a deleted one, 29 a
-renewal, and 15 with * a change.
+A session first logs in by a message 93, with the name (CN) and password (CO) of a terminal in the catalogue.
+It may log in again as another one. Then it may check out (11), check in (09), renew (29), add, delete and
+change holds (15), and ask about an item (17). Status (99) and resend (97) need no login. A message with BIY|
+cancels what this terminal did: 09 a checkout, 11 a checkin, 15 with - an added hold and with + a deleted one,
+29 a renewal, and 15 with * a change.
 
-Kiosks and sorters ask for more, and get it where it is switched on; without these options not a byte of a
-reply differs. With --patron-messages a session may also ask for a patron's status (23) and account (63), end
-the patron's session (35), and send 01, 37 and 65, which block no card, take no fee and renew nothing. Without
-it these are answered 96. With --patrons the passwords (AD) that come with 23 and 63 are compared with those
-of a file, which has a first line `H|patrons|1` and then lines `P|patron|password|language|name`. With
---sorter-fields the replies to checkins and to questions about copies say for whom a copy is.";
+Kiosks and sorters need options; without these no byte of a reply differs. With --patron-messages a session
+may also ask for a patron's status (23) and account (63), end the patron's session (35), and send 01, 37 and
+65, which block no card, take no fee and renew nothing. Without it these are answered 96. With --patrons the
+passwords (AD) of 23 and 63 are compared with those of a file. Its first line is `H|patrons|1`, and each other
+line is `P|patron|password|language|name`. With --sorter-fields the replies to checkins and to questions about
+copies say for whom a copy is.";
 
 /// An example of `replay`, and its exit statuses.
 pub(crate) const REPLAY_EXAMPLE: &str = "Example: a hold, and its cancellation
@@ -79,10 +79,9 @@ pub(crate) const REPLAY_EXAMPLE: &str = "Example: a hold, and its cancellation
   1 161Y20260301    100000BR1|BSnorth|AOlib|AAp1|AJta|
   1 161N20260301    100000AOlib|AAp1|AJta|AFCANCELLED 1|
 
-Exit status: 0 well; 1 a fault, printed as one line (`catalogue line N: CAUSE`, `cannot read the catalogue`,
-`opening line N: CAUSE`, `cannot read the opening`, `patrons line N: CAUSE`, `cannot read the patrons`,
-`bad --now`, `input line N: no session`, `input too long`, `cannot read`, `cannot write`, `no memory`); 2 the
-command line was refused.";
+Exit status: 0 if all is well; 1 after a fault, printed as one line (`catalogue line N: CAUSE`, `cannot read
+the catalogue`, the same of `opening` and `patrons`, `bad --now`, `input line N: no session`, `input too
+long`, `cannot read`, `cannot write`, `no memory`); 2 if the command line is refused.";
 
 /// What `serve` does, in a line.
 pub(crate) const SERVE_ABOUT: &str = "Serves terminals that connect over TCP";
@@ -90,34 +89,36 @@ pub(crate) const SERVE_ABOUT: &str = "Serves terminals that connect over TCP";
 /// What `serve` does.
 pub(crate) const SERVE: &str = "Serves terminals that connect over TCP
 
-Each connection is a session: SIP2 messages, each ended by a carriage return, are answered in order. All
-connections share one desk. `holddesk replay --help` says what a session may ask. With --workers a connection
-beyond those that are served at once waits, and with --terminals it is closed, so that its terminal tells it.
+Each connection is a session. Its SIP2 messages, each ended by a carriage return, are answered in order. All
+connections share one desk. `holddesk replay --help` says what a session may ask. If as many connections are
+served as may be, a further one waits with --workers. With --terminals it is closed, so that its terminal
+shows it.
 
-When the port is bound, a line on standard error says so, with the port that the system gave where 0 was
-asked for. The desk is kept in memory, and a stop loses it: the next start begins with the catalogue. With
---journal each command and each cancellation, also a refused one, is written to that file before it is
-answered, and the next start goes on where the last one stopped. `holddesk journal begin` makes such a file:
-one that isn't there is a fault here. `holddesk journal --help` says what else there is for it. With --library
-the catalogue and the journal are those of a folder, which `holddesk journal begin --library` makes.
+When the server listens, it prints a line on standard error, with the port that the system chose if 0 was
+given. The desk is in memory, and a stop loses it: the next start begins with the catalogue. With --journal
+each command and each cancellation, also a refused one, is written to that file before it is answered, and the
+next start continues where the last one stopped. `holddesk journal begin` makes the file; `serve` doesn't.
+With --library the catalogue and the journal are those of a folder, which `holddesk journal begin --library`
+makes.
 
-Self-check kiosks and lockers read a patron's card first, and want --patron-messages; those that ask for a
-password, or greet by name, want --patrons as well. Sorters that choose a bin for holds and transits want
---sorter-fields. Terminals that show each reply one message late wait for a line feed, and want --replies-end
-crlf. All four are off where nothing is said.
+Self-check kiosks and lockers read a patron's card first, and need --patron-messages; those that ask for a
+password, or greet by name, need --patrons as well. Sorters that choose a bin for holds and transits need
+--sorter-fields. Terminals that show each reply one message late wait for a line feed, and need --replies-end
+crlf. All four are off by default.
 
-Local time is ahead of universal time by the catalogue's offset, or with --zone, as of
-/usr/share/zoneinfo/Europe/Berlin, by what the zone has when the server starts; the log tells which. So a
-server that is started each night follows summer time. With --days-off the log tells once a day of each
-connection whose messages lie further from the server's day; none is refused for that.
+Local time is ahead of universal time by the catalogue's offset. With --zone FILE, as
+/usr/share/zoneinfo/Europe/Berlin, it is ahead by the zone's offset when the server starts, and the log
+reports that offset. So a server that starts each night follows summer time. With --days-off DAYS the log
+reports, once a day for each connection, messages whose date is more days from the server's day. None is
+refused for that.
 
-With --door people look at the server while it runs, by `holddesk show` and `holddesk status` or a browser
-behind a proxy, and `holddesk stop` ends it well: its Unix socket is for the server's own user alone. A
-socket that an earlier server left is replaced.
+With --door people look at the running server by `holddesk show`, by `holddesk status` or by a browser through
+a proxy, and `holddesk stop` ends it. Only the server's own user can use the socket. A socket that an earlier
+server left is replaced.
 
-Standard error has a line for each thing that happens to the server, a connection or the journal: --log
-events, the default. messages has each line and reply too, without passwords. quiet has what the start says and
-the faults alone.";
+Standard error has a line for each event of the server, its connections and the journal (--log events, the
+default). With --log messages it also has each line and reply, without passwords. With --log quiet it has only
+the lines of the start, and faults.";
 
 /// An example of `serve`, and its exit statuses.
 pub(crate) const SERVE_EXAMPLE: &str =
@@ -135,6 +136,7 @@ pub(crate) const SERVE_EXAMPLE: &str =
   event=closed connection=1 address=\"127.0.0.1:40312\" why=peer messages=2 seconds=0
   closed: 1 turns, 0 survivors
 
-Exit status: 0 well; 1 a fault, printed as one line (`catalogue line N: CAUSE`, `cannot read the catalogue`,
-the same of `opening` and `patrons`, `cannot listen`, `cannot write`, `not closed`, `no thread`, `no memory`,
-and those of a journal's file, which docs/faults.md has with what to do); 2 the command line was refused.";
+Exit status: 0 if all is well; 1 after a fault, printed as one line (`catalogue line N: CAUSE`, `cannot read
+the catalogue`, the same of `opening` and `patrons`, `cannot listen`, `cannot write`, `not closed`, `no
+thread`, `no memory`, and those of a journal's file, which docs/faults.md has with what to do); 2 if the
+command line is refused.";

@@ -25,31 +25,31 @@ pub(crate) struct OptionWords {
     pub(crate) value: Value,
     /// What it is, as the help says.
     pub(crate) help: &'static str,
-    /// Whether it has to be there.
+    /// Whether it is required.
     pub(crate) is_required: bool,
-    /// The options in whose place it stands: it has to be there where none of these is.
+    /// The options that replace it: it is required unless one of these is given.
     pub(crate) unless: &'static [&'static str],
-    /// The options and groups without each of which it is refused.
+    /// The options and groups that it needs: it is refused without each of them.
     pub(crate) only_with: &'static [&'static str],
-    /// The options beside which it is refused.
+    /// The options that exclude it.
     pub(crate) conflicts: &'static [&'static str],
 }
 
 /// How an option is given.
 #[derive(Clone, Copy)]
 pub(crate) enum Form {
-    /// By its name behind two hyphens, and what stands behind that.
+    /// By two hyphens and its name, and then its value.
     Named,
-    /// By what stands in its place, without a name.
+    /// By its place among the words, without a name.
     Placed,
 }
 
-/// What stands behind an option.
+/// The value of an option.
 #[derive(Clone, Copy)]
 pub(crate) enum Value {
     /// Nothing.
     Nothing,
-    /// A text, which the help calls so.
+    /// A text, by the name that the help gives it.
     Text(&'static str),
     /// A number.
     Number(Number),
@@ -57,24 +57,24 @@ pub(crate) enum Value {
     Choice(Choice),
 }
 
-/// A number behind an option.
+/// A number, as the value of an option.
 #[derive(Clone, Copy)]
 pub(crate) struct Number {
     /// As the help calls it.
     pub(crate) name: &'static str,
     pub(crate) least: i32,
     pub(crate) most: u32,
-    /// What it is where the option isn't there.
+    /// Its default.
     pub(crate) defaults: &'static [&'static str],
 }
 
-/// One of some words behind an option.
+/// One of several words, as the value of an option.
 #[derive(Clone, Copy)]
 pub(crate) struct Choice {
     /// As the help calls it.
     pub(crate) name: &'static str,
     pub(crate) words: &'static [&'static str],
-    /// Which it is where the option isn't there.
+    /// Its default.
     pub(crate) defaults: &'static [&'static str],
 }
 
@@ -82,7 +82,7 @@ pub(crate) struct Choice {
 #[derive(Clone, Copy)]
 pub(crate) struct GroupWords {
     pub(crate) name: &'static str,
-    /// Whether one of its options has to be there.
+    /// Whether one of its options is required.
     pub(crate) is_required: bool,
     pub(crate) options: &'static [&'static str],
 }
