@@ -13,11 +13,14 @@ use Rattle.hd_catalogue.specs.Contents.{Contents, facts_of}
 use Rattle.hd_journal.specs.declared.turn.Turn.{Turn as Made}
 use Rattle.hd_journal.specs.declared.fault.WriteFault.{WriteFault}
 use Rattle.hd_journal.specs.Books.{Book, AddsTurn, IsLegalBook, next_turn, facts, state, turn_numbered}
-use Rattle.hd_rules.specs.Messages.{IsKnownMessage}
+use Rattle.hd_rules.specs.Messages.{IsKnownMessage, SeatMessage, turn_with_reply}
+use Rattle.hd_rules.specs.declared.replies.TurnReply.{TurnReply}
 use Rattle.hd_journal.specs.Changing.{is_changing, changing}
-use Rattle.hd_durable.specs.Durable.{IsLeft, IsOpen, IsDurable}
+use Rattle.hd_durable.specs.Durable.{Answers, AreCommitted, DurableValue, IsDurable, IsLeft, IsOpen}
 use Rattle.hd_durable.proofs.Beginnings.{beginning}
+use Rattle.hd_durable.proofs.Counting.{took}
 use Rattle.hd_durable.proofs.Leaving.{legal_changing}
+use Rattle.hd_durable.proofs.Refusing.{shown}
 
 -- the last of some turns
 last_of : (first : Turn) (turns : List Turn) (turn : Turn)
@@ -113,20 +116,15 @@ durable_all told holds leaves contents turns n shut same legal all held settled 
       opened = λ open_. record { all = all; held = held; settled = settled };
     }
 
--- while it is open a stop leaves the changing ones of those that were answered
+-- while it is open the changing ones of those that were answered are committed
 pub committed : (holds leaves : List Turn → Type 0) (k : Facts) (turns : List Turn) (n : ℕ)
-    → IsOpen holds leaves k turns n
-    → (left : List Turn) → leaves left → left ≡ changing k (take n turns)
-committed holds leaves k turns n opened left found =
-    let whole : take n turns ≡ turns = ap (λ (m : ℕ). take m turns) opened.all ∙ take-length turns
-    in opened.settled left found ∙ ap (changing k) (sym whole)
-
--- and its table has them
-pub held : (holds leaves : List Turn → Type 0) (k : Facts) (turns : List Turn) (n : ℕ)
-    → IsOpen holds leaves k turns n → holds (changing k (take n turns))
-held holds leaves k turns n opened =
-    let whole : take n turns ≡ turns = ap (λ (m : ℕ). take m turns) opened.all ∙ take-length turns
-    in subst (λ (ts : List Turn). holds (changing k ts)) (sym whole) opened.held
+    → IsOpen holds leaves k turns n → AreCommitted holds leaves k (take n turns)
+committed holds leaves k turns n opened =
+    let whole : take n turns ≡ turns = ap (λ (m : ℕ). take m turns) opened.all ∙ take-length turns in
+    record {
+      held = subst (λ (ts : List Turn). holds (changing k ts)) (sym whole) opened.held;
+      settled = λ left found. opened.settled left found ∙ ap (changing k) (sym whole);
+    }
 
 module _ (old new : Book) (seat : ℕ) (message : Message) (made : Made)
     (adds : AddsTurn old new seat message made)
@@ -246,3 +244,25 @@ module _ (old new : Book) (seat : ℕ) (message : Message) (made : Made)
         left = left_in_doubt holds leaves leaves' n is before opened err;
         opened = λ never. absurd (none_there why (sym never));
       }
+
+-- of an open journal, whose turns were all answered, the turn that was added is answered
+pub answers : {Table : Type 0} (old new : Book) (ask : SeatMessage) (made : Made) (n : ℕ) (table table' : Table)
+    (shut : Option WriteFault) (d : DurableValue Table) → shown old n table shut ≡ d → shut ≡ None
+    → n ≡ length old.turns → AddsTurn old new ask.seat ask.message made
+    → Answers d (shown new made.at table' shut) ask made
+answers {Table = Table} old new ask made n table table' shut d view is_open all adds =
+    let before : d.turns ≡ old.turns =
+    sym (ap (λ (x : DurableValue Table). x.turns) view)
+    ∙ (ap (λ (m : ℕ). take m old.turns) all ∙ take-length old.turns) in
+    let after : take made.at new.turns ≡ new.turns =
+    ap (λ (m : ℕ). take m new.turns) adds.number ∙ take-length new.turns in
+    let few : made.at ≤ length new.turns = omega (arith, adds.number) in
+    record {
+      turn =
+          after ∙ (adds.turns
+          ∙ (ap (λ (reply : TurnReply). old.turns ++ turn_with_reply ask reply ∷ []) (sym adds.reply)
+          ∙ ap (λ (ts : List Turn). ts ++ turn_with_reply ask made.reply ∷ []) (sym before)));
+      number = took made.at new.turns few;
+      was_open = sym (ap (λ (x : DurableValue Table). x.shut) view) ∙ is_open;
+      is_open = is_open;
+    }

@@ -1,5 +1,5 @@
 -- What a durable journal keeps.
-use Rattle.std.specs.Prelude.{◌≡◌, ◌⊎◌, ℕ, ◌≤◌, Option, Some, None, List, ◌++◌, length, take}
+use Rattle.std.specs.Prelude.{◌≡◌, ◌⊎◌, ℕ, ◌≤◌, Option, Some, None, List, [], ◌∷◌, ◌++◌, length, take}
 use Rattle.hd_rules.specs.Facts.{Facts}
 use Rattle.hd_rules.specs.Journal.{Turn, IsLegal}
 use Rattle.hd_catalogue.specs.Contents.{Contents, facts_of}
@@ -7,6 +7,7 @@ use Rattle.hd_rules.specs.declared.replies.TurnReply.{TurnReply}
 use Rattle.hd_journal.specs.declared.fault.TurnFault.{TurnFault}
 use Rattle.hd_journal.specs.declared.fault.TurnFault.TheVariants as fault
 use Rattle.hd_journal.specs.declared.fault.WriteFault.{WriteFault}
+use Rattle.hd_journal.specs.declared.turn.Turn.{Turn as Made}
 use Rattle.hd_rules.specs.Messages.{SeatMessage, turn_with_reply}
 use Rattle.hd_journal.specs.Books.{IsLegalBook}
 use Rattle.hd_journal.specs.Changing.{changing}
@@ -27,9 +28,22 @@ refuses_turn_of refuses ask why = (reply : TurnReply) × refuses (turn_with_repl
 abbrev pub IsShutFor : {Table : Type 0} → (WriteFault → Type 0) → DurableValue Table → WriteFault → Type 0
 IsShutFor refuses old why = (old.shut ≡ Some why) ⊎ ((old.shut ≡ None) × refuses why)
 
--- Why a durable journal made no turn, which its table may refuse for these reasons: out of memory it is open,
--- and stays as it was; and what couldn't be written it tells for the reason for which it is shut from then
--- on.
+-- A durable journal made this turn of what was asked: it is the last one that was answered. Only an open journal
+-- answers, and it stays open.
+pub record Answers {Table : Type 0} (old new : DurableValue Table) (ask : SeatMessage) (made : Made) : Type 0
+  where
+    pub turn : new.turns ≡ old.turns ++ turn_with_reply ask made.reply ∷ []
+    pub number : made.at ≡ length new.turns
+    pub was_open : old.shut ≡ None
+    pub is_open : new.shut ≡ None
+
+-- The table has the changing ones of these turns, and a stop leaves no others.
+pub record AreCommitted (holds leaves : List Turn → Type 0) (k : Facts) (turns : List Turn) : Type 0 where
+  pub held : holds (changing k turns)
+  pub settled : (left : List Turn) → leaves left → left ≡ changing k turns
+
+-- Why a durable journal made no turn, which its table may refuse for these reasons. Out of memory it is open, and
+-- stays as it was. Where a turn couldn't be written, it is shut from then on, and reports why.
 abbrev pub IsTakeFault : {Table : Type 0} → (WriteFault → Type 0) → (old new : DurableValue Table) → TurnFault
     → Type 0
 IsTakeFault refuses old new fault.Memory = (old.shut ≡ None) × (new ≡ old)

@@ -5,11 +5,11 @@ ghost use Rattle.std.specs.Prelude.{length, option_map, take};
 ghost use Rattle.std.specs.Arc.{arc_value};
 ghost use Rattle.hd_catalogue.specs.Contents.{facts_of};
 ghost use Rattle.hd_rules.specs.Journal.{IsLegal, Turn as TurnValue};
-ghost use Rattle.hd_rules.specs.Messages.{IsKnownMessage, turn_with_reply};
+ghost use Rattle.hd_rules.specs.Messages.{IsKnownMessage};
 ghost use Rattle.hd_journal.specs.Books.{IsLegalBook, facts, turn_numbered};
 ghost use Rattle.hd_journal.specs.Changing.{changing};
 ghost use Rattle.hd_journal.specs.Shown.{turn_shown};
-ghost use Rattle.hd_durable.specs.Durable.{IsLeft, IsTakeFault, refuses_turn_of};
+ghost use Rattle.hd_durable.specs.Durable.{Answers, AreCommitted, IsLeft, IsTakeFault, refuses_turn_of};
 
 use crate::table::TurnTable;
 use crate::timed::{LastCommit, TimedTable};
@@ -24,7 +24,7 @@ use std::time::Clock;
 ///
 /// Whatever is asked, a stop at any moment leaves the changing turns of all that were answered, or of these
 /// and one more that nobody was answered (`left` of `take`). Where a turn can't be committed the journal
-/// shuts for good, and tells each that asks why.
+/// shuts for good, and reports why to each that asks.
 pub struct DurableJournal<T: TurnTable, A: Allocator = Global> {
     journal: Journal<A>,
     table: T,
@@ -64,7 +64,7 @@ impl<T: TurnTable, A: Allocator> Model for DurableJournal<T, A> {
 }
 
 impl<T: TurnTable, A: Allocator + Copy> DurableJournal<T, A> {
-    /// The journal, whose changing turns this table has, told by the journal's catalogue. It is open.
+    /// The journal, whose changing turns this table has, by the names of the journal's catalogue. It is open.
     pub fn new(journal: Journal<A>, table: T) -> DurableJournal<T, A>
         requires catalogue { T.contents table ≡ journal.contents }
         requires held { T.holds table (changing (facts journal) journal.turns) }
@@ -84,23 +84,17 @@ impl<T: TurnTable, A: Allocator + Copy> DurableJournal<T, A> {
         }
     }
 
-    /// One turn: what a terminal of a seat asks. What it names, and the terminal, are of the journal's
-    /// catalogue. A changing turn is committed before it is answered.
+    /// Makes one turn of what a terminal of a seat asks, and returns its number and its reply. What it names,
+    /// and the terminal, are of the journal's catalogue. A changing turn is committed before it is answered.
     ///
     /// # Errors
     /// `Memory` from an open journal, which then is as it was; `Unwritten` where this turn or an earlier one
     /// couldn't be committed, with the reason of the one that couldn't. Nobody is answered.
     pub fn take(&mut self, ask: OwnedAsk<A>) -> Result<Turn, TurnFault>
         requires { IsKnownMessage (facts_of self.old.contents) ask.message }
-        ensures turn { IfOk result (λ made.
-            self.new.turns ≡ self.old.turns ++ turn_with_reply ask made.reply ∷ []) }
-        ensures number { IfOk result (λ made. made.at ≡ length self.new.turns) }
-        // Only an open journal answers, and it stays open.
-        ensures open { OnOk result ((self.old.shut ≡ None) × (self.new.shut ≡ None)) }
-        ensures held { OnOk result (T.holds self.new.table
-            (changing (facts_of self.new.contents) self.new.turns)) }
-        ensures committed { OnOk result ((left : List TurnValue) → T.leaves self.new.table left
-            → left ≡ changing (facts_of self.new.contents) self.new.turns) }
+        ensures answered { IfOk result (Answers self.old self.new ask) }
+        ensures committed { OnOk result (AreCommitted (T.holds self.new.table) (T.leaves self.new.table)
+            (facts_of self.new.contents) self.new.turns) }
         ensures left { (left : List TurnValue) → T.leaves self.new.table left
             → IsLeft (facts_of self.new.contents) self.new.turns left }
         ensures legal { IsLegalBook self.new.contents self.new.turns }

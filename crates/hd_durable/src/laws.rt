@@ -1,4 +1,4 @@
-//! Laws. Each is the contract of a function without a body; its statement stands in `specs/Laws.antt`.
+//! Laws. Each is the contract of a function without a body; its statement is in `specs/Laws.antt`.
 
 ghost use Rattle.hd_durable.specs.Laws.{AStopLeavesALegalJournal, ATurnMoreIsKeptWhereItChanges};
 ghost use Rattle.hd_durable.specs.Laws.{ChangingTurnsAreAllChanging};

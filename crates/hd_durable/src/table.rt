@@ -9,7 +9,7 @@ ghost use Rattle.hd_journal.specs.declared.fault.WriteFault.{WriteFault};
 
 use hd_journal::{TurnRef, WriteFault};
 
-/// A table of turns that outlives a stop, as a file. It tells them by the names of a catalogue.
+/// A table of turns that outlives a stop, as a file. It writes them with the names of a catalogue.
 pub trait TurnTable {
     /// What its catalogue says.
     ghost contents: { Self → Contents };
@@ -23,7 +23,7 @@ pub trait TurnTable {
     /// Why it refused to commit this turn, by what it was before and is then.
     ghost refuses: { Self → Turn → Self → WriteFault → Type 0 };
 
-    /// Commits one turn more, behind all others, which are legal with it. What its message names, and its
+    /// Commits one turn more, after all others, which are legal with it. What its message names, and its
     /// terminal, are of the catalogue. A stop after it leaves the turn.
     ///
     /// # Errors

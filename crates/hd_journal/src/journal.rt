@@ -168,7 +168,7 @@ impl<A: Allocator + Copy> Journal<A> {
     }
 
     /// One turn: what a terminal of a seat asks, of which the journal makes its own copy. As `take`.
-    pub fn take_copy(&mut self, ask: &Ask<'_>) -> Result<Turn, TurnFault>
+    pub(crate) fn take_copy(&mut self, ask: &Ask<'_>) -> Result<Turn, TurnFault>
         requires { IsKnownMessage (facts self.old) (message_of ask.now).message }
         ensures turn { IfOk result (AddsTurn self.old self.new (message_of ask.now).seat
             (message_of ask.now).message) }

@@ -1,15 +1,13 @@
 //! Offices.
-ghost use Rattle.std.specs.Prelude.{◌≡◌, ◌++◌, ◌∷◌, [], ℕ, List, IfErr, IfOk, OnErr, OnOk};
+ghost use Rattle.std.specs.Prelude.{◌≡◌, ℕ, List, IfErr, IfOk, OnErr, OnOk};
 ghost use Rattle.hd_rules.specs.Journal.{Turn};
-ghost use Rattle.hd_rules.specs.Known.{IsKnownTurnReply};
-ghost use Rattle.hd_rules.specs.Replies.{IsReplyTo};
 ghost use Rattle.hd_catalogue.specs.Contents.{facts_of};
-ghost use Rattle.hd_rules.specs.Messages.{IsKnownMessage, turn_with_reply, message_of};
+ghost use Rattle.hd_rules.specs.Messages.{IsKnownMessage, message_of};
 ghost use Rattle.hd_journal.specs.declared.fault.TurnFault.{TurnFault};
 ghost use Rattle.hd_journal.specs.Books.{Book};
 ghost use Rattle.hd_journal.specs.Faults.{IsNotMemory};
 ghost use Rattle.hd_journal.specs.Looks.{IsJournalOf};
-ghost use Rattle.hd_journal.specs.Offices.{Keeps};
+ghost use Rattle.hd_journal.specs.Offices.{Keeps, MakesTurn};
 
 use crate::fault::TurnFault;
 use crate::look::Look;
@@ -63,22 +61,16 @@ pub trait Office<A: Allocator> {
         ensures cause { IfErr result (causes self.now self.now) }
         ensures err { OnErr result (reader.new ≡ reader.old) };
 
-    /// One turn: what a terminal asks at this seat. The terminal, and all that it asks, are of the office's
-    /// catalogue.
-    ///
-    /// Its reply is one to what was asked and names things of the catalogue.
+    /// Makes one turn of what a terminal asks at this seat, and returns its number and its reply. The terminal,
+    /// and all that it asks, are of the office's catalogue.
     ///
     /// # Errors
     /// Those of `faults`, each for its cause. No turn is answered then.
     fn turn(&mut self, ask: &Ask<'_>) -> Result<Turn, TurnFault>
         requires seat { ask.now.seat ≡ (keeps self.old).seat }
         requires known { IsKnownMessage (facts_of (keeps self.old).contents) (message_of ask.now).message }
-        ensures turn { IfOk result (λ made.
-            turns self.new ≡ turns self.old ++ turn_with_reply (message_of ask.now) made.reply ∷ []) }
-        ensures number { IfOk result (λ made. made.at ≡ last_number self.new) }
-        ensures reply { IfOk result (λ made. IsReplyTo ask.now.asked made.reply) }
-        ensures names { IfOk result (λ made.
-            IsKnownTurnReply (facts_of (keeps self.old).contents) made.reply) }
+        ensures made { IfOk result (MakesTurn (facts_of (keeps self.old).contents) ask.now
+            (turns self.old) (turns self.new) (last_number self.new)) }
         ensures why { IfErr result faults }
         ensures cause { IfErr result (causes self.old self.new) }
         ensures err { OnErr result (turns self.new ≡ turns self.old) }

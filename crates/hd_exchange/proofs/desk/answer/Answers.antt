@@ -14,7 +14,7 @@ returns-in_ok-turn-in-Ok-clause-answer g c =
           turn.turn.reply
           c.what_is_asked.ensures c.in-Ok.is ask.of_kind c.reply_with-reply.ensures.reply,
       record {
-        turns = turn.ensures.turn;
+        turns = turn.ensures.made.turn;
         shown = tt;
         same = turn.ensures.same;
         holds =

@@ -5,7 +5,7 @@ use Rattle.hd_catalogue.specs.Contents.{facts_of}
 use Rattle.hd_rules.specs.Messages.{IsKnownMessage}
 use Rattle.hd_journal.specs.declared.fault.WriteFault.{WriteFault}
 use Rattle.hd_durable.specs.Durable.{DurableValue, IsDurable, refuses_turn_of}
-use Rattle.hd_durable.proofs.Durability.{committed, durable_more, durable_same, durable_shut, held}
+use Rattle.hd_durable.proofs.Durability.{answers, committed, durable_more, durable_same, durable_shut}
 use Rattle.hd_durable.proofs.Durability.{last_known, left_in_doubt}
 use Rattle.hd_durable.proofs.Refusing.{out_of_memory, refused_one}
 use Rattle.hd_durable.proofs.journal.DurableJournal.take.Given.{Over}
@@ -41,12 +41,6 @@ pub returns-then-not-new-clause-committed :
 returns-then-not-new-clause-committed g c =
     committed _ _ (facts_of c.take_new.new.self.contents) c.take_new.new.self.turns c.in_ok-new.new.made.at
     ((same g (goal.at.returns-then-not-new-clause-committed g c).Then-not-new None).opened refl)
-
-pub returns-then-not-new-clause-held : goal.returns-then-not-new-clause-held
-returns-then-not-new-clause-held g c =
-    held (g.T.TurnTable.holds c.self.inside.table) (g.T.TurnTable.leaves c.self.inside.table)
-    (facts_of c.take_new.new.self.contents) c.take_new.new.self.turns c.in_ok-new.new.made.at
-    ((same g (goal.at.returns-then-not-new-clause-held g c).Then-not-new None).opened refl)
 
 pub returns-then-not-new-clause-left : goal.returns-then-not-new-clause-left
 returns-then-not-new-clause-left g c =
@@ -111,12 +105,6 @@ returns-in-Ok-clause-committed g c =
     committed _ _ (facts_of c.take_new.new.self.contents) c.take_new.new.self.turns c.in_ok-new.new.made.at
     ((more g (goal.at.returns-in-Ok-clause-committed g c).In-Ok None).opened refl)
 
-pub returns-in-Ok-clause-held : goal.returns-in-Ok-clause-held
-returns-in-Ok-clause-held g c =
-    held (g.T.TurnTable.holds c.commit_last.new.table) (g.T.TurnTable.leaves c.commit_last.new.table)
-    (facts_of c.take_new.new.self.contents) c.take_new.new.self.turns c.in_ok-new.new.made.at
-    ((more g (goal.at.returns-in-Ok-clause-held g c).In-Ok None).opened refl)
-
 pub returns-in-Ok-clause-left : goal.returns-in-Ok-clause-left
 returns-in-Ok-clause-left g c = (more g (goal.at.returns-in-Ok-clause-left g c).In-Ok None).left
 
@@ -145,11 +133,15 @@ returns-in-Err-clause-why g c = (
   ),
 )
 
--- it stays open
-pub returns-then-not-new-clause-open : goal.returns-then-not-new-clause-open
-returns-then-not-new-clause-open g c =
-    (sym (ap (λ (d : DurableValue g.row.T.Denot). d.shut) c.self.view_is) ∙ c.in_default.is, c.in_default.is)
+-- the turn is answered
+pub returns-then-not-new-clause-answered : goal.returns-then-not-new-clause-answered
+returns-then-not-new-clause-answered g c =
+    answers c.self.inside.journal c.take_new.new.self c.args.ask c.in_ok-new.new.made c.self.inside.answered
+    c.self.inside.table c.self.inside.table c.self.inside.shut _ c.self.view_is c.in_default.is
+    (c.self.invariant.opened c.in_default.is).all c.in_ok-new.ensures.turn
 
-pub returns-in-Ok-clause-open : goal.returns-in-Ok-clause-open
-returns-in-Ok-clause-open g c =
-    (sym (ap (λ (d : DurableValue g.row.T.Denot). d.shut) c.self.view_is) ∙ c.in_default.is, c.in_default.is)
+pub returns-in-Ok-clause-answered : goal.returns-in-Ok-clause-answered
+returns-in-Ok-clause-answered g c =
+    answers c.self.inside.journal c.take_new.new.self c.args.ask c.in_ok-new.new.made c.self.inside.answered
+    c.self.inside.table c.commit_last.new.table c.self.inside.shut _ c.self.view_is c.in_default.is
+    (c.self.invariant.opened c.in_default.is).all c.in_ok-new.ensures.turn
