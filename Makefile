@@ -39,13 +39,13 @@ run:
 	@python3 scripts/prove.py
 	@cd crates/holddesk && out/holddesk $(STORED)
 
-# One crate, as make check CRATE=hd_looks ONLY=copies: over the proved libraries below it, which are proved where they
+# One crate, as make check CRATE=hd_list_rows ONLY=copies: over the proved libraries below it, which are proved where they
 # aren't kept. FLAGS has other words for rattle check.
 CRATE =
 ONLY =
 FLAGS =
 check:
-	@test -n "$(CRATE)" || { echo 'make check: say which crate, as CRATE=hd_looks' >&2; exit 1; }
+	@test -n "$(CRATE)" || { echo 'make check: say which crate, as CRATE=hd_list_rows' >&2; exit 1; }
 	@python3 scripts/check.py $(CRATE) $(ONLY:%=--only %) $(FLAGS)
 
 # What changed against a commit, soon; it isn't the gate.

@@ -1,5 +1,5 @@
 #!/usr/bin/env python3
-"""Makes the page's literal and its policy, crates/hd_page_html/src/text.rt, of crates/hd_page_html/page/page.html.
+"""Makes the page's literal and its policy, crates/hd_page/src/text.rt, of crates/hd_page/page/page.html.
 
     python3 scripts/make/make_page.py [--check]
 
@@ -18,8 +18,8 @@ sys.path.append(os.path.dirname(sys.path[0]))  # scripts/
 
 from prove import TOP
 
-PAGE = TOP / "crates" / "hd_page_html" / "page" / "page.html"
-MADE = TOP / "crates" / "hd_page_html" / "src" / "text.rt"
+PAGE = TOP / "crates" / "hd_page" / "page" / "page.html"
+MADE = TOP / "crates" / "hd_page" / "src" / "text.rt"
 WIDEST = 110
 # What would need another source, or would take text for HTML or for a script: the policy refuses it, or it is unsafe.
 REFUSED = (r"\bsrc=|<link|<img|<iframe|@import|url\(|https?:|\bon[a-z]+=|\bstyle=|innerHTML|outerHTML|insertAdjacentHTML"
@@ -79,7 +79,7 @@ def main(words):
     if not words:
         MADE.write_text(made, encoding="ascii")
     elif not MADE.is_file() or MADE.read_text(encoding="ascii") != made:
-        sys.exit("make_page.py: crates/hd_page_html/src/text.rt isn't of page/page.html: say python3 scripts/make/make_page.py")
+        sys.exit("make_page.py: crates/hd_page/src/text.rt isn't of page/page.html: say python3 scripts/make/make_page.py")
 
 
 if __name__ == "__main__":

@@ -7,7 +7,7 @@ use hd_catalogue::{Catalogue, TitleNo};
 use hd_command_line::{Check, LibraryFiles};
 use hd_desk::Desk;
 use hd_folder::Paths;
-use hd_setup::{Library, read_file};
+use hd_library::{Library, read_file};
 use hd_terminal_output::Away;
 use std::alloc::{AllocError, Global};
 use std::io::{IsTerminal, Write};

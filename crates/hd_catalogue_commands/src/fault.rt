@@ -1,7 +1,7 @@
 //! Why `check` or `import` stops.
 
 use hd_folder::FolderFault;
-use hd_setup::SetupFault;
+use hd_library::SetupFault;
 use std::alloc::{AllocError, AllocFailed};
 use std::{fmt, io};
 use thiserror::Error;

@@ -8,7 +8,7 @@ use hd_import::{
     Encoding, Fault as SheetFault, Format, Imported, Settings, Sheet, Source, Sources, all_sheets,
     import, unused_headings,
 };
-use hd_setup::{SetupFault, read_list};
+use hd_library::{SetupFault, read_list};
 use std::alloc::{AllocError, Global};
 use std::fs::{self, Metadata};
 use std::os::unix::fs::MetadataExt;

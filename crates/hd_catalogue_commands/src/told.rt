@@ -2,8 +2,8 @@
 
 use crate::fault::CatalogueCommandFault;
 use hd_catalogue::Catalogue;
+use hd_library::read_patrons;
 use hd_patrons::{PasswordCheck, PatronNo, Patrons};
-use hd_setup::read_patrons;
 use std::io;
 
 /// Of how many patrons a patrons' file has these texts.

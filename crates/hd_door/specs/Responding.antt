@@ -2,9 +2,9 @@
 use Rattle.std.specs.Prelude.{◌≡◌, ◌⊎◌, ℕ, List, Option, []}
 use Rattle.std.specs.Io.KnownBytes.{Appends}
 use Rattle.hd_connection.specs.Streams.{IsCutShort}
-use Rattle.hd_page.specs.declared.answering.Sequel.TheVariants.{GoOn}
-use Rattle.hd_page.specs.Answered.{IsAnswered, too_long}
-use Rattle.hd_page.specs.Shows.{Shown}
+use Rattle.hd_http.specs.declared.answering.Sequel.TheVariants.{GoOn}
+use Rattle.hd_http.specs.Answered.{IsAnswered, too_long}
+use Rattle.hd_http.specs.Shows.{Shown}
 use Rattle.hd_door.specs.declared.hearing.RequestText.{RequestText}
 use Rattle.hd_door.specs.declared.hearing.RequestText.TheVariants.{Whole, TooLong}
 use Rattle.hd_door.specs.declared.responding.Response.{Response}

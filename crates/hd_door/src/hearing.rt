@@ -5,7 +5,7 @@ ghost use Rattle.hd_door.specs.Hearing.{Comes, HasReason, IsHeard, IsNoMore, IsS
 
 use crate::fault::HearFault;
 use hd_connection::Input;
-use hd_page::FIELDS;
+use hd_http::FIELDS;
 use httparse::Status;
 use httparse::spans::{EMPTY_HEADER_SPAN, parse_request};
 use std::alloc::Global;

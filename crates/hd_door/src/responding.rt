@@ -3,7 +3,7 @@ ghost use Rattle.std.specs.Prelude.{IfOk};
 ghost use Rattle.hd_door.specs.Responding.{IsResponse};
 
 use crate::hearing::RequestText;
-use hd_page::{Page, Sequel, View, answer, answer_too_long};
+use hd_http::{Page, Sequel, View, answer, answer_too_long};
 use std::alloc::{AllocError, Global};
 
 /// What is answered.

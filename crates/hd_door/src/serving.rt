@@ -1,7 +1,7 @@
 //! Answering requests.
 ghost use Rattle.std.specs.Prelude.{◌*◌, ◌≡◌, ◌≢◌, IfErr, IfOk, None, Ok, OnErr, true};
 ghost use Rattle.std.specs.Duration.{as_nanos};
-ghost use Rattle.hd_page.specs.declared.answering.Sequel.TheVariants.{Stop};
+ghost use Rattle.hd_http.specs.declared.answering.Sequel.TheVariants.{Stop};
 ghost use Rattle.hd_door.specs.Hearing.{HasReason, IsHeard};
 ghost use Rattle.hd_door.specs.Responding.{IsResponse, WentOut};
 ghost use Rattle.hd_door.specs.declared.hearing.RequestText.{RequestText};
@@ -16,7 +16,7 @@ use crate::responding::{Response, respond};
 use crate::stopping::OnStop;
 use crate::timely::Timely;
 use hd_connection::{Input, Output, write_all};
-use hd_page::{Page, Sequel, View};
+use hd_http::{Page, Sequel, View};
 use std::alloc::Global;
 use std::os::unix::net::UnixStream;
 use std::sync::Wait;

@@ -1,7 +1,7 @@
 //! What a server answers at its door.
 
 use crate::fault::DoorCommandFault;
-use hd_ask::{Answer, AskFault, Question, ask, first_line};
+use hd_door_client::{Answer, AskFault, Question, ask, first_line};
 use std::alloc::{AllocError, Global};
 
 /// What the server at a door answers.

@@ -3,9 +3,9 @@
 use crate::answering::{answer_at, unanswered};
 use crate::fault::DoorCommandFault;
 use crate::topics::{heads_of, unseen};
-use hd_ask::{Question, Rows, number_of};
 use hd_command_line::{SeenTopic, Show};
-use hd_setup::inquiry_of;
+use hd_door_client::{Question, Rows, number_of};
+use hd_library::inquiry_of;
 use hd_terminal_output::Table;
 use std::alloc::Global;
 use std::io::Write;

@@ -2,8 +2,8 @@
 
 use crate::answering::{answer_at, refusal};
 use crate::fault::DoorCommandFault;
-use hd_ask::{Question, status_text};
 use hd_command_line::{Status, Stop};
+use hd_door_client::{Question, status_text};
 use std::io::Write;
 
 /// The status of an answer that all is well.

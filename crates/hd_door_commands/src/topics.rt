@@ -2,8 +2,8 @@
 
 use crate::answering::refusal;
 use crate::fault::DoorCommandFault;
-use hd_ask::Answer;
 use hd_command_line::SeenTopic;
+use hd_door_client::Answer;
 use hd_terminal_output::{ListFault, not_there};
 use std::alloc::{AllocError, Global};
 

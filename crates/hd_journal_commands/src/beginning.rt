@@ -6,8 +6,8 @@ use hd_folder::{
     Paths, cannot_write, last_period, name_part, own_file, part_path, see_no_file, see_no_other,
     see_nothing, write_part, write_whole,
 };
+use hd_library::{Library, read_file};
 use hd_library_journal::{LibraryJournalFault, begin_anew, begin_at};
-use hd_setup::{Library, read_file};
 use hd_turn_store::Fault as StoreFault;
 use std::fs::{self, File, TryLockError};
 

@@ -8,8 +8,8 @@ use hd_catalogue::Catalogue;
 use hd_desk::Desk;
 use hd_folder::{part_path, write_part};
 use hd_journal::Journal;
+use hd_library::{Library, SetupFault, read_file};
 use hd_rules::{CopyNo, OpeningRow};
-use hd_setup::{Library, SetupFault, read_file};
 use std::alloc::{AllocError, Global};
 
 /// Which way a desk is to be carried over.

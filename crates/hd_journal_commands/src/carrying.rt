@@ -6,8 +6,8 @@ use crate::fault::JournalCommandFault;
 use hd_command_line::{Carry, LibraryFiles};
 use hd_folder::{Paths, name_part, part_path, see_no_file, write_whole};
 use hd_journal::Journal;
+use hd_library::{Library, read_file};
 use hd_library_journal::{Keeping, LibraryJournalFault, begin_anew, end_journal, open_over};
-use hd_setup::{Library, read_file};
 use hd_turn_store::Unknown;
 use std::io::Write;
 

@@ -2,8 +2,8 @@
 
 use hd_folder::FolderFault;
 use hd_journal::WriteFault;
+use hd_library::SetupFault;
 use hd_library_journal::LibraryJournalFault;
-use hd_setup::SetupFault;
 use hd_terminal_output::ListFault;
 use std::alloc::{AllocError, AllocFailed};
 use std::{fmt, io};

@@ -14,8 +14,8 @@ use hd_catalogue::Catalogue;
 use hd_command_line::{JournalJoin, Place};
 use hd_folder::{Paths, write_whole};
 use hd_joining::{grown_text, joining};
+use hd_library::{Library, joined_file, joined_lines, read_file};
 use hd_library_journal::{Keeping, end_journal, open_over};
-use hd_setup::{Library, joined_file, joined_lines, read_file};
 use hd_turn_store::Unknown;
 use std::io::Write;
 

@@ -2,8 +2,8 @@
 
 use crate::fault::JournalCommandFault;
 use hd_command_line::{JournalViews, VIEWS};
+use hd_library::{SetupFault, read_file};
 use hd_opening::{OpeningCause, OpeningFault};
-use hd_setup::{SetupFault, read_file};
 use std::alloc::{AllocError, Global};
 use std::io::Write;
 

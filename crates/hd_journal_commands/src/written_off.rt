@@ -3,8 +3,8 @@
 use crate::fault::JournalCommandFault;
 use hd_catalogue::Catalogue;
 use hd_desk::Desk;
+use hd_library::read_list;
 use hd_rules::{CopyNo, CopyState, PatronNo};
-use hd_setup::read_list;
 use hd_terminal_output::{copy_name, patron_name};
 use std::alloc::AllocError;
 use std::io::Write;

@@ -5,7 +5,7 @@ ghost use Rattle.hd_library_journal.specs.declared.fault.LibraryJournalFault.The
 use hd_folder::FolderFault;
 use hd_journal::WriteFault;
 use hd_journal_file::OpenFault;
-use hd_setup::SetupFault;
+use hd_library::SetupFault;
 use hd_turn_store::Fault as StoreFault;
 use std::alloc::{AllocError, AllocFailed};
 use std::{fmt, io};

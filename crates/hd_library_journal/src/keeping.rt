@@ -10,7 +10,7 @@ use hd_command_line::LibraryFiles;
 use hd_durable::DurableJournal;
 use hd_folder::{FolderFault, Paths, Period, see_journal};
 use hd_journal_file::{JournalFile, OpenFault, Wanted, open};
-use hd_setup::Library;
+use hd_library::Library;
 use hd_turn_store::{FileFrom, FileStore, Start, connect};
 use std::io;
 

@@ -1,5 +1,0 @@
-pub mod Appends
-pub mod Fields
-pub mod Heads
-pub mod Placing
-pub mod Whole

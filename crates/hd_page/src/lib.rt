@@ -1,26 +1,21 @@
-//! The answer to an HTTP/1.1 request, of a view of a library.
+//! The page: one HTML document for librarians and IT, with its style and its script inside.
 #![tactic(auto)]
 
-mod answering;
-mod asking;
-mod cutting;
-mod laws;
-mod metrics;
-mod number;
-mod page;
-mod pieces;
-mod place;
-mod query;
-mod reply;
-mod showing;
-mod state;
-mod view;
+ghost use Rattle.std.specs.Prelude.{◌≡◌};
+ghost use Rattle.hd_page.specs.declared.text.TheConstants.{POLICY, TEXT};
 
-pub use crate::answering::{FIELDS, Sequel, answer, answer_too_long};
-pub use crate::laws::whole_reply;
-pub use crate::page::Page;
-pub use crate::place::{Place, place_of};
-pub use crate::query::MOST_TURNS;
-pub use crate::reply::{FIXED, Media, Method, Status};
-pub use crate::state::{Health, JournalCounts, State, Tally, Turns};
-pub use crate::view::{Dated, Inquiry, Named, Outcome, View, ViewFault};
+mod text;
+
+use crate::text::{POLICY, TEXT};
+use hd_http::Page;
+
+/// The page, and the policy that names its script and its style by their sums.
+pub fn page() -> Page<'static>
+    ensures text { result.text.now ≡ TEXT.now }
+    ensures policy { result.policy.now ≡ POLICY.now }
+{
+    Page {
+        text: TEXT,
+        policy: POLICY,
+    }
+}

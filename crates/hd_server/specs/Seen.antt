@@ -1,8 +1,8 @@
 -- What is seen of a server.
 use Rattle.std.specs.Prelude.{◌≡◌, ℕ, Bool, Some, min, if◌then◌else◌}
-use Rattle.hd_page.specs.declared.state.Health.{Health}
-use Rattle.hd_page.specs.declared.state.Health.TheVariants.{Well, Shut, Full, Gone}
-use Rattle.hd_page.specs.declared.state.State.{State}
+use Rattle.hd_http.specs.declared.state.Health.{Health}
+use Rattle.hd_http.specs.declared.state.Health.TheVariants.{Well, Shut, Full, Gone}
+use Rattle.hd_http.specs.declared.state.State.{State}
 use Rattle.hd_server.specs.declared.server_view.Service.{Service}
 
 -- whether a server can do its work, by whether its journal's file is gone, whether a connection has found no seat,

@@ -4,7 +4,7 @@ ghost use Rattle.hd_server.specs.Seen.{health_of, with_service};
 
 use crate::file_identity::{FileIdentity, first_identity, has_gone};
 use hd_durable::LastCommit;
-use hd_page::{Health, Inquiry, Outcome, State, View, ViewFault};
+use hd_http::{Health, Inquiry, Outcome, State, View, ViewFault};
 use hd_serve::Standing;
 use std::fs;
 use std::sync::Wait;

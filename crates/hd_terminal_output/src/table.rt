@@ -1,7 +1,7 @@
 //! Lists, printed as tables that a person reads, or as JSON.
 
 use crate::fault::ListFault;
-use hd_ask::cell;
+use hd_door_client::cell;
 use serde_json::Value;
 use std::alloc::Global;
 use std::io::Write;

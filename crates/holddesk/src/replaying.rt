@@ -3,9 +3,9 @@
 use crate::fault::Fault;
 use hd_command_line::Replay;
 use hd_connection::Fallible;
+use hd_library::{Library, extensions_of, is_extended, read_file};
 use hd_replay::{ReplayFault, replay_over};
 use hd_server::replay;
-use hd_setup::{Library, extensions_of, is_extended, read_file};
 
 /// Answers the messages of the standard input.
 pub(crate) fn answer(rt: &HostRuntime, order: &Replay<'_>) -> Result<(), Fault> {

@@ -4,9 +4,9 @@ use crate::fault::Fault;
 use crate::observing::Teller;
 use hd_catalogue::OffsetMinutes;
 use hd_command_line::Serve;
+use hd_library::offset_now;
 use hd_log::Event;
 use hd_serve::Observer;
-use hd_setup::offset_now;
 use std::time::Clock;
 
 /// The offset that the zone of a server has now, where it is to go by one, which is told.

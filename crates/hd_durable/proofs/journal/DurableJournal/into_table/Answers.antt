@@ -12,9 +12,9 @@ returns-clause-committed g c =
     (λ (d : DurableValue g.row.T.Denot). d.shut ≡ None → (left : List Turn)
     → g.T.TurnTable.leaves d.table left → left ≡ changing (facts_of d.contents) d.turns)
     c.self.view_is
-    (λ is_open. committed (g.T.TurnTable.holds c.self.inside.table) (g.T.TurnTable.leaves c.self.inside.table)
+    (λ is_open. (committed (g.T.TurnTable.holds c.self.inside.table) (g.T.TurnTable.leaves c.self.inside.table)
     (facts_of c.self.inside.journal.contents) c.self.inside.journal.turns c.self.inside.answered
-    (c.self.invariant.opened is_open))
+    (c.self.invariant.opened is_open)).settled)
 
 pub returns-clause-left : goal.returns-clause-left
 returns-clause-left g c =

@@ -1,0 +1,17 @@
+pub mod Answered
+pub mod Answers
+pub mod Asking
+pub mod Cuts
+pub mod Faults
+pub mod Heads
+pub mod Metered
+pub mod Metrics
+pub mod Names
+pub mod Numbers
+pub mod Places
+pub mod Queries
+pub mod Replies
+pub mod Seen
+pub mod Shows
+pub mod Sights
+pub mod Words

@@ -1,0 +1,106 @@
+//! What a request's head asks for.
+ghost use Rattle.std.specs.Prelude.{◌≡◌, All, length, map};
+ghost use Rattle.httparse.specs.Spans.{IsHeaderWithin, header_bytes};
+ghost use Rattle.hd_http.specs.Asking.{is_called, is_page_name, is_stop, method_of, refused_fields};
+ghost use Rattle.hd_http.specs.Asking.{refused_method, tells_body, told_by};
+
+use crate::reply::{Method, Status};
+use httparse::spans::HeaderSpan;
+
+/// What the fields of a request tell.
+#[derive(Clone, Copy, Debug, PartialEq, Eq)]
+pub(crate) struct Told {
+    /// A body follows.
+    pub(crate) has_body: bool,
+    /// A page in a browser asks.
+    pub(crate) is_of_page: bool,
+}
+
+/// Whether a target is that of a stop.
+pub(crate) fn is_stop(target: &[u8]) -> bool
+    ensures { result ≡ is_stop target.now }
+{
+    target == b"/stop".as_slice()
+}
+
+/// Whether the reply's body is sent.
+pub(crate) fn method_of(method: &[u8]) -> Method
+    ensures { result ≡ method_of method.now }
+{
+    if method == b"HEAD".as_slice() {
+        Method::Head
+    } else {
+        Method::Get
+    }
+}
+
+/// How a method is refused that isn't allowed: a stop is posted, and all else is read.
+pub(crate) fn refused_method(stop: bool, method: &[u8]) -> Option<Status>
+    ensures { result ≡ refused_method stop method.now }
+{
+    if stop {
+        if method == b"POST".as_slice() {
+            None
+        } else {
+            Some(Status::OnlyPosted)
+        }
+    } else if method == b"GET".as_slice() || method == b"HEAD".as_slice() {
+        None
+    } else {
+        Some(Status::OnlyRead)
+    }
+}
+
+/// Whether a field has this name, whatever the case of its letters.
+fn is_called(name: &[u8], called: &[u8]) -> bool
+    ensures { result ≡ is_called name.now called.now }
+{
+    called.eq_ignore_ascii_case(name)
+}
+
+/// Whether a field says that a body follows.
+fn tells_body(name: &[u8], value: &[u8]) -> bool
+    ensures { result ≡ tells_body (record { 0 = name.now; 1 = value.now }) }
+{
+    is_called(b"transfer-encoding", name)
+        || (is_called(b"content-length", name) && !(value == b"0".as_slice()))
+}
+
+/// Whether a browser says by a field of this name which page asks. No other client sends one.
+fn is_page_name(name: &[u8]) -> bool
+    ensures { result ≡ is_page_name name.now }
+{
+    is_called(b"origin", name) || is_called(b"sec-fetch-site", name)
+}
+
+/// What the fields of a request tell.
+pub(crate) fn told_by(request: &[u8], headers: &[HeaderSpan]) -> Told
+    requires { All (IsHeaderWithin (length request.now)) headers.now }
+    ensures { result ≡ told_by (map (header_bytes request.now) headers.now) }
+{
+    let mut has_body = false;
+    let mut is_of_page = false;
+    for header in headers {
+        let name = header.name.of(request);
+        let value = header.value.of(request);
+        has_body = has_body || tells_body(name, value);
+        is_of_page = is_of_page || is_page_name(name);
+    }
+    Told {
+        has_body,
+        is_of_page,
+    }
+}
+
+/// How a request is refused whose method is allowed: with a body, and where a page asks for a stop.
+pub(crate) fn refused_fields(stop: bool, told: Told) -> Option<Status>
+    ensures { result ≡ refused_fields stop told }
+{
+    if told.has_body {
+        Some(Status::TooLarge)
+    } else if stop && told.is_of_page {
+        Some(Status::Forbidden)
+    } else {
+        None
+    }
+}

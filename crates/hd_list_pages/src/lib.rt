@@ -1,0 +1,28 @@
+//! What a library shows of itself: pages of its journal, by the catalogue's names, as JSON.
+//!
+//! Each answer is of one look at the journal. The look takes down numbers; names are put to them and written
+//! outside of the hall's lock.
+#![tactic(auto)]
+
+mod asked;
+mod columns;
+mod hall_view;
+mod laws;
+mod names;
+mod pages;
+mod part;
+mod seeing;
+mod sought;
+mod standing;
+mod state;
+mod state_reader;
+mod tallied;
+mod tally;
+mod words;
+mod writing;
+
+pub use crate::hall_view::HallView;
+pub use crate::laws::repeats_are_answered_again;
+pub use crate::tallied::MOST_TALLIED;
+pub use crate::words::Heading;
+pub use hd_http::{Inquiry, Named, Outcome, State, View, ViewFault};

@@ -1,7 +1,0 @@
-use Rattle.hd_page.specs.Metrics.{all_turns_text}
-use Rattle.hd_page.proofs.Appends.{two_pieces}
-use Rattle.hd_page.proofs.metrics.write_all_turns.Goals as goal
-
-pub returns : goal.returns
-unfolding all_turns_text
-returns c = two_pieces _ _ _ _ _ c.in_ok-extend_from_slice.ensures.items c.in_ok-write_each.ensures

@@ -1,5 +1,0 @@
-use Rattle.hd_shown.proofs.Repeating.{answered_again}
-use Rattle.hd_shown.proofs.laws.repeats_are_answered_again.Goals as goal
-
-pub returns : goal.returns
-returns c = answered_again c.tests_are_exact.ensures

@@ -1,9 +1,0 @@
-use Rattle.std.proofs.Common.{map, take}
-use Rattle.hd_shown.specs.Columns.{columns_of}
-use Rattle.hd_shown.specs.Writing.{WritesMoreObjects}
-use Rattle.hd_shown.proofs.pages.write_more_rows.Given as goal
-
--- those so far are written
-abbrev pub invariant-loop-row : goal.invariant-loop-row
-invariant-loop-row g l =
-    WritesMoreObjects l.catalogue (map columns_of (take l.row-index l.rows)) l.fn.out.items l.out.items

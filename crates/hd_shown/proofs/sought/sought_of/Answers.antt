@@ -1,4 +1,0 @@
-use Rattle.hd_shown.proofs.sought.sought_of.Goals as goal
-
-pub returns-in-None-clause-sought : goal.returns-in-None-clause-sought
-returns-in-None-clause-sought g c = rw c.in-ByDay.is c.in-None.ensures.none
