@@ -24,11 +24,17 @@ An edit is refused where its goal isn't proved so, and one of these holds:
                                adds a way out, that the same promise is there at others, and so proved at each
     false at values            the prover tells values at which the goal is false
 
-Arithmetic, a cast, an index or a step that isn't to be come to doesn't count. An edit comes to one of these:
+Arithmetic, a cast, an index or a step that isn't to be come to doesn't count.
 
-    refused            at its goal, or at another one of the edited function where its goal is proved: the line says so
+In the place of a goal there may be a line 'shows: ROW', a stored row of rows/ that has no options and ends well: two
+programs of replay alone are built without proofs, one with the edit, and it is refused where a reply differs. An edit
+comes to one of these:
+
+    refused            at its goal, or at another one of the edited function where its goal is proved, or shown by its
+                       row: the line says so
     PROVED             the edit means the same as what it replaces, or the contract lets it through
-    NOT TELLING        it isn't proved, but neither of the two holds, or it isn't for a name that is gone, say
+    NOT TELLING        it isn't proved, but neither of the two holds, or it isn't for a name that is gone, say, or the
+                       function hasn't the goal, or the replies are the same
     CAN'T BE PUT IN    the old text doesn't stand there once, or the edited crate doesn't compile
     NOT TRIED          there was no time left (gate.py)
 

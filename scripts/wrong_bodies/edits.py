@@ -191,14 +191,15 @@ def homes_in(sources):
 
 
 class Edit:
-    """A wrong body: its texts, the goal that it names, the functions and lines that it changes, and what it came to.
+    """A wrong body: its texts, the goal or the row that it names, the functions and lines that it changes, and what it
+    came to.
 
     Where several are of one function, all but one stand each in a copy of it, of a number from 1, behind the others of
     its file and with a copy of its proof: so they go into one check."""
 
-    def __init__(self, crate, name, pairs, homes, goal=None, others=(), means=BY_TACTICS):
+    def __init__(self, crate, name, pairs, homes, goal=None, others=(), means=BY_TACTICS, row=None):
         self.crate, self.name, self.pairs, self.goal, self.others = crate, name, pairs, goal, set(others)
-        self.means, self.is_sought, self.is_control = means, goal is None, False
+        self.means, self.row, self.is_sought, self.is_control = means, row, goal is None and row is None, False
         self.copy, self.first_line, self.misfit, self.is_beside_all = 0, None, None, False
         self.functions, self.places, self.beside, self.is_apart, self.is_alone = [], set(), {}, False, False
         self.forget()
@@ -305,10 +306,11 @@ def pairs_in(text):
 
 
 def goals_in(text):
-    """The goal at which the edit is refused, where it names one, what isn't proved besides, and by what means it is tried."""
-    goals = {key: re.findall(rf"^{key}: (.*)", text, re.M) for key in ("goal", "also")}
-    goal, *means = next(iter(goals["goal"]), "").split(" ", 1)
-    return goal or None, " ".join(goals["also"]).split(), "".join(means)
+    """The goal at which the edit is refused, where it names one, what isn't proved besides, by what means it is tried, and
+    the row that shows it, where there is one."""
+    found = {key: re.findall(rf"^{key}: (.*)", text, re.M) for key in ("goal", "also", "shows")}
+    goal, *means = next(iter(found["goal"]), "").split(" ", 1)
+    return goal or None, " ".join(found["also"]).split(), "".join(means), next(iter(found["shows"]), None)
 
 
 def file_of(edit):

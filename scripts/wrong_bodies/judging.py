@@ -23,6 +23,9 @@ FALSE, LIMIT = "allow values at which", re.compile(r"gave up at one of its limit
 UNPROVED = re.compile(r": (not proved|no proof|could not tell)")
 # what the tactics say of a goal that they don't prove, but for one that isn't over what the function is generic in
 NOT_FOUND = re.compile(r"`grind`|`omega`|`search`: no proof of `(?!\([gc] : )")
+# what is said of an answer whose goal the function hasn't, and of the goals that it has
+NO_GOAL = "`goal.{0}`: module `"
+OWN_GOALS = "help: `Goals` has no `{0}`; rattle asks for "
 
 
 class OpenGoal:
@@ -112,6 +115,7 @@ def learn(sound, said, bench):
     for goal, by in sound.asked.items() if found or not sound.copy else ():
         like_it = {it for it in holes | others if promise_of(it) == promise_of(goal) is not None}
         is_well = goal in holes or bool(like_it) and not like_it & bench.answered_in(own)
+        bench.missing |= {(own, goal)} if by == BY_ALL and found and goal not in holes | others else set()
         if by != BY_ALL:
             is_well = is_whole and goal not in others and not misfit_of(path, goal, said)
         bench.sound[own, goal, by] = found and is_well
@@ -131,6 +135,23 @@ def see_goal(edit, said):
     found = next((it for it in open_goals(edit, said) if it.name == goal), None)
     edit.refusal = found and (found.told_of(edit), found.kind())
     return bool(found)
+
+
+def has_no_goal(edit, said, bench):
+    """Whether the edited function hasn't the goal that the edit names: where all means are tried at it, and it isn't open,
+    whether it isn't there without the edit."""
+    if edit.aim != edit.goal or edit.is_sought or edit.is_control:
+        return False
+    if edit.is_answered:
+        return NO_GOAL.format(edit.aim) in (misfit_of(edit.asks()[0], edit.aim, said) or "")
+    return (edit.functions[0].path, edit.aim) in bench.missing
+
+
+def said_of_goals(goal, said):
+    """That a function hasn't this goal, and, where the log says so, which it has."""
+    has = re.search(rf"^{re.escape(OWN_GOALS.format(goal))}(.*?)(?:;|$)", said, re.M)
+    return f"it names `{goal}`, which the function hasn't" + (f": name one of {has[1]}" if has else "") + \
+        ", or have --name-goals try them all"
 
 
 def place_of(edit):
@@ -205,6 +226,9 @@ def look(edit, said, bench, is_with_others):
     is_open = see_goal(edit, said)
     if is_open:
         return decide(edit, bench)
+    if has_no_goal(edit, said, bench):
+        settle(edit, NOT_TELLING, said_of_goals(edit.aim, said))
+        return False
     if is_open is None:  # the tactics can't be tried at it as it stands
         return aim(edit, edit.aim, next_means(edit, bench), bench)
     return edit.copy and not is_told(edit, said) or aim_at_all(edit)

@@ -37,36 +37,40 @@ sys.path.append(os.path.dirname(sys.path[0]))  # scripts/
 from kept import TOP, files_of, said_by_rt
 from prove import uses_of_all, with_all_below
 from wrong_bodies.edits import bodies_of, controls_of, edited, edits_of, folder_of, read, sources_of, without_bodies, write
+from wrong_bodies.witnesses import texts_of
 from wrong_bodies.workbench import OF_A_PROOF
 
 HEAD = '# What the prover refused, each by a sum of all that this rests on: docs/tests.md, "Wrong bodies".\n'
-TRYING = ("gate.py", "wrong_bodies/__main__.py")  # the scripts that try wrong bodies; what they import is summed too
+# the scripts that try wrong bodies, and those by which one is shown by a row; what they import is summed too
+TRYING, BUILDING = ("gate.py", "wrong_bodies/__main__.py"), ("measure/optimised.py", "wrong_bodies/witnesses.py")
 # what of a script matters to a verdict; of the others all does
 OF_A_TRY = {"gate.py": ("WrongBodies", "passed_on", "keep_proved")}
 IMPORT = re.compile(r"^(?:from|import) ([\w.]+)", re.M)
 OPEN = "open"  # stands in the place of the sum where a wrong body was refused once, and isn't any more
 DAYS = 10  # in so many days each wrong body is tried again once, also where it is known to be refused
 LOGIC = re.compile(r" logic (\w+)$")
+# a line that is a remark, of a source file and of one of definitions or proofs
+REMARKS = {".rt": re.compile(r"\s*//"), ".antt": re.compile(r"\s*--(\s|$)")}
 
 
 def sum_over(*texts):
     return hashlib.sha256(repr(texts).encode()).hexdigest()[:32]
 
 
-def without_remarks(text):
-    """A source file's lines but for blank ones and remarks. Those in a text of several lines stay, and so do all where
-    it isn't seen where such a text ends."""
+def without_remarks(text, kind=".rt"):
+    """A file's lines but for blank ones and remarks. Those in a text of several lines stay, and so do all where it isn't
+    seen where such a text ends."""
     left, is_in_text = [], False
     for line in text.split("\n"):
-        if is_in_text or line.strip() and not line.lstrip().startswith("//"):
+        if is_in_text or line.strip() and not REMARKS[kind].match(line):
             left.append(line)
             is_in_text ^= re.sub(r"\\.|'\"'", "", line).count('"') % 2 == 1
     return text.split("\n") if is_in_text else left
 
 
-def scripts_of_a_try():
-    """The scripts that try a wrong body, judge it and note it: those that begin a try, and those that they import."""
-    found, left = set(), list(TRYING)
+def scripts_from(first):
+    """These scripts, and those that they import."""
+    found, left = set(), list(first)
     while left:
         script = left.pop()
         if script not in found and os.path.isfile(os.path.join(TOP, "scripts", script)):
@@ -88,9 +92,10 @@ def meaning_of(script):
 
 @functools.cache
 def files_below(crate, part):
-    """The texts of a crate's files of specs/ or proofs/, by their paths in the crate."""
+    """The lines of a crate's files of a part of it, but for blank ones and remarks, by their paths in the crate."""
     top = TOP / "crates" / crate
-    return {str(path.relative_to(top)): read(path) for path in files_of(crate, (part,))}
+    return {str(path.relative_to(top)): without_remarks(read(path), path.suffix) if path.suffix in REMARKS else read(path)
+            for path in files_of(crate, (part,))}
 
 
 @functools.cache
@@ -126,8 +131,10 @@ class Grounds:
     """What it rests on that a wrong body is refused, as the files are now."""
 
     def __init__(self, uses):
-        self.uses, self.logic, self.sums = uses, LOGIC.search(said_by_rt("version"))[1], {}
-        self.scripts = [(script, meaning_of(script)) for script in scripts_of_a_try()]
+        self.uses, self.version, self.sums = uses, said_by_rt("version"), {}
+        self.logic = LOGIC.search(self.version)[1]
+        self.scripts = [(it, meaning_of(it)) for it in scripts_from(TRYING) if it not in BUILDING]
+        self.builders = [(it, meaning_of(it)) for it in scripts_from(BUILDING)]
         self.stamps = {crate: stamps_of(crate) for crate in uses}
 
     def is_as_it_was(self, crate):
@@ -147,13 +154,22 @@ class Grounds:
     def sum_of(self, edit, is_beside_all):
         """The sum of what it rests on that a wrong body is refused, by itself or beside the bodies of all functions."""
         crate = edit.crate
+        if edit.row:
+            return self.sum_by_row(edit)
         if is_beside_all or edit.is_apart:
-            own = [edit.pairs, sorted(sources_of(crate).items()), files_below(crate, "proofs")]
+            own = [edit.pairs, files_below(crate, "src"), files_below(crate, "proofs")]
         else:
             own = [sources_with(crate, edit.functions, tuple(edit.pairs)), proofs_of(crate, edit.functions)]
         asked = [edit.pairs, edit.goal, edit.is_hard, sorted(edit.others), files_below(crate, "specs")]
-        beside = [(control.pairs, control.goal, control.is_hard) for control in controls_of(crate)]
+        beside = [(control.pairs, control.goal, control.is_hard) for control in controls_of(crate) if not control.row]
         return sum_over(self.logic, self.scripts, asked, beside, own, self.promises_below(crate))
+
+    def sum_by_row(self, edit):
+        """The sum of what it rests on that a wrong body is shown by a row: the program's sources, but for remarks, the row,
+        and what builds and compares."""
+        sources = [files_below(below, "src") for below in with_all_below("hd_replay", self.uses, [])]
+        beside = [(control.pairs, control.row) for control in controls_of(edit.crate) if control.row]
+        return sum_over(self.version, self.builders, edit.pairs, texts_of(edit.row), beside, sources)
 
     def is_known(self, edit):
         """Whether a wrong body is known to be refused as it stands."""

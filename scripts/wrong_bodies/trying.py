@@ -10,6 +10,7 @@ from prove import CORES, GIGABYTES, MEMORY, libraries_in, with_all_below
 from wrong_bodies.edits import controls_of, folder_of, put_into_copies, round_of, sound_of
 from wrong_bodies.judging import CANNOT, NOT_TELLING, PROVED, REFUSED
 from wrong_bodies.judging import aim, answers_for, compiles, decide, is_by_hand, last_of, learn, look, may_aim, settle, waits
+from wrong_bodies.witnesses import try_by_row
 from wrong_bodies.workbench import Bench
 
 NOT_TRIED = "NOT TRIED"
@@ -69,7 +70,11 @@ def sounds_of(edits, bench):
 
 def try_together(edits, bench):
     """Tries edits of a crate, as many in a check as fit together, and what is then still open alone."""
-    bench.sound, bench.in_place = {}, set()
+    bench.sound, bench.missing, bench.in_place = {}, set(), set()
+    by_row, edits = [edit for edit in edits if edit.row], [edit for edit in edits if not edit.row]
+    for edit in by_row:
+        if not bench.is_over():
+            try_by_row(edit, bench)
     for edit in edits:
         if edit.goal and may_aim(edit, bench):
             aim(edit, edit.goal, edit.means, bench)
@@ -82,29 +87,30 @@ def try_together(edits, bench):
         came = try_round([it for it in some if it in ready], [it for it in some if it not in ready], bench)
         left = [edit for edit in left if edit not in some] + came
         left = [edit for edit in left if edit.refusal is None or waits(edit, bench) or decide(edit, bench)]
-    for edit in left:
+    for edit in [*left, *(edit for edit in by_row if not edit.verdict)]:
         settle(edit, NOT_TRIED, "there was no time left; make wrong tries it")
 
 
 def try_crate(edits, bench):
     """Tries all edits of a crate. What isn't refused is tried once more beside the bodies of all functions, but for what
-    tells nothing at a goal. Where a body that means the same as the right one counts as refused, none does."""
+    tells nothing at a goal. Where a body that means the same as the right one counts as refused, none does; by a row, none
+    that has one."""
     for edit in edits:
         edit.is_beside_all = False
         if edit.misfit:
             settle(edit, CANNOT, edit.misfit)
-    controls = sound_controls_of(bench.crate)
+    controls = [it for it in sound_controls_of(bench.crate) if not it.row or any(edit.row for edit in edits)]
     try_together([edit for edit in [*controls, *edits] if not edit.misfit], bench)
-    left = [edit for edit in edits if edit.verdict not in (CANNOT, REFUSED, NOT_TRIED) and not edit.passed]
+    left = [edit for edit in edits if edit.verdict not in (CANNOT, REFUSED, NOT_TRIED) and not edit.passed and not edit.row]
     if left:
         bench.put_bodies()
         for edit in left:
             edit.forget()
             edit.is_beside_all = True
         try_together(left, bench)
-    for control in controls:
-        for edit in edits if control.verdict != PROVED else ():
-            verdict = NOT_TRIED if control.verdict == NOT_TRIED else NOT_TELLING
+    for control in (control for control in controls if control.verdict != PROVED):
+        verdict = NOT_TRIED if control.verdict == NOT_TRIED else NOT_TELLING
+        for edit in (edit for edit in edits if bool(edit.row) == bool(control.row)):
             settle(edit, verdict, f"a body that means the same isn't seen to, {control.name}: {control.said}")
 
 

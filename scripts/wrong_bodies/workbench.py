@@ -29,9 +29,11 @@ class Bench:
 
     def __init__(self, crate, uses, libraries, room, end=None):
         self.crate, self.top, self.room, self.end = crate, os.path.join(TOP, "crates", crate), room, end
+        self.uses = uses
         self.seconds, self.instead, self.is_whole = 0, {}, False
-        # which goals are proved in functions as they are, and functions that are then tried in place, not in a copy
-        self.sound, self.in_place = {}, set()
+        # which goals are proved in functions as they are, which goals these haven't, and functions that are then tried in
+        # place, not in a copy
+        self.sound, self.missing, self.in_place = {}, set(), set()
         for part in ("src", "specs", "proofs"):
             if os.path.isdir(os.path.join(self.top, part)):
                 shutil.copytree(os.path.join(self.top, part), os.path.join(room, part))

@@ -1,7 +1,7 @@
 -- What is said to a patron message is spelled in one way.
 use Rattle.std.proofs.Common.{◌≡◌, ℕ, ◌-◌, Bool, true, false, List, [], ◌∷◌, ◌++◌, Option, Some, None, Result}
 use Rattle.std.proofs.Common.{Ok, Err}
-use Rattle.std.proofs.Common.{arith, refl, sym, ap, ◌∙◌, length, map, take, suc, nat_lt, if◌then◌else◌, codes}
+use Rattle.std.proofs.Common.{arith, refl, sym, subst, ap, ◌∙◌, length, map, take, suc, nat_lt, if◌then◌else◌, codes}
 use Rattle.std.proofs.lemmas.Option.{same_Some}
 use Rattle.std.specs.Borrow.{Bor}
 use Rattle.std.specs.List.{concat, flat_map}

@@ -35,7 +35,7 @@ write_look-requires-clause-looked g c =
     subst (λ (seen : Contents). HasLooked seen c.args.message.now.values c.look.new.reader)
     (sym c.catalogue.ensures)
     (has_looked k c.new-reader.result c.look.new.reader saw.0 saw.1 saw.3 c.args.message.now.values
-    c.told_password.result c.in-Ok-Look.look c.new-reader.ensures.look about.0 about.1)
+    c.told_password-password.result c.in-Ok-Look.look c.new-reader.ensures.look about.0 about.1)
 
 pub returns-in_ok-look-in-Ok-Look-clause-answer : goal.returns-in_ok-look-in-Ok-Look-clause-answer
 returns-in_ok-look-in-Ok-Look-clause-answer g c =
@@ -47,7 +47,7 @@ returns-in_ok-look-in-Ok-Look-clause-answer g c =
     c.in-Ok-Look.is ∙ ap (λ (a : PatronAsk). let r : Result PatronAsk Refusal = Ok a in r)
     (rw c.in-Ok-Look.is at c.in-Ok-Look.field-0-is) in
     let new = c.look.new.reader in
-    let check = c.told_password.result in
+    let check = c.told_password-password.result in
     let says : IsLookReply k c.args.message.now.values e new.look.patron check told.0 new.items.items
     new.look.question told.1 =
     subst (λ (seen : Contents).
@@ -58,7 +58,7 @@ returns-in_ok-look-in-Ok-Look-clause-answer g c =
       _,
       looked k k e c.args.message.now refl c.in-Ok-Look.look saw.0.turns told.1 asked
           (said_of k c.new-reader.result new saw.0 saw.1 saw.3 c.args.message.now.values e check told.0 told.1
-          c.in-Ok-Look.look c.told_password.ensures c.new-reader.ensures.look told.2 says),
+          c.in-Ok-Look.look c.told_password-password.ensures c.new-reader.ensures.look told.2 says),
       record {
         turns = sym (append-nil _);
         shown = (record { book = saw.0; turns_are = refl; legal = saw.1; may_show = saw.2 }, tt);
