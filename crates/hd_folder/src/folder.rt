@@ -1,43 +1,80 @@
-//! A library's folder: numbered periods, each a catalogue, but for the first an opening, and a journal. The
-//! last complete one is the library as it is.
+//! The library of a folder: which files its periods have, and which period is the last complete one.
 
 use crate::fault::{FolderFault, cannot_read};
-use crate::paths::Paths;
-use crate::period_file::{PeriodFile, last_complete};
-use crate::writing::part_path;
+use crate::paths::{Paths, file_path};
+use hd_periods::{FileName, PeriodFile, library_of, missing};
 use std::fs::{self, DirEntry, ReadDir};
 use std::io::{self, ErrorKind};
+
+/// What a folder has of a library.
+#[derive(Drop)]
+struct Listed {
+    /// The names of its periods' files.
+    names: Vec<FileName>,
+    /// Numbers of periods that other names have: with more or fewer zeros, or of links that lead to nothing.
+    others: Vec<u32>,
+}
 
 /// The last complete period of a folder, if it has one.
 ///
 /// # Errors
 /// There is no folder, or it can't be read; a later period lacks a file; out of memory.
 pub fn last_period(rt: &HostRuntime, folder: &str) -> Result<Option<u32>, FolderFault> {
-    let files = files_in(rt, folder)?;
-    let last = last_complete(files.as_slice());
-    see_whole(rt, folder, last)?;
+    if let Ok(last) = library_in(&listed(rt, folder)?) {
+        return Ok(last);
+    }
+    // A carry may have renamed a file while the folder was listed, so that neither of its names was seen.
+    match library_in(&listed(rt, folder)?) {
+        Ok(last) => Ok(last),
+        Err(PeriodFile { number, kind }) => {
+            let name = FileName::whole(number, kind);
+            Err(FolderFault::Lacks(file_path(rt.alloc(), folder, &name)?))
+        }
+    }
+}
+
+/// The period of the library of a folder, if it has one.
+///
+/// # Errors
+/// The file that a later period lacks.
+fn library_in(listed: &Listed) -> Result<Option<u32>, PeriodFile> {
+    let names = listed.names.as_slice();
+    let last = library_of(names)?;
+    for number in &listed.others {
+        if last.is_none_or(|last| *number > last)
+            && let Some(kind) = missing(names, *number)
+        {
+            return Err(PeriodFile {
+                number: *number,
+                kind,
+            });
+        }
+    }
     Ok(last)
 }
 
-/// The files of periods that lie in a folder.
+/// Lists a folder.
 ///
 /// # Errors
 /// There is no folder, or it can't be read; out of memory.
-fn files_in(rt: &HostRuntime, folder: &str) -> Result<Vec<PeriodFile>, FolderFault> {
-    let mut files = Vec::new(rt.alloc());
+fn listed(rt: &HostRuntime, folder: &str) -> Result<Listed, FolderFault> {
+    let mut listed = Listed {
+        names: Vec::new(rt.alloc()),
+        others: Vec::new(rt.alloc()),
+    };
     for entry in entries_in(rt, folder)? {
         if let Some(entry) = read_entry(rt, folder, entry)? {
-            push_file(rt, folder, entry.file_name(), &mut files)?;
+            push_name(rt, folder, entry.file_name(), &mut listed)?;
         }
     }
-    Ok(files)
+    Ok(listed)
 }
 
-/// The fault of a folder that has no complete period: what its first one lacks, where that has its catalogue.
-/// The journal was lost then, or the beginning was broken off.
+/// The fault of a folder that has no complete period. Where the first one has its catalogue, the journal was
+/// lost, or the beginning was broken off, and the fault names the journal.
 ///
 /// # Errors
-/// The system doesn't tell what is there; out of memory.
+/// The system doesn't report what is there; out of memory.
 pub(crate) fn no_library(rt: &HostRuntime, folder: &str) -> Result<FolderFault, FolderFault> {
     let first = Paths::of_period(rt.alloc(), folder, 1)?;
     let files = first.files();
@@ -50,7 +87,7 @@ pub(crate) fn no_library(rt: &HostRuntime, folder: &str) -> Result<FolderFault, 
     }
 }
 
-/// What lies in a folder.
+/// The entries of a folder.
 ///
 /// # Errors
 /// There is no folder, or it can't be read; out of memory.
@@ -64,7 +101,7 @@ fn entries_in(rt: &HostRuntime, folder: &str) -> Result<ReadDir, FolderFault> {
     }
 }
 
-/// What was read of an entry of a folder; nothing where its name isn't UTF-8, as that of a period's file is.
+/// An entry of a folder that was read; none where its name isn't UTF-8, as that of a period's file is.
 ///
 /// # Errors
 /// The folder can't be read; out of memory.
@@ -80,28 +117,30 @@ fn read_entry(
     }
 }
 
-/// Adds the file of a period that has this name, if it is there: a link may lead to nothing.
+/// Adds a name to what a folder has, if it is that of a file of a period.
 ///
 /// # Errors
-/// The system doesn't tell; out of memory.
-fn push_file(
+/// The system doesn't report whether the file is there; out of memory.
+fn push_name(
     rt: &HostRuntime,
     folder: &str,
-    name: &str,
-    files: &mut Vec<PeriodFile>,
+    text: &str,
+    listed: &mut Listed,
 ) -> Result<(), FolderFault> {
-    let Some(file) = PeriodFile::named(name) else {
-        return Ok(());
-    };
-    let path = format!(in rt.alloc(); "{folder}/{name}")?;
-    if is_there(rt, path.as_str())? {
-        files.push(file)?;
+    let path = format!(in rt.alloc(); "{folder}/{text}")?;
+    match FileName::named(text) {
+        Some(name) if is_there(rt, path.as_str())? => listed.names.push(name)?,
+        _ => {
+            if let Some(number) = period_of(text) {
+                listed.others.push(number)?;
+            }
+        }
     }
     Ok(())
 }
 
-/// The period that a catalogue, an opening or a journal is of, by the name of its file, however many zeros are
-/// before its number. They are numbered from 1.
+/// The period of a catalogue, an opening or a journal, by the name of its file, however many zeros are before
+/// its number. Periods are numbered from 1.
 fn period_of(name: &str) -> Option<u32> {
     let (digits, kind) = name.split_once('.')?;
     let is_kind = matches!(kind, "catalogue" | "opening" | "journal");
@@ -114,71 +153,10 @@ fn period_of(name: &str) -> Option<u32> {
     }
 }
 
-/// Sees that no period behind the last complete one lacks a file that it had. A library would else go back to
-/// what it was before that period, without a word.
-///
-/// # Errors
-/// One lacks a file; the folder can't be read; out of memory.
-fn see_whole(rt: &HostRuntime, folder: &str, last: Option<u32>) -> Result<(), FolderFault> {
-    for entry in entries_in(rt, folder)? {
-        if let Some(entry) = read_entry(rt, folder, entry)? {
-            see_whole_behind(rt, folder, entry.file_name(), last)?;
-        }
-    }
-    Ok(())
-}
-
-/// Sees it of the period that a file is of, by its name, where that is behind the last complete one.
-fn see_whole_behind(
-    rt: &HostRuntime,
-    folder: &str,
-    name: &str,
-    last: Option<u32>,
-) -> Result<(), FolderFault> {
-    match period_of(name) {
-        Some(period) if last.is_none_or(|last| period > last) => {
-            see_whole_period(rt, &Paths::of_period(rt.alloc(), folder, period)?)
-        }
-        _ => Ok(()),
-    }
-}
-
-/// Sees that a period that isn't complete is one that a carry, or a beginning, was broken off at. A carry
-/// writes the opening beside its path first, and gives it its name last, so that one which has its name was
-/// whole; the beginning of the first period writes the catalogue first.
-///
-/// # Errors
-/// It lacks a file that it had; out of memory.
-fn see_whole_period(rt: &HostRuntime, paths: &Paths) -> Result<(), FolderFault> {
-    let files = paths.files();
-    let Some(opening) = files.opening else {
-        return see_file(rt, files.catalogue);
-    };
-    let part = part_path(rt.alloc(), opening)?;
-    if is_there(rt, part.as_str())? && !is_there(rt, opening)? {
-        return Ok(());
-    }
-    for path in [Some(files.catalogue), files.opening, files.journal] {
-        if let Some(path) = path {
-            see_file(rt, path)?;
-        }
-    }
-    Ok(())
-}
-
-/// Sees that a library's file is there.
-fn see_file(rt: &HostRuntime, path: &str) -> Result<(), FolderFault> {
-    if is_there(rt, path)? {
-        Ok(())
-    } else {
-        Err(FolderFault::Lacks(String::from_str(rt.alloc(), path)?))
-    }
-}
-
 /// Whether there is a file at a path.
 ///
 /// # Errors
-/// The system doesn't tell; out of memory.
+/// The system doesn't report it; out of memory.
 fn is_there(rt: &HostRuntime, path: &str) -> Result<bool, FolderFault> {
     match fs::exists(rt, path) {
         Ok(is) => Ok(is),

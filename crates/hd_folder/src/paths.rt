@@ -4,6 +4,7 @@ use crate::fault::FolderFault;
 use crate::folder::{last_period, no_library};
 use crate::presence::length;
 use hd_command_line::{LibraryFiles, Place};
+use hd_periods::{FileKind, FileName};
 use std::alloc::{AllocError, Global};
 use std::io;
 
@@ -11,8 +12,8 @@ use std::io;
 pub struct Period {
     folder: String,
     number: u32,
-    /// How long its file of names that joined was when its paths were found, 0 where there was none. Lines are
-    /// only added behind that file's.
+    /// How long its file of names that joined was when its paths were found, 0 where there was none. Lines
+    /// are only added after those of that file.
     joined: u64,
 }
 
@@ -28,8 +29,19 @@ impl Drop for Period {
 }
 
 impl Period {
-    /// Sees that this is still the last complete period of its folder, and that no names joined it meanwhile.
-    /// While its journal is open that stays so, since a carry to the next one opens it, and so does a join.
+    /// Its folder.
+    pub fn folder(&self) -> &str {
+        self.folder.as_str()
+    }
+
+    /// Its number, from 1.
+    pub fn number(&self) -> u32 {
+        self.number
+    }
+
+    /// Checks that this is still the last complete period of its folder, and that no names joined it
+    /// meanwhile. While its journal is open that stays so, since a carry to the next one opens it, and so
+    /// does a join.
     ///
     /// # Errors
     /// It isn't; names joined it; a later period lacks a file; the folder can't be read; out of memory.
@@ -45,10 +57,10 @@ impl Period {
         }
     }
 
-    /// Sees that no names joined it since its paths were found.
+    /// Checks that no names joined it since its paths were found.
     ///
     /// # Errors
-    /// Some did; the system doesn't tell; out of memory.
+    /// Some did; the system doesn't report the length; out of memory.
     fn see_no_join(&self, rt: &HostRuntime) -> Result<(), FolderFault> {
         if joined_length(rt, self.folder.as_str(), self.number)? == self.joined {
             Ok(())
@@ -115,21 +127,7 @@ impl Paths {
         }
     }
 
-    /// The paths of the period behind the one that they are of, where they are of one.
-    ///
-    /// # Errors
-    /// Out of memory.
-    pub fn of_next(&self, alloc: Global) -> Result<Option<Paths>, AllocError> {
-        match &self.period {
-            None => Ok(None),
-            Some(Period { folder, number, .. }) => {
-                let next = number.saturating_add(1);
-                Ok(Some(Paths::of_period(alloc, folder.as_str(), next)?))
-            }
-        }
-    }
-
-    /// The paths of a period of a folder, which nothing joined.
+    /// The paths of a period of a folder that no names joined.
     ///
     /// # Errors
     /// Out of memory.
@@ -137,7 +135,7 @@ impl Paths {
         Paths::of_joined(alloc, folder, period, 0)
     }
 
-    /// The paths of a period of a folder, whose file of names that joined is so long.
+    /// The paths of a period of a folder, whose file of names that joined has this length.
     fn of_joined(
         alloc: Global,
         folder: &str,
@@ -147,7 +145,7 @@ impl Paths {
         let opening = if period == 1 {
             None
         } else {
-            Some(format!(in alloc; "{folder}/{period:04}.opening")?)
+            Some(path_of(alloc, folder, period, FileKind::Opening)?)
         };
         Ok(Paths {
             period: Some(Period {
@@ -155,14 +153,14 @@ impl Paths {
                 number: period,
                 joined,
             }),
-            catalogue: format!(in alloc; "{folder}/{period:04}.catalogue")?,
+            catalogue: path_of(alloc, folder, period, FileKind::Catalogue)?,
             opening,
-            journal: Some(format!(in alloc; "{folder}/{period:04}.journal")?),
-            joined: Some(joined_path(alloc, folder, period)?),
+            journal: Some(path_of(alloc, folder, period, FileKind::Journal)?),
+            joined: Some(path_of(alloc, folder, period, FileKind::Joined)?),
         })
     }
 
-    /// Says on standard error what is done with the period that they are of, where they are of a folder.
+    /// Reports on standard error what is done with the period that they are of, where they are of a folder.
     ///
     /// # Errors
     /// Standard error can't be written.
@@ -189,17 +187,25 @@ impl Paths {
     }
 }
 
-/// Where the names are that joined a period of a folder.
-fn joined_path(alloc: Global, folder: &str, period: u32) -> Result<String, AllocError> {
-    format!(in alloc; "{folder}/{period:04}.joined")
+/// The path of a file in a folder.
+///
+/// # Errors
+/// Out of memory.
+pub fn file_path(alloc: Global, folder: &str, name: &FileName) -> Result<String, AllocError> {
+    format!(in alloc; "{folder}/{name}")
+}
+
+/// The path of a file of a period, by what it is.
+fn path_of(alloc: Global, folder: &str, period: u32, kind: FileKind) -> Result<String, AllocError> {
+    file_path(alloc, folder, &FileName::whole(period, kind))
 }
 
 /// How long the file of the names is that joined a period of a folder; 0 where there is none.
 ///
 /// # Errors
-/// The system doesn't tell; out of memory.
+/// The system doesn't report it; out of memory.
 fn joined_length(rt: &HostRuntime, folder: &str, period: u32) -> Result<u64, FolderFault> {
-    let path = joined_path(rt.alloc(), folder, period)?;
+    let path = path_of(rt.alloc(), folder, period, FileKind::Joined)?;
     Ok(length(rt, path.as_str())?.unwrap_or(0))
 }
 

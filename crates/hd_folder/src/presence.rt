@@ -1,4 +1,4 @@
-//! What lies at the path of a journal's file, before that is opened.
+//! What is at the path of a journal's file, before it is opened.
 
 use crate::fault::{FolderFault, cannot_read, cannot_write};
 use hd_turn_store::{HEADER_LENGTH, is_ended};
@@ -6,13 +6,13 @@ use std::alloc::{AllocError, Global};
 use std::fs::{self, File};
 use std::io::{self, ErrorKind, Read};
 
-/// How many bytes the heading of a log has. One that has more is told where its journal isn't there.
+/// How many bytes the heading of a log has. A longer log whose journal is missing is a fault.
 const LOG_HEADING: u64 = 32;
 
 /// How many bytes a log with a commit has at least: its heading, that of a page, and the smallest page.
 const LEAST_LOG: u64 = 32 + 24 + 512;
 
-/// What lies at the path of a journal's file.
+/// What is at the path of a journal's file.
 #[derive(Clone, Copy, PartialEq, Eq)]
 enum Presence {
     /// Nothing, or what a beginning that was broken off left: two files in which nothing was committed.
@@ -21,11 +21,11 @@ enum Presence {
     Journal,
     /// A journal without its log, which may have had the last turns.
     JournalAlone,
-    /// A log without its journal, or beside one that was emptied.
+    /// A log without its journal, or with one that was emptied.
     LogAlone,
 }
 
-/// Sees that a journal lies at a path, with its log, or ended well.
+/// Checks that there is a journal at a path, with its log, or one that was ended well.
 ///
 /// # Errors
 /// There is none, one of its two files is missing, or the system refuses it.
@@ -39,7 +39,7 @@ pub fn see_journal(rt: &HostRuntime, path: &str) -> Result<(), FolderFault> {
     }
 }
 
-/// Sees that a journal's file can be read.
+/// Checks that a journal's file can be read.
 ///
 /// # Errors
 /// The system refuses it.
@@ -50,7 +50,7 @@ fn see_readable(rt: &HostRuntime, path: &str) -> Result<(), FolderFault> {
     }
 }
 
-/// Sees that a file says that it was ended well, so that it has all of the journal without a log.
+/// Checks that a file says that it was ended well, so that it has all of the journal without a log.
 ///
 /// # Errors
 /// It doesn't say so, or the system refuses it.
@@ -73,10 +73,10 @@ fn read_header(rt: &HostRuntime, path: &str) -> io::Result<[u8; HEADER_LENGTH]> 
     Ok(header)
 }
 
-/// Sees that nothing lies at a path, so that a journal may be begun there.
+/// Checks that there is nothing at a path, so that a journal may be begun there.
 ///
 /// # Errors
-/// A journal lies there, or one of its two files; a link, a device or the like does.
+/// A journal is there, or one of its two files; a link, a device or the like is.
 pub fn see_nothing(rt: &HostRuntime, path: &str) -> Result<(), FolderFault> {
     if is_irregular(rt, path)? {
         return Err(FolderFault::FileIsThere(String::from_str(rt.alloc(), path)?));
@@ -91,7 +91,7 @@ pub fn see_nothing(rt: &HostRuntime, path: &str) -> Result<(), FolderFault> {
     }
 }
 
-/// Sees that there is no file at a path.
+/// Checks that there is no file at a path.
 ///
 /// # Errors
 /// There is one.
@@ -102,7 +102,7 @@ pub fn see_no_file(rt: &HostRuntime, path: &str) -> Result<(), FolderFault> {
     }
 }
 
-/// Sees that there is no file with other bytes at a path.
+/// Checks that there is no file with other bytes at a path.
 ///
 /// # Errors
 /// There is one, or it can't be read.
@@ -115,18 +115,18 @@ pub fn see_no_other(rt: &HostRuntime, path: &str, bytes: &[u8]) -> Result<(), Fo
     }
 }
 
-/// Takes a journal's file and its log away, where they are there.
+/// Removes a journal's file and its log, where they are there.
 ///
 /// # Errors
 /// The system refuses it.
-pub fn remove_journal(rt: &HostRuntime, path: &str) -> Result<(), FolderFault> {
+pub(crate) fn remove_journal(rt: &HostRuntime, path: &str) -> Result<(), FolderFault> {
     let log = log_path(rt.alloc(), path)?;
     remove(rt, path)?;
     remove(rt, log.as_str())
 }
 
-/// Takes a file away, where it is there.
-fn remove(rt: &HostRuntime, path: &str) -> Result<(), FolderFault> {
+/// Removes a file, where it is there.
+pub(crate) fn remove(rt: &HostRuntime, path: &str) -> Result<(), FolderFault> {
     match fs::remove_file(rt, path) {
         Ok(()) => Ok(()),
         Err(error) if error.kind() == ErrorKind::NotFound => Ok(()),
@@ -142,7 +142,7 @@ pub fn log_path(alloc: Global, path: &str) -> Result<String, AllocError> {
     format!(in alloc; "{path}-wal")
 }
 
-/// What lies at the path of a journal's file, and at that of its log.
+/// What is at the path of a journal's file, and at that of its log.
 fn look(rt: &HostRuntime, path: &str, log: &str) -> Result<Presence, FolderFault> {
     Ok(presence_of(length(rt, path)?, length(rt, log)?))
 }
@@ -160,10 +160,10 @@ fn presence_of(journal: Option<u64>, log: Option<u64>) -> Presence {
     }
 }
 
-/// Whether something lies at a path that is no regular file: a folder, a link, a device or the like.
+/// Whether there is something at a path that is no regular file: a folder, a link, a device or the like.
 ///
 /// # Errors
-/// The system doesn't tell.
+/// The system doesn't report it.
 fn is_irregular(rt: &HostRuntime, path: &str) -> Result<bool, FolderFault> {
     match fs::symlink_metadata(rt, path) {
         Ok(there) => Ok(!there.is_file()),
@@ -175,7 +175,7 @@ fn is_irregular(rt: &HostRuntime, path: &str) -> Result<bool, FolderFault> {
 /// How long a file is, where there is one.
 ///
 /// # Errors
-/// The system doesn't tell.
+/// The system doesn't report it.
 pub(crate) fn length(rt: &HostRuntime, path: &str) -> Result<Option<u64>, FolderFault> {
     match fs::metadata(rt, path) {
         Ok(file) => Ok(Some(file.len())),

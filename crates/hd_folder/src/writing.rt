@@ -16,7 +16,7 @@ const IRREGULAR: &str = "it is no regular file";
 /// How many bytes are written to see whether the disk takes them: a page of a journal's file.
 const PAGE: usize = 4_096;
 
-/// Writes a file beside its path, has the disk keep it, and gives it its name: at each moment there is the
+/// Writes a part file, waits until the disk has it, and renames it to its path. At each moment there is the
 /// whole file at the path, or what was there before.
 ///
 /// # Errors
@@ -27,7 +27,7 @@ pub fn write_whole(rt: &HostRuntime, path: &str, bytes: &[u8]) -> Result<(), Fol
     name_part(rt, part.as_str(), path)
 }
 
-/// Where a file lies until it is whole.
+/// The path of the part file of a file.
 ///
 /// # Errors
 /// Out of memory.
@@ -35,28 +35,82 @@ pub fn part_path(alloc: Global, path: &str) -> Result<String, AllocError> {
     format!(in alloc; "{path}.part")
 }
 
-/// Writes a file that has another name yet, and has the disk keep it.
+/// Writes a file, and waits until the disk has its bytes.
 ///
 /// # Errors
 /// The system refuses it.
 pub fn write_part(rt: &HostRuntime, part: &str, bytes: &[u8]) -> Result<(), FolderFault> {
-    match write_synced(rt, part, bytes) {
-        Ok(()) => Ok(()),
-        Err(error) => Err(cannot_write(rt.alloc(), part, &error)?),
+    let file = write_file(rt, part, bytes)?;
+    sync_file(rt, &file, part)
+}
+
+/// Writes a file. A stop of the machine may lose any of its bytes until it is synced.
+///
+/// # Errors
+/// The system refuses it.
+pub(crate) fn write_file(rt: &HostRuntime, path: &str, bytes: &[u8]) -> Result<File, FolderFault> {
+    match written(rt, path, bytes) {
+        Ok(file) => Ok(file),
+        Err(error) => Err(cannot_write(rt.alloc(), path, &error)?),
     }
 }
 
-/// Gives a file that was written beside its path its name, and has the disk keep that.
+/// Waits until the disk has the bytes of a file, whose path this is.
 ///
 /// # Errors
-/// The system refuses it: the name, or to have the disk keep it; then the file has its name.
-pub fn name_part(rt: &HostRuntime, part: &str, path: &str) -> Result<(), FolderFault> {
-    if let Err(error) = fs::rename(rt, part, path) {
-        return Err(cannot_write(rt.alloc(), path, &error)?);
-    }
-    match sync_folder_of(rt, path) {
+/// The system refuses it.
+pub(crate) fn sync_file(rt: &HostRuntime, file: &File, path: &str) -> Result<(), FolderFault> {
+    match file.sync_all() {
         Ok(()) => Ok(()),
-        Err(error) => Err(FolderFault::NotCertain {
+        Err(error) => Err(cannot_write(rt.alloc(), path, &error)?),
+    }
+}
+
+/// Waits until the disk has the bytes of the file at a path.
+///
+/// # Errors
+/// The system refuses it.
+pub(crate) fn sync_path(rt: &HostRuntime, path: &str) -> Result<(), FolderFault> {
+    match File::open(rt, path) {
+        Ok(file) => sync_file(rt, &file, path),
+        Err(error) => Err(cannot_write(rt.alloc(), path, &error)?),
+    }
+}
+
+/// Renames a part file to its path, and waits until the disk has the name.
+///
+/// # Errors
+/// The system refuses it. Where it only refuses to sync the folder, the file has its name.
+pub fn name_part(rt: &HostRuntime, part: &str, path: &str) -> Result<(), FolderFault> {
+    rename_part(rt, part, path)?;
+    sync_folder(rt, folder_of(path), Some(path))
+}
+
+/// Renames a part file to its path.
+///
+/// # Errors
+/// The system refuses it.
+pub(crate) fn rename_part(rt: &HostRuntime, part: &str, path: &str) -> Result<(), FolderFault> {
+    match fs::rename(rt, part, path) {
+        Ok(()) => Ok(()),
+        Err(error) => Err(cannot_write(rt.alloc(), path, &error)?),
+    }
+}
+
+/// Waits until the disk has the names of a folder. `renamed` is the path of a file that was renamed since the
+/// last sync, if one was.
+///
+/// # Errors
+/// The system refuses it.
+pub(crate) fn sync_folder(
+    rt: &HostRuntime,
+    folder: &str,
+    renamed: Option<&str>,
+) -> Result<(), FolderFault> {
+    match (synced(rt, folder), renamed) {
+        (Ok(()), _) => Ok(()),
+        (Err(error), None) => Err(cannot_write(rt.alloc(), folder, &error)?),
+        (Err(error), Some(path)) => Err(FolderFault::NotCertain {
             path: String::from_str(rt.alloc(), path)?,
             why: format!(in rt.alloc(); "{error}")?,
         }),
@@ -99,7 +153,7 @@ fn open_regular(rt: &HostRuntime, path: &str, seen: &Metadata) -> io::Result<Fil
     }
 }
 
-/// Writes a page beside a file, waits until the disk has it, and takes it away again.
+/// Writes a page to a trial file in the same folder, waits until the disk has it, and removes it again.
 ///
 /// # Errors
 /// The system refuses it.
@@ -128,18 +182,27 @@ fn is_full(error: &io::Error) -> bool {
 
 /// Writes a file, and waits until the disk has it.
 fn write_synced(rt: &HostRuntime, path: &str, bytes: &[u8]) -> io::Result<()> {
+    written(rt, path, bytes)?.sync_all()
+}
+
+/// Writes a file: a new one, or over the one that is there.
+fn written(rt: &HostRuntime, path: &str, bytes: &[u8]) -> io::Result<File> {
     let mut file = own_file(rt, path)?;
     file.set_len(0)?;
     file.write_all(bytes)?;
-    file.sync_all()
+    Ok(file)
 }
 
-/// Waits until the disk has the names of a file's folder.
-fn sync_folder_of(rt: &HostRuntime, path: &str) -> io::Result<()> {
-    let folder = match path.rsplit_once('/') {
+/// Waits until the disk has the names of a folder.
+fn synced(rt: &HostRuntime, folder: &str) -> io::Result<()> {
+    File::open(rt, folder)?.sync_all()
+}
+
+/// The folder of a file, by its path.
+fn folder_of(path: &str) -> &str {
+    match path.rsplit_once('/') {
         Some(("", _)) => "/",
         Some((folder, _)) => folder,
         None => ".",
-    };
-    File::open(rt, folder)?.sync_all()
+    }
 }

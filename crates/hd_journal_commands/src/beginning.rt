@@ -1,15 +1,20 @@
 //! What `journal begin` does.
 
 use crate::fault::JournalCommandFault;
+use crate::stepping::{Contents, take_steps};
 use hd_command_line::{JournalBegin, LibraryFiles};
 use hd_folder::{
-    Paths, cannot_write, last_period, name_part, own_file, part_path, see_no_file, see_no_other,
-    see_nothing, write_part, write_whole,
+    Paths, cannot_write, last_period, own_file, part_path, see_no_file, see_no_other, see_nothing,
+    write_whole,
 };
 use hd_library::{Library, read_file};
-use hd_library_journal::{LibraryJournalFault, begin_anew, begin_at};
+use hd_library_journal::{LibraryJournalFault, begin_at};
+use hd_periods::carry_steps;
 use hd_turn_store::Fault as StoreFault;
 use std::fs::{self, File, TryLockError};
+
+/// The number of the period that begins with an opening, as if a period before had ended so.
+const OPENED: u32 = 2;
 
 /// Begins a journal's file where there is none, or the first period of a folder that has none. An opening
 /// makes it number 2, as if a period before had ended so.
@@ -47,8 +52,8 @@ fn begin_folder(
     match library.opening {
         None => begin_first(rt, library, &files),
         Some(opening) => {
-            let second = Paths::of_period(alloc, folder, 2)?;
-            begin_opened(rt, library, opening, &second.files())
+            let second = Paths::of_period(alloc, folder, OPENED)?;
+            begin_opened(rt, library, opening, folder, &second.files())
         }
     }
 }
@@ -69,12 +74,13 @@ fn begin_first(
 }
 
 /// Begins the second period of a folder, whose files these are: copies of the catalogue and of the opening,
-/// and a journal. As in a carry the opening is written beside its path first, and gets its name last, which
-/// makes the period complete. Till then nobody else begins it, and no server has its journal open.
+/// and a journal, by the steps of a carry. The opening gets its name last, which makes the period complete.
+/// Until then nobody else begins it, and no server has its journal open.
 fn begin_opened(
     rt: &HostRuntime,
     library: &LibraryFiles<'_>,
     opening: &str,
+    folder: &str,
     files: &LibraryFiles<'_>,
 ) -> Result<(), JournalCommandFault> {
     let (path, into) = (files.journal.unwrap_or(""), files.opening.unwrap_or(""));
@@ -86,10 +92,13 @@ fn begin_opened(
     see_no_other(rt, files.catalogue, catalogue.as_slice())?;
     let part = part_path(rt.alloc(), into)?;
     let lock = lock_part(rt, part.as_str(), into)?;
-    write_part(rt, part.as_str(), opening.as_slice())?;
-    write_whole(rt, files.catalogue, catalogue.as_slice())?;
-    begin_anew(rt, path, &digest)?;
-    name_part(rt, part.as_str(), into)?;
+    let contents = Contents {
+        catalogue: catalogue.as_slice(),
+        opening: opening.as_slice(),
+        joined: &[],
+        digest,
+    };
+    take_steps(rt, folder, &carry_steps(OPENED), &contents)?;
     drop(lock);
     println!(rt; "begun: {path}")?;
     Ok(())
@@ -158,7 +167,7 @@ fn begin_file(rt: &HostRuntime, files: &LibraryFiles<'_>) -> Result<(), JournalC
 /// The digest of a library, which a journal may begin with at a path.
 ///
 /// # Errors
-/// A file can't be read, or is refused; something lies at the path.
+/// A file can't be read, or is refused; there is something at the path.
 fn digest_of_fit(
     rt: &HostRuntime,
     files: &LibraryFiles<'_>,

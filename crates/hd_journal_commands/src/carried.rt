@@ -1,14 +1,12 @@
 //! A desk carried over into an opening file.
-ghost use Rattle.std.specs.Prelude.{◌≡◌, OnOk};
 
 use crate::fault::JournalCommandFault;
 use crate::written_off::{listed_copies, push_written_off};
 use hd_carry::{CarryFault, Obstacle, carry, obstacle_text};
 use hd_catalogue::Catalogue;
 use hd_desk::Desk;
-use hd_folder::{part_path, write_part};
 use hd_journal::Journal;
-use hd_library::{Library, SetupFault, read_file};
+use hd_library::{Library, SetupFault};
 use hd_rules::{CopyNo, OpeningRow};
 use std::alloc::{AllocError, Global};
 
@@ -19,25 +17,34 @@ pub(crate) struct Way<'to, 'off, 'into> {
     pub(crate) to: &'to [u8],
     /// The file of copies whose loans are dropped, if there is one.
     pub(crate) write_off: Option<&'off str>,
-    /// The opening file that is to be.
-    pub(crate) into: &'into str,
+    /// Where the opening is to be.
+    pub(crate) into: Target<'into>,
 }
 
-/// What was carried over, as soon as the opening has its name.
+/// Where the opening of a carry is to be.
+#[derive(Clone, Copy)]
+pub(crate) enum Target<'a> {
+    /// At a path.
+    File(&'a str),
+    /// In the next period of a folder, with this number.
+    Period { folder: &'a str, number: u32 },
+}
+
+/// A desk that was carried over. No file is written yet.
 #[derive(Drop)]
 pub(crate) struct Carried {
-    /// The lines that tell it.
-    pub(crate) told: Vec<u8>,
-    /// The SHA-256 of the opening file.
+    /// The lines that report it.
+    pub(crate) report: Vec<u8>,
+    /// The bytes of the opening.
+    pub(crate) opening: Vec<u8>,
+    /// The SHA-256 of the opening.
     pub(crate) digest: [u8; 32],
 }
 
-/// Carries the desk of a journal over, and writes the opening beside its path. `before` is the SHA-256 of the
-/// file that the journal begins with.
+/// Carries the desk of a journal over. `before` is the SHA-256 of the file that the journal begins with.
 ///
 /// # Errors
-/// Something is in the way; the new catalogue can't be read or is refused; the opening can't be written, or
-/// other bytes are read back.
+/// Something is in the way; the new catalogue can't be read or is refused.
 pub(crate) fn carry_desk(
     rt: &HostRuntime,
     journal: &Journal,
@@ -47,16 +54,22 @@ pub(crate) fn carry_desk(
     let desk = journal.desk();
     let last = last_number(journal)?;
     let written_off = listed_copies(rt, desk.catalogue(), way.write_off)?;
-    let digest = written_opening(rt, desk, last, way, written_off.as_slice())?;
-    let mut told = Vec::new(rt.alloc());
-    push_written_off(&mut told, desk, written_off.as_slice())?;
+    let library = next_library(rt, desk, last, way.to, written_off.as_slice())?;
+    let opening = opening_of(rt.alloc(), &library)?;
+    let digest = library.opened_by(rt, opening.as_slice())?.digest;
+    let mut report = Vec::new(rt.alloc());
+    push_written_off(&mut report, desk, written_off.as_slice())?;
     let numbers = numbers_of(rt.alloc(), journal.front(), last, before, digest)?;
-    told.extend_from_slice(numbers.as_bytes())?;
-    Ok(Carried { told, digest })
+    report.extend_from_slice(numbers.as_bytes())?;
+    Ok(Carried {
+        report,
+        opening,
+        digest,
+    })
 }
 
-/// The lines of how many turns a journal has, of the last number that was given, and of the SHA-256 of the
-/// files that it begins with, and the next one does.
+/// The lines of a journal's number of turns, of the last number that was given, and of the SHA-256 of the
+/// opening that it begins with, and of the one that the next journal begins with.
 fn numbers_of(
     alloc: Global,
     turns: usize,
@@ -67,28 +80,6 @@ fn numbers_of(
     let old = hex::encode(alloc, before)?;
     let new = hex::encode(alloc, digest)?;
     format!(in alloc; "turns: {turns}\nlast number: {last}\nold: {old}\nnew: {new}\n")
-}
-
-/// Writes the opening of a desk beside its path: its digest. What is read back has to be the bytes that were
-/// written, and an opening of the library; that these tell the desk, by names, is proved of `carry` and `write`.
-///
-/// # Errors
-/// Those of `carry_desk`.
-fn written_opening(
-    rt: &HostRuntime,
-    desk: &Desk,
-    last: u32,
-    way: &Way<'_, '_, '_>,
-    written_off: &[CopyNo],
-) -> Result<[u8; 32], JournalCommandFault> {
-    let part = part_path(rt.alloc(), way.into)?;
-    let library = next_library(rt, desk, last, way.to, written_off)?;
-    let text = opening_of(rt.alloc(), &library)?;
-    write_part(rt, part.as_str(), text.as_slice())?;
-    let read = read_file(rt, "opening", part.as_str())?;
-    see_same(text.as_slice(), read.as_slice())?;
-    let library = library.opened_by(rt, read.as_slice())?;
-    Ok(library.digest)
 }
 
 /// The last number that was given in a journal, or before it.
@@ -117,20 +108,6 @@ fn opening_of(alloc: Global, library: &Library) -> Result<Vec<u8>, AllocError> {
     let catalogue = &library.catalogue;
     let (rows, last) = (catalogue.opening(), catalogue.last_before());
     hd_opening::write(alloc, catalogue, rows, last, &library.digest)
-}
-
-/// Sees that just the bytes are read back that were written.
-///
-/// # Errors
-/// Others are.
-fn see_same(written: &[u8], read: &[u8]) -> Result<(), JournalCommandFault>
-    ensures { OnOk result (read.now ≡ written.now) }
-{
-    if written == read {
-        Ok(())
-    } else {
-        Err(JournalCommandFault::NotCarriedOver)
-    }
 }
 
 /// The rows of a desk over a new catalogue.

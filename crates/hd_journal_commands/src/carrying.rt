@@ -1,82 +1,62 @@
 //! What `carry` does: it ends a journal, and writes how the next one begins.
-ghost use Rattle.std.specs.Prelude.{◌≡◌};
 
-use crate::carried::{Way, carry_desk};
+use crate::carried::{Target, Way, carry_desk};
 use crate::fault::JournalCommandFault;
-use hd_command_line::{Carry, LibraryFiles};
-use hd_folder::{Paths, name_part, part_path, see_no_file, write_whole};
+use crate::stepping::{Contents, see_read_back, take_steps};
+use hd_command_line::Carry;
+use hd_folder::{Paths, file_path, name_part, part_path, see_no_file, write_part};
 use hd_journal::Journal;
 use hd_library::{Library, read_file};
-use hd_library_journal::{Keeping, LibraryJournalFault, begin_anew, end_journal, open_over};
+use hd_library_journal::{Keeping, LibraryJournalFault, end_journal, open_over};
+use hd_periods::{FileKind, FileName, carry_steps};
 use hd_turn_store::Unknown;
 use std::io::Write;
 
-/// Carries a library over to another catalogue: into an opening file, or to the next period of its folder,
-/// which is a copy of the catalogue, a journal, and at last the opening, whose name makes it complete.
+/// Carries a library over to another catalogue: into an opening file, or to the next period of its folder.
 ///
 /// # Errors
 /// Something is in the way; a file can't be read or written, or is refused; out of memory.
 pub fn carry_over(rt: &HostRuntime, order: &Carry<'_>) -> Result<(), JournalCommandFault> {
     let old = Paths::of(rt, &order.library)?;
-    match old.of_next(rt.alloc())? {
-        Some(new) => carry_period(rt, &old, &new.files(), order),
-        None => {
-            let catalogue = read_file(rt, "catalogue", order.to)?;
-            let way = way_of(order, catalogue.as_slice(), order.into.unwrap_or(""));
-            carry_files(rt, &Keeping::of(&old), &way, None)
-        }
-    }
-}
-
-/// Carries a period over to the next one, whose files these are.
-fn carry_period(
-    rt: &HostRuntime,
-    old: &Paths,
-    new: &LibraryFiles<'_>,
-    order: &Carry<'_>,
-) -> Result<(), JournalCommandFault> {
     let catalogue = read_file(rt, "catalogue", order.to)?;
-    let way = way_of(order, catalogue.as_slice(), new.opening.unwrap_or(""));
-    carry_files(rt, &Keeping::of(old), &way, Some(new))
-}
-
-/// Which way a desk is to be carried over to this catalogue file's bytes, into this opening file.
-fn way_of<'to, 'off, 'into>(
-    order: &Carry<'off>,
-    to: &'to [u8],
-    into: &'into str,
-) -> Way<'to, 'off, 'into> {
-    Way {
-        to,
+    let into = match old.numbered() {
+        Some(period) => Target::Period {
+            folder: period.folder(),
+            number: period.number().saturating_add(1),
+        },
+        None => Target::File(order.into.unwrap_or("")),
+    };
+    let way = Way {
+        to: catalogue.as_slice(),
         write_off: order.write_off,
         into,
-    }
+    };
+    carry_files(rt, &Keeping::of(&old), &way)
 }
 
-/// Carries the desk of a library's journal over, into a next period, if there is to be one, and then ends the
-/// journal. From its opening on to its end nobody else has the journal open: no server takes a turn of it,
-/// which would be lost, and no other carry writes the same files.
+/// Carries the desk of a library's journal over, and then ends the journal. From its opening on to its end
+/// nobody else has the journal open: no server takes a turn of it, which would be lost, and no other carry
+/// writes the same files.
 fn carry_files(
     rt: &HostRuntime,
     keeping: &Keeping<'_>,
     way: &Way<'_, '_, '_>,
-    next: Option<&LibraryFiles<'_>>,
 ) -> Result<(), JournalCommandFault> {
-    if next.is_none() {
-        see_no_file(rt, way.into)?;
+    if let Target::File(path) = way.into {
+        see_no_file(rt, path)?;
     }
     let library = Library::read_text(rt, &keeping.library)?;
     let before = library.digest;
     let kept = open_over(rt, Unknown, keeping, library)?;
-    let carried = carry_journal(rt, kept.answered_journal()?, before, way, next);
-    told_end(rt, carried, end_journal(kept))
+    let carried = carry_journal(rt, kept.answered_journal()?, before, way);
+    report_end(rt, carried, end_journal(kept))
 }
 
-/// Tells on standard error where the journal before couldn't be ended, if its desk was carried over.
+/// Reports on standard error where the journal before couldn't be ended, if its desk was carried over.
 ///
 /// # Errors
 /// Why it wasn't.
-fn told_end<R: Eprint>(
+fn report_end<R: Eprint>(
     rt: &R,
     carried: Result<(), JournalCommandFault>,
     ended: Result<(), LibraryJournalFault>,
@@ -85,7 +65,7 @@ fn told_end<R: Eprint>(
         Err(fault) => Err(fault),
         Ok(()) => {
             if let Err(fault) = ended {
-                let _told = eprintln!(rt;
+                let _reported = eprintln!(rt;
                     "carried over, but the journal before isn't ended: {fault}"
                 );
             }
@@ -94,32 +74,65 @@ fn told_end<R: Eprint>(
     }
 }
 
-/// Carries the desk of a journal over: the files of the next period, if there is to be one, and at last the
-/// opening's name. Another carry may have written that before the journal was opened.
+/// Carries the desk of a journal over, and writes the files of the next period, or the opening file alone.
+/// Another carry may have written them before the journal was opened.
 fn carry_journal(
     rt: &HostRuntime,
     journal: &Journal,
     before: [u8; 32],
     way: &Way<'_, '_, '_>,
-    next: Option<&LibraryFiles<'_>>,
 ) -> Result<(), JournalCommandFault> {
-    see_no_file(rt, way.into)?;
+    see_free(rt, &way.into)?;
     let carried = carry_desk(rt, journal, before, way)?;
-    if let Some(next) = next {
-        see_no_file(rt, next.joined.unwrap_or(""))?;
-        write_whole(rt, next.catalogue, way.to)?;
-        begin_anew(rt, next.journal.unwrap_or(""), &carried.digest)?;
+    let opening = carried.opening.as_slice();
+    match way.into {
+        Target::File(path) => write_opening(rt, path, opening)?,
+        Target::Period { folder, number } => {
+            let contents = Contents {
+                catalogue: way.to,
+                opening,
+                joined: &[],
+                digest: carried.digest,
+            };
+            take_steps(rt, folder, &carry_steps(number), &contents)?;
+        }
     }
-    let part = part_path(rt.alloc(), way.into)?;
-    name_part(rt, part.as_str(), way.into)?;
-    tell_carried(rt, carried.told.as_slice());
+    report_carried(rt, carried.report.as_slice());
     Ok(())
 }
 
-/// Prints what was carried over. Where that can't be, the library has gone on all the same, and standard
-/// error is told so.
-fn tell_carried(rt: &HostRuntime, told: &[u8]) {
-    if rt.stdout().write_all(told).is_err() {
-        let _told = eprintln!(rt; "carried over, but what was carried over can't be printed");
+/// Checks that a carry writes over no opening, and over no names that joined.
+///
+/// # Errors
+/// There is such a file; the system doesn't report it.
+fn see_free(rt: &HostRuntime, into: &Target<'_>) -> Result<(), JournalCommandFault> {
+    match into {
+        Target::File(path) => Ok(see_no_file(rt, path)?),
+        Target::Period { folder, number } => {
+            for kind in [FileKind::Opening, FileKind::Joined] {
+                let path = file_path(rt.alloc(), folder, &FileName::whole(*number, kind))?;
+                see_no_file(rt, path.as_str())?;
+            }
+            Ok(())
+        }
+    }
+}
+
+/// Writes an opening whole, and reads it back before it gets its name.
+///
+/// # Errors
+/// It can't be written, or other bytes are read back.
+fn write_opening(rt: &HostRuntime, path: &str, opening: &[u8]) -> Result<(), JournalCommandFault> {
+    let part = part_path(rt.alloc(), path)?;
+    write_part(rt, part.as_str(), opening)?;
+    see_read_back(rt, part.as_str(), opening)?;
+    Ok(name_part(rt, part.as_str(), path)?)
+}
+
+/// Prints what was carried over. Where that can't be printed, the library has gone on all the same, and
+/// standard error says so.
+fn report_carried(rt: &HostRuntime, report: &[u8]) {
+    if rt.stdout().write_all(report).is_err() {
+        let _reported = eprintln!(rt; "carried over, but what was carried over can't be printed");
     }
 }

@@ -1,4 +1,4 @@
-//! Why a command over a journal's file doesn't do it.
+//! Why a command over a journal's file fails.
 
 use hd_folder::FolderFault;
 use hd_journal::WriteFault;
@@ -9,7 +9,7 @@ use std::alloc::{AllocError, AllocFailed};
 use std::{fmt, io};
 use thiserror::Error;
 
-/// Why a command over a journal's file doesn't do it, printed as one line.
+/// Why a command over a journal's file fails, printed as one line.
 #[derive(Drop, Error)]
 pub enum JournalCommandFault {
     /// The journal isn't begun, opened or ended.
@@ -96,7 +96,7 @@ impl<T: Drop> From<AllocFailed<T>> for JournalCommandFault {
     }
 }
 
-/// What fails is a write of what the command prints: of a file each caller says so.
+/// What fails is a write of what the command prints. For a file each caller has its own fault.
 impl From<io::Error> for JournalCommandFault {
     fn from(_: io::Error) -> JournalCommandFault {
         JournalCommandFault::CannotWrite

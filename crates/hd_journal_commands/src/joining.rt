@@ -1,21 +1,23 @@
 //! What `journal join` does: it has names join a library that isn't served.
 //!
-//! The lines that join are kept in one file of the library's period, as 0001.joined. It is written beside its
-//! path, synced and renamed, and no other file changes: the catalogue and the opening stay, and with them the
-//! digest in the journal's head. So a stop before the rename leaves the old library, perhaps with a file
-//! 0001.joined.part that nothing reads and that the next join writes over. A stop behind the rename leaves the
-//! library that all of them joined. The journal is open from before the names are written till they are there,
-//! so that no server and no carry goes on without them; a server that read the library before, and opens the
-//! journal behind, sees that the file has another length, and begins again.
+//! The lines that join are kept in one file of the library's period, as 0001.joined. Its part file is
+//! written, synced and renamed, by the steps of a join, and no other file changes: the catalogue and the
+//! opening stay, and with them the digest in the journal's head. So a stop leaves the lines that had joined
+//! before, or these with the new ones. It may leave a file 0001.joined.part too, which nothing reads and the
+//! next join writes over. The journal is open from before the names are written until they are there, so that
+//! no server and no carry goes on without them. A server that read the library before, and opens the journal
+//! afterwards, finds that the file has another length, and begins again.
 
 use crate::fault::JournalCommandFault;
 use crate::staying::staying_text;
+use crate::stepping::{Contents, take_steps};
 use hd_catalogue::Catalogue;
 use hd_command_line::{JournalJoin, Place};
-use hd_folder::{Paths, write_whole};
+use hd_folder::{FolderFault, Paths, Period};
 use hd_joining::{grown_text, joining};
 use hd_library::{Library, joined_file, joined_lines, read_file};
 use hd_library_journal::{Keeping, end_journal, open_over};
+use hd_periods::join_steps;
 use hd_turn_store::Unknown;
 use std::io::Write;
 
@@ -56,7 +58,7 @@ impl Counts {
     }
 }
 
-/// Has the names of a catalogue file that a library lacks join it, and tells how many did, and what of the
+/// Has the names of a catalogue file that a library lacks join it. Reports how many did, and what of the
 /// library the file doesn't change.
 pub fn join_library(rt: &HostRuntime, order: &JournalJoin<'_>) -> Result<(), JournalCommandFault> {
     let alloc = rt.alloc();
@@ -77,7 +79,7 @@ pub fn join_library(rt: &HostRuntime, order: &JournalJoin<'_>) -> Result<(), Jou
     Ok(())
 }
 
-/// Has the names of these lines join a library, and tells how many did. The turns of its journal are taken
+/// Has the names of these lines join a library, and reports how many did. The turns of its journal are taken
 /// again over the catalogue that comes of it.
 fn join_lines(
     rt: &HostRuntime,
@@ -96,7 +98,7 @@ fn join_lines(
     joined.extend_from_slice(lines)?;
     let file = joined_file(rt.alloc(), joined.as_slice())?;
     let kept = open_over(rt, Unknown, &keeping, grown)?;
-    let written = write_whole(rt, path, file.as_slice());
+    let written = write_joined(rt, keeping.period, file.as_slice());
     let ended = end_journal(kept);
     written?;
     after.tell_since(rt, &before)?;
@@ -104,6 +106,27 @@ fn join_lines(
         eprintln!(rt; "joined, but the journal isn't ended: {fault}")?;
     }
     Ok(())
+}
+
+/// Writes the file of the names that joined a period.
+///
+/// # Errors
+/// The library is in no folder; the system refuses a step; out of memory.
+fn write_joined(
+    rt: &HostRuntime,
+    period: Option<&Period>,
+    file: &[u8],
+) -> Result<(), JournalCommandFault> {
+    let Some(period) = period else {
+        return Err(JournalCommandFault::from(FolderFault::NoLibrary(String::new(rt.alloc()))));
+    };
+    let contents = Contents {
+        catalogue: &[],
+        opening: &[],
+        joined: file,
+        digest: [0; 32],
+    };
+    take_steps(rt, period.folder(), &join_steps(period.number()), &contents)
 }
 
 /// The lines that joined before.
@@ -114,7 +137,7 @@ fn lines_before(rt: &HostRuntime, path: &str) -> Result<Vec<u8>, JournalCommandF
     }
 }
 
-/// The library whose catalogue has this text, with these lines behind.
+/// The library whose catalogue has this text, and then these lines.
 ///
 /// # Errors
 /// What comes of it is refused.

@@ -1,4 +1,4 @@
-//! What `journal check` tells of a journal's file.
+//! What `journal check` reports of a journal's file.
 
 use crate::fault::JournalCommandFault;
 use hd_command_line::JournalCheck;
@@ -11,8 +11,8 @@ use hd_terminal_output::Away;
 use hd_turn_store::Unknown;
 use std::io;
 
-/// Tells what the desk is after the turns of a journal's file, each taken again and compared, or why the file
-/// is refused. There has to be one.
+/// Reports what the desk is after the turns of a journal's file, each taken again and compared, or why the
+/// file is refused. There has to be one.
 ///
 /// # Errors
 /// There is none, or it is refused; the output can't be written; out of memory.
@@ -34,7 +34,7 @@ pub fn check_journal(
     Ok(told?)
 }
 
-/// Opens a journal's file that was written with another catalogue, accepts it, and tells so.
+/// Opens a journal's file that was written with another catalogue, accepts it, and reports that.
 ///
 /// # Errors
 /// It is refused.

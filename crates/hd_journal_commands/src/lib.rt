@@ -11,6 +11,7 @@ mod journal_checking;
 mod listing;
 mod showing;
 mod staying;
+mod stepping;
 mod views;
 mod written_off;
 

@@ -1,4 +1,4 @@
-//! What a library keeps though a catalogue file whose names join it says otherwise.
+//! What a library keeps although a catalogue file whose names join it has other values.
 
 use hd_catalogue::{Catalogue, Values, first_line, is_letter, number};
 use hd_rules::{
@@ -7,7 +7,7 @@ use hd_rules::{
 use hd_terminal_output::{branch_name, copy_name, patron_name, terminal_name, title_name};
 use std::alloc::{AllocError, Global};
 
-/// How many names of a kind are told.
+/// How many names of a kind are reported.
 const MOST_NAMED: usize = 20;
 
 /// A kind of names.
@@ -88,7 +88,7 @@ impl Kind {
         }
     }
 
-    /// Whether a catalogue has just these values of a name, which stand behind it in a line.
+    /// Whether a catalogue has just these values of a name, which are after it in a line.
     fn is_same(self, old: &Catalogue, name: &[u8], values: &mut Values<'_>) -> bool {
         match self {
             Kind::Branch => true,
@@ -122,8 +122,8 @@ fn name_of_terminal(old: &Catalogue, number: u32) -> &[u8] {
     }
 }
 
-/// The number of the terminal with a name, where there is one. There are few, and they are looked up by name and
-/// password alone, so each is compared.
+/// The number of the terminal with a name, where there is one. There are few, and they are looked up by name
+/// and password alone, so each is compared.
 fn terminal_number(old: &Catalogue, name: &[u8]) -> Option<usize> {
     for number in 0..old.terminals() {
         if Kind::Terminal.name(old, number) == name {
@@ -183,7 +183,7 @@ fn is_same_copy(old: &Catalogue, name: &[u8], values: &mut Values<'_>) -> bool {
     }
 }
 
-/// Names of a kind that are told: how many, and the first of them.
+/// Names of a kind that are reported: how many, and the first of them.
 #[derive(Drop)]
 struct Noted {
     count: usize,
@@ -213,7 +213,7 @@ impl Noted {
         Ok(())
     }
 
-    /// Appends a line that tells them, where there are any.
+    /// Appends a line that reports them, where there are any.
     fn push_line(
         &self,
         alloc: Global,
@@ -234,7 +234,7 @@ impl Noted {
 }
 
 /// What of a library a catalogue file that is accepted doesn't change, a line for each kind of it: names that
-/// the file lacks, and names with other values there. `given` is what the file says.
+/// the file lacks, and names with other values there. `given` is the catalogue of the file.
 ///
 /// # Errors
 /// Out of memory.

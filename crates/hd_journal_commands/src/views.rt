@@ -75,7 +75,7 @@ fn loans_of(alloc: Global, file: &[u8]) -> Result<Vec<u8>, AllocError> {
     Ok(text)
 }
 
-/// Adds the statement of a loan: copy, patron, day and renewals, each behind a bar.
+/// Adds the statement of a loan: copy, patron, day and renewals, each after a bar.
 fn push_loan(text: &mut Vec<u8>, loan: &[u8]) -> Result<(), AllocError> {
     let mut values = loan.split(|byte| *byte == b'|');
     let (copy, patron, due) = (values.next(), values.next(), values.next());

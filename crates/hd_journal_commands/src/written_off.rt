@@ -9,8 +9,8 @@ use hd_terminal_output::{copy_name, patron_name};
 use std::alloc::AllocError;
 use std::io::Write;
 
-/// The copies whose names stand in a file, one a line, each once. What is no copy's name is told on standard
-/// error, and passed over.
+/// The copies whose names are in a file, one a line, each once. What is no copy's name is reported on
+/// standard error, and passed over.
 ///
 /// # Errors
 /// The file can't be read; out of memory.
@@ -51,7 +51,7 @@ fn note(notes: &mut [bool], copy: CopyNo) -> bool {
     is_first
 }
 
-/// Tells that a name is no copy's.
+/// Reports that a name is no copy's.
 fn tell_no_copy(rt: &HostRuntime, name: &[u8]) -> Result<(), JournalCommandFault> {
     let mut line = Vec::new(rt.alloc());
     line.extend_from_slice(b"no copy is named ")?;

@@ -16,7 +16,7 @@ pub fn end_journal<D: Disk + Drop, F: Start>(
     end_kept(connection_of(journal))
 }
 
-/// The fault for which the file of a journal is ended. That it can't be ended well isn't told beside it: its
+/// The fault for which the file of a journal is ended. A second fault, of the ending, isn't reported: its
 /// log then has what it lacks.
 pub(crate) fn ended_for<D: Disk + Drop, F: Start>(
     journal: DurableJournal<JournalFile<FileStore<D>, F>>,

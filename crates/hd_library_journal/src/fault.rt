@@ -26,7 +26,7 @@ pub enum LibraryJournalFault {
     /// A turn couldn't be written.
     #[error("the journal can't be written: {0}")]
     Unwritten(WriteFault),
-    /// The system doesn't tell how time goes on.
+    /// The system has no clock.
     #[error("the system has no clock")]
     NoClock,
     /// Standard error can't be written.
@@ -88,7 +88,7 @@ impl<T: Drop> From<AllocFailed<T>> for LibraryJournalFault {
     }
 }
 
-/// What fails is a write to standard error: of a file and of the clock each caller says so.
+/// What fails is a write to standard error. For a file or the clock each caller has its own fault.
 impl From<io::Error> for LibraryJournalFault {
     fn from(_: io::Error) -> LibraryJournalFault {
         LibraryJournalFault::CannotWrite

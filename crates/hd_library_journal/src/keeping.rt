@@ -47,7 +47,7 @@ impl<'a> Keeping<'a> {
         self.library.journal.unwrap_or("")
     }
 
-    /// Sees that the period that the files are of is still the last one of its folder.
+    /// Checks that the period of the files is still the last one of its folder.
     ///
     /// # Errors
     /// Those of `Period::see_last`.
@@ -59,8 +59,8 @@ impl<'a> Keeping<'a> {
     }
 }
 
-/// Opens a journal's file, which has to be there. Each turn that it holds is taken again and compared; how
-/// many are so far is told on standard error.
+/// Opens a journal's file, which has to be there. Each turn that it holds is taken again and compared.
+/// Progress is reported on standard error.
 ///
 /// # Errors
 /// A file of the library can't be read, or is refused; those of `open_over`.
@@ -117,11 +117,11 @@ fn take_again<S: Start>(
     opened_told(opened, retaking.end())
 }
 
-/// What was opened, where it could be told that its turns are taken again. That a journal is dropped where it
-/// couldn't is proved here, of anything: of a journal's whole type it takes long.
+/// What was opened, if progress could be reported. The type is a parameter, because the proof that a journal
+/// is dropped takes long for a journal's whole type.
 ///
 /// # Errors
-/// Why it can't be opened; else that it can't be told.
+/// Why it can't be opened; else that progress can't be reported.
 fn opened_told<T: Drop>(
     opened: Result<T, OpenFault>,
     told: io::Result<()>,

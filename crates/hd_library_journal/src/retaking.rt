@@ -1,28 +1,28 @@
-//! What is told while a journal's turns are taken again.
+//! The progress that is reported while a journal's turns are taken again.
 
 use crate::fault::LibraryJournalFault;
 use hd_journal_file::Progress;
 use std::io::{self, IsTerminal};
 use std::time::{Duration, Instant};
 
-/// How often a terminal is told, in milliseconds.
+/// How often progress is reported on a terminal, in milliseconds.
 const ON_TERMINAL: u64 = 200;
 
-/// How often anybody else is, in seconds.
+/// How often it is reported elsewhere, in seconds.
 const ELSEWHERE: u64 = 10;
 
-/// Tells on standard error how many turns of a journal are taken again so far: on a terminal in one line,
+/// Reports on standard error how many turns of a journal are taken again so far: on a terminal in one line,
 /// which is written over, and elsewhere in a line each ten seconds.
 #[derive(Drop)]
 pub(crate) struct Retaking<'r> {
     rt: &'r HostRuntime,
     is_terminal: bool,
-    /// When it was told last, or begun.
+    /// When progress was reported last, or the turns were begun.
     last: Instant,
 }
 
 impl<'r> Retaking<'r> {
-    /// Tells a terminal that it begins.
+    /// Reports on a terminal that it begins.
     ///
     /// # Errors
     /// Standard error can't be written, or there is no clock.
@@ -52,7 +52,7 @@ impl<'r> Retaking<'r> {
         Ok(())
     }
 
-    /// Tells how many turns are taken again so far.
+    /// Reports how many turns are taken again so far.
     fn tell(&self, turns: u32) -> io::Result<()> {
         if self.is_terminal {
             eprint!(self.rt; "\rtaking the journal's turns again: {turns}")
@@ -61,7 +61,7 @@ impl<'r> Retaking<'r> {
         }
     }
 
-    /// How long nothing is told again.
+    /// How long nothing is reported again.
     fn pause(&self) -> Duration {
         if self.is_terminal {
             Duration::from_millis(ON_TERMINAL)
@@ -71,7 +71,7 @@ impl<'r> Retaking<'r> {
     }
 }
 
-/// Where it can't be told, the turns are taken again all the same.
+/// If it can't be reported, the turns are taken again all the same.
 impl Progress for Retaking<'_> {
     fn taken(&mut self, turns: u32) {
         let Ok(now) = Instant::now(self.rt) else {

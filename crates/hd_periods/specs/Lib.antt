@@ -1,0 +1,5 @@
+pub mod Folders
+pub mod Laws
+pub mod Names
+pub mod Periods
+pub mod Steps
