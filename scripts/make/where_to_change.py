@@ -42,7 +42,7 @@ PLAYED = {
     "serve_rows": "connection hall attend serve",
     "serve_door": "log json page door ask looks shown server",
     "look_at_page": "page_html",
-    "carry_stops file_faults": "folder library_journal",
+    "carry_stops file_faults": "periods folder library_journal",
     "examples": "command_line setup terminal_output catalogue_commands journal_commands door_commands holddesk",
 }
 
