@@ -8,7 +8,7 @@ use std::io::{self, ErrorKind};
 
 /// What a folder has of a library.
 #[derive(Drop)]
-struct Listed {
+struct FolderNames {
     /// The names of its periods' files.
     names: Vec<FileName>,
     /// Numbers of periods that other names have: with more or fewer zeros, or of links that lead to nothing.
@@ -20,11 +20,11 @@ struct Listed {
 /// # Errors
 /// There is no folder, or it can't be read; a later period lacks a file; out of memory.
 pub fn last_period(rt: &HostRuntime, folder: &str) -> Result<Option<u32>, FolderFault> {
-    if let Ok(last) = library_in(&listed(rt, folder)?) {
+    if let Ok(last) = library_in(&names_in(rt, folder)?) {
         return Ok(last);
     }
     // A carry may have renamed a file while the folder was listed, so that neither of its names was seen.
-    match library_in(&listed(rt, folder)?) {
+    match library_in(&names_in(rt, folder)?) {
         Ok(last) => Ok(last),
         Err(PeriodFile { number, kind }) => {
             let name = FileName::whole(number, kind);
@@ -37,7 +37,7 @@ pub fn last_period(rt: &HostRuntime, folder: &str) -> Result<Option<u32>, Folder
 ///
 /// # Errors
 /// The file that a later period lacks.
-fn library_in(listed: &Listed) -> Result<Option<u32>, PeriodFile> {
+fn library_in(listed: &FolderNames) -> Result<Option<u32>, PeriodFile> {
     let names = listed.names.as_slice();
     let last = library_of(names)?;
     for number in &listed.others {
@@ -57,8 +57,8 @@ fn library_in(listed: &Listed) -> Result<Option<u32>, PeriodFile> {
 ///
 /// # Errors
 /// There is no folder, or it can't be read; out of memory.
-fn listed(rt: &HostRuntime, folder: &str) -> Result<Listed, FolderFault> {
-    let mut listed = Listed {
+fn names_in(rt: &HostRuntime, folder: &str) -> Result<FolderNames, FolderFault> {
+    let mut listed = FolderNames {
         names: Vec::new(rt.alloc()),
         others: Vec::new(rt.alloc()),
     };
@@ -125,7 +125,7 @@ fn push_name(
     rt: &HostRuntime,
     folder: &str,
     text: &str,
-    listed: &mut Listed,
+    listed: &mut FolderNames,
 ) -> Result<(), FolderFault> {
     let path = format!(in rt.alloc(); "{folder}/{text}")?;
     match FileName::named(text) {
