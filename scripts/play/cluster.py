@@ -6,7 +6,7 @@
 crm_verify and crm_simulate (Debian: pacemaker-cli-utils) read examples/cluster/cib.xml; of two machines that are up one
 has to get the disk, the folder, the address, the server, its watch and the night's timer; when that one fails, it has to
 be fenced before anything starts on the other, and there in this order. When the watch has ended, its machine has to be
-fenced too. drbdadm (drbd-utils) has to read holddesk.res as a machine of that name, and corosync its configuration;
+fenced too. drbdadm (drbd-utils) has to read each holddesk.res as a machine of that name, and corosync its configuration;
 systemd-analyze the units, with the programs that they name in place, and the watch's command has to end where the server
 runs and isn't well, and nowhere else. What isn't there is told as skipped. It needs no
 cluster and starts none. Needs Python 3. Status 0: all that could be tried is so.
@@ -28,6 +28,7 @@ EXAMPLES = os.path.join(TOP, "examples")
 CLUSTER = os.path.join(EXAMPLES, "cluster")
 CIB = os.path.join(CLUSTER, "cib.xml")
 UNITS = ["holddesk.service", "holddesk-watch.service", "holddesk-night.service", "holddesk-night.timer"]
+OLDER = "drbdadm-84"  # drbdadm's part for DRBD 8.4
 MACHINES = ["desk1", "desk2"]
 GROUP = ["folder", "address", "desk", "watch", "night"]
 # what DRBD's agent says of a machine whose disk is up to date: it may have the disk
@@ -106,11 +107,14 @@ def compare_cib(folder):
 
 
 def compare_drbd(_):
-    """Has drbdadm read the resource, by the name of each machine."""
-    for machine in MACHINES:
-        told = said_as(machine, f"drbdadm -c {CLUSTER}/holddesk.res dump holddesk")
-        if not re.search(r"protocol +C;", told) or not re.search(r"fencing +resource-and-stonith;", told):
-            raise Trouble(f"drbdadm reads {told!r}")
+    """Has drbdadm read the resource, by the name of each machine; and the one of DRBD 8.4, where it has that too."""
+    older = next(filter(os.path.exists, [os.path.join(os.path.dirname(shutil.which("drbdadm")), "..", "lib", "drbd", OLDER),
+                                         f"/lib/drbd/{OLDER}"]), None)
+    for tool, name in (("drbdadm", "holddesk.res"), (older, "holddesk-8.4.res")):
+        for machine in MACHINES if tool else []:
+            told = said_as(machine, f"{tool} -c {CLUSTER}/{name} dump holddesk")
+            if not re.search(r"protocol +C;", told) or not re.search(r"fencing +resource-and-stonith;", told):
+                raise Trouble(f"{tool} reads {told!r}")
 
 
 def compare_corosync(folder):
