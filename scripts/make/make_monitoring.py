@@ -69,7 +69,7 @@ METRICS = [
         Alert("HolddeskSilent", 'time() - node_textfile_mtime_seconds{file=~"(.*/)?holddesk[.]prom"} > 300', 5, "critical",
               "The figures of holddesk are older than five minutes",
               "Look whether the server answers (holddesk status), and whether cron runs the job that hands its figures on.",
-              {PROM: "0x60"}, {PROM: "0+60x60"}, labels={"instance": "desk", "file": "holddesk.prom"}),
+              {PROM: "0x60"}, {PROM: "0+60x60"}, after=11, labels={"instance": "desk", "file": "holddesk.prom"}),
     ]),
     Metric("holddesk_journal_turns", "gauge",
            [Panel("Turns of the journal", "none", {f"holddesk_journal_turns{{{HERE}}}": "{{instance}}"})], [
