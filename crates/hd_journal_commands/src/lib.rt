@@ -10,7 +10,6 @@ mod fault;
 mod joining;
 mod journal_checking;
 mod kind;
-mod listing;
 mod showing;
 mod staying;
 mod stepping;
