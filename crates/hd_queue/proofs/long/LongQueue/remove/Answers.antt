@@ -2,7 +2,7 @@ use Rattle.std.proofs.Common.{◌≡◌, ap, arith, sym}
 use Rattle.hd_queue.specs.Waiting.{waits_for_any, waits_for_one, waits_at_branch}
 use Rattle.hd_queue.proofs.StampsLemmas.{stamped-without}
 use Rattle.hd_queue.proofs.WaitingLemmas.{IsListed-filter, AreWaiting-without}
-use Rattle.hd_queue.proofs.queue.Queue.remove.Goals as goal
+use Rattle.hd_queue.proofs.long.LongQueue.remove.Goals as goal
 
 pub remove-requires-2-clause-for_any : goal.remove-requires-2-clause-for_any
 remove-requires-2-clause-for_any g c =

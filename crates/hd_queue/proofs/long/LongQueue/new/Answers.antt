@@ -4,7 +4,7 @@ use Rattle.std.specs.Option.{option_map}
 use Rattle.hd_rules.specs.declared.holds.Hold.{Hold}
 use Rattle.hd_queue.specs.Holds.{hold_of}
 use Rattle.hd_queue.specs.Waiting.{waits_at_branch, waits_for_any, waits_for_one}
-use Rattle.hd_queue.proofs.queue.Queue.new.Goals as goal
+use Rattle.hd_queue.proofs.long.LongQueue.new.Goals as goal
 
 pub invariant_of-result : goal.invariant_of-result
 invariant_of-result g c = record {

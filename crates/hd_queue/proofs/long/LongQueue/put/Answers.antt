@@ -2,7 +2,7 @@ use Rattle.std.proofs.Common.{◌≡◌, ap, arith, sym}
 use Rattle.hd_queue.specs.Waiting.{waits_for_any, waits_for_one, waits_at_branch}
 use Rattle.hd_queue.proofs.StampsLemmas.{stamped-with_hold}
 use Rattle.hd_queue.proofs.WaitingLemmas.{IsNew-filter, AreWaiting-with_hold}
-use Rattle.hd_queue.proofs.queue.Queue.put_at_stamp.Goals as goal
+use Rattle.hd_queue.proofs.long.LongQueue.put.Goals as goal
 
 pub put-requires-2-clause-for_any : goal.put-requires-2-clause-for_any
 put-requires-2-clause-for_any g c =
