@@ -1,5 +1,5 @@
 # The commands of the README. All need the Rattle kit's command rt on the path.
-.PHONY: help try run check quick play day page hostile stops years terminals load install uninstall dist wrong test
+.PHONY: help try run check quick play measure day page hostile stops years terminals load install uninstall dist wrong test
 
 PREFIX ?= /usr/local
 
@@ -12,6 +12,8 @@ help:
 	@echo 'make quick      check the crates that changed against origin/HEAD, or REV=, try their wrong bodies, and play rows and'
 	@echo '                examples at a program that is built without proofs, and kept (about five minutes)'
 	@echo 'make play       what make test plays at a program, at one that is built without proofs (some 15 minutes)'
+	@echo 'make measure    count the instructions that a message takes, at a program that is built without proofs, and compare'
+	@echo '                them with the figures that are kept (five minutes; valgrind)'
 	@echo 'make day        after make run: play stored messages, and kiosks, through connections of holddesk serve'
 	@echo 'make page       after make run: look at the page of a door by headless Chromium; pictures in PICTURES ($(PICTURES))'
 	@echo 'make hostile    after make run: hostile clients beside a terminal that has to be answered'
@@ -76,6 +78,13 @@ play: SCRIPTS = 200
 play:
 	@folder=$$(mktemp -d) && trap 'rm -rf "$$folder"' EXIT && program=$$(python3 scripts/unproved.py "$$folder") && \
 	  $(PLAYED)
+
+# The instructions that a message takes beside those that are kept, at a program of replay alone, built without proofs:
+# it fails where a row takes 2 % more. Nothing is proved by this. What to do about it says docs/speed.md.
+measure:
+	@folder=$$(mktemp -d) && trap 'rm -rf "$$folder"' EXIT && \
+	  python3 scripts/measure/optimised.py --replay "$$folder/replay" && \
+	  python3 scripts/measure/instructions.py "$$folder/replay" --most 2
 
 # Stored messages through four connections of holddesk serve, as make run has built it, and the kiosks of the documents;
 # the replies are compared.

@@ -128,7 +128,7 @@ impl<A: Allocator> Queue<A> {
         }
     }
 
-    /// Whether a hold has this stamp. It is found by halves, without a walk.
+    /// Whether a hold has this stamp. In a long queue it is found by halves, without a walk.
     pub fn has_stamp(&self, stamp: u64) -> bool
         ensures { result ≡ has_stamp self.now.holds stamp }
     {
