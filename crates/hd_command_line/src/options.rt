@@ -283,49 +283,24 @@ pub(crate) const WRITE_OFF: OptionWords = OptionWords {
     ..PLAIN
 };
 
-/// All copies.
-pub(crate) const COPIES: OptionWords = OptionWords {
-    name: "copies",
-    help: "All copies: where each is, and who has it",
+/// Whether the names that are still needed are kept.
+pub(crate) const KEEP_USED: OptionWords = OptionWords {
+    name: "keep-used",
+    help: "Keep the names that the new catalogue lacks and that are still needed, as of who has a loan",
+    only_with: &["library"],
     ..PLAIN
 };
 
-/// The queue of a title.
-pub(crate) const QUEUE: OptionWords = OptionWords {
-    name: "queue",
-    value: Value::Text("TITLE"),
-    help: "The holds of this title, in order",
-    ..PLAIN
-};
-
-/// The hold shelf of a branch.
-pub(crate) const SHELF: OptionWords = OptionWords {
-    name: "shelf",
-    value: Value::Text("BRANCH"),
-    help: "The hold shelf of this branch, by place",
-    ..PLAIN
-};
-
-/// The copies that are on their way.
-pub(crate) const TRANSITS: OptionWords = OptionWords {
-    name: "transits",
-    help: "The copies on their way between branches",
-    ..PLAIN
-};
-
-/// The loans that were due before a day.
-pub(crate) const OVERDUE: OptionWords = OptionWords {
-    name: "overdue",
-    value: Value::Text("DAY"),
-    help: "The loans due before this day, as 2026-03-01",
-    ..PLAIN
-};
-
-/// The holds whose last day was before a day.
-pub(crate) const EXPIRED: OptionWords = OptionWords {
-    name: "expired",
-    value: Value::Text("DAY"),
-    help: "The holds whose last day was before this day",
+/// How many names of a kind may go.
+pub(crate) const MOST_GONE: OptionWords = OptionWords {
+    name: "most-gone",
+    value: Value::Number(Number {
+        name: "PERCENT",
+        least: 0,
+        most: 100,
+        defaults: &[],
+    }),
+    help: "Refuse if more of the old names of a kind would go, as of a half-written export",
     ..PLAIN
 };
 

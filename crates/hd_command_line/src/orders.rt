@@ -157,6 +157,10 @@ pub struct Carry<'a> {
     pub into: Option<&'a str>,
     /// The path of the file of copies whose loans are dropped, if there is one.
     pub write_off: Option<&'a str>,
+    /// Whether names that the new catalogue lacks are kept where they are still needed.
+    pub keeps_used: bool,
+    /// How many of 100 old names of a kind may go, where that is limited.
+    pub most_gone: Option<u32>,
 }
 
 /// What `import` is asked to do.
@@ -225,10 +229,8 @@ pub struct JournalJoin<'a> {
 pub struct JournalShow<'a> {
     /// Which library it is.
     pub library: Place<'a>,
-    /// What is to be listed.
-    pub listing: JournalListing<'a>,
-    /// Whether it is to be JSON.
-    pub is_json: bool,
+    /// The list that is to be shown.
+    pub shown: ListOrder<'a>,
 }
 
 /// What `journal views` is asked to do.
@@ -238,21 +240,17 @@ pub struct JournalViews<'a> {
     pub opening: Option<&'a str>,
 }
 
-/// What of a desk is to be listed.
+/// A list that is to be shown.
 #[derive(Clone, Copy)]
-pub enum JournalListing<'a> {
-    /// All copies.
-    Copies,
-    /// The queue of the title with this name.
-    Queue(&'a str),
-    /// The hold shelf of the branch with this name.
-    Shelf(&'a str),
-    /// The copies that are on their way.
-    Transits,
-    /// The loans that were due before this day.
-    Overdue(&'a str),
-    /// The holds whose last day was before this day.
-    Expired(&'a str),
+pub struct ListOrder<'a> {
+    /// The list.
+    pub list: Listing,
+    /// What it is asked by.
+    pub key: Key<&'a str>,
+    /// After which turn to begin, where that is said.
+    pub after: Option<u64>,
+    /// Whether it is to be JSON.
+    pub is_json: bool,
 }
 
 /// What `show` is asked to do.
@@ -261,13 +259,7 @@ pub struct Show<'a> {
     /// The path of the server's door.
     pub door: &'a str,
     /// The list that is to be shown.
-    pub list: Listing,
-    /// What it is asked by.
-    pub key: Key<&'a str>,
-    /// After which turn to begin, where that is said.
-    pub after: Option<u64>,
-    /// Whether it is to be JSON.
-    pub is_json: bool,
+    pub shown: ListOrder<'a>,
 }
 
 /// What `status` is asked to do.

@@ -5,10 +5,11 @@
 mod beginning;
 mod carried;
 mod carrying;
+mod counted;
 mod fault;
 mod joining;
 mod journal_checking;
-mod listing;
+mod kind;
 mod showing;
 mod staying;
 mod stepping;
