@@ -1,6 +1,6 @@
 //! What is committed, and the table while nobody commits.
 
-ghost use Rattle.std.specs.Prelude.{IfOk};
+ghost use Rattle.std.specs.Prelude.{◌≡◌, Some, IfOk, OnErr};
 ghost use mathlib.Core.List.{IsPrefix};
 
 use crate::filed::Filed;
@@ -47,7 +47,8 @@ impl<J: History, T: TurnTable + Drop> Done<J, T> {
     ///
     /// Turns that are committed are answered whatever came later, so this looks at them first.
     pub(crate) fn next(&mut self, mine: &Front<J>) -> Result<Kept<J, T>, Next<J, T>>
-        ensures { IfOk result (λ kept. IsPrefix mine.now kept) }
+        ensures covers { IfOk result (λ kept. IsPrefix mine.now kept) }
+        ensures more { OnErr result (IsPrefix self.old.kept mine.now) }
     {
         if self.kept.front().covers(mine) {
             return Ok(self.kept.again());
@@ -61,8 +62,12 @@ impl<J: History, T: TurnTable + Drop> Done<J, T> {
         }
     }
 
-    /// Puts the table back.
-    pub(crate) fn put_back(&mut self, filed: Filed<J, T>) {
+    /// Puts the table back. What is committed to it everybody may know then.
+    pub(crate) fn put_back(&mut self, filed: Filed<J, T>)
+        ensures table { self.new.table ≡ Some filed }
+        ensures shut { self.new.shut ≡ filed.shut }
+        ensures kept { IsPrefix filed.committed self.new.kept }
+    {
         let kept = filed.kept();
         if kept.front().covers(self.kept.front()) {
             self.kept = kept;

@@ -1,7 +1,6 @@
 //! A table, and how much of the history is committed to it.
 
 ghost use Rattle.std.specs.Prelude.{◌≡◌, List, None, Some, IfErr, IfOk, OnOk, map};
-ghost use mathlib.Core.List.{IsPrefix};
 ghost use Rattle.hd_rules.specs.Journal.{Turn as TurnValue};
 ghost use Rattle.hd_journal.specs.Openings.{IsLegalSince};
 ghost use Rattle.hd_journal.specs.Shown.{turn_shown};

@@ -204,10 +204,10 @@ impl<T: TurnTable, A: Allocator + Copy> DurableJournal<T, A> {
             answered: _answered,
             shut,
         } = self;
-        match shut {
-            None => Ok((journal, table)),
-            Some(why) => Err(why),
+        if let Some(why) = shut {
+            return Err(why);
         }
+        Ok((journal, table))
     }
 
     /// A journal of which so many turns were answered, its table, and why it is shut, where it is.

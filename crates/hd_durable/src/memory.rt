@@ -99,25 +99,32 @@ impl<J: History> InMemory<J> {
         ensures why { IfErr result (IsMemoryFault self.old self.new) }
         ensures err { OnErr result (self.new.turns ≡ self.old.turns) }
     {
-        self.ready(pending)?;
+        if let Err(why) = self.ready(pending) {
+            return Err(why);
+        }
         let AskCopies { journal, table } = asks;
-        let new = self.journal.take_new(journal)?;
+        let Ok(new) = self.journal.take_new(journal) else {
+            return Err(TurnFault::Memory);
+        };
         let turn = table.with_reply(new.made.reply);
         let mut front = self.front.again();
         if !front.add(book, &turn.show()) {
             self.shut = Some(WriteFault::Refused);
             return Err(TurnFault::Unwritten(WriteFault::Refused));
         }
-        if new.is_changing {
-            pending.push(turn, &front);
-            self.changed = front.again();
-        }
-        self.front = front;
-        self.taken += 1;
-        Ok(Turn {
-            at: self.taken,
+        let made = Turn {
+            at: self.taken + 1,
             reply: new.made.reply,
-        })
+        };
+        self.taken += 1;
+        if !new.is_changing {
+            self.front = front;
+            return Ok(made);
+        }
+        pending.push(turn, &front);
+        self.changed = front.again();
+        self.front = front;
+        Ok(made)
     }
 
     /// Makes room for one turn more among those that wait, which are to be of this journal.
@@ -142,7 +149,9 @@ impl<J: History> InMemory<J> {
         if self.front.len() >= MOST_TURNS {
             return Err(TurnFault::Memory);
         }
-        pending.ready()?;
+        if pending.ready().is_err() {
+            return Err(TurnFault::Memory);
+        }
         Ok(())
     }
 }

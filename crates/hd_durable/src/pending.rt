@@ -1,6 +1,7 @@
 //! The turns that were taken, and aren't handed to the table yet.
 
-ghost use Rattle.std.specs.Prelude.{◌≡◌, ◌<◌, ◌++◌, ◌∷◌, [], IsTrue, OnErr, OnOk, length};
+ghost use Rattle.std.specs.Prelude.{◌≡◌, ◌<◌, ◌++◌, ◌∷◌, [], IsTrue, OnOk, length};
+ghost use Rattle.hd_journal.specs.Openings.{IsLegalSince};
 ghost use Rattle.hd_durable.specs.Commits.{MayFollow};
 
 use hd_history::{Front, History};
