@@ -1,5 +1,9 @@
 pub mod Leaving
 pub mod Beginnings
 pub mod Durability
-pub mod Counting
 pub mod Refusing
+pub mod Counting
+pub mod Prefixes
+pub mod Committing
+pub mod Remembering
+pub mod Joining

@@ -62,7 +62,7 @@ pub returns-clause-why : goal.returns-clause-why
 returns-clause-why g c =
     IfErr-weaker c.commit.result _ _
     (λ why refused turns turn is.
-    subst (λ (x : Turn). g.T.TurnTable.refuses c.args.table.now x c.commit.new.self why)
+    subst (λ (x : Turn). g.T.TurnTable.refuses c.args.table.now (x ∷ []) c.commit.new.self why)
     (last_is c.args.journal.now.turns turns turn (length c.args.journal.now.turns)
     (turn_shown c.in-Some.last) is refl
     (ap (option_map turn_shown) (sym c.in-Some.is) ∙ c.last_turn.ensures))
