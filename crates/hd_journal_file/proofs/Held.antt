@@ -114,11 +114,11 @@ pub earlier : {image : Image} {is_new : Bool} {old new : State} → (HasCleanDis
 earlier clean reliable = record { clean = clean reliable.clean; found = reliable.found }
 
 -- more turns, and their rows
-abbrev pub with_more : {k : Contents} {turns more : List Turn} {rows : List KeptTurn}
+abbrev pub with_more : {k : Contents} {turns : List Turn} (more : List Turn) (rows : List KeptTurn)
     {P Q : Head → List KeptTurn → Type 0} → ((format : ℕ) → AreTurnRows k format more rows)
     → IsLegal (facts_of k) (turns ++ more) → (it : AreInFile k turns P) → Q it.head (it.rows ++ rows)
     → AreInFile k (turns ++ more) Q
-with_more {k} {turns} {more} {rows} are legal it keeps = record {
+with_more {k} {turns} more rows are legal it keeps = record {
   legal = legal;
   head = it.head;
   rows = it.rows ++ rows;
@@ -127,19 +127,19 @@ with_more {k} {turns} {more} {rows} are legal it keeps = record {
 }
 
 -- why they aren't committed
-pub unwritten : {S : Type 0} (g : StoreGhosts S) {k : Contents} (old new : Held S) {turns : List Turn}
-    {rows : List KeptTurn} → ((format : ℕ) → AreTurnRows k format turns rows) → (fault : WriteFault)
+pub unwritten : {S : Type 0} (g : StoreGhosts S) (k : Contents) (old new : Held S) (turns : List Turn)
+    (rows : List KeptTurn) → ((format : ℕ) → AreTurnRows k format turns rows) → (fault : WriteFault)
     → (HasCleanDisk (state g new) → IsRefusedBy g old new rows fault)
     → RefusesTurns g k old turns new fault
-unwritten g old new are Memory refused = inr (_, are, refused)
-unwritten g old new are fault refused = inr (_, are, refused)
+unwritten g k old new turns rows are Memory refused = inr (rows, are, refused)
+unwritten g k old new turns rows are fault refused = inr (rows, are, refused)
 
 -- why their rows aren't made
-pub rowless : {S : Type 0} (g : StoreGhosts S) {k : Contents} (c : Held S) {turns : List Turn}
+pub rowless : {S : Type 0} (g : StoreGhosts S) (k : Contents) (c : Held S) (turns : List Turn)
     (fault : WriteFault) → (fault ≡ Memory) ⊎ HasNoRow turns fault → RefusesTurns g k c turns c fault
-rowless g c Memory why = inl refl
-rowless g c fault (inl is) = cc
-rowless g c fault (inr none) = inl none
+rowless g k c turns Memory why = inl refl
+rowless g k c turns fault (inl is) = cc
+rowless g k c turns fault (inr none) = inl none
 
 -- what was kept is opened
 pub opened_is_kept : (one : OneMessage) {k : Contents} {s now : State} {left : Image} {wanted : Wanted}

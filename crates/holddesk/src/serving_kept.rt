@@ -174,11 +174,7 @@ fn serve_durable<R: Threads + Wait + Clock + Sync, T: TurnTable + Drop + Send>(
 
 /// The same in a history of its own: the journal in memory is under the hall's lock, and what commits its turns
 /// beside it.
-fn serve_in<
-    J: History + Send + Sync,
-    R: Threads + Wait + Clock + Sync,
-    T: TurnTable + Drop + Send,
->(
+fn serve_in<J: History + Send + Sync, R: Threads + Wait + Clock + Sync, T: TurnTable + Drop + Send>(
     rt: &R,
     host: &HostRuntime,
     opened: Opened,

@@ -40,7 +40,9 @@ pub(crate) fn play(rt: &HostRuntime) -> io::Result<()> {
 fn print_batch_calls(rt: &HostRuntime, disk: WhichDisk) -> io::Result<()> {
     let of = disk.name();
     match batch_calls(rt.alloc(), disk) {
-        Some(calls) => println!(rt; "batches of 1 to {MOST_ROWS}: stopped before each of {calls} calls of the {of}: ok"),
+        Some(calls) => println!(rt;
+            "batches of 1 to {MOST_ROWS}: stopped before each of {calls} calls of the {of}: ok"
+        ),
         None => println!(rt; "batches of 1 to {MOST_ROWS}: stops of the {of}: FAILED"),
     }
 }

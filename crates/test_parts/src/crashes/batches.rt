@@ -94,7 +94,8 @@ impl Batches {
 fn rows_after(alloc: Global, last: u32, count: u32) -> Option<Vec<TurnRow<'static>>> {
     let mut rows = Vec::new(alloc);
     for at in 0..count {
-        rows.push(row_of(last.saturating_add(at).saturating_add(1))).ok()?;
+        rows.push(row_of(last.saturating_add(at).saturating_add(1)))
+            .ok()?;
     }
     Some(rows)
 }
