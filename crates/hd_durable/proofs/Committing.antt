@@ -20,7 +20,7 @@ use Rattle.hd_durable.proofs.Prefixes.{prefix_changing, prefix_self, prefix_tran
 abbrev KnownBy : Opening → Turn → Type 0
 KnownBy o turn = IsKnownMessage (facts_of o.contents) turn.message
 
-one_known : (P : Turn → Type 0) (turn : Turn) → P turn → All P (turn ∷ [])
+pub one_known : (P : Turn → Type 0) (turn : Turn) → P turn → All P (turn ∷ [])
 one_known P turn known zero d within = known
 one_known P turn known (suc k) d within = absurd (omega (arith, within))
 
@@ -64,6 +64,13 @@ pub legal_with : (o : Opening) (turns : List Turn) → IsLegalSince o turns
 legal_with o turns legal =
     legal_changing (facts_of o.contents) (start (facts_of o.contents)) (o.begun ++ turns) legal.legal
 
+-- the table's catalogue knows them
+pub known_by_table : (o : Opening) (k : Contents) (turns rows : List Turn) → k ≡ o.contents → rows ≡ turns
+    → All (KnownBy o) turns → All (λ (turn : Turn). IsKnownMessage (facts_of k) turn.message) rows
+known_by_table o k turns rows same is known =
+    subst (λ (c : Contents). All (λ (turn : Turn). IsKnownMessage (facts_of c) turn.message) rows) (sym same)
+    (subst (All (KnownBy o)) (sym is) known)
+
 module _ {T : Type 0} (contents : T → Contents) (holds leaves : T → List Turn → Type 0) (o : Opening) where
   -- what is filed as committed is committed
   pub is_committed : (f : FiledValue T) → IsFiled contents holds leaves o f
@@ -92,6 +99,36 @@ module _ {T : Type 0} (contents : T → Contents) (holds leaves : T → List Tur
           (prefix_changing o mine kept order))
           (committed.left left leaves_it).1,
     );
+  }
+
+  -- a table that has just the changing turns of a history
+  pub filed_begins : (table : T) (committed asked : List Turn) → contents table ≡ o.contents
+      → IsLegalSince o committed → asked ≡ committed → holds table (changing_with o committed)
+      → ((left : List Turn) → leaves table left → left ≡ changing_with o committed)
+      → IsFiled contents holds leaves o
+      (record { table = table; committed = committed; asked = asked; shut = None })
+  filed_begins table committed asked same legal copy held settled = record {
+    same = same;
+    legal = legal;
+    asks_legal = rw copy legal;
+    order = rw copy (prefix_self committed);
+    left = λ left found. inl (settled left found);
+    held = λ _. held;
+    settled = λ _ left found. settled left found;
+  }
+
+  -- that is shut
+  pub filed_shut : (f : FiledValue T) (why : WriteFault) → IsFiled contents holds leaves o f
+      → IsFiled contents holds leaves o
+      (record { table = f.table; committed = f.committed; asked = f.asked; shut = Some why })
+  filed_shut f why filed = record {
+    same = filed.same;
+    legal = filed.legal;
+    asks_legal = filed.asks_legal;
+    order = filed.order;
+    left = filed.left;
+    held = λ never. absurd (none_some why (sym never));
+    settled = λ never. absurd (none_some why (sym never));
   }
 
   module _ (f : FiledValue T) (filed : IsFiled contents holds leaves o f) (is_open : f.shut ≡ None)

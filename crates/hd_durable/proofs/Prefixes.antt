@@ -41,8 +41,8 @@ pub prefix_changing : (o : Opening) (xs ys : List Turn) → IsPrefix xs ys
 prefix_changing o xs ys p =
     let k = facts_of o.contents in
     let longer = prefix_behind o.begun xs ys p in (
-      changing_from k (state_from k (start k) (o.begun ++ xs)) p.0,
-      sym (beginning k (start k) (o.begun ++ xs) p.0) ∙ ap (changing k) longer.1,
+      changing_from k (state_from k (start k) (o.begun ++ xs)) longer.0,
+      sym (beginning k (start k) (o.begun ++ xs) longer.0) ∙ ap (changing k) longer.1,
     )
 
 -- between two beginnings with the same changing turns all have them

@@ -1,12 +1,13 @@
 -- What a journal in memory keeps of the history.
-use Rattle.std.proofs.Common.{◌≡◌, refl, ap, sym, subst, ◌∙◌, arith, ℕ, ◌+◌, ◌≤◌, true, false, List, [], ◌∷◌, ◌++◌}
+use Rattle.std.proofs.Common.{◌≡◌, ◌⊎◌, inl, inr, refl, ap, sym, subst, ◌∙◌, arith, ℕ, zero, suc, ◌+◌, ◌<◌, ◌≤◌, ◌^◌, true, false}
+use Rattle.std.proofs.Common.{List, [], ◌∷◌, ◌++◌, slice_get}
 use Rattle.std.proofs.Common.{length, take, length-append, append_assoc, append-nil, Option, None, Some}
 use Rattle.std.proofs.lemmas.Option.{none-some as none_some}
 use Rattle.std.proofs.Math.Seq.{take-append_seam}
 use mathlib.Core.List.{IsPrefix}
 use Rattle.hd_rules.specs.Journal.{Turn, state_after}
 use Rattle.hd_catalogue.specs.Contents.{Contents, facts_of}
-use Rattle.hd_journal.specs.Books.{IsLegalBook}
+use Rattle.hd_journal.specs.Books.{IsLegalBook, turn_numbered}
 use Rattle.hd_journal.specs.Changing.{is_changing, changing}
 use Rattle.hd_journal.specs.Openings.{Opening, IsLegalSince}
 use Rattle.hd_journal.specs.declared.fault.WriteFault.{WriteFault}
@@ -17,15 +18,16 @@ use Rattle.hd_durable.proofs.Prefixes.{changing_between, prefix_behind, prefix_s
 -- a journal with which a history begins
 pub memory_begins : (o : Opening) (contents : Contents) (all : List Turn) (begun : ℕ) (front changed : List Turn)
     → contents ≡ o.contents → all ≡ o.begun → IsLegalBook contents all → begun ≡ length all → front ≡ []
-    → changed ≡ front
+    → changed ≡ front → begun < 2 ^ 64
     → IsInMemory o contents all begun 0 (record { turns = front; changed = changed; shut = None })
-memory_begins o contents all begun front changed same begins legal count none copy =
+memory_begins o contents all begun front changed same begins legal count none copy few =
     let whole : o.begun ++ front ≡ all =
     ap (λ (ts : List Turn). o.begun ++ ts) none ∙ (append-nil o.begun ∙ sym begins) in
     record {
       same = same;
       begun_with = count ∙ ap length begins;
       count = sym (ap length none);
+      fits = omega (arith, few);
       legal = subst (λ (k : Contents). IsLegalBook k (o.begun ++ front)) same
           (subst (IsLegalBook contents) (sym whole) legal);
       has = subst (IsPrefix (o.begun ++ front)) whole (prefix_self (o.begun ++ front));
@@ -43,6 +45,7 @@ memory_lost o contents contents' all all' more begun taken m shut memory same lo
   same = same ∙ memory.same;
   begun_with = memory.begun_with;
   count = memory.count;
+  fits = memory.fits;
   legal = memory.legal;
   has = prefix_trans (o.begun ++ m.turns) all all' memory.has (more, sym longer);
   whole = λ is. longer ∙ (ap (λ (ts : List Turn). all ++ ts) (open_ is).1 ∙ (append-nil all ∙ memory.whole (open_ is).0));
@@ -55,11 +58,11 @@ pub memory_more : (o : Opening) (contents contents' : Contents) (all all' front 
     (begun taken taken' : ℕ) (m : MemoryValue) (shut : Option WriteFault)
     → IsInMemory o contents all begun taken m → m.shut ≡ None
     → contents' ≡ contents → all' ≡ all ++ turn ∷ [] → IsLegalBook contents' all'
-    → front ≡ m.turns ++ turn ∷ [] → taken' ≡ taken + 1
+    → front ≡ m.turns ++ turn ∷ [] → taken' ≡ taken + 1 → begun + taken' < 2 ^ 64
     → IsPrefix changed front → changing_with o changed ≡ changing_with o front
     → IsInMemory o contents' all' begun taken' (record { turns = front; changed = changed; shut = shut })
 memory_more o contents contents' all all' front changed turn begun taken taken' m shut memory is_open same longer
-    legal is count order changes =
+    legal is count few order changes =
     let whole : o.begun ++ front ≡ all' =
     ap (λ (ts : List Turn). o.begun ++ ts) is
     ∙ (sym (append_assoc o.begun m.turns (turn ∷ []))
@@ -68,6 +71,7 @@ memory_more o contents contents' all all' front changed turn begun taken taken' 
       same = same ∙ memory.same;
       begun_with = memory.begun_with;
       count = omega (arith, count, memory.count, ap length is, length-append m.turns (turn ∷ []));
+      fits = few;
       legal = subst (λ (k : Contents). IsLegalBook k (o.begun ++ front)) (same ∙ memory.same)
           (subst (IsLegalBook contents') (sym whole) legal);
       has = subst (IsPrefix (o.begun ++ front)) whole (prefix_self (o.begun ++ front));
@@ -138,3 +142,59 @@ answered_all o contents all committed begun taken n m shut memory is_open was_op
       changes = λ _. ap (changing (facts_of o.contents)) whole
           ∙ sym (changing_between o m.changed committed m.turns covers order memory.changed_all);
     }
+
+-- a history that begins with a journal's turns
+begins_with : (o : Opening) (k : Contents) (turns front : List Turn)
+    → o ≡ record { contents = k; begun = turns } → front ≡ [] → o.begun ++ front ≡ turns
+begins_with o k turns front is none =
+    ap (λ (ts : List Turn). o.begun ++ ts) none ∙ (append-nil o.begun ∙ ap (λ (p : Opening). p.begun) is)
+
+pub legal_begins : (o : Opening) (k : Contents) (turns front : List Turn)
+    → o ≡ record { contents = k; begun = turns } → front ≡ [] → IsLegalBook k turns → IsLegalSince o front
+legal_begins o k turns front is none legal =
+    subst (λ (c : Contents). IsLegalBook c (o.begun ++ front)) (sym (ap (λ (p : Opening). p.contents) is))
+    (subst (IsLegalBook k) (sym (begins_with o k turns front is none)) legal)
+
+pub changing_begins : (o : Opening) (k : Contents) (turns front : List Turn)
+    → o ≡ record { contents = k; begun = turns } → front ≡ []
+    → changing_with o front ≡ changing (facts_of k) turns
+changing_begins o k turns front is none =
+    ap (λ (p : Opening). changing (facts_of p.contents) (o.begun ++ front)) is
+    ∙ ap (changing (facts_of k)) (begins_with o k turns front is none)
+
+got_behind : (xs ys : List Turn) (k : ℕ) → slice_get (xs ++ ys) (length xs + k) ≡ slice_get ys k
+got_behind [] ys k = let e : 0 + k ≡ k = omega arith in ap (slice_get ys) e
+got_behind (x ∷ xs) ys k =
+    let e : suc (length xs) + k ≡ suc (length xs + k) = omega arith in
+    ap (slice_get (x ∷ (xs ++ ys))) e ∙ got_behind xs ys k
+
+got_before : (xs ys : List Turn) (k : ℕ) → k < length xs → slice_get (xs ++ ys) k ≡ slice_get xs k
+got_before [] ys k within = absurd (omega (arith, within))
+got_before (x ∷ xs) ys zero within = refl
+got_before (x ∷ xs) ys (suc k) within = got_before xs ys k (omega (arith, within))
+
+got_none : (xs : List Turn) (k : ℕ) → length xs ≤ k → slice_get xs k ≡ None
+got_none [] k past = refl
+got_none (x ∷ xs) zero past = absurd (omega (arith, past))
+got_none (x ∷ xs) (suc k) past = got_none xs k (omega (arith, past))
+
+-- the turn of a number since the history began
+pub turn_since : (o : Opening) (contents : Contents) (all : List Turn) (begun taken at : ℕ) (m : MemoryValue)
+    → IsInMemory o contents all begun taken m → 0 < at → at ≤ taken
+    → turn_numbered all (begun + at) ≡ turn_numbered m.turns at
+turn_since o contents all begun taken zero m memory positive within = absurd (omega (arith, positive))
+turn_since o contents all begun taken (suc k) m memory positive within =
+    let e : begun + suc k ≡ suc (length o.begun + k) = omega (arith, memory.begun_with) in
+    let few : k < length m.turns = omega (arith, within, memory.count) in
+    let more : (o.begun ++ m.turns) ++ memory.has.0 ≡ o.begun ++ (m.turns ++ memory.has.0) =
+    append_assoc o.begun m.turns memory.has.0 in
+    ap (turn_numbered all) e
+    ∙ (ap (λ (ts : List Turn). slice_get ts (length o.begun + k)) (sym memory.has.1 ∙ more)
+    ∙ (got_behind o.begun (m.turns ++ memory.has.0) k ∙ got_before m.turns memory.has.0 k few))
+
+-- there is none of another
+pub none_since : (turns : List Turn) (taken at : ℕ) → taken ≡ length turns → (at ≡ 0) ⊎ (taken < at)
+    → None ≡ turn_numbered turns at
+none_since turns taken zero count out = refl
+none_since turns taken (suc k) count (inl zero_is) = absurd (omega (arith, zero_is))
+none_since turns taken (suc k) count (inr past) = sym (got_none turns k (omega (arith, past, count)))

@@ -1,5 +1,5 @@
 -- Turns that are committed beside a hall's lock, many at a time, and what a stop leaves of them.
-use Rattle.std.specs.Prelude.{◌≡◌, ◌⊎◌, ℕ, ◌≤◌, List, ◌++◌, length, take, All, Option, None, Some}
+use Rattle.std.specs.Prelude.{◌≡◌, ◌⊎◌, ℕ, ◌+◌, ◌<◌, ◌≤◌, ◌^◌, List, ◌++◌, length, take, All, Option, None, Some}
 use mathlib.Core.List.{IsPrefix}
 use Rattle.hd_rules.specs.Journal.{Turn, IsLegal}
 use Rattle.hd_rules.specs.Messages.{IsKnownMessage}
@@ -80,6 +80,7 @@ pub record IsInMemory (o : Opening) (contents : Contents) (all : List Turn) (beg
   pub same : contents ≡ o.contents
   pub begun_with : begun ≡ length o.begun
   pub count : taken ≡ length m.turns
+  pub fits : begun + taken < 2 ^ 64
   pub legal : IsLegalSince o m.turns
   pub has : IsPrefix (o.begun ++ m.turns) all
   pub whole : m.shut ≡ None → all ≡ o.begun ++ m.turns

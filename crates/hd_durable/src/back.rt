@@ -66,8 +66,8 @@ impl<J: History, T: TurnTable + Drop> Back<J, T> {
         ensures open { OnOk result (journal.shut ≡ None) }
         ensures none { IfOk result (λ parts. parts.1.turns ≡ []) }
     {
-        let (journal, table) = journal.into_open()?;
         let (book, front) = opened.named::<J>();
+        let (journal, table) = journal.into_open()?;
         let filed = Filed::new(table, front.again());
         let back = Back {
             alloc,

@@ -69,11 +69,13 @@ impl<J: History, T: TurnTable + Drop> Done<J, T> {
         ensures kept { IsPrefix filed.committed self.new.kept }
     {
         let kept = filed.kept();
-        if kept.front().covers(self.kept.front()) {
-            self.kept = kept;
-        }
         self.shut = filed.shut();
         self.table = Some(filed);
+        if kept.front().covers(self.kept.front()) {
+            self.kept = kept;
+            return;
+        }
+        let _older = kept;
     }
 
     /// The table, or `None` where whoever took it out hasn't put it back.

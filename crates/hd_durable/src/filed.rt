@@ -196,7 +196,7 @@ fn shown<'a>(alloc: Global, turns: &'a [Entry<Global>]) -> Result<Vec<TurnRef<'a
     let mut rows = Vec::new(alloc);
     rows.reserve(turns.len())?;
     for turn in turns {
-        rows.push(turn.show())?;
+        rows.push_reserved(turn.show());
     }
     Ok(rows)
 }

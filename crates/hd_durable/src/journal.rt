@@ -182,34 +182,6 @@ impl<T: TurnTable, A: Allocator + Copy> DurableJournal<T, A> {
         }
     }
 
-    /// The journal and the table, where it is open: the table has the changing turns, each committed, and a stop
-    /// leaves no others.
-    ///
-    /// # Errors
-    /// Why it is shut.
-    pub(crate) fn into_open(self) -> Result<(Journal<A>, T), WriteFault>
-        ensures journal { IfOk result (λ parts.
-            (parts.0.contents ≡ self.contents) × (parts.0.turns ≡ self.turns)) }
-        ensures catalogue { IfOk result (λ parts. T.contents parts.1 ≡ self.contents) }
-        ensures held { IfOk result (λ parts.
-            T.holds parts.1 (changing (facts_of self.contents) self.turns)) }
-        ensures settled { IfOk result (λ parts. (left : List TurnValue) → T.leaves parts.1 left
-            → left ≡ changing (facts_of self.contents) self.turns) }
-        ensures legal { IsLegalBook self.contents self.turns }
-        ensures open { OnOk result (self.shut ≡ None) }
-    {
-        let DurableJournal {
-            journal,
-            table,
-            answered: _answered,
-            shut,
-        } = self;
-        if let Some(why) = shut {
-            return Err(why);
-        }
-        Ok((journal, table))
-    }
-
     /// A journal of which so many turns were answered, its table, and why it is shut, where it is.
     pub(crate) fn of_parts(
         journal: Journal<A>,
@@ -249,6 +221,36 @@ impl<T: TurnTable, A: Allocator + Copy> DurableJournal<T, A> {
             shut: _shut,
         } = self;
         table
+    }
+}
+
+impl<T: TurnTable + Drop, A: Allocator + Copy> DurableJournal<T, A> {
+    /// The journal and the table, where it is open: the table has the changing turns, each committed, and a stop
+    /// leaves no others.
+    ///
+    /// # Errors
+    /// Why it is shut.
+    pub(crate) fn into_open(self) -> Result<(Journal<A>, T), WriteFault>
+        ensures journal { IfOk result (λ parts.
+            (parts.0.contents ≡ self.contents) × (parts.0.turns ≡ self.turns)) }
+        ensures catalogue { IfOk result (λ parts. T.contents parts.1 ≡ self.contents) }
+        ensures held { IfOk result (λ parts.
+            T.holds parts.1 (changing (facts_of self.contents) self.turns)) }
+        ensures settled { IfOk result (λ parts. (left : List TurnValue) → T.leaves parts.1 left
+            → left ≡ changing (facts_of self.contents) self.turns) }
+        ensures legal { IsLegalBook self.contents self.turns }
+        ensures open { OnOk result (self.shut ≡ None) }
+    {
+        let DurableJournal {
+            journal,
+            table,
+            answered: _answered,
+            shut,
+        } = self;
+        if let Some(why) = shut {
+            return Err(why);
+        }
+        Ok((journal, table))
     }
 }
 

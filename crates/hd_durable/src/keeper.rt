@@ -57,7 +57,7 @@ impl<'a, J: History, R, T: TurnTable + Drop> DurableKeeper<'a, J, R, T> {
 
     /// The journal in memory.
     pub fn into_memory(self) -> InMemory<J>
-        ensures { result ≡ self.memory }
+        ensures { result ≡ self.entry.memory }
     {
         let DurableKeeper {
             rt: _rt,

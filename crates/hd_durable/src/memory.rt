@@ -1,6 +1,6 @@
 //! A journal in memory, all of whose turns are in one history.
 
-ghost use Rattle.std.specs.Prelude.{◌≡◌, ◌++◌, [], None, Some, IfErr, IfOk, OnErr, OnOk, length, option_map};
+ghost use Rattle.std.specs.Prelude.{◌≡◌, ◌<◌, ◌^◌, ◌++◌, [], None, Some, IfErr, IfOk, OnErr, OnOk, length, option_map};
 ghost use Rattle.std.specs.Arc.{arc_value};
 ghost use Rattle.hd_catalogue.specs.Contents.{facts_of};
 ghost use Rattle.hd_rules.specs.Messages.{IsKnownMessage};
@@ -103,21 +103,24 @@ impl<J: History> InMemory<J> {
             return Err(why);
         }
         let AskCopies { journal, table } = asks;
-        let Ok(new) = self.journal.take_new(journal) else {
-            return Err(TurnFault::Memory);
+        let new = match self.journal.take_new(journal) {
+            Ok(new) => new,
+            Err(_) => return Err(TurnFault::Memory),
         };
-        let turn = table.with_reply(new.made.reply);
+        let Turn { at, reply } = new.made;
+        let is_changing = new.is_changing;
+        let turn = table.with_reply(reply);
         let mut front = self.front.again();
         if !front.add(book, &turn.show()) {
             self.shut = Some(WriteFault::Refused);
             return Err(TurnFault::Unwritten(WriteFault::Refused));
         }
         let made = Turn {
-            at: self.taken + 1,
-            reply: new.made.reply,
+            at: at - self.begun,
+            reply,
         };
-        self.taken += 1;
-        if !new.is_changing {
+        self.taken = at - self.begun;
+        if !is_changing {
             self.front = front;
             return Ok(made);
         }
@@ -226,6 +229,10 @@ impl<J: History> InMemory<J> {
             return Err(WriteFault::Refused);
         }
         let is_all = committed.covers(&self.changed);
+        let count = committed.len() as usize;
+        if count > self.taken {
+            return Err(WriteFault::Refused);
+        }
         let InMemory {
             journal,
             begun,
@@ -234,7 +241,7 @@ impl<J: History> InMemory<J> {
             changed: _changed,
             shut: lost,
         } = self;
-        let answered = begun + committed.len() as usize;
+        let answered = begun + count;
         if let Some(why) = shut {
             return Ok((journal, answered, Some(why)));
         }

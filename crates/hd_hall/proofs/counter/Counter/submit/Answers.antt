@@ -1,4 +1,4 @@
-use Rattle.std.proofs.Common.{◌≡◌, ◌<◌, arith, ap, length, ◌∙◌, sym}
+use Rattle.std.proofs.Common.{◌≡◌, ◌<◌, arith, ap, length, ◌∙◌, refl}
 use Rattle.std.proofs.lemmas.Bool.Decides.{nat_tests}
 use Rattle.hd_hall.specs.Seats.{SeatView}
 use Rattle.hd_hall.proofs.Growing.{grown, not_grown, same_number, same_parts}
@@ -31,4 +31,4 @@ returns-else-receipts-before-clause-err g c =
 
 pub returns-else-receipts-before-clause-same : goal.returns-else-receipts-before-clause-same
 returns-else-receipts-before-clause-same g c =
-    same_number c.args.self.now.seat.now c.submit.new.seat _ _ c.in-Err-Unwritten.ensures.err
+    (same_number c.args.self.now.seat.now c.submit.new.seat _ _ c.in-Err-Unwritten.ensures.err, refl)

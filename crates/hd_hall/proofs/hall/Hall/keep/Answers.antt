@@ -29,7 +29,7 @@ is_seat g c =
     c.in_ok-made.ensures.next.0 in
     let same = c.in_ok-copy.ensures.own ∙ sym c.in_ok-copy.ensures.copy in
     let number = ap (λ (s : SeatView). s.number) c.seat.view_is in
-    let own = ap (λ (m : SeatMessage). m.seat) c.in_ok-copy.ensures.copy ∙ (c.requires.0.1 ∙ sym number) in
+    let own = ap (λ (m : SeatMessage). m.seat) c.in_ok-copy.ensures.copy ∙ (c.requires.asked.0.1 ∙ sym number) in
     rw (
       c.push_reserved.ensures.items,
       c.prepare.ensures.items,
@@ -38,7 +38,7 @@ is_seat g c =
       c.in_ok-made.ensures.share.1,
     )
     (seat-snoc _ _ (receipt_of c.in_ok-copy.copy made)
-    (rw (← c.seat.view_is) at c.requires.0.0) c.seat.invariant.0
+    (rw (← c.seat.view_is) at c.requires.asked.0.0) c.seat.invariant.0
     (subst (λ (m : SeatMessage). IsNextOf g.H.House.opening c.seat.inside.receipts.items (receipt_of m made))
     same next) own)
 
