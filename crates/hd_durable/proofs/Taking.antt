@@ -67,16 +67,16 @@ module _ (o : Opening) (old new : Book) (ask table : SeatMessage) (made : Made) 
   pub taken_same : (shut : Option WriteFault) → is_changing (state old) ask.message ≡ false
       → IsInMemory o new.contents new.turns begun (all - begun)
       (record { turns = front; changed = m.changed; shut = shut })
-  taken_same shut no =
-      let same = memory_same o old.contents old.turns front turn begun taken m memory (changing_is false no) more in
+  taken_same shut still =
+      let same = memory_same o old.contents old.turns front turn begun taken m memory (changing_is false still) more in
       taken_in_memory m.changed shut same.0 same.1
 
   -- a changing one follows those before it
   pub taken_follows : (upto : List Turn) → is_changing (state old) ask.message ≡ true → upto ≡ m.changed
       → IsKnownMessage (facts_of o.contents) ask.message → MayFollow o upto (turn ∷ []) front
-  taken_follows upto yes at known =
+  taken_follows upto changes at known =
       subst (λ (ts : List Turn). MayFollow o upto (turn ∷ []) ts) (sym more)
       (subst (λ (ts : List Turn). MayFollow o ts (turn ∷ []) (m.turns ++ turn ∷ [])) (sym at)
-      (one_follows o m.changed m.turns turn memory.order memory.changed_all (changing_is true yes)
+      (one_follows o m.changed m.turns turn memory.order memory.changed_all (changing_is true changes)
       (subst (IsLegalSince o) more taken_legal)
       (subst (λ (t : Turn). IsKnownMessage (facts_of o.contents) t.message) (sym is_next) known)))

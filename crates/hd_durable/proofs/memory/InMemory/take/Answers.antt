@@ -1,5 +1,4 @@
 use Rattle.std.proofs.Common.{◌∷◌, [], ◌++◌, List, ap, subst, sym, ◌∙◌}
-use Rattle.std.proofs.lemmas.Bool.{not-false, not-true}
 use mathlib.Core.List.{IsPrefix}
 use Rattle.hd_rules.specs.Journal.{Turn}
 use Rattle.hd_rules.specs.Messages.{IsKnownMessage, SeatMessage}
@@ -21,7 +20,7 @@ invariant_of-self-then-not-is_changing g c =
     ∙ (ap (λ (ts : List Turn). ts ++ turn_shown c.show.result ∷ []) c.again-front.ensures
     ∙ ap (λ (t : Turn). c.self.inside.front ++ t ∷ []) c.show.ensures))
     c.front-all.ensures.count c.front-all.type_inv
-    c.self.inside.shut (sym c.in-Ok.ensures.changing ∙ not-true _ c.if-not-is_changing.true)
+    c.self.inside.shut (sym c.in-Ok.ensures.changing ∙ c.if-not-is_changing.true)
 
 pub returns-then-not-is_changing-clause-legal : goal.returns-then-not-is_changing-clause-legal
 returns-then-not-is_changing-clause-legal g c =
@@ -46,7 +45,7 @@ push-requires-clause-follows g c =
     ∙ (ap (λ (ts : List Turn). ts ++ turn_shown c.show.result ∷ []) c.again-front.ensures
     ∙ ap (λ (t : Turn). c.self.inside.front ++ t ∷ []) c.show.ensures))
     c.front-all.ensures.count c.front-all.type_inv
-    c.ready.new.pending.upto (sym c.in-Ok.ensures.changing ∙ not-false _ c.if-not-is_changing.false)
+    c.ready.new.pending.upto (sym c.in-Ok.ensures.changing ∙ c.if-not-is_changing.false)
     (c.in_default.ensures.at ∙ sym (ap (λ (v : MemoryValue). v.changed) c.self.view_is))
     (subst (λ (m : SeatMessage). IsKnownMessage (facts_of g.J.History.opening.contents) m.message)
     (sym c.asks.view_is) c.requires)
