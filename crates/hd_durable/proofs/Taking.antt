@@ -1,8 +1,7 @@
 -- One turn more of a journal in memory.
 use Rattle.std.proofs.Common.{◌≡◌, refl, ap, sym, subst, ◌∙◌, arith, ℕ, ◌+◌, ◌-◌, ◌<◌, ◌^◌, Bool, true, false}
-use Rattle.std.proofs.Common.{List, [], ◌∷◌, ◌++◌, length, length-append, Option, None, Some}
+use Rattle.std.proofs.Common.{List, [], ◌∷◌, ◌++◌, length, length-append, Option, None}
 use mathlib.Core.List.{IsPrefix}
-use Rattle.hd_rules.specs.Turns.{Message}
 use Rattle.hd_rules.specs.Journal.{Turn, state_after}
 use Rattle.hd_rules.specs.Messages.{IsKnownMessage, SeatMessage, turn_with_reply}
 use Rattle.hd_catalogue.specs.Contents.{Contents, facts_of}
