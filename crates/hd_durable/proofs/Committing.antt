@@ -1,9 +1,8 @@
 -- Turns that are committed beside a hall's lock.
-use Rattle.std.proofs.Common.{◌≡◌, ◌⊎◌, inl, inr, refl, ap, sym, subst, ◌∙◌, arith, ℕ, zero, suc, ◌<◌, ◌≤◌, true, false}
-use Rattle.std.proofs.Common.{List, [], ◌∷◌, ◌++◌, length, All, append_assoc, append-nil, Option, None, Some}
+use Rattle.std.proofs.Common.{◌≡◌, ◌⊎◌, inl, inr, refl, ap, sym, subst, ◌∙◌, arith, zero, suc, true}
+use Rattle.std.proofs.Common.{List, [], ◌∷◌, ◌++◌, All, append_assoc, append-nil, Option, None, Some}
 use Rattle.std.proofs.lemmas.Option.{none-some as none_some}
 use Rattle.std.proofs.lemmas.List.Elements.{All-append, All-nil}
-use Rattle.std.specs.Prelude.{slice_index_or}
 use mathlib.Core.List.{IsPrefix}
 use Rattle.hd_rules.specs.Turns.{start}
 use Rattle.hd_rules.specs.Journal.{Turn, IsLegal, state_after}

@@ -7,3 +7,4 @@ pub mod Prefixes
 pub mod Committing
 pub mod Remembering
 pub mod Joining
+pub mod Taking

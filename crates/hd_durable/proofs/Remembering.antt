@@ -1,5 +1,5 @@
 -- What a journal in memory keeps of the history.
-use Rattle.std.proofs.Common.{◌≡◌, ◌⊎◌, inl, inr, refl, ap, sym, subst, ◌∙◌, arith, ℕ, zero, suc, ◌+◌, ◌<◌, ◌≤◌, ◌^◌, true, false}
+use Rattle.std.proofs.Common.{◌≡◌, ◌⊎◌, inl, inr, refl, ap, sym, subst, ◌∙◌, arith, ℕ, zero, suc, ◌+◌, ◌<◌, ◌≤◌, ◌^◌, false}
 use Rattle.std.proofs.Common.{List, [], ◌∷◌, ◌++◌, slice_get}
 use Rattle.std.proofs.Common.{length, take, length-append, append_assoc, append-nil, Option, None, Some}
 use Rattle.std.proofs.lemmas.Option.{none-some as none_some}

@@ -3,7 +3,7 @@
 ghost use Rattle.std.specs.Prelude.{◌≡◌, ◌<◌, ◌^◌, ◌++◌, [], None, Some, IfErr, IfOk, OnErr, OnOk, length, option_map};
 ghost use Rattle.std.specs.Arc.{arc_value};
 ghost use Rattle.hd_catalogue.specs.Contents.{facts_of};
-ghost use Rattle.hd_rules.specs.Messages.{IsKnownMessage};
+ghost use Rattle.hd_rules.specs.Messages.{IsKnownMessage, turn_with_reply};
 ghost use Rattle.hd_journal.specs.Books.{turn_numbered};
 ghost use Rattle.hd_journal.specs.Keepers.{IsAdded};
 ghost use Rattle.hd_journal.specs.Openings.{IsLegalSince};
@@ -14,7 +14,7 @@ use crate::asks::AskCopies;
 use crate::pending::Pending;
 use hd_catalogue::Catalogue;
 use hd_history::{Book, Front, History};
-use hd_journal::{Journal, Turn, TurnFault, TurnRef, WriteFault};
+use hd_journal::{Entry, Journal, OwnedAsk, Turn, TurnFault, TurnRef, WriteFault};
 use std::alloc::Global;
 use std::marker::Model;
 use std::sync::Arc;
@@ -107,19 +107,20 @@ impl<J: History> InMemory<J> {
             Ok(new) => new,
             Err(_) => return Err(TurnFault::Memory),
         };
-        let Turn { at, reply } = new.made;
         let is_changing = new.is_changing;
-        let turn = table.with_reply(reply);
+        let made = new.made;
+        let turn = turn_of(table, &made);
         let mut front = self.front.again();
         if !front.add(book, &turn.show()) {
             self.shut = Some(WriteFault::Refused);
             return Err(TurnFault::Unwritten(WriteFault::Refused));
         }
+        let all = self.journal.front();
+        self.taken = all - self.begun;
         let made = Turn {
-            at: at - self.begun,
-            reply,
+            at: self.taken,
+            reply: made.reply,
         };
-        self.taken = at - self.begun;
         if !is_changing {
             self.front = front;
             return Ok(made);
@@ -140,6 +141,7 @@ impl<J: History> InMemory<J> {
         ensures few { OnOk result (length self.new.turns < 2 ^ 61) }
         ensures open { OnOk result ((self.new ≡ self.old) × (self.new.shut ≡ None)) }
         ensures turns { self.new.turns ≡ self.old.turns }
+        ensures legal { IsLegalSince J.opening self.new.turns }
         ensures why { IfErr result (IsMemoryFault self.old self.new) }
     {
         if let Some(why) = self.shut {
@@ -254,4 +256,11 @@ impl<J: History> InMemory<J> {
         let answered = journal.front();
         Ok((journal, answered, None))
     }
+}
+
+/// The turn of what was asked, with the reply that was made.
+fn turn_of(asked: OwnedAsk<Global>, made: &Turn) -> Entry<Global>
+    ensures { result ≡ turn_with_reply asked made.now.reply }
+{
+    asked.with_reply(made.reply)
 }

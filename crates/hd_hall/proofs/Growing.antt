@@ -1,12 +1,7 @@
 -- A seat whose last turn may be untold.
 use Rattle.std.proofs.Common.{◌≡◌, ◌⊎◌, ◌<◌, List, [], ◌∷◌, ◌++◌, length, refl, ap, arith, inl, inr, length-append}
-use Rattle.std.proofs.Common.{sym, ◌∙◌, Option, None, Some, Result, Ok, Err, IfOk, OnOk}
-use Rattle.hd_rules.specs.Messages.{SeatMessage}
-use Rattle.hd_journal.specs.declared.fault.TurnFault.{TurnFault}
-use Rattle.hd_journal.specs.declared.fault.WriteFault.{WriteFault}
-use Rattle.hd_journal.specs.declared.turn.Turn.{Turn as Made}
-use Rattle.hd_hall.proofs.Seating.{number_of_last-snoc}
-use Rattle.hd_hall.specs.Receipts.{Receipted, but_last, number_of_last, receipt_of, told}
+use Rattle.std.proofs.Common.{◌∙◌}
+use Rattle.hd_hall.specs.Receipts.{Receipted, but_last}
 use Rattle.hd_hall.specs.Seats.{SeatView, with_receipt}
 
 pub but_last-snoc : (rs : List Receipted) (r : Receipted) → but_last (rs ++ r ∷ []) ≡ rs
@@ -42,7 +37,3 @@ pub same_number : (old new : SeatView) (Q : Type 0) (P : Receipted → Type 0) �
     → new.number ≡ old.number
 same_number old new Q P (inl same) = ap (λ (s : SeatView). s.number) same
 same_number old new Q P (inr one) = ap (λ (s : SeatView). s.number) one.1.2
-
-pub none_of : {A : Type 0} (o : Option A) → ((x : A) → o ≡ Some x → ⊥) → o ≡ None
-none_of None none = refl
-none_of (Some x) none = absurd (none x refl)

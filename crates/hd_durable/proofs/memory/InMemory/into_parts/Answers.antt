@@ -1,4 +1,4 @@
-use Rattle.std.proofs.Common.{ap, ◌+◌, ℕ, ◌∙◌}
+use Rattle.std.proofs.Common.{ap, ◌+◌, ℕ}
 use Rattle.hd_durable.proofs.Remembering.{answered_all, answered_some}
 use Rattle.hd_durable.proofs.memory.InMemory.into_parts.Goals as goal
 

@@ -1,4 +1,4 @@
-use Rattle.std.proofs.Common.{◌≡◌, ◌<◌, arith, ap, length, ◌∙◌, refl}
+use Rattle.std.proofs.Common.{◌<◌, arith, ap, length, ◌∙◌, refl}
 use Rattle.std.proofs.lemmas.Bool.Decides.{nat_tests}
 use Rattle.hd_hall.specs.Seats.{SeatView}
 use Rattle.hd_hall.proofs.Growing.{grown, not_grown, same_number, same_parts}

@@ -2,7 +2,6 @@ use Rattle.std.proofs.Common.{rules, sym, ap, ◌∙◌, ◌∷◌, [], ◌≡�
 use Rattle.std.proofs.lemmas.List.{map-append}
 use Rattle.std.proofs.lemmas.Result.{IfErr-weaker}
 use Rattle.std.specs.Prelude.{IfOk, map}
-use Rattle.hd_rules.specs.Journal.{Turn}
 use Rattle.hd_rules.specs.Messages.{message_of}
 use Rattle.hd_journal.specs.declared.fault.TurnFault.{TurnFault}
 use Rattle.hd_journal.specs.declared.turn.Turn.{Turn as Made}

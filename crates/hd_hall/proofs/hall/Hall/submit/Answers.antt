@@ -1,4 +1,4 @@
-use Rattle.std.proofs.Common.{◌≡◌, subst, sym}
+use Rattle.std.proofs.Common.{subst, sym}
 use Rattle.hd_hall.specs.Receipts.{Receipted}
 use Rattle.hd_hall.specs.Submitting.{IsNextWith}
 use Rattle.hd_hall.proofs.hall.Hall.submit.Goals as goal
