@@ -12,7 +12,7 @@ use crate::gate::{Gate, Observer};
 use crate::options::Options;
 use crate::places::Places;
 use crate::standing::Standing;
-use crate::worker::Service;
+use crate::worker::{Service, Work};
 use crossbeam_channel::{Sender, bounded};
 use hd_hall::{Closed, Hall, House, Keeper, Seat, Turns};
 use hd_journal::WriteFault;
@@ -120,7 +120,7 @@ pub fn serve_terminals<
         standing,
         options: *options,
     };
-    let accepted = serve_by(rt, &service, listener, to, observer);
+    let accepted = serve_by(rt, alloc, &service, standing, options, listener, to, observer);
     let seats = places.into_inner().into_seats();
     let unwritten = standing.course(rt).unwritten;
     Ok(Served {
@@ -135,23 +135,20 @@ pub fn serve_terminals<
 ///
 /// # Errors
 /// Those of the accepting. `NoThread` where no worker could be started: nothing was served then.
-fn serve_by<
-    H: House + Send + Sync,
-    R: Threads + Wait + Clock + Sync,
-    O: Gate + Observer,
-    Q: Drop + Send,
-    K: Keeper<Global, Q> + Drop + Send,
->(
+fn serve_by<R: Threads + Wait + Clock + Sync, O: Gate + Observer, S: Work<R, O> + Sync>(
     rt: &R,
-    service: &Service<'_, H, Q, K>,
+    alloc: Global,
+    service: &S,
+    standing: &Standing,
+    options: &Options<'_>,
     listener: &TcpListener,
     to: Sender<Connection>,
     observer: &O,
 ) -> Result<(), ServeFault> {
     thread::scope(thread::scope_env(), rt, |scope| {
         let mut started = 0u32;
-        for _ in 0..service.options.workers {
-            if scope.spawn(|| service.work(rt, observer)).is_err() {
+        for _ in 0..options.workers {
+            if scope.spawn(|| service.work_on(rt, observer)).is_err() {
                 break;
             }
             started = started.saturating_add(1);
@@ -159,14 +156,14 @@ fn serve_by<
         if started == 0 {
             return Err(ServeFault::NoThread);
         }
-        tell_few(observer, started, service.options.workers);
+        tell_few(observer, started, options.workers);
         let reception = Reception {
             rt,
-            alloc: service.alloc,
-            standing: service.standing,
+            alloc,
+            standing,
             options: Options {
                 workers: started,
-                ..service.options
+                ..*options
             },
             observer,
             to,

@@ -62,6 +62,25 @@ struct Visited {
     replies: u64,
 }
 
+/// What each worker of a server does, by this runtime, and whom it reports events to.
+pub(crate) trait Work<R, O> {
+    /// Serves connections, until no more can come.
+    fn work_on(&self, rt: &R, observer: &O);
+}
+
+impl<
+    'a,
+    H: House + Send + Sync,
+    Q: Drop + Send,
+    K: Keeper<Global, Q> + Drop + Send,
+    R: Wait + Clock + Sync,
+    O: Gate + Observer,
+> Work<R, O> for Service<'a, H, Q, K> {
+    fn work_on(&self, rt: &R, observer: &O) {
+        self.work(rt, observer)
+    }
+}
+
 impl<'a, H: House, Q: Drop, K: Keeper<Global, Q> + Drop> Service<'a, H, Q, K> {
     /// Serves connections, until no more can come.
     pub(crate) fn work<R: Wait + Clock, O: Gate + Observer>(&self, rt: &R, observer: &O) {
