@@ -1,5 +1,5 @@
 # The commands of the README. All need the Rattle kit's command rt on the path.
-.PHONY: help try run check quick play measure day page hostile stops years terminals load install uninstall dist wrong test
+.PHONY: help try run check quick play measure day page hostile stops mirror failover years terminals load install uninstall dist wrong test
 
 PREFIX ?= /usr/local
 
@@ -18,6 +18,8 @@ help:
 	@echo 'make page       after make run: look at the page of a door by headless Chromium; pictures in PICTURES ($(PICTURES))'
 	@echo 'make hostile    after make run: hostile clients beside a terminal that has to be answered'
 	@echo 'make stops      after make run: kill -9 of holddesk serve 50 times and of carry at each write, and nothing is lost'
+	@echo 'make mirror     after make run: lose the machine that serves 100 times; the second has all that was answered'
+	@echo 'make failover   after make run: have a second machine take over 10 times, as Pacemaker does, under 32 terminals'
 	@echo 'make years      after make run: 700 days of a small library, a carry each night, compared with a model'
 	@echo 'make terminals  after make run: 1,000 terminals at once for half a minute; memory, and how long replies take'
 	@echo 'make load       after make run: turns a second beside a server that only echoes (four minutes; rustc)'
@@ -65,14 +67,18 @@ PLAYED = python3 scripts/play/examples.py "$$program" && python3 scripts/play/ro
   python3 scripts/play/serve_smoke.py "$$program" && python3 scripts/play/serve_kiosk.py "$$program" && \
   python3 scripts/play/serve_hostile.py "$$program" && \
   python3 scripts/play/serve_many.py --terminals 100 --seconds 3 --latest 100 "$$program" && \
-  python3 scripts/play/serve_door.py "$$program" && \
-  python3 scripts/play/serve_crash.py --rounds $(ROUNDS) "$$program" && python3 scripts/play/carry_rows.py "$$program" && \
+  python3 scripts/play/serve_door.py "$$program" && python3 scripts/play/monitoring.py "$$program" && \
+  python3 scripts/play/cluster.py && \
+  python3 scripts/play/serve_crash.py --rounds $(ROUNDS) "$$program" && \
+  python3 scripts/play/mirror.py --rounds $(LOSSES) "$$program" && \
+  python3 scripts/play/failover.py --rounds $(LOSSES) "$$program" && python3 scripts/play/carry_rows.py "$$program" && \
   python3 scripts/play/carry_faults.py "$$program" && python3 scripts/play/join_rows.py "$$program" && \
   python3 scripts/play/file_faults.py "$$program" && python3 scripts/play/catalogue_faults.py "$$program" && \
   python3 scripts/play/two_years.py --days $(DAYS) "$$program"
 
 # The same soon, before an hour of proofs: at a program that is built without any, which is slower.
 play: ROUNDS = 5
+play: LOSSES = 2
 play: DAYS = 8
 play: SCRIPTS = 200
 play:
@@ -101,14 +107,15 @@ page:
 # is filled in. systemd finds those below /usr/local and /usr.
 PROGRAM = crates/holddesk/out/holddesk
 BELOW = $(DESTDIR)$(PREFIX)
-UNITS = holddesk.service holddesk-night.service holddesk-night.timer
+UNITS = holddesk.service holddesk-watch.service holddesk-night.service holddesk-night.timer
 install:
 	@test -x $(PROGRAM) || { echo 'make install: say make run first, which builds the program' >&2; exit 1; }
 	install -D -m 755 $(PROGRAM) $(BELOW)/bin/holddesk
 	install -D -m 644 man/holddesk.1 $(BELOW)/share/man/man1/holddesk.1
 	install -D -m 644 -t $(BELOW)/share/doc/holddesk README.md CONTRIBUTING.md LICENSE crates/holddesk/data/demonstration.catalogue
 	install -D -m 644 -t $(BELOW)/share/doc/holddesk/docs docs/*.md docs/*.svg
-	install -D -m 644 -t $(BELOW)/share/doc/holddesk/examples examples/stunnel-*.conf
+	install -D -m 644 -t $(BELOW)/share/doc/holddesk/examples examples/stunnel-*.conf examples/alerts.yml examples/dashboard.json
+	install -D -m 644 -t $(BELOW)/share/doc/holddesk/examples/cluster examples/cluster/*
 	install -D -m 644 -t $(BELOW)/share/doc/holddesk/examples/export examples/export/*.csv
 	install -d $(BELOW)/lib/systemd/system
 	@for unit in $(UNITS); do sed 's|@PREFIX@|$(PREFIX)|g' examples/$$unit > $(BELOW)/lib/systemd/system/$$unit && \
@@ -132,6 +139,15 @@ hostile:
 stops:
 	@python3 scripts/play/serve_crash.py
 	@python3 scripts/play/carry_stops.py
+
+# A machine that serves is lost 100 times, beside 32 terminals: what it had synced is on a second one, whose disk is a
+# folder that gets nothing else; and a second machine takes over 10 times, as Pacemaker has it. The gate plays 4 of each.
+LOSS =
+mirror:
+	@python3 scripts/play/mirror.py $(LOSS)
+
+failover:
+	@python3 scripts/play/failover.py $(LOSS)
 
 # Two years of a small library with a carry each night; the gate plays 40 days.
 years:
@@ -179,12 +195,14 @@ wrong:
 # last line is rt ci's once more.
 VERDICT = out/verdict
 test: ROUNDS = 20
+test: LOSSES = 4
 test: DAYS = 40
 test: SCRIPTS = 700
 test: LONG = --long
 test:
 	@python3 scripts/make/draw_house.py --check
 	@python3 scripts/make/make_page.py --check
+	@python3 scripts/make/make_monitoring.py --check
 	@python3 scripts/make/where_to_change.py --check
 	@python3 scripts/play/foreign_seat_refused.py
 	@python3 scripts/wrong_bodies/refused_sums.py

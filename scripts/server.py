@@ -79,12 +79,12 @@ def begun_folder(program, catalogue, folder):
 class Server:
     """A server that listens, and tells no events. It is killed where it hasn't ended when the block that it is used in
     ends. What is to be done meanwhile is done as soon as it is started, and told has the lines that it said before it
-    listened."""
+    listened. Its port and its environment may be given."""
 
-    def __init__(self, program, catalogue, workers, *words, meanwhile=None):
-        self.process = subprocess.Popen(serve_words(program, catalogue, workers, "--log", "quiet", *words),
+    def __init__(self, program, catalogue, workers, *words, meanwhile=None, port=0, environment=None):
+        self.process = subprocess.Popen(serve_words(program, catalogue, workers, "--log", "quiet", *words, port=port),
                                         stdin=subprocess.DEVNULL, stdout=subprocess.PIPE, stderr=subprocess.PIPE,
-                                        text=True)
+                                        text=True, env=environment)
         self.told = []
         if meanwhile is not None:
             meanwhile()

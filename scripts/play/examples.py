@@ -37,7 +37,7 @@ from server import CATALOGUE, LOOPBACK, SECONDS, TOP, Server, Trouble, ask, begu
 from server import parser_of, reported, without_progress
 from unproved import free_port
 
-GUIDES = ["operating", "daily", "faults", "security", "client", "catalogue", "opening", "patrons", "protocol"]
+GUIDES = ["operating", "daily", "faults", "availability", "security", "client", "catalogue", "opening", "patrons", "protocol"]
 PAGES = ["README.md", *(f"docs/{name}.md" for name in GUIDES)]
 # the parts of protocol.md whose tables serve_kiosk.py plays
 KIOSK_PARTS = ["Patron messages", "Sorter fields"]

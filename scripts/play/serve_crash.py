@@ -44,11 +44,15 @@ LIBRARY = InTurn(titles=2, copies=8, patrons=8, branches=2, terminals=TERMINALS,
 GROWN = dataclasses.replace(LIBRARY, patrons=9)
 
 
-def drawn(draw):
+class Loss(Trouble):
+    """A file lacks what was answered, or has what nobody asked for."""
+
+
+def drawn(draw, library=LIBRARY):
     """A message at random, and what its row says: act, patron, copy, title."""
-    number = draw.randrange(LIBRARY.copies) + 1
-    what, whose = copy(number), title(LIBRARY.title_of(number))
-    who, where = patron(draw.randrange(LIBRARY.patrons) + 1), branch(draw.randrange(LIBRARY.branches) + 1)
+    number = draw.randrange(library.copies) + 1
+    what, whose = copy(number), title(library.title_of(number))
+    who, where = patron(draw.randrange(library.patrons) + 1), branch(draw.randrange(library.branches) + 1)
     return draw.choice([
         (f"11NN{DATE}{DATE}AOlib|AA{who}|AB{what}|AC|", ("checkout", who, what, None)),
         (f"09N{DATE}{DATE}AP{where}|AOlib|AB{what}|AC|", ("checkin", None, what, None)),
@@ -133,8 +137,8 @@ def compare_rows(connection, terminals, before):
                 raise Trouble(f"{terminal.name} was answered {wanted!r}, and the file says {row!r}")
         more = kept[len(told):]
         if len(kept) < len(told) or len(more) > 1 or more and more[0][:4] != terminal.pending:
-            raise Trouble(f"{terminal.name} was answered {len(told)} turns and waits for {terminal.pending!r}; "
-                          f"the file has {len(kept)}, and {more!r}")
+            raise Loss(f"{terminal.name} was answered {len(told)} turns and waits for {terminal.pending!r}; "
+                       f"the file has {len(kept)}, and {more!r}")
     return connection.execute("SELECT count(*) FROM turn").fetchone()[0]
 
 

@@ -121,18 +121,20 @@ def compare_expired(path):
 
 
 def figures(path):
-    """The figures of the state, by name; each is told to be a gauge or a counter before."""
+    """The figures of the state, by name; each has its help before it, and then that it is a gauge or a counter."""
     status, media, body = read(path, "/metrics")
     if (status, media) != (200, METRICS):
         raise Trouble(f"the state is answered {status} {media}")
-    found = {}
+    found, kind, helped = {}, None, None
     for line in body.decode("ascii").splitlines():
-        told = re.fullmatch(r"# TYPE (\w+) (?:gauge|counter)", line)
-        kind = told[1] if told else kind
-        if not told:
+        if told := re.fullmatch(r"# HELP (\w+) [^ ].*", line):
+            helped = told[1]
+        elif told := re.fullmatch(r"# TYPE (\w+) (?:gauge|counter)", line):
+            kind = told[1]
+        else:
             name, value = line.rsplit(" ", 1)
-            if name.partition("{")[0] != kind or name in found:
-                raise Trouble(f"{line!r} stands below the type of {kind}")
+            if not name.partition("{")[0] == kind == helped or name in found:
+                raise Trouble(f"{line!r} stands below the type of {kind} and the help of {helped}")
             found[name] = value
     return found
 

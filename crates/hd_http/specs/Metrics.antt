@@ -8,15 +8,16 @@ use Rattle.hd_http.specs.declared.state.Tally.{Tally}
 use Rattle.hd_http.specs.declared.state.Turns.{Turns}
 use Rattle.hd_http.specs.declared.state.State.{State}
 
--- a number that goes up and down: what it is, and its value
-unfoldable pub gauge_text : List ℕ → List ℕ → List ℕ
-gauge_text name value =
-    concat (codes "# TYPE " ∷ name ∷ codes " gauge\n" ∷ name ∷ codes " " ∷ value ∷ codes "\n" ∷ [])
+-- a number that goes up and down: what it means, that it is one, and its value
+unfoldable pub gauge_text : List ℕ → List ℕ → List ℕ → List ℕ
+gauge_text name help value =
+    concat (codes "# HELP " ∷ name ∷ codes " " ∷ help ∷ codes "\n# TYPE " ∷ name ∷ codes " gauge\n"
+    ∷ name ∷ codes " " ∷ value ∷ codes "\n" ∷ [])
 
--- a gauge, if the library has it
-abbrev pub number_text : List ℕ × Option ℕ → List ℕ
-number_text (name, None) = []
-number_text (name, Some value) = gauge_text name (decimal value)
+-- a gauge by its name and meaning, if the library has it
+abbrev pub number_text : List ℕ × List ℕ × Option ℕ → List ℕ
+number_text (name, help, None) = []
+number_text (name, help, Some value) = gauge_text name help (decimal value)
 
 -- 1 where a library can do its work, else 0
 abbrev pub well : Health → ℕ
@@ -26,15 +27,23 @@ well Full = 0
 well Gone = 0
 
 -- the gauges
-abbrev pub gauges : State → List (List ℕ × Option ℕ)
+unfoldable pub gauges : State → List (List ℕ × List ℕ × Option ℕ)
 gauges s =
-    (codes "holddesk_well", Some (well s.health))
-    ∷ (codes "holddesk_journal_turns", option_map (λ j. j.turns) s.journal)
-    ∷ (codes "holddesk_last_number", option_map (λ j. j.last_number) s.journal)
-    ∷ (codes "holddesk_numbers_left", option_map (λ j. j.numbers_left) s.journal)
-    ∷ (codes "holddesk_connections", s.connections)
-    ∷ (codes "holddesk_workers_busy", s.workers_busy)
-    ∷ (codes "holddesk_journal_bytes", s.journal_bytes)
+    (codes "holddesk_well", codes "1 if the server can do its work, else 0.", Some (well s.health))
+    ∷ (
+      codes "holddesk_journal_turns",
+      codes "Turns of the journal; questions count until the next start.",
+      option_map (λ j. j.turns) s.journal,
+    )
+    ∷ (codes "holddesk_last_number", codes "Number of the last command.", option_map (λ j. j.last_number) s.journal)
+    ∷ (
+      codes "holddesk_numbers_left",
+      codes "Commands that the journal can still take.",
+      option_map (λ j. j.numbers_left) s.journal,
+    )
+    ∷ (codes "holddesk_connections", codes "Open connections of terminals.", s.connections)
+    ∷ (codes "holddesk_workers_busy", codes "Workers that serve a connection.", s.workers_busy)
+    ∷ (codes "holddesk_journal_bytes", codes "Bytes of the journal's file and its log.", s.journal_bytes)
     ∷ []
 
 -- the digit of a number at a power of ten
@@ -52,7 +61,8 @@ seconds_text n = decimal (n / 1000000) ++ fraction n
 -- the last commit's time, if there was one
 abbrev pub commit_text : Option ℕ → List ℕ
 commit_text None = []
-commit_text (Some micros) = gauge_text (codes "holddesk_last_commit_seconds") (seconds_text micros)
+commit_text (Some micros) =
+    gauge_text (codes "holddesk_last_commit_seconds") (codes "Seconds that the last commit took.") (seconds_text micros)
 
 -- a line of the turns of a kind that ended in one way: how many they are
 unfoldable pub sample_text : List ℕ → List ℕ → List ℕ → List ℕ
@@ -83,7 +93,9 @@ kinds t =
 
 -- the turns by kind and outcome
 unfoldable pub all_turns_text : Turns → List ℕ
-all_turns_text turns = codes "# TYPE holddesk_turns_total counter\n" ++ flat_map kind_text (kinds turns)
+all_turns_text turns =
+    codes "# HELP holddesk_turns_total Turns since the program began, by kind and outcome.\n"
+    ++ codes "# TYPE holddesk_turns_total counter\n" ++ flat_map kind_text (kinds turns)
 
 -- the turns by kind and outcome, if they are counted
 abbrev pub turns_text : Option Turns → List ℕ

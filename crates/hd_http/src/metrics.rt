@@ -15,6 +15,7 @@ use std::alloc::{AllocError, Global};
 #[derive(Clone, Copy)]
 struct Gauge<'a> {
     name: &'a [u8],
+    help: &'a [u8],
     value: Option<u64>,
 }
 
@@ -35,14 +36,26 @@ fn well(health: Health) -> u64
     }
 }
 
-/// Writes a gauge, and what it is.
+/// Writes a gauge, after what it means and what it is.
 #[tactic(auto, unfolding(crate::specs::Metrics::gauge_text))]
-fn write_gauge(out: &mut Vec<u8>, name: &[u8], value: &[u8]) -> Result<(), AllocError>
-    ensures { OnOk result (out.new.items ≡ out.old.items ++ gauge_text name.now value.now) }
+fn write_gauge(out: &mut Vec<u8>, name: &[u8], help: &[u8], value: &[u8]) -> Result<(), AllocError>
+    ensures { OnOk result (out.new.items ≡ out.old.items ++ gauge_text name.now help.now value.now) }
 {
     write_pieces(
         out,
-        &[b"# TYPE ", name, b" gauge\n", name, b" ", value, b"\n"],
+        &[
+            b"# HELP ",
+            name,
+            b" ",
+            help,
+            b"\n# TYPE ",
+            name,
+            b" gauge\n",
+            name,
+            b" ",
+            value,
+            b"\n",
+        ],
     )
 }
 
@@ -54,7 +67,7 @@ fn write_number(out: &mut Vec<u8>, gauge: &Gauge<'_>) -> Result<(), AllocError>
         return Ok(());
     };
     let mut buffer = Buffer::new();
-    write_gauge(out, gauge.name, buffer.format(value).as_bytes())
+    write_gauge(out, gauge.name, gauge.help, buffer.format(value).as_bytes())
 }
 
 /// Writes gauges, those that the library has.
@@ -67,41 +80,55 @@ fn write_gauges(out: &mut Vec<u8>, gauges: &[Gauge<'_>]) -> Result<(), AllocErro
     Ok(())
 }
 
-/// Writes the numbers of a state that go up and down.
-fn write_state(out: &mut Vec<u8>, state: &State) -> Result<(), AllocError>
-    ensures { OnOk result (out.new.items ≡ out.old.items ++ flat_map number_text (gauges state.now)) }
+/// The numbers of a state that go up and down.
+#[tactic(auto, unfolding(crate::specs::Metrics::gauges))]
+fn gauges_of(state: &State) -> [Gauge<'static>; 7]
+    ensures { map gauge_of result ≡ gauges state.now }
 {
-    let gauges = [
+    [
         Gauge {
             name: b"holddesk_well",
+            help: b"1 if the server can do its work, else 0.",
             value: Some(well(state.health)),
         },
         Gauge {
             name: b"holddesk_journal_turns",
+            help: b"Turns of the journal; questions count until the next start.",
             value: state.journal.map(|j| j.turns),
         },
         Gauge {
             name: b"holddesk_last_number",
+            help: b"Number of the last command.",
             value: state.journal.map(|j| j.last_number),
         },
         Gauge {
             name: b"holddesk_numbers_left",
+            help: b"Commands that the journal can still take.",
             value: state.journal.map(|j| j.numbers_left),
         },
         Gauge {
             name: b"holddesk_connections",
+            help: b"Open connections of terminals.",
             value: state.connections,
         },
         Gauge {
             name: b"holddesk_workers_busy",
+            help: b"Workers that serve a connection.",
             value: state.workers_busy,
         },
         Gauge {
             name: b"holddesk_journal_bytes",
+            help: b"Bytes of the journal's file and its log.",
             value: state.journal_bytes,
         },
-    ];
-    write_gauges(out, &gauges)
+    ]
+}
+
+/// Writes the numbers of a state that go up and down.
+fn write_state(out: &mut Vec<u8>, state: &State) -> Result<(), AllocError>
+    ensures { OnOk result (out.new.items ≡ out.old.items ++ flat_map number_text (gauges state.now)) }
+{
+    write_gauges(out, &gauges_of(state))
 }
 
 /// The point, and the last six digits of a number.
@@ -130,7 +157,12 @@ fn write_commit(alloc: Global, out: &mut Vec<u8>, micros: Option<u64>) -> Result
     let mut text = Vec::new(alloc);
     hd_json::write_number(&mut text, micros / 1_000_000)?;
     text.extend_from_slice(&fraction(micros))?;
-    write_gauge(out, b"holddesk_last_commit_seconds", text.as_slice())
+    write_gauge(
+        out,
+        b"holddesk_last_commit_seconds",
+        b"Seconds that the last commit took.",
+        text.as_slice(),
+    )
 }
 
 /// Writes a line of the turns of a kind that ended in one way: how many they are.
@@ -230,10 +262,13 @@ fn write_each(out: &mut Vec<u8>, turns: &Turns) -> Result<(), AllocError>
     write_kinds(out, &kinds)
 }
 
-/// Writes the turns by kind and outcome.
+/// Writes the turns by kind and outcome, after what they mean and what they are.
 fn write_all_turns(out: &mut Vec<u8>, turns: &Turns) -> Result<(), AllocError>
     ensures { OnOk result (out.new.items ≡ out.old.items ++ all_turns_text turns.now) }
 {
+    out.extend_from_slice(
+        b"# HELP holddesk_turns_total Turns since the program began, by kind and outcome.\n",
+    )?;
     out.extend_from_slice(b"# TYPE holddesk_turns_total counter\n")?;
     write_each(out, turns)?;
     Ok(())
