@@ -142,7 +142,7 @@ def compare_start(program, room):
 
 def compare_readers(program, room):
     """Looks that journal check and show, which have picked a number before a carry went on, say so."""
-    for number, (words, told) in enumerate(((["check"], "checking 0001 of {}\n"), (["show", "--copies"], ""))):
+    for number, (words, told) in enumerate(((["check"], "checking 0001 of {}\n"), (["show", "copies"], ""))):
         library = begun_folder(program, CATALOGUE, os.path.join(room, f"reader{number}"))
         held = first_catalogue(library)
         reader = started([program, "journal", *words, "--library", library])

@@ -169,7 +169,7 @@ def compare_missing_log(program):
         shutil.move(f"{journal}-wal", f"{journal}-away")
         with open(journal, "rb") as file:
             before = file.read()
-        for words in (["journal", "check"], ["journal", "show", "--copies"],
+        for words in (["journal", "check"], ["journal", "show", "copies"],
                       ["serve", "--listen", f"{LOOPBACK}:0", "--workers", "1"]):
             told = told_of(program, journal, *words)
             if told != (1, "", "the journal's log is missing\n"):

@@ -7,12 +7,12 @@ PROGRAM is crates/holddesk/out/holddesk where it isn't given. A morning is playe
 and each refusal at the door is compared with what has to be there, and so is what holddesk show, status and stop print
 (serve_door.shown). Each event has to stand in the log once, with its reason, in one line of printable ASCII, and a
 password in none; so have messages of other days, and the offsets of zones. A stop ends a session and one that waits,
-and leaves a journal in one file; a socket that a kill -9 left gives way, and a live one doesn't. A stop comes soon, and
-so does the end of a server whose journal can't be written, also where clients keep sending, read nothing, or wait to be
-served. A server without descriptors waits for some. Where nobody answers, status gives up after a minute, and
-stop doesn't. Clients of the door that are slow, silent, endless or wrong come
-beside a terminal, whose worst reply is printed; of a program that is proved it is at most 10 ms later than without
-them. Takes about a minute. Needs nothing but Python 3. Status 0: all is as it has to be.
+and leaves a journal in one file; a socket that a kill -9 left gives way, and a live one doesn't. What journal show
+prints of the file is what show printed. A stop comes soon, and so does the end of a server whose journal can't be
+written, also where clients keep sending, read nothing, or wait to be served. A server without descriptors waits for
+some. Where nobody answers, status gives up after a minute, and stop doesn't. Clients of the door that are slow, silent,
+endless or wrong come beside a terminal, whose worst reply is printed; of a program that is proved it is at most 10 ms
+later than without them. Takes about a minute. Needs nothing but Python 3. Status 0: all is as it has to be.
 """
 
 import contextlib
@@ -36,13 +36,18 @@ from door_log import compare_unwritten
 from door_refusals import compare_refusals
 from door_stops import compare_flood, compare_flood_unwritten, compare_no_files, compare_patience
 from door_stops import compare_unread, compare_unread_idle
-from server import SECONDS, Trouble, ask, begun, connect, parser_of, reported
+from server import SECONDS, Trouble, ask, begun, connect, parser_of, reported, without_progress
 
 SHOWN = os.path.splitext(os.path.abspath(__file__))[0] + ".shown"
 MANY = 513  # holds of one title: one more than a page has
 DATE, DUE = morning.NOW, morning.DUE
 PAST = "2026-04-02"  # a day behind the last one of each hold that has one
 LOGIN = b"9300CNt1|COpw|"
+# What a journal's file shows after its server has ended as the server does: each list, and what isn't there.
+SAME = ["copies", "copies --json", "copy a1", "copy none", "title ta", "title ta --json", "title none", "patron p1",
+        "patron p2", "shelf north", "transits", "transit south", "overdue 2026-04-01", "overdue 2026-02-30",
+        "expired 2026-04-02", "turns --after 0 --limit 5", "turns --after 1 --limit 2 --json", "command 1",
+        "command 1 --json", "command 99"]
 
 
 def library_of(text, path):
@@ -201,11 +206,23 @@ def compare_tallies(path, connections, size_of):
     return told[0]
 
 
+def printed_by(*words):
+    """What a command prints, and its status."""
+    done = subprocess.run(words, stdout=subprocess.PIPE, stderr=subprocess.STDOUT, timeout=SECONDS, check=False)
+    return without_progress(done.stdout.decode()), done.returncode
+
+
 def asked_by(program, words, path):
     """What a command says that asks at a door, and its status."""
-    done = subprocess.run([program, *words.split(), "--door", path], stdout=subprocess.PIPE, stderr=subprocess.STDOUT,
-                          timeout=SECONDS, check=False)
-    return done.stdout.decode(), done.returncode
+    return printed_by(program, *words.split(), "--door", path)
+
+
+def compare_journal(program, catalogue, journal, shown):
+    """Compares what journal show prints of a file with what show printed of its server."""
+    for words, wanted in shown.items():
+        found = printed_by(program, "journal", *words.split(), "--catalogue", catalogue, "--journal", journal)
+        if found != wanted:
+            raise Trouble(f"holddesk journal {words} prints {found!r}, and at the door it was {wanted!r}")
 
 
 def status_of(found):
@@ -293,11 +310,13 @@ def compare_end(program, catalogue, folder):
             if [ask(terminal, message) for message in (LOGIN, twice)] != [b"941", reply]:
                 raise Trouble("a line that is sent again after a kill isn't answered as before")
         compare_counted(server.path, {"checkout": (0, 0, 1)})
+        shown = {f"show {words}": asked_by(program, f"show {words}", server.path) for words in SAME}
         told = asked_by(program, "stop", server.path)
         if told != ("the server has ended\n", 0) or os.path.exists(server.path):
             raise Trouble(f"holddesk stop says {told!r}, or leaves the socket's file")
         if server.end()[:2] != (0, "closed: 6 turns, 5 survivors\n"):
             raise Trouble("a start behind a kill hasn't the turns of the last one")
+    compare_journal(program, catalogue, journal, shown)
     for words in ("stop", "status", "show copy a1"):
         if asked_by(program, words, server.path) != (f"no server listens at {server.path}\n", 1):
             raise Trouble(f"holddesk {words} says something else where no server listens")

@@ -1,9 +1,9 @@
 //! The program's commands, put together from their words.
 
 use crate::commands::{below_journal, carry_and_import, check_and_replay, serve};
-use crate::door_commands::{status_and_stop, words_of};
-use crate::door_texts::SHOW_ABOUT;
+use crate::door_commands::status_and_stop;
 use crate::journal_texts::JOURNAL_ABOUT;
+use crate::list_commands::Shower;
 use crate::texts::{ABOUT, VERSION};
 use crate::words::{CommandWords, Form, GroupWords, OptionWords, Value};
 use clap::builder::ValueParser;
@@ -18,29 +18,40 @@ pub(crate) fn program<'a>(alloc: Global) -> Result<Command<'a>, AllocError> {
     let command = with(alloc, command, serve())?;
     let command = with(alloc, command, carry_and_import())?;
     let command = command.subcommand(journal(alloc)?)?;
-    let command = command.subcommand(show(alloc)?)?;
+    let command = command.subcommand(show(alloc, Shower::Server)?)?;
     with(alloc, command, status_and_stop())
 }
 
 /// `journal`, with the commands below it.
 fn journal<'a>(alloc: Global) -> Result<Command<'a>, AllocError> {
     let command = above(Command::new(alloc, "journal"), JOURNAL_ABOUT);
-    with(alloc, command, below_journal())
+    with(alloc, command, below_journal())?.subcommand(show(alloc, Shower::Journal)?)
 }
 
-/// `show`, with the commands below it.
-fn show<'a>(alloc: Global) -> Result<Command<'a>, AllocError> {
-    let command = above(Command::new(alloc, "show"), SHOW_ABOUT);
-    command.subcommands(lists_shown(alloc)?)
+/// `show`, with a command below it for each list.
+fn show<'a>(alloc: Global, shower: Shower) -> Result<Command<'a>, AllocError> {
+    let words = shower.words();
+    let command = command_of(alloc, words)?;
+    above(command, words.about).subcommands(lists_of(alloc, shower)?)
 }
 
 /// The commands that show a list each.
-fn lists_shown<'a>(alloc: Global) -> Result<Vec<Command<'a>>, AllocError> {
+fn lists_of<'a>(alloc: Global, shower: Shower) -> Result<Vec<Command<'a>>, AllocError> {
     let mut commands = Vec::new(alloc);
     for list in &LISTS {
-        commands.push(command_of(alloc, words_of(*list))?)?;
+        let command = command_of(alloc, shower.words_of(*list))?;
+        commands.push(with_options(alloc, command, shower.options())?)?;
     }
     Ok(commands)
+}
+
+/// A command with these options, after those that it has.
+fn with_options<'a>(
+    alloc: Global,
+    command: Command<'a>,
+    options: &'a [OptionWords],
+) -> Result<Command<'a>, AllocError> {
+    command.args(options_of(alloc, options)?)
 }
 
 /// A command of which one below it has to be named, and what those do in a line.

@@ -14,12 +14,11 @@ use crate::journal_texts::{
 };
 use crate::options::{
     ACCEPT_CATALOGUE, ACCEPT_CATALOGUE_OF_KEPT, CATALOGUE_ALWAYS, CATALOGUE_OR_FOLDER,
-    CATALOGUE_THAT_JOINS, CONNECTIONS, COPIES, DAYS_OFF, DOOR, EXPIRED, FOLDER, FOLDER_ALWAYS,
-    IDLE, INTO, JOURNAL, JOURNAL_OR_FOLDER, JSON, LIBRARY, LISTEN, LOG, NOW, OPENING, OVERDUE,
-    PATRON_MESSAGES, PATRONS, PATRONS_OF_KIOSKS, QUEUE, REPLIES_END, SHELF, SORTER_FIELDS,
-    TERMINALS_AT_ONCE, TO, TRANSITS, WARY, WORKERS, WRITE_OFF, ZONE,
+    CATALOGUE_THAT_JOINS, CONNECTIONS, DAYS_OFF, DOOR, FOLDER, FOLDER_ALWAYS, IDLE, INTO, JOURNAL,
+    JOURNAL_OR_FOLDER, LIBRARY, LISTEN, LOG, NOW, OPENING, PATRON_MESSAGES, PATRONS,
+    PATRONS_OF_KIOSKS, REPLIES_END, SORTER_FIELDS, TERMINALS_AT_ONCE, TO, WARY, WORKERS, WRITE_OFF,
+    ZONE,
 };
-use crate::show_texts::{JOURNAL_SHOW, JOURNAL_SHOW_ABOUT, JOURNAL_SHOW_EXAMPLE};
 use crate::texts::{
     CHECK, CHECK_ABOUT, CHECK_EXAMPLE, REPLAY, REPLAY_ABOUT, REPLAY_EXAMPLE, SERVE, SERVE_ABOUT,
     SERVE_EXAMPLE,
@@ -41,7 +40,7 @@ pub(crate) fn carry_and_import() -> &'static [CommandWords] {
     &CARRY_AND_IMPORT
 }
 
-/// The words of the commands below `journal`.
+/// The words of the commands below `journal`, but for `show`.
 pub(crate) fn below_journal() -> &'static [CommandWords] {
     &BELOW_JOURNAL
 }
@@ -146,8 +145,8 @@ static CARRY_AND_IMPORT: [CommandWords; 2] = [
     },
 ];
 
-/// The words of the commands below `journal`.
-static BELOW_JOURNAL: [CommandWords; 5] = [
+/// The words of the commands below `journal`, but for `show`.
+static BELOW_JOURNAL: [CommandWords; 4] = [
     CommandWords {
         name: "begin",
         about: JOURNAL_BEGIN_ABOUT,
@@ -179,26 +178,6 @@ static BELOW_JOURNAL: [CommandWords; 5] = [
         groups: &[],
     },
     CommandWords {
-        name: "show",
-        about: JOURNAL_SHOW_ABOUT,
-        long_about: JOURNAL_SHOW,
-        example: JOURNAL_SHOW_EXAMPLE,
-        options: &[
-            CATALOGUE_OR_FOLDER,
-            OPENING,
-            LIBRARY,
-            JOURNAL_OR_FOLDER,
-            COPIES,
-            QUEUE,
-            SHELF,
-            TRANSITS,
-            OVERDUE,
-            EXPIRED,
-            JSON,
-        ],
-        groups: &[LISTING],
-    },
-    CommandWords {
         name: "views",
         about: JOURNAL_VIEWS_ABOUT,
         long_about: JOURNAL_VIEWS,
@@ -220,11 +199,4 @@ const KEPT: GroupWords = GroupWords {
     name: "kept",
     is_required: false,
     options: &["journal", "library"],
-};
-
-/// The options of what is listed.
-const LISTING: GroupWords = GroupWords {
-    name: "listing",
-    is_required: true,
-    options: &["copies", "queue", "shelf", "transits", "overdue", "expired"],
 };

@@ -1,6 +1,6 @@
-//! What a server is asked at its door, by the words of the command line.
+//! What a server is asked at its door, and which list is shown, by the words of the command line.
 
-use crate::orders::{Order, Show, Status, Stop};
+use crate::orders::{ListOrder, Order, Show, Status, Stop};
 use crate::parsing::text_of;
 use clap::ArgMatches;
 use hd_lists::{Key, KeyKind, Listing};
@@ -21,22 +21,33 @@ pub(crate) fn stop_of<'a>(found: &ArgMatches<'a>) -> Order<'a> {
 
 /// What `show` is asked to do by what was found.
 pub(crate) fn show_of<'a>(found: &ArgMatches<'a>) -> Order<'a> {
+    let (shown, found) = list_found(found);
+    Order::Show(Show {
+        door: text_of(found, "door"),
+        shown,
+    })
+}
+
+/// The list that the command below says, and what was found of that command.
+pub(crate) fn list_found<'f, 'a>(found: &'f ArgMatches<'a>) -> (ListOrder<'a>, &'f ArgMatches<'a>) {
     match found.subcommand() {
-        Some((word, found)) => shown_of(Listing::called(word).unwrap_or(Listing::Copies), found),
-        None => shown_of(Listing::Copies, found),
+        Some((word, found)) => {
+            let list = Listing::called(word).unwrap_or(Listing::Copies);
+            (list_of(list, found), found)
+        }
+        None => (list_of(Listing::Copies, found), found),
     }
 }
 
-/// What the command that shows a list is asked to do by what was found.
-fn shown_of<'a>(list: Listing, found: &ArgMatches<'a>) -> Order<'a> {
+/// The list that is to be shown by what was found.
+fn list_of<'a>(list: Listing, found: &ArgMatches<'a>) -> ListOrder<'a> {
     let kind = list.row().key;
-    Order::Show(Show {
-        door: text_of(found, "door"),
+    ListOrder {
         list,
         key: key_of(kind, found),
         after: after_of(kind, found),
         is_json: found.get_flag("json"),
-    })
+    }
 }
 
 /// The key of such a kind that was found.

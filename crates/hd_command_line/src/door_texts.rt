@@ -1,8 +1,5 @@
 //! What the help of the commands that ask a server at its door says.
 
-/// What `show` does, in a line.
-pub(crate) const SHOW_ABOUT: &str = "Shows what is where, by a server that runs";
-
 /// What `status` does, in a line.
 pub(crate) const STATUS_ABOUT: &str = "Prints whether a server can do its work, and its numbers";
 

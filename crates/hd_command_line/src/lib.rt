@@ -12,6 +12,7 @@ mod import_options;
 mod import_texts;
 mod join_texts;
 mod journal_texts;
+mod list_commands;
 mod list_texts;
 mod options;
 mod orders;
@@ -22,8 +23,8 @@ mod words;
 
 pub use crate::journal_texts::VIEWS;
 pub use crate::orders::{
-    Beyond, Carry, Check, Extended, Import, JournalBegin, JournalCheck, JournalJoin,
-    JournalListing, JournalShow, JournalViews, Kiosks, LibraryFiles, Log, Order, Place, Replay,
-    Serve, Show, Status, Stop,
+    Beyond, Carry, Check, Extended, Import, JournalBegin, JournalCheck, JournalJoin, JournalShow,
+    JournalViews, Kiosks, LibraryFiles, ListOrder, Log, Order, Place, Replay, Serve, Show, Status,
+    Stop,
 };
 pub use crate::parsing::parse;

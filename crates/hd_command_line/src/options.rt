@@ -283,52 +283,6 @@ pub(crate) const WRITE_OFF: OptionWords = OptionWords {
     ..PLAIN
 };
 
-/// All copies.
-pub(crate) const COPIES: OptionWords = OptionWords {
-    name: "copies",
-    help: "All copies: where each is, and who has it",
-    ..PLAIN
-};
-
-/// The queue of a title.
-pub(crate) const QUEUE: OptionWords = OptionWords {
-    name: "queue",
-    value: Value::Text("TITLE"),
-    help: "The holds of this title, in order",
-    ..PLAIN
-};
-
-/// The hold shelf of a branch.
-pub(crate) const SHELF: OptionWords = OptionWords {
-    name: "shelf",
-    value: Value::Text("BRANCH"),
-    help: "The hold shelf of this branch, by place",
-    ..PLAIN
-};
-
-/// The copies that are on their way.
-pub(crate) const TRANSITS: OptionWords = OptionWords {
-    name: "transits",
-    help: "The copies on their way between branches",
-    ..PLAIN
-};
-
-/// The loans that were due before a day.
-pub(crate) const OVERDUE: OptionWords = OptionWords {
-    name: "overdue",
-    value: Value::Text("DAY"),
-    help: "The loans due before this day, as 2026-03-01",
-    ..PLAIN
-};
-
-/// The holds whose last day was before a day.
-pub(crate) const EXPIRED: OptionWords = OptionWords {
-    name: "expired",
-    value: Value::Text("DAY"),
-    help: "The holds whose last day was before this day",
-    ..PLAIN
-};
-
 /// That a list is printed as JSON.
 pub(crate) const JSON: OptionWords = OptionWords {
     name: "json",

@@ -225,10 +225,8 @@ pub struct JournalJoin<'a> {
 pub struct JournalShow<'a> {
     /// Which library it is.
     pub library: Place<'a>,
-    /// What is to be listed.
-    pub listing: JournalListing<'a>,
-    /// Whether it is to be JSON.
-    pub is_json: bool,
+    /// The list that is to be shown.
+    pub shown: ListOrder<'a>,
 }
 
 /// What `journal views` is asked to do.
@@ -238,21 +236,17 @@ pub struct JournalViews<'a> {
     pub opening: Option<&'a str>,
 }
 
-/// What of a desk is to be listed.
+/// A list that is to be shown.
 #[derive(Clone, Copy)]
-pub enum JournalListing<'a> {
-    /// All copies.
-    Copies,
-    /// The queue of the title with this name.
-    Queue(&'a str),
-    /// The hold shelf of the branch with this name.
-    Shelf(&'a str),
-    /// The copies that are on their way.
-    Transits,
-    /// The loans that were due before this day.
-    Overdue(&'a str),
-    /// The holds whose last day was before this day.
-    Expired(&'a str),
+pub struct ListOrder<'a> {
+    /// The list.
+    pub list: Listing,
+    /// What it is asked by.
+    pub key: Key<&'a str>,
+    /// After which turn to begin, where that is said.
+    pub after: Option<u64>,
+    /// Whether it is to be JSON.
+    pub is_json: bool,
 }
 
 /// What `show` is asked to do.
@@ -261,13 +255,7 @@ pub struct Show<'a> {
     /// The path of the server's door.
     pub door: &'a str,
     /// The list that is to be shown.
-    pub list: Listing,
-    /// What it is asked by.
-    pub key: Key<&'a str>,
-    /// After which turn to begin, where that is said.
-    pub after: Option<u64>,
-    /// Whether it is to be JSON.
-    pub is_json: bool,
+    pub shown: ListOrder<'a>,
 }
 
 /// What `status` is asked to do.

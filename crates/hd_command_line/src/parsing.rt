@@ -6,11 +6,10 @@ ghost use Rattle.hd_command_line.specs.Logs.{log_named};
 ghost use Rattle.std.specs.Str.{bytes_eq};
 
 use crate::building::program;
-use crate::door_parsing::{show_of, status_of, stop_of};
+use crate::door_parsing::{list_found, show_of, status_of, stop_of};
 use crate::orders::{
-    Beyond, Carry, Check, Extended, Import, JournalBegin, JournalCheck, JournalJoin,
-    JournalListing, JournalShow, JournalViews, Kiosks, LibraryFiles, Log, Order, Place, Replay,
-    Serve,
+    Beyond, Carry, Check, Extended, Import, JournalBegin, JournalCheck, JournalJoin, JournalShow,
+    JournalViews, Kiosks, LibraryFiles, Log, Order, Place, Replay, Serve,
 };
 use clap::{ArgMatches, Error};
 use std::alloc::Global;
@@ -248,10 +247,10 @@ fn journal_join_of<'a>(found: &ArgMatches<'a>) -> Order<'a> {
 
 /// What `journal show` is asked to do by what was found.
 fn journal_show_of<'a>(found: &ArgMatches<'a>) -> Order<'a> {
+    let (shown, found) = list_found(found);
     Order::JournalShow(JournalShow {
         library: place_of(found),
-        listing: listing_of(found),
-        is_json: found.get_flag("json"),
+        shown,
     })
 }
 
@@ -260,25 +259,4 @@ fn journal_views_of<'a>(found: &ArgMatches<'a>) -> Order<'a> {
     Order::JournalViews(JournalViews {
         opening: found.get_str("opening"),
     })
-}
-
-/// What is to be listed by what was found.
-fn listing_of<'a>(found: &ArgMatches<'a>) -> JournalListing<'a> {
-    if let Some(title) = found.get_str("queue") {
-        return JournalListing::Queue(title);
-    }
-    if let Some(branch) = found.get_str("shelf") {
-        return JournalListing::Shelf(branch);
-    }
-    if let Some(day) = found.get_str("overdue") {
-        return JournalListing::Overdue(day);
-    }
-    if let Some(day) = found.get_str("expired") {
-        return JournalListing::Expired(day);
-    }
-    if found.get_flag("transits") {
-        JournalListing::Transits
-    } else {
-        JournalListing::Copies
-    }
 }

@@ -2,11 +2,9 @@
 #![tactic(auto)]
 
 mod answering;
-mod asking;
 mod fault;
 mod seeing;
 mod standing;
-mod unseen;
 
 pub use crate::fault::DoorCommandFault;
 pub use crate::seeing::show;

@@ -8,7 +8,6 @@ mod carrying;
 mod fault;
 mod joining;
 mod journal_checking;
-mod listing;
 mod showing;
 mod staying;
 mod stepping;

@@ -7,6 +7,7 @@
 mod asked;
 mod columns;
 mod hall_view;
+mod journal_page;
 mod laws;
 mod looking_up;
 mod names;
@@ -22,6 +23,7 @@ mod words;
 mod writing;
 
 pub use crate::hall_view::HallView;
+pub use crate::journal_page::write_page_of;
 pub use crate::laws::repeats_are_answered_again;
 pub use crate::tallied::MOST_TALLIED;
 pub use crate::words::Heading;

@@ -27,23 +27,37 @@ pub record RowText : Type 0 where
   pub folder : List ℕ
   pub part : List ℕ
   pub key : KeyKind
+  pub heads : List ℕ
 
-abbrev pub row : List ℕ → List ℕ → List ℕ → KeyKind → RowText
-row word folder part key = record { word = word; folder = folder; part = part; key = key }
+abbrev pub row : List ℕ → List ℕ → List ℕ → KeyKind → List ℕ → RowText
+row word folder part key heads =
+    record { word = word; folder = folder; part = part; key = key; heads = heads }
 
--- the table: its word, what is before the key in its path and what after it, and what it is asked by
+-- the table: its word, what is before the key in its path and what after it, what it is asked by, and the
+-- headings that people are shown, with a blank between two
 abbrev pub row_of : Listing → RowText
 row_of Copies = row (codes "copies") (codes "copies") [] by.Whole
+    (codes "copy title home state branch to place patron due renewals")
 row_of Copy = row (codes "copy") (codes "copies") [] (by.Name kind.Copy)
+    (codes "copy title state branch to place patron due")
 row_of Queue = row (codes "title") (codes "titles") (codes "/queue") (by.Name kind.Title)
+    (codes "position patron stamp admits only pickup until copy")
 row_of Patron = row (codes "patron") (codes "patrons") [] (by.Name kind.Patron)
+    (codes "row copy title due renewals position pickup until")
 row_of Shelf = row (codes "shelf") (codes "branches") (codes "/shelf") (by.Name kind.Branch)
+    (codes "place copy title patron")
 row_of Transits = row (codes "transits") (codes "transits") [] by.Whole
+    (codes "copy title branch to patron")
 row_of Transit = row (codes "transit") (codes "branches") (codes "/transit") (by.Name kind.Branch)
+    (codes "copy title branch to patron")
 row_of Overdue = row (codes "overdue") (codes "overdue") [] by.Day
+    (codes "copy title patron due renewals")
 row_of Expired = row (codes "expired") (codes "expired") [] by.Day
+    (codes "title patron stamp admits only pickup until copy")
 row_of Turns = row (codes "turns") (codes "turns") [] by.Most
+    (codes "turn terminal asked day patron copy title outcome number why")
 row_of Command = row (codes "command") (codes "commands") [] by.Number
+    (codes "row asked day patron copy title state branch due pickup dependent")
 
 abbrev pub word_of : Listing → List ℕ
 word_of list = (row_of list).word
@@ -56,6 +70,9 @@ part_of list = (row_of list).part
 
 abbrev pub key_of : Listing → KeyKind
 key_of list = (row_of list).key
+
+abbrev pub heads_of : Listing → List ℕ
+heads_of list = (row_of list).heads
 
 -- the key is in the path
 abbrev pub is_in_path : KeyKind → Bool

@@ -1,7 +1,9 @@
 //! The lists, and their table.
-ghost use Rattle.std.specs.Prelude.{◌≡◌, ◌&&◌, not};
+ghost use Rattle.std.specs.List.{join_with_byte};
+ghost use Rattle.std.specs.Prelude.{◌≡◌, ◌&&◌, map, not};
 ghost use Rattle.std.specs.Str.{bytes_eq};
-ghost use Rattle.hd_lists.specs.Lists.{is_bare_at, is_in_path, is_named_at, kind_word, list_called, row_of};
+ghost use Rattle.hd_lists.specs.Lists.{heads_of, is_bare_at, is_in_path, is_named_at};
+ghost use Rattle.hd_lists.specs.Lists.{kind_word, list_called, row_of};
 
 /// What has a name in the catalogue.
 #[derive(Clone, Copy, Debug, PartialEq, Eq)]
@@ -123,6 +125,7 @@ impl Listing {
         ensures folder { result.folder.now ≡ (row_of self).folder }
         ensures part { result.part.now ≡ (row_of self).part }
         ensures key { result.key ≡ (row_of self).key }
+        ensures heads { join_with_byte 32 (map (λ head. head.now) result.heads.now) ≡ heads_of self }
     {
         match self {
             Listing::Copies => Row {

@@ -1,5 +1,7 @@
 //! Why a list isn't printed.
 
+use hd_command_line::ListOrder;
+use hd_lists::{Key, KeyKind};
 use std::alloc::{AllocError, AllocFailed, Global};
 use std::{fmt, io};
 use thiserror::Error;
@@ -18,9 +20,6 @@ pub enum ListFault {
     /// This is no day of the form 2026-03-01.
     #[error("{0} is no day")]
     NoDay(String),
-    /// A name isn't UTF-8.
-    #[error("a journal's file holds names in UTF-8, and the catalogue isn't")]
-    NoText,
     /// The list can't be written.
     #[error("cannot write")]
     CannotWrite,
@@ -55,13 +54,25 @@ impl From<io::Error> for ListFault {
     }
 }
 
-/// The fault that nothing of a kind has this name.
+/// That there is nothing of what a list is asked by.
+pub(crate) fn nothing_of(alloc: Global, order: &ListOrder<'_>) -> ListFault {
+    match named(alloc, order) {
+        Ok(fault) => fault,
+        Err(_) => ListFault::Memory,
+    }
+}
+
+/// The same.
 ///
 /// # Errors
 /// Out of memory.
-pub fn not_there(alloc: Global, kind: &'static str, name: &str) -> Result<ListFault, AllocError> {
-    Ok(ListFault::NotThere {
-        kind,
-        name: String::from_str(alloc, name)?,
-    })
+fn named(alloc: Global, order: &ListOrder<'_>) -> Result<ListFault, AllocError> {
+    let row = order.list.row();
+    let (kind, name) = match (order.key, row.key) {
+        (Key::Day(day), _) => return Ok(ListFault::NoDay(String::from_str(alloc, day)?)),
+        (Key::Number(number), _) => ("command", format!(in alloc; "{number}")?),
+        (Key::Name(name), KeyKind::Name(kind)) => (kind.word(), String::from_str(alloc, name)?),
+        _ => ("list", String::from_str(alloc, row.word)?),
+    };
+    Ok(ListFault::NotThere { kind, name })
 }

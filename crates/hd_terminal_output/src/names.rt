@@ -48,12 +48,3 @@ pub fn title_name(catalogue: &Catalogue, title: TitleNo) -> &[u8] {
         b""
     }
 }
-
-/// The name of a copy's title.
-pub fn title_name_of(catalogue: &Catalogue, copy: CopyNo) -> &[u8] {
-    if (copy.number() as usize) < catalogue.copies() {
-        catalogue.title_name(catalogue.title_of(copy))
-    } else {
-        b""
-    }
-}

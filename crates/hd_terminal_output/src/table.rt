@@ -1,4 +1,4 @@
-//! Lists, printed as tables that a person reads, or as JSON.
+//! Lists, printed as tables that a person reads.
 
 use crate::fault::ListFault;
 use hd_door_client::cell;
@@ -8,37 +8,25 @@ use std::io::Write;
 
 /// A list: the headings of its columns, and its cells, line by line.
 #[derive(Drop)]
-pub struct Table {
+pub(crate) struct Table {
     heads: &'static [&'static str],
     cells: Vec<String>,
 }
 
 impl Table {
     /// A list without lines.
-    pub fn new(alloc: Global, heads: &'static [&'static str]) -> Table {
+    pub(crate) fn new(alloc: Global, heads: &'static [&'static str]) -> Table {
         Table {
             heads,
             cells: Vec::new(alloc),
         }
     }
 
-    /// Adds a cell, which is the next of the last line or begins a new one.
-    ///
-    /// # Errors
-    /// The bytes are no text; out of memory.
-    pub fn push(&mut self, alloc: Global, cell: &[u8]) -> Result<(), ListFault> {
-        let Ok(text) = str::from_utf8(cell) else {
-            return Err(ListFault::NoText);
-        };
-        self.cells.push(String::from_str(alloc, text)?)?;
-        Ok(())
-    }
-
     /// Adds a line: what a row has under each heading.
     ///
     /// # Errors
     /// Out of memory.
-    pub fn push_row(&mut self, alloc: Global, row: &Value) -> Result<(), ListFault> {
+    pub(crate) fn push_row(&mut self, alloc: Global, row: &Value) -> Result<(), ListFault> {
         for head in self.heads {
             self.cells.push(cell(alloc, row, head)?)?;
         }
@@ -49,13 +37,8 @@ impl Table {
     ///
     /// # Errors
     /// It can't be written; out of memory.
-    pub fn print(&self, rt: &HostRuntime, is_json: bool) -> Result<(), ListFault> {
-        let text = if is_json {
-            self.json(rt.alloc())?
-        } else {
-            self.text(rt.alloc())?
-        };
-        rt.stdout().write_all(text.as_bytes())?;
+    pub(crate) fn print(&self, rt: &HostRuntime) -> Result<(), ListFault> {
+        rt.stdout().write_all(self.text(rt.alloc())?.as_bytes())?;
         Ok(())
     }
 
@@ -104,39 +87,6 @@ impl Table {
         }
         Ok(widths)
     }
-
-    /// The list as an array of objects, one a line.
-    fn json(&self, alloc: Global) -> Result<String, ListFault> {
-        let mut text = String::from_str(alloc, "[")?;
-        self.push_objects(alloc, &mut text)?;
-        Ok(text)
-    }
-
-    /// Adds the objects, and what ends their array.
-    fn push_objects(&self, alloc: Global, text: &mut String) -> Result<(), ListFault> {
-        for (at, cell) in self.cells.iter().enumerate() {
-            let column = self.column(at);
-            text.push_str(match (at, column) {
-                (0, _) => "\n{",
-                (_, 0) => ",\n{",
-                _ => ", ",
-            })?;
-            push_member(alloc, text, self.head(column), cell.as_str())?;
-            if column.saturating_add(1) == self.heads.len() {
-                text.push('}')?;
-            }
-        }
-        text.push_str("\n]\n")?;
-        Ok(())
-    }
-
-    /// The heading of a column.
-    fn head(&self, column: usize) -> &'static str {
-        match self.heads.get(column) {
-            Some(head) => head,
-            None => "",
-        }
-    }
 }
 
 /// The width of a column.
@@ -168,14 +118,4 @@ fn push_cell(
 /// How many characters a cell has.
 fn length_of(cell: &str) -> usize {
     cell.chars().count()
-}
-
-/// Adds a member of an object.
-fn push_member(alloc: Global, text: &mut String, name: &str, value: &str) -> Result<(), ListFault> {
-    let value = Value::String(String::from_str(alloc, value)?).to_string(alloc)?;
-    text.push('"')?;
-    text.push_str(name)?;
-    text.push_str("\": ")?;
-    text.push_str(value.as_str())?;
-    Ok(())
 }

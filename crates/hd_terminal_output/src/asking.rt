@@ -1,13 +1,13 @@
 //! What a server is asked for a page of a list.
 ghost use Rattle.std.specs.Prelude.{◌≡◌};
 ghost use Rattle.hd_lists.specs.Questions.{map_key, map_question};
-ghost use Rattle.hd_door_commands.specs.Pages.{page_asked, page_key};
+ghost use Rattle.hd_terminal_output.specs.Pages.{page_asked, page_key};
 
-use hd_command_line::Show;
+use hd_command_line::ListOrder;
 use hd_lists::{Key, Question};
 
 /// What is asked for the page that begins there. A page of turns has so many rows at most.
-pub(crate) fn page_of<'a>(order: &Show<'a>, after: u64, most: u64) -> Question<&'a [u8]>
+pub(crate) fn page_of<'a>(order: &ListOrder<'a>, after: u64, most: u64) -> Question<&'a [u8]>
     ensures { map_question (λ n. n.now) result ≡ page_asked order.now.list order.now.key after most }
 {
     Question {
